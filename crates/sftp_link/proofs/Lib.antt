@@ -1,0 +1,3 @@
+pub mod FramesPassed
+pub mod ScriptSteps
+pub mod Telling

@@ -1,0 +1,15 @@
+use Rattle.std.proofs.Common.{arith, ◌≡◌, ◌<◌, ◌++◌, List, [], ℕ, ◌+◌, take, drop, length}
+use Rattle.sftp_link.specs.Log.{SentOn}
+use Rattle.sftp_link.specs.Told.{Told, Same, OneMore, Went, SentLess, WentLess}
+use Rattle.sftp_link.proofs.Telling.{told_on, sent_piece, sent_less_before, went_piece, went_less_before}
+use Rattle.sftp_link.specs.declared.piece.Piece.TheVariants.{Sent}
+use Rattle.std.proofs.lemmas.Result.{err_from_is_err_and}
+use Rattle.sftp_link.proofs.whole.write_all.Goals as goal
+
+pub returns-in_err-at-clause-bytes : goal.returns-in_err-at-clause-bytes
+returns-in_err-at-clause-bytes g c =
+    let p = err_from_is_err_and c.from_residual.result c.from_residual.ensures.1 in
+    rw (p.1) (told_on _ _ _ _ _ _ c.loop-at.invariant.2 c.in_err-at.ensures.bytes (went_less_before c.args.bytes.now c.loop-at.at c.loop-at-test.true))
+
+pub loop-at-preserved : goal.loop-at-preserved
+loop-at-preserved g c = (omega (arith, c.in_ok-at.ensures.within), omega (arith, c.in_ok-at.ensures.cause), told_on _ _ _ _ _ _ c.loop-at.invariant.2 c.in_ok-at.ensures.bytes (went_piece c.args.bytes.now c.loop-at.at c.in_ok-at.field-0))

@@ -1,0 +1,11 @@
+pub mod Causes
+pub mod Dialled
+pub mod Edge
+pub mod Frames
+pub mod Log
+pub mod Logging
+pub mod Told
+pub mod Calls
+pub mod Memory
+pub mod Same
+pub mod Script

@@ -1,0 +1,126 @@
+// The trusted edge: a reader and a writer of std, which tell nothing of content.
+ghost use Rattle.std.specs.Prelude.{◌≡◌, ◌<◌, ◌≤◌, ◌-◌, ◌+◌, ◌^◌, length, take, None, IfOk, OnOk, OnErr, IfSome, IfNone};
+ghost use Rattle.std.specs.Io.KnownBytes.{ReadConsumes, Appends};
+ghost use Rattle.sftp_link.specs.Causes.{Cause};
+ghost use Rattle.sftp_link.specs.Edge.{AppendsSome};
+ghost use Rattle.sftp_link.specs.Told.{Gives, Takes};
+
+use crate::device_error::DeviceError;
+use crate::stream::{Sink, Source};
+use std::io::{Read, Write};
+use std::marker::Model;
+
+/// A reader, and how often it failed.
+#[derive(Drop)]
+pub struct ReadSource<R> {
+    inner: R,
+    faults: u64,
+}
+
+impl<R> Model for ReadSource<R> {
+    ghost use Rattle.sftp_link.specs.Edge.{Counting};
+
+    ghost Value = { Counting R };
+
+    ghost view = { λ s. record { inner = s.inner; faults = s.faults } };
+}
+
+impl<R: Read> ReadSource<R> {
+    /// The source that reads from a reader.
+    pub fn new(inner: R) -> ReadSource<R>
+        ensures { result ≡ record { inner = inner; faults = 0 } }
+    {
+        ReadSource { inner, faults: 0 }
+    }
+}
+
+impl<R: Read> Source for ReadSource<R> {
+    ghost left = { λ _. None };
+
+    ghost faults = { λ s. s.faults };
+
+    /// One read of the reader; `Failed` where it answers an error.
+    fn read(&mut self, room: &mut [u8]) -> Result<usize, DeviceError>
+        requires some { 0 < length room.old }
+        requires count { self.old.faults < 2 ^ 64 - 1 }
+        ensures within { IfOk result (λ n. n ≤ length room.new) }
+        ensures bytes { Gives None None room.new result }
+        ensures cause { Cause self.old.faults self.new.faults result }
+        ensures inner { ReadConsumes (R.remaining self.old.inner) (R.remaining self.new.inner) result room.new }
+        ensures failed { OnErr result (self.new.faults ≡ self.old.faults + 1) }
+    {
+        match self.inner.read(room) {
+            Ok(n) => Ok(n),
+            Err(_) => {
+                self.faults += 1;
+                Err(DeviceError::Failed)
+            }
+        }
+    }
+}
+
+/// A writer, and how often it failed. It is flushed after each write.
+#[derive(Drop)]
+pub struct WriteSink<W> {
+    inner: W,
+    faults: u64,
+}
+
+impl<W> Model for WriteSink<W> {
+    ghost use Rattle.sftp_link.specs.Edge.{Counting};
+
+    ghost Value = { Counting W };
+
+    ghost view = { λ s. record { inner = s.inner; faults = s.faults } };
+}
+
+impl<W: Write> WriteSink<W> {
+    /// The sink that writes to a writer.
+    pub fn new(inner: W) -> WriteSink<W>
+        ensures { result ≡ record { inner = inner; faults = 0 } }
+    {
+        WriteSink { inner, faults: 0 }
+    }
+}
+
+// One write and a flush: how many bytes were taken, and None where either was refused or none was taken.
+fn write_and_flush<W: Write>(inner: &mut W, bytes: &[u8]) -> Option<usize>
+    ensures within { IfSome result (λ n. (0 < n) × (n ≤ length bytes.now)) }
+    ensures taken { IfSome result (λ n. Appends (W.contents inner.old) (W.contents inner.new) (take n bytes.now)) }
+    ensures refused { IfNone result (AppendsSome (W.contents inner.old) (W.contents inner.new) bytes.now) }
+{
+    let Ok(n) = inner.write(bytes) else {
+        return None;
+    };
+    if n == 0 || inner.flush().is_err() {
+        return None;
+    }
+    Some(n)
+}
+
+impl<W: Write> Sink for WriteSink<W> {
+    ghost written = { λ _. None };
+
+    ghost faults = { λ s. s.faults };
+
+    /// One write of the writer, and a flush; `Failed` where either answers an error or nothing was taken, after which
+    /// the writer may have taken some of the first bytes.
+    fn write(&mut self, bytes: &[u8]) -> Result<usize, DeviceError>
+        requires some { 0 < length bytes.now }
+        requires count { self.old.faults < 2 ^ 64 - 1 }
+        ensures within { IfOk result (λ n. (0 < n) × (n ≤ length bytes.now)) }
+        ensures bytes { Takes None None bytes.now result }
+        ensures cause { Cause self.old.faults self.new.faults result }
+        ensures taken { IfOk result (λ n. Appends (W.contents self.old.inner) (W.contents self.new.inner) (take n bytes.now)) }
+        ensures refused { OnErr result (AppendsSome (W.contents self.old.inner) (W.contents self.new.inner) bytes.now) }
+        ensures failed { OnErr result (self.new.faults ≡ self.old.faults + 1) }
+    {
+        match write_and_flush(&mut self.inner, bytes) {
+            Some(n) => Ok(n),
+            None => {
+                self.faults += 1;
+                Err(DeviceError::Failed)
+            }
+        }
+    }
+}

@@ -1,0 +1,32 @@
+//! The outside as traits, with what they tell and how often they failed, and its ends in memory.
+#![tactic(auto)]
+
+mod calls;
+mod device_error;
+mod dial;
+mod edge;
+mod frames;
+mod link;
+mod logged;
+mod memory;
+mod memory_dial;
+mod piece;
+mod script;
+mod scripted_link;
+mod stream;
+mod whole;
+
+pub use device_error::DeviceError;
+pub use dial::Dial;
+pub use edge::{ReadSource, WriteSink};
+pub use link::{Link, LinkIn, LinkOut, LinkState};
+pub use logged::Logged;
+pub use memory::{MemorySink, MemorySource};
+pub use memory_dial::MemoryDial;
+pub use piece::{Piece, Scripted};
+pub use scripted_link::ScriptedLink;
+pub use stream::{Sink, Source};
+pub use whole::{read_up_to, recv_exact, send_all, write_all};
+
+#[cfg(test)]
+mod tests;

@@ -1,0 +1,123 @@
+ghost use Rattle.std.specs.Prelude.{◌≡◌, ◌<◌, ◌≤◌, ◌-◌, ◌^◌, [], length, Some, IfOk};
+ghost use Rattle.sftp_link.specs.Calls.{uncalled};
+ghost use Rattle.sftp_link.specs.Causes.{Cause};
+ghost use Rattle.sftp_link.specs.Memory.{ReadsNext, WritesNext};
+ghost use Rattle.sftp_link.specs.Told.{Gives, Takes};
+
+use crate::calls::Calls;
+use crate::device_error::DeviceError;
+use crate::stream::{Sink, Source};
+use std::alloc::Global;
+use std::marker::Model;
+
+/// A source in memory, of which the calls with listed numbers fail.
+#[derive(Drop)]
+pub struct MemorySource {
+    bytes: Vec<u8>,
+    at: usize,
+    calls: Calls,
+}
+
+impl Model for MemorySource {
+    ghost use Rattle.std.specs.Prelude.{◌≤◌, drop, length};
+    ghost use Rattle.sftp_link.specs.Memory.{Supply};
+
+    ghost Value = { Supply };
+
+    ghost view = { λ s. record { left = drop s.at s.bytes.items; calls = s.calls } };
+
+    ghost invariant = { λ s. s.at ≤ length s.bytes.items };
+}
+
+impl MemorySource {
+    /// A source of these bytes. `fails` lists the numbers, from 0, of the reads that fail.
+    pub fn new(bytes: Vec<u8>, fails: Vec<u32>) -> MemorySource
+        ensures { result ≡ record { left = bytes.items; calls = uncalled fails.items } }
+    {
+        MemorySource {
+            bytes,
+            at: 0,
+            calls: Calls::new(fails),
+        }
+    }
+}
+
+impl Source for MemorySource {
+    ghost left = { λ s. Some s.left };
+
+    ghost faults = { λ s. s.calls.faults };
+
+    /// As many bytes as are left and the room has place for; `Failed` exactly where the read's number is listed.
+    fn read(&mut self, room: &mut [u8]) -> Result<usize, DeviceError>
+        requires some { 0 < length room.old }
+        requires count { self.old.calls.faults < 2 ^ 64 - 1 }
+        ensures within { IfOk result (λ n. n ≤ length room.new) }
+        ensures bytes { Gives (Some self.old.left) (Some self.new.left) room.new result }
+        ensures cause { Cause self.old.calls.faults self.new.calls.faults result }
+        ensures next { ReadsNext self.old self.new room.new result }
+    {
+        if self.calls.count() {
+            return Err(DeviceError::Failed);
+        }
+        let n = room.len().min(self.bytes.len() - self.at);
+        room[..n].copy_from_slice(&self.bytes[self.at..self.at + n]);
+        self.at += n;
+        Ok(n)
+    }
+}
+
+/// A sink in memory, of which the calls with listed numbers fail.
+#[derive(Drop)]
+pub struct MemorySink {
+    bytes: Vec<u8>,
+    calls: Calls,
+}
+
+impl Model for MemorySink {
+    ghost use Rattle.sftp_link.specs.Memory.{Store};
+
+    ghost Value = { Store };
+
+    ghost view = { λ s. record { written = s.bytes.items; calls = s.calls } };
+}
+
+impl MemorySink {
+    /// An empty sink. `fails` lists the numbers, from 0, of the writes that fail.
+    pub fn new(alloc: Global, fails: Vec<u32>) -> MemorySink
+        ensures { result ≡ record { written = []; calls = uncalled fails.items } }
+    {
+        MemorySink {
+            bytes: Vec::new(alloc),
+            calls: Calls::new(fails),
+        }
+    }
+
+    /// The bytes that were written, in order.
+    pub fn bytes(&self) -> &[u8]
+        ensures { result.now ≡ self.now.written }
+    {
+        &self.bytes
+    }
+}
+
+impl Sink for MemorySink {
+    ghost written = { λ s. Some s.written };
+
+    ghost faults = { λ s. s.calls.faults };
+
+    /// Takes all the bytes, or answers `OutOfMemory`; `Failed` exactly where the write's number is listed.
+    fn write(&mut self, bytes: &[u8]) -> Result<usize, DeviceError>
+        requires some { 0 < length bytes.now }
+        requires count { self.old.calls.faults < 2 ^ 64 - 1 }
+        ensures within { IfOk result (λ n. (0 < n) × (n ≤ length bytes.now)) }
+        ensures bytes { Takes (Some self.old.written) (Some self.new.written) bytes.now result }
+        ensures cause { Cause self.old.calls.faults self.new.calls.faults result }
+        ensures next { WritesNext self.old self.new bytes.now result }
+    {
+        if self.calls.count() {
+            return Err(DeviceError::Failed);
+        }
+        self.bytes.extend_from_slice(bytes)?;
+        Ok(bytes.len())
+    }
+}

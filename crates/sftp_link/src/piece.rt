@@ -1,0 +1,44 @@
+ghost use Rattle.std.specs.Prelude.{◌≡◌, ◌<◌, ◌∷◌, ◌++◌, [], vec_len, vec_capacity};
+ghost use Rattle.sftp_link.specs.Same.{piece_decides, scripted_decides};
+
+use sftp_values::{ByteText, Same};
+
+/// The bytes that one call moved over a link.
+#[derive(Debug, Drop, PartialEq, Eq)]
+pub enum Piece {
+    /// Bytes that the peer was sent.
+    Sent(ByteText),
+    /// Bytes that came from the peer; none where its end was met.
+    Got(ByteText),
+}
+
+/// What a scripted link gives next.
+#[derive(Debug, Drop, PartialEq, Eq)]
+pub enum Scripted {
+    /// These bytes.
+    Raw(ByteText),
+    /// The frame of a kind and fields whose id is that of the sent frame with the number `request`, combined with
+    /// `flip` by exclusive or. The frames sent are numbered from 0, which is the hello and has the id 0.
+    To {
+        request: u32,
+        flip: u32,
+        kind: u8,
+        fields: ByteText,
+    },
+}
+
+impl Same for Piece {
+    ghost decides = { piece_decides };
+}
+
+impl Same for Scripted {
+    ghost decides = { scripted_decides };
+}
+
+/// Adds a piece to a log that has room for it.
+pub(crate) fn add_piece(log: &mut Vec<Piece>, piece: Piece)
+    requires { vec_len log.old < vec_capacity log.old }
+    ensures { log.new.items ≡ log.old.items ++ piece ∷ [] }
+{
+    log.push(piece).unwrap();
+}

@@ -1,0 +1,52 @@
+-- The whole numbers of RFC 4251, section 5 (mpint), by their canonical bytes.
+use Rattle.std.specs.Prelude.{ℕ, ◌==◌, ◌+◌, ◌-◌, ◌*◌, ◌/◌, ◌%◌, ◌^◌, ◌&&◌, Bool, true, false, not, List, [], ◌∷◌, length, map, nat_lt, if◌then◌else◌, Option, Some, None, ℤ, pos, negsuc}
+use Rattle.std.specs.List.{flat_map}
+use Rattle.std.specs.Fmt.{digit_glyph}
+
+-- No first byte is unnecessary: neither a 00 before a byte below 80, nor an ff before a byte from 80 on.
+abbrev pub is_canonical : List ℕ → Bool
+is_canonical [] = true
+is_canonical (a ∷ []) = not (a == 0)
+is_canonical (a ∷ b ∷ bytes) = not ((a == 0) && nat_lt b 128) && not ((a == 255) && nat_lt 127 b)
+
+-- the number that bytes spell without a sign
+abbrev pub unsigned : List ℕ → ℕ
+unsigned [] = 0
+unsigned (b ∷ bytes) = b * 256 ^ length bytes + unsigned bytes
+
+-- each bit turned
+abbrev pub inverted : List ℕ → List ℕ
+inverted = map (λ b. 255 - b)
+
+-- Two's complement: with the first bit set, the number below zero is -1 less the turned bits.
+abbrev pub signed : List ℕ → ℤ
+signed [] = pos 0
+signed (b ∷ bytes) = if nat_lt 127 b then negsuc (unsigned (inverted (b ∷ bytes))) else pos (unsigned (b ∷ bytes))
+
+-- without the zeros in front
+abbrev pub strip : List ℕ → List ℕ
+strip [] = []
+strip (b ∷ bytes) = if b == 0 then strip bytes else b ∷ bytes
+
+-- with a 00 before a byte whose first bit would tell of a sign
+abbrev pub sign_free : List ℕ → List ℕ
+sign_free [] = []
+sign_free (b ∷ bytes) = if nat_lt 127 b then 0 ∷ b ∷ bytes else b ∷ bytes
+
+-- the canonical bytes of the number that bytes spell without a sign
+abbrev pub positive : List ℕ → List ℕ
+positive bytes = sign_free (strip bytes)
+
+-- the bytes of a number that isn't negative, without a sign and without a leading 00
+abbrev pub positive_bytes : List ℕ → Option (List ℕ)
+positive_bytes [] = Some []
+positive_bytes (b ∷ bytes) = if nat_lt 127 b then None else Some (if b == 0 then bytes else b ∷ bytes)
+
+-- a number over zero
+abbrev pub is_above_zero : ℤ → Bool
+is_above_zero (pos n) = not (n == 0)
+is_above_zero (negsuc n) = false
+
+-- each byte as two hexadecimal digits, the high four bits first
+abbrev pub hex_text : Bool → List ℕ → List ℕ
+hex_text upper = flat_map (λ b. digit_glyph upper (b / 16) ∷ digit_glyph upper (b % 16) ∷ [])

@@ -1,0 +1,184 @@
+ghost use Rattle.std.specs.Prelude.{◌≡◌, ℕ, List, Bool, Result, IfOk};
+ghost use Rattle.std.specs.Int.{w32, w64};
+ghost use Rattle.ssh_encoding.specs.declared.error.Error.TheVariants.{OutOfMemory};
+ghost use Rattle.ssh_encoding.specs.Reading.{Reads, IsSuffix, number_at, byte_at, bool_at, len_at, bytes_at};
+ghost use Rattle.ssh_encoding.specs.Spelling.{Begins, IsExact, IsByte, IsArray, IsFlag, IsNumber, IsLen};
+ghost use Rattle.ssh_encoding.specs.Exact.{byte_exact, array_exact, flag_exact, number_exact, len_exact};
+
+use crate::error::Error;
+use crate::reader::Reader;
+use std::alloc::Global;
+
+/// The greatest length that is read, in bytes.
+const MAX_LEN: usize = 1048575;
+
+/// A type that is read from bytes.
+///
+/// After a refusal the reader holds a suffix of what it held.
+pub trait Decode: Sized {
+    /// Why a value can't be read.
+    type Error: From<Error>;
+
+    /// What a contract sees of a value: a number, a list, a record.
+    ghost Seen: { Type 0 };
+
+    ghost seen: { Self → Seen };
+
+    /// What the bytes begin with, and what follows it; or the refusal.
+    ghost reading: { List ℕ → Result (Seen × List ℕ) Self.Error };
+
+    /// The list spells the value.
+    ghost spells: { Seen → List ℕ → Type 0 };
+
+    /// Reads a value from the front. It takes memory for what the value holds, and never by a count that it
+    /// reads alone.
+    fn decode<R: Reader>(alloc: Global, reader: &mut R) -> Result<Self, Self::Error>
+        ensures read { Reads seen (Self.Error.from_gives OutOfMemory) (R.left reader.new) result (reading (R.left reader.old)) }
+        ensures rest { IsSuffix (R.left reader.new) (R.left reader.old) };
+
+    /// What is read is spelled so, and what is spelled so is read.
+    ghost exact: { (bytes rest : List ℕ) (v : Seen) → IsExact spells reading bytes rest v };
+}
+
+/// Reads a value: it answers v and leaves the rest exactly where the bytes begin with a spelling of v and the
+/// rest follows it.
+pub fn decode_exact<T: Decode, R: Reader>(alloc: Global, reader: &mut R) -> Result<T, T::Error>
+    ensures found { IfOk result (λ v. Begins (T.spells (T.seen v)) (R.left reader.old) (R.left reader.new)) }
+    ensures only { (v : T.Seen) (rest : List ℕ) → Begins (T.spells v) (R.left reader.old) rest → Reads T.seen (T.Error.from_gives OutOfMemory) (R.left reader.new) result (Ok (v, rest)) }
+    ensures rest { IsSuffix (R.left reader.new) (R.left reader.old) }
+{
+    T::decode(alloc, reader)
+}
+
+/// byte: one byte. `Length` where nothing is left.
+impl Decode for u8 {
+    type Error = Error;
+
+    ghost Seen = { ℕ };
+
+    ghost seen = { λ n. n };
+
+    ghost reading = { byte_at };
+
+    ghost spells = { IsByte };
+
+    #[tactic(auto, unfolding(crate::specs::Reading::byte_at), using(crate::proofs::Suffix::suffixes))]
+    fn decode<R: Reader>(_alloc: Global, reader: &mut R) -> Result<u8, Error> {
+        let mut buf = [0u8; 1];
+        reader.fill(&mut buf)?;
+        Ok(buf[0])
+    }
+
+    ghost exact = { byte_exact };
+}
+
+/// boolean: one byte, 0 for false and any other for true. `Length` where nothing is left.
+impl Decode for bool {
+    type Error = Error;
+
+    ghost Seen = { Bool };
+
+    ghost seen = { λ b. b };
+
+    ghost reading = { bool_at };
+
+    ghost spells = { IsFlag };
+
+    #[tactic(auto, unfolding(crate::specs::Reading::bool_at))]
+    fn decode<R: Reader>(alloc: Global, reader: &mut R) -> Result<bool, Error> {
+        let byte = u8::decode(alloc, reader)?;
+        Ok(byte != 0)
+    }
+
+    ghost exact = { flag_exact };
+}
+
+/// uint32: four bytes, most significant first. `Length` where fewer are left.
+impl Decode for u32 {
+    type Error = Error;
+
+    ghost Seen = { ℕ };
+
+    ghost seen = { λ n. n };
+
+    ghost reading = { number_at w32 };
+
+    ghost spells = { IsNumber w32 };
+
+    #[tactic(auto, using(crate::proofs::Suffix::suffixes))]
+    fn decode<R: Reader>(_alloc: Global, reader: &mut R) -> Result<u32, Error> {
+        let mut buf = [0u8; 4];
+        reader.fill(&mut buf)?;
+        Ok(u32::from_be_bytes(buf))
+    }
+
+    ghost exact = { number_exact w32 };
+}
+
+/// uint64: eight bytes, most significant first. `Length` where fewer are left.
+impl Decode for u64 {
+    type Error = Error;
+
+    ghost Seen = { ℕ };
+
+    ghost seen = { λ n. n };
+
+    ghost reading = { number_at w64 };
+
+    ghost spells = { IsNumber w64 };
+
+    #[tactic(auto, using(crate::proofs::Suffix::suffixes))]
+    fn decode<R: Reader>(_alloc: Global, reader: &mut R) -> Result<u64, Error> {
+        let mut buf = [0u8; 8];
+        reader.fill(&mut buf)?;
+        Ok(u64::from_be_bytes(buf))
+    }
+
+    ghost exact = { number_exact w64 };
+}
+
+/// byte\[n\]: `N` bytes as they are. `Length` where fewer are left.
+impl<const N: usize> Decode for [u8; N] {
+    type Error = Error;
+
+    ghost Seen = { List ℕ };
+
+    ghost seen = { λ a. a };
+
+    ghost reading = { bytes_at N };
+
+    ghost spells = { IsArray N };
+
+    #[tactic(auto, using(crate::proofs::Suffix::suffixes))]
+    fn decode<R: Reader>(_alloc: Global, reader: &mut R) -> Result<[u8; N], Error> {
+        let mut buf = [0u8; N];
+        reader.fill(&mut buf)?;
+        Ok(buf)
+    }
+
+    ghost exact = { array_exact N };
+}
+
+/// A length: a uint32. `Length` where fewer than four bytes are left, `Overflow` over 1048575.
+impl Decode for usize {
+    type Error = Error;
+
+    ghost Seen = { ℕ };
+
+    ghost seen = { λ n. n };
+
+    ghost reading = { len_at };
+
+    ghost spells = { IsLen };
+
+    #[tactic(auto, unfolding(crate::specs::Reading::len_at))]
+    fn decode<R: Reader>(alloc: Global, reader: &mut R) -> Result<usize, Error> {
+        let n = u32::decode(alloc, reader)? as usize;
+        if n > MAX_LEN {
+            return Err(Error::Overflow);
+        }
+        Ok(n)
+    }
+
+    ghost exact = { len_exact };
+}

@@ -1,0 +1,48 @@
+ghost use Rattle.std.specs.Prelude.{◌≡◌, ℕ, List, ◌++◌, OnOk, OnErr};
+ghost use Rattle.std.proofs.Common.{◌∙◌, refl};
+ghost use Rattle.ssh_encoding.specs.Writing.{IsPart, Writes};
+
+use crate::encode::Encode;
+use crate::error::Error;
+use crate::out_of_memory::OutOfMemory;
+use crate::writer::Writer;
+
+/// What takes bytes one after another, as a digest does.
+pub trait Absorb {
+    /// The bytes that it took.
+    ghost absorbed: { Self → List ℕ };
+
+    /// Takes the bytes. After a refusal it may have taken a front of them.
+    fn absorb(&mut self, bytes: &[u8]) -> Result<(), OutOfMemory>
+        ensures ok { OnOk result (absorbed self.new ≡ absorbed self.old ++ bytes.now) }
+        ensures err { OnErr result (IsPart (absorbed self.old) (absorbed self.new) bytes.now) };
+}
+
+/// A writer whose bytes go into what absorbs them.
+#[derive(Drop)]
+pub struct DigestWriter<'d, D: Absorb>(pub &'d mut D);
+
+impl<'d, D: Absorb> Writer for DigestWriter<'d, D> {
+    ghost wrote = { λ w. D.absorbed w.0.now };
+
+    ghost goes_to = { λ a b. a.0.ghost_name ≡ b.0.ghost_name };
+
+    fn write(&mut self, bytes: &[u8]) -> Result<(), Error> {
+        match self.0.absorb(bytes) {
+            Ok(()) => Ok(()),
+            Err(_) => Err(Error::OutOfMemory),
+        }
+    }
+
+    ghost stays = { λ a. refl };
+
+    ghost goes_on = { λ a b c p q. p ∙ q };
+}
+
+/// Writes a value into what absorbs its bytes.
+pub fn absorb_value<D: Absorb, T: Encode>(value: &T, digest: &mut D) -> Result<(), Error>
+    ensures { Writes (D.absorbed digest.old) (D.absorbed digest.new) result (T.written value.now) (T.refusal value.now) }
+{
+    let mut writer = DigestWriter(digest);
+    value.encode(&mut writer)
+}

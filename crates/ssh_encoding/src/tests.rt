@@ -1,0 +1,6 @@
+mod labels;
+mod numbers;
+mod readers;
+mod texts;
+mod values;
+mod writers;
