@@ -115,7 +115,7 @@ label_at meaning bytes = do
   Ok (label, text.1)
 
 -- what is read, behind what was read before
-abbrev pub with_front : {A : Type 0} → List A → Result (List A × List ℕ) Error → Result (List A × List ℕ) Error
+abbrev pub with_front : {A E : Type 0} → List A → Result (List A × List ℕ) E → Result (List A × List ℕ) E
 with_front front read = read >>= λ x. Ok (front ++ x.0, x.1)
 
 -- texts to the end of the list; each takes four bytes or more, so `most` is at most the number of bytes

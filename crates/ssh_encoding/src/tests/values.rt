@@ -82,74 +82,81 @@ fn numbers_both_ways(rt: HostRuntime) -> std::result::Result<(), Fail> {
 }
 
 #[test]
-fn strings_both_ways(rt: HostRuntime) -> std::result::Result<(), Fail> {
+fn byte_strings_both_ways(rt: HostRuntime) -> std::result::Result<(), Fail> {
     let alloc = rt.alloc();
-    let bytes = Vec::from_slice(alloc, b"example")?;
-    let text = String::from_str(alloc, "example")?;
-    let shared = Bytes::copy_from_slice(alloc, b"example")?;
+    assert!(rt; is_written(alloc, &b"example".as_slice(), EXAMPLE)?);
+    let bytes = read_whole::<Vec<u8>>(alloc, EXAMPLE)?.ok_or("more was read")?;
+    assert_eq!(rt; bytes.as_slice(), b"example".as_slice());
     assert!(rt; is_written(alloc, &bytes, EXAMPLE)?);
     assert!(rt; is_written(alloc, &&bytes, EXAMPLE)?);
-    assert!(rt; is_written(alloc, &text, EXAMPLE)?);
-    assert!(rt; is_written(alloc, &&text, EXAMPLE)?);
+    Ok(())
+}
+
+#[test]
+fn shared_strings_both_ways(rt: HostRuntime) -> std::result::Result<(), Fail> {
+    let alloc = rt.alloc();
+    let shared = read_whole::<Bytes>(alloc, EXAMPLE)?.ok_or("more was read")?;
+    assert_eq!(rt; shared.as_slice(), b"example".as_slice());
     assert!(rt; is_written(alloc, &shared, EXAMPLE)?);
     assert!(rt; is_written(alloc, &&shared, EXAMPLE)?);
-    assert!(rt; is_written(alloc, &b"example".as_slice(), EXAMPLE)?);
+    Ok(())
+}
+
+#[test]
+fn texts_both_ways(rt: HostRuntime) -> std::result::Result<(), Fail> {
+    let alloc = rt.alloc();
     assert!(rt; is_written(alloc, &"example", EXAMPLE)?);
-    assert_eq!(rt; read_whole::<Vec<u8>>(alloc, EXAMPLE)?, Some(bytes));
-    assert_eq!(rt; read_whole::<String>(alloc, EXAMPLE)?, Some(text));
-    assert_eq!(rt; read_whole::<Bytes>(alloc, EXAMPLE)?, Some(shared));
+    let text = read_whole::<String>(alloc, EXAMPLE)?.ok_or("more was read")?;
+    assert_eq!(rt; text.as_str(), "example");
+    assert!(rt; is_written(alloc, &text, EXAMPLE)?);
+    assert!(rt; is_written(alloc, &&text, EXAMPLE)?);
     Ok(())
 }
 
 /// Whether a list of strings is written as these bytes, as a vector and as a slice.
 fn list_is_written<T: Rfc4251String + Drop>(
     alloc: Global,
-    list: Vec<T>,
+    list: &Vec<T>,
     bytes: &[u8],
 ) -> std::result::Result<bool, Fail> {
-    Ok(is_written(alloc, &list.as_slice(), bytes)? && is_written(alloc, &list, bytes)?)
+    Ok(is_written(alloc, &list.as_slice(), bytes)? && is_written(alloc, list, bytes)?)
 }
 
 #[test]
-fn lists_both_ways(rt: HostRuntime) -> std::result::Result<(), Fail> {
+fn lists_of_texts_both_ways(rt: HostRuntime) -> std::result::Result<(), Fail> {
     let alloc = rt.alloc();
-    let foo = String::from_str(alloc, "foo")?;
-    let bar = String::from_str(alloc, "bar")?;
-    let baz = String::from_str(alloc, "baz")?;
-    assert!(rt; list_is_written(alloc, vec![in alloc; "foo", "bar", "baz"]?, FOO_BAR_BAZ)?);
-    assert!(rt; list_is_written(alloc, vec![in alloc; &foo, &bar, &baz]?, FOO_BAR_BAZ)?);
-    let texts = vec![in alloc; foo, bar, baz]?;
-    assert_eq!(rt;
-        read_whole::<Vec<String>>(alloc, FOO_BAR_BAZ)?.as_ref(),
-        Some(&texts)
-    );
-    assert!(rt; list_is_written(alloc, texts, FOO_BAR_BAZ)?);
-    let one = Vec::from_slice(alloc, b"\x01")?;
-    let two = Vec::from_slice(alloc, b"\x02\x03")?;
-    let three = Vec::from_slice(alloc, b"\x04")?;
-    assert!(rt;
-        list_is_written(
-            alloc,
-            vec![in alloc; one.as_slice(), two.as_slice(), three.as_slice()]?,
-            SMALL_LISTS
-        )?
-    );
-    assert!(rt; list_is_written(alloc, vec![in alloc; &one, &two, &three]?, SMALL_LISTS)?);
-    let shared = vec![in alloc;
-        Bytes::from_vec(one)?,
-        Bytes::from_vec(two)?,
-        Bytes::from_vec(three)?,
-    ]?;
-    assert!(rt;
-        is_written(
-            alloc,
-            &vec![in alloc; &shared[0], &shared[1], &shared[2]]?,
-            SMALL_LISTS
-        )?
-    );
-    assert!(rt; list_is_written(alloc, shared, SMALL_LISTS)?);
-    let none: Vec<Vec<u8>> = Vec::new(alloc);
-    assert!(rt; list_is_written(alloc, none, b"\0\0\0\0")?);
+    let lent = vec![in alloc; "foo", "bar", "baz"]?;
+    assert!(rt; list_is_written(alloc, &lent, FOO_BAR_BAZ)?);
+    let texts = read_whole::<Vec<String>>(alloc, FOO_BAR_BAZ)?.ok_or("more was read")?;
+    assert_eq!(rt; texts.len(), 3);
+    assert_eq!(rt; texts[0].as_str(), "foo");
+    assert!(rt; list_is_written(alloc, &texts, FOO_BAR_BAZ)?);
+    let lent = vec![in alloc; &texts[0], &texts[1], &texts[2]]?;
+    assert!(rt; list_is_written(alloc, &lent, FOO_BAR_BAZ)?);
+    Ok(())
+}
+
+#[test]
+fn lists_of_bytes(rt: HostRuntime) -> std::result::Result<(), Fail> {
+    let alloc = rt.alloc();
+    let lent = vec![in alloc; b"\x01".as_slice(), b"\x02\x03", b"\x04"]?;
+    assert!(rt; list_is_written(alloc, &lent, SMALL_LISTS)?);
+    let none: Vec<&[u8]> = Vec::new(alloc);
+    assert!(rt; list_is_written(alloc, &none, b"\0\0\0\0")?);
+    Ok(())
+}
+
+#[test]
+fn lists_of_owned_bytes(rt: HostRuntime) -> std::result::Result<(), Fail> {
+    let alloc = rt.alloc();
+    let owned = vec![in alloc; Vec::from_slice(alloc, b"\x05")?]?;
+    assert!(rt; list_is_written(alloc, &owned, b"\0\0\0\x05\0\0\0\x01\x05")?);
+    let lent = vec![in alloc; &owned[0]]?;
+    assert!(rt; list_is_written(alloc, &lent, b"\0\0\0\x05\0\0\0\x01\x05")?);
+    let shared = vec![in alloc; Bytes::from_static(b"\x05")]?;
+    assert!(rt; list_is_written(alloc, &shared, b"\0\0\0\x05\0\0\0\x01\x05")?);
+    let lent = vec![in alloc; &shared[0]]?;
+    assert!(rt; list_is_written(alloc, &lent, b"\0\0\0\x05\0\0\0\x01\x05")?);
     Ok(())
 }
 
