@@ -1,5 +1,5 @@
 -- Frames that have not come.
-use Rattle.std.proofs.Common.{◌≡◌, ◌<◌, ℕ, zero, suc, ◌+◌, ◌-◌, List, Option, Some, None, refl, ap, subst, sym, arith, add-zero, add-suc, ◌∙◌}
+use Rattle.std.proofs.Common.{◌≡◌, ◌<◌, ℕ, zero, suc, ◌+◌, ◌-◌, List, Some, None, refl, subst, arith, add-zero, add-suc}
 use Rattle.sftp_link.specs.Frames.{first_frame, behind_frames, frame_at}
 
 -- where the frame behind the first k has not come, none behind it has

@@ -1,11 +1,11 @@
 -- What is told over several calls.
-use Rattle.std.proofs.Common.{◌≡◌, ◌<◌, ◌≤◌, ℕ, ◌+◌, List, [], ◌∷◌, ◌++◌, take, drop, length, Option, Some, None, refl, ap, sym, ◌∙◌, subst, append_assoc, arith, min, ◌-◌, length-drop, length-append, take-add, Result, Ok, Err}
+use Rattle.std.proofs.Common.{◌≡◌, ◌<◌, ◌≤◌, ℕ, ◌+◌, List, [], ◌∷◌, ◌++◌, take, drop, length, Option, Some, None, refl, ap, sym, ◌∙◌, subst, append_assoc, arith, min, ◌-◌, length-drop, length-append, take-add}
 use Rattle.std.proofs.lemmas.List.{append-nil, take-append-drop, drop-drop, nil_from_length, length-take, take_all, take-append-le}
 use Rattle.std.proofs.Math.Seq.{take-append_seam, take-append-add}
 use borrow.Rule.Slice.PartMut.{put_mid, post_of}
 use Rattle.sftp_link.specs.declared.piece.Piece.{Piece}
 use Rattle.sftp_link.specs.declared.piece.Piece.TheVariants.{Sent, Got}
-use Rattle.sftp_link.specs.Log.{AllSent, SentOn, AllGot, GotOn}
+use Rattle.sftp_link.specs.Log.{SentOn, GotOn}
 use Rattle.sftp_link.specs.Told.{Told, Same, OneMore, Went, SentLess, WentLess, GotLess, Came}
 
 pub told_self : {A : Type 0} (R : A → A → Type 0) (a : Option A) → ((x : A) → R x x) → Told R a a
@@ -74,7 +74,7 @@ got_more b n m front piece s e = (Got piece ∷ s.0, e ∙ ap (λ (w : List Piec
 pub take_seam : (xs ys zs : List ℕ) (at n : ℕ) → length xs ≡ at → n ≤ length ys → take (at + n) (xs ++ (ys ++ zs)) ≡ xs ++ take n ys
 take_seam xs ys zs at n is le =
     subst (λ (k : ℕ). take (k + n) (xs ++ (ys ++ zs)) ≡ xs ++ take n ys) is (
-      take-append-add xs (ys ++ zs) n ∙ ap (λ (w : List ℕ). xs ++ w) (take-append-le n ys zs le)
+    take-append-add xs (ys ++ zs) n ∙ ap (λ (w : List ℕ). xs ++ w) (take-append-le n ys zs le)
     )
 
 -- the room, into whose part from `at` on a recv put these bytes
@@ -85,7 +85,7 @@ pub got_piece : (room put : List ℕ) (at n : ℕ) → at ≤ length room → n 
 got_piece room put at n le within b x y s e =
     let len : length (take at room) ≡ at = omega (arith, length-take {A = ℕ}) in
     subst (λ (w : List ℕ). GotOn b y w) (sym (take_seam (take at room) put (post_of at (length room - at) room) at n len within)) (
-      got_more b x y (take at room) (take n put) s e
+    got_more b x y (take at room) (take n put) s e
     )
 
 -- what was got so far stands in front of the rest of the room

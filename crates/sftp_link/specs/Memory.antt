@@ -1,5 +1,5 @@
 -- A source and a sink in memory, and what each of their calls answers.
-use Rattle.std.specs.Prelude.{◌≡◌, ℕ, List, [], ◌++◌, take, drop, length, min, true, false, Result, Ok, Err}
+use Rattle.std.specs.Prelude.{◌≡◌, ℕ, List, ◌++◌, take, drop, length, min, true, false, Result, Ok, Err}
 use Rattle.sftp_link.specs.declared.device_error.DeviceError.{DeviceError}
 use Rattle.sftp_link.specs.declared.device_error.DeviceError.TheVariants.{OutOfMemory, Failed}
 use Rattle.sftp_link.specs.Calls.{Counted, fails_next, after_call}
@@ -14,7 +14,7 @@ abbrev pub after_read : Supply → ℕ → Supply
 after_read source n = record { left = drop n source.left; calls = after_call source.calls }
 
 -- a read fails exactly where its number is listed; else it gives as many bytes as there are and the room has place for
-abbrev pub ReadsNext : Supply → Supply → List ℕ → Result ℕ DeviceError → Type 0
+unfoldable pub ReadsNext : Supply → Supply → List ℕ → Result ℕ DeviceError → Type 0
 ReadsNext before now room (Ok n) =
     (fails_next before.calls ≡ false) × (n ≡ min (length room) (length before.left))
     × (take n room ≡ take n before.left) × (now ≡ after_read before n)
@@ -34,7 +34,7 @@ abbrev pub after_refusal : Store → Store
 after_refusal sink = record { written = sink.written; calls = after_call sink.calls }
 
 -- a write fails exactly where its number is listed; else it takes all the bytes, or there was no memory for them
-abbrev pub WritesNext : Store → Store → List ℕ → Result ℕ DeviceError → Type 0
+unfoldable pub WritesNext : Store → Store → List ℕ → Result ℕ DeviceError → Type 0
 WritesNext before now bytes (Ok n) =
     (fails_next before.calls ≡ false) × (n ≡ length bytes) × (now ≡ after_write before bytes)
 WritesNext before now bytes (Err Failed) = (fails_next before.calls ≡ true) × (now ≡ after_refusal before)

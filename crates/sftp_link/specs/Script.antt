@@ -1,12 +1,12 @@
 -- A scripted link, and what each of its calls answers.
-use Rattle.std.specs.Prelude.{◌≡◌, ◌≢◌, ℕ, List, [], ◌∷◌, ◌++◌, take, drop, length, min, Bool, true, false, ◌==◌, filter, Option, Some, None, Result, Ok, Err, if◌then◌else◌}
+use Rattle.std.specs.Prelude.{◌≡◌, ℕ, List, [], ◌∷◌, ◌++◌, take, drop, length, min, Bool, true, false, ◌==◌, filter, Option, Some, None, Result, Ok, Err, if◌then◌else◌}
 use Rattle.sftp_link.specs.declared.device_error.DeviceError.{DeviceError}
 use Rattle.sftp_link.specs.declared.device_error.DeviceError.TheVariants.{OutOfMemory, Failed}
 use Rattle.sftp_link.specs.declared.piece.Piece.{Piece}
 use Rattle.sftp_link.specs.declared.piece.Piece.TheVariants.{Sent, Got}
 use Rattle.sftp_link.specs.declared.piece.Scripted.{Scripted}
 use Rattle.sftp_link.specs.declared.piece.Scripted.TheVariants.{Raw, To}
-use Rattle.sftp_link.specs.Calls.{Counted, uncalled, fails_next, after_call}
+use Rattle.sftp_link.specs.Calls.{Counted, fails_next, after_call}
 use Rattle.sftp_link.specs.Frames.{item_bytes}
 
 -- what a link has still to give: what is left of the item that was begun, and the items behind it

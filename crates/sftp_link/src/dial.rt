@@ -24,12 +24,12 @@ pub trait Dial {
     // How often the dial itself failed.
     ghost faults: { Self → ℕ };
 
-    /// A link to the peer at a path, on which no call was made. `OutOfMemory` and `Failed`: there is no link, and
-    /// `Failed` only where the dial's count of faults rose.
+    /// A link to the peer at a path, on which no call was made. `OutOfMemory` and `Failed`: there
+    /// is no link, and `Failed` only where the dial's count of faults rose.
     fn dial(&mut self, path: &str) -> Result<Self::End, DeviceError>
         requires count { faults self.old < 2 ^ 64 - 1 }
         ensures log { IfOk result (λ end. IsEmptyLog (Self.End.LinkState.log end)) }
-        ensures fresh { IfOk result (λ end. Self.End.LinkState.faults end ≡ 0) }
+        ensures unfailed { IfOk result (λ end. Self.End.LinkState.faults end ≡ 0) }
         ensures end { IfOk result (λ end. Self.End.LinkState.ended end ≡ false) }
         ensures last { last self.new ≡ last self.old }
         ensures last_faults { last_faults self.new ≡ last_faults self.old }
@@ -40,6 +40,7 @@ pub trait Dial {
     fn put_back(&mut self, end: Logged<Self::End>)
         ensures last { last self.new ≡ Some (reverse end.pieces) }
         ensures last_faults { last_faults self.new ≡ Self.End.LinkState.faults end.link }
-        ensures last_ended { last_ended self.new ≡ (if end.starved then false else Self.End.LinkState.ended end.link) }
+        ensures last_ended { last_ended self.new ≡
+            (if end.starved then false else Self.End.LinkState.ended end.link) }
         ensures faults { faults self.new ≡ faults self.old };
 }

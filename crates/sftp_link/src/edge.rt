@@ -46,7 +46,8 @@ impl<R: Read> Source for ReadSource<R> {
         ensures within { IfOk result (λ n. n ≤ length room.new) }
         ensures bytes { Gives None None room.new result }
         ensures cause { Cause self.old.faults self.new.faults result }
-        ensures inner { ReadConsumes (R.remaining self.old.inner) (R.remaining self.new.inner) result room.new }
+        ensures inner { ReadConsumes (R.remaining self.old.inner) (R.remaining self.new.inner)
+            result room.new }
         ensures failed { OnErr result (self.new.faults ≡ self.old.faults + 1) }
     {
         match self.inner.read(room) {
@@ -83,11 +84,14 @@ impl<W: Write> WriteSink<W> {
     }
 }
 
-// One write and a flush: how many bytes were taken, and None where either was refused or none was taken.
+// One write and a flush: how many bytes were taken, and None where either was refused or none was
+// taken.
 fn write_and_flush<W: Write>(inner: &mut W, bytes: &[u8]) -> Option<usize>
     ensures within { IfSome result (λ n. (0 < n) × (n ≤ length bytes.now)) }
-    ensures taken { IfSome result (λ n. Appends (W.contents inner.old) (W.contents inner.new) (take n bytes.now)) }
-    ensures refused { IfNone result (AppendsSome (W.contents inner.old) (W.contents inner.new) bytes.now) }
+    ensures taken { IfSome result
+        (λ n. Appends (W.contents inner.old) (W.contents inner.new) (take n bytes.now)) }
+    ensures refused { IfNone result
+        (AppendsSome (W.contents inner.old) (W.contents inner.new) bytes.now) }
 {
     let Ok(n) = inner.write(bytes) else {
         return None;
@@ -103,16 +107,19 @@ impl<W: Write> Sink for WriteSink<W> {
 
     ghost faults = { λ s. s.faults };
 
-    /// One write of the writer, and a flush; `Failed` where either answers an error or nothing was taken, after which
-    /// the writer may have taken some of the first bytes.
+    /// One write of the writer, and a flush; `Failed` where either answers an error or nothing was
+    /// taken, after which the writer may have taken some of the first bytes.
     fn write(&mut self, bytes: &[u8]) -> Result<usize, DeviceError>
         requires some { 0 < length bytes.now }
         requires count { self.old.faults < 2 ^ 64 - 1 }
         ensures within { IfOk result (λ n. (0 < n) × (n ≤ length bytes.now)) }
         ensures bytes { Takes None None bytes.now result }
         ensures cause { Cause self.old.faults self.new.faults result }
-        ensures taken { IfOk result (λ n. Appends (W.contents self.old.inner) (W.contents self.new.inner) (take n bytes.now)) }
-        ensures refused { OnErr result (AppendsSome (W.contents self.old.inner) (W.contents self.new.inner) bytes.now) }
+        ensures taken { IfOk result
+            (λ n. Appends (W.contents self.old.inner) (W.contents self.new.inner)
+            (take n bytes.now)) }
+        ensures refused { OnErr result
+            (AppendsSome (W.contents self.old.inner) (W.contents self.new.inner) bytes.now) }
         ensures failed { OnErr result (self.new.faults ≡ self.old.faults + 1) }
     {
         match write_and_flush(&mut self.inner, bytes) {

@@ -19,7 +19,9 @@ fn number_of(bytes: &[u8]) -> u32
 
 // The first frame's body and the bytes behind it, where the frame has come whole.
 fn first_frame(bytes: &[u8]) -> Option<(&[u8], &[u8])>
-    ensures { MatchOption result (first_frame bytes.now ≡ None) (λ f. first_frame bytes.now ≡ Some (f.0.now, f.1.now)) }
+    ensures { MatchOption result
+        (first_frame bytes.now ≡ None)
+        (λ f. first_frame bytes.now ≡ Some (f.0.now, f.1.now)) }
 {
     if bytes.len() < 4 {
         return None;
@@ -34,7 +36,9 @@ fn first_frame(bytes: &[u8]) -> Option<(&[u8], &[u8])>
 
 // The body of the frame with this number, counted from 0, where it has come whole.
 fn frame_at(bytes: &[u8], number: u32) -> Option<&[u8]>
-    ensures { MatchOption result (frame_at number bytes.now ≡ None) (λ body. frame_at number bytes.now ≡ Some body.now) }
+    ensures { MatchOption result
+        (frame_at number bytes.now ≡ None)
+        (λ body. frame_at number bytes.now ≡ Some body.now) }
 {
     let mut rest = bytes;
     for _ in 0..number {
@@ -79,7 +83,9 @@ pub(crate) fn item_bytes(
     sent: &[u8],
     item: &Scripted,
 ) -> Result<Option<Vec<u8>>, AllocError>
-    ensures { IfOk result (λ found. MatchOption found (item_bytes sent.now item.now ≡ None) (λ v. item_bytes sent.now item.now ≡ Some v.items)) }
+    ensures { IfOk result (λ found. MatchOption found
+        (item_bytes sent.now item.now ≡ None)
+        (λ v. item_bytes sent.now item.now ≡ Some v.items)) }
 {
     match item {
         Scripted::Raw(bytes) => Ok(Some(Vec::from_slice(alloc, bytes.as_slice())?)),

@@ -24,8 +24,8 @@ pub trait LinkState {
 
 /// A link to which bytes are sent.
 pub trait LinkOut: LinkState {
-    /// Sends the first bytes of a piece, at least one, and answers how many. `OutOfMemory` and `Failed`: none was
-    /// sent, and `Failed` only where the count of faults rose.
+    /// Sends the first bytes of a piece, at least one, and answers how many. `OutOfMemory` and
+    /// `Failed`: none was sent, and `Failed` only where the count of faults rose.
     fn send(&mut self, bytes: &[u8]) -> Result<usize, DeviceError>
         requires some { 0 < length bytes.now }
         requires count { Self.faults self.old < 2 ^ 64 - 1 }
@@ -38,8 +38,9 @@ pub trait LinkOut: LinkState {
 
 /// A link from which bytes come.
 pub trait LinkIn: LinkState {
-    /// Takes some bytes into the front of the room and answers how many, 0 only at the end. It may wait for the peer.
-    /// `OutOfMemory` and `Failed`: none came, and `Failed` only where the count of faults rose.
+    /// Takes some bytes into the front of the room and answers how many, 0 only at the end. It may
+    /// wait for the peer. `OutOfMemory` and `Failed`: none came, and `Failed` only where the count
+    /// of faults rose.
     fn recv(&mut self, room: &mut [u8]) -> Result<usize, DeviceError>
         requires some { 0 < length room.old }
         requires count { Self.faults self.old < 2 ^ 64 - 1 }

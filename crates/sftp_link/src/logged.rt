@@ -82,15 +82,18 @@ impl<L: Link> LinkState for Logged<L> {
 }
 
 impl<L: Link> LinkOut for Logged<L> {
-    /// Sends over the link inside. Its memory is taken first, so after an `OutOfMemory` of its own the link inside is
-    /// untouched.
+    /// Sends over the link inside. Its memory is taken first, so after an `OutOfMemory` of its own
+    /// the link inside is untouched.
     fn send(&mut self, bytes: &[u8]) -> Result<usize, DeviceError>
         requires some { 0 < length bytes.now }
         requires count { L.LinkState.faults self.old.link < 2 ^ 64 - 1 }
         ensures within { IfOk result (λ n. (0 < n) × (n ≤ length bytes.now)) }
-        ensures log { Sends (Some (reverse self.old.pieces)) (Some (reverse self.new.pieces)) bytes.now result }
-        ensures end { (if self.new.starved then false else L.LinkState.ended self.new.link) ≡ false }
-        ensures cause { Cause (L.LinkState.faults self.old.link) (L.LinkState.faults self.new.link) result }
+        ensures log { Sends (Some (reverse self.old.pieces)) (Some (reverse self.new.pieces))
+            bytes.now result }
+        ensures end { (if self.new.starved then false else L.LinkState.ended self.new.link)
+            ≡ false }
+        ensures cause { Cause (L.LinkState.faults self.old.link) (L.LinkState.faults self.new.link)
+            result }
         ensures same { L.LinkState.service self.new.link ≡ L.LinkState.service self.old.link }
         ensures untouched { self.new.starved ≡ true → self.new.link ≡ self.old.link }
         ensures starved { self.new.starved ≡ true → IsErrOf result DeviceError.OutOfMemory }
@@ -109,20 +112,24 @@ impl<L: Link> LinkOut for Logged<L> {
 }
 
 impl<L: Link> LinkIn for Logged<L> {
-    /// Receives from the link inside; at its end a piece of no bytes is logged. Its memory is taken first, so after an
-    /// `OutOfMemory` of its own the link inside is untouched.
+    /// Receives from the link inside; at its end a piece of no bytes is logged. Its memory is taken
+    /// first, so after an `OutOfMemory` of its own the link inside is untouched.
     fn recv(&mut self, room: &mut [u8]) -> Result<usize, DeviceError>
         requires some { 0 < length room.old }
         requires count { L.LinkState.faults self.old.link < 2 ^ 64 - 1 }
         ensures within { IfOk result (λ n. n ≤ length room.new) }
-        ensures log { Receives (Some (reverse self.old.pieces)) (Some (reverse self.new.pieces)) room.new result }
-        ensures end { IsEnd (if self.new.starved then false else L.LinkState.ended self.new.link) result }
-        ensures cause { Cause (L.LinkState.faults self.old.link) (L.LinkState.faults self.new.link) result }
+        ensures log { Receives (Some (reverse self.old.pieces)) (Some (reverse self.new.pieces))
+            room.new result }
+        ensures end { IsEnd (if self.new.starved then false else L.LinkState.ended self.new.link)
+            result }
+        ensures cause { Cause (L.LinkState.faults self.old.link) (L.LinkState.faults self.new.link)
+            result }
         ensures same { L.LinkState.service self.new.link ≡ L.LinkState.service self.old.link }
         ensures untouched { self.new.starved ≡ true → self.new.link ≡ self.old.link }
         ensures starved { self.new.starved ≡ true → IsErrOf result DeviceError.OutOfMemory }
         ensures inner { self.new.starved ≡ false →
-            Receives (L.LinkState.log self.old.link) (L.LinkState.log self.new.link) room.new result }
+            Receives (L.LinkState.log self.old.link) (L.LinkState.log self.new.link)
+            room.new result }
     {
         self.starved = true;
         let mut copy = Vec::with_capacity(self.alloc, room.len())?;

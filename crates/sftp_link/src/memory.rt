@@ -47,7 +47,9 @@ impl Source for MemorySource {
 
     ghost faults = { λ s. s.calls.faults };
 
-    /// As many bytes as are left and the room has place for; `Failed` exactly where the read's number is listed.
+    /// As many bytes as are left and the room has place for; `Failed` exactly where the read's
+    /// number is listed.
+    #[tactic(auto, unfolding(crate::specs::Memory::ReadsNext))]
     fn read(&mut self, room: &mut [u8]) -> Result<usize, DeviceError>
         requires some { 0 < length room.old }
         requires count { self.old.calls.faults < 2 ^ 64 - 1 }
@@ -105,7 +107,9 @@ impl Sink for MemorySink {
 
     ghost faults = { λ s. s.calls.faults };
 
-    /// Takes all the bytes, or answers `OutOfMemory`; `Failed` exactly where the write's number is listed.
+    /// Takes all the bytes, or answers `OutOfMemory`; `Failed` exactly where the write's number is
+    /// listed.
+    #[tactic(auto, unfolding(crate::specs::Memory::WritesNext))]
     fn write(&mut self, bytes: &[u8]) -> Result<usize, DeviceError>
         requires some { 0 < length bytes.now }
         requires count { self.old.calls.faults < 2 ^ 64 - 1 }

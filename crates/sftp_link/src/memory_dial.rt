@@ -28,7 +28,8 @@ impl Model for MemoryDial {
 }
 
 impl MemoryDial {
-    /// A dial that gives this link once; without a link it fails at each dial. No call was made on the link.
+    /// A dial that gives this link once; without a link it fails at each dial. No call was made on
+    /// the link.
     pub fn new(link: Option<ScriptedLink>) -> MemoryDial
         requires { IsFresh link }
         ensures { result ≡ record { link = link; last = None; faults = 0 } }
@@ -66,7 +67,7 @@ impl Dial for MemoryDial {
     fn dial(&mut self, _path: &str) -> Result<ScriptedLink, DeviceError>
         requires count { self.old.faults < 2 ^ 64 - 1 }
         ensures log { IfOk result (λ end. IsEmptyLog (Some (reverse end.pieces))) }
-        ensures fresh { IfOk result (λ end. end.calls.faults ≡ 0) }
+        ensures unfailed { IfOk result (λ end. end.calls.faults ≡ 0) }
         ensures end { IfOk result (λ end. end.ended ≡ false) }
         ensures last { log_of self.new.last ≡ log_of self.old.last }
         ensures last_faults { faults_of self.new.last ≡ faults_of self.old.last }
@@ -86,9 +87,11 @@ impl Dial for MemoryDial {
     fn put_back(&mut self, end: Logged<ScriptedLink>)
         ensures last { log_of self.new.last ≡ Some (reverse end.pieces) }
         ensures last_faults { faults_of self.new.last ≡ end.link.calls.faults }
-        ensures last_ended { ended_of self.new.last ≡ (if end.starved then false else end.link.ended) }
+        ensures last_ended { ended_of self.new.last ≡
+            (if end.starved then false else end.link.ended) }
         ensures faults { self.new.faults ≡ self.old.faults }
-        ensures next { self.new ≡ record { link = self.old.link; last = Some end; faults = self.old.faults } }
+        ensures next { self.new ≡
+            record { link = self.old.link; last = Some end; faults = self.old.faults } }
     {
         self.last = Some(end);
     }

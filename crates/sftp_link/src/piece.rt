@@ -17,8 +17,10 @@ pub enum Piece {
 pub enum Scripted {
     /// These bytes.
     Raw(ByteText),
-    /// The frame of a kind and fields whose id is that of the sent frame with the number `request`, combined with
-    /// `flip` by exclusive or. The frames sent are numbered from 0, which is the hello and has the id 0.
+    /// The frame of a kind and fields whose id is that of the sent frame with the number `request`,
+    /// combined with `flip` by exclusive or. The frames sent are numbered from 0, which is the
+    /// hello and has the id 0. Until that frame has come whole, and where it is too short for an id
+    /// or the fields are more than 4294967290 bytes, the link ends here.
     To {
         request: u32,
         flip: u32,

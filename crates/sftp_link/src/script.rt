@@ -38,7 +38,8 @@ fn has_bytes(item: &Scripted) -> bool
     }
 }
 
-// The bytes of the first item, which leaves the others; None where there is no item or it has no bytes yet.
+// The bytes of the first item, which leaves the others; None where there is no item or it has no
+// bytes yet.
 fn begin_next(
     alloc: Global,
     sent: &[u8],
@@ -46,7 +47,8 @@ fn begin_next(
 ) -> Result<Option<Vec<u8>>, AllocError>
     ensures ok { IfOk result (λ found. MatchOption found
         (begun_from sent.now [] items.old.items ≡ record { rest = []; items = items.new.items })
-        (λ v. begun_from sent.now [] items.old.items ≡ record { rest = v.items; items = items.new.items })) }
+        (λ v. begun_from sent.now [] items.old.items
+        ≡ record { rest = v.items; items = items.new.items })) }
     ensures err { OnErr result (items.new.items ≡ items.old.items) }
 {
     let Some(item) = items.front() else {

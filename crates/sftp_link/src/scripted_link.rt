@@ -32,11 +32,11 @@ impl Model for ScriptedLink {
     ghost Value = { Play };
 
     ghost view = { λ l. record {
-        ahead = l.script;
-        cut = l.cut;
-        pieces = l.log.items;
-        ended = l.ended;
-        calls = l.calls;
+      ahead = l.script;
+      cut = l.cut;
+      pieces = l.log.items;
+      ended = l.ended;
+      calls = l.calls;
     } };
 
     ghost invariant = { λ l. l.sent.items ≡ bytes_sent l.log.items };
@@ -50,15 +50,15 @@ fn limited(cut: u32, n: usize) -> usize
 }
 
 impl ScriptedLink {
-    /// A link that gives these items in order. `fails` lists the numbers, from 0, of the calls that fail, sends and
-    /// recvs together. `cut` is the most bytes per call, 0 for no limit.
+    /// A link that gives these items in order. `fails` lists the numbers, from 0, of the calls that
+    /// fail, sends and recvs together. `cut` is the most bytes per call, 0 for no limit.
     pub fn new(alloc: Global, items: Vec<Scripted>, fails: Vec<u32>, cut: u32) -> ScriptedLink
         ensures { result ≡ record {
-            ahead = ahead_of items.items;
-            cut = cut;
-            pieces = [];
-            ended = false;
-            calls = uncalled fails.items;
+          ahead = ahead_of items.items;
+          cut = cut;
+          pieces = [];
+          ended = false;
+          calls = uncalled fails.items;
         } }
     {
         ScriptedLink {
@@ -101,7 +101,8 @@ impl LinkOut for ScriptedLink {
         requires some { 0 < length bytes.now }
         requires count { self.old.calls.faults < 2 ^ 64 - 1 }
         ensures within { IfOk result (λ n. (0 < n) × (n ≤ length bytes.now)) }
-        ensures log { Sends (Some (reverse self.old.pieces)) (Some (reverse self.new.pieces)) bytes.now result }
+        ensures log { Sends (Some (reverse self.old.pieces)) (Some (reverse self.new.pieces))
+            bytes.now result }
         ensures end { self.new.ended ≡ false }
         ensures cause { Cause self.old.calls.faults self.new.calls.faults result }
         ensures next { SendsNext self.old self.new bytes.now result }
@@ -120,14 +121,16 @@ impl LinkOut for ScriptedLink {
 }
 
 impl LinkIn for ScriptedLink {
-    /// Gives the next bytes of the current item, up to the cut and the room. It ends where the items are used up or the
-    /// frame that an item names has not come; `Failed` exactly where the call's number is listed.
+    /// Gives the next bytes of the current item, up to the cut and the room. It ends where the
+    /// items are used up or the frame that an item names has not come; `Failed` exactly where the
+    /// call's number is listed.
     #[tactic(auto, unfolding(crate::specs::Script::ReceivesNext))]
     fn recv(&mut self, room: &mut [u8]) -> Result<usize, DeviceError>
         requires some { 0 < length room.old }
         requires count { self.old.calls.faults < 2 ^ 64 - 1 }
         ensures within { IfOk result (λ n. n ≤ length room.new) }
-        ensures log { Receives (Some (reverse self.old.pieces)) (Some (reverse self.new.pieces)) room.new result }
+        ensures log { Receives (Some (reverse self.old.pieces)) (Some (reverse self.new.pieces))
+            room.new result }
         ensures end { IsEnd self.new.ended result }
         ensures cause { Cause self.old.calls.faults self.new.calls.faults result }
         ensures next { ReceivesNext self.old self.new room.new result }

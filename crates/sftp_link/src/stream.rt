@@ -12,8 +12,8 @@ pub trait Source {
     // How often it failed.
     ghost faults: { Self → ℕ };
 
-    /// Reads some bytes into the front of the room and answers how many, 0 only where none is left. `OutOfMemory` and
-    /// `Failed`: none was read, and `Failed` only where the count of faults rose.
+    /// Reads some bytes into the front of the room and answers how many, 0 only where none is left.
+    /// `OutOfMemory` and `Failed`: none was read, and `Failed` only where the count of faults rose.
     fn read(&mut self, room: &mut [u8]) -> Result<usize, DeviceError>
         requires some { 0 < length room.old }
         requires count { faults self.old < 2 ^ 64 - 1 }
@@ -30,8 +30,8 @@ pub trait Sink {
     // How often it failed.
     ghost faults: { Self → ℕ };
 
-    /// Writes the first bytes of a piece, at least one, and answers how many. `OutOfMemory` and `Failed`: none was
-    /// written, and `Failed` only where the count of faults rose.
+    /// Writes the first bytes of a piece, at least one, and answers how many. `OutOfMemory` and
+    /// `Failed`: none was written, and `Failed` only where the count of faults rose.
     fn write(&mut self, bytes: &[u8]) -> Result<usize, DeviceError>
         requires some { 0 < length bytes.now }
         requires count { faults self.old < 2 ^ 64 - 1 }

@@ -26,12 +26,14 @@ pub fn send_all<L: LinkOut>(link: &mut L, bytes: &[u8]) -> Result<(), DeviceErro
     Ok(())
 }
 
-/// Fills the room from the link and takes no byte more. Answers whether it is full; where it is not, the link's end
-/// came first. After that, and after an error, fewer bytes than the room were got, which stand at its front.
+/// Fills the room from the link and takes no byte more. Answers whether it is full; where it is
+/// not, the link's end came first. After that, and after an error, fewer bytes than the room were
+/// got, which stand at its front.
 pub fn recv_exact<L: LinkIn>(link: &mut L, room: &mut [u8]) -> Result<bool, DeviceError>
     requires { L.LinkState.faults link.old < 2 ^ 64 - 1 }
     ensures log { Fills room.new (L.LinkState.log link.old) (L.LinkState.log link.new) result }
-    ensures end { FillsEnd room.new (L.LinkState.ended link.old) (L.LinkState.ended link.new) result }
+    ensures end { FillsEnd room.new (L.LinkState.ended link.old) (L.LinkState.ended link.new)
+        result }
     ensures cause { Cause (L.LinkState.faults link.old) (L.LinkState.faults link.new) result }
     ensures same { L.LinkState.service link.new ≡ L.LinkState.service link.old }
 {

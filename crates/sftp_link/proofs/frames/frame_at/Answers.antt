@@ -1,5 +1,5 @@
-use Rattle.std.proofs.Common.{rules, arith, ◌≡◌, ◌+◌, ◌-◌, suc, Some, None, ap}
-use Rattle.sftp_link.specs.Frames.{behind_frames, frame_at, first_frame}
+use Rattle.std.proofs.Common.{rules, arith, ◌≡◌, None}
+use Rattle.sftp_link.specs.Frames.{first_frame}
 use Rattle.sftp_link.proofs.FramesPassed.{no_frame_from}
 use Rattle.sftp_link.proofs.frames.frame_at.Goals as goal
 

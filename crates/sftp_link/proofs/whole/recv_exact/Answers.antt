@@ -1,4 +1,4 @@
-use Rattle.std.proofs.Common.{arith, rules, ◌≡◌, ◌<◌, ◌-◌, length}
+use Rattle.std.proofs.Common.{arith, rules, ◌<◌, length}
 use Rattle.std.proofs.lemmas.Result.{err_from_is_err_and}
 use Rattle.sftp_link.proofs.Telling.{told_on, got_piece, got_less, got_less_end}
 use Rattle.sftp_link.proofs.whole.recv_exact.Goals as goal

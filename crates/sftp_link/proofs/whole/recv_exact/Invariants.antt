@@ -1,4 +1,4 @@
-use Rattle.std.proofs.Common.{length, ◌-◌, ◌≡◌, ◌<◌, ◌≤◌, ◌==◌, take, if◌then◌else◌, false}
+use Rattle.std.proofs.Common.{length, ◌-◌, ◌≡◌, ◌≤◌, ◌==◌, take, if◌then◌else◌, false}
 use Rattle.sftp_link.specs.Log.{GotOn}
 use Rattle.sftp_link.specs.Told.{Told}
 use Rattle.sftp_link.proofs.whole.recv_exact.Given as goal

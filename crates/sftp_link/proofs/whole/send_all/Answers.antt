@@ -1,8 +1,5 @@
-use Rattle.std.proofs.Common.{arith, rules, ◌≡◌, ◌<◌, ◌++◌, List, [], ℕ, ◌+◌, take, drop, length}
-use Rattle.sftp_link.specs.Log.{SentOn}
-use Rattle.sftp_link.specs.Told.{Told, Same, OneMore, Went, SentLess, WentLess}
-use Rattle.sftp_link.proofs.Telling.{told_on, sent_piece, sent_less_before, went_piece, went_less_before}
-use Rattle.sftp_link.specs.declared.piece.Piece.TheVariants.{Sent}
+use Rattle.std.proofs.Common.{arith, rules}
+use Rattle.sftp_link.proofs.Telling.{told_on, sent_piece, sent_less_before}
 use Rattle.std.proofs.lemmas.Result.{err_from_is_err_and}
 use Rattle.sftp_link.proofs.whole.send_all.Goals as goal
 

@@ -1,4 +1,4 @@
-use Rattle.std.proofs.Common.{arith, ap, ◌∙◌, ◌≡◌, ◌<◌, ◌++◌, List, [], ℕ, ◌+◌, ◌-◌, take, drop, length, length-drop}
+use Rattle.std.proofs.Common.{arith, ◌≡◌, ◌+◌, ◌-◌, take, drop, length}
 use Rattle.sftp_link.proofs.Telling.{came}
 use Rattle.sftp_link.proofs.memory.MemorySourceSource.read.Goals as goal
 
