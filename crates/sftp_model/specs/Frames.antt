@@ -1,0 +1,160 @@
+-- Frames: a length of four bytes and a body, which is a type byte, for all but the hello and VERSION an id,
+-- and the fields (draft-ietf-secsh-filexfer-02, section 3). Numbers are big-endian.
+use Rattle.std.specs.Prelude.{ℕ, ◌+◌, ◌==◌, List, [], ◌∷◌, ◌++◌, length, codes, Option, Some, None, if◌then◌else◌}
+use Rattle.std.specs.Int.RustNames.{bit_and}
+use Rattle.std.specs.List.{flat_map}
+use Rattle.ssh_encoding.specs.Writing.{uint32, uint64, string}
+use Rattle.sftp_model.specs.declared.config.Limits.{Limits}
+use Rattle.sftp_model.specs.declared.file_attrs.FileAttrs.{FileAttrs}
+use Rattle.sftp_model.specs.declared.request.Request.{Request}
+use Rattle.sftp_model.specs.declared.request.Request.TheVariants as request
+use Rattle.sftp_model.specs.declared.reply.Reply.{Reply}
+use Rattle.sftp_model.specs.declared.reply.Reply.TheVariants as reply
+use Rattle.sftp_model.specs.declared.reply.NameEntry.{NameEntry}
+
+-- the greatest length of a body and of a string
+abbrev pub body_limit : ℕ
+body_limit = 1048575
+
+-- ---- attributes (draft, section 5)
+
+abbrev pub no_attributes : FileAttrs
+no_attributes = record { size = None; id = None; permissions = None; time = None }
+
+-- the spelling of a field that may be missing
+abbrev pub where_there : {A : Type 0} → (A → List ℕ) → Option A → List ℕ
+where_there spelling None = []
+where_there spelling (Some x) = spelling x
+
+-- the bit of a field that may be missing
+abbrev pub bit : {A : Type 0} → ℕ → Option A → ℕ
+bit n None = 0
+bit n (Some x) = n
+
+abbrev pub two_numbers : ℕ × ℕ → List ℕ
+two_numbers p = uint32 p.0 ++ uint32 p.1
+
+-- the bits of the fields that are there: size 1, owner and group 2, permissions 4, times 8
+abbrev pub attribute_bits : FileAttrs → ℕ
+attribute_bits a = bit 1 a.size + bit 2 a.id + bit 4 a.permissions + bit 8 a.time
+
+-- these bits, and then these fields
+unfoldable pub attributes : FileAttrs → List ℕ
+attributes a =
+    uint32 (attribute_bits a)
+    ++ where_there uint64 a.size ++ where_there two_numbers a.id
+    ++ where_there uint32 a.permissions ++ where_there two_numbers a.time
+
+-- ---- extensions (OpenSSH's PROTOCOL, section 4)
+
+abbrev pub posix_rename_name : List ℕ
+posix_rename_name = codes "posix-rename@openssh.com"
+
+abbrev pub hardlink_name : List ℕ
+hardlink_name = codes "hardlink@openssh.com"
+
+abbrev pub fsync_name : List ℕ
+fsync_name = codes "fsync@openssh.com"
+
+abbrev pub expand_path_name : List ℕ
+expand_path_name = codes "expand-path@openssh.com"
+
+abbrev pub copy_data_name : List ℕ
+copy_data_name = codes "copy-data"
+
+abbrev pub limits_name : List ℕ
+limits_name = codes "limits@openssh.com"
+
+-- the six names, each with its bit
+abbrev pub extension_table : List (List ℕ × ℕ)
+extension_table =
+    (posix_rename_name, 1) ∷ (hardlink_name, 2) ∷ (fsync_name, 4) ∷ (expand_path_name, 8)
+    ∷ (copy_data_name, 16) ∷ (limits_name, 32) ∷ []
+
+-- the pair of names of an extension that the set has, with the version 1
+abbrev pub extension_pair : ℕ → List ℕ × ℕ → List ℕ
+extension_pair set row = if bit_and set row.1 == 0 then [] else string row.0 ++ string (codes "1")
+
+-- a pair for each extension of the set, in the order of the table
+abbrev pub extension_pairs : ℕ → List (List ℕ × ℕ) → List ℕ
+extension_pairs set [] = []
+extension_pairs set (row ∷ table) = extension_pair set row ++ extension_pairs set table
+
+-- ---- requests (draft, sections 4 and 6)
+
+-- a request that every server knows
+abbrev pub of_type : ℕ → ℕ → List ℕ → List ℕ
+of_type kind id fields = kind ∷ uint32 id ++ fields
+
+-- EXTENDED (draft, section 8)
+abbrev pub extended : List ℕ → ℕ → List ℕ → List ℕ
+extended name id fields = of_type 200 id (string name ++ fields)
+
+-- the body of a request; the hello has no id
+unfoldable pub request_body : Request → ℕ → List ℕ
+request_body (request.Init version) id = 1 ∷ uint32 version
+request_body (request.OpenFile path flags attrs) id = of_type 3 id (string path ++ uint32 flags.0 ++ attributes attrs)
+request_body (request.Close handle) id = of_type 4 id (string handle)
+request_body (request.Read handle offset len) id = of_type 5 id (string handle ++ uint64 offset ++ uint32 len)
+request_body (request.Write handle offset content) id = of_type 6 id (string handle ++ uint64 offset ++ string content)
+request_body (request.Lstat path) id = of_type 7 id (string path)
+request_body (request.Fstat handle) id = of_type 8 id (string handle)
+request_body (request.Setstat path attrs) id = of_type 9 id (string path ++ attributes attrs)
+request_body (request.Fsetstat handle attrs) id = of_type 10 id (string handle ++ attributes attrs)
+request_body (request.Opendir path) id = of_type 11 id (string path)
+request_body (request.Readdir handle) id = of_type 12 id (string handle)
+request_body (request.Remove path) id = of_type 13 id (string path)
+request_body (request.Mkdir path attrs) id = of_type 14 id (string path ++ attributes attrs)
+request_body (request.Rmdir path) id = of_type 15 id (string path)
+request_body (request.Realpath path) id = of_type 16 id (string path)
+request_body (request.Stat path) id = of_type 17 id (string path)
+request_body (request.Rename old to) id = of_type 18 id (string old ++ string to)
+request_body (request.Readlink path) id = of_type 19 id (string path)
+request_body (request.Symlink src dst) id = of_type 20 id (string src ++ string dst)
+request_body (request.PosixRename old to) id = extended posix_rename_name id (string old ++ string to)
+request_body (request.Hardlink old to) id = extended hardlink_name id (string old ++ string to)
+request_body (request.Fsync handle) id = extended fsync_name id (string handle)
+request_body (request.ExpandPath path) id = extended expand_path_name id (string path)
+request_body (request.CopyData from from_offset len to to_offset) id =
+    extended copy_data_name id (string from ++ uint64 from_offset ++ uint64 len ++ string to ++ uint64 to_offset)
+request_body request.LimitsQuery id = extended limits_name id []
+
+-- ---- replies (draft, sections 4 and 7)
+
+abbrev pub name_entry : NameEntry → List ℕ
+name_entry e = string e.filename ++ string e.longname ++ attributes e.attrs
+
+-- the body of a reply; VERSION has no id
+unfoldable pub reply_body : Reply → ℕ → List ℕ
+reply_body (reply.Version version extensions) id = 2 ∷ uint32 version ++ extension_pairs extensions.0 extension_table
+reply_body (reply.Status code message language) id = of_type 101 id (uint32 code ++ string message ++ string language)
+reply_body (reply.Handle handle) id = of_type 102 id (string handle)
+reply_body (reply.Content content) id = of_type 103 id (string content)
+reply_body (reply.Names names) id = of_type 104 id (uint32 (length names) ++ flat_map name_entry names)
+reply_body (reply.Attrs attrs) id = of_type 105 id (attributes attrs)
+reply_body (reply.Extended content) id = of_type 201 id content
+
+-- the content of the reply to the query for limits (OpenSSH's PROTOCOL, section 4.8)
+unfoldable pub limits_content : Limits → List ℕ
+limits_content limits = uint64 limits.packet_len ++ uint64 limits.read_len ++ uint64 limits.write_len ++ uint64 limits.open_handles
+
+-- ---- frames
+
+-- the length of a body, and the body
+abbrev pub frame : List ℕ → List ℕ
+frame body = string body
+
+abbrev pub request_frame : Request → ℕ → List ℕ
+request_frame r id = frame (request_body r id)
+
+abbrev pub reply_frame : Reply → ℕ → List ℕ
+reply_frame r id = frame (reply_body r id)
+
+-- the id that a body bears; the hello and VERSION bear none
+abbrev pub request_id : Request → ℕ → Option ℕ
+request_id (request.Init version) id = None
+request_id other id = Some id
+
+abbrev pub reply_id : Reply → ℕ → Option ℕ
+reply_id (reply.Version version extensions) id = None
+reply_id other id = Some id

@@ -1,0 +1,104 @@
+ghost use Rattle.std.specs.Prelude.{◌≡◌};
+ghost use Rattle.sftp_model.specs.Answers.{may_answer, ends, is_status, is_refusal, is_handle, is_content, is_names, is_some_names, is_attrs, is_extended, is_version};
+
+use crate::reply::Reply;
+use crate::request::Request;
+
+/// Whether a reply may answer a request. A READ of `len` is answered by DATA of 1 to `len` bytes, and what
+/// asks for one path by a NAME of at least one entry; a STATUS 0 answers only what has nothing else to tell
+/// (draft-ietf-secsh-filexfer-02, sections 6 and 7).
+pub fn may_answer(request: &Request, reply: &Reply) -> bool
+    ensures { result ≡ may_answer request.now reply.now }
+{
+    match request {
+        Request::Init { .. } => is_version(reply),
+        Request::OpenFile { .. } | Request::Opendir { .. } => is_handle(reply) || is_refusal(reply),
+        Request::Read { len, .. } => is_content(*len, reply) || is_refusal(reply),
+        Request::Readdir { .. } => is_names(reply) || is_refusal(reply),
+        Request::Lstat { .. } | Request::Fstat { .. } | Request::Stat { .. } => {
+            is_attrs(reply) || is_refusal(reply)
+        }
+        Request::Realpath { .. } | Request::Readlink { .. } | Request::ExpandPath { .. } => {
+            is_some_names(reply) || is_refusal(reply)
+        }
+        Request::LimitsQuery => is_extended(reply) || is_refusal(reply),
+        _ => is_status(reply),
+    }
+}
+
+/// Whether a reply says that nothing is left to read: a STATUS 1 to a READ or READDIR. To other requests
+/// a STATUS 1 is a refusal.
+pub fn ends(request: &Request, reply: &Reply) -> bool
+    ensures { result ≡ ends request.now reply.now }
+{
+    match request {
+        Request::Read { .. } | Request::Readdir { .. } => match reply {
+            Reply::Status { code, .. } => *code == 1,
+            _ => false,
+        },
+        _ => false,
+    }
+}
+
+fn is_version(reply: &Reply) -> bool
+    ensures { result ≡ is_version reply.now }
+{
+    matches!(reply, Reply::Version { .. })
+}
+
+fn is_status(reply: &Reply) -> bool
+    ensures { result ≡ is_status reply.now }
+{
+    matches!(reply, Reply::Status { .. })
+}
+
+fn is_refusal(reply: &Reply) -> bool
+    ensures { result ≡ is_refusal reply.now }
+{
+    match reply {
+        Reply::Status { code, .. } => *code != 0,
+        _ => false,
+    }
+}
+
+fn is_handle(reply: &Reply) -> bool
+    ensures { result ≡ is_handle reply.now }
+{
+    matches!(reply, Reply::Handle(_))
+}
+
+fn is_content(len: u32, reply: &Reply) -> bool
+    ensures { result ≡ is_content len reply.now }
+{
+    match reply {
+        Reply::Content(content) => 0 < content.len() && content.len() <= len as usize,
+        _ => false,
+    }
+}
+
+fn is_names(reply: &Reply) -> bool
+    ensures { result ≡ is_names reply.now }
+{
+    matches!(reply, Reply::Names(_))
+}
+
+fn is_some_names(reply: &Reply) -> bool
+    ensures { result ≡ is_some_names reply.now }
+{
+    match reply {
+        Reply::Names(names) => 0 < names.as_slice().len(),
+        _ => false,
+    }
+}
+
+fn is_attrs(reply: &Reply) -> bool
+    ensures { result ≡ is_attrs reply.now }
+{
+    matches!(reply, Reply::Attrs(_))
+}
+
+fn is_extended(reply: &Reply) -> bool
+    ensures { result ≡ is_extended reply.now }
+{
+    matches!(reply, Reply::Extended(_))
+}

@@ -1,0 +1,45 @@
+ghost use Rattle.std.specs.Prelude.{◌≡◌};
+ghost use Rattle.sftp_model.specs.FieldErrors.{frame_error};
+
+use thiserror::Error;
+
+/// How a frame's body breaks the form of a reply or request.
+#[derive(Clone, Copy, Debug, PartialEq, Eq, Error)]
+pub enum FormatKind {
+    /// A field goes past the body's end, or a length that must not be 0 is 0.
+    #[error("a field ends past the end of its frame")]
+    Length,
+    /// A length is over 1048575.
+    #[error("a length is over 1048575")]
+    Overflow,
+    /// Bytes stand behind the last field.
+    #[error("{remaining} bytes stand behind the last field of a frame")]
+    TrailingData { remaining: usize },
+    /// No frame has this type byte.
+    #[error("frame of the unknown type {0}")]
+    InvalidDiscriminant(u8),
+}
+
+/// Why a frame was not read or written.
+#[derive(Clone, Copy, Debug, PartialEq, Eq, Error)]
+pub enum FrameError {
+    #[error("out of memory")]
+    OutOfMemory,
+    #[error("{0}")]
+    Format(FormatKind),
+    /// All fields read, and a handle is longer than 256 bytes.
+    #[error("a handle has {len} bytes, and at most 256 are allowed")]
+    HandleTooLong { len: u32 },
+}
+
+impl From<ssh_encoding::Error> for FrameError {
+    ghost from_gives = { λ e r. r ≡ frame_error e };
+
+    fn from(e: ssh_encoding::Error) -> FrameError {
+        match e {
+            ssh_encoding::Error::OutOfMemory => FrameError::OutOfMemory,
+            ssh_encoding::Error::Overflow => FrameError::Format(FormatKind::Overflow),
+            _ => FrameError::Format(FormatKind::Length),
+        }
+    }
+}

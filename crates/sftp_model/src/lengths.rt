@@ -1,0 +1,76 @@
+ghost use Rattle.std.specs.Prelude.{◌≡◌, ◌≤◌};
+ghost use Rattle.sftp_model.specs.Lengths.{session_lengths, session_len, advertised_len, packet_len_of};
+
+use crate::config::Limits;
+
+/// A session's read length and write length, in bytes, each from 1 to 1048275: what the server's limits
+/// advertise, 32768 where they say nothing, and at most the options `max_read_len` and `max_write_len`
+/// (OpenSSH's PROTOCOL, section 4.8).
+pub fn session_lengths(
+    limits: Option<Limits>,
+    max_read_len: Option<u32>,
+    max_write_len: Option<u32>,
+) -> (u32, u32)
+    ensures value { result ≡ session_lengths limits max_read_len max_write_len }
+    ensures read_range { (1 ≤ result.0) × (result.0 ≤ 1048275) }
+    ensures write_range { (1 ≤ result.1) × (result.1 ≤ 1048275) }
+{
+    match limits {
+        None => (
+            session_len(max_read_len, DEFAULT_LEN),
+            session_len(max_write_len, DEFAULT_LEN),
+        ),
+        Some(limits) => (
+            session_len(
+                max_read_len,
+                advertised_len(limits.packet_len, limits.read_len),
+            ),
+            session_len(
+                max_write_len,
+                advertised_len(limits.packet_len, limits.write_len),
+            ),
+        ),
+    }
+}
+
+/// Bytes of a READ or WRITE where the server sets no length.
+const DEFAULT_LEN: u32 = 32768;
+
+/// The most bytes of a READ or WRITE: a frame's 1048575, less 300 for all but the content.
+const GREATEST_LEN: u32 = 1048275;
+
+/// A length of the limits as a uint32.
+fn advertised_len(packet_len: u64, len: u64) -> u32
+    ensures { result ≡ advertised_len packet_len len }
+{
+    if len == 0 {
+        return DEFAULT_LEN;
+    }
+    if len > 4294967295 {
+        return packet_len_of(packet_len).saturating_sub(300);
+    }
+    len as u32
+}
+
+/// The packet length of the limits as a uint32.
+fn packet_len_of(packet_len: u64) -> u32
+    ensures { result ≡ packet_len_of packet_len }
+{
+    if packet_len > 4294967295 {
+        4294967286
+    } else {
+        packet_len as u32
+    }
+}
+
+/// The least of a length, the option and the greatest length, and at least 1.
+fn session_len(most: Option<u32>, len: u32) -> u32
+    ensures value { result ≡ session_len most len }
+    ensures range { (1 ≤ result) × (result ≤ 1048275) }
+{
+    let capped = match most {
+        None => len,
+        Some(most) => most.min(len),
+    };
+    GREATEST_LEN.min(capped).max(1)
+}

@@ -1,0 +1,47 @@
+//! The values that an SFTP client and server exchange, and what they mean: the frames of requests and
+//! replies, which reply may answer which request, session lengths, the plans of calls and a server of files
+//! in memory. The definitions stand in `specs/`.
+#![tactic(auto)]
+
+mod answers;
+mod config;
+mod content;
+mod copy;
+mod error;
+mod file_attrs;
+mod flags;
+mod frame_error;
+mod handle;
+mod laws;
+mod lengths;
+mod machine;
+mod outcome;
+mod remote_path;
+mod reply;
+mod request;
+mod same;
+mod slot;
+
+pub use answers::{ends, may_answer};
+pub use config::{Choice, Limits, ServerConfig};
+pub use content::Content;
+pub use copy::TryCopy;
+pub use error::{Error, Fault, IoKind};
+pub use file_attrs::FileAttrs;
+pub use flags::{Extensions, OpenFlags};
+pub use frame_error::{FormatKind, FrameError};
+pub use handle::Handle;
+pub use laws::{
+    cancelled_calls_leave, frames_read_back, machine_answers, machine_fits, plans_fit,
+    plans_wait_for_missing,
+};
+pub use lengths::session_lengths;
+pub use machine::Held;
+pub use outcome::Outcome;
+pub use remote_path::RemotePath;
+pub use reply::{NameEntry, Reply};
+pub use request::Request;
+pub use slot::{Buffer, Facts, FileAt, Move, Site, Slot};
+
+#[cfg(test)]
+mod tests;

@@ -1,0 +1,10 @@
+/// A file that the file machine has open.
+#[derive(Clone, Copy, Debug, PartialEq, Eq)]
+pub struct Held {
+    /// The file's number.
+    pub file: u32,
+    pub readable: bool,
+    pub writable: bool,
+    /// Writes go to the end of the file.
+    pub append: bool,
+}
