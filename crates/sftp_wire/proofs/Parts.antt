@@ -1,0 +1,4 @@
+-- The fields of a body, joined.
+use Rattle.std.proofs.Common.{append_assoc, append-nil}
+
+pub ruleset joins = (append_assoc, append-nil)

@@ -1,0 +1,143 @@
+ghost use Rattle.std.specs.Prelude.{◌≡◌, ◌≤◌, length, ◌+◌, drop, None, Some, MatchOption, IfOk, IfSome, IfErr, OnOk};
+ghost use Rattle.ssh_encoding.specs.Writing.{string};
+ghost use Rattle.sftp_wire.specs.FrameReader.{nothing, need_of, body_of, Pushed, NotPushed, fault_of_len, told_len, len_of, missing_with};
+
+use sftp_model::{FormatKind, FrameError};
+use ssh_encoding::Decode;
+use std::alloc::Global;
+use std::marker::Model;
+
+/// The greatest length of a body.
+const BODY_LIMIT: u32 = 1048575;
+
+/// Takes one frame in any pieces (draft-ietf-secsh-filexfer-02, section 3). A contract sees the bytes that
+/// were taken since it was cleared, and the refusal that it keeps.
+#[derive(Drop)]
+pub struct FrameReader {
+    alloc: Global,
+    bytes: Vec<u8>,
+    body_len: Option<u32>,
+    refused: Option<FormatKind>,
+}
+
+impl Model for FrameReader {
+    ghost use Rattle.sftp_wire.specs.FrameReader.{Received, IsFront};
+
+    ghost Value = { Received };
+
+    ghost view = { λ r. record { bytes = r.bytes.items; refused = r.refused } };
+
+    ghost invariant = { λ r. IsFront r.bytes.items r.body_len };
+}
+
+/// The length in the first four bytes, once they are there.
+fn told_len(alloc: Global, bytes: &[u8]) -> Result<Option<u32>, FrameError>
+    ensures ok { IfOk result (λ len. len ≡ len_of bytes.now) }
+    ensures err { IfErr result (λ e. e ≡ FrameError.OutOfMemory) }
+{
+    if bytes.len() < 4 {
+        return Ok(None);
+    }
+    let mut reader = bytes;
+    Ok(Some(u32::decode(alloc, &mut reader)?))
+}
+
+/// What is wrong with a length.
+fn fault(body_len: Option<u32>) -> Option<FormatKind>
+    ensures { result ≡ fault_of_len body_len }
+{
+    match body_len {
+        None => None,
+        Some(0) => Some(FormatKind::Length),
+        Some(len) if len > BODY_LIMIT => Some(FormatKind::Overflow),
+        Some(_) => None,
+    }
+}
+
+/// The bytes behind the length, where just so many came.
+fn body(bytes: &[u8]) -> &[u8]
+    requires length { 4 ≤ length bytes.now }
+    requires whole { length bytes.now ≡ 4 + told_len bytes.now }
+    ensures body { result.now ≡ drop 4 bytes.now }
+    ensures spelled { bytes.now ≡ string result.now }
+    ensures counted { length result.now ≡ told_len bytes.now }
+{
+    let (_, body) = bytes.split_at(4);
+    body
+}
+
+impl FrameReader {
+    /// A reader of a frame of which nothing has come. Takes no memory.
+    pub fn new(alloc: Global) -> FrameReader
+        ensures { result ≡ nothing }
+    {
+        FrameReader {
+            alloc,
+            bytes: Vec::new(alloc),
+            body_len: None,
+            refused: None,
+        }
+    }
+
+    /// How many bytes are missing to the end of the length, or of the body: 0 exactly where a frame is whole,
+    /// and 1 behind a refusal.
+    pub fn need(&self) -> usize
+        ensures need { result ≡ need_of self.now }
+        ensures bounded { self.now.refused ≡ None → length self.now.bytes + result ≤ 1048579 }
+    {
+        match (self.refused, self.body_len) {
+            (Some(_), _) => 1,
+            (None, None) => 4 - self.bytes.len(),
+            (None, Some(len)) => 4 + len as usize - self.bytes.len(),
+        }
+    }
+
+    /// Takes the next bytes, at most as many as are missing. `OutOfMemory` leaves the reader as it was. Where the
+    /// length is told then, `Format(Length)` exactly where it is 0, and `Format(Overflow)` exactly where it is over
+    /// 1048575: these bytes aren't kept, and each further push is refused so, until `clear`.
+    pub fn push(&mut self, bytes: &[u8]) -> Result<(), FrameError>
+        requires { length bytes.now ≤ need_of self.old }
+        ensures ok { OnOk result (Pushed self.old bytes.now self.new) }
+        ensures err { IfErr result (NotPushed self.old bytes.now self.new) }
+    {
+        if let Some(kind) = self.refused {
+            return Err(FrameError::Format(kind));
+        }
+        let before = self.bytes.len();
+        if self.bytes.extend_from_slice(bytes).is_err() {
+            return Err(FrameError::OutOfMemory);
+        }
+        let Ok(body_len) = told_len(self.alloc, &self.bytes) else {
+            self.bytes.truncate(before);
+            return Err(FrameError::OutOfMemory);
+        };
+        if let Some(kind) = fault(body_len) {
+            self.bytes.truncate(before);
+            self.refused = Some(kind);
+            return Err(FrameError::Format(kind));
+        }
+        self.body_len = body_len;
+        Ok(())
+    }
+
+    /// The body of the frame, once it is whole.
+    pub fn frame(&self) -> Option<&[u8]>
+        ensures body { MatchOption result (body_of self.now ≡ None) (λ b. body_of self.now ≡ Some b.now) }
+        ensures spelled { IfSome result (λ b. (self.now.bytes ≡ string b.now) × (length b.now ≤ 1048575)) }
+    {
+        if self.need() == 0 {
+            Some(body(&self.bytes))
+        } else {
+            None
+        }
+    }
+
+    /// Ready for the next frame; no memory is given back.
+    pub fn clear(&mut self)
+        ensures { self.new ≡ nothing }
+    {
+        self.bytes.clear();
+        self.body_len = None;
+        self.refused = None;
+    }
+}

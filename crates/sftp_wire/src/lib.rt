@@ -1,0 +1,29 @@
+//! Frames of SFTP version 3, both ways: requests and replies as bytes, bytes as requests and replies, and
+//! a reader of frames that come in any pieces (draft-ietf-secsh-filexfer-02). The definitions that the contracts
+//! name stand in `sftp_model`.
+#![tactic(auto)]
+
+mod body;
+mod fields;
+mod frame_reader;
+mod measure;
+mod names;
+mod reading_extensions;
+mod reading_fields;
+mod reading_replies;
+mod reading_requests;
+mod reading_shapes;
+mod write;
+
+pub use frame_reader::FrameReader;
+pub use reading_replies::read_reply;
+pub use reading_requests::read_request;
+pub use sftp_model::{
+    Content, Extensions, FileAttrs, FormatKind, FrameError, Handle, NameEntry, OpenFlags,
+    RemotePath, Reply, Request, TryCopy, frames_read_back,
+};
+pub use sftp_values::{ByteText, Items};
+pub use write::{request_len, write_reply, write_request};
+
+#[cfg(test)]
+mod tests;

@@ -1,0 +1,340 @@
+// Requests (draft-ietf-secsh-filexfer-02, sections 4 and 6).
+ghost use Rattle.std.specs.Prelude.{◌≡◌, Some, IfOk, IfErr};
+ghost use Rattle.ssh_encoding.specs.declared.error.Error.TheVariants as encoding;
+ghost use Rattle.sftp_model.specs.declared.request.Request.TheVariants as request;
+ghost use Rattle.sftp_model.specs.Readings.{without_id};
+ghost use Rattle.sftp_model.specs.RequestReadings.{init_at, open_at, read_at, write_at, one_text_at, two_texts_at, text_and_attributes_at, handles_of_request, request_at, extended_request_at};
+ghost use Rattle.sftp_wire.specs.Reading.{Gives, behind, to_end};
+
+use crate::reading_extensions::extension;
+use crate::reading_fields::{attributes, finished, handle_of, long, number, shared_text, text};
+use crate::reading_shapes::{one_handle, one_path, path_and_attributes, two_paths};
+use bitflags::Flags;
+use bytes::Bytes;
+use sftp_model::{Content, FormatKind, FrameError, OpenFlags, RemotePath, Request};
+use ssh_encoding::{Decode, Reader};
+use std::alloc::Global;
+
+/// The hello. It has no id.
+#[tactic(auto, unfolding(sftp_model::specs::RequestReadings::init_at))]
+fn init<R: Reader>(alloc: Global, reader: &mut R) -> Result<(Option<u32>, Request), FrameError>
+    ensures { Gives result (to_end handles_of_request (without_id init_at (R.left reader.old))) }
+{
+    let version = number(alloc, reader)?;
+    finished(reader)?;
+    Ok((None, Request::Init { version }))
+}
+
+/// OPEN
+#[tactic(auto, unfolding(sftp_model::specs::RequestReadings::open_at))]
+fn open_file<R: Reader>(
+    alloc: Global,
+    id: u32,
+    reader: &mut R,
+) -> Result<(Option<u32>, Request), FrameError>
+    ensures { Gives result (to_end handles_of_request (behind (Some id) (open_at (R.left reader.old)))) }
+{
+    let path = text(alloc, reader)?;
+    let flags = number(alloc, reader)?;
+    let attrs = attributes(alloc, reader)?;
+    finished(reader)?;
+    Ok((
+        Some(id),
+        Request::OpenFile {
+            path: RemotePath::new(path),
+            flags: OpenFlags::from_bits_retain(flags),
+            attrs,
+        },
+    ))
+}
+
+/// READ
+#[tactic(auto, unfolding(sftp_model::specs::RequestReadings::read_at))]
+fn read<R: Reader>(
+    alloc: Global,
+    id: u32,
+    reader: &mut R,
+) -> Result<(Option<u32>, Request), FrameError>
+    ensures { Gives result (to_end handles_of_request (behind (Some id) (read_at (R.left reader.old)))) }
+{
+    let handle = text(alloc, reader)?;
+    let offset = long(alloc, reader)?;
+    let len = number(alloc, reader)?;
+    finished(reader)?;
+    let handle = handle_of(&handle)?;
+    Ok((
+        Some(id),
+        Request::Read {
+            handle,
+            offset,
+            len,
+        },
+    ))
+}
+
+/// Bytes as the one piece of a content.
+fn content_of(alloc: Global, bytes: Bytes) -> Result<Content, ssh_encoding::Error>
+    ensures ok { IfOk result (λ content. content ≡ bytes) }
+    ensures err { IfErr result (λ e. e ≡ encoding.OutOfMemory) }
+{
+    let mut content = Content::new(alloc);
+    content.push(bytes)?;
+    Ok(content)
+}
+
+/// WRITE
+#[tactic(auto, unfolding(sftp_model::specs::RequestReadings::write_at))]
+fn write<R: Reader>(
+    alloc: Global,
+    id: u32,
+    reader: &mut R,
+) -> Result<(Option<u32>, Request), FrameError>
+    ensures { Gives result (to_end handles_of_request (behind (Some id) (write_at (R.left reader.old)))) }
+{
+    let handle = text(alloc, reader)?;
+    let offset = long(alloc, reader)?;
+    let content = shared_text(alloc, reader)?;
+    finished(reader)?;
+    let handle = handle_of(&handle)?;
+    let content = content_of(alloc, content)?;
+    Ok((
+        Some(id),
+        Request::Write {
+            handle,
+            offset,
+            content,
+        },
+    ))
+}
+
+/// FSETSTAT
+#[tactic(auto, unfolding(sftp_model::specs::RequestReadings::text_and_attributes_at))]
+fn fsetstat<R: Reader>(
+    alloc: Global,
+    id: u32,
+    reader: &mut R,
+) -> Result<(Option<u32>, Request), FrameError>
+    ensures { Gives result (to_end handles_of_request (behind (Some id) (text_and_attributes_at request.Fsetstat (R.left reader.old)))) }
+{
+    let handle = text(alloc, reader)?;
+    let attrs = attributes(alloc, reader)?;
+    finished(reader)?;
+    let handle = handle_of(&handle)?;
+    Ok((Some(id), Request::Fsetstat { handle, attrs }))
+}
+
+/// CLOSE
+fn close<R: Reader>(
+    alloc: Global,
+    id: u32,
+    reader: &mut R,
+) -> Result<(Option<u32>, Request), FrameError>
+    ensures { Gives result (to_end handles_of_request (behind (Some id) (one_text_at request.Close (R.left reader.old)))) }
+{
+    let handle = one_handle(alloc, reader)?;
+    Ok((Some(id), Request::Close { handle }))
+}
+
+/// FSTAT
+fn fstat<R: Reader>(
+    alloc: Global,
+    id: u32,
+    reader: &mut R,
+) -> Result<(Option<u32>, Request), FrameError>
+    ensures { Gives result (to_end handles_of_request (behind (Some id) (one_text_at request.Fstat (R.left reader.old)))) }
+{
+    let handle = one_handle(alloc, reader)?;
+    Ok((Some(id), Request::Fstat { handle }))
+}
+
+/// READDIR
+fn readdir<R: Reader>(
+    alloc: Global,
+    id: u32,
+    reader: &mut R,
+) -> Result<(Option<u32>, Request), FrameError>
+    ensures { Gives result (to_end handles_of_request (behind (Some id) (one_text_at request.Readdir (R.left reader.old)))) }
+{
+    let handle = one_handle(alloc, reader)?;
+    Ok((Some(id), Request::Readdir { handle }))
+}
+
+/// LSTAT
+fn lstat<R: Reader>(
+    alloc: Global,
+    id: u32,
+    reader: &mut R,
+) -> Result<(Option<u32>, Request), FrameError>
+    ensures { Gives result (to_end handles_of_request (behind (Some id) (one_text_at request.Lstat (R.left reader.old)))) }
+{
+    let path = one_path(alloc, reader)?;
+    Ok((Some(id), Request::Lstat { path }))
+}
+
+/// OPENDIR
+fn opendir<R: Reader>(
+    alloc: Global,
+    id: u32,
+    reader: &mut R,
+) -> Result<(Option<u32>, Request), FrameError>
+    ensures { Gives result (to_end handles_of_request (behind (Some id) (one_text_at request.Opendir (R.left reader.old)))) }
+{
+    let path = one_path(alloc, reader)?;
+    Ok((Some(id), Request::Opendir { path }))
+}
+
+/// REMOVE
+fn remove<R: Reader>(
+    alloc: Global,
+    id: u32,
+    reader: &mut R,
+) -> Result<(Option<u32>, Request), FrameError>
+    ensures { Gives result (to_end handles_of_request (behind (Some id) (one_text_at request.Remove (R.left reader.old)))) }
+{
+    let path = one_path(alloc, reader)?;
+    Ok((Some(id), Request::Remove { path }))
+}
+
+/// RMDIR
+fn rmdir<R: Reader>(
+    alloc: Global,
+    id: u32,
+    reader: &mut R,
+) -> Result<(Option<u32>, Request), FrameError>
+    ensures { Gives result (to_end handles_of_request (behind (Some id) (one_text_at request.Rmdir (R.left reader.old)))) }
+{
+    let path = one_path(alloc, reader)?;
+    Ok((Some(id), Request::Rmdir { path }))
+}
+
+/// REALPATH
+fn realpath<R: Reader>(
+    alloc: Global,
+    id: u32,
+    reader: &mut R,
+) -> Result<(Option<u32>, Request), FrameError>
+    ensures { Gives result (to_end handles_of_request (behind (Some id) (one_text_at request.Realpath (R.left reader.old)))) }
+{
+    let path = one_path(alloc, reader)?;
+    Ok((Some(id), Request::Realpath { path }))
+}
+
+/// STAT
+fn stat<R: Reader>(
+    alloc: Global,
+    id: u32,
+    reader: &mut R,
+) -> Result<(Option<u32>, Request), FrameError>
+    ensures { Gives result (to_end handles_of_request (behind (Some id) (one_text_at request.Stat (R.left reader.old)))) }
+{
+    let path = one_path(alloc, reader)?;
+    Ok((Some(id), Request::Stat { path }))
+}
+
+/// READLINK
+fn readlink<R: Reader>(
+    alloc: Global,
+    id: u32,
+    reader: &mut R,
+) -> Result<(Option<u32>, Request), FrameError>
+    ensures { Gives result (to_end handles_of_request (behind (Some id) (one_text_at request.Readlink (R.left reader.old)))) }
+{
+    let path = one_path(alloc, reader)?;
+    Ok((Some(id), Request::Readlink { path }))
+}
+
+/// SETSTAT
+fn setstat<R: Reader>(
+    alloc: Global,
+    id: u32,
+    reader: &mut R,
+) -> Result<(Option<u32>, Request), FrameError>
+    ensures { Gives result (to_end handles_of_request (behind (Some id) (text_and_attributes_at request.Setstat (R.left reader.old)))) }
+{
+    let (path, attrs) = path_and_attributes(alloc, reader)?;
+    Ok((Some(id), Request::Setstat { path, attrs }))
+}
+
+/// MKDIR
+fn mkdir<R: Reader>(
+    alloc: Global,
+    id: u32,
+    reader: &mut R,
+) -> Result<(Option<u32>, Request), FrameError>
+    ensures { Gives result (to_end handles_of_request (behind (Some id) (text_and_attributes_at request.Mkdir (R.left reader.old)))) }
+{
+    let (path, attrs) = path_and_attributes(alloc, reader)?;
+    Ok((Some(id), Request::Mkdir { path, attrs }))
+}
+
+/// RENAME
+fn rename<R: Reader>(
+    alloc: Global,
+    id: u32,
+    reader: &mut R,
+) -> Result<(Option<u32>, Request), FrameError>
+    ensures { Gives result (to_end handles_of_request (behind (Some id) (two_texts_at request.Rename (R.left reader.old)))) }
+{
+    let (old, to) = two_paths(alloc, reader)?;
+    Ok((Some(id), Request::Rename { old, to }))
+}
+
+/// SYMLINK: what the link will name, and then the link.
+fn symlink<R: Reader>(
+    alloc: Global,
+    id: u32,
+    reader: &mut R,
+) -> Result<(Option<u32>, Request), FrameError>
+    ensures { Gives result (to_end handles_of_request (behind (Some id) (two_texts_at request.Symlink (R.left reader.old)))) }
+{
+    let (src, dst) = two_paths(alloc, reader)?;
+    Ok((Some(id), Request::Symlink { src, dst }))
+}
+
+/// EXTENDED (section 8).
+#[tactic(auto, unfolding(sftp_model::specs::RequestReadings::extended_request_at))]
+fn extended<R: Reader>(
+    alloc: Global,
+    id: u32,
+    reader: &mut R,
+) -> Result<(Option<u32>, Request), FrameError>
+    ensures { Gives result (to_end handles_of_request (behind (Some id) (extended_request_at (R.left reader.old)))) }
+{
+    let name = text(alloc, reader)?;
+    extension(alloc, id, &name, reader)
+}
+
+/// Reads the body of a request, and its id, which the hello alone lacks. `Format` and `HandleTooLong` tell the
+/// first thing that is wrong from the front on, a handle over 256 bytes last (draft-ietf-secsh-filexfer-02, sections
+/// 3, 4, 6 and 8); an EXTENDED by another name than the six is `InvalidDiscriminant(200)`. `OutOfMemory` may come in
+/// place of any answer. A count takes no memory by itself.
+#[tactic(auto, unfolding(sftp_model::specs::RequestReadings::request_at, sftp_model::specs::RequestReadings::request_fields_at))]
+pub fn read_request(alloc: Global, body: &[u8]) -> Result<(Option<u32>, Request), FrameError>
+    ensures { Gives result (request_at body.now) }
+{
+    let mut reader = body;
+    let kind = u8::decode(alloc, &mut reader)?;
+    match kind {
+        1 => init(alloc, &mut reader),
+        3 => open_file(alloc, number(alloc, &mut reader)?, &mut reader),
+        4 => close(alloc, number(alloc, &mut reader)?, &mut reader),
+        5 => read(alloc, number(alloc, &mut reader)?, &mut reader),
+        6 => write(alloc, number(alloc, &mut reader)?, &mut reader),
+        7 => lstat(alloc, number(alloc, &mut reader)?, &mut reader),
+        8 => fstat(alloc, number(alloc, &mut reader)?, &mut reader),
+        9 => setstat(alloc, number(alloc, &mut reader)?, &mut reader),
+        10 => fsetstat(alloc, number(alloc, &mut reader)?, &mut reader),
+        11 => opendir(alloc, number(alloc, &mut reader)?, &mut reader),
+        12 => readdir(alloc, number(alloc, &mut reader)?, &mut reader),
+        13 => remove(alloc, number(alloc, &mut reader)?, &mut reader),
+        14 => mkdir(alloc, number(alloc, &mut reader)?, &mut reader),
+        15 => rmdir(alloc, number(alloc, &mut reader)?, &mut reader),
+        16 => realpath(alloc, number(alloc, &mut reader)?, &mut reader),
+        17 => stat(alloc, number(alloc, &mut reader)?, &mut reader),
+        18 => rename(alloc, number(alloc, &mut reader)?, &mut reader),
+        19 => readlink(alloc, number(alloc, &mut reader)?, &mut reader),
+        20 => symlink(alloc, number(alloc, &mut reader)?, &mut reader),
+        200 => extended(alloc, number(alloc, &mut reader)?, &mut reader),
+        _ => Err(FrameError::Format(FormatKind::InvalidDiscriminant(kind))),
+    }
+}

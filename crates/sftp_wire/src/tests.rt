@@ -1,0 +1,6 @@
+mod bodies;
+mod frames;
+mod laws;
+mod replies;
+mod requests;
+mod values;

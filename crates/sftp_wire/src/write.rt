@@ -1,0 +1,50 @@
+ghost use Rattle.std.specs.Prelude.{◌≡◌, ◌≤◌, ◌<◌, ◌++◌, ℕ, length, OnOk, OnErr, IsOkUnless, Err};
+ghost use Rattle.sftp_model.specs.declared.frame_error.FrameError.TheVariants as errors;
+ghost use Rattle.sftp_model.specs.declared.frame_error.FormatKind.TheVariants as kinds;
+ghost use Rattle.sftp_model.specs.Frames.{body_limit, request_body, reply_body, request_frame, reply_frame};
+ghost use Rattle.sftp_wire.specs.Body.{Measures};
+
+use crate::body::Body;
+use sftp_model::{FormatKind, FrameError, Reply, Request};
+use ssh_encoding::OutOfMemory;
+
+/// The number of bytes of a request's body; None exactly where it is over 1048575
+/// (draft-ietf-secsh-filexfer-02, section 3).
+pub fn request_len(request: &Request) -> Option<u32>
+    ensures { (id : ℕ) → Measures result (length (request_body request.now id)) }
+{
+    Body::of_request(request).len()
+}
+
+/// Appends the frame of a request, with its id; the hello has none (draft-ietf-secsh-filexfer-02, sections 3, 4
+/// and 6). Refused only for want of memory; `out` is unchanged then.
+pub fn write_request(request: &Request, id: u32, out: &mut Vec<u8>) -> Result<(), OutOfMemory>
+    requires { length (request_body request.now id) ≤ body_limit }
+    ensures ok { OnOk result (out.new.items ≡ out.old.items ++ request_frame request.now id) }
+    ensures err { OnErr result (out.new.items ≡ out.old.items) }
+{
+    let body = Body::of_request(request);
+    match body.len() {
+        Some(len) => body.write_frame(len, id, out),
+        None => unreachable!(),
+    }
+}
+
+/// Appends the frame of a reply, with its id; VERSION has none (draft-ietf-secsh-filexfer-02, sections 3, 4
+/// and 7). `Format(Overflow)` exactly where its body is over 1048575 bytes, else `OutOfMemory` alone; refused,
+/// `out` is unchanged.
+pub fn write_reply(reply: &Reply, id: u32, out: &mut Vec<u8>) -> Result<(), FrameError>
+    ensures ok { OnOk result (out.new.items ≡ out.old.items ++ reply_frame reply.now id) }
+    ensures err { OnErr result (out.new.items ≡ out.old.items) }
+    ensures over { body_limit < length (reply_body reply.now id) → result ≡ Err (errors.Format kinds.Overflow) }
+    ensures within { length (reply_body reply.now id) ≤ body_limit → IsOkUnless result errors.OutOfMemory }
+{
+    let body = Body::of_reply(reply);
+    let Some(len) = body.len() else {
+        return Err(FrameError::Format(FormatKind::Overflow));
+    };
+    match body.write_frame(len, id, out) {
+        Ok(()) => Ok(()),
+        Err(OutOfMemory) => Err(FrameError::OutOfMemory),
+    }
+}
