@@ -8,7 +8,7 @@ use std::alloc::Global;
 use std::marker::Model;
 
 /// The greatest length of a body.
-const BODY_LIMIT: u32 = 1048575;
+pub(crate) const BODY_LIMIT: u32 = 1048575;
 
 /// Takes one frame in any pieces (draft-ietf-secsh-filexfer-02, section 3). A contract sees the bytes that
 /// were taken since it was cleared, and the refusal that it keeps.

@@ -7,13 +7,11 @@ ghost use Rattle.sftp_model.specs.Frames.{bit, attributes, name_entry, extension
 ghost use Rattle.sftp_wire.specs.Body.{field_bytes, body_bytes, saturated, Measures};
 
 use crate::body::{Body, Field};
+use crate::frame_reader::BODY_LIMIT;
 use crate::names;
 use bitflags::Flags;
 use bytes::Bytes;
 use sftp_model::{Extensions, FileAttrs, NameEntry};
-
-/// The greatest length of a body.
-const BODY_LIMIT: usize = 1048575;
 
 fn raw_len(bytes: &[u8]) -> usize
     ensures { result ≡ saturated (length bytes.now) }
@@ -138,7 +136,7 @@ impl<'a> Body<'a> {
     {
         let front = if self.has_id { 5 } else { 1 };
         let len = fields_len(&self.fields).saturating_add(front);
-        if len > BODY_LIMIT {
+        if len > BODY_LIMIT as usize {
             return None;
         }
         Some(len as u32)

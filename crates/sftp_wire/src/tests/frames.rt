@@ -87,3 +87,20 @@ fn lengths(rt: HostRuntime) -> Result<(), Fail> {
     assert_eq!(rt; reader.need(), 4);
     Ok(())
 }
+
+/// A CLOSE of a handle of four zero bytes, behind bytes that stay.
+#[test]
+fn close_of_zeros(rt: HostRuntime) -> Result<(), Fail> {
+    let handle = Handle::new(&[0; 4]).ok_or("a handle of more than 256 bytes")?;
+    let request = Request::Close { handle };
+    assert_eq!(rt; request_len(&request), Some(13));
+    let mut out = Vec::from_slice(rt.alloc(), b"ab")?;
+    if let Some(_len) = request_len(&request) {
+        write_request(&request, 1, &mut out)?;
+    }
+    assert_eq!(rt;
+        out.as_slice(),
+        b"ab\0\0\0\x0d\x04\0\0\0\x01\0\0\0\x04\0\0\0\0".as_slice()
+    );
+    Ok(())
+}
