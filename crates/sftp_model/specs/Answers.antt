@@ -5,6 +5,8 @@ use Rattle.sftp_model.specs.declared.request.Request.{Request}
 use Rattle.sftp_model.specs.declared.request.Request.TheVariants as request
 use Rattle.sftp_model.specs.declared.reply.Reply.{Reply}
 use Rattle.sftp_model.specs.declared.reply.Reply.TheVariants as reply
+use Rattle.sftp_model.specs.declared.answers.Expected.{Expected}
+use Rattle.sftp_model.specs.declared.answers.Expected.TheVariants as expected
 
 abbrev pub is_status : Reply → Bool
 is_status (reply.Status code message language) = true
@@ -46,21 +48,35 @@ abbrev pub is_version : Reply → Bool
 is_version (reply.Version version extensions) = true
 is_version other = false
 
+-- what may answer a request: a reply of this kind, or for each but the last a STATUS other than 0
+abbrev pub expected_of : Request → Expected
+expected_of (request.Init version) = expected.Version
+expected_of (request.OpenFile path flags attrs) = expected.Handle
+expected_of (request.Opendir path) = expected.Handle
+expected_of (request.Read handle offset len) = expected.Content len
+expected_of (request.Readdir handle) = expected.Names
+expected_of (request.Lstat path) = expected.Attrs
+expected_of (request.Fstat handle) = expected.Attrs
+expected_of (request.Stat path) = expected.Attrs
+expected_of (request.Realpath path) = expected.FirstName
+expected_of (request.Readlink path) = expected.FirstName
+expected_of (request.ExpandPath path) = expected.FirstName
+expected_of request.LimitsQuery = expected.Limits
+expected_of other = expected.Status
+
+abbrev pub allows : Expected → Reply → Bool
+allows expected.Version answer = is_version answer
+allows expected.Handle answer = is_handle answer || is_refusal answer
+allows (expected.Content len) answer = is_content len answer || is_refusal answer
+allows expected.Names answer = is_names answer || is_refusal answer
+allows expected.FirstName answer = is_some_names answer || is_refusal answer
+allows expected.Attrs answer = is_attrs answer || is_refusal answer
+allows expected.Limits answer = is_extended answer || is_refusal answer
+allows expected.Status answer = is_status answer
+
 -- whether a reply may answer a request
 abbrev pub may_answer : Request → Reply → Bool
-may_answer (request.Init version) answer = is_version answer
-may_answer (request.OpenFile path flags attrs) answer = is_handle answer || is_refusal answer
-may_answer (request.Opendir path) answer = is_handle answer || is_refusal answer
-may_answer (request.Read handle offset len) answer = is_content len answer || is_refusal answer
-may_answer (request.Readdir handle) answer = is_names answer || is_refusal answer
-may_answer (request.Lstat path) answer = is_attrs answer || is_refusal answer
-may_answer (request.Fstat handle) answer = is_attrs answer || is_refusal answer
-may_answer (request.Stat path) answer = is_attrs answer || is_refusal answer
-may_answer (request.Realpath path) answer = is_some_names answer || is_refusal answer
-may_answer (request.Readlink path) answer = is_some_names answer || is_refusal answer
-may_answer (request.ExpandPath path) answer = is_some_names answer || is_refusal answer
-may_answer request.LimitsQuery answer = is_extended answer || is_refusal answer
-may_answer other answer = is_status answer
+may_answer r answer = allows (expected_of r) answer
 
 abbrev pub MayAnswer : Request → Reply → Type 0
 MayAnswer r answer = IsTrue (may_answer r answer)

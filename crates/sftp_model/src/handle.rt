@@ -43,6 +43,16 @@ impl Handle {
         })
     }
 
+    /// The same handle once more. Takes no memory.
+    pub fn copied(&self) -> Handle
+        ensures { result ≡ self.now }
+    {
+        Handle {
+            bytes: self.bytes,
+            len: self.len,
+        }
+    }
+
     /// The bytes, at most 256.
     pub fn as_bytes(&self) -> &[u8]
         ensures value { result.now ≡ self.now }
@@ -68,9 +78,6 @@ impl Eq for Handle {
 
 impl TryCopy for Handle {
     fn try_copy(&self, _alloc: Global) -> Result<Handle, OutOfMemory> {
-        Ok(Handle {
-            bytes: self.bytes,
-            len: self.len,
-        })
+        Ok(self.copied())
     }
 }

@@ -22,7 +22,7 @@ mod request;
 mod same;
 mod slot;
 
-pub use answers::{ends, may_answer};
+pub use answers::{Expected, ends, may_answer};
 pub use config::{Choice, Limits, ServerConfig};
 pub use content::Content;
 pub use copy::TryCopy;

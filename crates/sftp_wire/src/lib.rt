@@ -16,11 +16,11 @@ mod reading_shapes;
 mod write;
 
 pub use frame_reader::FrameReader;
-pub use reading_replies::read_reply;
+pub use reading_replies::{read_limits, read_reply};
 pub use reading_requests::read_request;
 pub use sftp_model::{
-    Content, Extensions, FileAttrs, FormatKind, FrameError, Handle, NameEntry, OpenFlags,
-    RemotePath, Reply, Request, TryCopy, frames_read_back,
+    Content, Expected, Extensions, FileAttrs, FormatKind, FrameError, Handle, Limits, NameEntry,
+    OpenFlags, RemotePath, Reply, Request, TryCopy, frames_read_back,
 };
 pub use sftp_values::{ByteText, Items};
 pub use write::{request_len, write_reply, write_request};

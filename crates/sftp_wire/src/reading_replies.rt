@@ -3,13 +3,13 @@ ghost use Rattle.std.specs.Prelude.{◌≡◌, ◌++◌, [], ◌∷◌, OnOk, If
 ghost use Rattle.ssh_encoding.specs.declared.error.Error.TheVariants as encoding;
 ghost use Rattle.sftp_model.specs.Readings.{with_id, without_id, pair_bit as bit_of_pair, named_bit as bit_of_name, extensions_at};
 ghost use Rattle.sftp_model.specs.Frames.{extension_table};
-ghost use Rattle.sftp_model.specs.ReplyReadings.{version_at, status_at, handle_at, content_at, entry_at, entries_at, names_at, attrs_at, extended_at, handles_of_reply, reply_at};
+ghost use Rattle.sftp_model.specs.ReplyReadings.{version_at, status_at, handle_at, content_at, entry_at, entries_at, names_at, attrs_at, extended_at, handles_of_reply, reply_at, limits_at};
 ghost use Rattle.sftp_wire.specs.Reading.{ReadsField, Gives, to_end};
 
 use crate::names;
-use crate::reading_fields::{attributes, finished, handle_of, number, shared_text, text};
+use crate::reading_fields::{attributes, finished, handle_of, long, number, shared_text, text};
 use bitflags::Flags;
-use sftp_model::{Extensions, FormatKind, FrameError, NameEntry, RemotePath, Reply};
+use sftp_model::{Extensions, FormatKind, FrameError, Limits, NameEntry, RemotePath, Reply};
 use sftp_values::{ByteText, Items};
 use ssh_encoding::{Decode, Reader};
 use std::alloc::Global;
@@ -224,4 +224,25 @@ pub fn read_reply(alloc: Global, body: &[u8]) -> Result<(Option<u32>, Reply), Fr
         201 => extended(alloc, &mut reader),
         _ => Err(FrameError::Format(FormatKind::InvalidDiscriminant(kind))),
     }
+}
+
+/// Reads the content of the EXTENDED_REPLY to the query for limits: four numbers, in 32 bytes. `Format(Length)` where
+/// they are fewer and `Format(TrailingData)` where they are more; `OutOfMemory` may come in place of any answer
+/// (OpenSSH's PROTOCOL, section 4.8).
+#[tactic(auto, unfolding(sftp_model::specs::ReplyReadings::limits_at))]
+pub fn read_limits(alloc: Global, content: &[u8]) -> Result<Limits, FrameError>
+    ensures { Gives result (limits_at content.now) }
+{
+    let mut reader = content;
+    let packet_len = long(alloc, &mut reader)?;
+    let read_len = long(alloc, &mut reader)?;
+    let write_len = long(alloc, &mut reader)?;
+    let open_handles = long(alloc, &mut reader)?;
+    finished(&reader)?;
+    Ok(Limits {
+        packet_len,
+        read_len,
+        write_len,
+        open_handles,
+    })
 }

@@ -132,3 +132,22 @@ fn longest_reply(rt: HostRuntime) -> Result<(), Fail> {
     assert_eq!(rt; out.len(), 6 + 4 + 1048575);
     Ok(())
 }
+
+/// The content of the reply to the query for limits: four numbers in 32 bytes (OpenSSH's PROTOCOL, section 4.8).
+#[test]
+fn limits(rt: HostRuntime) -> Result<(), Fail> {
+    let alloc = rt.alloc();
+    let content =
+        b"\x00\x00\x00\x00\x00\x00\x00\x01\x00\x00\x00\x00\x00\x00\x00\x02\x00\x00\x00\x00\x00\x00\x00\x03\xff\xff\xff\xff\xff\xff\xff\xff\x00";
+    let limits = Limits {
+        packet_len: 1,
+        read_len: 2,
+        write_len: 3,
+        open_handles: 18446744073709551615,
+    };
+    assert!(rt; read_limits(alloc, &content[..32]) == Ok(limits));
+    assert!(rt; read_limits(alloc, &content[..31]) == Err(FrameError::Format(FormatKind::Length)));
+    let trailing = FormatKind::TrailingData { remaining: 1 };
+    assert!(rt; read_limits(alloc, content) == Err(FrameError::Format(trailing)));
+    Ok(())
+}
