@@ -1,0 +1,21 @@
+-- The bytes of a queue.
+use Rattle.std.specs.Prelude.{ℕ, ◌≤◌, ◌<◌, List, length}
+use Rattle.std.specs.List.{All, flat_map}
+use Rattle.sftp_model.specs.Frames.{request_body, request_frame, body_limit}
+use Rattle.sftp_model.specs.declared.request.Request.{Request}
+
+-- the frame of a queued request, with its id
+abbrev pub frame_of : ℕ × Request → List ℕ
+frame_of queued = request_frame queued.1 queued.0
+
+-- the frames of a queue, one after another
+abbrev pub frames_of : List (ℕ × Request) → List ℕ
+frames_of queue = flat_map frame_of queue
+
+-- the body of a queued request is within the limit of frames
+abbrev pub IsShort : ℕ × Request → Type 0
+IsShort queued = length (request_body queued.1 queued.0) ≤ body_limit
+
+-- no piece is empty
+abbrev pub AreFilled : List (List ℕ) → Type 0
+AreFilled pieces = All (λ piece. 0 < length piece) pieces

@@ -1,0 +1,56 @@
+-- What a session knows of its server, and how far the greeting has come.
+use Rattle.std.specs.Prelude.{ℕ, ◌≤◌, ◌==◌, Bool, Option, Some, None}
+use Rattle.std.specs.Int.RustNames.{bit_and}
+use Rattle.sftp_model.specs.Lengths.{session_lengths}
+use Rattle.sftp_model.specs.declared.config.Limits.{Limits}
+use Rattle.sftp_model.specs.declared.flags.Extensions.{Extensions}
+use Rattle.sftp_core.specs.declared.options.SftpOptions.{SftpOptions}
+use Rattle.sftp_core.specs.declared.info.Info.{Info}
+use Rattle.sftp_core.specs.declared.phase.Phase.{Phase}
+use Rattle.sftp_core.specs.declared.phase.Phase.TheVariants.{Greeting, Asking, Open}
+
+-- the read length and the write length of a session with these limits and options
+abbrev pub lengths_of : Option Limits → SftpOptions → ℕ × ℕ
+lengths_of limits options = session_lengths limits options.max_read_len options.max_write_len
+
+-- what a session knows of a server with these extensions and limits
+abbrev pub info_with : Extensions → Option Limits → SftpOptions → Info
+info_with extensions limits options =
+    record {
+      extensions = extensions;
+      read_len = (lengths_of limits options).0;
+      write_len = (lengths_of limits options).1;
+    }
+
+-- what is known of the server, once the greeting is over
+abbrev pub info_of : Phase → Option Info
+info_of Greeting = None
+info_of (Asking extensions) = None
+info_of (Open info) = Some info
+
+-- both lengths are from 1 to 1048275 bytes
+pub record HasLengths (info : Info) : Type 0 where
+  pub read : (1 ≤ info.read_len) × (info.read_len ≤ 1048275)
+  pub write : (1 ≤ info.write_len) × (info.write_len ≤ 1048275)
+
+-- an open session has such lengths
+abbrev pub IsRanged : Phase → Type 0
+IsRanged Greeting = Unit {0}
+IsRanged (Asking extensions) = Unit {0}
+IsRanged (Open info) = HasLengths info
+
+-- 1 for the hello while its VERSION was not taken
+abbrev pub hello_of : Phase → ℕ
+hello_of Greeting = 1
+hello_of (Asking extensions) = 0
+hello_of (Open info) = 0
+
+-- the most ids that may be in use
+abbrev pub most_ids : Phase → ℕ
+most_ids Greeting = 0
+most_ids (Asking extensions) = 2147483648
+most_ids (Open info) = 2147483648
+
+-- whether the server offers the query for limits
+abbrev pub offers_limits : Extensions → Bool
+offers_limits extensions = bit_and extensions.0 32 == 32

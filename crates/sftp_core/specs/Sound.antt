@@ -1,0 +1,24 @@
+-- What a core keeps true of its fields.
+use Rattle.std.specs.Prelude.{◌≡◌, ℕ, ◌+◌, ◌≤◌, Bool, List, if◌then◌else◌}
+use Rattle.std.specs.FinMap as fin
+use Rattle.std.specs.List.{All}
+use Rattle.sftp_model.specs.declared.request.Request.{Request}
+use Rattle.sftp_core.specs.declared.phase.Phase.{Phase}
+use Rattle.sftp_core.specs.Info.{IsRanged, most_ids}
+use Rattle.sftp_core.specs.Frames.{IsShort}
+use Rattle.sftp_core.specs.Table.{Places, count, is_unsent, is_owing, IsAllowed}
+
+-- 1 for the hello while it stands in the queue
+abbrev pub hello_queued : Bool → ℕ
+hello_queued sent = if sent then 0 else 1
+
+-- Of the queue its length and its room: each queued request is counted, and each CLOSE that may come has room. No id
+-- is in use before the greeting, each kept answer is allowed, each queued frame is within the limit, and an open
+-- session has lengths from 1 to 1048275.
+pub record IsSound (hello_sent : Bool) (phase : Phase) (queue : List (ℕ × Request)) (queued room : ℕ) (table : Places) : Type 0 where
+  pub unsent : queued ≡ count is_unsent table + hello_queued hello_sent
+  pub reserved : queued + count is_owing table ≤ room
+  pub few : fin.len table ≤ most_ids phase
+  pub allowed : (id : ℕ) → IsAllowed (fin.get table id)
+  pub short : All IsShort queue
+  pub range : IsRanged phase

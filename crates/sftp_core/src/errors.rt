@@ -1,0 +1,107 @@
+ghost use Rattle.std.specs.Prelude.{◌≡◌};
+ghost use Rattle.sftp_core.specs.declared.errors.SubmitError.TheVariants as submit;
+ghost use Rattle.sftp_core.specs.declared.errors.TakeError.TheVariants as take;
+ghost use Rattle.sftp_core.specs.Take.{unread, fault_of};
+
+use sftp_model::{Fault, FormatKind, FrameError};
+use sftp_values::ByteText;
+use ssh_encoding::OutOfMemory;
+use thiserror::Error;
+
+/// Why a request was not submitted. The core is as before.
+#[derive(Clone, Copy, Debug, PartialEq, Eq, Error)]
+pub enum SubmitError {
+    /// There was no memory.
+    #[error("out of memory")]
+    OutOfMemory,
+    /// No fault is kept, and the request's body is over 1048575 bytes.
+    #[error("the request is too long for a frame")]
+    TooLong,
+    /// A fault is kept: the session can't be used any more.
+    #[error("the session had failed before: {0}")]
+    Failed(Fault),
+}
+
+impl From<OutOfMemory> for SubmitError {
+    ghost from_gives = { λ _ e. e ≡ submit.OutOfMemory };
+
+    fn from(_: OutOfMemory) -> SubmitError {
+        SubmitError::OutOfMemory
+    }
+}
+
+/// Why a frame was not taken. After `OutOfMemory` the core is as before and the frame may be taken again; each
+/// other refusal is kept as the session's fault (draft-ietf-secsh-filexfer-02, sections 3 to 7).
+#[derive(Debug, Drop, PartialEq, Eq, Error)]
+pub enum TakeError {
+    /// There was no memory.
+    #[error("out of memory")]
+    OutOfMemory,
+    /// The frame, or the content of the limits, breaks its form.
+    #[error("{0}")]
+    Format(FormatKind),
+    /// All fields read, and the handle is longer than 256 bytes.
+    #[error("a handle has {len} bytes, and at most 256 are allowed")]
+    HandleTooLong {
+        len: u32,
+    },
+    /// No request that was handed out and has no reply bears the id.
+    #[error("a reply bears the id {id}, which no unanswered request has")]
+    InvalidResponseId {
+        id: u32,
+    },
+    /// The reply may not answer its request, or is no VERSION where only that may come, or a second VERSION.
+    #[error("a reply may not answer its request")]
+    InvalidResponse {
+        id: Option<u32>,
+    },
+    /// The server refused the query for limits that it had advertised.
+    #[error("the server refused the query for its limits with status {code}")]
+    LimitsRefused {
+        code: u32,
+        message: ByteText,
+        language: ByteText,
+    },
+    /// The server speaks another version of the protocol than 3.
+    #[error("the server speaks version {version} of the protocol, and only 3 is supported")]
+    Protocol {
+        version: u32,
+    },
+}
+
+impl TakeError {
+    /// The fault that is kept after this error; want of memory keeps none.
+    pub fn fault(&self) -> Option<Fault>
+        ensures { result ≡ fault_of self.now }
+    {
+        match self {
+            TakeError::OutOfMemory => None,
+            TakeError::Format(kind) => Some(Fault::Format(*kind)),
+            TakeError::HandleTooLong { len } => Some(Fault::HandleTooLong { len: *len }),
+            TakeError::InvalidResponseId { id } => Some(Fault::ResponseId { id: *id }),
+            TakeError::InvalidResponse { id } => Some(Fault::Response { id: *id }),
+            TakeError::LimitsRefused { code, .. } => Some(Fault::Limits { code: *code }),
+            TakeError::Protocol { version } => Some(Fault::Protocol { version: *version }),
+        }
+    }
+}
+
+impl From<OutOfMemory> for TakeError {
+    ghost from_gives = { λ _ e. e ≡ take.OutOfMemory };
+
+    fn from(_: OutOfMemory) -> TakeError {
+        TakeError::OutOfMemory
+    }
+}
+
+impl From<FrameError> for TakeError {
+    ghost from_gives = { λ e r. r ≡ unread e };
+
+    fn from(e: FrameError) -> TakeError {
+        match e {
+            FrameError::OutOfMemory => TakeError::OutOfMemory,
+            FrameError::Format(kind) => TakeError::Format(kind),
+            FrameError::HandleTooLong { len } => TakeError::HandleTooLong { len },
+        }
+    }
+}

@@ -1,0 +1,45 @@
+ghost use Rattle.std.specs.Prelude.{◌≡◌, ◌≤◌};
+ghost use Rattle.sftp_core.specs.Info.{lengths_of, info_with, HasLengths};
+
+use crate::options::SftpOptions;
+use sftp_model::{Extensions, Limits, session_lengths};
+
+/// What a session knows of its server once the greeting is over.
+#[derive(Clone, Copy, Debug, PartialEq, Eq)]
+pub struct Info {
+    /// The extensions that the server offers.
+    pub extensions: Extensions,
+    /// The most bytes that one READ asks for, from 1 to 1048275.
+    pub read_len: u32,
+    /// The most bytes that one WRITE carries, from 1 to 1048275.
+    pub write_len: u32,
+}
+
+/// The read length and the write length of a session, in bytes, each from 1 to 1048275: what the server's limits
+/// advertise, 32768 where they say nothing, and at most what the options say (OpenSSH's PROTOCOL, section 4.8).
+pub fn lengths(limits: Option<Limits>, options: &SftpOptions) -> (u32, u32)
+    ensures value { result ≡ lengths_of limits options.now }
+    ensures read_range { (1 ≤ result.0) × (result.0 ≤ 1048275) }
+    ensures write_range { (1 ≤ result.1) × (result.1 ≤ 1048275) }
+{
+    session_lengths(limits, options.max_read_len, options.max_write_len)
+}
+
+impl Info {
+    /// What is known of a server with these extensions and limits.
+    pub(crate) fn with(
+        extensions: Extensions,
+        limits: Option<Limits>,
+        options: &SftpOptions,
+    ) -> Info
+        ensures value { result ≡ info_with extensions limits options.now }
+        ensures lengths { HasLengths result }
+    {
+        let (read_len, write_len) = lengths(limits, options);
+        Info {
+            extensions,
+            read_len,
+            write_len,
+        }
+    }
+}

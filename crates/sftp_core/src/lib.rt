@@ -1,0 +1,27 @@
+//! Ids, the queue, the unanswered requests and the grants of one SFTP session.
+#![tactic(auto)]
+
+mod chunk;
+mod errors;
+mod info;
+mod laws;
+mod options;
+mod phase;
+mod pipeline;
+mod place;
+mod table;
+mod tokens;
+
+pub use chunk::Chunk;
+pub use errors::{SubmitError, TakeError};
+pub use info::{Info, lengths};
+pub use laws::{one_request_an_id, options_only_lower, takes_what_may_answer};
+pub use options::SftpOptions;
+pub use phase::Phase;
+pub use pipeline::Core;
+pub use place::Place;
+pub use sftp_model::{Fault, Limits};
+pub use tokens::{Grant, Polled, Taken, Ticket};
+
+#[cfg(test)]
+mod tests;

@@ -1,0 +1,38 @@
+ghost use Rattle.std.specs.Prelude.{◌≡◌};
+ghost use Rattle.sftp_core.specs.Info.{info_of, hello_of};
+
+use crate::info::Info;
+use sftp_model::Extensions;
+
+/// How far the greeting of a session has come (draft-ietf-secsh-filexfer-02, section 4).
+#[derive(Clone, Copy, Debug, PartialEq, Eq)]
+pub enum Phase {
+    /// VERSION was not taken.
+    Greeting,
+    /// VERSION was taken, and the reply to the query for limits was not.
+    Asking { extensions: Extensions },
+    /// Calls may submit requests.
+    Open(Info),
+}
+
+impl Phase {
+    /// What is known of the server, once the greeting is over.
+    pub(crate) fn info(self) -> Option<Info>
+        ensures { result ≡ info_of self }
+    {
+        match self {
+            Phase::Open(info) => Some(info),
+            Phase::Greeting | Phase::Asking { .. } => None,
+        }
+    }
+
+    /// 1 for the hello while its VERSION was not taken.
+    pub(crate) fn hello(self) -> u32
+        ensures { result ≡ hello_of self }
+    {
+        match self {
+            Phase::Greeting => 1,
+            Phase::Asking { .. } | Phase::Open(_) => 0,
+        }
+    }
+}

@@ -1,0 +1,196 @@
+ghost use Rattle.std.specs.Prelude.{◌≡◌, ◌+◌, ◌<◌, ◌≤◌, ◌∷◌, ◌++◌, [], slice_get, None, Some, false, IfOk, IfSome, OnOk, OnErr, vec_len, vec_capacity};
+ghost use Rattle.std.specs.FinMap as fin;
+ghost use Rattle.std.specs.Option.{option_map};
+ghost use Rattle.sftp_model.specs.Answers.{expected_of};
+ghost use Rattle.sftp_core.specs.Core.{fresh, queued_of, awaited_of, unanswered_of, kept_of, failed_with};
+ghost use Rattle.sftp_core.specs.Frames.{IsShort};
+ghost use Rattle.sftp_core.specs.Info.{info_of, HasLengths};
+ghost use Rattle.sftp_core.specs.Table.{count, is_owing};
+ghost use Rattle.sftp_core.specs.declared.place.Place.TheVariants.{Waiting};
+
+use crate::errors::SubmitError;
+use crate::info::Info;
+use crate::options::SftpOptions;
+use crate::phase::Phase;
+use crate::place::Place;
+use crate::table::Table;
+use sftp_model::{Expected, Fault, Request};
+use ssh_encoding::OutOfMemory;
+use std::alloc::Global;
+use std::marker::Model;
+
+#[cfg(test)]
+mod seats;
+mod sending;
+mod taking;
+mod tickets;
+
+/// The protocol of one session without its link: it numbers requests, queues their frames, and hands each reply to
+/// the one request with its id (draft-ietf-secsh-filexfer-02, sections 3 to 7). A contract sees what stands under
+/// each id, the queue, the kept fault and how far the greeting has come.
+#[derive(Drop)]
+pub struct Core {
+    alloc: Global,
+    options: SftpOptions,
+    hello_sent: bool,
+    phase: Phase,
+    queue: Vec<(u32, Request)>,
+    table: Table,
+    fault: Option<Fault>,
+    room: Vec<u8>,
+}
+
+impl Model for Core {
+    ghost use Rattle.std.specs.Prelude.{vec_len, vec_capacity};
+    ghost use Rattle.std.specs.Coded.{codes};
+    ghost use Rattle.sftp_core.specs.contracts.table.Table as of_table;
+    ghost use Rattle.sftp_core.specs.Core.{Core};
+    ghost use Rattle.sftp_core.specs.Sound.{IsSound};
+
+    ghost Value = { Core };
+
+    ghost coded = { Prim.hlevel (codes, of_table.the_row.coded) };
+
+    ghost view = { λ c. record {
+      options = c.options;
+      hello_sent = c.hello_sent;
+      phase = c.phase;
+      queue = c.queue.items;
+      table = c.table;
+      fault = c.fault;
+    } };
+
+    ghost invariant = { λ c. IsSound c.hello_sent c.phase c.queue.items (vec_len c.queue) (vec_capacity c.queue) c.table };
+}
+
+impl Core {
+    /// A core whose queue holds the hello alone, with room for as many requests as the options say. Refused only
+    /// for want of memory.
+    pub fn new(alloc: Global, options: &SftpOptions) -> Result<Core, OutOfMemory>
+        ensures { IfOk result (λ core. core ≡ fresh options.now) }
+    {
+        let mut queue = Vec::with_capacity(alloc, options.requests_buffer_size.max(1))?;
+        push_reserved(&mut queue, 0, Request::Init { version: 3 });
+        Ok(Core {
+            alloc,
+            options: *options,
+            hello_sent: false,
+            phase: Phase::Greeting,
+            queue,
+            table: Table::new(alloc),
+            fault: None,
+            room: Vec::new(alloc),
+        })
+    }
+
+    /// What is known of the server: Some exactly once VERSION, and where the server offers it the reply to the query
+    /// for limits, were taken. Both lengths are from 1 to 1048275 bytes.
+    pub fn info(&self) -> Option<Info>
+        ensures value { result ≡ info_of self.now.phase }
+        ensures range { IfSome result (λ info. HasLengths info) }
+    {
+        self.phase.info()
+    }
+
+    /// The kept fault, which is the first one.
+    pub fn fault(&self) -> Option<Fault>
+        ensures { result ≡ self.now.fault }
+    {
+        self.fault
+    }
+
+    /// Keeps a fault, where none is kept.
+    pub fn fail(&mut self, fault: Fault)
+        ensures { self.new ≡ failed_with self.old fault }
+    {
+        if self.fault.is_none() {
+            self.fault = Some(fault);
+        }
+    }
+
+    /// How many frames are queued, the hello included.
+    pub fn queued(&self) -> u32
+        ensures { result ≡ queued_of self.now }
+    {
+        self.queue.len() as u32
+    }
+
+    /// The id and the request of the k-th queued frame, counted from 0; None exactly past the end. The hello has the
+    /// id 0 here.
+    pub fn queued_request(&self, k: u32) -> Option<(u32, &Request)>
+        ensures { option_map (λ p. (p.0, p.1.now)) result ≡ slice_get self.now.queue k }
+    {
+        match self.queue.get(k as usize) {
+            Some((id, request)) => Some((*id, request)),
+            None => None,
+        }
+    }
+
+    /// How many frames were handed out and have no reply, the hello included.
+    pub fn awaited(&self) -> u32
+        ensures { result ≡ awaited_of self.now }
+    {
+        if self.hello_sent {
+            (self.table.waiting() - self.queue.len()) as u32 + self.phase.hello()
+        } else {
+            (self.table.waiting() + 1 - self.queue.len()) as u32
+        }
+    }
+
+    /// How many frames have no reply, handed out or queued, the hello included.
+    pub fn unanswered(&self) -> u32
+        ensures { result ≡ unanswered_of self.now }
+    {
+        self.table.waiting() as u32 + self.phase.hello()
+    }
+
+    /// How many ids are in use, the hello included: the unanswered requests, the answered requests whose ticket is
+    /// out, and the grants whose CLOSE was not submitted. Only a submitted request raises it.
+    pub fn kept(&self) -> u32
+        ensures { result ≡ kept_of self.now }
+    {
+        self.table.len() as u32 + self.phase.hello()
+    }
+}
+
+/// Puts a request last into the queue and under its id, which is free. Room for each CLOSE that may come is there
+/// then. Refused for want of memory, nothing changed but the queue's room.
+fn put_last(
+    queue: &mut Vec<(u32, Request)>,
+    table: &mut Table,
+    id: u32,
+    request: Request,
+    wanted: bool,
+) -> Result<(), OutOfMemory>
+    requires free { fin.get table.old id ≡ None }
+    requires few { fin.len table.old < 2147483648 }
+    ensures queued { OnOk result (queue.new.items ≡ queue.old.items ++ (id, request) ∷ []) }
+    ensures len { OnOk result (vec_len queue.new ≡ vec_len queue.old + 1) }
+    ensures kept { OnOk result (table.new ≡ fin.insert table.old id (Waiting (expected_of request) false wanted)) }
+    ensures room { OnOk result (vec_len queue.new + count is_owing table.new ≤ vec_capacity queue.new) }
+    ensures grows { vec_capacity queue.old ≤ vec_capacity queue.new }
+    ensures err { OnErr result ((queue.new.items ≡ queue.old.items) × (table.new ≡ table.old)) }
+    ensures err_len { OnErr result (vec_len queue.new ≡ vec_len queue.old) }
+{
+    let place = Place::Waiting {
+        expected: Expected::of(&request),
+        sent: false,
+        wanted,
+    };
+    let room = table.owing() + place.owing() + 1;
+    queue.reserve(room)?;
+    table.insert(id, place)?;
+    push_reserved(queue, id, request);
+    Ok(())
+}
+
+/// Pushes into room that is there.
+fn push_reserved(queue: &mut Vec<(u32, Request)>, id: u32, request: Request)
+    requires { vec_len queue.old < vec_capacity queue.old }
+    ensures items { queue.new.items ≡ queue.old.items ++ (id, request) ∷ [] }
+    ensures len { vec_len queue.new ≡ vec_len queue.old + 1 }
+    ensures room { vec_capacity queue.old ≤ vec_capacity queue.new }
+{
+    let pushed: Result<_, _> = queue.push((id, request));
+    pushed.unwrap();
+}

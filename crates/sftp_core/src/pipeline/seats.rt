@@ -1,0 +1,34 @@
+// Tickets and grants by their ids, for tests.
+ghost use Rattle.std.specs.Prelude.{◌≡◌, IsTrue, IfSome};
+ghost use Rattle.sftp_core.specs.Core.{at, is_ticket, IsGrant};
+
+use super::Core;
+use crate::place::Place;
+use crate::tokens::{Grant, Ticket};
+
+impl Core {
+    /// The ticket with an id that is out.
+    pub(crate) fn ticket_of(&self, id: u32) -> Option<Ticket>
+        ensures { IfSome result (λ ticket. IsTrue (is_ticket (at self.now ticket))) }
+    {
+        match self.table.get(id) {
+            Some(Place::Answered { .. } | Place::Waiting { wanted: true, .. }) => {
+                Some(Ticket { id })
+            }
+            _ => None,
+        }
+    }
+
+    /// The grant with an id.
+    pub(crate) fn grant_of(&self, id: u32) -> Option<Grant>
+        ensures { IfSome result (λ grant. IsGrant self.now grant) }
+    {
+        match self.table.get(id) {
+            Some(Place::Granted { handle, users }) if *users > 0 => Some(Grant {
+                id,
+                handle: handle.copied(),
+            }),
+            _ => None,
+        }
+    }
+}

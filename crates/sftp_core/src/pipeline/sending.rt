@@ -1,0 +1,67 @@
+// What goes out: requests into the queue, and the frames of the queue.
+ghost use Rattle.std.specs.Prelude.{◌≡◌, ◌<◌, None, true, IsTrue, IsSome, IfOk, IfErr, OnOk, OnErr};
+ghost use Rattle.std.specs.FinMap as fin;
+ghost use Rattle.sftp_model.specs.Pieces.{joined};
+ghost use Rattle.sftp_core.specs.Core.{at, queued_last, is_call, submit_refusal, IsSubmitError, handed_out};
+ghost use Rattle.sftp_core.specs.Frames.{frames_of, AreFilled};
+ghost use Rattle.sftp_core.specs.Info.{info_of};
+
+use super::{Core, put_last};
+use crate::chunk::Chunk;
+use crate::errors::SubmitError;
+use crate::tokens::Ticket;
+use sftp_model::{Request, TryCopy};
+use sftp_wire::request_len;
+use ssh_encoding::OutOfMemory;
+use std::mem;
+
+impl Core {
+    /// Puts a request last into the queue, under an id that nothing unanswered bears. An OPEN or OPENDIR takes the
+    /// room for its CLOSE as well. A kept fault is answered before `TooLong`; refused, the core is as before.
+    pub fn submit(&mut self, request: &Request) -> Result<Ticket, SubmitError>
+        requires ready { IsSome (info_of self.old.phase) }
+        requires few { fin.len self.old.table < 2147483648 }
+        requires call { IsTrue (is_call request.now) }
+        ensures ok { IfOk result (λ ticket. (at self.old ticket ≡ None)
+            × (self.new ≡ queued_last self.old ticket request.now true)) }
+        ensures only { OnOk result (submit_refusal self.old request.now ≡ None) }
+        ensures refused { IfErr result (λ e. IsSubmitError e (submit_refusal self.old request.now)) }
+        ensures err { OnErr result (self.new ≡ self.old) }
+    {
+        if let Some(fault) = self.fault {
+            return Err(SubmitError::Failed(fault));
+        }
+        if request_len(request).is_none() {
+            return Err(SubmitError::TooLong);
+        }
+        let copy = request.try_copy(self.alloc)?;
+        let id = self.table.free_id();
+        put_last(&mut self.queue, &mut self.table, id, copy, true)?;
+        Ok(Ticket { id })
+    }
+
+    /// The frames of all queued requests in order, as pieces of which none is empty. Nothing is queued then, and
+    /// each request counts as sent. Refused for want of memory, the core is as before.
+    pub fn hand_out(&mut self) -> Result<Chunk, OutOfMemory>
+        ensures ok { IfOk result (λ chunk. joined chunk ≡ frames_of self.old.queue) }
+        ensures filled { IfOk result (λ chunk. AreFilled chunk) }
+        ensures after { OnOk result (self.new ≡ handed_out self.old) }
+        ensures err { OnErr result (self.new ≡ self.old) }
+    {
+        let room = mem::replace(&mut self.room, Vec::new(self.alloc));
+        let chunk = Chunk::of_queue(self.alloc, self.queue.as_slice(), room)?;
+        self.queue.clear();
+        self.table.mark_sent();
+        self.hello_sent = true;
+        Ok(chunk)
+    }
+
+    /// Takes a chunk back, and keeps its room for the next one. It changes nothing else.
+    pub fn give_back(&mut self, chunk: Chunk)
+        ensures { self.new ≡ self.old }
+    {
+        if let Some(room) = chunk.into_room() {
+            self.room = room;
+        }
+    }
+}
