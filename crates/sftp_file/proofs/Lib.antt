@@ -1,0 +1,5 @@
+pub mod BodyLens
+pub mod PlannedLaws
+pub mod PolledLaws
+pub mod StartLaws
+pub mod Steps

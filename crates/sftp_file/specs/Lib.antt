@@ -1,0 +1,11 @@
+pub mod OpenOptions
+pub mod Poll
+pub mod Files
+pub mod Stages
+pub mod Starts
+pub mod Polls
+pub mod Planned
+pub mod OptionLaws
+pub mod StageLaws
+pub mod KeepLaws
+pub mod FileRows

@@ -1,0 +1,5 @@
+use Rattle.sftp_history.specs.RequestLaws.{answer_stays}
+use Rattle.sftp_history.proofs.laws.replies_stay.Goals as goal
+
+pub returns : goal.returns
+returns c = answer_stays

@@ -1,0 +1,5 @@
+use Rattle.sftp_history.specs.OverLaws.{runs_are_journals, runs_are_over}
+use Rattle.sftp_history.proofs.laws.runs_are_journals.Goals as goal
+
+pub returns : goal.returns
+returns c = record { so_far = runs_are_journals; over = runs_are_over }

@@ -1,0 +1,119 @@
+-- The calls of a session's lanes: what each does next and what it leaves, by the session's journal.
+use Rattle.std.specs.Prelude.{ℕ, ◌==◌, Bool, true, false, ◌||◌, List, [], ◌∷◌, ◌++◌, Option, Some, None, if◌then◌else◌, slice_get}
+use Rattle.sftp_model.specs.declared.slot.Site.{Site}
+use Rattle.sftp_model.specs.declared.slot.Slot.TheVariants.{Empty}
+use Rattle.sftp_model.specs.Slots.{fresh_site, with_slot}
+use Rattle.sftp_model.specs.declared.slot.Facts.{Facts}
+use Rattle.sftp_model.specs.declared.slot.Move.{Move}
+use Rattle.sftp_model.specs.declared.slot.Move.TheVariants.{Ask, Wait, Done}
+use Rattle.sftp_model.specs.Plans.{Answers, open_next, read_next, close_next, cancelled_open, cancelled_read, cancelled_close, left_by}
+use Rattle.sftp_file.specs.OpenOptions.{flags_of}
+use Rattle.sftp_history.specs.declared.call.Call.{Call}
+use Rattle.sftp_history.specs.declared.call.Call.TheVariants as call
+use Rattle.sftp_history.specs.declared.call.Lane.{Lane}
+use Rattle.sftp_history.specs.declared.event.Event.TheVariants.{End}
+use Rattle.sftp_history.specs.declared.entry.Entry.{Entry}
+use Rattle.sftp_history.specs.declared.entry.Entry.TheVariants as entry
+use Rattle.sftp_history.specs.Readings.{answer, own, ended, last_cancel}
+
+-- What a session is opened with and what VERSION and the limits fix: the lanes handed in, the facts that plans
+-- go by, whether the server offers to tell its limits, and the most requests that stay unsent.
+pub record Setting : Type 0 where
+  pub lanes : List Lane
+  pub facts : Facts
+  pub limits : Bool
+  pub max_pending : ℕ
+
+-- ---- plans
+
+-- the next move of a call
+abbrev pub next : Call → Site → Facts → List ℕ → Answers → Move
+next (call.OpenFile slot flags path) site facts places answers = open_next slot (flags_of flags) path site facts places answers
+next (call.Read slot n) site facts places answers = read_next slot n site facts places answers
+next (call.Close slot) site facts places answers = close_next slot site facts places answers
+
+-- what a cancelled call leaves
+abbrev pub cancelled : Call → Site → Facts → List ℕ → Answers → Site
+cancelled (call.OpenFile slot flags path) site facts places answers = cancelled_open slot (flags_of flags) path site facts places answers
+cancelled (call.Read slot n) site facts places answers = cancelled_read slot n site facts places answers
+cancelled (call.Close slot) site facts places answers = cancelled_close slot site facts places answers
+
+-- what a `close` holds once it has asked: its slot is given up
+abbrev pub given_up : Call → List ℕ → Site → Site
+given_up (call.Close slot) (place ∷ later) site = with_slot site slot Empty
+given_up other places site = site
+
+-- ---- the calls of a lane
+
+-- the calls that were added to a lane, the first one first
+abbrev pub added : List Entry → ℕ → List Call
+added [] lane = []
+added (entry.Added l c ∷ past) lane = if l == lane then added past lane ++ c ∷ [] else added past lane
+added (_ ∷ past) lane = added past lane
+
+-- the calls of a lane that may not be there
+abbrev pub calls_of : Option Lane → List Call
+calls_of None = []
+calls_of (Some lane) = lane.calls
+
+-- the calls of a lane: those handed in stand before those that were added
+abbrev pub lane_calls : Setting → List Entry → ℕ → List Call
+lane_calls s past lane = calls_of (slice_get s.lanes lane) ++ added past lane
+
+-- a call by its number
+abbrev pub call_at : Setting → List Entry → ℕ → ℕ → Option Call
+call_at s past lane call = slice_get (lane_calls s past lane) call
+
+-- the call of a lane that hasn't ended and is the next to move; nothing where the lane has no call left
+abbrev pub current : Setting → List Entry → ℕ → Option Call
+current s past lane = call_at s past lane (ended past lane)
+
+-- ---- what a lane holds
+
+-- what the end of a call leaves: behind its Cancel what the cancelled call leaves, else what its plan leaves
+abbrev pub site_left : Option Call → Option ℕ → Site → Facts → List ℕ → Answers → Site
+site_left None cancel site facts places answers = site
+site_left (Some c) None site facts places answers = left_by (next c site facts places answers) site
+site_left (Some c) (Some lane) site facts places answers = cancelled c site facts places answers
+
+-- what a lane holds between its calls: what its last call left, and nothing in its slots once it was let go
+abbrev pub site_of : Setting → List Entry → ℕ → Site
+site_of s [] lane = fresh_site
+site_of s (entry.Event (End l c o) ∷ past) lane =
+    if l == lane then site_left (call_at s past lane c) (last_cancel past) (site_of s past lane) s.facts (own past lane c) (answer past) else site_of s past lane
+site_of s (entry.LetGo l ∷ past) lane = if l == lane then record { slots = fresh_site.slots; directory = (site_of s past lane).directory } else site_of s past lane
+site_of s (_ ∷ past) lane = site_of s past lane
+
+-- what a lane holds within a call that may not be there
+abbrev pub held_by : Option Call → List ℕ → Site → Site
+held_by None places site = site
+held_by (Some c) places site = given_up c places site
+
+-- what a lane holds now, within a call too
+abbrev pub held_site : Setting → List Entry → ℕ → Site
+held_site s past lane = held_by (current s past lane) (own past lane (ended past lane)) (site_of s past lane)
+
+-- ---- moves
+
+-- the next move of a call that may not be there
+abbrev pub move_at : Option Call → Site → Facts → List ℕ → Answers → Option Move
+move_at None site facts places answers = None
+move_at (Some c) site facts places answers = Some (next c site facts places answers)
+
+-- the next move of a lane; nothing where it has no call left
+abbrev pub move_of : Setting → List Entry → ℕ → Option Move
+move_of s past lane = move_at (current s past lane) (site_of s past lane) s.facts (own past lane (ended past lane)) (answer past)
+
+-- the move waits for a reply
+abbrev pub is_wait : Option Move → Bool
+is_wait (Some (Wait place)) = true
+is_wait (Some (Ask r)) = false
+is_wait (Some (Done o site)) = false
+is_wait None = false
+
+-- The lane's call waits for a reply here, or did so at an earlier place since it became the lane's call.
+abbrev pub has_waited : Setting → List Entry → ℕ → Bool
+has_waited s [] lane = is_wait (move_of s [] lane)
+has_waited s (entry.Event (End l c o) ∷ past) lane =
+    is_wait (move_of s (entry.Event (End l c o) ∷ past) lane) || (if l == lane then false else has_waited s past lane)
+has_waited s (e ∷ past) lane = is_wait (move_of s (e ∷ past) lane) || has_waited s past lane

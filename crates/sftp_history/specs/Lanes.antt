@@ -1,0 +1,32 @@
+-- Which lanes a session can be given: each call is within its ranges, and all together are few.
+use Rattle.std.specs.Prelude.{ℕ, ◌+◌, ◌^◌, Bool, ◌&&◌, List, nat_lt}
+use Rattle.std.specs.List.{list_all, sum_by}
+use Rattle.sftp_history.specs.declared.call.Call.{Call}
+use Rattle.sftp_history.specs.declared.call.Call.TheVariants as call
+use Rattle.sftp_history.specs.declared.call.Lane.{Lane}
+
+-- there are sixteen slots
+abbrev pub is_slot : ℕ → Bool
+is_slot slot = nat_lt slot 16
+
+-- the slots that a call names are there
+abbrev pub is_within : Call → Bool
+is_within (call.OpenFile slot flags path) = is_slot slot
+is_within (call.Read slot n) = is_slot slot
+is_within (call.Close slot) = is_slot slot
+
+-- what a call counts
+abbrev pub weight : Call → ℕ
+weight c = 2
+
+-- what a lane counts: itself and its calls
+abbrev pub lane_weight : Lane → ℕ
+lane_weight lane = 1 + sum_by weight lane.calls
+
+-- the greatest count, and one more
+abbrev pub weight_limit : ℕ
+weight_limit = 2 ^ 31
+
+-- each call is within its ranges, and the lanes count less than 2147483648
+abbrev pub are_ok : List Lane → Bool
+are_ok lanes = list_all (λ lane. list_all is_within lane.calls) lanes && nat_lt (sum_by lane_weight lanes) weight_limit

@@ -1,0 +1,125 @@
+-- Lines, words, and what single words spell.
+use Rattle.std.specs.Prelude.{ℕ, ◌+◌, ◌-◌, ◌*◌, ◌==◌, Bool, true, false, not, ◌&&◌, List, [], ◌∷◌, codes, Option, Some, None, Result, Ok, Err, nat_le, if◌then◌else◌}
+use Rattle.std.specs.Str.{bytes_eq}
+use Rattle.sftp_file.specs.declared.open_options.OpenOptions.{OpenOptions}
+use Rattle.sftp_file.specs.OpenOptions.{nothing_chosen}
+use Rattle.sftp_history.specs.declared.reason.Reason.{Reason}
+use Rattle.sftp_history.specs.declared.reason.Reason.TheVariants as reason
+
+-- ---- lines and words
+
+-- a byte in front of the first of some lists
+abbrev pub with_front : ℕ → List (List ℕ) → List (List ℕ)
+with_front b [] = (b ∷ []) ∷ []
+with_front b (line ∷ lines) = (b ∷ line) ∷ lines
+
+-- the lines, each ended by a line feed; a last one without it counts where it isn't empty
+abbrev pub lines_of : List ℕ → List (List ℕ)
+lines_of [] = []
+lines_of (b ∷ bytes) = if b == 10 then [] ∷ lines_of bytes else with_front b (lines_of bytes)
+
+-- the bytes begin with a byte of a word
+abbrev pub starts_word : List ℕ → Bool
+starts_word [] = false
+starts_word (b ∷ bytes) = not (b == 32)
+
+-- the words of a line, which are its runs of bytes other than the space
+abbrev pub words_of : List ℕ → List (List ℕ)
+words_of [] = []
+words_of (b ∷ bytes) =
+    if b == 32 then words_of bytes
+    else if starts_word bytes then with_front b (words_of bytes)
+    else (b ∷ []) ∷ words_of bytes
+
+-- the line begins with `#`
+abbrev pub is_comment : List ℕ → Bool
+is_comment [] = false
+is_comment (b ∷ bytes) = b == 35
+
+-- ---- numbers
+
+-- a decimal digit
+abbrev pub is_digit : ℕ → Bool
+is_digit b = nat_le 48 b && nat_le b 57
+
+-- decimal digits behind a number
+abbrev pub digits_behind : ℕ → List ℕ → Option ℕ
+digits_behind n [] = Some n
+digits_behind n (b ∷ bytes) = if is_digit b then digits_behind (n * 10 + (b - 48)) bytes else None
+
+-- one decimal digit or more
+abbrev pub number_of : List ℕ → Option ℕ
+number_of [] = None
+number_of (b ∷ bytes) = digits_behind 0 (b ∷ bytes)
+
+-- a number within a range, both ends included
+abbrev pub within : ℕ → ℕ → Option ℕ → Result ℕ Reason
+within least most None = Err reason.Number
+within least most (Some n) = if nat_le least n && nat_le n most then Ok n else Err reason.Range
+
+-- a number from `least` to `most`
+abbrev pub number_in : ℕ → ℕ → List ℕ → Result ℕ Reason
+number_in least most word = within least most (number_of word)
+
+-- ---- bytes
+
+-- the value of a hexadecimal digit of either case
+abbrev pub hex_digit : ℕ → Option ℕ
+hex_digit b =
+    if is_digit b then Some (b - 48)
+    else if nat_le 97 b && nat_le b 102 then Some (b - 87)
+    else if nat_le 65 b && nat_le b 70 then Some (b - 55)
+    else None
+
+-- a byte of two digits before others
+abbrev pub byte_before : Option ℕ → Option ℕ → Option (List ℕ) → Option (List ℕ)
+byte_before (Some high) (Some low) (Some bytes) = Some ((high * 16 + low) ∷ bytes)
+byte_before high low bytes = None
+
+-- pairs of hexadecimal digits
+abbrev pub hex_pairs : List ℕ → Option (List ℕ)
+hex_pairs [] = Some []
+hex_pairs (a ∷ []) = None
+hex_pairs (a ∷ b ∷ digits) = byte_before (hex_digit a) (hex_digit b) (hex_pairs digits)
+
+-- bytes that could be read, or the reason
+abbrev pub or_hex : Option (List ℕ) → Result (List ℕ) Reason
+or_hex None = Err reason.Hex
+or_hex (Some bytes) = Ok bytes
+
+-- `-` for no bytes, or pairs of digits
+abbrev pub bytes_in : List ℕ → Result (List ℕ) Reason
+bytes_in word = if bytes_eq word (codes "-") then Ok [] else or_hex (hex_pairs word)
+
+-- ---- open flags
+
+-- an option that was not chosen before
+abbrev pub once : Bool → OpenOptions → Option OpenOptions
+once true o = None
+once false o = Some o
+
+-- a letter that wasn't there before
+abbrev pub with_letter : ℕ → OpenOptions → Option OpenOptions
+with_letter b o =
+    if b == 114 then once o.read (record o { read = true })
+    else if b == 119 then once o.write (record o { write = true })
+    else if b == 97 then once o.append (record o { append = true })
+    else if b == 116 then once o.truncate (record o { truncate = true })
+    else if b == 99 then once o.create (record o { create = true })
+    else if b == 110 then once o.create_new (record o { create_new = true })
+    else None
+
+-- letters one after another
+abbrev pub with_letters : Option OpenOptions → List ℕ → Option OpenOptions
+with_letters None letters = None
+with_letters (Some o) [] = Some o
+with_letters (Some o) (b ∷ letters) = with_letters (with_letter b o) letters
+
+-- a word of a list, or the reason
+abbrev pub or_mode : {A : Type 0} → Option A → Result A Reason
+or_mode None = Err reason.Mode
+or_mode (Some x) = Ok x
+
+-- `-`, or the letters r, w, a, t, c and n, each at most once and in any order
+abbrev pub flags_in : List ℕ → Result OpenOptions Reason
+flags_in word = if bytes_eq word (codes "-") then Ok nothing_chosen else or_mode (with_letters (Some nothing_chosen) word)

@@ -1,0 +1,178 @@
+-- Worked whole runs.
+use Rattle.std.specs.Prelude.{ℕ, ◌-◌, ◌≡◌, ◌∷◌, List, [], codes, drop, true, false, refl}
+use Rattle.std.proofs.Common.{arith, inl, inr}
+use Rattle.ssh_encoding.specs.Writing.{uint32, string}
+use Rattle.sftp_model.specs.declared.outcome.Outcome.TheVariants as outcome
+use Rattle.sftp_model.specs.declared.reply.Reply.TheVariants as reply
+use Rattle.sftp_model.specs.Frames.{request_body, attributes}
+use Rattle.sftp_history.specs.declared.entry.Entry.{Entry}
+use Rattle.sftp_history.specs.declared.entry.Entry.TheVariants as entry
+use Rattle.sftp_history.specs.declared.turn.Turn.TheVariants as turn
+use Rattle.sftp_history.specs.Turns.{Stage}
+use Rattle.sftp_history.specs.Runs.{IsRun, TurnsTo, DrainsTo, round_of, at_first}
+use Rattle.sftp_history.specs.RowWords.{setting_with, submit, send, take, end, cancel, close, open_of, ok, granted, handle}
+use Rattle.sftp_history.specs.JournalRows.{s, was_closed, over}
+use Rattle.sftp_history.specs.LaneRows.{opens}
+use Rattle.sftp_history.specs.OverLaws.{runs_are_journals, runs_are_over}
+use Rattle.sftp_history.specs.declared.turn.Turn.{Turn}
+use Rattle.sftp_history.specs.Readings.{outcomes_below}
+
+-- ---- no calls
+
+pub run_of_nothing : IsRun (setting_with ([] ∷ [])) [] (entry.LetGo 0 ∷ [])
+run_of_nothing =
+    let end : Stage = record { past = entry.LetGo 0 ∷ []; begun = [] } in (
+      record { opened = []; turned = at_first []; ended = at_first []; let_go = end; drained = end },
+      (
+        record {
+          opens = refl;
+          turns = refl;
+          ends = (at_first [], (refl, (0, refl), refl));
+          lets_go = (at_first [], (refl, (refl, (entry.LetGo 0 ∷ [], ((inl refl, refl), refl)))));
+          drains = (0, refl);
+          answered = refl;
+        },
+        refl,
+      ),
+    )
+
+-- ---- a file is opened, read and closed: six rounds
+
+-- the journal after so many entries
+abbrev pub so_far : ℕ → List Entry
+so_far n = drop (13 - n) over
+
+abbrev pub at : ℕ → List ℕ → Stage
+at n begun = record { past = so_far n; begun = begun }
+
+pub round_1 : TurnsTo s (round_of 0) (at 0 []) (at 3 (0 ∷ []))
+unfolding request_body attributes string uint32
+round_1 =
+    (at 1 (0 ∷ []), ((refl, (0, ((omega arith, refl), (so_far 1, ((inl refl, refl), refl))))), (at 2 (0 ∷ []), ((refl, (so_far 2, ((inl refl, refl), refl))), (at 3 (0 ∷ []), ((refl, (0, (granted 7, ((0, ((refl, omega arith, refl), (refl, refl))), (so_far 3, ((inl refl, refl), refl)))))), refl))))))
+
+pub round_2 : TurnsTo s (round_of 0) (at 3 (0 ∷ [])) (at 4 [])
+unfolding request_body attributes string uint32
+round_2 =
+    (at 4 [], ((refl, (so_far 4, ((inl refl, refl), refl))), (at 4 [], (refl, (at 4 [], (refl, refl))))))
+
+pub round_3 : TurnsTo s (round_of 0) (at 4 []) (at 7 (0 ∷ []))
+unfolding request_body attributes string uint32
+round_3 =
+    (at 5 (0 ∷ []), ((refl, (1, ((omega arith, refl), (so_far 5, ((inl refl, refl), refl))))), (at 6 (0 ∷ []), ((refl, (so_far 6, ((inl refl, refl), refl))), (at 7 (0 ∷ []), ((refl, (1, (reply.Content (codes "hello"), ((1, ((refl, omega arith, refl), (refl, refl))), (so_far 7, ((inl refl, refl), refl)))))), refl))))))
+
+pub round_4 : TurnsTo s (round_of 0) (at 7 (0 ∷ [])) (at 8 [])
+unfolding request_body attributes string uint32
+round_4 =
+    (at 8 [], ((refl, (so_far 8, ((inl refl, refl), refl))), (at 8 [], (refl, (at 8 [], (refl, refl))))))
+
+pub round_5 : TurnsTo s (round_of 0) (at 8 []) (at 11 (0 ∷ []))
+unfolding request_body attributes string uint32
+round_5 =
+    (at 9 (0 ∷ []), ((refl, (0, ((omega arith, refl), (so_far 9, ((inl refl, refl), refl))))), (at 10 (0 ∷ []), ((refl, (so_far 10, ((inl refl, refl), refl))), (at 11 (0 ∷ []), ((refl, (0, (ok, ((2, ((refl, omega arith, refl), (refl, refl))), (so_far 11, ((inl refl, refl), refl)))))), refl))))))
+
+pub round_6 : TurnsTo s (round_of 0) (at 11 (0 ∷ [])) (at 12 [])
+unfolding request_body attributes string uint32
+round_6 =
+    (at 12 [], ((refl, (so_far 12, ((inl refl, refl), refl))), (at 12 [], (refl, (at 12 [], (refl, refl))))))
+
+pub run_of_three : IsRun s [] over
+run_of_three = (
+  record { opened = []; turned = at 0 []; ended = at 12 []; let_go = at 13 []; drained = at 13 [] },
+  (
+    record {
+      opens = refl;
+      turns = refl;
+      ends = (at 0 [], (refl, (6, ((λ e. absurd cc), (at 3 (0 ∷ []), (round_1, ((λ e. absurd cc), (at 4 [], (round_2, ((λ e. absurd cc), (at 7 (0 ∷ []), (round_3, ((λ e. absurd cc), (at 8 [], (round_4, ((λ e. absurd cc), (at 11 (0 ∷ []), (round_5, ((λ e. absurd cc), (at 12 [], (round_6, refl))))))))))))))))))), refl));
+      lets_go = (at 12 [], (refl, (refl, (so_far 13, ((inl refl, refl), refl)))));
+      drains = (0, refl);
+      answered = refl;
+    },
+    refl,
+  ),
+)
+
+pub outcomes_of_three : outcomes_below over 1 ≡ (outcome.Opened ∷ outcome.Bytes (codes "hello") ∷ outcome.Done ∷ []) ∷ []
+outcomes_of_three = refl
+
+-- ---- an open is cancelled: its HANDLE comes behind the letting go, and is closed
+
+abbrev pub cancelled_over : List Entry
+cancelled_over =
+    take 0 ok
+    ∷ send
+    ∷ close 0 (handle 7)
+    ∷ take 0 (granted 7)
+    ∷ entry.LetGo 0
+    ∷ end 0 0 outcome.Cancelled
+    ∷ cancel 0
+    ∷ send
+    ∷ submit 0 0 0 (open_of (codes "a"))
+    ∷ []
+
+abbrev pub cancelled_so_far : ℕ → List Entry
+cancelled_so_far n = drop (9 - n) cancelled_over
+
+abbrev pub cancelled_at : ℕ → List ℕ → Stage
+cancelled_at n begun = record { past = cancelled_so_far n; begun = begun }
+
+pub cancelled_turns : TurnsTo opens (turn.Step 0 ∷ turn.Flush ∷ turn.Cancel 0 ∷ []) (cancelled_at 0 []) (cancelled_at 4 [])
+unfolding request_body attributes string uint32
+cancelled_turns =
+    (cancelled_at 1 (0 ∷ []), ((refl, (0, ((omega arith, refl), (cancelled_so_far 1, ((inl refl, refl), refl))))), (cancelled_at 2 (0 ∷ []), ((refl, (cancelled_so_far 2, ((inl refl, refl), refl))), (cancelled_at 4 [], ((refl, (cancelled_so_far 4, ((inl refl, refl), refl))), refl))))))
+
+pub cancelled_drains : DrainsTo opens 2 (cancelled_at 5 []) (cancelled_at 9 [])
+unfolding request_body attributes string uint32
+cancelled_drains = (
+  omega arith,
+  (
+    cancelled_at 7 [],
+    (
+      (cancelled_at 5 [], (refl, (cancelled_at 7 [], ((refl, (0, (granted 7, ((0, ((refl, omega arith, refl), (refl, refl))), (cancelled_so_far 7, ((inr (((0, (refl, (0, ((omega arith, refl), refl))))), inl refl), refl), refl)))))), refl)))),
+      (omega arith, (cancelled_at 9 [], ((cancelled_at 8 [], ((refl, (cancelled_so_far 8, ((inl refl, refl), refl))), (cancelled_at 9 [], ((refl, (0, (ok, ((1, ((refl, omega arith, refl), (refl, refl))), (cancelled_so_far 9, ((inl refl, refl), refl)))))), refl)))), refl))),
+    ),
+  ),
+)
+
+pub run_of_cancelled : IsRun opens (turn.Step 0 ∷ turn.Flush ∷ turn.Cancel 0 ∷ []) cancelled_over
+unfolding request_body attributes string uint32
+run_of_cancelled = (
+  record { opened = []; turned = cancelled_at 4 []; ended = cancelled_at 4 []; let_go = cancelled_at 5 []; drained = cancelled_at 9 [] },
+  (
+    record {
+      opens = refl;
+      turns = cancelled_turns;
+      ends = (cancelled_at 4 [], (refl, (0, refl), refl));
+      lets_go = (cancelled_at 4 [], (refl, (refl, (cancelled_so_far 5, ((inl refl, refl), refl)))));
+      drains = (2, cancelled_drains);
+      answered = refl;
+    },
+    refl,
+  ),
+)
+
+-- ---- what is no whole run
+
+-- the lane's slot holds a grant that has no CLOSE
+abbrev pub without_close : List Entry
+without_close =
+    entry.LetGo 0
+    ∷ end 0 0 outcome.Opened
+    ∷ take 0 (granted 7)
+    ∷ send
+    ∷ submit 0 0 0 (open_of (codes "a"))
+    ∷ []
+
+pub run_without_close : (turns : List Turn) → IsRun opens turns without_close → ⊥
+run_without_close turns run = let e = (runs_are_over opens turns without_close run).1 in absurd cc
+
+-- the CLOSE was not sent
+pub run_without_send : (turns : List Turn) → IsRun opens turns (close 0 (handle 7) ∷ without_close) → ⊥
+run_without_send turns run = let e = (runs_are_over opens turns (close 0 (handle 7) ∷ without_close) run).2 in absurd cc
+
+-- a second CLOSE
+pub run_with_two_closes : (turns : List Turn) → IsRun opens turns (close 1 (handle 7) ∷ close 0 (handle 7) ∷ without_close) → ⊥
+run_with_two_closes turns run = (runs_are_journals opens turns (close 1 (handle 7) ∷ close 0 (handle 7) ∷ without_close) run).0
+
+-- the lane was not let go
+pub run_without_letting_go : (turns : List Turn) → IsRun s turns was_closed → ⊥
+run_without_letting_go turns run = let e : false ≡ true = (runs_are_over s turns was_closed run).0 0 (omega arith) in absurd cc

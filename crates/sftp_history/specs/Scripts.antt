@@ -1,0 +1,272 @@
+-- Which bytes read as a script, and which line of the others is the first that does not, and why.
+use Rattle.std.specs.Prelude.{ℕ, ◌+◌, ◌-◌, ◌^◌, ◌==◌, Bool, true, false, not, List, [], ◌∷◌, ◌++◌, length, codes, Some, None, Result, Ok, Err, is_some, nat_lt, if◌then◌else◌}
+use Rattle.std.specs.Int.RustNames.{bit_or}
+use Rattle.std.specs.List.{list_any}
+use Rattle.std.specs.Str.{bytes_eq}
+use Rattle.ssh_encoding.specs.Reading.{◌>>=◌}
+use Rattle.sftp_core.specs.declared.options.SftpOptions.{SftpOptions}
+use Rattle.sftp_core.specs.Options.{default_options}
+use Rattle.sftp_model.specs.declared.config.Limits.{Limits}
+use Rattle.sftp_model.specs.Readings.{has_bit}
+use Rattle.sftp_history.specs.declared.call.Call.{Call}
+use Rattle.sftp_history.specs.declared.call.Call.TheVariants as call
+use Rattle.sftp_history.specs.declared.call.Lane.{Lane}
+use Rattle.sftp_history.specs.declared.reason.Reason.{Reason}
+use Rattle.sftp_history.specs.declared.reason.Reason.TheVariants as reason
+use Rattle.sftp_history.specs.declared.script.Script.{Script}
+use Rattle.sftp_history.specs.declared.turn.Turn.{Turn}
+use Rattle.sftp_history.specs.declared.turn.Turn.TheVariants as turn
+use Rattle.sftp_history.specs.Lines.{lines_of, words_of, is_comment, number_in, bytes_in, flags_in}
+
+-- what was read so far: the script, and which options it names, by the order of their table
+pub record Draft : Type 0 where
+  pub script : Script
+  pub named : List ℕ
+
+-- what a script says without a line
+abbrev pub empty_script : Script
+empty_script =
+    record {
+      options = default_options;
+      server = record { extensions = record { 0 = 0 }; limits = None; cut = 0 };
+      files = [];
+      choices = [];
+      picks = [];
+      lanes = [];
+      turns = [];
+    }
+
+-- ---- the number of words
+
+-- a line of its first word alone
+abbrev pub no_word : {A : Type 0} → A → List (List ℕ) → Result A Reason
+no_word x [] = Ok x
+no_word x words = Err reason.Count
+
+-- a line of one word more
+abbrev pub one_word : {A : Type 0} → (List ℕ → Result A Reason) → List (List ℕ) → Result A Reason
+one_word f (a ∷ []) = f a
+one_word f words = Err reason.Count
+
+-- a line of two words more
+abbrev pub two_words : {A : Type 0} → (List ℕ → List ℕ → Result A Reason) → List (List ℕ) → Result A Reason
+two_words f (a ∷ b ∷ []) = f a b
+two_words f words = Err reason.Count
+
+-- a line of three words more
+abbrev pub three_words : {A : Type 0} → (List ℕ → List ℕ → List ℕ → Result A Reason) → List (List ℕ) → Result A Reason
+three_words f (a ∷ b ∷ c ∷ []) = f a b c
+three_words f words = Err reason.Count
+
+-- a line of four words more
+abbrev pub four_words : {A : Type 0} → (List ℕ → List ℕ → List ℕ → List ℕ → Result A Reason) → List (List ℕ) → Result A Reason
+four_words f (a ∷ b ∷ c ∷ d ∷ []) = f a b c d
+four_words f words = Err reason.Count
+
+-- what was said before is refused
+abbrev pub unless_said : {A : Type 0} → Bool → A → Result A Reason
+unless_said true x = Err reason.Repeat
+unless_said false x = Ok x
+
+-- the greatest number of 32 bits
+abbrev pub greatest_u32 : ℕ
+greatest_u32 = 2 ^ 32 - 1
+
+-- the greatest number of 64 bits
+abbrev pub greatest_u64 : ℕ
+greatest_u64 = 2 ^ 64 - 1
+
+-- ---- options
+
+-- other options, of which this one is named now
+abbrev pub with_options : Draft → ℕ → SftpOptions → Draft
+with_options d key options = record { script = record d.script { options = options }; named = key ∷ d.named }
+
+-- an option of the table, with its range
+abbrev pub option_in : Draft → ℕ → ℕ → ℕ → List ℕ → (ℕ → SftpOptions) → Result Draft Reason
+option_in d key least most word set = number_in least most word >>= λ n. unless_said (list_any (λ k. k == key) d.named) (with_options d key (set n))
+
+-- a line that sets an option
+abbrev pub option_line : Draft → List ℕ → List ℕ → Result Draft Reason
+option_line d name word =
+    if bytes_eq name (codes "max_pending_requests") then option_in d 0 1 65535 word (λ n. record d.script.options { max_pending_requests = n })
+    else if bytes_eq name (codes "requests_buffer_size") then option_in d 1 1 65536 word (λ n. record d.script.options { requests_buffer_size = n })
+    else if bytes_eq name (codes "responses_buffer_size") then option_in d 2 1 65536 word (λ n. record d.script.options { responses_buffer_size = n })
+    else if bytes_eq name (codes "tokio_compat_file_write_limit") then option_in d 3 1 16777216 word (λ n. record d.script.options { tokio_compat_file_write_limit = n })
+    else if bytes_eq name (codes "max_read_len") then option_in d 4 1 greatest_u32 word (λ n. record d.script.options { max_read_len = Some n })
+    else if bytes_eq name (codes "max_write_len") then option_in d 5 1 greatest_u32 word (λ n. record d.script.options { max_write_len = Some n })
+    else if bytes_eq name (codes "flush_interval") then option_in d 6 0 1000000 word (λ n. record d.script.options { flush_interval = n })
+    else Err reason.Mode
+
+-- ---- the server
+
+-- the bit of an extension that a script may name
+abbrev pub extension_in : List ℕ → Result ℕ Reason
+extension_in name =
+    if bytes_eq name (codes "posix-rename") then Ok 1
+    else if bytes_eq name (codes "hardlink") then Ok 2
+    else if bytes_eq name (codes "fsync") then Ok 4
+    else if bytes_eq name (codes "expand-path") then Ok 8
+    else if bytes_eq name (codes "copy-data") then Ok 16
+    else Err reason.Mode
+
+-- the server offers an extension more
+abbrev pub with_extension : Draft → ℕ → Draft
+with_extension d bit = record d { script = record d.script { server = record d.script.server { extensions = record { 0 = bit_or d.script.server.extensions.0 bit } } } }
+
+-- a line that names an extension
+abbrev pub ext_line : Draft → List ℕ → Result Draft Reason
+ext_line d name = extension_in name >>= λ bit. unless_said (has_bit d.script.server.extensions.0 bit) (with_extension d bit)
+
+-- the server tells these limits
+abbrev pub with_limits : Draft → Limits → Draft
+with_limits d limits = record d { script = record d.script { server = record d.script.server { limits = Some limits } } }
+
+-- a line of the four limits
+abbrev pub limits_line : Draft → List ℕ → List ℕ → List ℕ → List ℕ → Result Draft Reason
+limits_line d p r w h = do
+  packet ← number_in 0 greatest_u64 p
+  read ← number_in 0 greatest_u64 r
+  write ← number_in 0 greatest_u64 w
+  handles ← number_in 0 greatest_u64 h
+  unless_said (is_some d.script.server.limits) (with_limits d (record { packet_len = packet; read_len = read; write_len = write; open_handles = handles }))
+
+-- a cut of 0 can't be given, so that 0 says that none was
+abbrev pub cut_line : Draft → List ℕ → Result Draft Reason
+cut_line d word = number_in 1 greatest_u32 word >>= λ n. unless_said (not (d.script.server.cut == 0)) (record d { script = record d.script { server = record d.script.server { cut = n } } })
+
+-- a line on the server, by its second word
+abbrev pub server_line : Draft → List (List ℕ) → Result Draft Reason
+server_line d [] = Err reason.Count
+server_line d (kind ∷ words) =
+    if bytes_eq kind (codes "ext") then one_word (ext_line d) words
+    else if bytes_eq kind (codes "limits") then four_words (limits_line d) words
+    else if bytes_eq kind (codes "cut") then one_word (cut_line d) words
+    else Err reason.Mode
+
+-- ---- files, choices and picks
+
+-- a file has the name
+abbrev pub is_file : List (List ℕ × List ℕ) → List ℕ → Bool
+is_file files name = list_any (λ f. bytes_eq f.0 name) files
+
+-- a script is too short for files that are over the server's limits
+abbrev pub file_line : Draft → List ℕ → List ℕ → Result Draft Reason
+file_line d a b = do
+  name ← bytes_in a
+  content ← bytes_in b
+  unless_said (is_file d.script.files name) (record d { script = record d.script { files = d.script.files ++ (name, content) ∷ [] } })
+
+-- a request is not refused, by 0, or refused by a code of 2 or more
+abbrev pub refusal_in : List ℕ → Result ℕ Reason
+refusal_in word = number_in 0 greatest_u32 word >>= λ n. if n == 1 then Err reason.Range else Ok n
+
+-- a line of a choice
+abbrev pub choice_line : Draft → List ℕ → List ℕ → Result Draft Reason
+choice_line d a b = do
+  refuse ← refusal_in a
+  cap ← number_in 0 greatest_u32 b
+  Ok (record d { script = record d.script { choices = d.script.choices ++ record { refuse = refuse; cap = cap } ∷ [] } })
+
+-- a line of a pick
+abbrev pub pick_line : Draft → List ℕ → Result Draft Reason
+pick_line d word = number_in 0 greatest_u32 word >>= λ n. Ok (record d { script = record d.script { picks = d.script.picks ++ n ∷ [] } })
+
+-- ---- lanes, calls and turns
+
+-- a lane more
+abbrev pub with_lane : Draft → Draft
+with_lane d = record d { script = record d.script { lanes = d.script.lanes ++ record { calls = [] } ∷ [] } }
+
+-- a call at the end of the last lane
+abbrev pub call_at_end : List Lane → Call → List Lane
+call_at_end [] c = []
+call_at_end (lane ∷ []) c = record { calls = lane.calls ++ c ∷ [] } ∷ []
+call_at_end (lane ∷ next ∷ lanes) c = lane ∷ call_at_end (next ∷ lanes) c
+
+-- a call more in the last lane
+abbrev pub with_call : Draft → Call → Draft
+with_call d c = record d { script = record d.script { lanes = call_at_end d.script.lanes c } }
+
+-- a turn more
+abbrev pub with_turn : Draft → Turn → Draft
+with_turn d t = record d { script = record d.script { turns = d.script.turns ++ t ∷ [] } }
+
+-- the number of a slot
+abbrev pub slot_in : List ℕ → Result ℕ Reason
+slot_in word = number_in 0 15 word
+
+-- the words of `open`
+abbrev pub open_call : List ℕ → List ℕ → List ℕ → Result Call Reason
+open_call a b c = do
+  slot ← slot_in a
+  flags ← flags_in b
+  path ← bytes_in c
+  Ok (call.OpenFile slot flags path)
+
+-- the words of `read`
+abbrev pub read_call : List ℕ → List ℕ → Result Call Reason
+read_call a b = do
+  slot ← slot_in a
+  n ← number_in 0 greatest_u32 b
+  Ok (call.Read slot n)
+
+-- the word of `close`
+abbrev pub close_call : List ℕ → Result Call Reason
+close_call a = slot_in a >>= λ slot. Ok (call.Close slot)
+
+-- a call belongs to the lane begun last
+abbrev pub in_lane : Draft → List Lane → Result Call Reason → Result Draft Reason
+in_lane d [] read = Err reason.Lane
+in_lane d (lane ∷ lanes) read = read >>= λ c. Ok (with_call d c)
+
+-- a turn of a lane, which need not be there
+abbrev pub lane_turn : Draft → (ℕ → Turn) → List ℕ → Result Draft Reason
+lane_turn d of_lane word = number_in 0 greatest_u32 word >>= λ n. Ok (with_turn d (of_lane n))
+
+-- ---- lines
+
+-- a line by its first word and the words behind it
+abbrev pub line_by : Draft → List ℕ → List (List ℕ) → Result Draft Reason
+line_by d word words =
+    if bytes_eq word (codes "option") then two_words (option_line d) words
+    else if bytes_eq word (codes "server") then server_line d words
+    else if bytes_eq word (codes "file") then two_words (file_line d) words
+    else if bytes_eq word (codes "choice") then two_words (choice_line d) words
+    else if bytes_eq word (codes "pick") then one_word (pick_line d) words
+    else if bytes_eq word (codes "lane") then no_word (with_lane d) words
+    else if bytes_eq word (codes "step") then one_word (lane_turn d (λ n. turn.Step n)) words
+    else if bytes_eq word (codes "cancel") then one_word (lane_turn d (λ n. turn.Cancel n)) words
+    else if bytes_eq word (codes "flush") then no_word (with_turn d turn.Flush) words
+    else if bytes_eq word (codes "take") then no_word (with_turn d turn.Take) words
+    else if bytes_eq word (codes "open") then in_lane d d.script.lanes (three_words open_call words)
+    else if bytes_eq word (codes "read") then in_lane d d.script.lanes (two_words read_call words)
+    else if bytes_eq word (codes "close") then in_lane d d.script.lanes (one_word close_call words)
+    else Err reason.Word
+
+-- a line by its words
+abbrev pub line_of : Draft → List (List ℕ) → Result Draft Reason
+line_of d [] = Ok d
+line_of d (word ∷ words) = line_by d word words
+
+-- a line without words is passed over, and so is one that begins with `#`
+abbrev pub read_line : Draft → List ℕ → Result Draft Reason
+read_line d line = if is_comment line then Ok d else line_of d (words_of line)
+
+-- the lines behind a line, or why it is refused
+abbrev pub go_on : ℕ → Result Draft Reason → (Draft → Result Script (ℕ × Reason)) → Result Script (ℕ × Reason)
+go_on n (Err why) rest = Err (n, why)
+go_on n (Ok d) rest = rest d
+
+-- lines of which the first has the number n
+abbrev pub read_lines : ℕ → Draft → List (List ℕ) → Result Script (ℕ × Reason)
+read_lines n d [] = Ok d.script
+read_lines n d (line ∷ lines) = go_on n (read_line d line) (λ more. read_lines (n + 1) more lines)
+
+-- the most bytes of a script
+abbrev pub script_limit : ℕ
+script_limit = 16777216
+
+-- the script that bytes read as, or the number of the first line that is refused, counted from 1, and why
+abbrev pub script_of : List ℕ → Result Script (ℕ × Reason)
+script_of bytes = if nat_lt script_limit (length bytes) then Err (0, reason.Size) else read_lines 1 (record { script = empty_script; named = [] }) (lines_of bytes)

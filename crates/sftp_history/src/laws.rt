@@ -1,0 +1,52 @@
+// Laws of the definitions. The functions do nothing: what they ensure holds of all values.
+ghost use Rattle.std.specs.Prelude.{◌≡◌, ◌≢◌, ◌<◌, ℕ, List, [], ◌∷◌, Some, None};
+ghost use Rattle.sftp_model.specs.declared.reply.Reply.{Reply};
+ghost use Rattle.sftp_history.specs.declared.entry.Entry.{Entry};
+ghost use Rattle.sftp_history.specs.declared.entry.Entry.TheVariants as entry;
+ghost use Rattle.sftp_history.specs.declared.event.Event.TheVariants.{Take};
+ghost use Rattle.sftp_history.specs.Readings.{Asked, answer, asked_at, bearer};
+ghost use Rattle.sftp_history.specs.Calls.{Setting, current};
+ghost use Rattle.sftp_history.specs.Ids.{id_state, Reads};
+ghost use Rattle.sftp_history.specs.Journals.{IsJournal, IsOver, MayTake};
+ghost use Rattle.sftp_history.specs.LetGoLaws.{IsSettled};
+ghost use Rattle.sftp_history.specs.Grants.{orphan};
+ghost use Rattle.sftp_history.specs.Runs.{IsRun};
+ghost use Rattle.sftp_history.specs.Turns.{Stage, ClosesTo};
+ghost use Rattle.sftp_history.specs.declared.turn.Turn.{Turn};
+
+/// A reply that was taken stays, whatever is taken behind it.
+pub fn replies_stay()
+    ensures { (past : List Entry) (id : ℕ) (r q : Reply) (place : ℕ) → MayTake past id r
+        → answer past place ≡ Some q → answer (entry.Event (Take id r) ∷ past) place ≡ Some q }
+{}
+
+/// No two ids name one request. In a run so far an unanswered request is the last that bears its id, and so no
+/// other unanswered one bears it.
+pub fn ids_name_requests()
+    ensures one_id { (past : List Entry) (i j place : ℕ) → bearer past i ≡ Some place
+        → bearer past j ≡ Some place → i ≡ j }
+    ensures borne { (s : Setting) (past : List Entry) (place : ℕ) (a : Asked) → IsJournal s past
+        → asked_at past place ≡ Some a → answer past place ≡ None → bearer past a.id ≡ Some place }
+    ensures apart { (s : Setting) (past : List Entry) (p q : ℕ) (a b : Asked) → IsJournal s past
+        → asked_at past p ≡ Some a → answer past p ≡ None → asked_at past q ≡ Some b
+        → answer past q ≡ None → a.id ≡ b.id → p ≡ q }
+{}
+
+/// What the recursion over a journal says of an id is what the journal's readings say.
+pub fn ids_are_read()
+    ensures { (past : List Entry) (id : ℕ) → Reads past id (id_state past id) }
+{}
+
+/// A whole run is a run so far, and behind it each lane was let go, nothing is to be closed and nothing is
+/// unanswered.
+pub fn runs_are_journals()
+    ensures so_far { (s : Setting) (turns : List Turn) (past : List Entry) → IsRun s turns past → IsJournal s past }
+    ensures over { (s : Setting) (turns : List Turn) (past : List Entry) → IsRun s turns past → IsOver s past }
+{}
+
+/// Where a lane was let go and its grants are closed in the order of its slots, no grant at all is to be closed.
+pub fn letting_go_settles()
+    ensures { (s : Setting) (past now : List Entry) (lane : ℕ) → IsSettled s past
+        → current s past lane ≡ None → ClosesTo s (entry.LetGo lane ∷ past) now → orphan s now ≡ None
+        → IsSettled s now }
+{}

@@ -1,0 +1,24 @@
+use crate::call::Lane;
+use crate::turn::Turn;
+use sftp_core::SftpOptions;
+use sftp_model::{Choice, ServerConfig};
+use sftp_values::{ByteText, Items};
+
+/// What a script asks for: a client, a server of files in memory, and how they are to go on.
+#[derive(Debug, Drop)]
+pub struct Script {
+    /// How the session is run.
+    pub options: SftpOptions,
+    /// What the server offers.
+    pub server: ServerConfig,
+    /// The server's files: the name of each and its content.
+    pub files: Items<(ByteText, ByteText)>,
+    /// What the server does with the requests, in the order in which it gets them.
+    pub choices: Items<Choice>,
+    /// Which of the waiting replies the server gives, for one reply after another.
+    pub picks: Items<u32>,
+    /// The lanes, from number 0 on.
+    pub lanes: Items<Lane>,
+    /// The turns before the closing rounds.
+    pub turns: Items<Turn>,
+}

@@ -1,0 +1,14 @@
+-- When a run over a link may answer an error.
+use Rattle.std.specs.Prelude.{◌≡◌, ◌<◌, ℕ, Bool, true, Result, Err}
+use Rattle.sftp_model.specs.declared.error.Error.{Error}
+use Rattle.sftp_model.specs.declared.error.Error.TheVariants.{LinkFault, LinkEnded}
+
+-- a fault of the link only where its count rose, and any other answer leaves it
+abbrev pub Cause : {T : Type 0} → ℕ → ℕ → Result T Error → Type 0
+Cause before now (Err LinkFault) = before < now
+Cause before now other = now ≡ before
+
+-- the end only where the link's last call found it
+abbrev pub EndCause : {T : Type 0} → Bool → Result T Error → Type 0
+EndCause ended (Err LinkEnded) = ended ≡ true
+EndCause ended other = Unit {0}
