@@ -1,0 +1,5 @@
+pub mod Numbering
+pub mod Handles
+pub mod Choices
+pub mod Whole
+pub mod Short

@@ -1,0 +1,288 @@
+// The file machine as a link in memory.
+ghost use Rattle.std.specs.Prelude.{◌≡◌, ◌≤◌, ◌<◌, ◌^◌, ◌∷◌, ◌++◌, ◌+◌, ◌-◌, [], None, Some, length, reverse, IfOk, OnOk, OnErr, is_some, false, true, drop, min, take, vec_len, vec_capacity};
+ghost use Rattle.std.specs.Option.{option_map};
+ghost use Rattle.sftp_link.specs.Causes.{Cause};
+ghost use Rattle.sftp_link.specs.Script.{limited as limited_by};
+ghost use Rattle.sftp_link.specs.Told.{IsEnd, Receives, Sends};
+ghost use Rattle.sftp_map_server.specs.Order.{file_at};
+ghost use Rattle.sftp_map_server.specs.Serving.{Absorbs, Gives, IsServing, server_of, opened, first_desk};
+ghost use Rattle.sftp_model.specs.Frames.{body_limit};
+ghost use Rattle.sftp_wire.specs.FrameReader.{told_len as told_len_of, fault_of, missing as missing_of};
+ghost use Rattle.ssh_encoding.specs.Writing.{string};
+
+use crate::desk::Desk;
+use crate::machine::Machine;
+use sftp_link::{DeviceError, Link, LinkIn, LinkOut, LinkState, Piece};
+use sftp_model::{Choice, ServerConfig};
+use sftp_values::{ByteText, Items};
+use ssh_encoding::OutOfMemory;
+use std::alloc::Global;
+use std::marker::Model;
+
+// The greatest length of a body.
+const BODY_LIMIT: u32 = 1_048_575;
+
+/// A server of files in memory, as a link without faults. It answers each frame as soon as it has
+/// come whole, in order; its handles are those of a [`Machine`].
+#[derive(Drop)]
+pub struct MapServer {
+    alloc: Global,
+    desk: Desk,
+    log: Vec<Piece>,
+    input: Vec<u8>,
+    output: Vec<u8>,
+    ended: bool,
+}
+
+impl Model for MapServer {
+    ghost use Rattle.std.specs.Prelude.{reverse};
+    ghost use Rattle.sftp_map_server.specs.Serving.{Serving, IsServing, server_of};
+
+    ghost Value = { Serving };
+
+    ghost view = { λ s. record {
+      first = s.desk.first;
+      now = server_of s.desk.now s.input.items s.output.items;
+      log = reverse s.log.items;
+      ended = s.ended;
+    } };
+
+    ghost invariant = { λ s. IsServing s.desk.first
+        (server_of s.desk.now s.input.items s.output.items) (reverse s.log.items) s.ended };
+}
+
+/// The length that the first four bytes tell.
+fn told_len(bytes: &[u8]) -> u32
+    requires { 4 ≤ length bytes.now }
+    ensures { result ≡ told_len_of bytes.now }
+{
+    u32::from_be_bytes([bytes[0], bytes[1], bytes[2], bytes[3]])
+}
+
+/// How many bytes are missing to the end of the length, or of the body.
+fn missing(input: &[u8]) -> usize
+    ensures { result ≡ missing_of input.now }
+{
+    if input.len() < 4 {
+        return 4 - input.len();
+    }
+    (4 + told_len(input) as usize).saturating_sub(input.len())
+}
+
+/// Whether the length is 0 or too great.
+fn is_bad(input: &[u8]) -> bool
+    ensures { result ≡ is_some (fault_of input.now) }
+{
+    if input.len() < 4 {
+        return false;
+    }
+    let len = told_len(input);
+    len == 0 || len > BODY_LIMIT
+}
+
+/// The body of a frame of which just all has come.
+fn body_of(input: &[u8]) -> &[u8]
+    requires length { 4 ≤ length input.now }
+    requires whole { length input.now ≡ 4 + told_len_of input.now }
+    ensures body { result.now ≡ drop 4 input.now }
+    ensures spelled { input.now ≡ string result.now }
+{
+    let (_, body) = input.split_at(4);
+    body
+}
+
+/// At most as many as the cut; 0 is no limit.
+fn limited(cut: u32, n: usize) -> usize
+    ensures { result ≡ limited_by cut n }
+{
+    if cut == 0 { n } else { n.min(cut as usize) }
+}
+
+/// Adds a piece to a log that has room for it.
+fn add_piece(log: &mut Vec<Piece>, piece: Piece)
+    requires { vec_len log.old < vec_capacity log.old }
+    ensures { log.new.items ≡ log.old.items ++ piece ∷ [] }
+{
+    log.push(piece).unwrap();
+}
+
+/// Takes bytes, at most to the end of the next frame, and answers the frame where it is whole then.
+/// Or nothing is done.
+fn absorb(
+    desk: &mut Desk,
+    input: &mut Vec<u8>,
+    output: &mut Vec<u8>,
+    bytes: &[u8],
+) -> Result<(), OutOfMemory>
+    requires part { 0 < missing_of input.old.items }
+    requires within { desk.old.now.over ≡ false → length bytes.now ≤ missing_of input.old.items }
+    ensures first { desk.new.first ≡ desk.old.first }
+    ensures absorbs { OnOk result (Absorbs
+        (server_of desk.old.now input.old.items output.old.items) bytes.now
+        (server_of desk.new.now input.new.items output.new.items)) }
+    ensures desk { OnErr result (desk.new ≡ desk.old) }
+    ensures input { OnErr result (input.new.items ≡ input.old.items) }
+    ensures output { OnErr result (output.new.items ≡ output.old.items) }
+{
+    if desk.is_over() {
+        input.clear();
+        return Ok(());
+    }
+    let before = input.len();
+    input.extend_from_slice(bytes)?;
+    if is_bad(input) {
+        desk.end();
+        input.clear();
+        return Ok(());
+    }
+    if missing(input) > 0 {
+        return Ok(());
+    }
+    if desk.answer(body_of(input), output).is_err() {
+        input.truncate(before);
+        return Err(OutOfMemory);
+    }
+    input.clear();
+    Ok(())
+}
+
+impl MapServer {
+    /// A server of these files, each a name and its bytes, whose k-th request takes the k-th
+    /// choice. Refused only for want of memory.
+    pub fn new(
+        alloc: Global,
+        files: &[(ByteText, ByteText)],
+        config: ServerConfig,
+        choices: Items<Choice>,
+    ) -> Result<MapServer, OutOfMemory>
+        requires { length files.now < 2 ^ 32 }
+        ensures { IfOk result (λ s. s ≡ record {
+          first = first_desk files.now config choices;
+          now = opened (first_desk files.now config choices);
+          log = [];
+          ended = false;
+        }) }
+    {
+        let machine = Machine::new(alloc, files, config)?;
+        Ok(MapServer {
+            alloc,
+            desk: Desk::new(alloc, machine, choices),
+            log: Vec::new(alloc),
+            input: Vec::new(alloc),
+            output: Vec::new(alloc),
+            ended: false,
+        })
+    }
+
+    /// How many files have a name.
+    pub fn file_count(&self) -> u64
+        ensures { result ≡ length self.now.now.desk.granting.machine.names }
+    {
+        self.desk.machine().file_count()
+    }
+
+    /// The name and the bytes of file `k`, counted from 0 in the order of the names by bytes.
+    pub fn file(&self, k: u64) -> Option<(&[u8], &[u8])>
+        ensures { option_map (λ f. (f.0.now, f.1.now)) result
+            ≡ file_at self.now.now.desk.granting.machine k }
+    {
+        self.desk.machine().file(k)
+    }
+
+    /// Whether its last call met the end. What it keeps: its log is that of a server from its first
+    /// state on.
+    pub fn is_ended(&self) -> bool
+        ensures ended { result ≡ self.now.ended }
+        ensures serving { IsServing self.now.first self.now.now self.now.log self.now.ended }
+    {
+        self.ended
+    }
+}
+
+/// How many bytes are taken next: at most to the end of the next frame's length or body.
+fn wanted(is_over: bool, input: &[u8], most: usize) -> usize
+    requires some { 0 < most }
+    requires part { 0 < missing_of input.now }
+    ensures some { 0 < result }
+    ensures within { result ≤ most }
+    ensures part { is_over ≡ false → result ≤ missing_of input.now }
+{
+    if is_over {
+        most
+    } else {
+        most.min(missing(input))
+    }
+}
+
+impl LinkState for MapServer {
+    ghost use Rattle.std.specs.Prelude.{Some};
+    ghost use Rattle.sftp_map_server.specs.Serving.{Desk as FirstDesk};
+
+    ghost log = { λ s. Some s.log };
+
+    ghost faults = { λ s. 0 };
+
+    ghost ended = { λ s. s.ended };
+
+    ghost Service = { FirstDesk };
+
+    ghost service = { λ s. s.first };
+}
+
+impl LinkOut for MapServer {
+    /// Takes the first bytes up to the cut, and at most to the end of the next frame's length or
+    /// body; a frame that is whole then is answered. Where the link is over, bytes are dropped.
+    fn send(&mut self, bytes: &[u8]) -> Result<usize, DeviceError>
+        requires some { 0 < length bytes.now }
+        ensures within { IfOk result (λ n. (0 < n) × (n ≤ length bytes.now)) }
+        ensures log { Sends (Some self.old.log) (Some self.new.log) bytes.now result }
+        ensures end { self.new.ended ≡ false }
+        ensures cause { Cause 0 0 result }
+        ensures same { self.new.first ≡ self.old.first }
+        ensures cut { IfOk result
+            (λ n. n ≤ limited_by self.old.now.desk.granting.config.cut (length bytes.now)) }
+        ensures absorbs { IfOk result (λ n. Absorbs self.old.now (take n bytes.now) self.new.now) }
+        ensures kept { OnErr result (self.new.now ≡ self.old.now) }
+    {
+        self.ended = false;
+        let most = limited(self.desk.cut(), bytes.len());
+        let n = wanted(self.desk.is_over(), &self.input, most);
+        let front = Vec::from_slice(self.alloc, &bytes[..n])?;
+        self.log.reserve(1)?;
+        if absorb(&mut self.desk, &mut self.input, &mut self.output, &front).is_err() {
+            return Err(DeviceError::OutOfMemory);
+        }
+        add_piece(&mut self.log, Piece::Sent(ByteText::new(front)));
+        Ok(n)
+    }
+}
+
+impl LinkIn for MapServer {
+    /// Gives the first bytes of the answers, up to the cut and the room; where none waits, the end.
+    fn recv(&mut self, room: &mut [u8]) -> Result<usize, DeviceError>
+        requires some { 0 < length room.old }
+        ensures within { IfOk result (λ n. n ≤ length room.new) }
+        ensures log { Receives (Some self.old.log) (Some self.new.log) room.new result }
+        ensures end { IsEnd self.new.ended result }
+        ensures cause { Cause 0 0 result }
+        ensures same { self.new.first ≡ self.old.first }
+        ensures cut { IfOk result (λ n. n ≡ min
+            (limited_by self.old.now.desk.granting.config.cut (length room.old))
+            (length self.old.now.output)) }
+        ensures gives { IfOk result (λ n. Gives self.old.now (take n room.new) self.new.now) }
+        ensures kept { OnErr result (self.new.now ≡ self.old.now) }
+    {
+        self.ended = false;
+        let n = limited(self.desk.cut(), room.len()).min(self.output.len());
+        let piece = Vec::from_slice(self.alloc, &self.output[..n])?;
+        let rest = Vec::from_slice(self.alloc, &self.output[n..])?;
+        self.log.reserve(1)?;
+        room[..n].copy_from_slice(&piece);
+        add_piece(&mut self.log, Piece::Got(ByteText::new(piece)));
+        self.output = rest;
+        self.ended = n == 0;
+        Ok(n)
+    }
+}
+
+impl Link for MapServer {}
