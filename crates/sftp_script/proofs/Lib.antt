@@ -1,0 +1,9 @@
+pub mod Splits
+pub mod Numbers
+pub mod Letters
+pub mod Pairs
+pub mod Ends
+pub mod Counts
+pub mod Fields
+pub mod InLanes
+pub mod Steps

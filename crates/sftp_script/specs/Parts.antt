@@ -1,0 +1,24 @@
+-- Parts of lines.
+use Rattle.std.specs.Prelude.{ℕ, List, [], ◌∷◌, ◌++◌, Result, Ok}
+use Rattle.ssh_encoding.specs.Reading.{◌>>=◌}
+use Rattle.sftp_model.specs.declared.config.Limits.{Limits}
+use Rattle.sftp_history.specs.declared.reason.Reason.{Reason}
+use Rattle.sftp_history.specs.Lines.{number_in}
+use Rattle.sftp_history.specs.Scripts.{Draft, greatest_u64}
+
+-- the cut that a script tells
+abbrev pub with_cut : Draft → ℕ → Draft
+with_cut d n = record d { script = record d.script { server = record d.script.server { cut = n } } }
+
+-- a file more
+abbrev pub with_file : Draft → List ℕ → List ℕ → Draft
+with_file d name content = record d { script = record d.script { files = d.script.files ++ (name, content) ∷ [] } }
+
+-- the four limits
+abbrev pub limits_of : List ℕ → List ℕ → List ℕ → List ℕ → Result Limits Reason
+limits_of p r w h = do
+  packet ← number_in 0 greatest_u64 p
+  read ← number_in 0 greatest_u64 r
+  write ← number_in 0 greatest_u64 w
+  handles ← number_in 0 greatest_u64 h
+  Ok (record { packet_len = packet; read_len = read; write_len = write; open_handles = handles })

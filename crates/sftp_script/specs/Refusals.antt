@@ -1,0 +1,23 @@
+-- What an error says of the reading that it stands for.
+use Rattle.std.specs.Prelude.{ℕ, ◌≡◌, ⊤, Result, Err}
+use Rattle.sftp_history.specs.declared.reason.Reason.{Reason}
+use Rattle.sftp_history.specs.declared.script.Script.{Script}
+use Rattle.sftp_script.specs.declared.error.LineError.{LineError}
+use Rattle.sftp_script.specs.declared.error.LineError.TheVariants as line
+use Rattle.sftp_script.specs.declared.error.ScriptError.{ScriptError}
+use Rattle.sftp_script.specs.declared.error.ScriptError.TheVariants as script
+
+-- want of memory may come at any reading; a reason is the reading's
+abbrev pub Refuses : {A : Type 0} → Result A Reason → LineError → Type 0
+Refuses reading line.OutOfMemory = ⊤
+Refuses reading (line.Refused why) = reading ≡ Err why
+
+-- the same of a whole script, where a line's number stands beside the reason
+abbrev pub RefusesScript : Result Script (ℕ × Reason) → ScriptError → Type 0
+RefusesScript reading script.OutOfMemory = ⊤
+RefusesScript reading (script.Line n why) = reading ≡ Err (n, why)
+
+-- an error of the line that has this number
+abbrev pub at_line : ℕ → LineError → ScriptError
+at_line n line.OutOfMemory = script.OutOfMemory
+at_line n (line.Refused why) = script.Line n why

@@ -1,0 +1,236 @@
+// A script of which some lines are read.
+ghost use Rattle.std.specs.Prelude.{◌≡◌, ◌++◌, ◌∷◌, ◌≤◌, ◌==◌, [], not, Some, Ok, is_some, ◌≢◌, Err, OnOk, IfErr, MatchResult, MatchBool};
+ghost use Rattle.std.specs.List.{list_any};
+ghost use Rattle.std.specs.Int.RustNames.{bit_or};
+ghost use Rattle.sftp_model.specs.Readings.{has_bit};
+ghost use Rattle.sftp_history.specs.Scripts.{empty_script, with_options, unless_said, is_file, with_lane, with_turn, call_at_end, with_call, with_extension, with_limits};
+ghost use Rattle.sftp_script.specs.Parts.{with_cut, with_file};
+ghost use Rattle.sftp_script.specs.Refusals.{Refuses};
+
+use crate::error::LineError;
+use bitflags::Flags;
+use sftp_core::SftpOptions;
+use sftp_history::{Call, Lane, Reason, Script, Turn};
+use sftp_model::{Choice, Extensions, Limits, ServerConfig};
+use sftp_values::{ByteText, Items};
+use ssh_encoding::OutOfMemory;
+use std::alloc::Global;
+use std::marker::Model;
+
+/// What was read so far, and which options were named, by the order of their table and the last one first.
+#[derive(Drop)]
+pub struct Draft {
+    options: SftpOptions,
+    server: ServerConfig,
+    files: Vec<(ByteText, ByteText)>,
+    choices: Vec<Choice>,
+    picks: Vec<u32>,
+    lanes: Vec<Lane>,
+    turns: Vec<Turn>,
+    named: Vec<u8>,
+}
+
+impl Model for Draft {
+    ghost use Rattle.sftp_history.specs.Scripts.{Draft};
+
+    ghost Value = { Draft };
+
+    ghost view = { λ d. record {
+      script = record {
+        options = d.options;
+        server = d.server;
+        files = d.files.items;
+        choices = d.choices.items;
+        picks = d.picks.items;
+        lanes = d.lanes.items;
+        turns = d.turns.items;
+      };
+      named = d.named.items;
+    } };
+}
+
+impl Draft {
+    /// Nothing read.
+    pub(crate) fn new(alloc: Global) -> Draft
+        ensures { result ≡ record { script = empty_script; named = [] } }
+    {
+        Draft {
+            options: SftpOptions::new(),
+            server: ServerConfig {
+                extensions: Extensions::from_bits_retain(0),
+                limits: None,
+                cut: 0,
+            },
+            files: Vec::new(alloc),
+            choices: Vec::new(alloc),
+            picks: Vec::new(alloc),
+            lanes: Vec::new(alloc),
+            turns: Vec::new(alloc),
+            named: Vec::new(alloc),
+        }
+    }
+
+    /// The script that was read.
+    pub(crate) fn into_script(self) -> Script
+        ensures { result ≡ self.script }
+    {
+        Script {
+            options: self.options,
+            server: self.server,
+            files: Items::new(self.files),
+            choices: Items::new(self.choices),
+            picks: Items::new(self.picks),
+            lanes: Items::new(self.lanes),
+            turns: Items::new(self.turns),
+        }
+    }
+
+    /// The options so far.
+    pub(crate) fn options(&self) -> SftpOptions
+        ensures { result ≡ self.now.script.options }
+    {
+        self.options
+    }
+
+    /// Other options, of which one is named now.
+    pub(crate) fn set_options(&mut self, key: u8, options: SftpOptions) -> Result<(), LineError>
+        ensures ok { OnOk result (unless_said (list_any (λ k. k == key) self.old.named) (with_options self.old key options) ≡ Ok self.new) }
+        ensures refused { IfErr result (λ e. Refuses (unless_said (list_any (λ k. k == key) self.old.named) (with_options self.old key options)) e) }
+    {
+        if is_named(self.named.as_slice(), key) {
+            return Err(LineError::Refused(Reason::Repeat));
+        }
+        self.named.insert(0, key)?;
+        self.options = options;
+        Ok(())
+    }
+
+    /// One extension more, by its bit.
+    pub(crate) fn add_extension(&mut self, bit: u32) -> Result<(), Reason>
+        ensures { MatchResult result
+            (λ _. unless_said (has_bit self.old.script.server.extensions.0 bit) (with_extension self.old bit) ≡ Ok self.new)
+            (λ e. unless_said (has_bit self.old.script.server.extensions.0 bit) (with_extension self.old bit) ≡ Err e) }
+    {
+        let bits = self.server.extensions.bits();
+        if bits & bit != 0 {
+            return Err(Reason::Repeat);
+        }
+        self.server.extensions = Extensions::from_bits_retain(bits | bit);
+        Ok(())
+    }
+
+    /// The limits, which weren't told before.
+    pub(crate) fn set_limits(&mut self, limits: Limits) -> Result<(), Reason>
+        ensures { MatchResult result
+            (λ _. unless_said (is_some self.old.script.server.limits) (with_limits self.old limits) ≡ Ok self.new)
+            (λ e. unless_said (is_some self.old.script.server.limits) (with_limits self.old limits) ≡ Err e) }
+    {
+        if self.server.limits.is_some() {
+            return Err(Reason::Repeat);
+        }
+        self.server.limits = Some(limits);
+        Ok(())
+    }
+
+    /// The cut, which wasn't told before.
+    pub(crate) fn set_cut(&mut self, cut: u32) -> Result<(), Reason>
+        ensures { MatchResult result
+            (λ _. unless_said (not (self.old.script.server.cut == 0)) (with_cut self.old cut) ≡ Ok self.new)
+            (λ e. unless_said (not (self.old.script.server.cut == 0)) (with_cut self.old cut) ≡ Err e) }
+    {
+        if self.server.cut != 0 {
+            return Err(Reason::Repeat);
+        }
+        self.server.cut = cut;
+        Ok(())
+    }
+
+    /// One file more, whose name no other file has.
+    pub(crate) fn add_file(&mut self, name: ByteText, content: ByteText) -> Result<(), LineError>
+        ensures ok { OnOk result (unless_said (is_file self.old.script.files name) (with_file self.old name content) ≡ Ok self.new) }
+        ensures refused { IfErr result (λ e. Refuses (unless_said (is_file self.old.script.files name) (with_file self.old name content)) e) }
+    {
+        if is_file(self.files.as_slice(), name.as_slice()) {
+            return Err(LineError::Refused(Reason::Repeat));
+        }
+        self.files.push((name, content))?;
+        Ok(())
+    }
+
+    /// One choice more.
+    pub(crate) fn add_choice(&mut self, choice: Choice) -> Result<(), OutOfMemory>
+        ensures { OnOk result (self.new ≡ record self.old { script = record self.old.script { choices = self.old.script.choices ++ choice ∷ [] } }) }
+    {
+        self.choices.push(choice)?;
+        Ok(())
+    }
+
+    /// One pick more.
+    pub(crate) fn add_pick(&mut self, pick: u32) -> Result<(), OutOfMemory>
+        ensures { OnOk result (self.new ≡ record self.old { script = record self.old.script { picks = self.old.script.picks ++ pick ∷ [] } }) }
+    {
+        self.picks.push(pick)?;
+        Ok(())
+    }
+
+    /// One lane more, without a call.
+    pub(crate) fn add_lane(&mut self, alloc: Global) -> Result<(), OutOfMemory>
+        ensures { OnOk result (self.new ≡ with_lane self.old) }
+    {
+        self.lanes.push(Lane {
+            calls: Items::new(Vec::new(alloc)),
+        })?;
+        Ok(())
+    }
+
+    /// One turn more.
+    pub(crate) fn add_turn(&mut self, turn: Turn) -> Result<(), OutOfMemory>
+        ensures { OnOk result (self.new ≡ with_turn self.old turn) }
+    {
+        self.turns.push(turn)?;
+        Ok(())
+    }
+
+    /// Whether no lane is begun.
+    pub(crate) fn has_no_lane(&self) -> bool
+        ensures { MatchBool result (self.now.script.lanes ≡ []) (self.now.script.lanes ≢ []) }
+    {
+        self.lanes.is_empty()
+    }
+
+    /// One call more at the end of the last lane.
+    pub(crate) fn add_call(&mut self, call: Call) -> Result<(), OutOfMemory>
+        ensures { OnOk result (self.new ≡ with_call self.old call) }
+    {
+        push_call(&mut self.lanes, call)
+    }
+}
+
+/// Whether an option is among those that were named.
+fn is_named(named: &[u8], key: u8) -> bool
+    ensures { result ≡ list_any (λ k. k == key) named.now }
+{
+    named.iter().any(|k| *k == key)
+}
+
+/// Whether a file has the name.
+fn is_file(files: &[(ByteText, ByteText)], name: &[u8]) -> bool
+    ensures { result ≡ is_file files.now name.now }
+{
+    files.iter().any(|file| file.0.as_slice() == name)
+}
+
+/// One call more at the end of the last lane, where there is a lane.
+#[tactic(auto, using(crate::proofs::Ends::at_end))]
+fn push_call(lanes: &mut Vec<Lane>, call: Call) -> Result<(), OutOfMemory>
+    ensures { OnOk result (lanes.new.items ≡ call_at_end lanes.old.items call) }
+{
+    if let Some(lane) = lanes.pop() {
+        let mut calls = lane.calls.into_vec();
+        calls.push(call)?;
+        lanes.push(Lane {
+            calls: Items::new(calls),
+        })?;
+    }
+    Ok(())
+}
