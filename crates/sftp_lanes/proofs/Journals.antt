@@ -1,6 +1,6 @@
 -- How journals go on, part by part.
 use Rattle.std.proofs.Common.{◌≡◌, ◌≢◌, ◌<◌, ◌≤◌, ◌+◌, ◌-◌, ℕ, zero, suc, Bool, true, false, cond, List, [], ◌∷◌, add-one, ◌==◌, Option, Some, None, refl, ap, sym, ◌∙◌, subst, arith, inl, inr}
-use Rattle.std.specs.Prelude.{nat_lt, nat_le, is_none, MatchBool, slice_get, if◌then◌else◌}
+use Rattle.std.specs.Prelude.{nat_lt, nat_le, is_none, MatchBool, slice_get, length, if◌then◌else◌}
 use Rattle.std.proofs.lemmas.Bool.Decides.{nat_tests}
 use Rattle.sftp_model.specs.declared.slot.Move.{Move}
 use Rattle.sftp_model.specs.declared.slot.Move.TheVariants.{Ask, Wait, Done}
@@ -16,7 +16,7 @@ use Rattle.sftp_history.specs.Journals.{cancelled_end}
 use Rattle.sftp_history.specs.Turns.{Stage, ClosesTo, SendsTo, RulesTo, SettlesTo, FlushesBy, is_full}
 use Rattle.sftp_history.specs.Grants.{orphan}
 use Rattle.sftp_lanes.specs.declared.session.Stepped.{Stepped}
-use Rattle.sftp_lanes.specs.Session.{IsLater, IsSteady, GoesOn, StepsTo, Cancels, Takes, HandsOut, Flushed}
+use Rattle.sftp_lanes.specs.Session.{IsLater, IsSteady, GoesOn, StepsTo, Cancels, Takes, HandsOut, LetsGo, Flushed}
 
 -- ---- later
 
@@ -182,6 +182,13 @@ flush_awaits s before now f some = by_test (nat_lt (sent before.past) (asked bef
         subst (λ (w : Stage). 0 < awaited w.past) (sym same) (omega (arith, more, some))
 
 -- ---- a lane is let go
+
+is_below : (lane n : ℕ) → lane < n → nat_lt lane n ≡ true
+is_below lane n there = grind (arith, nat_tests)
+
+pub lets_go : (s : Setting) (lane : ℕ) (before now : Stage) → LetsGo s lane before now → lane < length s.lanes → (now.begun ≡ before.begun) × SettlesTo s (entry.LetGo lane ∷ before.past) now.past
+lets_go s lane before now t there =
+    subst (λ (b : Bool). MatchBool b ((now.begun ≡ before.begun) × SettlesTo s (entry.LetGo lane ∷ before.past) now.past) (now ≡ before)) (is_below lane (length s.lanes) there) t
 
 let_go_steady : (s : Setting) (lane : ℕ) (before mid now : List Entry) → SettlesTo s (entry.LetGo lane ∷ before) mid → IsSteady s mid now → IsSteady s (entry.LetGo lane ∷ before) now
 let_go_steady s lane before mid now t steady = steady_on s (entry.LetGo lane ∷ before) mid now (closes_steady s (entry.LetGo lane ∷ before) mid t.0) steady

@@ -1,5 +1,5 @@
 -- What a session that runs lanes promises of each of its calls, in the words of its journal.
-use Rattle.std.specs.Prelude.{◌≡◌, ◌≢◌, ◌<◌, ◌≤◌, ◌⊎◌, ℕ, Bool, true, false, ◌&&◌, List, [], ◌∷◌, Option, Some, None, Result, Ok, nat_lt, is_some, MatchBool}
+use Rattle.std.specs.Prelude.{◌≡◌, ◌≢◌, ◌<◌, ◌≤◌, ◌⊎◌, ℕ, Bool, true, false, ◌&&◌, List, [], ◌∷◌, Option, Some, None, Result, Ok, nat_lt, is_some, length, MatchBool}
 use Rattle.sftp_core.specs.declared.options.SftpOptions.{SftpOptions}
 use Rattle.sftp_model.specs.declared.flags.Extensions.{Extensions}
 use Rattle.sftp_model.specs.declared.frame_error.FrameError.{FrameError}
@@ -105,6 +105,11 @@ Cancels s lane before now event =
     ((event ≡ true) × (now.begun ≡ begun_but before.begun lane)
     × SettlesTo s (cancelled_end (entry.Event (Cancel lane) ∷ before.past) lane ∷ entry.Event (Cancel lane) ∷ before.past) now.past)
     ((event ≡ false) × (now ≡ before))
+
+-- a lane that is there is let go, and the CLOSEs that are due then
+abbrev pub LetsGo : Setting → ℕ → Stage → Stage → Type 0
+LetsGo s lane before now =
+    MatchBool (nat_lt lane (length s.lanes)) ((now.begun ≡ before.begun) × SettlesTo s (entry.LetGo lane ∷ before.past) now.past) (now ≡ before)
 
 -- a body is a reply that may be taken, it is taken, and the CLOSEs that are due then
 abbrev pub Takes : Setting → Result (Option ℕ × Reply) FrameError → Stage → Stage → Type 0

@@ -159,7 +159,7 @@ impl RunsLanes for NoLanes {
     }
 
     fn let_go(&mut self, _lane: u32) -> Result<(), OutOfMemory> {
-        unreachable!()
+        Ok(())
     }
 
     fn hand_out(&mut self) -> Result<Option<Chunk>, OutOfMemory> {

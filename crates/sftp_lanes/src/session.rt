@@ -9,7 +9,7 @@ ghost use Rattle.sftp_history.specs.Shown.{hello_frame};
 ghost use Rattle.sftp_history.specs.Turns.{Stage, SettlesTo, is_full};
 ghost use Rattle.sftp_history.specs.declared.entry.Entry.TheVariants as entry;
 ghost use Rattle.sftp_history.specs.declared.event.Event.TheVariants.{Send};
-ghost use Rattle.sftp_lanes.specs.Session.{Given, IsLater, Greets, Tells, IsFixed, StepsTo, Cancels, Takes, HandsOut, is_event, LessBy, at_rest};
+ghost use Rattle.sftp_lanes.specs.Session.{Given, IsLater, Greets, Tells, IsFixed, StepsTo, Cancels, Takes, HandsOut, LetsGo, is_event, LessBy, at_rest};
 ghost use Rattle.sftp_lanes.specs.declared.session.Phase.{Phase};
 ghost use Rattle.sftp_core.specs.Take.{IsFirst};
 ghost use Rattle.sftp_lanes.specs.Refusals.{refuses, refuses_hello};
@@ -131,14 +131,12 @@ pub trait RunsLanes {
         ensures version { version self.new ≡ version self.old }
         ensures same { setting self.new ≡ setting self.old };
 
-    /// Lets go of all that the slots of a lane hold. Refused for want of memory.
+    /// Lets go of all that the slots of a lane hold, where the lane is there. Refused for want of memory.
     fn let_go(&mut self, lane: u32) -> Result<(), OutOfMemory>
         requires open { phase self.old ≡ Phase.Open }
-        requires there { lane < length (setting self.old).lanes }
         requires done { current (setting self.old) (stage self.old).past lane ≡ None }
         requires holds { was_let_go (stage self.old).past lane ≡ false }
-        ensures ok { OnOk result (SettlesTo (setting self.old) (entry.LetGo lane ∷ (stage self.old).past) (stage self.new).past) }
-        ensures begun { OnOk result ((stage self.new).begun ≡ (stage self.old).begun) }
+        ensures ok { OnOk result (LetsGo (setting self.old) lane (stage self.old) (stage self.new)) }
         ensures later { OnOk result (IsLater (setting self.old) (stage self.old).past (stage self.new).past) }
         ensures phase { OnOk result (phase self.new ≡ phase self.old) }
         ensures version { version self.new ≡ version self.old }

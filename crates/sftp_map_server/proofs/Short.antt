@@ -18,7 +18,8 @@ use Rattle.sftp_model.specs.FileMachine.{Machine, at_key, status, bytes_of_file,
 use Rattle.sftp_model.specs.Fits.{FitsReply}
 use Rattle.sftp_model.specs.Frames.{body_limit, extension_pair, extension_pairs, extension_table, limits_content, reply_body}
 use Rattle.sftp_model.specs.Lengths.{greatest_len}
-use Rattle.sftp_map_server.specs.Serving.{limits_reply, told_bits, version_reply}
+use Rattle.sftp_history.specs.Served.{limits_reply}
+use Rattle.sftp_map_server.specs.Serving.{told_bits, version_reply}
 use Rattle.sftp_map_server.specs.Granting.{Granting, all_handles, gives_within, handle_of, next, served}
 
 -- what the machine may say

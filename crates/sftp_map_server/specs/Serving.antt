@@ -17,6 +17,7 @@ use Rattle.sftp_model.specs.FileMachine.{status}
 use Rattle.sftp_model.specs.Frames.{body_limit, reply_frame, limits_content}
 use Rattle.sftp_model.specs.RequestReadings.{request_at}
 use Rattle.sftp_wire.specs.FrameReader.{fault_of, missing}
+use Rattle.sftp_history.specs.Served.{first_choice, limits_reply}
 use Rattle.sftp_map_server.specs.Granting.{Granting, gives_within, machine_of, next}
 
 -- ---- one request
@@ -28,11 +29,6 @@ pub record Desk : Type 0 where
   pub greeted : Bool
   pub over : Bool
 
--- the choice for the next request; behind the last, nothing is refused and nothing capped
-abbrev pub first_choice : List Choice → Choice
-first_choice [] = record { refuse = 0; cap = 0 }
-first_choice (c ∷ choices) = c
-
 -- the extensions that VERSION tells, as bits: `limits` exactly where there are some
 abbrev pub told_bits : ℕ → Option Limits → ℕ
 told_bits bits None = bit_and bits 31
@@ -41,11 +37,6 @@ told_bits bits (Some limits) = bit_or bits 32
 -- the answer to the hello
 abbrev pub version_reply : ServerConfig → Reply
 version_reply config = reply.Version 3 (record { 0 = told_bits config.extensions.0 config.limits })
-
--- the answer to the query for limits (OpenSSH's PROTOCOL, section 4.8)
-abbrev pub limits_reply : Option Limits → Reply
-limits_reply None = status 8
-limits_reply (Some limits) = reply.Extended (limits_content limits)
 
 abbrev pub is_hello : Request → Bool
 is_hello (request.Init version) = true

@@ -4,7 +4,8 @@ ghost use Rattle.std.specs.Result.{result_ok};
 ghost use Rattle.sftp_model.specs.Frames.{body_limit, reply_body, reply_frame};
 ghost use Rattle.sftp_model.specs.RequestReadings.{request_at};
 ghost use Rattle.sftp_map_server.specs.Granting.{gives_within as gives_within_by};
-ghost use Rattle.sftp_map_server.specs.Serving.{desks_of, first_choice, version_reply, limits_reply, is_hello as is_hello_by, is_query as is_query_by, id_of as id_by, over_at, greet, serve, respond, spent, step};
+ghost use Rattle.sftp_history.specs.Served.{first_choice, limits_reply};
+ghost use Rattle.sftp_map_server.specs.Serving.{desks_of, version_reply, is_hello as is_hello_by, is_query as is_query_by, id_of as id_by, over_at, greet, serve, respond, spent, step};
 
 use crate::machine::{Machine, capped};
 use bitflags::Flags;
@@ -31,7 +32,8 @@ pub(crate) struct Desk {
 
 impl Model for Desk {
     ghost use Rattle.std.specs.Prelude.{◌≤◌, length};
-    ghost use Rattle.sftp_map_server.specs.Serving.{Desks, desks_of};
+    ghost use Rattle.sftp_history.specs.Served.{first_choice, limits_reply};
+ghost use Rattle.sftp_map_server.specs.Serving.{Desks, desks_of};
 
     ghost Value = { Desks };
 

@@ -5,7 +5,8 @@ ghost use Rattle.sftp_model.specs.FileMachine.{at_key, without_key, after_read, 
 ghost use Rattle.sftp_model.specs.Answers.{MayAnswer};
 ghost use Rattle.sftp_model.specs.Fits.{FitsReply};
 ghost use Rattle.sftp_map_server.specs.Granting.{Granting, IsGranting, machine_of, next, next_open, next_close, granted, with_handles, handle_of as bytes_of_handle, all_handles, gives_within};
-ghost use Rattle.sftp_map_server.specs.Order.{file_at, sorted};
+ghost use Rattle.sftp_map_server.specs.Order.{file_at};
+ghost use Rattle.sftp_history.specs.Texts.{sorted};
 ghost use Rattle.sftp_map_server.specs.Serving.{fresh};
 
 use crate::names::{contents_of, file_of, names_of, sorted_copies};
@@ -37,7 +38,7 @@ pub struct Machine {
 impl Model for Machine {
     ghost use Rattle.std.specs.Prelude.{◌≡◌};
     ghost use Rattle.sftp_map_server.specs.Granting.{Granting, IsGranting};
-    ghost use Rattle.sftp_map_server.specs.Order.{sorted};
+    ghost use Rattle.sftp_history.specs.Texts.{sorted};
 
     ghost Value = { Granting };
 
