@@ -32,7 +32,6 @@ pub(crate) struct Desk {
 
 impl Model for Desk {
     ghost use Rattle.std.specs.Prelude.{◌≤◌, length};
-    ghost use Rattle.sftp_history.specs.Served.{first_choice, limits_reply};
     ghost use Rattle.sftp_map_server.specs.Serving.{Desks, desks_of};
 
     ghost Value = { Desks };
