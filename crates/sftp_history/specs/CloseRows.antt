@@ -141,17 +141,17 @@ abbrev pub hasty_at : ℕ → List ℕ → Stage
 hasty_at n begun = record { past = drop (3 - n) hasty_over; begun = begun }
 
 -- the second step sends both
-pub two_steps_send : TurnsTo hasty (turn.Step 0 ∷ turn.Step 1 ∷ turn.Flush ∷ []) (hasty_at 0 []) (hasty_at 3 (1 ∷ 0 ∷ []))
+pub two_steps_send : TurnsTo hasty (turn.Step 0 ∷ turn.Step 1 ∷ turn.Flush ∷ []) (hasty_at 0 []) (hasty_at 3 (0 ∷ 1 ∷ []))
 unfolding request_body attributes string uint32
 two_steps_send = (
   hasty_at 1 (0 ∷ []),
   (
     (refl, (0, ((omega arith, refl), ((hasty_at 1 []).past, ((inl refl, refl), refl))))),
     (
-      hasty_at 3 (1 ∷ 0 ∷ []),
+      hasty_at 3 (0 ∷ 1 ∷ []),
       (
         (refl, (1, ((omega arith, refl), ((hasty_at 2 []).past, ((inl refl, refl), refl))))),
-        (hasty_at 3 (1 ∷ 0 ∷ []), (refl, refl)),
+        (hasty_at 3 (0 ∷ 1 ∷ []), (refl, refl)),
       ),
     ),
   ),

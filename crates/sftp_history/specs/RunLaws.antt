@@ -21,7 +21,7 @@ use Rattle.sftp_history.specs.Readings.{asked, sent, answer, bearer, is_at, is_b
 use Rattle.sftp_history.specs.Calls.{Setting, current, move_of, is_wait, has_waited}
 use Rattle.sftp_history.specs.Grants.{letting_go, orphan_at, orphan, closed}
 use Rattle.sftp_history.specs.Journals.{IsJournal, IsNext, MayTake, IsFree, close_of, is_opened, opened, is_some_place, may_cancel, cancelled_end}
-use Rattle.sftp_history.specs.Turns.{Stage, TurnTo, MovesBy, RulesTo, ClosesTo, SendsTo, is_full, is_begun, begun_but}
+use Rattle.sftp_history.specs.Turns.{Stage, TurnTo, MovesBy, RulesTo, ClosesTo, SendsTo, is_full, is_begun, begun_with, begun_but}
 use Rattle.sftp_history.specs.CallLaws.{may_next, due_next, cancelled_next, own_submit}
 use Rattle.sftp_history.specs.LetGoLaws.{IsSettled, closes_leave}
 
@@ -166,8 +166,21 @@ rules_good s first now begun g letting to =
 
 -- ---- turns
 
-begun_more : (l lane : ℕ) (lanes : List ℕ) (P : Type 0) → (l ≡ lane → P) → (list_any (λ x. x == lane) lanes ≡ true → P) → list_any (λ x. x == lane) (l ∷ lanes) ≡ true → P
-begun_more l lane lanes P here there e = elim (eqb_tells l lane) [ inl t ↦ here t.1 | inr t ↦ there (rw t.0 at e) ]
+last_more : (lanes : List ℕ) (l lane : ℕ) (P : Type 0) → (l ≡ lane → P) → (list_any (λ x. x == lane) lanes ≡ true → P) → list_any (λ x. x == lane) (lanes ++ l ∷ []) ≡ true → P
+last_more [] l lane P here there e = elim (eqb_tells l lane) [ inl t ↦ here t.1 | inr t ↦ there (rw t.0 at e) ]
+last_more (x ∷ lanes) l lane P here there e =
+    elim (eqb_tells x lane) [
+      | inl t ↦ there (left_true (x == lane) (list_any (λ y. y == lane) lanes) t.0)
+      | inr t ↦ last_more lanes l lane P here (λ old. there (or_true (x == lane) (list_any (λ y. y == lane) lanes) old)) (rw t.0 at e)
+    ]
+
+more_by : (l lane : ℕ) (lanes : List ℕ) (b : Bool) (P : Type 0) → (l ≡ lane → P) → (list_any (λ x. x == lane) lanes ≡ true → P) → list_any (λ x. x == lane) (if b then lanes else lanes ++ l ∷ []) ≡ true → P
+more_by l lane lanes true P here there e = there e
+more_by l lane lanes false P here there e = last_more lanes l lane P here there e
+
+-- a lane that is begun after a step of one is that one, or was begun before
+begun_more : (l lane : ℕ) (lanes : List ℕ) (P : Type 0) → (l ≡ lane → P) → (list_any (λ x. x == lane) lanes ≡ true → P) → list_any (λ x. x == lane) (begun_with lanes l) ≡ true → P
+begun_more l lane lanes P here there e = more_by l lane lanes (list_any (λ x. x == l) lanes) P here there e
 
 -- a lane that is begun after another one's end was begun before
 but_by : (x l lane : ℕ) (b : Bool) (lanes : List ℕ) → (x == l) ≡ b → (list_any (λ y. y == lane) (begun_but lanes l) ≡ true → (l ≢ lane) × (list_any (λ y. y == lane) lanes ≡ true))
@@ -190,7 +203,7 @@ same_good : (s : Setting) (before now : Stage) → now ≡ before → GoodStage 
 same_good s before now e g = subst (GoodStage s) (sym e) g
 
 submit_good : (s : Setting) (past : List Entry) (begun : List ℕ) (lane id : ℕ) (r : Request) → Good s past begun → Still s past → move_of s past lane ≡ Some (Ask r) → IsFree past id
-    → Good s (entry.Event (Submit (owner.Call lane (ended past lane)) id r) ∷ past) (lane ∷ begun)
+    → Good s (entry.Event (Submit (owner.Call lane (ended past lane)) id r) ∷ past) (begun_with begun lane)
 submit_good s past begun lane id r g h move free =
     let e : Entry = entry.Event (Submit (owner.Call lane (ended past lane)) id r) in
     let next : IsNext s past e = may_next s past e g.calm h.settled (refl, move, free, g.ready, g.unkept) in
@@ -234,7 +247,7 @@ moves_good s lane before now (Some (Wait place)) move g e =
       still = g.still;
     })
 moves_good s lane before now (Some (Ask r)) move g to =
-    stage_good s now (lane ∷ before.begun) to.0 (rules_good s (entry.Event (Submit (owner.Call lane (ended before.past lane)) to.1.0 r) ∷ before.past) now.past (lane ∷ before.begun)
+    stage_good s now (begun_with before.begun lane) to.0 (rules_good s (entry.Event (Submit (owner.Call lane (ended before.past lane)) to.1.0 r) ∷ before.past) now.past (begun_with before.begun lane)
     (submit_good s before.past before.begun lane to.1.0 r g.good g.still move to.1.1.0) refl to.1.1.1)
 moves_good s lane before now (Some (Done o site)) move g to =
     let e : Entry = entry.Event (End lane (ended before.past lane) o) in

@@ -1,5 +1,5 @@
 -- How a session's journal goes on under one turn of its schedule.
-use Rattle.std.specs.Prelude.{◌≡◌, ◌⊎◌, ◌-◌, ℕ, ◌==◌, Bool, not, ◌&&◌, List, [], ◌∷◌, Option, Some, None, nat_lt, is_some, filter, MatchBool}
+use Rattle.std.specs.Prelude.{◌≡◌, ◌⊎◌, ◌-◌, ℕ, ◌==◌, Bool, not, ◌&&◌, if◌then◌else◌, List, [], ◌∷◌, ◌++◌, Option, Some, None, nat_lt, is_some, filter, MatchBool}
 use Rattle.std.specs.List.{list_any}
 use Rattle.sftp_model.specs.declared.reply.Reply.{Reply}
 use Rattle.sftp_model.specs.declared.slot.Move.{Move}
@@ -49,6 +49,10 @@ pub record Stage : Type 0 where
 abbrev pub is_begun : Stage → ℕ → Bool
 is_begun at lane = list_any (λ l. l == lane) at.begun
 
+-- the lanes that were begun, and this one
+abbrev pub begun_with : List ℕ → ℕ → List ℕ
+begun_with lanes lane = if list_any (λ l. l == lane) lanes then lanes else lanes ++ lane ∷ []
+
 -- the lanes that were begun, but this one
 abbrev pub begun_but : List ℕ → ℕ → List ℕ
 begun_but lanes lane = filter (λ l. not (l == lane)) lanes
@@ -58,9 +62,9 @@ begun_but lanes lane = filter (λ l. not (l == lane)) lanes
 -- a lane makes its next move
 abbrev pub MovesBy : (List Entry → List Entry → Type 0) → ℕ → Stage → Stage → Option Move → Type 0
 MovesBy Follows lane before now None = now ≡ before
-MovesBy Follows lane before now (Some (Wait place)) = now ≡ record { past = before.past; begun = lane ∷ before.begun }
+MovesBy Follows lane before now (Some (Wait place)) = now ≡ record { past = before.past; begun = begun_with before.begun lane }
 MovesBy Follows lane before now (Some (Ask r)) =
-    (now.begun ≡ lane ∷ before.begun)
+    (now.begun ≡ begun_with before.begun lane)
     × ((id : ℕ) × (IsFree before.past id × Follows (entry.Event (Submit (owner.Call lane (ended before.past lane)) id r) ∷ before.past) now.past))
 MovesBy Follows lane before now (Some (Done o site)) =
     (now.begun ≡ begun_but before.begun lane) × Follows (entry.Event (End lane (ended before.past lane) o) ∷ before.past) now.past

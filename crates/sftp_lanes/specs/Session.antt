@@ -21,7 +21,7 @@ use Rattle.sftp_core.specs.Info.{offers_limits}
 use Rattle.sftp_history.specs.Grants.{orphan}
 use Rattle.sftp_history.specs.Journals.{IsNext, IsFree, MayTake, cancelled_end}
 use Rattle.sftp_history.specs.Runs.{Opens}
-use Rattle.sftp_history.specs.Turns.{Stage, SettlesTo, is_begun, begun_but}
+use Rattle.sftp_history.specs.Turns.{Stage, SettlesTo, is_begun, begun_with, begun_but}
 use Rattle.sftp_lanes.specs.declared.session.Phase.{Phase}
 use Rattle.sftp_lanes.specs.declared.session.Phase.TheVariants.{Asking, Open}
 use Rattle.sftp_lanes.specs.declared.session.Stepped.{Stepped}
@@ -90,9 +90,9 @@ pub record IsOpened (given : Given) (version : Option Reply) (past : List Entry)
 -- one step of a lane, what it was, and the CLOSEs that are due then
 abbrev pub StepsTo : Setting → ℕ → Stage → Stage → Option Move → Stepped → Type 0
 StepsTo s lane before now None event = (event ≡ stepped.Nothing) × (now ≡ before)
-StepsTo s lane before now (Some (Wait place)) event = (event ≡ stepped.Nothing) × (now ≡ record { past = before.past; begun = lane ∷ before.begun })
+StepsTo s lane before now (Some (Wait place)) event = (event ≡ stepped.Nothing) × (now ≡ record { past = before.past; begun = begun_with before.begun lane })
 StepsTo s lane before now (Some (Ask r)) event =
-    (event ≡ stepped.Submitted) × (now.begun ≡ lane ∷ before.begun)
+    (event ≡ stepped.Submitted) × (now.begun ≡ begun_with before.begun lane)
     × ((id : ℕ) × (IsFree before.past id × SettlesTo s (entry.Event (Submit (owner.Call lane (ended before.past lane)) id r) ∷ before.past) now.past))
 StepsTo s lane before now (Some (Done o site)) event =
     (event ≡ stepped.Ended) × (now.begun ≡ begun_but before.begun lane)
