@@ -2,6 +2,7 @@
 #![tactic(auto)]
 
 mod chunk;
+mod ended;
 mod errors;
 mod info;
 mod laws;
@@ -13,6 +14,7 @@ mod table;
 mod tokens;
 
 pub use chunk::Chunk;
+pub use ended::Ended;
 pub use errors::{SubmitError, TakeError};
 pub use info::{Info, lengths};
 pub use laws::{one_request_an_id, options_only_lower, takes_what_may_answer};

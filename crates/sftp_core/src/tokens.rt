@@ -1,4 +1,5 @@
-// What a core hands out and wants back: neither a ticket nor a grant can be made, copied or dropped elsewhere.
+// What a core hands out and wants back: neither a ticket nor a grant can be made or copied elsewhere, nor
+// dropped without the word that its core was given up.
 ghost use Rattle.std.specs.Prelude.{◌≡◌};
 
 use sftp_model::{Fault, Handle, Reply};

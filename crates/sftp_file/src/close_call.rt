@@ -8,7 +8,7 @@ ghost use Rattle.sftp_model.specs.Answers.{is_status};
 ghost use Rattle.sftp_model.specs.Plans.{Answers, close_next};
 ghost use Rattle.sftp_model.specs.Slots.{slot_at};
 ghost use Rattle.sftp_core.specs.Core.{at, reply_in};
-ghost use Rattle.sftp_file.specs.declared.stage.Stage.TheVariants.{Ended, Asked};
+ghost use Rattle.sftp_file.specs.declared.stage.Stage.TheVariants.{Asked};
 ghost use Rattle.sftp_file.specs.Planned.{Planned, close_ended};
 ghost use Rattle.sftp_file.specs.Poll.{OnReady, OnPending};
 ghost use Rattle.sftp_file.specs.Polls.{polled_answer, polled_stage, polled_core, close_answer};
@@ -16,11 +16,12 @@ ghost use Rattle.sftp_file.specs.Stages.{IsAwaited, IsHeld, KeepsGrants, cancell
 
 use crate::poll::Poll;
 use crate::stage::Stage;
-use sftp_core::{Core, Polled};
+use sftp_core::{Core, Ended, Polled};
 use sftp_model::{Error, Reply};
 use std::marker::Model;
 
-/// A close under way. It isn't droppable: `cancel` spends it, once it has answered too.
+/// A close under way. It isn't droppable: `cancel` spends it, once it has answered too,
+/// and `let_go` where its core was given up.
 #[must_use]
 pub struct CloseCall {
     pub(crate) stage: Stage,
@@ -45,7 +46,7 @@ impl CloseCall {
         ensures answer { result ≡ polled_answer tt close_answer core.old self.old }
         ensures stage { self.new ≡ polled_stage core.old self.old }
         ensures core { core.new ≡ polled_core core.old self.old }
-        ensures ended { OnReady result (self.new ≡ Ended) }
+        ensures ended { OnReady result (self.new ≡ Stage.Ended) }
         ensures pending { OnPending result ((self.new ≡ self.old) × (core.new ≡ core.old)) }
         ensures held { IsHeld core.new self.new }
         ensures grants { KeepsGrants core.old core.new }
@@ -92,6 +93,12 @@ impl CloseCall {
     {
         let CloseCall { stage } = self;
         stage.cancel(core);
+    }
+
+    /// Lets the close go where its core was given up.
+    pub fn let_go(self, core: Ended) {
+        let CloseCall { stage } = self;
+        stage.let_go(core);
     }
 }
 

@@ -18,12 +18,12 @@ ghost use Rattle.sftp_file.specs.Starts.{Started, staged, read_len_of, ClosesBy}
 use crate::close_call::CloseCall;
 use crate::read_call::ReadCall;
 use crate::stage::Stage;
-use sftp_core::{Core, Grant};
+use sftp_core::{Core, Ended, Grant};
 use sftp_model::{Error, IoKind, Request};
 use std::marker::Model;
 
 /// An open file of the server, with the offset at which the next read or write stands. It isn't droppable:
-/// `start_close` spends it.
+/// `start_close` spends it, and `let_go` where its core was given up.
 #[must_use]
 pub struct File {
     pub(crate) grant: Grant,
@@ -175,5 +175,16 @@ impl File {
                 stage: Stage::Ready,
             },
         }
+    }
+
+    /// Lets the file go where its core was given up. No CLOSE is sent.
+    pub fn let_go(self, core: Ended) {
+        let File {
+            grant,
+            readable: _,
+            writable: _,
+            offset: _,
+        } = self;
+        grant.let_go(core);
     }
 }

@@ -7,7 +7,7 @@ ghost use Rattle.sftp_model.specs.Answers.{is_status};
 ghost use Rattle.sftp_model.specs.Plans.{Answers, open_next};
 ghost use Rattle.sftp_model.specs.Readings.{has_bit};
 ghost use Rattle.sftp_core.specs.Core.{at, reply_in};
-ghost use Rattle.sftp_file.specs.declared.stage.Stage.TheVariants.{Ended, Asked};
+ghost use Rattle.sftp_file.specs.declared.stage.Stage.TheVariants.{Asked};
 ghost use Rattle.sftp_file.specs.Files.{IsFirstUser};
 ghost use Rattle.sftp_file.specs.Planned.{Planned, open_ended};
 ghost use Rattle.sftp_file.specs.Poll.{OnReady, OnPending, IfReady};
@@ -17,11 +17,12 @@ ghost use Rattle.sftp_file.specs.Stages.{IsAsked, IsHeld, KeepsGrants, cancelled
 use crate::file::File;
 use crate::poll::Poll;
 use crate::stage::Stage;
-use sftp_core::{Core, Polled};
+use sftp_core::{Core, Ended, Polled};
 use sftp_model::{Error, Reply};
 use std::marker::Model;
 
-/// An open under way. It isn't droppable: `cancel` spends it, once it has answered too.
+/// An open under way. It isn't droppable: `cancel` spends it, once it has answered too,
+/// and `let_go` where its core was given up.
 #[must_use]
 pub struct OpenCall {
     pub(crate) stage: Stage,
@@ -50,7 +51,7 @@ impl OpenCall {
         ensures answer { result ≡ polled_open core.old self.old self.old.stage }
         ensures stage { self.new ≡ record self.old { stage = polled_stage core.old self.old.stage } }
         ensures core { core.new ≡ polled_core core.old self.old.stage }
-        ensures ended { OnReady result (self.new.stage ≡ Ended) }
+        ensures ended { OnReady result (self.new.stage ≡ Stage.Ended) }
         ensures pending { OnPending result ((self.new ≡ self.old) × (core.new ≡ core.old)) }
         ensures held { IsHeld core.new self.new.stage }
         ensures grants { KeepsGrants core.old core.new }
@@ -109,6 +110,16 @@ impl OpenCall {
             writable: _,
         } = self;
         stage.cancel(core);
+    }
+
+    /// Lets the open go where its core was given up.
+    pub fn let_go(self, core: Ended) {
+        let OpenCall {
+            stage,
+            readable: _,
+            writable: _,
+        } = self;
+        stage.let_go(core);
     }
 }
 

@@ -6,7 +6,7 @@ ghost use Rattle.sftp_model.specs.declared.slot.Slot.TheVariants as slots;
 ghost use Rattle.sftp_model.specs.Plans.{Answers, read_next};
 ghost use Rattle.sftp_model.specs.Slots.{slot_at};
 ghost use Rattle.sftp_core.specs.Core.{at, reply_in};
-ghost use Rattle.sftp_file.specs.declared.stage.Stage.TheVariants.{Ended, Asked};
+ghost use Rattle.sftp_file.specs.declared.stage.Stage.TheVariants.{Asked};
 ghost use Rattle.sftp_file.specs.Files.{file_at};
 ghost use Rattle.sftp_file.specs.Planned.{Planned, read_ended};
 ghost use Rattle.sftp_file.specs.Poll.{OnReady, OnPending};
@@ -17,11 +17,12 @@ use crate::file::File;
 use crate::poll::Poll;
 use crate::stage::Stage;
 use bytes::Bytes;
-use sftp_core::{Core, Polled};
+use sftp_core::{Core, Ended, Polled};
 use sftp_model::{Error, Reply};
 use std::marker::Model;
 
-/// A read of a file under way. It isn't droppable: `cancel` spends it, once it has answered too.
+/// A read of a file under way. It isn't droppable: `cancel` spends it, once it has answered too,
+/// and `let_go` where its core was given up.
 #[must_use]
 pub struct ReadCall {
     pub(crate) stage: Stage,
@@ -61,7 +62,7 @@ impl ReadCall {
         ensures file { file.new ≡ polled_file core.old self.old.stage file.old }
         ensures rest { file.new ≡ record file.old { offset = file.new.offset } }
         ensures core { core.new ≡ polled_core core.old self.old.stage }
-        ensures ended { OnReady result (self.new.stage ≡ Ended) }
+        ensures ended { OnReady result (self.new.stage ≡ Stage.Ended) }
         ensures pending { OnPending result ((self.new ≡ self.old) × (core.new ≡ core.old)) }
         ensures held { IsHeld core.new self.new.stage }
         ensures grants { KeepsGrants core.old core.new }
@@ -113,6 +114,17 @@ impl ReadCall {
             len: _,
         } = self;
         stage.cancel(core);
+    }
+
+    /// Lets the read go where its core was given up.
+    pub fn let_go(self, core: Ended) {
+        let ReadCall {
+            stage,
+            grant: _,
+            offset: _,
+            len: _,
+        } = self;
+        stage.let_go(core);
     }
 }
 

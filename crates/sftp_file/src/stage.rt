@@ -9,7 +9,7 @@ ghost use Rattle.sftp_core.specs.Info.{info_of};
 ghost use Rattle.sftp_file.specs.Stages.{Keeps, KeepsGrants, IsAsked, IsHeld, cancelled, ticket_of, is_ended};
 ghost use Rattle.sftp_file.specs.Starts.{Started};
 
-use sftp_core::{Core, SubmitError, Ticket};
+use sftp_core::{Core, Ended, SubmitError, Ticket};
 use sftp_model::{Error, Request};
 use std::mem;
 
@@ -92,6 +92,15 @@ impl Stage {
             Stage::Ended => {}
             Stage::Ready => {}
             Stage::Asked(ticket) => core.abandon(ticket),
+        }
+    }
+
+    /// Lets the state of a call go whose core was given up.
+    pub(crate) fn let_go(self, core: Ended) {
+        match self {
+            Stage::Ended => {}
+            Stage::Ready => {}
+            Stage::Asked(ticket) => ticket.let_go(core),
         }
     }
 }

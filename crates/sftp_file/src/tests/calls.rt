@@ -5,7 +5,7 @@ ghost use Rattle.sftp_core.specs.Core.{IsGrant};
 use crate::tests::steps::*;
 use crate::*;
 use bytes::Bytes;
-use sftp_core::{Core, Fault};
+use sftp_core::{Core, Ended, Fault};
 use std::alloc::Global;
 use std::test::Fail;
 
@@ -193,6 +193,42 @@ fn clones(rt: HostRuntime) -> Result<(), Fail> {
         Some([Told::Closed, Told::Closed])
     );
     assert_eq!(rt; (core.kept(), core.queued()), (0, 0));
+    Ok(())
+}
+
+/// A file and a read of it under way.
+#[tactic(auto, using(crate::proofs::Steps::steps))]
+fn under_way(core: &mut Core, alloc: Global) -> Option<(File, Option<ReadCall>)> {
+    let mut file = opened(core, alloc)?;
+    if !is_ready(core) {
+        return Some((file, None));
+    }
+    match file.start_read(core, 8) {
+        Ok(call) => Some((file, Some(call))),
+        Err(_) => Some((file, None)),
+    }
+}
+
+/// Whether there was a file with a read under way. Both are let go.
+fn let_go(held: Option<(File, Option<ReadCall>)>, core: Ended) -> bool {
+    let Some((file, call)) = held else {
+        return false;
+    };
+    file.let_go(core);
+    match call {
+        Some(call) => {
+            call.let_go(core);
+            true
+        }
+        None => false,
+    }
+}
+
+#[test]
+fn given_up(rt: HostRuntime) -> Result<(), Fail> {
+    let mut core = greeted(rt.alloc())?;
+    let held = under_way(&mut core, rt.alloc());
+    assert!(rt; let_go(held, core.end()));
     Ok(())
 }
 
