@@ -45,6 +45,15 @@ count_some f (suc n) lt =
       | inr more ↦ (let h = count_some f n more in let small : h.0 < n = h.1.0 in (h.0, (omega arith, h.1.1)))
     ]
 
+-- where some test passes, the count isn't 0
+pub count_pos : (f : ℕ → Bool) (n k : ℕ) → k < n → f k ≡ true → 0 < count_below f n
+count_pos f zero k lt pass = absurd (omega (arith, lt))
+count_pos f (suc n) k lt pass =
+    elim (eqb_tells k n) [
+      | inl t ↦ (let here : f n ≡ true = ap f (sym t.1) ∙ pass in rw here (omega arith))
+      | inr t ↦ (let more : 0 < count_below f n = count_pos f n k (let ne : k ≢ n = t.1 in omega arith) pass in omega arith)
+    ]
+
 count_zero : (f : ℕ → Bool) (n m : ℕ) (b : Bool) → f n ≡ b → (if b then 1 else 0) + m ≡ 0 → (f n ≡ false) × (m ≡ 0)
 count_zero f n m true is e = absurd (omega (arith, e))
 count_zero f n m false is e = (is, omega (arith, e))
@@ -82,6 +91,10 @@ awaited_take past id r may = taken_one past id (sent past) r may may.1.0.1
 -- behind a Send all that is unanswered was sent
 pub awaited_send : (past : List Entry) → awaited (entry.Event Send ∷ past) ≡ unanswered past
 awaited_send past = refl
+
+-- a request without a reply is counted
+pub some_unanswered : (past : List Entry) (p : ℕ) → p < asked past → answer past p ≡ None → 0 < unanswered past
+some_unanswered past p lt none = count_pos (λ place. is_none (answer past place)) (asked past) p lt (ap (λ (a : Option Reply). is_none a) none)
 
 asked_below : (past : List Entry) (place : ℕ) → place < asked past → (a : Asked) × (asked_at past place ≡ Some a)
 asked_below [] place lt = absurd (omega arith)
