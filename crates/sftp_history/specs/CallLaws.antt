@@ -25,7 +25,7 @@ use Rattle.sftp_history.specs.Journals.{IsJournal, IsNext, MayCome, MustClose, c
 
 -- ---- what may come next
 
-next_by : (c g : Option ℕ) (P : Type 0) (Q R : ℕ → Type 0) → MatchOption c (MatchOption g P Q) R → ((n : ℕ) → Q n → ⊥) → ((n : ℕ) → R n → ⊥) → P
+pub next_by : (c g : Option ℕ) (P : Type 0) (Q R : ℕ → Type 0) → MatchOption c (MatchOption g P Q) R → ((n : ℕ) → Q n → ⊥) → ((n : ℕ) → R n → ⊥) → P
 next_by None None P Q R h f e = h
 next_by None (Some n) P Q R h f e = absurd (f n h)
 next_by (Some n) g P Q R h f e = absurd (e n h)

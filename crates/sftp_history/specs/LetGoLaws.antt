@@ -127,7 +127,7 @@ was_held true false true e g c = absurd cc
 was_held true false false e g c = absurd cc
 
 -- a lane without a call holds what its slots hold
-site_held : (s : Setting) (past : List Entry) (lane : ℕ) → current s past lane ≡ None → held_site s past lane ≡ site_of s past lane
+pub site_held : (s : Setting) (past : List Entry) (lane : ℕ) → current s past lane ≡ None → held_site s past lane ≡ site_of s past lane
 site_held s past lane e = ap (λ c. held_by c (own past lane (ended past lane)) (site_of s past lane)) e
 
 -- no grant is to be closed, by the order of places

@@ -46,7 +46,7 @@ pub record GoodStage (s : Setting) (at : Stage) : Type 0 where
 
 -- ---- cancels
 
-wait_more : (a w h : Bool) → (a || h) ≡ true → (a || (w || h)) ≡ true
+pub wait_more : (a w h : Bool) → (a || h) ≡ true → (a || (w || h)) ≡ true
 wait_more true w h e = refl
 wait_more false true h e = refl
 wait_more false false h e = e
@@ -179,7 +179,7 @@ more_by l lane lanes true P here there e = there e
 more_by l lane lanes false P here there e = last_more lanes l lane P here there e
 
 -- a lane that is begun after a step of one is that one, or was begun before
-begun_more : (l lane : ℕ) (lanes : List ℕ) (P : Type 0) → (l ≡ lane → P) → (list_any (λ x. x == lane) lanes ≡ true → P) → list_any (λ x. x == lane) (begun_with lanes l) ≡ true → P
+pub begun_more : (l lane : ℕ) (lanes : List ℕ) (P : Type 0) → (l ≡ lane → P) → (list_any (λ x. x == lane) lanes ≡ true → P) → list_any (λ x. x == lane) (begun_with lanes l) ≡ true → P
 begun_more l lane lanes P here there e = more_by l lane lanes (list_any (λ x. x == l) lanes) P here there e
 
 -- a lane that is begun after another one's end was begun before
@@ -192,7 +192,7 @@ but_by x l lane false lanes is more e =
       | inr t ↦ (let h = more (rw t.0 at e) in (h.0, or_true (x == lane) (list_any (λ y. y == lane) lanes) h.1))
     ]
 
-but_begun : (lanes : List ℕ) (l lane : ℕ) → list_any (λ y. y == lane) (begun_but lanes l) ≡ true → (l ≢ lane) × (list_any (λ y. y == lane) lanes ≡ true)
+pub but_begun : (lanes : List ℕ) (l lane : ℕ) → list_any (λ y. y == lane) (begun_but lanes l) ≡ true → (l ≢ lane) × (list_any (λ y. y == lane) lanes ≡ true)
 but_begun [] l lane e = absurd cc
 but_begun (x ∷ lanes) l lane e = but_by x l lane (x == l) lanes refl (but_begun lanes l lane) e
 
@@ -202,7 +202,7 @@ stage_good s now begun e h = record { good = subst (λ (lanes : List ℕ). Good 
 same_good : (s : Setting) (before now : Stage) → now ≡ before → GoodStage s before → GoodStage s now
 same_good s before now e g = subst (GoodStage s) (sym e) g
 
-submit_good : (s : Setting) (past : List Entry) (begun : List ℕ) (lane id : ℕ) (r : Request) → Good s past begun → Still s past → move_of s past lane ≡ Some (Ask r) → IsFree past id
+pub submit_good : (s : Setting) (past : List Entry) (begun : List ℕ) (lane id : ℕ) (r : Request) → Good s past begun → Still s past → move_of s past lane ≡ Some (Ask r) → IsFree past id
     → Good s (entry.Event (Submit (owner.Call lane (ended past lane)) id r) ∷ past) (begun_with begun lane)
 submit_good s past begun lane id r g h move free =
     let e : Entry = entry.Event (Submit (owner.Call lane (ended past lane)) id r) in
@@ -219,7 +219,7 @@ submit_good s past begun lane id r g h move free =
           (λ old. good.cancels l old) b;
     }
 
-end_good : (s : Setting) (past : List Entry) (begun : List ℕ) (lane : ℕ) (o : Outcome) → IsJournal s past → opened s past ≡ true → was_kept past ≡ false
+pub end_good : (s : Setting) (past : List Entry) (begun : List ℕ) (lane : ℕ) (o : Outcome) → IsJournal s past → opened s past ≡ true → was_kept past ≡ false
     → ((l : ℕ) → list_any (λ x. x == l) begun ≡ true → may_cancel s past l ≡ true)
     → IsNext s past (entry.Event (End lane (ended past lane) o)) → Good s (entry.Event (End lane (ended past lane) o) ∷ past) (begun_but begun lane)
 end_good s past begun lane o run ready unkept cancels next =

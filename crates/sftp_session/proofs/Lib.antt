@@ -1,0 +1,5 @@
+pub mod Starting
+pub mod Steps
+pub mod Kept
+pub mod MayGoOn
+pub mod Moving

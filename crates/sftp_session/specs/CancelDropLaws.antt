@@ -1,0 +1,203 @@
+-- The call of a lane is cancelled whose handle had come: it is closed.
+use Rattle.sftp_core.specs.Core.{Core, at, queued_last, IsGrant, abandoned, abandon_leaves, released, release_gives, release_leaves, with_place, users_of as users_at, handed_out, dropped, without, reply_in}
+use Rattle.sftp_core.specs.Elsewhere.{gone_here, take_elsewhere, hand_out_each, put_here, put_elsewhere, submit_elsewhere}
+use Rattle.sftp_core.specs.Grant.{GrantValue}
+use Rattle.sftp_core.specs.Table.{brings, sent_place}
+use Rattle.sftp_core.specs.Take.{take_leaves, wrong_at, answered}
+use Rattle.sftp_core.specs.declared.errors.TakeError.{TakeError}
+use Rattle.sftp_core.specs.declared.place.Place.TheVariants.{Answered, Granted, Waiting}
+use Rattle.sftp_core.specs.declared.place.Place.{Place}
+use Rattle.sftp_file.specs.Files.{FileValue, file_at}
+use Rattle.sftp_file.specs.Polls.{closing, polled_core}
+use Rattle.sftp_file.specs.StageLaws.{grant_at, polled_elsewhere}
+use Rattle.sftp_file.specs.Stages.{cancelled}
+use Rattle.sftp_file.specs.declared.stage.Stage.TheVariants.{Asked as Asking}
+use Rattle.sftp_history.specs.CallLaws.{due_next, ended_end, end_site, end_own, own_fresh, asker_owns, may_next, own_submit}
+use Rattle.sftp_history.specs.Calls.{Setting, current, site_of, held_by, held_site, move_of}
+use Rattle.sftp_history.specs.GrantLaws.{any_none, any_passes}
+use Rattle.sftp_history.specs.Grants.{is_close, closes, closed, with_closed, is_grant, holds, is_asked_by, is_unended_asker, is_granted, is_held, is_one_of, orphan, letting_go}
+use Rattle.sftp_history.specs.IdLaws.{IsFreeState, free_state, reads}
+use Rattle.sftp_history.specs.Ids.{IdState, Free, Pending, Replied, id_state, Reads, now_replied}
+use Rattle.sftp_history.specs.Journals.{IsFree, IsNext, IsJournal, MayTake, goes_on, opened, is_opened, MustClose, close_of}
+use Rattle.sftp_history.specs.Readings.{Asked, asked, awaiting, is_by, ended, own, unsent, answer, is_at, asked_at, sent, bearer}
+use Rattle.sftp_history.specs.RequestLaws.{bearer_asked}
+use Rattle.sftp_history.specs.RunLaws.{Good, Still, begun_more, submit_good, closes_good, end_good, but_begun, good_plain}
+use Rattle.sftp_history.specs.Turns.{ClosesTo, begun_but, begun_with}
+use Rattle.sftp_history.specs.declared.call.Call.{Call}
+use Rattle.sftp_history.specs.declared.entry.Entry.{Entry}
+use Rattle.sftp_history.specs.declared.event.Event.TheVariants.{End, Send, Take, Submit}
+use Rattle.sftp_history.specs.declared.event.Owner.{Owner}
+use Rattle.sftp_model.specs.Answers.{allows, may_answer, expected_of, is_handle}
+use Rattle.sftp_model.specs.Plans.{handle_of}
+use Rattle.sftp_model.specs.Slots.{slot_at, slot_has, has_grant, with_slot, grant_of}
+use Rattle.sftp_model.specs.declared.answers.Expected.{Expected}
+use Rattle.sftp_model.specs.declared.outcome.Outcome.{Outcome}
+use Rattle.sftp_model.specs.declared.reply.Reply.{Reply}
+use Rattle.sftp_model.specs.declared.request.Request.{Request}
+use Rattle.sftp_model.specs.declared.slot.Move.TheVariants.{Ask, Done}
+use Rattle.sftp_model.specs.declared.slot.Site.{Site}
+use Rattle.sftp_model.specs.declared.slot.Slot.{Slot}
+use Rattle.sftp_session.specs.AskCloseLaws.{InSlot, in_slot}
+use Rattle.sftp_session.specs.AskLaws.{core_asked, set_or_other, set_count}
+use Rattle.sftp_session.specs.Counted.{let_go}
+use Rattle.sftp_session.specs.EndLaws.{Ended, ended_by, one_more, steady_of, end_between, either_is, left_is}
+use Rattle.sftp_session.specs.FactLaws.{is_limits, CameBy, came_by}
+use Rattle.sftp_session.specs.Held.{Due, due_on, gone_on, submit_holds, still_of_due, IsLoose, LooseAt, orphan_due, due_own, gone_own, take_gone, take_held, take_loose}
+use Rattle.sftp_session.specs.LaneLaws.{Keeps, SameLane, lane_on, slots_on, keeps_submit, free_grant, free_ask, same_submit, keeps_send, keeps_take, same_end, slot_on}
+use Rattle.sftp_session.specs.Moves.{file_in, Unasked, HasPolled, IsPlain, SlotsStay, SlotMoves, SlotOpens, SlotFrees}
+use Rattle.sftp_session.specs.OwnLaws.{AskedFor, owned_asked, slot_owned, lane_owned, one_lane, no_asker, false_of, owned_stands, not_live}
+use Rattle.sftp_session.specs.PollLaws.{polled_gone, polled_granted, polled_work, polled_state}
+use Rattle.sftp_session.specs.ReleaseLaws.{Closing, let_go_closes, Sharing, let_go_shares, IsDue, must_close, closes_to, close_is, Closed, close_closed}
+use Rattle.sftp_session.specs.Session.{Between, IsTied}
+use Rattle.sftp_session.specs.Standing.{SameUsers, borne_apart, end_tabled, end_tabled_one, none_by, none_other, asked_there, send_tabled, take_tabled, stand_same, users_same, submit_tabled}
+use Rattle.sftp_session.specs.Tables.{is_live, replied, stand, users_in, users_of, slots_of, Tabled}
+use Rattle.sftp_session.specs.TakeLaws.{Awaited, Pends, pends_by, may_take, plain_gone}
+use Rattle.sftp_session.specs.Tied.{Asks, CoreTied, LaneTied, SlotTied, IsBorne, is_running, GoneOnly, IsOwned, RunTied}
+use Rattle.sftp_session.specs.Users.{one_if, users_set, users_kept, none_uses, uses_none, any_set, slot_uses, used_slot, set_here, set_there, set_length}
+use Rattle.sftp_session.specs.declared.lane.LaneState.{LaneState}
+use Rattle.sftp_session.specs.declared.lane.Running.{Running}
+use Rattle.std.proofs.Common.{◌≡◌, ◌≢◌, ◌<◌, ◌+◌, ◌==◌, ◌^◌, ℕ, zero, suc, Bool, true, false, List, [], ◌∷◌, ◌++◌, Option, Some, None, refl, ap, sym, ◌∙◌, subst, arith, if◌then◌else◌, inl, inr}
+use Rattle.std.proofs.lemmas.Bool.Decides.{eqb_tells, nat_tests}
+use Rattle.std.proofs.lemmas.Bool.{eq-eqb, ne_eqb}
+use Rattle.std.proofs.lemmas.Option.{slice_get_within, slice_get-get_or}
+use Rattle.std.specs.List.{list_any}
+use Rattle.std.specs.Option.{option_map}
+use Rattle.std.specs.Prelude.{Result, Ok, nat_lt, is_some, ◌-◌, ◌⊎◌, ◌&&◌, ◌||◌, slice_get, slice_set, slice_index_or, length}
+use Rattle.sftp_history.specs.declared.call.Call.TheVariants as call
+use Rattle.sftp_history.specs.declared.entry.Entry.TheVariants as entry
+use Rattle.sftp_history.specs.declared.event.Owner.TheVariants as owner
+use Rattle.sftp_model.specs.declared.answers.Expected.TheVariants as expected
+use Rattle.sftp_model.specs.declared.reply.Reply.TheVariants as reply
+use Rattle.sftp_model.specs.declared.request.Request.TheVariants as request
+use Rattle.sftp_model.specs.declared.slot.Slot.TheVariants as slots
+use Rattle.sftp_session.specs.declared.lane.Running.TheVariants as running
+use Rattle.sftp_model.specs.declared.outcome.Outcome.TheVariants as outcome
+use Rattle.sftp_model.specs.declared.slot.Facts.{Facts}
+use Rattle.sftp_model.specs.Plans.{Answers}
+use Rattle.sftp_core.specs.Core.{abandoned, abandon_leaves}
+use Rattle.sftp_core.specs.Elsewhere.{abandon_elsewhere}
+use Rattle.sftp_file.specs.declared.stage.Stage.{Stage}
+use Rattle.sftp_file.specs.declared.stage.Stage.TheVariants as stage
+use Rattle.sftp_history.specs.declared.event.Event.TheVariants.{Cancel}
+use Rattle.sftp_history.specs.Calls.{cancelled as cancelled_call, given_up, call_at, site_left}
+use Rattle.sftp_history.specs.Journals.{may_cancel, cancelled_end, is_some_place}
+use Rattle.sftp_history.specs.Calls.{has_waited}
+use Rattle.sftp_history.specs.RunLaws.{wait_more}
+use Rattle.sftp_history.specs.CallLaws.{site_end}
+use Rattle.sftp_session.specs.EndKindLaws.{live_here, dead_now, same_users, no_handle}
+use Rattle.sftp_history.specs.CallLaws.{cancelled_next}
+use Rattle.sftp_session.specs.DropLaws.{table_with, with_here, with_there, ungranted_slot, dead_by, first_state}
+use Rattle.sftp_session.specs.EndLaws.{Steady}
+use Rattle.sftp_core.specs.Core.{with_place}
+use Rattle.sftp_session.specs.CancelLaws.{UnderWay, CancelsLane, CancelsCall, cancels_call, cancelled_past, cancel_between, cancel_table, brings_in, asked_alone}
+
+-- a handle had come to the call
+pub record HandleCame (past : List Entry) (lane : ℕ) (old : Core) (t p : ℕ) (b : Asked) (h : List ℕ) : Type 0 where
+  pub state : id_state past t ≡ Replied p b (reply.Handle h)
+  pub kept : at old t ≡ Some (Answered (expected_of b.request) (reply.Handle h))
+
+brings_handle : (r : Reply) (h : List ℕ) → brings r ≡ Some h → r ≡ reply.Handle h
+brings_handle (reply.Handle k) h e = cc
+brings_handle (reply.Version version extensions) h e = absurd cc
+brings_handle (reply.Status code message language) h e = absurd cc
+brings_handle (reply.Content content) h e = absurd cc
+brings_handle (reply.Names names) h e = absurd cc
+brings_handle (reply.Attrs attrs) h e = absurd cc
+brings_handle (reply.Extended content) h e = absurd cc
+
+handle_came : (s : Setting) (past : List Entry) (lane : ℕ) (old : Core) (t p : ℕ) (b : Asked) (h : List ℕ) → Tabled s past [] (at old) → IsBorne (id_state past t) p b → is_live (ended past) b.by ≡ true → brings_in (at old t) ≡ Some h
+    → HandleCame past lane old t p b h
+handle_came s past lane old t p b h table borne live some = by_state (id_state past t) refl borne (sym (ap brings_in (table t)) ∙ some)
+  where
+    by_state : (x : IdState) → id_state past t ≡ x → IsBorne x p b → brings_in (stand (ended past) (slots_of s past) [] x) ≡ Some h → HandleCame past lane old t p b h
+    by_state Free is r e = absurd r
+    by_state (Pending q c was_sent) is r e = absurd cc
+    by_state (Replied q c y) is r e =
+        let alive : is_live (ended past) c.by ≡ true = ap (λ (m : Asked). is_live (ended past) m.by) r.1 ∙ live in
+        let stands : stand (ended past) (slots_of s past) [] (Replied q c y) ≡ Some (Answered (expected_of c.request) y) = ap (λ l. replied l (expected_of c.request) y (users_of (slots_of s past) [] c.by q)) alive in
+        let same : y ≡ reply.Handle h = brings_handle y h (sym (ap brings_in stands) ∙ e) in
+        record {
+          state = is ∙ (λ i. Replied (r.0 i) (r.1 i) (same i));
+          kept = table t ∙ ap (stand (ended past) (slots_of s past) []) is ∙ stands ∙ (λ i. Some (Answered (expected_of ((r.1 i).request)) (same i)));
+        }
+
+pub tied_cancel_drop : (s : Setting) (past : List Entry) (old : Core) (states : List LaneState) (begun : List ℕ) (lane : ℕ) (before after : LaneState) (h : List ℕ) → (x : CancelsLane s past old states begun lane before after)
+    → brings_in (at old x.way.ticket) ≡ Some h → x.way.ticket < 2 ^ 32
+    → IsNext s past (entry.Event (Cancel lane)) × (IsNext s (entry.Event (Cancel lane) ∷ past) (cancelled_end (entry.Event (Cancel lane) ∷ past) lane)
+    × (ClosesTo s (cancelled_past past lane) (entry.Event (Submit owner.Close x.way.ticket (request.Close h)) ∷ cancelled_past past lane)
+    × (IsNext s (cancelled_past past lane) (entry.Event (Submit owner.Close x.way.ticket (request.Close h)))
+    × (((abandoned old x.way.ticket).queue ≡ old.queue ++ (x.way.ticket, request.Close h) ∷ [])
+    × IsTied s (entry.Event (Submit owner.Close x.way.ticket (request.Close h)) ∷ cancelled_past past lane) (abandoned old x.way.ticket) (slice_set states lane (one_more after)) (begun_but begun lane)))))
+tied_cancel_drop s past old states begun lane before after h x some small =
+    let middle : List Entry = entry.Event (Cancel lane) ∷ past in
+    let now : List Entry = cancelled_past past lane in
+    let u = x.way in
+    let t : ℕ = u.ticket in
+    let place : ℕ = u.asks.place in
+    let c = cancels_call s past old states begun lane before.running x.tied x.any u in
+    let rest = x.tied.rest in
+    let mine = rest.each lane before x.here in
+    let site : Site = held_site s past lane in
+    let b : Asked = record { by = owner.Call lane (ended past lane); id = t; request = u.request } in
+    let came : HandleCame past lane old t place b h = handle_came s past lane old t place b h rest.table u.asks.borne (live_here past lane) some in
+    let r = subst (Reads past t) came.state (reads past t) in
+    let granted : is_grant past place ≡ true = ap is_granted r.1 in
+    let at_place : asked_at past place ≡ Some b = r.2 in
+    let owner_is : (w : ℕ) → AskedFor past w place → (lane ≡ w) × ((n : ℕ) → n ≡ ended past w → ⊥) = (λ w owned.
+        let same : owned.asked ≡ b = (let both : Some owned.asked ≡ Some b = sym owned.at ∙ at_place in cc) in
+        let owners : owner.Call w owned.call ≡ owner.Call lane (ended past lane) = sym owned.by ∙ ap (λ (m : Asked). m.by) same in
+        let lane_is : w ≡ lane = cc in let call_is : owned.call ≡ ended past lane = cc in
+        let lt : owned.call < ended past w = owned.before in
+        let ends : ended past w ≡ ended past lane = ap (ended past) lane_is in
+        absurd (omega (arith, call_is, lt, ends))) in
+    let there : lane < length s.lanes = (let n = rest.count in let lt = slice_get_within states lane before x.here in omega (arith, n, lt)) in
+    let nobody : (w : ℕ) → w < length s.lanes → has_grant (held_site s past w) place ≡ false = (λ w lt. false_of (has_grant (held_site s past w) place) (λ has.
+        (owner_is w (lane_owned s past w place _ (rest.each w _ (slice_get-get_or states w before (let n = rest.count in omega (arith, n, lt)))) has)).1 (ended past w) refl)) in
+    let unused : has_grant site place ≡ false = nobody lane there in
+    let held_past : is_held s past place ≡ true = any_passes (holds s past place) (length s.lanes) lane there
+        (or_last (has_grant site place) (is_unended_asker past lane place) (ap (λ y. is_asked_by y lane (ended past lane)) at_place ∙ (λ i. (eq-eqb lane lane refl i) && (eq-eqb (ended past lane) (ended past lane) refl i)))) in
+    let other : (w : ℕ) → lane ≢ w → SameLane s middle now w = (λ w ne. same_end s middle lane (ended past lane) w outcome.Cancelled ne) in
+    let loose : IsLoose s now place = record {
+        granted = granted;
+        unheld = any_none (holds s now place) (length s.lanes) (λ w lt. elim (eqb_tells lane w) [
+          | inl q ↦ subst (λ (k : ℕ). holds s now place k ≡ false) q.1 (rw (c.done.asker place) (rw (ap (λ y. has_grant y place) c.done.held ∙ unused) refl))
+          | inr q ↦ (λ i. has_grant ((other w q.1).held i) place || is_asked_by (asked_at past place) w ((other w q.1).ends i))
+            ∙ rw (nobody w lt, ap (λ y. is_asked_by y w (ended past w)) at_place ∙ ap (λ z. z && (ended past lane == ended past w)) (ne_eqb lane w q.1)) refl
+        ]);
+        unclosed = false_of (is_one_of (closed s past) place) (λ gone. let unheld : is_held s past place ≡ false = (rest.gone place gone).1 in cc);
+      } in
+    let virtual : Core = with_place old t (Granted h 0) in
+    let users : users_in place (slots_of s now lane) + 0 ≡ 0 = (let none = none_uses place site.slots unused in let same : users_in place (slots_of s now lane) ≡ users_in place site.slots = ap (λ (y : Site). users_in place y.slots) c.done.held in omega (arith, none, same)) in
+    let between : Between s now virtual (slice_set states lane (one_more after)) (begun_but begun lane) [] (Some place) =
+        cancel_between s past old virtual states begun lane before after (Some place) x
+        (record { info = rest.work.info; phase = rest.work.phase; read_len = rest.work.read_len; unfailed = rest.work.unfailed; greeted = rest.work.greeted; queue = rest.work.queue })
+        (cancel_table s past old states begun lane before after (at virtual) x (λ q ne. put_elsewhere old.table t (Granted h 0) q ne)
+        (put_here old.table t (Granted h 0)
+        ∙ sym (ap (stand (ended now) (slots_of s now) []) came.state
+        ∙ ap (λ l. replied l (expected_of b.request) (reply.Handle h) (users_of (slots_of s now) [] b.by place)) (dead_now middle now lane c.done.ends)
+        ∙ ap (λ n. Some (Granted h n)) users)))
+        (λ g granted_g ne asks. let same : place ≡ g = asked_alone place g (ap (list_any (λ k. k == g)) (sym u.asks.own) ∙ asker_owns past lane (ended past lane) g asks) in
+        let yes_at : is_at (Some place) g ≡ true = eq-eqb place g same in cc)
+        loose in
+    let orphan_is : orphan s now ≡ Some place = orphan_due s now place refl between.due in
+    let d : IsDue s None now old (slice_set states lane (one_more after)) (begun_but begun lane) [] place t h = record {
+        good = between.good; orphan = orphan_is; granted = between.due.loose.granted; unheld = between.due.loose.unheld; gone = between.gone;
+        work = record { info = rest.work.info; phase = rest.work.phase; read_len = rest.work.read_len; unfailed = rest.work.unfailed; greeted = rest.work.greeted; queue = rest.work.queue };
+        table = (at virtual, (between.table, λ q ne. sym (put_elsewhere old.table t (Granted h 0) q ne)));
+        count = between.count; each = λ l st out is. between.each l st is; runs = between.runs; asked = b; dead = dead_now middle now lane c.done.ends; brought = came.state; small = small;
+      } in
+    let close : Entry = entry.Event (Submit owner.Close t (request.Close h)) in
+    let core_is : abandoned old t ≡ queued_last old t (request.Close h) false = ap (abandon_leaves old t) came.kept in
+    let k : Closed s None (close ∷ now) (queued_last old t (request.Close h) false) (slice_set states lane (one_more after)) (begun_but begun lane) [] =
+        close_closed s None now old (queued_last old t (request.Close h) false) (slice_set states lane (one_more after)) (begun_but begun lane) [] [] place t h d (put_here old.table t (Waiting expected.Status false false))
+        (λ q ne. submit_elsewhere old t (request.Close h) false q ne) (core_asked s now old owner.Close t (request.Close h) false d.work) (λ q ne. refl) in
+    let after_due : Due s (close ∷ now) None = subst (λ (y : Entry). Due s (y ∷ now) None) (sym (close_is now place t b h d.brought)) (due_own s now place t orphan_is between.due) in
+    (c.first, (c.second, (closes_to s None now old (slice_set states lane (one_more after)) (begun_but begun lane) [] place t h d,
+    (due_next s now place close refl orphan_is (must_close s None now old (slice_set states lane (one_more after)) (begun_but begun lane) [] place t h d),
+    (ap (λ (y : Core). y.queue) core_is,
+    subst (λ (y : Core). IsTied s (close ∷ now) y (slice_set states lane (one_more after)) (begun_but begun lane)) (sym core_is)
+    (record { still = still_of_due s (close ∷ now) refl after_due; rest = record { good = k.good; due = after_due; gone = k.gone; work = k.work; table = k.table; count = k.count; each = λ l st is. k.each l st refl is; runs = k.runs } }))))))
+  where
+    or_last : (p q : Bool) → q ≡ true → (p || q) ≡ true
+    or_last true q h = refl
+    or_last false q h = h

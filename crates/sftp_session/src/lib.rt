@@ -1,0 +1,7 @@
+//! A session that runs lanes: each lane makes its calls by the states of `sftp_file`, over one core, and the session keeps
+//! a journal of what happened.
+#![tactic(auto)]
+
+mod lane;
+mod lanes;
+
