@@ -25,3 +25,4 @@ pub mod DropLaws
 pub mod CancelLaws
 pub mod CancelDropLaws
 pub mod LettingLaws
+pub mod CallsLaws

@@ -1,12 +1,12 @@
 -- The lanes of an open session, and what each call does to them.
-use Rattle.std.specs.Prelude.{◌≡◌, ◌≢◌, ◌<◌, ◌+◌, ℕ, Bool, true, false, reverse, List, Option, Some, None}
+use Rattle.std.specs.Prelude.{◌≡◌, ◌≢◌, ◌<◌, ◌+◌, ℕ, Bool, true, false, reverse, List, [], Option, Some, None}
 use Rattle.sftp_model.specs.declared.frame_error.FrameError.{FrameError}
 use Rattle.sftp_model.specs.declared.reply.Reply.{Reply}
 use Rattle.std.specs.Prelude.{Result}
 use Rattle.sftp_core.specs.declared.errors.TakeError.{TakeError}
 use Rattle.sftp_core.specs.Take.{IsFirst}
 use Rattle.sftp_history.specs.declared.entry.Entry.{Entry}
-use Rattle.sftp_history.specs.Calls.{Setting, current, move_of}
+use Rattle.sftp_history.specs.Calls.{Setting, added, current, move_of}
 use Rattle.sftp_history.specs.Lanes.{are_ok}
 use Rattle.sftp_history.specs.Readings.{unanswered}
 use Rattle.sftp_history.specs.Turns.{Stage}
@@ -33,6 +33,7 @@ pub record IsWorking (s : Setting) (w : Lanes) : Type 0 where
   pub ok : are_ok w.calls ≡ true
   pub tied : IsTied s (past_of w) w.core w.states.items w.begun.items
   pub counted : Counted (past_of w) w.core
+  pub unadded : (lane : ℕ) → added (past_of w) lane ≡ []
 
 -- they are those of some session
 abbrev pub IsOpened : Lanes → Type 0
