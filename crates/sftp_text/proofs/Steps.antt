@@ -10,7 +10,7 @@ use Rattle.sftp_history.specs.declared.event.Event.TheVariants.{Submit, Send, Ta
 use Rattle.sftp_history.specs.declared.entry.Entry.{Entry}
 use Rattle.sftp_history.specs.declared.entry.Entry.TheVariants as entry
 use Rattle.sftp_history.specs.Readings.{unsent}
-use Rattle.sftp_history.specs.Texts.{frame_lines, request_line}
+use Rattle.sftp_history.specs.Texts.{frame_lines, request_line, reply_line}
 use Rattle.sftp_text.specs.Traces.{journal_of, submitted}
 use Rattle.sftp_text.specs.TraceLaws.{journal_of_more}
 
@@ -61,7 +61,7 @@ unsent_more (Cancel lane) past ne = sym (append-nil (unsent past))
 unsent_more (End lane call o) past ne = sym (append-nil (unsent past))
 
 -- each other event writes its own lines
-pub walked_on : (events : List Event) (start out new more : List ℕ) (first i : ℕ) (e : Event) → Walked events start first i out → i < length events → e ≡ get_or events i e
+walked_on : (events : List Event) (start out new more : List ℕ) (first i : ℕ) (e : Event) → Walked events start first i out → i < length events → e ≡ get_or events i e
     → e ≢ Send → ((past : List Entry) → frame_lines (entry.Event e ∷ past) ≡ frame_lines past ++ more) → new ≡ out ++ more → Walked events start first (i + 1) new
 walked_on events start out new more first i e h lt is ne own put =
     let j = journal_step events i e lt is in
@@ -72,10 +72,19 @@ walked_on events start out new more first i e h lt is ne own put =
       since = ap unsent j ∙ unsent_more e past ne ∙ ap (λ l. l ++ submitted e) h.since ∙ between_step events first i e h.within lt is;
     }
 
--- those that are neither sent nor taken write none
-pub no_lines : (e : Event) (past : List Entry) → e ≢ Send → ((id : ℕ) (r : Reply) → e ≢ Take id r) → frame_lines (entry.Event e ∷ past) ≡ frame_lines past ++ []
+pub walked_take : (events : List Event) (start out new : List ℕ) (first i id : ℕ) (r : Reply) (e : Event) → Walked events start first i out → i < length events → e ≡ get_or events i e
+    → e ≡ Take id r → new ≡ out ++ reply_line r → Walked events start first (i + 1) new
+walked_take events start out new first i id r e h lt is take put =
+    walked_on events start out new (reply_line r) first i e h lt is (λ s. absurd (let p = sym take ∙ s in cc)) (λ past. rw take refl) put
+
+no_lines : (e : Event) (past : List Entry) → e ≢ Send → ((id : ℕ) (r : Reply) → e ≢ Take id r) → frame_lines (entry.Event e ∷ past) ≡ frame_lines past ++ []
 no_lines (Submit by id r) past ne nt = sym (append-nil (frame_lines past))
 no_lines Send past ne nt = absurd (ne refl)
 no_lines (Take id r) past ne nt = absurd (nt id r refl)
 no_lines (Cancel lane) past ne nt = sym (append-nil (frame_lines past))
 no_lines (End lane call o) past ne nt = sym (append-nil (frame_lines past))
+
+-- and those that are neither sent nor taken write none
+pub walked_other : (events : List Event) (start out : List ℕ) (first i : ℕ) (e : Event) → Walked events start first i out → i < length events → e ≡ get_or events i e
+    → e ≢ Send → ((id : ℕ) (r : Reply) → e ≢ Take id r) → Walked events start first (i + 1) out
+walked_other events start out first i e h lt is ne nt = walked_on events start out out [] first i e h lt is ne (λ past. no_lines e past ne nt) (sym (append-nil out))

@@ -11,7 +11,7 @@ use ssh_encoding::OutOfMemory;
 use std::alloc::Global;
 
 /// Appends the text of a report: a line for each frame that was sent or taken, and then one for each outcome. Refused
-/// for want of memory, as which a string of 4 GiB or more in a frame counts too; `out` is unchanged then.
+/// for want of memory, and likewise where a frame's length or count doesn't fit four bytes; `out` is unchanged then.
 pub fn write_text(alloc: Global, report: &Report, out: &mut Vec<u8>) -> Result<(), OutOfMemory>
     ensures ok { OnOk result (out.new.items ≡ out.old.items ++ text_of (journal_of report.now.trace) report.now.outcomes) }
     ensures err { OnErr result (out.new.items ≡ out.old.items) }

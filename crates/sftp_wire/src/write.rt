@@ -68,7 +68,7 @@ impl<'a> Message<'a> {
 }
 
 /// Appends the body of a request or a reply without the length of a frame, also where it is over 1048575 bytes.
-/// Refused for want of memory, as which a string of 4 GiB or more counts too; `out` is unchanged then.
+/// Refused for want of memory, and likewise where a length or a count doesn't fit four bytes; `out` is unchanged then.
 pub fn write_body(message: Message, id: u32, out: &mut Vec<u8>) -> Result<(), OutOfMemory>
     ensures ok { OnOk result (out.new.items ≡ out.old.items ++ message_body message.entry id) }
     ensures err { OnErr result (out.new.items ≡ out.old.items) }
