@@ -2,11 +2,13 @@
 use Rattle.std.specs.Prelude.{ℕ, Bool, true, false, ◌≡◌, ◌<◌, ◌≤◌, ◌-◌, ◌^◌, List, [], ◌∷◌, ◌++◌, length, min, Option, Some, None}
 use Rattle.std.specs.List.{flat_map}
 use Rattle.ssh_encoding.specs.Writing.{uint32, uint64, string}
-use Rattle.sftp_model.specs.Frames.{body_limit, attributes, name_entry, extension_pairs, extension_table}
+use Rattle.sftp_model.specs.Frames.{body_limit, attributes, name_entry, extension_pairs, extension_table, request_body, reply_body}
 use Rattle.sftp_model.specs.Pieces.{joined}
 use Rattle.sftp_wire.specs.declared.body.Field.{Field}
 use Rattle.sftp_wire.specs.declared.body.Field.TheVariants as fields
 use Rattle.sftp_wire.specs.declared.body.Body.{Body}
+use Rattle.sftp_wire.specs.declared.write.Message.{Message}
+use Rattle.sftp_wire.specs.declared.write.Message.TheVariants as message
 
 -- what is written for a field
 abbrev pub field_bytes : Field → List ℕ
@@ -27,6 +29,11 @@ id_bytes false id = []
 -- what is written for a body, with an id where it has one
 abbrev pub body_bytes : Body → ℕ → List ℕ
 body_bytes body id = body.kind ∷ (id_bytes body.has_id id ++ flat_map field_bytes body.fields)
+
+-- the body of what a frame carries
+abbrev pub message_body : Message → ℕ → List ℕ
+message_body (message.Request r) id = request_body r.now id
+message_body (message.Reply r) id = reply_body r.now id
 
 -- a length, or the greatest `usize` where it is over that
 abbrev pub saturated : ℕ → ℕ

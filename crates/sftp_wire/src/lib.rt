@@ -23,7 +23,7 @@ pub use sftp_model::{
     OpenFlags, RemotePath, Reply, Request, TryCopy, frames_read_back,
 };
 pub use sftp_values::{ByteText, Items};
-pub use write::{request_len, write_reply, write_request};
+pub use write::{Message, request_len, write_body, write_reply, write_request};
 
 #[cfg(test)]
 mod tests;

@@ -2,7 +2,7 @@ ghost use Rattle.std.specs.Prelude.{◌≡◌, ◌≤◌, ◌<◌, ◌++◌, ℕ
 ghost use Rattle.sftp_model.specs.declared.frame_error.FrameError.TheVariants as errors;
 ghost use Rattle.sftp_model.specs.declared.frame_error.FormatKind.TheVariants as kinds;
 ghost use Rattle.sftp_model.specs.Frames.{body_limit, request_body, reply_body, request_frame, reply_frame};
-ghost use Rattle.sftp_wire.specs.Body.{Measures};
+ghost use Rattle.sftp_wire.specs.Body.{Measures, body_bytes, message_body};
 
 use crate::body::Body;
 use sftp_model::{FormatKind, FrameError, Reply, Request};
@@ -46,5 +46,39 @@ pub fn write_reply(reply: &Reply, id: u32, out: &mut Vec<u8>) -> Result<(), Fram
     match body.write_frame(len, id, out) {
         Ok(()) => Ok(()),
         Err(OutOfMemory) => Err(FrameError::OutOfMemory),
+    }
+}
+
+/// What a frame carries.
+#[derive(Clone, Copy)]
+pub enum Message<'a> {
+    Request(&'a Request),
+    Reply(&'a Reply),
+}
+
+impl<'a> Message<'a> {
+    fn body(self) -> Body<'a>
+        ensures { (id : ℕ) → body_bytes result id ≡ message_body self.entry id }
+    {
+        match self {
+            Message::Request(request) => Body::of_request(request),
+            Message::Reply(reply) => Body::of_reply(reply),
+        }
+    }
+}
+
+/// Appends the body of a request or a reply without the length of a frame, also where it is over 1048575 bytes.
+/// Refused for want of memory, and likewise where a length or a count doesn't fit four bytes; `out` is unchanged then.
+pub fn write_body(message: Message, id: u32, out: &mut Vec<u8>) -> Result<(), OutOfMemory>
+    ensures ok { OnOk result (out.new.items ≡ out.old.items ++ message_body message.entry id) }
+    ensures err { OnErr result (out.new.items ≡ out.old.items) }
+{
+    let before = out.len();
+    match message.body().write(id, out) {
+        Ok(()) => Ok(()),
+        Err(_) => {
+            out.truncate(before);
+            Err(OutOfMemory)
+        }
     }
 }

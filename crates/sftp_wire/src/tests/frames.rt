@@ -1,4 +1,5 @@
 // Frames that come in pieces.
+use crate::tests::values::no_attrs;
 use crate::*;
 use std::alloc::Global;
 use std::test::Fail;
@@ -102,5 +103,29 @@ fn close_of_zeros(rt: HostRuntime) -> Result<(), Fail> {
         out.as_slice(),
         b"ab\0\0\0\x0d\x04\0\0\0\x01\0\0\0\x04\0\0\0\0".as_slice()
     );
+    Ok(())
+}
+
+/// A body that is too long for a frame is written all the same, behind bytes that stay.
+#[test]
+fn body_over_the_limit(rt: HostRuntime) -> Result<(), Fail> {
+    let alloc = rt.alloc();
+    let path = RemotePath::new(vec![in alloc; 7u8; 1048567]?);
+    let mut out = vec![in alloc; 9u8]?;
+    write_body(Message::Request(&Request::Lstat { path }), 2, &mut out)?;
+    assert_eq!(rt; out.len(), 1048577);
+    assert_eq!(rt;
+        out.get(..10),
+        Some(b"\x09\x07\0\0\0\x02\0\x0f\xff\xf7".as_slice())
+    );
+    Ok(())
+}
+
+/// ATTRS without a field.
+#[test]
+fn body_of_attrs(rt: HostRuntime) -> Result<(), Fail> {
+    let mut out = Vec::new(rt.alloc());
+    write_body(Message::Reply(&Reply::Attrs(no_attrs())), 2, &mut out)?;
+    assert!(rt; out.as_slice() == b"\x69\0\0\0\x02\0\0\0\0".as_slice());
     Ok(())
 }

@@ -1,0 +1,5 @@
+use Rattle.sftp_text.specs.TraceLaws.{trace_text}
+use Rattle.sftp_text.proofs.laws.traces_keep_texts.Goals as goal
+
+pub returns : goal.returns
+returns c = trace_text

@@ -1,0 +1,13 @@
+// A law of the definitions. The function does nothing: what it ensures holds of all values.
+ghost use Rattle.std.specs.Prelude.{◌≡◌, List};
+ghost use Rattle.sftp_model.specs.declared.outcome.Outcome.{Outcome};
+ghost use Rattle.sftp_history.specs.declared.entry.Entry.{Entry};
+ghost use Rattle.sftp_history.specs.Readings.{trace_of};
+ghost use Rattle.sftp_history.specs.Texts.{text_of};
+ghost use Rattle.sftp_text.specs.Traces.{journal_of};
+
+/// The text of a journal is that of the events that its trace keeps.
+pub fn traces_keep_texts()
+    ensures { (past : List Entry) (outcomes : List (List Outcome))
+        → text_of (journal_of (trace_of past)) outcomes ≡ text_of past outcomes }
+{}

@@ -1,0 +1,18 @@
+//! Writes the text of a session: a line for each frame that was sent or taken, one for the outcome of each call,
+//! and one for each file that is left.
+#![tactic(auto)]
+
+mod frames;
+mod laws;
+mod outcomes;
+mod put;
+mod text;
+mod words;
+
+pub use laws::traces_keep_texts;
+pub use sftp_history::Report;
+pub use ssh_encoding::OutOfMemory;
+pub use text::{write_file, write_text};
+
+#[cfg(test)]
+mod tests;

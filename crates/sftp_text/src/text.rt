@@ -1,0 +1,68 @@
+ghost use Rattle.std.specs.Prelude.{◌≡◌, ◌++◌, OnOk, OnErr};
+ghost use Rattle.sftp_wire.specs.Body.{Grows};
+ghost use Rattle.sftp_history.specs.Texts.{text_of, file_text};
+ghost use Rattle.sftp_text.specs.Traces.{journal_of};
+
+use crate::frames::put_frames;
+use crate::outcomes::put_lanes;
+use crate::put::{put_bytes_behind, put_word};
+use sftp_history::Report;
+use ssh_encoding::OutOfMemory;
+use std::alloc::Global;
+
+/// Appends the text of a report: a line for each frame that was sent or taken, and then one for each outcome. Refused
+/// for want of memory, and likewise where a frame's length or count doesn't fit four bytes; `out` is unchanged then.
+pub fn write_text(alloc: Global, report: &Report, out: &mut Vec<u8>) -> Result<(), OutOfMemory>
+    ensures ok { OnOk result (out.new.items ≡ out.old.items ++ text_of (journal_of report.now.trace) report.now.outcomes) }
+    ensures err { OnErr result (out.new.items ≡ out.old.items) }
+{
+    let before = out.len();
+    match put_text(alloc, report, out) {
+        Ok(()) => Ok(()),
+        Err(OutOfMemory) => {
+            out.truncate(before);
+            Err(OutOfMemory)
+        }
+    }
+}
+
+/// The lines of the frames, and then those of the outcomes.
+#[tactic(auto, using(sftp_wire::proofs::Puts::puts))]
+fn put_text(alloc: Global, report: &Report, out: &mut Vec<u8>) -> Result<(), OutOfMemory>
+    ensures ok { OnOk result (out.new.items ≡ out.old.items ++ text_of (journal_of report.now.trace) report.now.outcomes) }
+    ensures grows { Grows out.old.items out.new.items }
+{
+    put_frames(alloc, report.trace.as_slice(), out)?;
+    put_lanes(alloc, report.outcomes.as_slice(), out)
+}
+
+/// Appends the line of a file that is left. Refused for want of memory; `out` is unchanged then.
+pub fn write_file(
+    _alloc: Global,
+    name: &[u8],
+    content: &[u8],
+    out: &mut Vec<u8>,
+) -> Result<(), OutOfMemory>
+    ensures ok { OnOk result (out.new.items ≡ out.old.items ++ file_text name.now content.now) }
+    ensures err { OnErr result (out.new.items ≡ out.old.items) }
+{
+    let before = out.len();
+    match put_file(name, content, out) {
+        Ok(()) => Ok(()),
+        Err(OutOfMemory) => {
+            out.truncate(before);
+            Err(OutOfMemory)
+        }
+    }
+}
+
+/// The line of a file.
+#[tactic(auto, using(sftp_wire::proofs::Puts::puts))]
+fn put_file(name: &[u8], content: &[u8], out: &mut Vec<u8>) -> Result<(), OutOfMemory>
+    ensures ok { OnOk result (out.new.items ≡ out.old.items ++ file_text name.now content.now) }
+    ensures grows { Grows out.old.items out.new.items }
+{
+    put_bytes_behind("file ", name, out)?;
+    put_bytes_behind(" ", content, out)?;
+    put_word("\n", out)
+}

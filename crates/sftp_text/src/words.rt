@@ -1,0 +1,84 @@
+// The words of requests, replies and refusals.
+ghost use Rattle.std.specs.Prelude.{◌≡◌};
+ghost use Rattle.sftp_history.specs.Texts.{request_word, reply_word, kind_name, extension_word};
+
+use bitflags::Flags;
+use sftp_model::{Extensions, IoKind, Reply, Request};
+
+/// The word of a request.
+pub(crate) fn request_word(request: &Request) -> &'static str
+    ensures { result.now ≡ request_word request.now }
+{
+    match request {
+        Request::Init { .. } => "init",
+        Request::OpenFile { .. } => "open",
+        Request::Close { .. } => "close",
+        Request::Read { .. } => "read",
+        Request::Write { .. } => "write",
+        Request::Lstat { .. } => "lstat",
+        Request::Fstat { .. } => "fstat",
+        Request::Setstat { .. } => "setstat",
+        Request::Fsetstat { .. } => "fsetstat",
+        Request::Opendir { .. } => "opendir",
+        Request::Readdir { .. } => "readdir",
+        Request::Remove { .. } => "remove",
+        Request::Mkdir { .. } => "mkdir",
+        Request::Rmdir { .. } => "rmdir",
+        Request::Realpath { .. } => "realpath",
+        Request::Stat { .. } => "stat",
+        Request::Rename { .. } => "rename",
+        Request::Readlink { .. } => "readlink",
+        Request::Symlink { .. } => "symlink",
+        Request::PosixRename { .. }
+        | Request::Hardlink { .. }
+        | Request::Fsync { .. }
+        | Request::ExpandPath { .. }
+        | Request::CopyData { .. }
+        | Request::LimitsQuery => "extended",
+    }
+}
+
+/// The word of a reply.
+pub(crate) fn reply_word(reply: &Reply) -> &'static str
+    ensures { result.now ≡ reply_word reply.now }
+{
+    match reply {
+        Reply::Version { .. } => "version",
+        Reply::Status { .. } => "status",
+        Reply::Handle(_) => "handle",
+        Reply::Content(_) => "data",
+        Reply::Names(_) => "name",
+        Reply::Attrs(_) => "attrs",
+        Reply::Extended(_) => "extended_reply",
+    }
+}
+
+/// The name of what the client found wrong.
+pub(crate) fn kind_name(kind: IoKind) -> &'static str
+    ensures { result.now ≡ kind_name kind }
+{
+    match kind {
+        IoKind::NotReadable => "NotReadable",
+        IoKind::NotWritable => "NotWritable",
+        IoKind::SeekFromEnd => "SeekFromEnd",
+        IoKind::SeekOverflow => "SeekOverflow",
+        IoKind::SeekUnderflow => "SeekUnderflow",
+        IoKind::OffsetOverflow => "OffsetOverflow",
+        IoKind::PathTooLong => "PathTooLong",
+        IoKind::UnexpectedEof => "UnexpectedEof",
+    }
+}
+
+/// The word of a set that has one extension.
+pub(crate) fn extension_word(extension: Extensions) -> &'static str
+    ensures { result.now ≡ extension_word extension.0 }
+{
+    match extension.bits() {
+        1 => "posix-rename",
+        2 => "hardlink",
+        4 => "fsync",
+        8 => "expand-path",
+        16 => "copy-data",
+        _ => "limits",
+    }
+}
