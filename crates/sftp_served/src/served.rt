@@ -6,7 +6,7 @@ ghost use Rattle.sftp_history.specs.Runs.{IsRun};
 ghost use Rattle.sftp_history.specs.Served.{Serves};
 ghost use Rattle.sftp_lanes.specs.Session.{IsFixed, at_rest};
 ghost use Rattle.sftp_map_server.specs.Serving.{version_reply};
-ghost use Rattle.sftp_served.specs.Unopened.{IsUnopened, IsFitting};
+ghost use Rattle.sftp_served.specs.Unopened.{IsUnopened};
 
 use sftp_history::Turn;
 use sftp_lanes::{Phase, RunsLanes, run_session};
@@ -29,7 +29,6 @@ pub fn run_served<X: RunsLanes>(
     requires rest { X.stage session.old ≡ at_rest }
     requires lanes { are_ok (X.given session.old).lanes ≡ true }
     requires unopened { IsUnopened server.old.first }
-    requires fitting { IsFitting server.old.first }
     requires quiet { server.old.log ≡ [] }
     ensures run { OnOk result (IsRun (X.setting session.new) schedule.now (X.stage session.new).past) }
     ensures fixed { OnOk result (IsFixed (X.given session.old) (X.version session.new) (X.stage session.new).past (X.setting session.new)) }
