@@ -2,7 +2,7 @@
 use Rattle.std.proofs.Common.{◌≡◌, ◌≢◌, ◌<◌, ◌≤◌, ◌==◌, ℕ, zero, suc, ◌+◌, Bool, true, false, List, [], ◌∷◌, ◌++◌, length, Option, Some, None, refl, ap, sym, ◌∙◌, subst, arith, if◌then◌else◌, inl, inr}
 use Rattle.std.specs.Prelude.{◌&&◌, nat_lt, is_some, slice_get, MatchBool}
 use Rattle.std.specs.List.{sum_by, list_all}
-use Rattle.std.proofs.lemmas.Bool.Decides.{nat_tests, eqb_tells}
+use Rattle.std.proofs.lemmas.Bool.Decides.{eqb_tells}
 use Rattle.std.proofs.lemmas.Bool.{ne_eqb, eq-eqb}
 use Rattle.std.proofs.lemmas.List.{append-nil}
 use Rattle.std.proofs.lemmas.List.Sums.{sum_by-cons}
@@ -21,13 +21,14 @@ use Rattle.sftp_history.specs.declared.entry.Entry.{Entry}
 use Rattle.sftp_history.specs.declared.entry.Entry.TheVariants as entry
 use Rattle.sftp_history.specs.Readings.{asked, answer, sent, own, ended, awaited}
 use Rattle.sftp_history.specs.Calls.{Setting, added, calls_of, lane_calls, current, move_at, move_of, site_of}
-use Rattle.sftp_history.specs.Journals.{IsJournal, MayTake, cancelled_end}
+use Rattle.sftp_history.specs.Journals.{IsJournal, IsNext, MayTake, cancelled_end}
 use Rattle.sftp_history.specs.CallLaws.{next_submit}
 use Rattle.sftp_history.specs.Lanes.{weight, lane_weight, weight_limit, is_within, are_ok}
 use Rattle.sftp_history.specs.Runs.{TurnsTo, RoundsTo, EndsTo, LetsGoTo, DrainsTo, Opens, round_of, IsRun}
 use Rattle.sftp_history.specs.Turns.{Stage, TurnTo, MovesBy, RulesTo, ClosesTo, is_full, is_begun, begun_but}
 use Rattle.sftp_map_server.specs.Granting.{all_handles}
 use Rattle.sftp_served.proofs.Sound.{TakesFit, grants_fit, asks_once}
+use Rattle.sftp_served.proofs.Replying.{both_of, is_less}
 use Rattle.sftp_served.proofs.Serving.{called}
 
 -- ---- a run adds no call
@@ -129,14 +130,8 @@ some_le : (places : List ℕ) → some_of places ≤ 1
 some_le [] = omega arith
 some_le (p ∷ places) = omega arith
 
--- a run so far whose handles fit, and the facts that it goes by
-record Known (s : Setting) (past : List Entry) : Type 0 where
-  run : IsJournal s past
-  fits : TakesFit past
-  most : s.facts.read_len ≤ greatest_len
-
-asked_none : (s : Setting) (past : List Entry) (lane call id : ℕ) (r : Request) → Known s (entry.Event (Submit (owner.Call lane call) id r) ∷ past) → own past lane (ended past lane) ≡ []
-asked_none s past lane call id r k = (asks_once s past lane r (grants_fit past k.fits) k.most (next_submit s past lane call id r k.run.0).1).0
+asked_none : (s : Setting) (past : List Entry) (lane call id : ℕ) (r : Request) → IsNext s past (entry.Event (Submit (owner.Call lane call) id r)) → TakesFit past → s.facts.read_len ≤ greatest_len → own past lane (ended past lane) ≡ []
+asked_none s past lane call id r next f m = (asks_once s past lane r (grants_fit past f) m (next_submit s past lane call id r next).1).0
 
 -- by the calls that ended, and one where the next has asked
 by_ends : (s : Setting) (past : List Entry) (lane : ℕ) → IsJournal s past → TakesFit past → s.facts.read_len ≤ greatest_len → called_by past lane ≤ ended past lane + some_of (own past lane (ended past lane))
@@ -147,7 +142,7 @@ by_ends s (entry.Event (Submit (owner.Call l call) id r) ∷ past) lane j f m =
       | inl t ↦
           let now : call ≡ ended past l = (next_submit s past l call id r j.0).0 in
           let same : (call == ended past lane) ≡ true = eq-eqb call (ended past lane) (now ∙ ap (ended past) t.1) in
-          let none : own past lane (ended past lane) ≡ [] = subst (λ (k : ℕ). own past k (ended past k) ≡ []) t.1 (asked_none s past l call id r (record { run = j; fits = f; most = m })) in
+          let none : own past lane (ended past lane) ≡ [] = subst (λ (k : ℕ). own past k (ended past k) ≡ []) t.1 (asked_none s past l call id r j.0 f m) in
           let most : called_by past lane ≤ ended past lane + 0 = rw none at old in
           rw (t.0, same, none) (omega (arith, most))
       | inr t ↦ rw t.0 old
@@ -191,7 +186,7 @@ by_calls s [] lane p j f m = omega arith
 by_calls s (entry.Event (Submit (owner.Call l call) id r) ∷ past) lane p j f m =
     elim (eqb_tells l lane) [
       | inl t ↦
-          let none : own past l (ended past l) ≡ [] = asked_none s past l call id r (record { run = j; fits = f; most = m }) in
+          let none : own past l (ended past l) ≡ [] = asked_none s past l call id r j.0 f m in
           let nothing : some_of (own past l (ended past l)) ≡ 0 = ap some_of none in
           let old = by_ends s past l j.1 f m in
           let below = asks_below s past l r p (next_submit s past l call id r j.0).1 in
@@ -272,18 +267,11 @@ sum_weighs f k (lane ∷ lanes) h =
     let both : sum_by lane_weight (lane ∷ lanes) ≡ (1 + sum_by weight lane.calls) + sum_by lane_weight lanes = sum_by-cons lane_weight lane lanes in
     omega (arith, here, zero_is, one, more, both)
 
-both_right : (a b : Bool) → (a && b) ≡ true → b ≡ true
-both_right true b e = e
-both_right false b e = absurd cc
-
-less_is : (n m : ℕ) → nat_lt n m ≡ true → n < m
-less_is n m e = grind (arith, nat_tests)
-
 -- of lanes that a session can be given
 pub run_calls : (s : Setting) (turns : List Turn) (past : List Entry) → IsRun s turns past → IsJournal s past → TakesFit past → s.facts.read_len ≤ greatest_len → are_ok s.lanes ≡ true → called past < all_handles
 run_calls s turns past run j f m ok =
     let p = run_plain s turns past run in
     let sum = called_sum s past p j in
     let weighs = sum_weighs (called_by past) 0 s.lanes (λ i. let is : i ≡ 0 + i = omega arith in subst (λ (k : ℕ). called_by past k ≤ length (calls_of (slice_get s.lanes i))) is (by_calls s past i p j f m)) in
-    let most : sum_by lane_weight s.lanes < weight_limit = less_is _ _ (both_right (list_all (λ lane. list_all is_within lane.calls) s.lanes) _ ok) in
+    let most : sum_by lane_weight s.lanes < weight_limit = is_less _ _ (both_of (list_all (λ lane. list_all is_within lane.calls) s.lanes) _ ok).1 in
     omega (arith, sum, weighs, most)

@@ -8,3 +8,4 @@ pub mod Stopping
 pub mod Serving
 pub mod Counting
 pub mod Whole
+pub mod Scripted

@@ -271,10 +271,10 @@ tell_right (suc n) = tells_right n && tell_right n
 all_right : tell_right 64 ≡ true
 all_right = refl
 
-lt_or_is : (n set : ℕ) → set < suc n → (set < n) ⊎ (set ≡ n)
+pub lt_or_is : (n set : ℕ) → set < suc n → (set < n) ⊎ (set ≡ n)
 lt_or_is n set h = grind arith
 
-both_of : (a b : Bool) → (a && b) ≡ true → (a ≡ true) × (b ≡ true)
+pub both_of : (a b : Bool) → (a && b) ≡ true → (a ≡ true) × (b ≡ true)
 both_of true b e = (refl, e)
 both_of false b e = absurd cc
 
@@ -286,7 +286,7 @@ each_right (suc n) set e h =
       | inr is ↦ rw is (both_of (tells_right n) (tell_right n) e).0
     ]
 
-is_less : (n m : ℕ) → nat_lt n m ≡ true → n < m
+pub is_less : (n m : ℕ) → nat_lt n m ≡ true → n < m
 is_less n m e = grind (arith, nat_tests)
 
 not_is : (b : Bool) → not b ≡ true → b ≡ false

@@ -214,20 +214,20 @@ stays at = refl
 after_query : (at : Desk) (r : Request) → r ≡ request.LimitsQuery → next_desk at r ≡ at
 after_query at r e = ap (next_desk at) e ∙ stays at
 
+fewer : (q : List Entry) (by : Owner) (id : ℕ) (r : Request) → called (entry.Event (Submit by id r) ∷ q) < all_handles → called q < all_handles
+fewer q owner.Setup id r lt = lt
+fewer q owner.Close id r lt = lt
+fewer q (owner.Call lane call) id r lt = let l : called q + 1 < all_handles = lt in omega (arith, l)
+
 -- all that was submitted
 ran_all : (d : Desk) (full q : List Entry) → d.granting.grants ≡ 0 → d.granting.machine.handles ≡ [] → IsSound (tells_of d) q → ((p : ℕ) → p < asked q → AnswersBy (answer full p) (due d q p)) → called q < all_handles
     → Ran d full (requests_of q) (desk_of d q) (called q)
 ran_all d full [] none closed s by few =
     record { serves = refl; left = refl; new = λ k le lt. ap (λ (w : List (List ℕ × Held)). at_key w (handle_of k)) closed; few = omega (arith, none); config = refl }
 ran_all d full (entry.Event (Submit by id r) ∷ q) none closed s by_place few =
-    by_case by s.1 (ran_all d full q none closed s.2 (λ p lt. subst (AnswersBy (answer full p)) (due_old d q by id p r lt) (by_place p (omega (arith, lt)))) (fewer by few))
+    by_case by s.1 (ran_all d full q none closed s.2 (λ p lt. subst (AnswersBy (answer full p)) (due_old d q by id p r lt) (by_place p (omega (arith, lt)))) (fewer q by id r few))
     (subst (AnswersBy (answer full (asked q))) (due_new d q by id r) (by_place (asked q) (omega arith))) few
   where
-    fewer : (by : Owner) → called (entry.Event (Submit by id r) ∷ q) < all_handles → called q < all_handles
-    fewer owner.Setup lt = lt
-    fewer owner.Close lt = lt
-    fewer (owner.Call lane call) lt = let l : called q + 1 < all_handles = lt in omega (arith, l)
-
     by_case : (by : Owner) → FitsBy (tells_of d) by r → Ran d full (requests_of q) (desk_of d q) (called q)
         → AnswersBy (answer full (asked q)) (Some (record { by = by; id = id; request = r }, reply_to (desk_of d q) r)) → called (entry.Event (Submit by id r) ∷ q) < all_handles
         → Ran d full (requests_of (entry.Event (Submit by id r) ∷ q)) (next_desk (desk_of d q) r) (called (entry.Event (Submit by id r) ∷ q))
@@ -251,12 +251,7 @@ ran_sent : (d : Desk) (full q : List Entry) → d.granting.grants ≡ 0 → d.gr
 ran_sent d full [] none closed s by few = refl
 ran_sent d full (entry.Event Send ∷ q) none closed s by few = (ran_all d full q none closed s by few).serves
 ran_sent d full (entry.Event (Submit o id r) ∷ q) none closed s by few =
-    ran_sent d full q none closed s.2 (λ p lt. subst (AnswersBy (answer full p)) (due_old d q o id p r lt) (by p (omega (arith, lt)))) (fewer o few)
-  where
-    fewer : (by : Owner) → called (entry.Event (Submit by id r) ∷ q) < all_handles → called q < all_handles
-    fewer owner.Setup lt = lt
-    fewer owner.Close lt = lt
-    fewer (owner.Call lane call) lt = let l : called q + 1 < all_handles = lt in omega (arith, l)
+    ran_sent d full q none closed s.2 (λ p lt. subst (AnswersBy (answer full p)) (due_old d q o id p r lt) (by p (omega (arith, lt)))) (fewer q o id r few)
 ran_sent d full (_ ∷ q) none closed s by few = ran_sent d full q none closed s by few
 
 -- ---- the limits

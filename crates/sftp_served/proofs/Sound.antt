@@ -146,15 +146,9 @@ close_asks slot site places answers Empty h = record { within = tt }
 close_asks slot site places answers (File file) h = close_grant_asks file.grant (with_slot site slot Empty) places answers h
 close_asks slot site places answers (Buffered file buffer) h = close_grant_asks file.grant (with_slot site slot Empty) places answers h
 
-rights_le : (a b c : Bool) → (if a then 1 else 0) + (if b then 2 else 0) + (if c then 4 else 0) ≤ 7
-rights_le true true true = omega arith
-rights_le true true false = omega arith
-rights_le true false true = omega arith
-rights_le true false false = omega arith
-rights_le false true true = omega arith
-rights_le false true false = omega arith
-rights_le false false true = omega arith
-rights_le false false false = omega arith
+if_le : (b : Bool) (n : ℕ) → (if b then n else 0) ≤ n
+if_le true n = omega arith
+if_le false n = omega arith
 
 making_le : (a b c : Bool) → (if a then 8 + 32 else if b then 8 + 16 else if c then 8 else 0) ≤ 40
 making_le true b c = omega arith
@@ -163,7 +157,12 @@ making_le false false true = omega arith
 making_le false false false = omega arith
 
 flags_fit : (o : OpenOptions) → FitsSet (flags_of o).0
-flags_fit o = let r = rights_le o.read (o.write || o.append) o.append in let m = making_le o.create_new (o.create && o.truncate) o.create in omega (arith, r, m)
+flags_fit o =
+    let r = if_le o.read 1 in
+    let w = if_le (o.write || o.append) 2 in
+    let a = if_le o.append 4 in
+    let m = making_le o.create_new (o.create && o.truncate) o.create in
+    omega (arith, r, w, a, m)
 
 call_asks : (c : Call) (site : Site) (facts : Facts) (places : List ℕ) (answers : Answers) → GrantsFit answers → facts.read_len ≤ greatest_len → Asks places (next c site facts places answers)
 call_asks (call.OpenFile slot flags path) site facts places answers h k = open_asks slot (flags_of flags) path site facts places answers (flags_fit flags)

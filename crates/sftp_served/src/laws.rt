@@ -1,10 +1,13 @@
 // Laws of runs over a server of files in memory. The functions do nothing: what they ensure holds of all values.
-ghost use Rattle.std.specs.Prelude.{◌≡◌, [], List, Option, Some, true, Err};
+ghost use Rattle.std.specs.Prelude.{◌≡◌, ℕ, [], List, Option, Some, true, Ok, Err};
 ghost use Rattle.sftp_model.specs.declared.error.Error.{Error};
 ghost use Rattle.sftp_model.specs.declared.error.Error.TheVariants as error;
 ghost use Rattle.sftp_model.specs.declared.reply.Reply.{Reply};
 ghost use Rattle.sftp_link.specs.Told.{Told};
 ghost use Rattle.sftp_history.specs.declared.entry.Entry.{Entry};
+ghost use Rattle.sftp_history.specs.Scripts.{script_of};
+ghost use Rattle.sftp_history.specs.declared.script.Script.{Script};
+ghost use Rattle.sftp_model.specs.Fits.{FitsSet};
 ghost use Rattle.sftp_history.specs.declared.turn.Turn.{Turn};
 ghost use Rattle.sftp_history.specs.Calls.{Setting};
 ghost use Rattle.sftp_history.specs.Lanes.{are_ok};
@@ -33,4 +36,10 @@ pub fn runs_are_served()
     ensures only { (given : Given) (server : Serving) (e : Error) → IsUnopened server.first
         → IsServing server.first server.now server.log server.ended → Ends given server.ended e [] server.log
         → Cause {T = Unit {0}} 0 0 (Err e) → e ≡ error.OutOfMemory }
+{}
+
+/// A script that was read names no unknown extension, so that a server can be made of it.
+pub fn scripts_are_known()
+    ensures { (bytes : List ℕ) (script : Script) → script_of bytes ≡ Ok script
+        → FitsSet script.server.extensions.0 }
 {}

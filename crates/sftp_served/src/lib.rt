@@ -6,7 +6,7 @@ mod laws;
 mod served;
 
 pub use fitting::new_server;
-pub use laws::runs_are_served;
+pub use laws::{runs_are_served, scripts_are_known};
 pub use served::run_served;
 
 #[cfg(test)]
