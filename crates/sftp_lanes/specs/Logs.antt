@@ -84,9 +84,15 @@ BehindHello ended error.LinkFault mid after = GotBytes mid after
 BehindHello ended error.LinkEnded mid after = (ended ≡ true) × GotPart mid after
 BehindHello ended other mid after = GotUnusable refuses_hello other mid after
 
--- before VERSION was taken: a part of the hello, or the hello and then a part
+-- why not all could be sent: for want of memory, or by a fault of the link
+abbrev pub IsUnsent : Error → Type 0
+IsUnsent error.OutOfMemory = Unit {0}
+IsUnsent error.LinkFault = Unit {0}
+IsUnsent other = ⊥
+
+-- before VERSION was taken: a part of the hello, where not all could be sent, or the hello and then a part
 abbrev pub HelloStops : Bool → Error → List Piece → List Piece → Type 0
-HelloStops ended e before after = SentPart hello_frame before after ⊎ ((mid : List Piece) × (SentOn before mid hello_frame × BehindHello ended e mid after))
+HelloStops ended e before after = (IsUnsent e × SentPart hello_frame before after) ⊎ ((mid : List Piece) × (SentOn before mid hello_frame × BehindHello ended e mid after))
 
 -- where a session stops, VERSION was not taken, or the log shows VERSION, a journal that is a run of the lanes so
 -- far, and a part

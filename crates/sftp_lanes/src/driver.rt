@@ -38,6 +38,7 @@ pub fn run_session<X: RunsLanes, L: Link>(
     ensures stops { IfErr result (λ e. Told (Ends (X.given session.old) (L.LinkState.ended link.new) e) (L.LinkState.log link.old) (L.LinkState.log link.new)) }
     ensures cause { Cause (L.LinkState.faults link.old) (L.LinkState.faults link.new) result }
     ensures end { EndCause (L.LinkState.ended link.new) result }
+    ensures service { L.LinkState.service link.new ≡ L.LinkState.service link.old }
 {
     match open(alloc, session, link) {
         Ok(()) => {}

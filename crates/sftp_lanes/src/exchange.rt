@@ -43,6 +43,7 @@ pub(crate) fn send_pieces<L: LinkOut>(link: &mut L, pieces: &[Bytes]) -> Result<
     requires { L.LinkState.faults link.old < 2 ^ 64 - 1 }
     ensures log { SendsAll (joined pieces.now) (L.LinkState.log link.old) (L.LinkState.log link.new) result }
     ensures cause { DeviceCause (L.LinkState.faults link.old) (L.LinkState.faults link.new) result }
+    ensures service { L.LinkState.service link.new ≡ L.LinkState.service link.old }
 {
     for piece in pieces {
         send_all(link, piece)?;
@@ -65,6 +66,7 @@ fn take_part<L: LinkIn>(
     ensures stops { IfErr result (λ e. Told (PullFails e reader.old) (L.LinkState.log link.old) (L.LinkState.log link.new)) }
     ensures cause { Cause (L.LinkState.faults link.old) (L.LinkState.faults link.new) result }
     ensures end { EndCause (L.LinkState.ended link.new) result }
+    ensures service { L.LinkState.service link.new ≡ L.LinkState.service link.old }
 {
     match recv_exact(link, room) {
         Ok(true) => {}
@@ -88,6 +90,7 @@ pub(crate) fn read_frame<L: LinkIn>(alloc: Global, link: &mut L) -> Result<Frame
     ensures stops { IfErr result (λ e. Told (ReadFails e) (L.LinkState.log link.old) (L.LinkState.log link.new)) }
     ensures cause { Cause (L.LinkState.faults link.old) (L.LinkState.faults link.new) result }
     ensures end { EndCause (L.LinkState.ended link.new) result }
+    ensures service { L.LinkState.service link.new ≡ L.LinkState.service link.old }
 {
     let mut reader = FrameReader::new(alloc);
     let mut len = [0u8; 4];

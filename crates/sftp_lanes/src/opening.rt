@@ -26,6 +26,7 @@ fn greet<X: RunsLanes, L: Link>(alloc: Global, session: &mut X, link: &mut L) ->
     ensures given { X.given session.new ≡ X.given session.old }
     ensures cause { Cause (L.LinkState.faults link.old) (L.LinkState.faults link.new) result }
     ensures end { EndCause (L.LinkState.ended link.new) result }
+    ensures service { L.LinkState.service link.new ≡ L.LinkState.service link.old }
 {
     let chunk = match session.greet() {
         Ok(chunk) => chunk,
@@ -69,6 +70,7 @@ fn ask_limits<X: RunsLanes, L: Link>(
     ensures given { X.given session.new ≡ X.given session.old }
     ensures cause { Cause (L.LinkState.faults link.old) (L.LinkState.faults link.new) result }
     ensures end { EndCause (L.LinkState.ended link.new) result }
+    ensures service { L.LinkState.service link.new ≡ L.LinkState.service link.old }
 {
     let chunk = match session.query() {
         Ok(chunk) => chunk,
@@ -108,6 +110,7 @@ pub(crate) fn open<X: RunsLanes, L: Link>(
     ensures stops { IfErr result (λ e. Told (Ends (X.given session.old) (L.LinkState.ended link.new) e) (L.LinkState.log link.old) (L.LinkState.log link.new)) }
     ensures cause { Cause (L.LinkState.faults link.old) (L.LinkState.faults link.new) result }
     ensures end { EndCause (L.LinkState.ended link.new) result }
+    ensures service { L.LinkState.service link.new ≡ L.LinkState.service link.old }
 {
     match greet(alloc, session, link) {
         Ok(true) => match ask_limits(alloc, session, link) {

@@ -33,6 +33,7 @@ pub(crate) fn run_turns<X: RunsLanes, L: Link>(
     ensures same { X.setting session.new ≡ X.setting session.old }
     ensures cause { Cause (L.LinkState.faults link.old) (L.LinkState.faults link.new) result }
     ensures end { EndCause (L.LinkState.ended link.new) result }
+    ensures service { L.LinkState.service link.new ≡ L.LinkState.service link.old }
 {
     for turn in schedule {
         match one_turn(alloc, session, link, *turn) {
@@ -62,6 +63,7 @@ fn one_round<X: RunsLanes, L: Link>(
     ensures same { X.setting session.new ≡ X.setting session.old }
     ensures cause { Cause (L.LinkState.faults link.old) (L.LinkState.faults link.new) result }
     ensures end { EndCause (L.LinkState.ended link.new) result }
+    ensures service { L.LinkState.service link.new ≡ L.LinkState.service link.old }
 {
     match step_turn(session, link, lane) {
         Ok(()) => {}
@@ -96,6 +98,7 @@ fn end_lane<X: RunsLanes, L: Link>(
     ensures same { X.setting session.new ≡ X.setting session.old }
     ensures cause { Cause (L.LinkState.faults link.old) (L.LinkState.faults link.new) result }
     ensures end { EndCause (L.LinkState.ended link.new) result }
+    ensures service { L.LinkState.service link.new ≡ L.LinkState.service link.old }
 {
     while !session.is_done(lane) {
         match one_round(alloc, session, link, lane) {
@@ -124,6 +127,7 @@ pub(crate) fn end_lanes<X: RunsLanes, L: Link>(
     ensures same { X.setting session.new ≡ X.setting session.old }
     ensures cause { Cause (L.LinkState.faults link.old) (L.LinkState.faults link.new) result }
     ensures end { EndCause (L.LinkState.ended link.new) result }
+    ensures service { L.LinkState.service link.new ≡ L.LinkState.service link.old }
 {
     for lane in 0..session.lane_count() {
         match end_lane(alloc, session, link, lane) {
@@ -152,6 +156,7 @@ fn let_go_one<X: RunsLanes, L: Link>(session: &mut X, link: &mut L, lane: u32) -
     ensures same { X.setting session.new ≡ X.setting session.old }
     ensures cause { Cause (L.LinkState.faults link.old) (L.LinkState.faults link.new) result }
     ensures end { EndCause (L.LinkState.ended link.new) result }
+    ensures service { L.LinkState.service link.new ≡ L.LinkState.service link.old }
 {
     match session.let_go(lane) {
         Ok(()) => match settle(session, link) {
@@ -180,6 +185,7 @@ pub(crate) fn let_go_lanes<X: RunsLanes, L: Link>(
     ensures same { X.setting session.new ≡ X.setting session.old }
     ensures cause { Cause (L.LinkState.faults link.old) (L.LinkState.faults link.new) result }
     ensures end { EndCause (L.LinkState.ended link.new) result }
+    ensures service { L.LinkState.service link.new ≡ L.LinkState.service link.old }
 {
     for lane in 0..session.lane_count() {
         match let_go_one(session, link, lane) {
@@ -208,6 +214,7 @@ fn one_drain<X: RunsLanes, L: Link>(
     ensures same { X.setting session.new ≡ X.setting session.old }
     ensures cause { Cause (L.LinkState.faults link.old) (L.LinkState.faults link.new) result }
     ensures end { EndCause (L.LinkState.ended link.new) result }
+    ensures service { L.LinkState.service link.new ≡ L.LinkState.service link.old }
 {
     match flush_turn(session, link) {
         Ok(()) => {}
@@ -237,6 +244,7 @@ pub(crate) fn drain<X: RunsLanes, L: Link>(
     ensures same { X.setting session.new ≡ X.setting session.old }
     ensures cause { Cause (L.LinkState.faults link.old) (L.LinkState.faults link.new) result }
     ensures end { EndCause (L.LinkState.ended link.new) result }
+    ensures service { L.LinkState.service link.new ≡ L.LinkState.service link.old }
 {
     while session.unanswered() > 0 {
         match one_drain(alloc, session, link) {

@@ -30,6 +30,7 @@ pub(crate) fn flush<X: RunsLanes, L: Link>(session: &mut X, link: &mut L) -> Res
     ensures same { X.setting session.new ≡ X.setting session.old }
     ensures cause { Cause (L.LinkState.faults link.old) (L.LinkState.faults link.new) result }
     ensures end { EndCause (L.LinkState.ended link.new) result }
+    ensures service { L.LinkState.service link.new ≡ L.LinkState.service link.old }
 {
     let chunk = match session.hand_out() {
         Ok(Some(chunk)) => chunk,
@@ -61,6 +62,7 @@ pub(crate) fn settle<X: RunsLanes, L: Link>(session: &mut X, link: &mut L) -> Re
     ensures same { X.setting session.new ≡ X.setting session.old }
     ensures cause { Cause (L.LinkState.faults link.old) (L.LinkState.faults link.new) result }
     ensures end { EndCause (L.LinkState.ended link.new) result }
+    ensures service { L.LinkState.service link.new ≡ L.LinkState.service link.old }
 {
     if !session.wants_flush() {
         return Ok(());
@@ -89,6 +91,7 @@ pub(crate) fn step_turn<X: RunsLanes, L: Link>(
     ensures same { X.setting session.new ≡ X.setting session.old }
     ensures cause { Cause (L.LinkState.faults link.old) (L.LinkState.faults link.new) result }
     ensures end { EndCause (L.LinkState.ended link.new) result }
+    ensures service { L.LinkState.service link.new ≡ L.LinkState.service link.old }
 {
     let stepped = match session.step(lane) {
         Ok(stepped) => stepped,
@@ -118,6 +121,7 @@ pub(crate) fn flush_turn<X: RunsLanes, L: Link>(session: &mut X, link: &mut L) -
     ensures same { X.setting session.new ≡ X.setting session.old }
     ensures cause { Cause (L.LinkState.faults link.old) (L.LinkState.faults link.new) result }
     ensures end { EndCause (L.LinkState.ended link.new) result }
+    ensures service { L.LinkState.service link.new ≡ L.LinkState.service link.old }
 {
     match flush(session, link) {
         Ok(()) => Ok(()),
@@ -143,6 +147,7 @@ pub(crate) fn take_turn<X: RunsLanes, L: Link>(
     ensures same { X.setting session.new ≡ X.setting session.old }
     ensures cause { Cause (L.LinkState.faults link.old) (L.LinkState.faults link.new) result }
     ensures end { EndCause (L.LinkState.ended link.new) result }
+    ensures service { L.LinkState.service link.new ≡ L.LinkState.service link.old }
 {
     if session.awaited() == 0 {
         return Ok(());
@@ -180,6 +185,7 @@ pub(crate) fn cancel_turn<X: RunsLanes, L: Link>(
     ensures same { X.setting session.new ≡ X.setting session.old }
     ensures cause { Cause (L.LinkState.faults link.old) (L.LinkState.faults link.new) result }
     ensures end { EndCause (L.LinkState.ended link.new) result }
+    ensures service { L.LinkState.service link.new ≡ L.LinkState.service link.old }
 {
     match session.cancel(lane) {
         Ok(true) => match settle(session, link) {
@@ -209,6 +215,7 @@ pub(crate) fn one_turn<X: RunsLanes, L: Link>(
     ensures same { X.setting session.new ≡ X.setting session.old }
     ensures cause { Cause (L.LinkState.faults link.old) (L.LinkState.faults link.new) result }
     ensures end { EndCause (L.LinkState.ended link.new) result }
+    ensures service { L.LinkState.service link.new ≡ L.LinkState.service link.old }
 {
     match turn {
         Turn::Step(lane) => step_turn(session, link, lane),

@@ -13,7 +13,7 @@ returns-in_err-send_all-clause-log g c =
 
 pub loop-piece-preserved : goal.loop-piece-preserved
 loop-piece-preserved g c = (
-  c.in_ok-send_all.ensures.cause ∙ c.loop-piece.invariant.0,
+  (c.in_ok-send_all.ensures.cause ∙ c.loop-piece.invariant.0.0, c.in_ok-send_all.ensures.same ∙ c.loop-piece.invariant.0.1),
   told_on _ _ _ (g.L.LinkState.log c.args.link.now) (g.L.LinkState.log c.loop-piece.link) (g.L.LinkState.log c.send_all.new.link) c.loop-piece.invariant.1 c.in_ok-send_all.ensures.log
       (λ x y z s t. sent_next c.args.pieces.now c.loop-piece.piece-index _ x y z (take_more c.args.pieces.now c.loop-piece.piece-index _ c.loop-piece-test.true) s (rw (c.deref.ensures ∙ c.piece-item.is) at t)),
 )

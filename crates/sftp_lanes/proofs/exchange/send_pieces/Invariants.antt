@@ -5,5 +5,5 @@ use Rattle.sftp_lanes.proofs.exchange.send_pieces.Given as goal
 
 abbrev pub invariant-loop-piece : goal.invariant-loop-piece
 invariant-loop-piece g l =
-    (g.L.LinkState.faults l.link ≡ g.L.LinkState.faults l.initial.link)
+    ((g.L.LinkState.faults l.link ≡ g.L.LinkState.faults l.initial.link) × (g.L.LinkState.service l.link ≡ g.L.LinkState.service l.initial.link))
     × Told (SentAll (joined (take l.piece-index l.pieces))) (g.L.LinkState.log l.initial.link) (g.L.LinkState.log l.link)

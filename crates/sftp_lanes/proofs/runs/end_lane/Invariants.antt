@@ -9,7 +9,7 @@ abbrev pub invariant-loop-alloc : goal.invariant-loop-alloc
 invariant-loop-alloc g l =
     ((g.X.RunsLanes.phase l.session ≡ g.X.RunsLanes.phase l.initial.session) × (g.X.RunsLanes.version l.session ≡ g.X.RunsLanes.version l.initial.session))
     × ((g.X.RunsLanes.setting l.session) ≡ (g.X.RunsLanes.setting l.initial.session))
-    × (g.L.LinkState.faults l.link ≡ g.L.LinkState.faults l.initial.link)
+    × ((g.L.LinkState.faults l.link ≡ g.L.LinkState.faults l.initial.link) × (g.L.LinkState.service l.link ≡ g.L.LinkState.service l.initial.link))
     × Told (Keeps (g.X.RunsLanes.stage l.initial.session).past (g.X.RunsLanes.stage l.session).past) (g.L.LinkState.log l.initial.link) (g.L.LinkState.log l.link)
     × GoesOn (g.X.RunsLanes.setting l.initial.session) (g.X.RunsLanes.stage l.initial.session).past (g.X.RunsLanes.stage l.session).past
     × ((n : ℕ) × RoundsTo (g.X.RunsLanes.setting l.initial.session) l.lane n (g.X.RunsLanes.stage l.initial.session) (g.X.RunsLanes.stage l.session))

@@ -6,13 +6,13 @@ use Rattle.sftp_lanes.proofs.runs.end_lanes.Goals as goal
 
 pub loop-lane-init : goal.loop-lane-init
 loop-lane-init g c =
-    ((refl, refl), refl, refl, keeps_self (g.X.RunsLanes.stage c.args.session.now).past (g.L.LinkState.log c.args.link.now), goes_self (g.X.RunsLanes.setting c.args.session.now) (g.X.RunsLanes.stage c.args.session.now).past, refl, (λ k lt. absurd (omega (arith, lt))))
+    ((refl, refl), refl, (refl, refl), keeps_self (g.X.RunsLanes.stage c.args.session.now).past (g.L.LinkState.log c.args.link.now), goes_self (g.X.RunsLanes.setting c.args.session.now) (g.X.RunsLanes.stage c.args.session.now).past, refl, (λ k lt. absurd (omega (arith, lt))))
 
 pub loop-lane-preserved : goal.loop-lane-preserved
 loop-lane-preserved g c = (
   (c.in-Ok.ensures.phase ∙ c.loop-lane.invariant.0.0, c.in-Ok.ensures.version ∙ c.loop-lane.invariant.0.1),
   c.in-Ok.ensures.same ∙ c.loop-lane.invariant.1,
-  c.in-Ok.ensures.cause ∙ c.loop-lane.invariant.2,
+  (c.in-Ok.ensures.cause ∙ c.loop-lane.invariant.2.0, c.in-Ok.ensures.service ∙ c.loop-lane.invariant.2.1),
   keeps_on (g.X.RunsLanes.stage c.args.session.now).past (g.X.RunsLanes.stage c.loop-lane.session).past (g.X.RunsLanes.stage c.end_lane.new.session).past (g.L.LinkState.log c.args.link.now) (g.L.LinkState.log c.loop-lane.link) (g.L.LinkState.log c.end_lane.new.link) c.loop-lane.invariant.3 c.in-Ok.ensures.log,
   goes_on (g.X.RunsLanes.setting c.args.session.now) (g.X.RunsLanes.stage c.args.session.now).past (g.X.RunsLanes.stage c.loop-lane.session).past (g.X.RunsLanes.stage c.end_lane.new.session).past c.loop-lane.invariant.4 (rw c.loop-lane.invariant.1 at c.in-Ok.ensures.goes),
   ends_more (g.X.RunsLanes.setting c.args.session.now) c.loop-lane.lane (rw c.loop-lane.invariant.1 at c.in-Ok.ensures.rounds).0 (g.X.RunsLanes.stage c.args.session.now) (g.X.RunsLanes.stage c.loop-lane.session) (g.X.RunsLanes.stage c.end_lane.new.session) c.loop-lane.invariant.5 (rw c.loop-lane.invariant.1 at c.in-Ok.ensures.rounds).1 (rw c.loop-lane.invariant.1 at c.in-Ok.ensures.done),

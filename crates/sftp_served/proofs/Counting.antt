@@ -1,0 +1,277 @@
+-- The calls of a run submit fewer requests than there are handles.
+use Rattle.std.proofs.Common.{◌≡◌, ◌≢◌, ◌<◌, ◌≤◌, ◌==◌, ℕ, zero, suc, ◌+◌, Bool, true, false, List, [], ◌∷◌, ◌++◌, length, Option, Some, None, refl, ap, sym, ◌∙◌, subst, arith, if◌then◌else◌, inl, inr}
+use Rattle.std.specs.Prelude.{◌&&◌, nat_lt, is_some, slice_get, MatchBool}
+use Rattle.std.specs.List.{sum_by, list_all}
+use Rattle.std.proofs.lemmas.Bool.Decides.{eqb_tells}
+use Rattle.std.proofs.lemmas.Bool.{ne_eqb, eq-eqb}
+use Rattle.std.proofs.lemmas.List.{append-nil}
+use Rattle.std.proofs.lemmas.List.Sums.{sum_by-cons}
+use Rattle.sftp_model.specs.declared.reply.Reply.{Reply}
+use Rattle.sftp_model.specs.declared.request.Request.{Request}
+use Rattle.sftp_model.specs.declared.slot.Move.{Move}
+use Rattle.sftp_model.specs.declared.slot.Move.TheVariants.{Ask, Wait, Done}
+use Rattle.sftp_model.specs.Lengths.{greatest_len}
+use Rattle.sftp_history.specs.declared.call.Call.{Call}
+use Rattle.sftp_history.specs.declared.call.Lane.{Lane}
+use Rattle.sftp_history.specs.declared.turn.Turn.{Turn}
+use Rattle.sftp_history.specs.declared.turn.Turn.TheVariants as turn
+use Rattle.sftp_history.specs.declared.event.Owner.TheVariants as owner
+use Rattle.sftp_history.specs.declared.event.Event.TheVariants.{Submit, Send, Take, Cancel, End}
+use Rattle.sftp_history.specs.declared.entry.Entry.{Entry}
+use Rattle.sftp_history.specs.declared.entry.Entry.TheVariants as entry
+use Rattle.sftp_history.specs.Readings.{asked, answer, sent, own, ended, awaited}
+use Rattle.sftp_history.specs.Calls.{Setting, added, calls_of, lane_calls, current, move_at, move_of, site_of}
+use Rattle.sftp_history.specs.Journals.{IsJournal, IsNext, MayTake, cancelled_end}
+use Rattle.sftp_history.specs.CallLaws.{next_submit}
+use Rattle.sftp_history.specs.Lanes.{weight, lane_weight, weight_limit, is_within, are_ok}
+use Rattle.sftp_history.specs.Runs.{TurnsTo, RoundsTo, EndsTo, LetsGoTo, DrainsTo, Opens, round_of, IsRun}
+use Rattle.sftp_history.specs.Turns.{Stage, TurnTo, MovesBy, RulesTo, ClosesTo, is_full, is_begun, begun_but}
+use Rattle.sftp_map_server.specs.Granting.{all_handles}
+use Rattle.sftp_served.proofs.Sound.{TakesFit, grants_fit, asks_once}
+use Rattle.sftp_served.proofs.Replying.{both_of, is_less}
+use Rattle.sftp_served.proofs.Serving.{called}
+
+-- ---- a run adds no call
+
+-- no call was added
+abbrev pub IsPlain : List Entry → Type 0
+IsPlain [] = Unit {0}
+IsPlain (entry.Added lane c ∷ past) = ⊥
+IsPlain (_ ∷ past) = IsPlain past
+
+abbrev Stays : List Entry → List Entry → Type 0
+Stays before now = IsPlain before → IsPlain now
+
+same_stays : (before now : Stage) → now ≡ before → Stays before.past now.past
+same_stays before now e p = subst (λ (w : Stage). IsPlain w.past) (sym e) p
+
+closes_stay : (s : Setting) (before now : List Entry) → ClosesTo s before now → Stays before now
+closes_stay s before [] e p = tt
+closes_stay s before (e ∷ past) (inl same) p = subst IsPlain same p
+closes_stay s before (e ∷ past) (inr (due, rest)) p = subst (λ (w : Entry). IsPlain (w ∷ past)) (sym due.1.1.1.1) (closes_stay s before past rest p)
+
+sends_stay : (b : Bool) (mid now : List Entry) → MatchBool b (now ≡ entry.Event Send ∷ mid) (now ≡ mid) → Stays mid now
+sends_stay true mid now e p = subst IsPlain (sym e) p
+sends_stay false mid now e p = subst IsPlain (sym e) p
+
+rules_stay : (s : Setting) (before now : List Entry) → RulesTo s before now → Stays before now
+rules_stay s before now to p = sends_stay (is_full s to.0) to.0 now to.1.1 (closes_stay s before to.0 to.1.0.0 p)
+
+moves_stay : (s : Setting) (lane : ℕ) (before now : Stage) (m : Option Move) → MovesBy (RulesTo s) lane before now m → Stays before.past now.past
+moves_stay s lane before now None e p = same_stays before now e p
+moves_stay s lane before now (Some (Wait place)) e p = subst (λ (w : Stage). IsPlain w.past) (sym e) p
+moves_stay s lane before now (Some (Ask r)) to p = rules_stay s (entry.Event (Submit (owner.Call lane (ended before.past lane)) to.1.0 r) ∷ before.past) now.past to.1.1.1 p
+moves_stay s lane before now (Some (Done o site)) to p = rules_stay s (entry.Event (End lane (ended before.past lane) o) ∷ before.past) now.past to.1 p
+
+turn_stays : (s : Setting) (t : Turn) (before now : Stage) → TurnTo s t before now → Stays before.past now.past
+turn_stays s (turn.Step lane) before now to p = moves_stay s lane before now (move_of s before.past lane) to p
+turn_stays s turn.Flush before now to p = by_test (nat_lt (sent before.past) (asked before.past)) to
+  where
+    by_test : (b : Bool) → MatchBool b ((now.begun ≡ before.begun) × RulesTo s (entry.Event Send ∷ before.past) now.past) (now ≡ before) → IsPlain now.past
+    by_test true to = rules_stay s (entry.Event Send ∷ before.past) now.past to.1 p
+    by_test false e = same_stays before now e p
+turn_stays s turn.Take before now to p = by_test (nat_lt 0 (awaited before.past)) to
+  where
+    by_test : (b : Bool) → MatchBool b ((now.begun ≡ before.begun) × ((id : ℕ) × ((r : Reply) × (MayTake before.past id r × RulesTo s (entry.Event (Take id r) ∷ before.past) now.past)))) (now ≡ before) → IsPlain now.past
+    by_test true to = rules_stay s (entry.Event (Take to.1.0 to.1.1.0) ∷ before.past) now.past to.1.1.1.1 p
+    by_test false e = same_stays before now e p
+turn_stays s (turn.Cancel lane) before now to p = by_test (is_some (current s before.past lane) && is_begun before lane) to
+  where
+    by_test : (b : Bool) → MatchBool b ((now.begun ≡ begun_but before.begun lane) × RulesTo s (cancelled_end (entry.Event (Cancel lane) ∷ before.past) lane ∷ entry.Event (Cancel lane) ∷ before.past) now.past) (now ≡ before) → IsPlain now.past
+    by_test true to = rules_stay s (cancelled_end (entry.Event (Cancel lane) ∷ before.past) lane ∷ entry.Event (Cancel lane) ∷ before.past) now.past to.1 p
+    by_test false e = same_stays before now e p
+
+turns_stay : (s : Setting) (turns : List Turn) (before now : Stage) → TurnsTo s turns before now → Stays before.past now.past
+turns_stay s [] before now e p = same_stays before now e p
+turns_stay s (t ∷ turns) before now to p = turns_stay s turns to.0 now to.1.1 (turn_stays s t before to.0 to.1.0 p)
+
+rounds_stay : (s : Setting) (lane n : ℕ) (before now : Stage) → RoundsTo s lane n before now → Stays before.past now.past
+rounds_stay s lane zero before now e p = same_stays before now e p
+rounds_stay s lane (suc n) before now to p = rounds_stay s lane n to.1.0 now to.1.1.1 (turns_stay s (round_of lane) before to.1.0 to.1.1.0 p)
+
+ends_stay : (s : Setting) (n : ℕ) (before now : Stage) → EndsTo s n before now → Stays before.past now.past
+ends_stay s zero before now e p = same_stays before now e p
+ends_stay s (suc lane) before now to p = rounds_stay s lane to.1.1.0 to.0 now to.1.1.1 (ends_stay s lane before to.0 to.1.0 p)
+
+lets_go_stay : (s : Setting) (n : ℕ) (before now : Stage) → LetsGoTo s n before now → Stays before.past now.past
+lets_go_stay s zero before now e p = same_stays before now e p
+lets_go_stay s (suc lane) before now to p = rules_stay s (entry.LetGo lane ∷ to.0.past) now.past to.1.1.1 (lets_go_stay s lane before to.0 to.1.0 p)
+
+drains_stay : (s : Setting) (n : ℕ) (before now : Stage) → DrainsTo s n before now → Stays before.past now.past
+drains_stay s zero before now e p = same_stays before now e p
+drains_stay s (suc n) before now to p = drains_stay s n to.1.0 now to.1.1.1 (turns_stay s (turn.Flush ∷ turn.Take ∷ []) before to.1.0 to.1.1.0 p)
+
+opens_plain : (b : Bool) (past : List Entry) → Opens b past → IsPlain past
+opens_plain false past e = subst IsPlain (sym e) tt
+opens_plain true past to = subst IsPlain (sym to.1.1.2) tt
+
+run_plain : (s : Setting) (turns : List Turn) (past : List Entry) → IsRun s turns past → IsPlain past
+run_plain s turns past (at, (by, is)) =
+    subst IsPlain is
+    (drains_stay s by.drains.0 at.let_go at.drained by.drains.1
+    (lets_go_stay s (length s.lanes) at.ended at.let_go by.lets_go
+    (ends_stay s (length s.lanes) at.turned at.ended by.ends
+    (turns_stay s turns _ at.turned by.turns (opens_plain s.limits at.opened by.opens)))))
+
+-- ---- each call asks once
+
+-- how many requests the calls of a lane submitted
+abbrev called_by : List Entry → ℕ → ℕ
+called_by [] lane = 0
+called_by (entry.Event (Submit (owner.Call l call) id r) ∷ past) lane = if l == lane then called_by past lane + 1 else called_by past lane
+called_by (_ ∷ past) lane = called_by past lane
+
+-- 1 where something stands in a list
+abbrev some_of : List ℕ → ℕ
+some_of [] = 0
+some_of (place ∷ places) = 1
+
+some_le : (places : List ℕ) → some_of places ≤ 1
+some_le [] = omega arith
+some_le (p ∷ places) = omega arith
+
+asked_none : (s : Setting) (past : List Entry) (lane call id : ℕ) (r : Request) → IsNext s past (entry.Event (Submit (owner.Call lane call) id r)) → TakesFit past → s.facts.read_len ≤ greatest_len → own past lane (ended past lane) ≡ []
+asked_none s past lane call id r next f m = (asks_once s past lane r (grants_fit past f) m (next_submit s past lane call id r next).1).0
+
+-- by the calls that ended, and one where the next has asked
+by_ends : (s : Setting) (past : List Entry) (lane : ℕ) → IsJournal s past → TakesFit past → s.facts.read_len ≤ greatest_len → called_by past lane ≤ ended past lane + some_of (own past lane (ended past lane))
+by_ends s [] lane j f m = omega arith
+by_ends s (entry.Event (Submit (owner.Call l call) id r) ∷ past) lane j f m =
+    let old = by_ends s past lane j.1 f m in
+    elim (eqb_tells l lane) [
+      | inl t ↦
+          let now : call ≡ ended past l = (next_submit s past l call id r j.0).0 in
+          let same : (call == ended past lane) ≡ true = eq-eqb call (ended past lane) (now ∙ ap (ended past) t.1) in
+          let none : own past lane (ended past lane) ≡ [] = subst (λ (k : ℕ). own past k (ended past k) ≡ []) t.1 (asked_none s past l call id r j.0 f m) in
+          let most : called_by past lane ≤ ended past lane + 0 = rw none at old in
+          rw (t.0, same, none) (omega (arith, most))
+      | inr t ↦ rw t.0 old
+    ]
+by_ends s (entry.Event (Submit owner.Setup id r) ∷ past) lane j f m = by_ends s past lane j.1 f m
+by_ends s (entry.Event (Submit owner.Close id r) ∷ past) lane j f m = by_ends s past lane j.1 f m
+by_ends s (entry.Event (Take id r) ∷ past) lane j f m = by_ends s past lane j.1 f.1 m
+by_ends s (entry.Event (End l call o) ∷ past) lane j f m =
+    let old = by_ends s past lane j.1 f m in
+    elim (eqb_tells l lane) [
+      | inl t ↦ rw t.0 (let one = some_le (own past lane (ended past lane)) in omega (arith, old, one))
+      | inr t ↦ rw t.0 old
+    ]
+by_ends s (_ ∷ past) lane j f m = by_ends s past lane j.1 f m
+
+added_none : (past : List Entry) (lane : ℕ) → IsPlain past → added past lane ≡ []
+added_none [] lane p = refl
+added_none (entry.Added l c ∷ past) lane p = absurd p
+added_none (_ ∷ past) lane p = added_none past lane p
+
+plain_calls : (s : Setting) (past : List Entry) (lane : ℕ) → IsPlain past → lane_calls s past lane ≡ calls_of (slice_get s.lanes lane)
+plain_calls s past lane p = ap (λ (w : List Call). calls_of (slice_get s.lanes lane) ++ w) (added_none past lane p) ∙ append-nil (calls_of (slice_get s.lanes lane))
+
+there_below : (calls : List Call) (n : ℕ) (c : Call) → slice_get calls n ≡ Some c → n < length calls
+there_below [] n c e = absurd cc
+there_below (x ∷ calls) zero c e = omega arith
+there_below (x ∷ calls) (suc n) c e = let below = there_below calls n c e in omega (arith, below)
+
+has_call : (c : Option Call) (m : Option Move) (r : Request) → m ≡ Some (Ask r) → (c ≡ None → m ≡ None) → (x : Call) × (c ≡ Some x)
+has_call None m r e f = absurd (let none : m ≡ None = f refl in cc)
+has_call (Some c) m r e f = (c, refl)
+
+-- a lane whose call asks has a call left
+asks_below : (s : Setting) (past : List Entry) (lane : ℕ) (r : Request) → IsPlain past → move_of s past lane ≡ Some (Ask r) → ended past lane < length (calls_of (slice_get s.lanes lane))
+asks_below s past lane r p e =
+    let c = has_call (current s past lane) (move_of s past lane) r e (λ none. ap (λ (c : Option Call). move_at c (site_of s past lane) s.facts (own past lane (ended past lane)) (answer past)) none) in
+    there_below (calls_of (slice_get s.lanes lane)) (ended past lane) c.0 (ap (λ (w : List Call). slice_get w (ended past lane)) (sym (plain_calls s past lane p)) ∙ c.1)
+
+by_calls : (s : Setting) (past : List Entry) (lane : ℕ) → IsPlain past → IsJournal s past → TakesFit past → s.facts.read_len ≤ greatest_len → called_by past lane ≤ length (calls_of (slice_get s.lanes lane))
+by_calls s [] lane p j f m = omega arith
+by_calls s (entry.Event (Submit (owner.Call l call) id r) ∷ past) lane p j f m =
+    elim (eqb_tells l lane) [
+      | inl t ↦
+          let none : own past l (ended past l) ≡ [] = asked_none s past l call id r j.0 f m in
+          let nothing : some_of (own past l (ended past l)) ≡ 0 = ap some_of none in
+          let old = by_ends s past l j.1 f m in
+          let below = asks_below s past l r p (next_submit s past l call id r j.0).1 in
+          let most : called_by past l + 1 ≤ length (calls_of (slice_get s.lanes l)) = omega (arith, old, below, nothing) in
+          rw t.0 (subst (λ (k : ℕ). called_by past k + 1 ≤ length (calls_of (slice_get s.lanes k))) t.1 most)
+      | inr t ↦ rw t.0 (by_calls s past lane p j.1 f m)
+    ]
+by_calls s (entry.Event (Submit owner.Setup id r) ∷ past) lane p j f m = by_calls s past lane p j.1 f m
+by_calls s (entry.Event (Submit owner.Close id r) ∷ past) lane p j f m = by_calls s past lane p j.1 f m
+by_calls s (entry.Event (Take id r) ∷ past) lane p j f m = by_calls s past lane p j.1 f.1 m
+by_calls s (entry.Added l c ∷ past) lane p j f m = absurd p
+by_calls s (_ ∷ past) lane p j f m = by_calls s past lane p j.1 f m
+
+-- ---- all lanes
+
+-- the sum over lanes, the first of which is number k
+abbrev sum_from : (ℕ → ℕ) → ℕ → List Lane → ℕ
+sum_from f k [] = 0
+sum_from f k (lane ∷ lanes) = f k + sum_from f (k + 1) lanes
+
+sum_same : (f g : ℕ → ℕ) (k : ℕ) (lanes : List Lane) → ((q : ℕ) → k ≤ q → f q ≡ g q) → sum_from f k lanes ≡ sum_from g k lanes
+sum_same f g k [] same = refl
+sum_same f g k (lane ∷ lanes) same =
+    let here = same k (omega arith) in let more = sum_same f g (k + 1) lanes (λ q le. same q (omega (arith, le))) in omega (arith, here, more)
+
+sum_more : (f g : ℕ → ℕ) (k p : ℕ) (lanes : List Lane) → k ≤ p → p < k + length lanes → f p ≡ g p + 1 → ((q : ℕ) → p ≢ q → f q ≡ g q) → sum_from f k lanes ≡ sum_from g k lanes + 1
+sum_more f g k p [] le lt one same = absurd (omega (arith, le, lt))
+sum_more f g k p (lane ∷ lanes) le lt one same =
+    elim (eqb_tells p k) [
+      | inl t ↦
+          let here : f k ≡ g k + 1 = subst (λ (i : ℕ). f i ≡ g i + 1) t.1 one in
+          let others = sum_same f g (k + 1) lanes (λ q above. same q (λ e. absurd (let is : p ≡ k = t.1 in omega (arith, above, e, is)))) in omega (arith, here, others)
+      | inr t ↦
+          let ne : p ≢ k = t.1 in
+          let here = same k ne in
+          let more = sum_more f g (k + 1) p lanes (omega (arith, le, ne)) (omega (arith, lt)) one same in omega (arith, here, more)
+    ]
+
+sum_none : (k : ℕ) (lanes : List Lane) → sum_from (λ q. 0) k lanes ≡ 0
+sum_none k [] = refl
+sum_none k (lane ∷ lanes) = let more = sum_none (k + 1) lanes in omega (arith, more)
+
+lane_there : (lanes : List Lane) (lane n : ℕ) → n < length (calls_of (slice_get lanes lane)) → lane < length lanes
+lane_there [] lane n lt = absurd (omega (arith, lt))
+lane_there (l ∷ lanes) zero n lt = omega arith
+lane_there (l ∷ lanes) (suc lane) n lt = let below = lane_there lanes lane n lt in omega (arith, below)
+
+one_more : (past : List Entry) (l id call : ℕ) (r : Request) → called_by (entry.Event (Submit (owner.Call l call) id r) ∷ past) l ≡ called_by past l + 1
+one_more past l id call r = rw (eq-eqb l l refl) refl
+
+one_other : (past : List Entry) (l id call : ℕ) (r : Request) (q : ℕ) → l ≢ q → called_by (entry.Event (Submit (owner.Call l call) id r) ∷ past) q ≡ called_by past q
+one_other past l id call r q ne = rw (ne_eqb l q ne) refl
+
+called_sum : (s : Setting) (past : List Entry) → IsPlain past → IsJournal s past → called past ≡ sum_from (called_by past) 0 s.lanes
+called_sum s [] p j = sym (sum_none 0 s.lanes)
+called_sum s (entry.Event (Submit (owner.Call l call) id r) ∷ past) p j =
+    let old = called_sum s past p j.1 in
+    let below = asks_below s past l r p (next_submit s past l call id r j.0).1 in
+    let there = lane_there s.lanes l (ended past l) below in
+    let more = sum_more (called_by (entry.Event (Submit (owner.Call l call) id r) ∷ past)) (called_by past) 0 l s.lanes (omega arith) (omega (arith, there)) (one_more past l id call r) (one_other past l id call r) in
+    omega (arith, old, more)
+called_sum s (entry.Event (Submit owner.Setup id r) ∷ past) p j = called_sum s past p j.1
+called_sum s (entry.Event (Submit owner.Close id r) ∷ past) p j = called_sum s past p j.1
+called_sum s (entry.Added l c ∷ past) p j = absurd p
+called_sum s (_ ∷ past) p j = called_sum s past p j.1
+
+calls_weigh : (calls : List Call) → length calls ≤ sum_by weight calls
+calls_weigh [] = omega arith
+calls_weigh (c ∷ calls) = let more = calls_weigh calls in let one : sum_by weight (c ∷ calls) ≡ 2 + sum_by weight calls = sum_by-cons weight c calls in omega (arith, more, one)
+
+sum_weighs : (f : ℕ → ℕ) (k : ℕ) (lanes : List Lane) → ((i : ℕ) → f (k + i) ≤ length (calls_of (slice_get lanes i))) → sum_from f k lanes ≤ sum_by lane_weight lanes
+sum_weighs f k [] h = omega arith
+sum_weighs f k (lane ∷ lanes) h =
+    let here : f (k + 0) ≤ length lane.calls = h 0 in
+    let zero_is : f (k + 0) ≡ f k = ap f (omega arith) in
+    let one = calls_weigh lane.calls in
+    let more = sum_weighs f (k + 1) lanes (λ i. subst (λ (n : ℕ). f n ≤ length (calls_of (slice_get lanes i))) (omega arith) (h (suc i))) in
+    let both : sum_by lane_weight (lane ∷ lanes) ≡ (1 + sum_by weight lane.calls) + sum_by lane_weight lanes = sum_by-cons lane_weight lane lanes in
+    omega (arith, here, zero_is, one, more, both)
+
+-- of lanes that a session can be given
+pub run_calls : (s : Setting) (turns : List Turn) (past : List Entry) → IsRun s turns past → IsJournal s past → TakesFit past → s.facts.read_len ≤ greatest_len → are_ok s.lanes ≡ true → called past < all_handles
+run_calls s turns past run j f m ok =
+    let p = run_plain s turns past run in
+    let sum = called_sum s past p j in
+    let weighs = sum_weighs (called_by past) 0 s.lanes (λ i. let is : i ≡ 0 + i = omega arith in subst (λ (k : ℕ). called_by past k ≤ length (calls_of (slice_get s.lanes i))) is (by_calls s past i p j f m)) in
+    let most : sum_by lane_weight s.lanes < weight_limit = is_less _ _ (both_of (list_all (λ lane. list_all is_within lane.calls) s.lanes) _ ok).1 in
+    omega (arith, sum, weighs, most)

@@ -1,0 +1,11 @@
+pub mod Strings
+pub mod Feeding
+pub mod Sound
+pub mod Replying
+pub mod Owing
+pub mod Showing
+pub mod Stopping
+pub mod Serving
+pub mod Counting
+pub mod Whole
+pub mod Scripted

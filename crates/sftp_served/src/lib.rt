@@ -1,0 +1,13 @@
+//! Runs of a session over a server of files in memory.
+#![tactic(auto)]
+
+mod fitting;
+mod laws;
+mod served;
+
+pub use fitting::new_server;
+pub use laws::{runs_are_served, scripts_are_known};
+pub use served::run_served;
+
+#[cfg(test)]
+mod tests;

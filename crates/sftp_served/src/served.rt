@@ -1,0 +1,50 @@
+// A run over a server of files in memory.
+ghost use Rattle.std.specs.Prelude.{◌≡◌, [], true, Some, IfErr, OnOk};
+ghost use Rattle.sftp_model.specs.declared.error.Error.TheVariants as error;
+ghost use Rattle.sftp_history.specs.Lanes.{are_ok};
+ghost use Rattle.sftp_history.specs.Runs.{IsRun};
+ghost use Rattle.sftp_history.specs.Served.{Serves};
+ghost use Rattle.sftp_lanes.specs.Session.{IsFixed, at_rest};
+ghost use Rattle.sftp_map_server.specs.Serving.{version_reply};
+ghost use Rattle.sftp_served.specs.Unopened.{IsUnopened};
+
+use sftp_history::Turn;
+use sftp_lanes::{Phase, RunsLanes, run_session};
+use sftp_map_server::MapServer;
+use sftp_model::Error;
+use std::alloc::Global;
+
+/// Runs the lanes of a session over a server that nothing was sent to.
+///
+/// With Ok the journal is a run of the lanes under these turns, VERSION told what the server offers, and the replies
+/// are those of one sequential run of the file machine over the requests in the order in which they were sent, which
+/// leaves the server's machine. Without memory to spare no error but `OutOfMemory` is answered.
+pub fn run_served<X: RunsLanes>(
+    alloc: Global,
+    session: &mut X,
+    server: &mut MapServer,
+    schedule: &[Turn],
+) -> Result<(), Error>
+    requires fresh { X.phase session.old ≡ Phase.Fresh }
+    requires rest { X.stage session.old ≡ at_rest }
+    requires lanes { are_ok (X.given session.old).lanes ≡ true }
+    requires unopened { IsUnopened server.old.first }
+    requires quiet { server.old.log ≡ [] }
+    ensures run { OnOk result (IsRun (X.setting session.new) schedule.now (X.stage session.new).past) }
+    ensures fixed { OnOk result (IsFixed (X.given session.old) (X.version session.new) (X.stage session.new).past (X.setting session.new)) }
+    ensures version { OnOk result (X.version session.new ≡ Some (version_reply server.old.first.granting.config)) }
+    ensures serves { OnOk result (Serves server.old.first.granting.config server.old.first.choices server.old.first.granting.machine (X.stage session.new).past server.new.now.desk.granting.machine) }
+    ensures only { IfErr result (λ e. e ≡ error.OutOfMemory) }
+    ensures first { server.new.first ≡ server.old.first }
+{
+    match run_session(alloc, session, server, schedule) {
+        Ok(()) => {
+            let _ended = server.is_ended();
+            Ok(())
+        }
+        Err(error) => {
+            let _ended = server.is_ended();
+            Err(error)
+        }
+    }
+}
