@@ -30,11 +30,47 @@ pub struct Lanes {
 
 impl Lanes {
     /// One step of a lane. Refused for want of memory.
-    pub(crate) fn step(&mut self, _alloc: Global, _lane: u32) -> Result<Stepped, OutOfMemory>
+    pub(crate) fn step(&mut self, alloc: Global, lane: u32) -> Result<Stepped, OutOfMemory>
         requires opened { IsOpened self.old }
-        ensures steps { (s : Setting) → IsWorking s self.old → IfOk result (λ event. Steps s _lane self.old self.new event) }
+        ensures steps { (s : Setting) → IsWorking s self.old → IfOk result (λ event. Steps s lane self.old self.new event) }
     {
-        Err(OutOfMemory)
+        self.journal.reserve(2)?;
+        self.begun.reserve(1)?;
+        let k = lane as usize;
+        let Some(calls) = self.calls.as_slice().get(k) else {
+            return Ok(Stepped::Nothing);
+        };
+        let Some(state) = self.states.get_mut(k) else {
+            return Ok(Stepped::Nothing);
+        };
+        let Some(call) = calls.calls.as_slice().get(state.ended as usize) else {
+            return Ok(Stepped::Nothing);
+        };
+        match state.advance(alloc, &mut self.core, call)? {
+            Moved::Waits => {
+                self.begin(lane);
+                Ok(Stepped::Nothing)
+            }
+            Moved::Asked { id, request } => {
+                self.note_asked(lane, id, request);
+                Ok(Stepped::Submitted)
+            }
+            Moved::Ended { outcome, freed } => {
+                self.note_ended(lane, outcome, freed);
+                Ok(Stepped::Ended)
+            }
+        }
+    }
+
+    /// The call of a lane is begun.
+    fn begin(&mut self, lane: u32)
+        requires { vec_len self.old.begun < vec_capacity self.old.begun }
+        ensures { self.new ≡ record self.old { begun = self.new.begun } }
+        ensures begun { self.new.begun.items ≡ begun_with self.old.begun.items lane }
+    {
+        if !self.begun.contains(&lane) {
+            self.begun.push(lane).unwrap();
+        }
     }
 
     /// Cancels the call of a lane that was begun, and answers whether it was. Refused for want of memory.

@@ -2,6 +2,7 @@
 //! a journal of what happened.
 #![tactic(auto)]
 
+mod closing;
 mod lane;
 mod lanes;
 
