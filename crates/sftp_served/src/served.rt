@@ -14,11 +14,11 @@ use sftp_map_server::MapServer;
 use sftp_model::Error;
 use std::alloc::Global;
 
-/// Runs the lanes of a session over a server that nothing was sent to.
+/// Runs the lanes of a session over a server of files that nothing was sent to.
 ///
-/// With Ok the journal is a run of the lanes under these turns, VERSION told what the server offers, and the replies
-/// are those of one sequential run of the file machine over the requests in the order in which they were sent, which
-/// leaves the server's machine. Without memory to spare no error but `OutOfMemory` is answered.
+/// With Ok the journal is a run of the lanes under these turns, VERSION told what the server offers, and the replies are
+/// those of one sequential run of the file machine over the requests in the order in which they were sent, which leaves
+/// the server's machine as it is. It stops only for want of memory.
 pub fn run_served<X: RunsLanes>(
     alloc: Global,
     session: &mut X,

@@ -1,19 +1,30 @@
 // The lanes of an open session.
-ghost use Rattle.std.specs.Prelude.{◌≡◌, ◌↔◌, false, None, IfOk, IfErr, OnOk, IsTrue, length};
+ghost use Rattle.std.specs.Prelude.{◌≡◌, ◌↔◌, ◌<◌, ◌≤◌, ◌+◌, ◌^◌, ◌==◌, ◌∷◌, ◌++◌, [], true, false, None, Some, vec_len, vec_capacity, IfOk, IfErr, OnOk, IsTrue, length};
 ghost use Rattle.std.specs.Option.{option_map};
 ghost use Rattle.sftp_model.specs.Pieces.{joined};
 ghost use Rattle.sftp_model.specs.ReplyReadings.{reply_at};
 ghost use Rattle.sftp_core.specs.Take.{IsFirst};
 ghost use Rattle.sftp_history.specs.Calls.{Setting, current};
 ghost use Rattle.sftp_history.specs.Readings.{awaited, unanswered, was_let_go};
-ghost use Rattle.sftp_history.specs.Turns.{is_full};
+ghost use Rattle.sftp_history.specs.Turns.{is_full, begun_with, begun_but};
+ghost use Rattle.sftp_core.specs.Core.{at, users_of};
+ghost use Rattle.sftp_file.specs.Files.{FileValue};
+ghost use Rattle.sftp_history.specs.declared.event.Owner.TheVariants as owner;
+ghost use Rattle.sftp_history.specs.declared.event.Event.TheVariants.{Submit, End};
+ghost use Rattle.sftp_history.specs.declared.entry.Entry.TheVariants as entry;
+ghost use Rattle.sftp_model.specs.declared.request.Request.TheVariants as request;
+ghost use Rattle.sftp_session.specs.Counted.{let_go as let_go_of};
+ghost use Rattle.sftp_session.specs.Moves.{MayLetGo};
 ghost use Rattle.sftp_lanes.specs.Refusals.{refuses};
 ghost use Rattle.sftp_session.specs.Working.{IsOpened, IsWorking, Steps, CancelsLane, LetsLaneGo, HandsAll, TakesBody, past_of};
 
-use crate::lane::LaneState;
+use crate::closing::{add_entry, release};
+use crate::lane::{LaneState, Moved};
 use sftp_core::{Chunk, Core, TakeError};
-use sftp_history::{Entry, Lane};
+use sftp_file::File;
+use sftp_history::{Entry, Event, Lane, Owner};
 use sftp_lanes::Stepped;
+use sftp_model::{Outcome, Request};
 use sftp_values::Items;
 use ssh_encoding::OutOfMemory;
 use std::alloc::Global;
@@ -52,11 +63,14 @@ impl Lanes {
                 Ok(Stepped::Nothing)
             }
             Moved::Asked { id, request } => {
-                self.note_asked(lane, id, request);
+                let number = state.ended;
+                self.note_asked(lane, number, id, request);
                 Ok(Stepped::Submitted)
             }
             Moved::Ended { outcome, freed } => {
-                self.note_ended(lane, outcome, freed);
+                let number = state.ended;
+                state.ended += 1;
+                self.note_ended(lane, number, outcome, freed);
                 Ok(Stepped::Ended)
             }
         }
@@ -71,6 +85,51 @@ impl Lanes {
         if !self.begun.contains(&lane) {
             self.begun.push(lane).unwrap();
         }
+    }
+
+    /// A request of a lane's call was submitted.
+    fn note_asked(&mut self, lane: u32, call: u32, id: u32, request: Request)
+        requires journal { vec_len self.old.journal < vec_capacity self.old.journal }
+        requires begun { vec_len self.old.begun < vec_capacity self.old.begun }
+        ensures rest { self.new ≡ record self.old { begun = self.new.begun; journal = self.new.journal } }
+        ensures begun { self.new.begun.items ≡ begun_with self.old.begun.items lane }
+        ensures journal { self.new.journal.items ≡ self.old.journal.items ++ entry.Event (Submit (owner.Call lane call) id request) ∷ [] }
+        ensures small { id < 2 ^ 32 }
+    {
+        add_entry(
+            &mut self.journal,
+            Entry::Event(Event::Submit {
+                owner: Owner::Call { lane, call },
+                id,
+                request,
+            }),
+        );
+        self.begin(lane);
+    }
+
+    /// The call of a lane has ended, and the file that it took out of a slot is let go.
+    fn note_ended(&mut self, lane: u32, call: u32, outcome: Outcome, freed: Option<File>)
+        requires granted { MayLetGo self.old.core freed }
+        requires room { vec_len self.old.journal + 2 ≤ vec_capacity self.old.journal }
+        ensures rest { self.new ≡ record self.old { begun = self.new.begun; journal = self.new.journal; core = self.new.core } }
+        ensures begun { self.new.begun.items ≡ begun_but self.old.begun.items lane }
+        ensures nothing { freed ≡ None → (self.new.core ≡ self.old.core) × (self.new.journal.items ≡ self.old.journal.items ++ entry.Event (End lane call outcome) ∷ []) }
+        ensures shared { (f : FileValue) → freed ≡ Some f → (users_of (at self.old.core f.grant.id) == 1) ≡ false
+            → (self.new.core ≡ let_go_of self.old.core f.grant) × (self.new.journal.items ≡ self.old.journal.items ++ entry.Event (End lane call outcome) ∷ []) }
+        ensures last { (f : FileValue) → freed ≡ Some f → (users_of (at self.old.core f.grant.id) == 1) ≡ true
+            → (self.new.core ≡ let_go_of self.old.core f.grant)
+            × (self.new.journal.items ≡ self.old.journal.items ++ entry.Event (End lane call outcome) ∷ entry.Event (Submit owner.Close f.grant.id (request.Close f.grant.handle)) ∷ []) }
+    {
+        add_entry(
+            &mut self.journal,
+            Entry::Event(Event::End {
+                lane,
+                call,
+                outcome,
+            }),
+        );
+        self.begun.retain(|begun| *begun != lane);
+        release(&mut self.core, &mut self.journal, freed);
     }
 
     /// Cancels the call of a lane that was begun, and answers whether it was. Refused for want of memory.
