@@ -3,3 +3,4 @@ pub mod Steps
 pub mod Kept
 pub mod MayGoOn
 pub mod Moving
+pub mod StepLaws

@@ -41,85 +41,90 @@ abbrev pub is_limits : Expected → Bool
 is_limits expected.Limits = true
 is_limits other = false
 
--- a move doesn't ask for the limits
-abbrev pub AsksNoLimits : Move → Type 0
-AsksNoLimits (Ask r) = is_limits (expected_of r) ≡ false
-AsksNoLimits (Wait place) = Unit {0}
-AsksNoLimits (Done o site) = Unit {0}
+-- the first of a call's requests
+abbrev pub first_of : List ℕ → Option ℕ
+first_of [] = None
+first_of (place ∷ places) = Some place
 
-refused_asks : (r : Reply) (site : Site) → AsksNoLimits (refused r site)
-refused_asks (reply.Status code message language) site = tt
-refused_asks (reply.Handle h) site = tt
-refused_asks (reply.Version version extensions) site = tt
-refused_asks (reply.Content content) site = tt
-refused_asks (reply.Names names) site = tt
-refused_asks (reply.Attrs attrs) site = tt
-refused_asks (reply.Extended content) site = tt
+-- a move doesn't ask for the limits, and waits for no reply but that to the first request
+abbrev pub AsksNoLimits : Option ℕ → Move → Type 0
+AsksNoLimits first (Ask r) = is_limits (expected_of r) ≡ false
+AsksNoLimits first (Wait place) = first ≡ Some place
+AsksNoLimits first (Done o site) = Unit {0}
 
-opened_asks : (slot : ℕ) (flags : OpenFlags) (site : Site) (place : ℕ) (r : Reply) → AsksNoLimits (opened slot flags site place r)
-opened_asks slot flags site place (reply.Handle h) = tt
-opened_asks slot flags site place (reply.Status code message language) = tt
-opened_asks slot flags site place (reply.Version version extensions) = tt
-opened_asks slot flags site place (reply.Content content) = tt
-opened_asks slot flags site place (reply.Names names) = tt
-opened_asks slot flags site place (reply.Attrs attrs) = tt
-opened_asks slot flags site place (reply.Extended content) = tt
+refused_asks : (first : Option ℕ) (r : Reply) (site : Site) → AsksNoLimits first (refused r site)
+refused_asks first (reply.Status code message language) site = tt
+refused_asks first (reply.Handle h) site = tt
+refused_asks first (reply.Version version extensions) site = tt
+refused_asks first (reply.Content content) site = tt
+refused_asks first (reply.Names names) site = tt
+refused_asks first (reply.Attrs attrs) site = tt
+refused_asks first (reply.Extended content) site = tt
 
-once_asks : (place : ℕ) (r : Option Reply) (go : Reply → Move) → ((y : Reply) → AsksNoLimits (go y)) → AsksNoLimits (once_answered place r go)
-once_asks place None go h = tt
+opened_asks : (first : Option ℕ) (slot : ℕ) (flags : OpenFlags) (site : Site) (place : ℕ) (r : Reply) → AsksNoLimits first (opened slot flags site place r)
+opened_asks first slot flags site place (reply.Handle h) = tt
+opened_asks first slot flags site place (reply.Status code message language) = tt
+opened_asks first slot flags site place (reply.Version version extensions) = tt
+opened_asks first slot flags site place (reply.Content content) = tt
+opened_asks first slot flags site place (reply.Names names) = tt
+opened_asks first slot flags site place (reply.Attrs attrs) = tt
+opened_asks first slot flags site place (reply.Extended content) = tt
+
+once_asks : (place : ℕ) (r : Option Reply) (go : Reply → Move) → ((y : Reply) → AsksNoLimits (Some place) (go y)) → AsksNoLimits (Some place) (once_answered place r go)
+once_asks place None go h = refl
 once_asks place (Some y) go h = h y
 
-either_asks : (b : Bool) (x y : Move) → AsksNoLimits x → AsksNoLimits y → AsksNoLimits (if b then x else y)
-either_asks true x y p q = p
-either_asks false x y p q = q
+either_asks : (first : Option ℕ) (b : Bool) (x y : Move) → AsksNoLimits first x → AsksNoLimits first y → AsksNoLimits first (if b then x else y)
+either_asks first true x y p q = p
+either_asks first false x y p q = q
 
-open_asks : (slot : ℕ) (flags : OpenFlags) (path : List ℕ) (site : Site) (facts : Facts) (places : List ℕ) (answers : Answers) → AsksNoLimits (open_next slot flags path site facts places answers)
-open_asks slot flags path site facts [] answers = either_asks (is_too_long (open_request flags path)) _ (Ask (open_request flags path)) tt refl
-open_asks slot flags path site facts (place ∷ later) answers = once_asks place (answers place) (opened slot flags site place) (opened_asks slot flags site place)
+open_asks : (slot : ℕ) (flags : OpenFlags) (path : List ℕ) (site : Site) (facts : Facts) (places : List ℕ) (answers : Answers) → AsksNoLimits (first_of places) (open_next slot flags path site facts places answers)
+open_asks slot flags path site facts [] answers = either_asks None (is_too_long (open_request flags path)) _ (Ask (open_request flags path)) tt refl
+open_asks slot flags path site facts (place ∷ later) answers = once_asks place (answers place) (opened slot flags site place) (opened_asks (Some place) slot flags site place)
 
-was_asks : (slot : ℕ) (file : FileAt) (site : Site) (r : Reply) → AsksNoLimits (was_read slot file site r)
-was_asks slot file site (reply.Content bytes) = tt
-was_asks slot file site (reply.Status code message language) = either_asks (code == 1) _ _ tt tt
-was_asks slot file site (reply.Handle h) = tt
-was_asks slot file site (reply.Version version extensions) = tt
-was_asks slot file site (reply.Names names) = tt
-was_asks slot file site (reply.Attrs attrs) = tt
-was_asks slot file site (reply.Extended content) = tt
+was_asks : (first : Option ℕ) (slot : ℕ) (file : FileAt) (site : Site) (r : Reply) → AsksNoLimits first (was_read slot file site r)
+was_asks first slot file site (reply.Content bytes) = tt
+was_asks first slot file site (reply.Status code message language) = either_asks first (code == 1) _ _ tt tt
+was_asks first slot file site (reply.Handle h) = tt
+was_asks first slot file site (reply.Version version extensions) = tt
+was_asks first slot file site (reply.Names names) = tt
+was_asks first slot file site (reply.Attrs attrs) = tt
+was_asks first slot file site (reply.Extended content) = tt
 
-file_asks : (slot n : ℕ) (site : Site) (facts : Facts) (places : List ℕ) (answers : Answers) (file : FileAt) → AsksNoLimits (read_file_next slot n site facts places answers file)
-file_asks slot n site facts [] answers file = either_asks (n == 0) _ _ tt (either_asks (not file.readable) _ _ tt (either_asks (overflows file.offset _) _ _ tt refl))
-file_asks slot n site facts (place ∷ later) answers file = once_asks place (answers place) (was_read slot file site) (was_asks slot file site)
+file_asks : (slot n : ℕ) (site : Site) (facts : Facts) (places : List ℕ) (answers : Answers) (file : FileAt) → AsksNoLimits (first_of places) (read_file_next slot n site facts places answers file)
+file_asks slot n site facts [] answers file = either_asks None (n == 0) _ _ tt (either_asks None (not file.readable) _ _ tt (either_asks None (overflows file.offset _) _ _ tt refl))
+file_asks slot n site facts (place ∷ later) answers file = once_asks place (answers place) (was_read slot file site) (was_asks (Some place) slot file site)
 
-read_asks : (slot n : ℕ) (site : Site) (facts : Facts) (places : List ℕ) (answers : Answers) → AsksNoLimits (read_next slot n site facts places answers)
+read_asks : (slot n : ℕ) (site : Site) (facts : Facts) (places : List ℕ) (answers : Answers) → AsksNoLimits (first_of places) (read_next slot n site facts places answers)
 read_asks slot n site facts places answers = by_slot (slot_at site slot) refl
   where
-    by_slot : (x : Slot) → slot_at site slot ≡ x → AsksNoLimits (read_next slot n site facts places answers)
+    by_slot : (x : Slot) → slot_at site slot ≡ x → AsksNoLimits (first_of places) (read_next slot n site facts places answers)
     by_slot slots.Empty is = rw is tt
     by_slot (slots.File file) is = rw is (file_asks slot n site facts places answers file)
     by_slot (slots.Buffered file buffer) is = rw is tt
 
-done_asks : (site : Site) (r : Reply) → AsksNoLimits (done_by site r)
-done_asks site (reply.Status code message language) = either_asks (code == 0) _ _ tt tt
-done_asks site (reply.Handle h) = tt
-done_asks site (reply.Version version extensions) = tt
-done_asks site (reply.Content content) = tt
-done_asks site (reply.Names names) = tt
-done_asks site (reply.Attrs attrs) = tt
-done_asks site (reply.Extended content) = tt
+done_asks : (first : Option ℕ) (site : Site) (r : Reply) → AsksNoLimits first (done_by site r)
+done_asks first site (reply.Status code message language) = either_asks first (code == 0) _ _ tt tt
+done_asks first site (reply.Handle h) = tt
+done_asks first site (reply.Version version extensions) = tt
+done_asks first site (reply.Content content) = tt
+done_asks first site (reply.Names names) = tt
+done_asks first site (reply.Attrs attrs) = tt
+done_asks first site (reply.Extended content) = tt
 
-grant_asks : (grant : ℕ) (site : Site) (places : List ℕ) (answers : Answers) → AsksNoLimits (close_grant_next grant site places answers)
-grant_asks grant site [] answers = either_asks (has_grant site grant) _ _ tt refl
-grant_asks grant site (place ∷ later) answers = once_asks place (answers place) (done_by site) (done_asks site)
+grant_asks : (grant : ℕ) (site : Site) (places : List ℕ) (answers : Answers) → AsksNoLimits (first_of places) (close_grant_next grant site places answers)
+grant_asks grant site [] answers = either_asks None (has_grant site grant) _ _ tt refl
+grant_asks grant site (place ∷ later) answers = once_asks place (answers place) (done_by site) (done_asks (Some place) site)
 
-close_asks : (slot : ℕ) (site : Site) (facts : Facts) (places : List ℕ) (answers : Answers) → AsksNoLimits (close_next slot site facts places answers)
+close_asks : (slot : ℕ) (site : Site) (facts : Facts) (places : List ℕ) (answers : Answers) → AsksNoLimits (first_of places) (close_next slot site facts places answers)
 close_asks slot site facts places answers = by_slot (slot_at site slot)
   where
-    by_slot : (x : Slot) → AsksNoLimits (close_slot_next slot site places answers x)
+    by_slot : (x : Slot) → AsksNoLimits (first_of places) (close_slot_next slot site places answers x)
     by_slot slots.Empty = tt
     by_slot (slots.File file) = grant_asks file.grant (with_slot site slot slots.Empty) places answers
     by_slot (slots.Buffered file buffer) = grant_asks file.grant (with_slot site slot slots.Empty) places answers
 
-next_asks : (c : Call) (site : Site) (facts : Facts) (places : List ℕ) (answers : Answers) → AsksNoLimits (next c site facts places answers)
+next_asks : (c : Call) (site : Site) (facts : Facts) (places : List ℕ) (answers : Answers) → AsksNoLimits (first_of places) (next c site facts places answers)
 next_asks (call.OpenFile slot options path) site facts places answers = open_asks slot (flags_of options) path site facts places answers
 next_asks (call.Read slot n) site facts places answers = read_asks slot n site facts places answers
 next_asks (call.Close slot) site facts places answers = close_asks slot site facts places answers
@@ -132,7 +137,18 @@ move_asks s past lane r e = by_call (current s past lane) e
     by_call None h = absurd cc
     by_call (Some c) h =
         let same : next c (site_of s past lane) s.facts (own past lane (ended past lane)) (answer past) ≡ Ask r = cc in
-        subst AsksNoLimits same (next_asks c (site_of s past lane) s.facts (own past lane (ended past lane)) (answer past))
+        subst (AsksNoLimits (first_of (own past lane (ended past lane)))) same (next_asks c (site_of s past lane) s.facts (own past lane (ended past lane)) (answer past))
+
+-- a call that has made one request waits for its reply
+pub move_waits : (s : Setting) (past : List Entry) (lane p place : ℕ) → own past lane (ended past lane) ≡ p ∷ [] → move_of s past lane ≡ Some (Wait place) → p ≡ place
+move_waits s past lane p place one e = by_call (current s past lane) e
+  where
+    by_call : (c : Option Call) → move_at c (site_of s past lane) s.facts (own past lane (ended past lane)) (answer past) ≡ Some (Wait place) → p ≡ place
+    by_call None h = absurd cc
+    by_call (Some c) h =
+        let same : next c (site_of s past lane) s.facts (own past lane (ended past lane)) (answer past) ≡ Wait place = cc in
+        let first : first_of (own past lane (ended past lane)) ≡ Some place = subst (AsksNoLimits (first_of (own past lane (ended past lane)))) same (next_asks c (site_of s past lane) s.facts (own past lane (ended past lane)) (answer past)) in
+        let both : Some p ≡ Some place = sym (ap first_of one) ∙ first in cc
 
 -- ---- requests
 

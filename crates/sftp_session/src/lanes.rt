@@ -39,6 +39,20 @@ pub struct Lanes {
     pub(crate) states: Vec<LaneState>,
 }
 
+/// Takes a lane out of those that were begun.
+fn leave(begun: &mut Vec<u32>, lane: u32)
+    ensures { begun.new.items ≡ begun_but begun.old.items lane }
+{
+    let mut k = 0;
+    while k < begun.len() {
+        if begun[k] == lane {
+            begun.remove(k);
+        } else {
+            k += 1;
+        }
+    }
+}
+
 impl Lanes {
     /// One step of a lane. Refused for want of memory.
     pub(crate) fn step(&mut self, alloc: Global, lane: u32) -> Result<Stepped, OutOfMemory>
@@ -79,7 +93,7 @@ impl Lanes {
     /// The call of a lane is begun.
     fn begin(&mut self, lane: u32)
         requires { vec_len self.old.begun < vec_capacity self.old.begun }
-        ensures { self.new ≡ record self.old { begun = self.new.begun } }
+        ensures rest { self.new ≡ record self.old { begun = self.new.begun } }
         ensures begun { self.new.begun.items ≡ begun_with self.old.begun.items lane }
     {
         if !self.begun.contains(&lane) {
@@ -128,7 +142,7 @@ impl Lanes {
                 outcome,
             }),
         );
-        self.begun.retain(|begun| *begun != lane);
+        leave(&mut self.begun, lane);
         release(&mut self.core, &mut self.journal, freed);
     }
 
