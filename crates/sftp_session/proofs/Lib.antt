@@ -4,3 +4,5 @@ pub mod Kept
 pub mod MayGoOn
 pub mod Moving
 pub mod StepLaws
+pub mod Leaving
+pub mod Stepping

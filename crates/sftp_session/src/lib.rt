@@ -5,4 +5,5 @@
 mod closing;
 mod lane;
 mod lanes;
+mod noting;
 

@@ -1,0 +1,248 @@
+-- A step of a lane, from its call to what is noted of it.
+use Rattle.std.proofs.Common.{◌≡◌, ◌≢◌, ◌<◌, ◌+◌, ◌==◌, ◌^◌, ℕ, zero, suc, Bool, true, false, List, [], ◌∷◌, ◌++◌, Option, Some, None, refl, ap, sym, ◌∙◌, subst, arith, if◌then◌else◌, inl, inr}
+use Rattle.std.specs.Prelude.{◌⊎◌, ◌&&◌, ◌||◌, slice_get, slice_set, slice_index_or, length, ◌-◌, ◌≤◌, ◌*◌}
+use Rattle.std.specs.List.{list_any}
+use Rattle.std.proofs.lemmas.Bool.Decides.{eqb_tells, nat_tests}
+use Rattle.std.proofs.lemmas.Bool.{eq-eqb, ne_eqb}
+use Rattle.sftp_model.specs.declared.request.Request.{Request}
+use Rattle.sftp_model.specs.declared.slot.Move.TheVariants.{Ask, Done, Wait}
+use Rattle.sftp_model.specs.declared.slot.Site.{Site}
+use Rattle.sftp_model.specs.declared.slot.Slot.{Slot}
+use Rattle.sftp_core.specs.Core.{Core, at, queued_last, reply_in, IsGrant, abandoned, abandon_leaves, released, release_gives, release_leaves, with_place, users_of as users_at}
+use Rattle.sftp_core.specs.declared.place.Place.{Place}
+use Rattle.sftp_core.specs.declared.place.Place.TheVariants.{Waiting, Granted, Answered}
+use Rattle.sftp_model.specs.Answers.{expected_of, is_handle}
+use Rattle.sftp_history.specs.declared.event.Owner.{Owner}
+use Rattle.sftp_history.specs.declared.event.Event.TheVariants.{Submit, End}
+use Rattle.sftp_history.specs.declared.entry.Entry.{Entry}
+use Rattle.sftp_history.specs.Readings.{Asked, asked, awaiting, is_by, ended, own, unsent, is_at, asked_at, answer, unanswered, awaited, last_cancel}
+use Rattle.sftp_history.specs.Calls.{Setting, current, site_of, held_by, held_site, move_of, added, calls_of, move_at}
+use Rattle.sftp_history.specs.Grants.{is_close, closes, closed, with_closed, is_grant, holds, is_asked_by, is_unended_asker, is_granted, is_held, is_one_of, orphan, letting_go}
+use Rattle.sftp_history.specs.Ids.{IdState, Free, Pending, Replied, id_state, Reads}
+use Rattle.sftp_history.specs.IdLaws.{IsFreeState, free_state, reads}
+use Rattle.sftp_history.specs.Journals.{IsFree, IsNext, IsJournal, MustClose, close_of}
+use Rattle.sftp_history.specs.Turns.{begun_with, begun_but, ClosesTo, Stage, SettlesTo}
+use Rattle.sftp_history.specs.CallLaws.{may_next, own_submit, ended_end, end_site, end_own, own_fresh, asker_owns, due_next}
+use Rattle.sftp_history.specs.RunLaws.{Good, Still, begun_more, submit_good, end_good, but_begun, closes_good}
+use Rattle.sftp_session.specs.declared.lane.LaneState.{LaneState}
+use Rattle.sftp_session.specs.Held.{Due, due_on, gone_on, submit_holds, still_of_due, LooseAt, IsLoose, orphan_due, due_own, gone_own}
+use Rattle.sftp_session.specs.LaneLaws.{Keeps, SameLane, lane_on, slots_on, keeps_submit, free_grant, free_ask, same_submit, same_end, slot_on}
+use Rattle.sftp_session.specs.Session.{Between, IsTied}
+use Rattle.sftp_session.specs.Standing.{submit_tabled, SameUsers, borne_apart, end_tabled, end_tabled_one, none_by, none_other, asked_there, stand_same, users_same}
+use Rattle.sftp_session.specs.Tables.{is_live, replied, stand, users_in, users_of, slots_of, Tabled}
+use Rattle.sftp_session.specs.Tied.{Asks, CoreTied, LaneTied, SlotTied, IsBorne, is_running, RunTied, IsOwned, GoneOnly}
+use Rattle.sftp_model.specs.Slots.{slot_at, slot_has, has_grant, with_slot, grant_of}
+use Rattle.sftp_model.specs.declared.outcome.Outcome.{Outcome}
+use Rattle.sftp_history.specs.declared.call.Call.{Call}
+use Rattle.sftp_session.specs.AskLaws.{set_or_other, set_count, core_asked, tied_ask}
+use Rattle.sftp_session.specs.OwnLaws.{false_of, AskedFor, owned_asked, slot_owned, lane_owned, one_lane, no_asker, owned_stands, not_live}
+use Rattle.sftp_session.specs.declared.lane.Running.{Running}
+use Rattle.sftp_model.specs.declared.reply.Reply.{Reply}
+use Rattle.sftp_model.specs.declared.answers.Expected.{Expected}
+use Rattle.sftp_core.specs.Table.{brings, IsAllowed}
+use Rattle.sftp_file.specs.declared.stage.Stage.TheVariants.{Asked as Asking}
+use Rattle.sftp_file.specs.Files.{FileValue, file_at}
+use Rattle.sftp_file.specs.Polls.{polled_core, closing}
+use Rattle.sftp_core.specs.Grant.{GrantValue}
+use Rattle.sftp_file.specs.StageLaws.{polled_elsewhere, grant_at}
+use Rattle.sftp_history.specs.GrantLaws.{any_none, any_passes}
+use Rattle.sftp_session.specs.AskCloseLaws.{InSlot, in_slot, tied_ask_close}
+use Rattle.sftp_session.specs.Users.{one_if, users_set, users_kept, none_uses, uses_none, any_set, slot_uses, used_slot, set_here, set_there, set_length}
+use Rattle.std.proofs.lemmas.Option.{slice_get_within, slice_get-get_or}
+use Rattle.sftp_model.specs.Plans.{handle_of}
+use Rattle.sftp_core.specs.Elsewhere.{put_here, put_elsewhere, submit_elsewhere}
+use Rattle.sftp_file.specs.Stages.{cancelled}
+use Rattle.sftp_session.specs.Counted.{let_go, Counted, weigh, lane_left, lanes_left}
+use Rattle.sftp_session.specs.EndPutLaws.{owed_by, owed_of, put_users, put_between}
+use Rattle.sftp_session.specs.ReleaseLaws.{Closing, let_go_closes, Sharing, let_go_shares, IsDue, must_close, closes_to, close_is, Closed, close_closed}
+use Rattle.sftp_session.specs.EndLaws.{Ended, one_more, end_between, either_is, left_is}
+use Rattle.sftp_session.specs.Moves.{file_in, Unasked, HasPolled, IsPlain, SlotsStay, SlotMoves, SlotOpens, SlotFrees, AsksFresh, AsksClose, EndsAs, Moves, MayLetGo}
+use Rattle.sftp_session.specs.PollLaws.{polled_gone, polled_granted, polled_work, polled_state}
+use Rattle.sftp_session.specs.EndKindLaws.{EndsHere, later_call, polled_is, live_here, dead_now, stay_between, moves_between}
+use Rattle.sftp_model.specs.declared.slot.Move.{Move}
+use Rattle.sftp_history.specs.declared.call.Lane.{Lane}
+use Rattle.sftp_history.specs.CountLaws.{some_unanswered}
+use Rattle.sftp_history.specs.Lanes.{are_ok}
+use Rattle.sftp_lanes.specs.declared.session.Stepped.{Stepped}
+use Rattle.sftp_lanes.specs.Session.{IsLater, StepsTo, LessBy, is_event}
+use Rattle.sftp_lanes.proofs.Journals.{later_self}
+use Rattle.sftp_session.specs.EndOpenLaws.{opens_between, frees_between}
+use Rattle.sftp_session.specs.FreedLaws.{between_empty, Freed, freed_grant, between_shared, between_last}
+use Rattle.sftp_session.specs.CountedLaws.{counted_ask, weigh_ask, counted_close, weigh_close, counted_polled, weigh_polled, counted_shared, counted_last, weigh_let_go, counted_same, lanes_less, asked_less, ended_less}
+use Rattle.sftp_session.specs.Working.{Contents, Works, StepsIn, stage_in, work_in}
+use Rattle.sftp_session.specs.CallsLaws.{borne_small}
+use Rattle.sftp_session.proofs.Kept.{kept_allowed}
+use Rattle.sftp_history.specs.declared.event.Owner.TheVariants as owner
+use Rattle.sftp_history.specs.declared.entry.Entry.TheVariants as entry
+use Rattle.sftp_history.specs.declared.call.Call.TheVariants as call
+use Rattle.sftp_session.specs.declared.lane.Running.TheVariants as running
+use Rattle.sftp_model.specs.declared.reply.Reply.TheVariants as reply
+use Rattle.sftp_model.specs.declared.slot.Slot.TheVariants as slots
+use Rattle.sftp_model.specs.declared.answers.Expected.TheVariants as expected
+use Rattle.sftp_model.specs.declared.request.Request.TheVariants as request
+use Rattle.sftp_lanes.specs.declared.session.Stepped.TheVariants as stepped
+use Rattle.sftp_session.specs.declared.lane.Moved.TheVariants as moved
+use Rattle.std.proofs.lemmas.Option.{get_or_from_slice_get}
+use Rattle.std.proofs.lemmas.List.{reverse-append}
+use Rattle.std.specs.Prelude.{reverse}
+use Rattle.sftp_session.specs.CallsLaws.{current_is, call_within, calls_few}
+use Rattle.sftp_session.specs.Noting.{call_by, call_in, noted, step_of, IsSmallMove, closes_of, released_core}
+use Rattle.sftp_session.specs.declared.lane.Moved.{Moved}
+use Rattle.sftp_session.proofs.StepLaws.{AtCall, steps_nothing, steps_waits, steps_asked, EndLeaves, end_leaves, ended_granted, steps_ended, steps_ended_shared, steps_ended_last}
+use Rattle.sftp_session.proofs.MayGoOn.{may_advance}
+use Rattle.sftp_session.specs.Moves.{MayAdvance}
+use Rattle.sftp_session.specs.Noting.{freed_of}
+
+-- ---- the call
+
+state_there : (s : Setting) (c : Contents) (lane : ℕ) → Works s c → lane < length c.calls → LaneState → (st : LaneState) × (slice_get c.states lane ≡ Some st)
+state_there s c lane w lt any = (_, slice_get-get_or c.states lane any (let n = w.tied.rest.count in let same : length c.calls ≡ length s.lanes = ap length w.calls in omega (arith, n, same, lt)))
+
+past_end : (xs : List LaneState) (k : ℕ) → slice_get xs k ≡ None → k < length xs → ⊥
+past_end [] k is lt = absurd (omega (arith, lt))
+past_end (x ∷ xs) zero is lt = absurd cc
+past_end (x ∷ xs) (suc k) is lt = past_end xs k is (omega (arith, lt))
+
+-- a lane without a current call
+pub no_call : (s : Setting) (c : Contents) (lane : ℕ) → Works s c → call_in c.calls c.states lane ≡ None → current s c.past lane ≡ None
+no_call s c lane w none = current_is s c.past lane (w.unadded lane) ∙ by_lane (slice_get c.calls lane) refl (slice_get c.states lane) refl none
+  where
+    by_lane : (l : Option Lane) → slice_get c.calls lane ≡ l → (st : Option LaneState) → slice_get c.states lane ≡ st → call_by l st ≡ None → slice_get (calls_of (slice_get s.lanes lane)) (ended c.past lane) ≡ None
+    by_lane None at_lane st at_state h = ap (λ x. slice_get (calls_of x) (ended c.past lane)) (ap (λ ls. slice_get ls lane) (sym w.calls) ∙ at_lane)
+    by_lane (Some l) at_lane None at_state h =
+        absurd (let lt = slice_get_within c.calls lane l at_lane in let n = w.tied.rest.count in let same : length c.calls ≡ length s.lanes = ap length w.calls in
+        past_end c.states lane at_state (omega (arith, lt, n, same)))
+    by_lane (Some l) at_lane (Some st) at_state h =
+        ap (λ x. slice_get (calls_of x) (ended c.past lane)) (ap (λ ls. slice_get ls lane) (sym w.calls) ∙ at_lane) ∙ ap (slice_get l.calls) (sym (w.tied.rest.each lane st at_state).ends) ∙ h
+
+-- a lane with one
+pub at_call : (s : Setting) (c : Contents) (lane : ℕ) (d : Call) → Works s c → call_in c.calls c.states lane ≡ Some d → (calls : Lane) × ((before : LaneState) × AtCall s c lane calls before d)
+at_call s c lane d w some = by_lane (slice_get c.calls lane) refl (slice_get c.states lane) refl some
+  where
+    by_lane : (l : Option Lane) → slice_get c.calls lane ≡ l → (st : Option LaneState) → slice_get c.states lane ≡ st → call_by l st ≡ Some d → (calls : Lane) × ((before : LaneState) × AtCall s c lane calls before d)
+    by_lane None at_lane st at_state h = absurd cc
+    by_lane (Some l) at_lane None at_state h = absurd cc
+    by_lane (Some l) at_lane (Some st) at_state h = (l, (st, record { works = w; lane_is = at_lane; here = at_state; call_is = h }))
+
+pub call_current : (s : Setting) (c : Contents) (lane : ℕ) (calls : Lane) (before : LaneState) (d : Call) → AtCall s c lane calls before d → current s c.past lane ≡ Some d
+call_current s c lane calls before d a =
+    current_is s c.past lane (a.works.unadded lane)
+    ∙ ap (λ x. slice_get (calls_of x) (ended c.past lane)) (ap (λ ls. slice_get ls lane) (sym a.works.calls) ∙ a.lane_is)
+    ∙ ap (slice_get calls.calls) (sym (a.works.tied.rest.each lane before a.here).ends) ∙ a.call_is
+
+pub call_may : (s : Setting) (c : Contents) (lane : ℕ) (calls : Lane) (before : LaneState) (d : Call) → AtCall s c lane calls before d → MayAdvance c.core before d
+call_may s c lane calls before d a =
+    may_advance s c.past lane c.core before d (a.works.tied.rest.each lane before a.here) a.works.tied.rest.work a.works.tied.rest.table (call_current s c lane calls before d a)
+    (call_within c.calls lane before.ended calls d a.works.ok a.lane_is a.call_is)
+
+pub call_few : (s : Setting) (c : Contents) (lane : ℕ) (calls : Lane) (before : LaneState) (d : Call) → AtCall s c lane calls before d → before.ended < 2 ^ 31
+call_few s c lane calls before d a =
+    let few = calls_few c.calls lane calls a.works.ok a.lane_is in let lt = slice_get_within calls.calls before.ended d a.call_is in omega (arith, few, lt)
+
+-- ---- lists
+
+set_again : {A : Type 0} (xs : List A) (k : ℕ) (x y : A) → slice_set (slice_set xs k x) k y ≡ slice_set xs k y
+set_again [] k x y = refl
+set_again (z ∷ xs) zero x y = refl
+set_again (z ∷ xs) (suc k) x y = ap (λ ys. z ∷ ys) (set_again xs k x y)
+
+set_itself : {A : Type 0} (xs : List A) (k : ℕ) (x : A) → slice_get xs k ≡ Some x → slice_set xs k x ≡ xs
+set_itself [] k x is = refl
+set_itself (z ∷ xs) zero x is = let same : z ≡ x = cc in ap (λ y. y ∷ xs) (sym same)
+set_itself (z ∷ xs) (suc k) x is = ap (λ ys. z ∷ ys) (set_itself xs k x is)
+
+pub get_set : {A : Type 0} (xs : List A) (k : ℕ) (x y : A) → slice_get xs k ≡ Some x → slice_get (slice_set xs k y) k ≡ Some y
+get_set [] k x y is = absurd cc
+get_set (z ∷ xs) zero x y is = refl
+get_set (z ∷ xs) (suc k) x y is = get_set xs k x y is
+
+-- ---- what is noted
+
+-- what a lane's advance leaves, before it is noted
+abbrev pub advanced : Contents → ℕ → Core → LaneState → Contents
+advanced c lane new after = record { calls = c.calls; core = new; past = c.past; states = slice_set c.states lane after; begun = c.begun }
+
+-- the file that a step frees may be let go
+pub moved_granted : (s : Setting) (c : Contents) (lane : ℕ) (new : Core) (calls : Lane) (before after : LaneState) (d : Call) (m : Moved) → AtCall s c lane calls before d → Moves s c.past lane c.core new before after m → MayLetGo new (freed_of m)
+moved_granted s c lane new calls before after d moved.Waits a h = tt
+moved_granted s c lane new calls before after d (moved.Asked id r) a h = tt
+moved_granted s c lane new calls before after d (moved.Ended o freed) a h = ended_granted s c lane new after o freed (end_leaves s c lane new before after o freed a.works a.here h.0 h.1)
+
+pub steps_noted : (s : Setting) (c : Contents) (lane : ℕ) (new : Core) (calls : Lane) (before after : LaneState) (d : Call) (m : Moved) → AtCall s c lane calls before d → Moves s c.past lane c.core new before after m → IsSmallMove m
+    → StepsIn s lane c (noted (advanced c lane new after) lane before.ended after m) (step_of m)
+steps_noted s c lane new calls before after d moved.Waits a (move, core, state, run) small =
+    let states_are : slice_set c.states lane after ≡ c.states = ap (slice_set c.states lane) state ∙ set_itself c.states lane before a.here in
+    subst (λ (x : Contents). StepsIn s lane c x stepped.Nothing) (λ i. record { calls = c.calls; core = sym core i; past = c.past; states = sym states_are i; begun = begun_with c.begun lane })
+    (steps_waits s c lane move.0 before a.works a.here run move.1)
+steps_noted s c lane new calls before after d (moved.Asked id r) a h small =
+    let number : ended c.past lane ≡ before.ended = sym (a.works.tied.rest.each lane before a.here).ends in
+    subst (λ (n : ℕ). StepsIn s lane c (record { calls = c.calls; core = new; past = entry.Event (Submit (owner.Call lane n) id r) ∷ c.past; states = slice_set c.states lane after; begun = begun_with c.begun lane }) stepped.Submitted) number
+    (steps_asked s c lane id r new calls before after d a h small)
+steps_noted s c lane new calls before after d (moved.Ended o None) a h small =
+    let number : ended c.past lane ≡ before.ended = sym (a.works.tied.rest.each lane before a.here).ends in
+    subst (λ (n : ℕ). StepsIn s lane c (record { calls = c.calls; core = new; past = entry.Event (End lane n o) ∷ c.past; states = slice_set (slice_set c.states lane after) lane (one_more after); begun = begun_but c.begun lane }) stepped.Ended) number
+    (subst (λ (x : List LaneState). StepsIn s lane c (record { calls = c.calls; core = new; past = entry.Event (End lane (ended c.past lane) o) ∷ c.past; states = x; begun = begun_but c.begun lane }) stepped.Ended) (sym (set_again c.states lane after (one_more after)))
+    (steps_ended s c lane new calls before after d o a h))
+steps_noted s c lane new calls before after d (moved.Ended o (Some f)) a h small =
+    let number : ended c.past lane ≡ before.ended = sym (a.works.tied.rest.each lane before a.here).ends in
+    subst (λ (n : ℕ). StepsIn s lane c (record { calls = c.calls; core = let_go new f.grant; past = closes_of new (Some f) (entry.Event (End lane n o) ∷ c.past); states = slice_set (slice_set c.states lane after) lane (one_more after); begun = begun_but c.begun lane }) stepped.Ended) number
+    (subst (λ (x : List LaneState). StepsIn s lane c (record { calls = c.calls; core = let_go new f.grant; past = closes_of new (Some f) (entry.Event (End lane (ended c.past lane) o) ∷ c.past); states = x; begun = begun_but c.begun lane }) stepped.Ended)
+    (sym (set_again c.states lane after (one_more after)))
+    (by_users (users_at (at new f.grant.id) == 1) refl))
+  where
+    at_end : List Entry
+    at_end = entry.Event (End lane (ended c.past lane) o) ∷ c.past
+
+    closes : Entry
+    closes = entry.Event (Submit owner.Close f.grant.id (request.Close f.grant.handle))
+
+    by_users : (b : Bool) → (users_at (at new f.grant.id) == 1) ≡ b → StepsIn s lane c (record { calls = c.calls; core = let_go new f.grant;
+      past = if users_at (at new f.grant.id) == 1 then closes ∷ at_end else at_end; states = slice_set c.states lane (one_more after); begun = begun_but c.begun lane }) stepped.Ended
+    by_users true is =
+        subst (λ (y : Bool). StepsIn s lane c (record { calls = c.calls; core = let_go new f.grant; past = if y then closes ∷ at_end else at_end; states = slice_set c.states lane (one_more after); begun = begun_but c.begun lane }) stepped.Ended) (sym is)
+        (steps_ended_last s c lane new calls before after d o f a h is)
+    by_users false is =
+        subst (λ (y : Bool). StepsIn s lane c (record { calls = c.calls; core = let_go new f.grant; past = if y then closes ∷ at_end else at_end; states = slice_set c.states lane (one_more after); begun = begun_but c.begun lane }) stepped.Ended) (sym is)
+        (steps_ended_shared s c lane new calls before after d o f a h is)
+
+-- ---- what is pushed
+
+pushed : (items : List Entry) (e : Entry) → reverse (items ++ e ∷ []) ≡ e ∷ reverse items
+pushed items e = reverse-append items (e ∷ [])
+
+-- what the end of a call and the letting go of its file add
+pub ends_noted : (items new_items : List Entry) (core new_core : Core) (e : Entry) (freed : Option FileValue) → (freed ≡ None → (new_core ≡ core) × (new_items ≡ items ++ e ∷ []))
+    → ((f : FileValue) → freed ≡ Some f → (users_at (at core f.grant.id) == 1) ≡ false → (new_core ≡ let_go core f.grant) × (new_items ≡ items ++ e ∷ []))
+    → ((f : FileValue) → freed ≡ Some f → (users_at (at core f.grant.id) == 1) ≡ true → (new_core ≡ let_go core f.grant) × (new_items ≡ items ++ e ∷ entry.Event (Submit owner.Close f.grant.id (request.Close f.grant.handle)) ∷ []))
+    → (new_core ≡ released_core core freed) × (reverse new_items ≡ closes_of core freed (e ∷ reverse items))
+ends_noted items new_items core new_core e None nothing shared last = let n = nothing refl in (n.0, ap reverse n.1 ∙ pushed items e)
+ends_noted items new_items core new_core e (Some f) nothing shared last = by_users (users_at (at core f.grant.id) == 1) refl
+  where
+    closes : Entry
+    closes = entry.Event (Submit owner.Close f.grant.id (request.Close f.grant.handle))
+
+    by_users : (b : Bool) → (users_at (at core f.grant.id) == 1) ≡ b → (new_core ≡ let_go core f.grant) × (reverse new_items ≡ (if users_at (at core f.grant.id) == 1 then closes ∷ e ∷ reverse items else e ∷ reverse items))
+    by_users true is = let n = last f refl is in (n.0, ap reverse n.1 ∙ reverse-append items (e ∷ closes ∷ []) ∙ ap (λ (y : Bool). if y then closes ∷ e ∷ reverse items else e ∷ reverse items) (sym is))
+    by_users false is = let n = shared f refl is in (n.0, ap reverse n.1 ∙ pushed items e ∙ ap (λ (y : Bool). if y then closes ∷ e ∷ reverse items else e ∷ reverse items) (sym is))
+
+-- ---- what an advance says
+
+-- what it says of each setting and journal
+abbrev pub MovesAs : Core → Core → LaneState → LaneState → Call → Moved → Type 0
+MovesAs old new before after d m =
+    (s : Setting) (past : List Entry) (lane : ℕ) → IsJournal s past → LaneTied s past lane before → CoreTied s past old → Tabled s past [] (at old) → last_cancel past ≡ None → current s past lane ≡ Some d
+    → Moves s past lane old new before after m
+
+pub moves_at : (s : Setting) (c : Contents) (lane : ℕ) (new : Core) (calls : Lane) (before found after : LaneState) (d : Call) (m : Moved) → AtCall s c lane calls before d → found ≡ before → MovesAs c.core new found after d m
+    → Moves s c.past lane c.core new before after m
+moves_at s c lane new calls before found after d m a same moves =
+    let g = a.works.tied.rest.good in
+    subst (λ (x : LaneState). MovesAs c.core new x after d m) same moves s c.past lane g.run (a.works.tied.rest.each lane before a.here) a.works.tied.rest.work a.works.tied.rest.table g.calm (call_current s c lane calls before d a)
+
+pub same_number : (s : Setting) (past : List Entry) (lane : ℕ) (old new : Core) (before after : LaneState) (m : Moved) → Moves s past lane old new before after m → after.ended ≡ before.ended
+same_number s past lane old new before after moved.Waits (move, core, state, run) = ap (λ (x : LaneState). x.ended) state
+same_number s past lane old new before after (moved.Asked id r) (move, fresh, same, asks) = same
+same_number s past lane old new before after (moved.Ended o freed) h = h.0
+
+pub state_is : (xs : List LaneState) (k : ℕ) (x y state : LaneState) → slice_get xs k ≡ Some x → slice_get (slice_set xs k y) k ≡ Some state → state ≡ y
+state_is xs k x y state here there = let both : Some state ≡ Some y = sym there ∙ get_set xs k x y here in cc
