@@ -6,3 +6,4 @@ pub mod Moving
 pub mod StepLaws
 pub mod Leaving
 pub mod Stepping
+pub mod CancelNoted

@@ -2,8 +2,10 @@
 //! a journal of what happened.
 #![tactic(auto)]
 
+mod cancelling;
 mod closing;
 mod lane;
 mod lanes;
 mod noting;
+mod taking;
 

@@ -53,7 +53,7 @@ pub(crate) fn current_call<'a>(lanes: &'a [Lane], states: &[LaneState], lane: u3
 }
 
 /// Takes a lane out of those that were begun.
-fn leave(begun: &mut Vec<u32>, lane: u32)
+pub(crate) fn leave(begun: &mut Vec<u32>, lane: u32)
     ensures { begun.new.items ≡ begun_but begun.old.items lane }
 {
     let mut k = 0;

@@ -1,0 +1,32 @@
+// What the lanes of an open session hand out and take.
+ghost use Rattle.std.specs.Prelude.{◌≡◌, false, None, IfOk, IfErr, OnOk};
+ghost use Rattle.std.specs.Option.{option_map};
+ghost use Rattle.sftp_model.specs.Pieces.{joined};
+ghost use Rattle.sftp_model.specs.ReplyReadings.{reply_at};
+ghost use Rattle.sftp_core.specs.Take.{IsFirst};
+ghost use Rattle.sftp_history.specs.Calls.{Setting};
+ghost use Rattle.sftp_lanes.specs.Refusals.{refuses};
+ghost use Rattle.sftp_session.specs.Working.{IsOpened, IsWorking, HandsAll, TakesBody, past_of};
+
+use crate::lanes::Lanes;
+use sftp_core::{Chunk, TakeError};
+use ssh_encoding::OutOfMemory;
+
+impl Lanes {
+    /// The frames of all unsent requests; None where nothing is unsent. Refused for want of memory.
+    pub(crate) fn hand_out(&mut self) -> Result<Option<Chunk>, OutOfMemory>
+        requires opened { IsOpened self.old }
+        ensures hands_out { (s : Setting) → IsWorking s self.old → IfOk result (λ chunk. HandsAll s self.old self.new (option_map joined chunk)) }
+    {
+        Err(OutOfMemory)
+    }
+
+    /// Takes the body of one frame. Refused by the first thing that is wrong with it, or for want of memory.
+    pub(crate) fn take(&mut self, _body: &[u8]) -> Result<(), TakeError>
+        requires opened { IsOpened self.old }
+        ensures takes { (s : Setting) → IsWorking s self.old → OnOk result (TakesBody s (reply_at _body.now) self.old self.new) }
+        ensures refused { IfErr result (λ e. IsFirst e (refuses (past_of self.old) (reply_at _body.now))) }
+    {
+        Err(TakeError::OutOfMemory)
+    }
+}
