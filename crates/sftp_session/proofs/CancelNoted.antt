@@ -1,6 +1,6 @@
 -- What a cancel leaves of a session.
 use Rattle.std.proofs.Common.{◌≡◌, ◌<◌, ◌+◌, ◌==◌, ◌^◌, ℕ, Bool, true, false, List, [], ◌∷◌, ◌++◌, Option, Some, None, refl, ap, sym, ◌∙◌, subst, arith, inl, inr}
-use Rattle.std.specs.Prelude.{◌&&◌, ◌≤◌, MatchBool, IsTrue, is_some, slice_get, slice_set, length}
+use Rattle.std.specs.Prelude.{◌&&◌, ◌≤◌, MatchBool, IsTrue, is_some, slice_get, slice_set, length, reverse}
 use Rattle.std.specs.List.{list_any}
 use Rattle.std.proofs.lemmas.Option.{slice_get_within, slice_get-get_or}
 use Rattle.sftp_model.specs.declared.outcome.Outcome.TheVariants as outcome
@@ -38,7 +38,7 @@ use Rattle.sftp_session.specs.Noting.{call_by, call_in}
 use Rattle.sftp_session.specs.Session.{IsTied}
 use Rattle.sftp_session.specs.Tied.{IsBorne}
 use Rattle.sftp_session.specs.Working.{Contents, Works, CancelsIn}
-use Rattle.sftp_session.proofs.Stepping.{no_call, at_call, call_few, call_current}
+use Rattle.sftp_session.proofs.Stepping.{no_call, at_call, call_few, pushed}
 use Rattle.sftp_session.proofs.Kept.{holds_of}
 
 -- the lane's call is under way, and may be given up
@@ -211,3 +211,11 @@ not_there s c lane w le =
     none_past : (l : Option Lane) → slice_get c.calls lane ≡ l → call_in c.calls c.states lane ≡ None
     none_past None is = ap (λ x. call_by x (slice_get c.states lane)) is
     none_past (Some l) is = absurd (let lt = slice_get_within c.calls lane l is in let n = w.tied.rest.count in let same : length c.calls ≡ length s.lanes = ap length w.calls in omega (arith, lt, n, same, le))
+
+-- ---- what is pushed
+
+pub two_pushed : (items : List Entry) (a b : Entry) → reverse ((items ++ a ∷ []) ++ b ∷ []) ≡ b ∷ a ∷ reverse items
+two_pushed items a b = pushed (items ++ a ∷ []) b ∙ ap (λ x. b ∷ x) (pushed items a)
+
+pub three_pushed : (items : List Entry) (a b d : Entry) → reverse (((items ++ a ∷ []) ++ b ∷ []) ++ d ∷ []) ≡ d ∷ b ∷ a ∷ reverse items
+three_pushed items a b d = pushed ((items ++ a ∷ []) ++ b ∷ []) d ∙ ap (λ x. d ∷ x) (two_pushed items a b)

@@ -207,7 +207,7 @@ steps_noted s c lane new calls before after d (moved.Ended o (Some f)) a h small
 
 -- ---- what is pushed
 
-pushed : (items : List Entry) (e : Entry) → reverse (items ++ e ∷ []) ≡ e ∷ reverse items
+pub pushed : (items : List Entry) (e : Entry) → reverse (items ++ e ∷ []) ≡ e ∷ reverse items
 pushed items e = reverse-append items (e ∷ [])
 
 -- what the end of a call and the letting go of its file add

@@ -1,8 +1,7 @@
 // The lanes of an open session.
-ghost use Rattle.std.specs.Prelude.{◌≡◌, false, None, IfOk, OnOk};
-ghost use Rattle.sftp_history.specs.Calls.{Setting, current};
-ghost use Rattle.sftp_history.specs.Readings.{was_let_go};
-ghost use Rattle.sftp_session.specs.Working.{IsOpened, IsWorking, Steps, LetsLaneGo, past_of};
+ghost use Rattle.std.specs.Prelude.{IfOk};
+ghost use Rattle.sftp_history.specs.Calls.{Setting};
+ghost use Rattle.sftp_session.specs.Working.{IsOpened, IsWorking, Steps};
 
 use crate::lane::LaneState;
 use crate::noting::current_call;
@@ -38,14 +37,5 @@ impl Lanes {
         let number = state.ended;
         let moved = state.advance(alloc, &mut self.core, call)?;
         Ok(self.note(lane, number, moved))
-    }
-
-    /// Lets go of all that the slots of a lane hold, where the lane is there. Refused for want of memory.
-    pub(crate) fn let_go(&mut self, _lane: u32) -> Result<(), OutOfMemory>
-        requires opened { IsOpened self.old }
-        ensures lets_go { (s : Setting) → IsWorking s self.old → current s (past_of self.old) _lane ≡ None → was_let_go (past_of self.old) _lane ≡ false
-            → OnOk result (LetsLaneGo s _lane self.old self.new) }
-    {
-        Err(OutOfMemory)
     }
 }

@@ -6,6 +6,7 @@ mod cancelling;
 mod closing;
 mod lane;
 mod lanes;
+mod letting;
 mod noting;
 mod taking;
 
