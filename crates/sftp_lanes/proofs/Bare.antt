@@ -227,7 +227,7 @@ pub record LimitsCame (options : SftpOptions) (extensions : Extensions) (read : 
   pub info : Info
   pub calm : new ≡ idle_core options info
 
-limits_in_core : (options : SftpOptions) (extensions : Extensions) (id : ℕ) (r : Reply) → TakesLimits id r
+pub limits_in_core : (options : SftpOptions) (extensions : Extensions) (id : ℕ) (r : Reply) → TakesLimits id r
     → taken (handed_out (asked_core options extensions)) (Some id, r) ≡ idle_core options (info_with extensions (limits_in r) options)
 limits_in_core options extensions id r t =
     let core : Core = handed_out (asked_core options extensions) in

@@ -7,3 +7,6 @@ pub mod StepLaws
 pub mod Leaving
 pub mod Stepping
 pub mod CancelNoted
+pub mod Opening
+pub mod Counting
+pub mod Reporting

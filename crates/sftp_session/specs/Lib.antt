@@ -27,3 +27,5 @@ pub mod CancelDropLaws
 pub mod LettingLaws
 pub mod CallsLaws
 pub mod Noting
+pub mod Seen
+pub mod Reported

@@ -4,9 +4,19 @@
 
 mod cancelling;
 mod closing;
+mod counts;
+mod driver;
+mod fresh;
 mod lane;
 mod lanes;
 mod letting;
 mod noting;
+mod report;
+mod session;
 mod taking;
 
+pub use driver::run_lanes;
+pub use session::Session;
+
+#[cfg(test)]
+mod tests;

@@ -1,0 +1,24 @@
+-- What the report of a whole run of lanes says.
+use Rattle.std.specs.Prelude.{◌≡◌, List, length, Option, Some}
+use Rattle.sftp_model.specs.declared.flags.Extensions.{Extensions}
+use Rattle.sftp_core.specs.declared.options.SftpOptions.{SftpOptions}
+use Rattle.sftp_link.specs.declared.piece.Piece.{Piece}
+use Rattle.sftp_link.specs.Told.{Told}
+use Rattle.sftp_history.specs.declared.call.Lane.{Lane}
+use Rattle.sftp_history.specs.declared.entry.Entry.{Entry}
+use Rattle.sftp_history.specs.declared.report.Report.{Report}
+use Rattle.sftp_history.specs.declared.turn.Turn.{Turn}
+use Rattle.sftp_history.specs.Readings.{outcomes_below, trace_of}
+use Rattle.sftp_history.specs.Runs.{IsRun}
+use Rattle.sftp_history.specs.Settings.{greeting, setting_of}
+use Rattle.sftp_history.specs.Shown.{Shows}
+
+-- The report is that of a run of the lanes under these turns, which the link's log shows where it tells one.
+pub record IsReport (report : Report) (lanes : List Lane) (options : SftpOptions) (schedule : List Turn) (before after : Option (List Piece)) : Type 0 where
+  pub extensions : Extensions
+  pub past : List Entry
+  pub run : IsRun (setting_of lanes options extensions past) schedule past
+  pub hello : report.hello ≡ Some (greeting extensions)
+  pub trace : report.trace ≡ trace_of past
+  pub outcomes : report.outcomes ≡ outcomes_below past (length lanes)
+  pub log : Told (Shows (greeting extensions) past) before after

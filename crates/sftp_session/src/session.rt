@@ -1,0 +1,286 @@
+// A session of lanes: its opening, and each call of its lanes.
+ghost use Rattle.std.specs.Prelude.{◌≡◌, ◌∷◌, [], Some, true, IfOk};
+ghost use Rattle.sftp_core.specs.Info.{offers_limits as offers};
+ghost use Rattle.sftp_history.specs.Lanes.{are_ok};
+ghost use Rattle.sftp_lanes.specs.NoLanes.{offered, asked_past};
+ghost use Rattle.sftp_session.specs.Seen.{IsNew, Reports};
+
+use crate::fresh::let_go_states;
+use crate::lanes::Lanes;
+use crate::report::{events_of, outcomes_below};
+use bitflags::Flags;
+use sftp_core::{Chunk, Info, SftpOptions, TakeError, Taken};
+use sftp_history::{Entry, Event, Lane, Owner, Report};
+use sftp_lanes::{Phase, RunsLanes, Stepped};
+use sftp_model::{Extensions, Reply, Request, TryCopy};
+use ssh_encoding::OutOfMemory;
+use std::alloc::Global;
+use std::marker::Model;
+
+/// A session that runs the lanes that it was given. After an error of `step`, `cancel`, `let_go`, `hand_out` or `take` it
+/// can't be used any more. It isn't droppable: `into_report` and `give_up` spend it.
+pub struct Session<'a> {
+    alloc: Global,
+    lanes: &'a [Lane],
+    options: SftpOptions,
+    phase: Phase,
+    version: Option<Reply>,
+    info: Option<Info>,
+    work: Lanes,
+}
+
+impl<'a> Model for Session<'a> {
+    ghost use Rattle.std.specs.Coded.{codes};
+    ghost use Rattle.sftp_session.specs.contracts.lanes.Lanes as of_lanes;
+    ghost use Rattle.sftp_session.specs.Seen.{Seen, IsSession};
+
+    ghost Value = { Seen };
+
+    ghost coded = { Prim.hlevel (codes, of_lanes.the_row.coded) };
+
+    ghost view = { λ s. record { lanes = s.lanes.now; options = s.options; phase = s.phase; version = s.version; info = s.info; work = s.work } };
+
+    ghost invariant = { λ s. IsSession s.lanes.now s.options s.version s.info s.work s.phase };
+}
+
+impl<'a> Session<'a> {
+    /// A session whose hello stands in the queue. Refused for want of memory.
+    pub fn new(
+        alloc: Global,
+        lanes: &'a [Lane],
+        options: &SftpOptions,
+    ) -> Result<Session<'a>, OutOfMemory>
+        requires { are_ok lanes.now ≡ true }
+        ensures { IfOk result (λ session. IsNew lanes.now options.now session) }
+    {
+        let work = Lanes::new(alloc, lanes, options)?;
+        Ok(Session {
+            alloc,
+            lanes,
+            options: *options,
+            phase: Phase::Fresh,
+            version: None,
+            info: None,
+            work,
+        })
+    }
+
+    /// Ends the session, and reports what it did. Refused for want of memory. Nothing is sent.
+    pub fn into_report(self) -> Result<Report, OutOfMemory>
+        ensures { IfOk result (λ report. Reports self.entry report) }
+    {
+        let Session {
+            alloc,
+            lanes,
+            options: _,
+            phase: _,
+            version,
+            info: _,
+            work,
+        } = self;
+        let Lanes {
+            calls: _,
+            core,
+            journal,
+            begun: _,
+            states,
+        } = work;
+        let_go_states(states, core.end());
+        let outcomes = outcomes_below(alloc, journal.as_slice(), lanes.len() as u32)?;
+        Ok(Report {
+            hello: version,
+            trace: events_of(alloc, journal)?,
+            outcomes,
+        })
+    }
+
+    /// Gives the session up. Nothing is sent.
+    pub fn give_up(self) {
+        let Session {
+            alloc: _,
+            lanes: _,
+            options: _,
+            phase: _,
+            version: _,
+            info: _,
+            work,
+        } = self;
+        work.give_up();
+    }
+}
+
+/// Whether a VERSION offers the query for limits.
+fn offers_limits(reply: &Reply) -> bool
+    ensures { result ≡ offers (offered (Some reply.now)) }
+{
+    match reply {
+        Reply::Version { extensions, .. } => extensions.contains(Extensions::LIMITS),
+        _ => false,
+    }
+}
+
+/// The query for limits was submitted.
+fn query_entry() -> Entry
+    ensures { result ∷ [] ≡ asked_past }
+{
+    Entry::Event(Event::Submit {
+        owner: Owner::Setup,
+        id: 0,
+        request: Request::LimitsQuery,
+    })
+}
+
+impl<'a> RunsLanes for Session<'a> {
+    ghost use Rattle.sftp_session.specs.Seen.{given_of, setting_at};
+    ghost use Rattle.sftp_session.specs.Working.{stage_of, work_of};
+
+    ghost given = { λ s. given_of s };
+
+    ghost setting = { λ s. setting_at s };
+
+    ghost phase = { λ s. s.phase };
+
+    ghost version = { λ s. s.version };
+
+    ghost stage = { λ s. stage_of s.work };
+
+    ghost work = { λ s. work_of s.work };
+
+    fn greet(&mut self) -> Result<Chunk, OutOfMemory> {
+        let chunk = self.work.core.hand_out()?;
+        self.phase = Phase::Greeted;
+        Ok(chunk)
+    }
+
+    fn take_version(&mut self, body: &[u8]) -> Result<bool, TakeError> {
+        if self.work.journal.reserve(1).is_err() {
+            return Err(TakeError::OutOfMemory);
+        }
+        match self.work.core.take(body) {
+            Ok(Taken::Version(reply)) => {
+                if offers_limits(&reply) {
+                    self.work.journal.push(query_entry()).unwrap();
+                    self.phase = Phase::Asking;
+                    self.version = Some(reply);
+                    return Ok(true);
+                }
+                self.info = self.work.core.info();
+                self.phase = Phase::Open;
+                self.version = Some(reply);
+                Ok(false)
+            }
+            Ok(_) => unreachable!(),
+            Err(TakeError::OutOfMemory) => Err(TakeError::OutOfMemory),
+            Err(e) => {
+                self.phase = Phase::Failed;
+                Err(e)
+            }
+        }
+    }
+
+    fn query(&mut self) -> Result<Chunk, OutOfMemory> {
+        self.work.journal.reserve(1)?;
+        let chunk = self.work.core.hand_out()?;
+        self.work.journal.push(Entry::Event(Event::Send)).unwrap();
+        self.phase = Phase::Queried;
+        Ok(chunk)
+    }
+
+    fn take_limits(&mut self, body: &[u8]) -> Result<(), TakeError> {
+        if self.work.journal.reserve(1).is_err() {
+            return Err(TakeError::OutOfMemory);
+        }
+        match self.work.core.take(body) {
+            Ok(Taken::Limits { id, reply }) => {
+                self.work
+                    .journal
+                    .push(Entry::Event(Event::Take { id, reply }))
+                    .unwrap();
+                self.info = self.work.core.info();
+                self.phase = Phase::Open;
+                Ok(())
+            }
+            Ok(_) => unreachable!(),
+            Err(TakeError::OutOfMemory) => Err(TakeError::OutOfMemory),
+            Err(e) => {
+                self.phase = Phase::Failed;
+                Err(e)
+            }
+        }
+    }
+
+    fn step(&mut self, lane: u32) -> Result<Stepped, OutOfMemory> {
+        match self.work.step(self.alloc, lane) {
+            Ok(event) => Ok(event),
+            Err(e) => {
+                self.phase = Phase::Failed;
+                Err(e)
+            }
+        }
+    }
+
+    fn cancel(&mut self, lane: u32) -> Result<bool, OutOfMemory> {
+        match self.work.cancel(lane) {
+            Ok(event) => Ok(event),
+            Err(e) => {
+                self.phase = Phase::Failed;
+                Err(e)
+            }
+        }
+    }
+
+    fn let_go(&mut self, lane: u32) -> Result<(), OutOfMemory> {
+        match self.work.let_go(lane) {
+            Ok(()) => Ok(()),
+            Err(e) => {
+                self.phase = Phase::Failed;
+                Err(e)
+            }
+        }
+    }
+
+    fn hand_out(&mut self) -> Result<Option<Chunk>, OutOfMemory> {
+        match self.work.hand_out() {
+            Ok(chunk) => Ok(chunk),
+            Err(e) => {
+                self.phase = Phase::Failed;
+                Err(e)
+            }
+        }
+    }
+
+    fn give_back(&mut self, chunk: Chunk) {
+        self.work.core.give_back(chunk);
+    }
+
+    fn take(&mut self, body: &[u8]) -> Result<(), TakeError> {
+        match self.work.take(body) {
+            Ok(()) => Ok(()),
+            Err(e) => {
+                self.phase = Phase::Failed;
+                Err(e)
+            }
+        }
+    }
+
+    fn wants_flush(&self) -> bool {
+        self.work
+            .wants_flush(self.options.get_max_pending_requests())
+    }
+
+    fn awaited(&self) -> u32 {
+        self.work.awaited()
+    }
+
+    fn unanswered(&self) -> u32 {
+        self.work.unanswered()
+    }
+
+    fn lane_count(&self) -> u32 {
+        self.lanes.len() as u32
+    }
+
+    fn is_done(&self, lane: u32) -> bool {
+        self.work.is_done(lane)
+    }
+}

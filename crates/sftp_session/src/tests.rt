@@ -1,0 +1,36 @@
+// A session over a scripted link. The bytes are laid out by draft-ietf-secsh-filexfer-02, sections 3 and 4.
+ghost use Rattle.std.specs.Prelude.{◌≡◌, IfOk};
+
+use crate::*;
+use sftp_core::SftpOptions;
+use sftp_link::{Scripted, ScriptedLink};
+use sftp_model::Error;
+use sftp_values::ByteText;
+use std::alloc::Global;
+use std::test::Fail;
+
+const VERSION: &[u8] = b"\x00\x00\x00\x05\x02\x00\x00\x00\x03";
+
+/// A link that answers the hello with VERSION 3.
+fn link(alloc: Global) -> Result<ScriptedLink, Fail>
+    ensures { IfOk result (λ l. l.calls.faults ≡ 0) }
+{
+    let mut items = Vec::new(alloc);
+    items.push(Scripted::Raw(ByteText::new(Vec::from_slice(alloc, VERSION)?)))?;
+    Ok(ScriptedLink::new(alloc, items, Vec::new(alloc), 0))
+}
+
+/// How many events a run without lanes reports.
+fn events(alloc: Global) -> Result<Result<usize, Error>, Fail> {
+    let mut link = link(alloc)?;
+    match run_lanes(alloc, &mut link, &[], &[], &SftpOptions::new()) {
+        Ok(report) => Ok(Ok(report.trace.as_slice().len())),
+        Err(error) => Ok(Err(error)),
+    }
+}
+
+#[test]
+fn runs(rt: HostRuntime) -> Result<(), Fail> {
+    assert!(rt; events(rt.alloc())? == Ok(0));
+    Ok(())
+}
