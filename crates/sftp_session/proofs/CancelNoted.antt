@@ -1,14 +1,12 @@
 -- What a cancel leaves of a session.
-use Rattle.std.proofs.Common.{◌≡◌, ◌<◌, ◌+◌, ◌==◌, ◌^◌, ℕ, Bool, true, false, List, [], ◌∷◌, ◌++◌, Option, Some, None, refl, ap, sym, ◌∙◌, subst, arith, inl, inr}
+use Rattle.std.proofs.Common.{◌≡◌, ◌<◌, ◌==◌, ◌^◌, ℕ, Bool, true, false, List, [], ◌∷◌, ◌++◌, Option, Some, None, refl, ap, sym, ◌∙◌, subst, arith, inl, inr}
 use Rattle.std.specs.Prelude.{◌&&◌, ◌≤◌, MatchBool, IsTrue, is_some, slice_get, slice_set, length, reverse}
 use Rattle.std.specs.List.{list_any}
 use Rattle.std.proofs.lemmas.Option.{slice_get_within, slice_get-get_or}
 use Rattle.sftp_model.specs.declared.outcome.Outcome.TheVariants as outcome
-use Rattle.sftp_model.specs.declared.reply.Reply.{Reply}
 use Rattle.sftp_model.specs.declared.request.Request.{Request}
 use Rattle.sftp_model.specs.declared.request.Request.TheVariants as request
 use Rattle.sftp_core.specs.Core.{Core, at, abandoned, is_ticket}
-use Rattle.sftp_core.specs.Table.{brings}
 use Rattle.sftp_core.specs.declared.place.Place.{Place}
 use Rattle.sftp_core.specs.declared.place.Place.TheVariants.{Waiting, Answered, Granted}
 use Rattle.sftp_file.specs.Stages.{IsHeld, cancelled}
@@ -30,12 +28,11 @@ use Rattle.sftp_session.specs.declared.lane.LaneState.{LaneState}
 use Rattle.sftp_session.specs.declared.lane.Running.TheVariants as running
 use Rattle.sftp_session.specs.CancelLaws.{stage_of, UnderWay, under_way, brings_in, cancelled_past, CancelsLane, tied_cancel}
 use Rattle.sftp_session.specs.CancelDropLaws.{tied_cancel_drop}
-use Rattle.sftp_session.specs.CallsLaws.{borne_small, current_is}
+use Rattle.sftp_session.specs.CallsLaws.{borne_small}
 use Rattle.sftp_session.specs.Counted.{Counted}
 use Rattle.sftp_session.specs.CountedLaws.{counted_same, counted_abandon_waiting, counted_abandon_plain, counted_abandon_handle}
 use Rattle.sftp_session.specs.EndLaws.{one_more}
 use Rattle.sftp_session.specs.Noting.{call_by, call_in}
-use Rattle.sftp_session.specs.Session.{IsTied}
 use Rattle.sftp_session.specs.Tied.{IsBorne}
 use Rattle.sftp_session.specs.Working.{Contents, Works, CancelsIn}
 use Rattle.sftp_session.proofs.Stepping.{no_call, at_call, call_few, pushed}

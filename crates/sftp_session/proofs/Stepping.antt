@@ -1,94 +1,35 @@
 -- A step of a lane, from its call to what is noted of it.
-use Rattle.std.proofs.Common.{◌≡◌, ◌≢◌, ◌<◌, ◌+◌, ◌==◌, ◌^◌, ℕ, zero, suc, Bool, true, false, List, [], ◌∷◌, ◌++◌, Option, Some, None, refl, ap, sym, ◌∙◌, subst, arith, if◌then◌else◌, inl, inr}
-use Rattle.std.specs.Prelude.{◌⊎◌, ◌&&◌, ◌||◌, slice_get, slice_set, slice_index_or, length, ◌-◌, ◌≤◌, ◌*◌}
-use Rattle.std.specs.List.{list_any}
-use Rattle.std.proofs.lemmas.Bool.Decides.{eqb_tells, nat_tests}
-use Rattle.std.proofs.lemmas.Bool.{eq-eqb, ne_eqb}
-use Rattle.sftp_model.specs.declared.request.Request.{Request}
-use Rattle.sftp_model.specs.declared.slot.Move.TheVariants.{Ask, Done, Wait}
-use Rattle.sftp_model.specs.declared.slot.Site.{Site}
-use Rattle.sftp_model.specs.declared.slot.Slot.{Slot}
-use Rattle.sftp_core.specs.Core.{Core, at, queued_last, reply_in, IsGrant, abandoned, abandon_leaves, released, release_gives, release_leaves, with_place, users_of as users_at}
-use Rattle.sftp_core.specs.declared.place.Place.{Place}
-use Rattle.sftp_core.specs.declared.place.Place.TheVariants.{Waiting, Granted, Answered}
-use Rattle.sftp_model.specs.Answers.{expected_of, is_handle}
-use Rattle.sftp_history.specs.declared.event.Owner.{Owner}
+use Rattle.std.proofs.Common.{◌≡◌, ◌<◌, ◌==◌, ◌^◌, ℕ, zero, suc, Bool, true, false, List, [], ◌∷◌, ◌++◌, Option, Some, None, refl, ap, sym, ◌∙◌, subst, arith, if◌then◌else◌}
+use Rattle.std.specs.Prelude.{slice_get, slice_set, length}
+use Rattle.sftp_core.specs.Core.{Core, at, users_of as users_at}
 use Rattle.sftp_history.specs.declared.event.Event.TheVariants.{Submit, End}
 use Rattle.sftp_history.specs.declared.entry.Entry.{Entry}
-use Rattle.sftp_history.specs.Readings.{Asked, asked, awaiting, is_by, ended, own, unsent, is_at, asked_at, answer, unanswered, awaited, last_cancel}
-use Rattle.sftp_history.specs.Calls.{Setting, current, site_of, held_by, held_site, move_of, added, calls_of, move_at}
-use Rattle.sftp_history.specs.Grants.{is_close, closes, closed, with_closed, is_grant, holds, is_asked_by, is_unended_asker, is_granted, is_held, is_one_of, orphan, letting_go}
-use Rattle.sftp_history.specs.Ids.{IdState, Free, Pending, Replied, id_state, Reads}
-use Rattle.sftp_history.specs.IdLaws.{IsFreeState, free_state, reads}
-use Rattle.sftp_history.specs.Journals.{IsFree, IsNext, IsJournal, MustClose, close_of}
-use Rattle.sftp_history.specs.Turns.{begun_with, begun_but, ClosesTo, Stage, SettlesTo}
-use Rattle.sftp_history.specs.CallLaws.{may_next, own_submit, ended_end, end_site, end_own, own_fresh, asker_owns, due_next}
-use Rattle.sftp_history.specs.RunLaws.{Good, Still, begun_more, submit_good, end_good, but_begun, closes_good}
+use Rattle.sftp_history.specs.Readings.{ended, last_cancel}
+use Rattle.sftp_history.specs.Calls.{Setting, current, calls_of}
+use Rattle.sftp_history.specs.Journals.{IsJournal}
+use Rattle.sftp_history.specs.Turns.{begun_with, begun_but}
 use Rattle.sftp_session.specs.declared.lane.LaneState.{LaneState}
-use Rattle.sftp_session.specs.Held.{Due, due_on, gone_on, submit_holds, still_of_due, LooseAt, IsLoose, orphan_due, due_own, gone_own}
-use Rattle.sftp_session.specs.LaneLaws.{Keeps, SameLane, lane_on, slots_on, keeps_submit, free_grant, free_ask, same_submit, same_end, slot_on}
-use Rattle.sftp_session.specs.Session.{Between, IsTied}
-use Rattle.sftp_session.specs.Standing.{submit_tabled, SameUsers, borne_apart, end_tabled, end_tabled_one, none_by, none_other, asked_there, stand_same, users_same}
-use Rattle.sftp_session.specs.Tables.{is_live, replied, stand, users_in, users_of, slots_of, Tabled}
-use Rattle.sftp_session.specs.Tied.{Asks, CoreTied, LaneTied, SlotTied, IsBorne, is_running, RunTied, IsOwned, GoneOnly}
-use Rattle.sftp_model.specs.Slots.{slot_at, slot_has, has_grant, with_slot, grant_of}
-use Rattle.sftp_model.specs.declared.outcome.Outcome.{Outcome}
+use Rattle.sftp_session.specs.Tables.{Tabled}
+use Rattle.sftp_session.specs.Tied.{CoreTied, LaneTied}
 use Rattle.sftp_history.specs.declared.call.Call.{Call}
-use Rattle.sftp_session.specs.AskLaws.{set_or_other, set_count, core_asked, tied_ask}
-use Rattle.sftp_session.specs.OwnLaws.{false_of, AskedFor, owned_asked, slot_owned, lane_owned, one_lane, no_asker, owned_stands, not_live}
-use Rattle.sftp_session.specs.declared.lane.Running.{Running}
-use Rattle.sftp_model.specs.declared.reply.Reply.{Reply}
-use Rattle.sftp_model.specs.declared.answers.Expected.{Expected}
-use Rattle.sftp_core.specs.Table.{brings, IsAllowed}
-use Rattle.sftp_file.specs.declared.stage.Stage.TheVariants.{Asked as Asking}
-use Rattle.sftp_file.specs.Files.{FileValue, file_at}
-use Rattle.sftp_file.specs.Polls.{polled_core, closing}
-use Rattle.sftp_core.specs.Grant.{GrantValue}
-use Rattle.sftp_file.specs.StageLaws.{polled_elsewhere, grant_at}
-use Rattle.sftp_history.specs.GrantLaws.{any_none, any_passes}
-use Rattle.sftp_session.specs.AskCloseLaws.{InSlot, in_slot, tied_ask_close}
-use Rattle.sftp_session.specs.Users.{one_if, users_set, users_kept, none_uses, uses_none, any_set, slot_uses, used_slot, set_here, set_there, set_length}
+use Rattle.sftp_file.specs.Files.{FileValue}
 use Rattle.std.proofs.lemmas.Option.{slice_get_within, slice_get-get_or}
-use Rattle.sftp_model.specs.Plans.{handle_of}
-use Rattle.sftp_core.specs.Elsewhere.{put_here, put_elsewhere, submit_elsewhere}
-use Rattle.sftp_file.specs.Stages.{cancelled}
-use Rattle.sftp_session.specs.Counted.{let_go, Counted, weigh, lane_left, lanes_left}
-use Rattle.sftp_session.specs.EndPutLaws.{owed_by, owed_of, put_users, put_between}
-use Rattle.sftp_session.specs.ReleaseLaws.{Closing, let_go_closes, Sharing, let_go_shares, IsDue, must_close, closes_to, close_is, Closed, close_closed}
-use Rattle.sftp_session.specs.EndLaws.{Ended, one_more, end_between, either_is, left_is}
-use Rattle.sftp_session.specs.Moves.{file_in, Unasked, HasPolled, IsPlain, SlotsStay, SlotMoves, SlotOpens, SlotFrees, AsksFresh, AsksClose, EndsAs, Moves, MayLetGo}
-use Rattle.sftp_session.specs.PollLaws.{polled_gone, polled_granted, polled_work, polled_state}
-use Rattle.sftp_session.specs.EndKindLaws.{EndsHere, later_call, polled_is, live_here, dead_now, stay_between, moves_between}
-use Rattle.sftp_model.specs.declared.slot.Move.{Move}
+use Rattle.sftp_session.specs.Counted.{let_go}
+use Rattle.sftp_session.specs.EndLaws.{one_more}
+use Rattle.sftp_session.specs.Moves.{Moves, MayLetGo}
 use Rattle.sftp_history.specs.declared.call.Lane.{Lane}
-use Rattle.sftp_history.specs.CountLaws.{some_unanswered}
-use Rattle.sftp_history.specs.Lanes.{are_ok}
-use Rattle.sftp_lanes.specs.declared.session.Stepped.{Stepped}
-use Rattle.sftp_lanes.specs.Session.{IsLater, StepsTo, LessBy, is_event}
-use Rattle.sftp_lanes.proofs.Journals.{later_self}
-use Rattle.sftp_session.specs.EndOpenLaws.{opens_between, frees_between}
-use Rattle.sftp_session.specs.FreedLaws.{between_empty, Freed, freed_grant, between_shared, between_last}
-use Rattle.sftp_session.specs.CountedLaws.{counted_ask, weigh_ask, counted_close, weigh_close, counted_polled, weigh_polled, counted_shared, counted_last, weigh_let_go, counted_same, lanes_less, asked_less, ended_less}
-use Rattle.sftp_session.specs.Working.{Contents, Works, StepsIn, stage_in, work_in}
-use Rattle.sftp_session.specs.CallsLaws.{borne_small}
-use Rattle.sftp_session.proofs.Kept.{kept_allowed}
+use Rattle.sftp_session.specs.Working.{Contents, Works, StepsIn}
 use Rattle.sftp_history.specs.declared.event.Owner.TheVariants as owner
 use Rattle.sftp_history.specs.declared.entry.Entry.TheVariants as entry
-use Rattle.sftp_history.specs.declared.call.Call.TheVariants as call
-use Rattle.sftp_session.specs.declared.lane.Running.TheVariants as running
-use Rattle.sftp_model.specs.declared.reply.Reply.TheVariants as reply
-use Rattle.sftp_model.specs.declared.slot.Slot.TheVariants as slots
-use Rattle.sftp_model.specs.declared.answers.Expected.TheVariants as expected
 use Rattle.sftp_model.specs.declared.request.Request.TheVariants as request
 use Rattle.sftp_lanes.specs.declared.session.Stepped.TheVariants as stepped
 use Rattle.sftp_session.specs.declared.lane.Moved.TheVariants as moved
-use Rattle.std.proofs.lemmas.Option.{get_or_from_slice_get}
 use Rattle.std.proofs.lemmas.List.{reverse-append}
 use Rattle.std.specs.Prelude.{reverse}
 use Rattle.sftp_session.specs.CallsLaws.{current_is, call_within, calls_few}
 use Rattle.sftp_session.specs.Noting.{call_by, call_in, noted, step_of, IsSmallMove, closes_of, released_core}
 use Rattle.sftp_session.specs.declared.lane.Moved.{Moved}
-use Rattle.sftp_session.proofs.StepLaws.{AtCall, steps_nothing, steps_waits, steps_asked, EndLeaves, end_leaves, ended_granted, steps_ended, steps_ended_shared, steps_ended_last}
+use Rattle.sftp_session.proofs.StepLaws.{AtCall, steps_waits, steps_asked, end_leaves, ended_granted, steps_ended, steps_ended_shared, steps_ended_last}
 use Rattle.sftp_session.proofs.MayGoOn.{may_advance}
 use Rattle.sftp_session.specs.Moves.{MayAdvance}
 use Rattle.sftp_session.specs.Noting.{freed_of}

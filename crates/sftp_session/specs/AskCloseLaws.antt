@@ -1,16 +1,13 @@
 -- A call closes the file in its slot.
-use Rattle.std.proofs.Common.{◌≡◌, ◌≢◌, ◌<◌, ◌+◌, ◌==◌, ◌^◌, ℕ, zero, suc, Bool, true, false, List, [], ◌∷◌, ◌++◌, Option, Some, None, refl, ap, sym, ◌∙◌, subst, arith, if◌then◌else◌, inl, inr}
-use Rattle.std.specs.Prelude.{◌⊎◌, ◌&&◌, slice_get, slice_set, slice_index_or, length}
-use Rattle.std.specs.List.{list_any}
-use Rattle.std.proofs.lemmas.Bool.Decides.{eqb_tells, nat_tests}
+use Rattle.std.proofs.Common.{◌≡◌, ◌≢◌, ◌<◌, ◌+◌, ◌^◌, ℕ, true, false, List, [], ◌∷◌, Option, Some, None, refl, ap, sym, ◌∙◌, subst, arith, inl, inr}
+use Rattle.std.specs.Prelude.{slice_get, slice_set, slice_index_or, length}
+use Rattle.std.proofs.lemmas.Bool.Decides.{eqb_tells}
 use Rattle.std.proofs.lemmas.Bool.{eq-eqb, ne_eqb}
 use Rattle.sftp_model.specs.declared.request.Request.{Request}
 use Rattle.sftp_model.specs.declared.slot.Move.TheVariants.{Ask}
 use Rattle.sftp_model.specs.declared.slot.Site.{Site}
-use Rattle.sftp_model.specs.declared.slot.Slot.{Slot}
 use Rattle.sftp_core.specs.Core.{Core, at, queued_last}
 use Rattle.sftp_core.specs.Elsewhere.{put_here, submit_elsewhere}
-use Rattle.sftp_core.specs.declared.place.Place.{Place}
 use Rattle.sftp_core.specs.declared.place.Place.TheVariants.{Waiting}
 use Rattle.sftp_model.specs.Answers.{expected_of}
 use Rattle.sftp_history.specs.declared.event.Owner.{Owner}
@@ -18,48 +15,42 @@ use Rattle.sftp_history.specs.declared.event.Owner.TheVariants as owner
 use Rattle.sftp_history.specs.declared.event.Event.TheVariants.{Submit}
 use Rattle.sftp_history.specs.declared.entry.Entry.{Entry}
 use Rattle.sftp_history.specs.declared.entry.Entry.TheVariants as entry
-use Rattle.sftp_history.specs.Readings.{Asked, asked, awaiting, is_by, ended, own, unsent}
+use Rattle.sftp_history.specs.Readings.{Asked, asked, ended, own}
 use Rattle.sftp_history.specs.Calls.{Setting, current, site_of, held_by, held_site, move_of}
 use Rattle.sftp_history.specs.Grants.{is_close, closes, closed, with_closed}
-use Rattle.sftp_history.specs.Ids.{IdState, Free, Pending, Replied, id_state}
+use Rattle.sftp_history.specs.Ids.{IdState, Replied, id_state}
 use Rattle.sftp_history.specs.IdLaws.{IsFreeState, free_state}
 use Rattle.sftp_history.specs.Journals.{IsFree, IsNext}
 use Rattle.sftp_history.specs.Turns.{begun_with}
-use Rattle.sftp_history.specs.CallLaws.{may_next, own_submit}
-use Rattle.sftp_history.specs.RunLaws.{Good, Still, begun_more, submit_good}
+use Rattle.sftp_history.specs.CallLaws.{may_next}
+use Rattle.sftp_history.specs.RunLaws.{begun_more, submit_good}
 use Rattle.sftp_session.specs.declared.lane.LaneState.{LaneState}
-use Rattle.sftp_session.specs.Held.{Due, due_on, gone_on, submit_holds, still_of_due}
-use Rattle.sftp_session.specs.LaneLaws.{Keeps, SameLane, lane_on, slots_on, keeps_submit, free_grant, free_ask, same_submit}
-use Rattle.sftp_session.specs.Moves.{AsksFresh}
-use Rattle.sftp_session.specs.Session.{Between, IsTied}
+use Rattle.sftp_session.specs.Held.{Due, still_of_due}
+use Rattle.sftp_session.specs.LaneLaws.{SameLane, lane_on, keeps_submit, same_submit}
+use Rattle.sftp_session.specs.Session.{IsTied}
 use Rattle.sftp_session.specs.Standing.{submit_tabled}
-use Rattle.sftp_session.specs.Tables.{is_live, replied, stand, users_in, users_of, slots_of, Tabled}
+use Rattle.sftp_session.specs.Tables.{is_live, users_in, slots_of, Tabled}
 use Rattle.sftp_session.specs.Tied.{Asks, CoreTied, LaneTied, SlotTied, IsBorne, is_running}
 use Rattle.sftp_model.specs.Slots.{slot_at}
 use Rattle.sftp_model.specs.declared.slot.Slot.TheVariants as slots
-use Rattle.sftp_model.specs.declared.request.Request.TheVariants as request
 use Rattle.sftp_model.specs.declared.reply.Reply.TheVariants as reply
 use Rattle.sftp_model.specs.Slots.{slot_has, has_grant, grant_of, with_slot}
 use Rattle.sftp_core.specs.declared.place.Place.TheVariants.{Granted}
 use Rattle.sftp_core.specs.Core.{users_of as users_at}
 use Rattle.sftp_file.specs.Files.{FileValue, file_at}
-use Rattle.sftp_file.specs.declared.stage.Stage.TheVariants.{Asked as Asking}
-use Rattle.sftp_history.specs.declared.call.Call.TheVariants as call
-use Rattle.sftp_history.specs.Calls.{given_up}
-use Rattle.sftp_history.specs.Grants.{is_grant, is_held, holds, is_one_of, closed_by, is_unended_asker}
+use Rattle.sftp_history.specs.Grants.{is_grant, is_held, holds, closed_by, is_unended_asker}
 use Rattle.sftp_history.specs.GrantLaws.{any_none}
-use Rattle.std.proofs.lemmas.Option.{slice_get-get_or, slice_get_within}
-use Rattle.sftp_session.specs.AskLaws.{set_or_other, set_count, other_owner, own_now, asks_now, core_asked, held_all}
+use Rattle.std.proofs.lemmas.Option.{slice_get-get_or}
+use Rattle.sftp_session.specs.AskLaws.{set_or_other, set_count, other_owner, own_now, asks_now, core_asked}
 use Rattle.sftp_session.specs.Held.{submit_held, holds_back, asker_stays, gone_close, due_close}
 use Rattle.sftp_session.specs.LaneLaws.{slot_on}
 use Rattle.sftp_session.specs.Moves.{AsksClose, file_in}
 use Rattle.sftp_session.specs.OwnLaws.{AskedFor, owned_asked, owned_stands, lane_owned, one_lane, no_asker, not_live, false_of}
 use Rattle.sftp_session.specs.Standing.{borne_apart}
-use Rattle.sftp_session.specs.Tied.{IsOwned, CloseTied, RunTied}
+use Rattle.sftp_session.specs.Tied.{IsOwned, RunTied}
 use Rattle.sftp_history.specs.Readings.{is_at}
 use Rattle.sftp_session.specs.Users.{users_set, users_kept, uses_none, any_set, slot_uses, set_here, set_there, set_length}
 use Rattle.sftp_session.specs.declared.lane.Running.{Running}
-use Rattle.sftp_session.specs.declared.lane.Running.TheVariants as running
 
 -- what the file of a slot is to its journal
 pub record InSlot (s : Setting) (past : List Entry) (lane slot : ℕ) (f : FileValue) : Type 0 where

@@ -1,8 +1,7 @@
 -- A lane submits a request.
-use Rattle.std.proofs.Common.{◌≡◌, ◌≢◌, ◌<◌, ◌+◌, ◌==◌, ◌^◌, ℕ, zero, suc, Bool, true, false, List, [], ◌∷◌, ◌++◌, Option, Some, None, refl, ap, sym, ◌∙◌, subst, arith, if◌then◌else◌, inl, inr}
+use Rattle.std.proofs.Common.{◌≡◌, ◌≢◌, ◌<◌, ◌+◌, ◌==◌, ◌^◌, ℕ, zero, suc, Bool, true, false, List, [], ◌∷◌, ◌++◌, Option, Some, None, refl, ap, sym, ◌∙◌, subst, arith, inl, inr}
 use Rattle.std.specs.Prelude.{◌⊎◌, ◌&&◌, slice_get, slice_set, slice_index_or, length}
-use Rattle.std.specs.List.{list_any}
-use Rattle.std.proofs.lemmas.Bool.Decides.{eqb_tells, nat_tests}
+use Rattle.std.proofs.lemmas.Bool.Decides.{eqb_tells}
 use Rattle.std.proofs.lemmas.Bool.{eq-eqb, ne_eqb}
 use Rattle.sftp_model.specs.declared.request.Request.{Request}
 use Rattle.sftp_model.specs.declared.slot.Move.TheVariants.{Ask}
@@ -18,23 +17,23 @@ use Rattle.sftp_history.specs.declared.event.Owner.TheVariants as owner
 use Rattle.sftp_history.specs.declared.event.Event.TheVariants.{Submit}
 use Rattle.sftp_history.specs.declared.entry.Entry.{Entry}
 use Rattle.sftp_history.specs.declared.entry.Entry.TheVariants as entry
-use Rattle.sftp_history.specs.Readings.{Asked, asked, awaiting, is_by, ended, own, unsent}
-use Rattle.sftp_history.specs.Calls.{Setting, current, site_of, held_by, held_site, move_of}
-use Rattle.sftp_history.specs.Grants.{is_close, closes, closed, with_closed}
+use Rattle.sftp_history.specs.Readings.{asked, is_by, ended, own}
+use Rattle.sftp_history.specs.Calls.{Setting, held_site, move_of}
+use Rattle.sftp_history.specs.Grants.{closes, closed, with_closed}
 use Rattle.sftp_history.specs.Ids.{IdState, Free, Pending, Replied, id_state}
 use Rattle.sftp_history.specs.IdLaws.{IsFreeState, free_state}
 use Rattle.sftp_history.specs.Journals.{IsFree, IsNext}
 use Rattle.sftp_history.specs.Turns.{begun_with}
 use Rattle.sftp_history.specs.CallLaws.{may_next, own_submit}
-use Rattle.sftp_history.specs.RunLaws.{Good, Still, begun_more, submit_good}
+use Rattle.sftp_history.specs.RunLaws.{begun_more, submit_good}
 use Rattle.sftp_session.specs.declared.lane.LaneState.{LaneState}
 use Rattle.sftp_session.specs.Held.{Due, due_on, gone_on, submit_holds, still_of_due}
-use Rattle.sftp_session.specs.LaneLaws.{Keeps, SameLane, lane_on, slots_on, keeps_submit, free_grant, free_ask, same_submit}
+use Rattle.sftp_session.specs.LaneLaws.{Keeps, lane_on, slots_on, keeps_submit, free_grant, free_ask, same_submit}
 use Rattle.sftp_session.specs.Moves.{AsksFresh}
-use Rattle.sftp_session.specs.Session.{Between, IsTied}
+use Rattle.sftp_session.specs.Session.{IsTied}
 use Rattle.sftp_session.specs.Standing.{submit_tabled}
-use Rattle.sftp_session.specs.Tables.{is_live, replied, stand, users_in, users_of, slots_of, Tabled}
-use Rattle.sftp_session.specs.Tied.{Asks, CoreTied, LaneTied, SlotTied, IsBorne, is_running}
+use Rattle.sftp_session.specs.Tables.{stand, users_in, slots_of, Tabled}
+use Rattle.sftp_session.specs.Tied.{Asks, CoreTied, LaneTied, SlotTied, is_running}
 use Rattle.sftp_model.specs.Slots.{slot_at}
 
 -- ---- lists

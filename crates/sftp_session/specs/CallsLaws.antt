@@ -1,5 +1,5 @@
 -- The calls of a session that were all handed in, and numbers that are small.
-use Rattle.std.proofs.Common.{◌≡◌, ◌≢◌, ◌<◌, ◌≤◌, ◌+◌, ◌*◌, ◌==◌, ◌^◌, ℕ, zero, suc, Bool, true, false, List, [], ◌∷◌, ◌++◌, length, Option, Some, None, refl, ap, sym, ◌∙◌, subst, arith, inl, inr}
+use Rattle.std.proofs.Common.{◌≡◌, ◌<◌, ◌≤◌, ◌+◌, ◌^◌, ℕ, zero, suc, Bool, true, false, List, [], ◌∷◌, ◌++◌, length, Some, refl, ap, sym, ◌∙◌, subst, arith, inl, inr}
 use Rattle.std.specs.Prelude.{◌&&◌, slice_get, nat_lt}
 use Rattle.std.specs.List.{list_all, sum_by}
 use Rattle.std.proofs.lemmas.Bool.Decides.{eqb_tells, nat_tests}
@@ -10,8 +10,8 @@ use Rattle.sftp_history.specs.declared.call.Lane.{Lane}
 use Rattle.sftp_history.specs.declared.event.Event.TheVariants.{Submit}
 use Rattle.sftp_history.specs.declared.entry.Entry.{Entry}
 use Rattle.sftp_history.specs.declared.entry.Entry.TheVariants as entry
-use Rattle.sftp_history.specs.Readings.{asked, bearer, ended}
-use Rattle.sftp_history.specs.Calls.{Setting, added, calls_of, lane_calls, current}
+use Rattle.sftp_history.specs.Readings.{bearer, ended}
+use Rattle.sftp_history.specs.Calls.{Setting, added, calls_of, current}
 use Rattle.sftp_history.specs.Journals.{IsJournal}
 use Rattle.sftp_history.specs.JournalLaws.{submit_free}
 use Rattle.sftp_history.specs.Lanes.{is_within, weight, lane_weight, are_ok}

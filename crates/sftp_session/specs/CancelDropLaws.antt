@@ -1,95 +1,52 @@
 -- The call of a lane is cancelled whose handle had come: it is closed.
-use Rattle.sftp_core.specs.Core.{Core, at, queued_last, IsGrant, abandoned, abandon_leaves, released, release_gives, release_leaves, with_place, users_of as users_at, handed_out, dropped, without, reply_in}
-use Rattle.sftp_core.specs.Elsewhere.{gone_here, take_elsewhere, hand_out_each, put_here, put_elsewhere, submit_elsewhere}
-use Rattle.sftp_core.specs.Grant.{GrantValue}
-use Rattle.sftp_core.specs.Table.{brings, sent_place}
-use Rattle.sftp_core.specs.Take.{take_leaves, wrong_at, answered}
-use Rattle.sftp_core.specs.declared.errors.TakeError.{TakeError}
+use Rattle.sftp_core.specs.Core.{Core, at, queued_last, abandoned, abandon_leaves, with_place}
+use Rattle.sftp_core.specs.Elsewhere.{put_here, put_elsewhere, submit_elsewhere}
+use Rattle.sftp_core.specs.Table.{brings}
 use Rattle.sftp_core.specs.declared.place.Place.TheVariants.{Answered, Granted, Waiting}
-use Rattle.sftp_core.specs.declared.place.Place.{Place}
-use Rattle.sftp_file.specs.Files.{FileValue, file_at}
-use Rattle.sftp_file.specs.Polls.{closing, polled_core}
-use Rattle.sftp_file.specs.StageLaws.{grant_at, polled_elsewhere}
-use Rattle.sftp_file.specs.Stages.{cancelled}
-use Rattle.sftp_file.specs.declared.stage.Stage.TheVariants.{Asked as Asking}
-use Rattle.sftp_history.specs.CallLaws.{due_next, ended_end, end_site, end_own, own_fresh, asker_owns, may_next, own_submit}
-use Rattle.sftp_history.specs.Calls.{Setting, current, site_of, held_by, held_site, move_of}
+use Rattle.sftp_history.specs.CallLaws.{due_next, asker_owns}
+use Rattle.sftp_history.specs.Calls.{Setting, held_site}
 use Rattle.sftp_history.specs.GrantLaws.{any_none, any_passes}
-use Rattle.sftp_history.specs.Grants.{is_close, closes, closed, with_closed, is_grant, holds, is_asked_by, is_unended_asker, is_granted, is_held, is_one_of, orphan, letting_go}
-use Rattle.sftp_history.specs.IdLaws.{IsFreeState, free_state, reads}
-use Rattle.sftp_history.specs.Ids.{IdState, Free, Pending, Replied, id_state, Reads, now_replied}
-use Rattle.sftp_history.specs.Journals.{IsFree, IsNext, IsJournal, MayTake, goes_on, opened, is_opened, MustClose, close_of}
-use Rattle.sftp_history.specs.Readings.{Asked, asked, awaiting, is_by, ended, own, unsent, answer, is_at, asked_at, sent, bearer}
-use Rattle.sftp_history.specs.RequestLaws.{bearer_asked}
-use Rattle.sftp_history.specs.RunLaws.{Good, Still, begun_more, submit_good, closes_good, end_good, but_begun, good_plain}
-use Rattle.sftp_history.specs.Turns.{ClosesTo, begun_but, begun_with}
-use Rattle.sftp_history.specs.declared.call.Call.{Call}
+use Rattle.sftp_history.specs.Grants.{closed, is_grant, holds, is_asked_by, is_unended_asker, is_granted, is_held, is_one_of, orphan}
+use Rattle.sftp_history.specs.IdLaws.{reads}
+use Rattle.sftp_history.specs.Ids.{IdState, Free, Pending, Replied, id_state, Reads}
+use Rattle.sftp_history.specs.Journals.{IsNext}
+use Rattle.sftp_history.specs.Readings.{Asked, ended, is_at, asked_at}
+use Rattle.sftp_history.specs.Turns.{ClosesTo, begun_but}
 use Rattle.sftp_history.specs.declared.entry.Entry.{Entry}
-use Rattle.sftp_history.specs.declared.event.Event.TheVariants.{End, Send, Take, Submit}
-use Rattle.sftp_history.specs.declared.event.Owner.{Owner}
-use Rattle.sftp_model.specs.Answers.{allows, may_answer, expected_of, is_handle}
-use Rattle.sftp_model.specs.Plans.{handle_of}
-use Rattle.sftp_model.specs.Slots.{slot_at, slot_has, has_grant, with_slot, grant_of}
-use Rattle.sftp_model.specs.declared.answers.Expected.{Expected}
-use Rattle.sftp_model.specs.declared.outcome.Outcome.{Outcome}
+use Rattle.sftp_history.specs.declared.event.Event.TheVariants.{Submit}
+use Rattle.sftp_model.specs.Answers.{expected_of}
+use Rattle.sftp_model.specs.Slots.{has_grant}
 use Rattle.sftp_model.specs.declared.reply.Reply.{Reply}
-use Rattle.sftp_model.specs.declared.request.Request.{Request}
-use Rattle.sftp_model.specs.declared.slot.Move.TheVariants.{Ask, Done}
 use Rattle.sftp_model.specs.declared.slot.Site.{Site}
-use Rattle.sftp_model.specs.declared.slot.Slot.{Slot}
-use Rattle.sftp_session.specs.AskCloseLaws.{InSlot, in_slot}
-use Rattle.sftp_session.specs.AskLaws.{core_asked, set_or_other, set_count}
-use Rattle.sftp_session.specs.Counted.{let_go}
-use Rattle.sftp_session.specs.EndLaws.{Ended, ended_by, one_more, steady_of, end_between, either_is, left_is}
-use Rattle.sftp_session.specs.FactLaws.{is_limits, CameBy, came_by}
-use Rattle.sftp_session.specs.Held.{Due, due_on, gone_on, submit_holds, still_of_due, IsLoose, LooseAt, orphan_due, due_own, gone_own, take_gone, take_held, take_loose}
-use Rattle.sftp_session.specs.LaneLaws.{Keeps, SameLane, lane_on, slots_on, keeps_submit, free_grant, free_ask, same_submit, keeps_send, keeps_take, same_end, slot_on}
-use Rattle.sftp_session.specs.Moves.{file_in, Unasked, HasPolled, IsPlain, SlotsStay, SlotMoves, SlotOpens, SlotFrees}
-use Rattle.sftp_session.specs.OwnLaws.{AskedFor, owned_asked, slot_owned, lane_owned, one_lane, no_asker, false_of, owned_stands, not_live}
-use Rattle.sftp_session.specs.PollLaws.{polled_gone, polled_granted, polled_work, polled_state}
-use Rattle.sftp_session.specs.ReleaseLaws.{Closing, let_go_closes, Sharing, let_go_shares, IsDue, must_close, closes_to, close_is, Closed, close_closed}
+use Rattle.sftp_session.specs.AskLaws.{core_asked}
+use Rattle.sftp_session.specs.EndLaws.{one_more}
+use Rattle.sftp_session.specs.Held.{Due, still_of_due, IsLoose, orphan_due, due_own}
+use Rattle.sftp_session.specs.LaneLaws.{SameLane, same_end}
+use Rattle.sftp_session.specs.OwnLaws.{AskedFor, lane_owned, false_of}
+use Rattle.sftp_session.specs.ReleaseLaws.{IsDue, must_close, closes_to, close_is, Closed, close_closed}
 use Rattle.sftp_session.specs.Session.{Between, IsTied}
-use Rattle.sftp_session.specs.Standing.{SameUsers, borne_apart, end_tabled, end_tabled_one, none_by, none_other, asked_there, send_tabled, take_tabled, stand_same, users_same, submit_tabled}
 use Rattle.sftp_session.specs.Tables.{is_live, replied, stand, users_in, users_of, slots_of, Tabled}
-use Rattle.sftp_session.specs.TakeLaws.{Awaited, Pends, pends_by, may_take, plain_gone}
-use Rattle.sftp_session.specs.Tied.{Asks, CoreTied, LaneTied, SlotTied, IsBorne, is_running, GoneOnly, IsOwned, RunTied}
-use Rattle.sftp_session.specs.Users.{one_if, users_set, users_kept, none_uses, uses_none, any_set, slot_uses, used_slot, set_here, set_there, set_length}
+use Rattle.sftp_session.specs.Tied.{IsBorne}
+use Rattle.sftp_session.specs.Users.{none_uses}
 use Rattle.sftp_session.specs.declared.lane.LaneState.{LaneState}
-use Rattle.sftp_session.specs.declared.lane.Running.{Running}
-use Rattle.std.proofs.Common.{◌≡◌, ◌≢◌, ◌<◌, ◌+◌, ◌==◌, ◌^◌, ℕ, zero, suc, Bool, true, false, List, [], ◌∷◌, ◌++◌, Option, Some, None, refl, ap, sym, ◌∙◌, subst, arith, if◌then◌else◌, inl, inr}
-use Rattle.std.proofs.lemmas.Bool.Decides.{eqb_tells, nat_tests}
+use Rattle.std.proofs.Common.{◌≡◌, ◌≢◌, ◌<◌, ◌+◌, ◌==◌, ◌^◌, ℕ, Bool, true, false, List, [], ◌∷◌, ◌++◌, Some, None, refl, ap, sym, ◌∙◌, subst, arith, inl, inr}
+use Rattle.std.proofs.lemmas.Bool.Decides.{eqb_tells}
 use Rattle.std.proofs.lemmas.Bool.{eq-eqb, ne_eqb}
 use Rattle.std.proofs.lemmas.Option.{slice_get_within, slice_get-get_or}
 use Rattle.std.specs.List.{list_any}
-use Rattle.std.specs.Option.{option_map}
-use Rattle.std.specs.Prelude.{Result, Ok, nat_lt, is_some, ◌-◌, ◌⊎◌, ◌&&◌, ◌||◌, slice_get, slice_set, slice_index_or, length}
-use Rattle.sftp_history.specs.declared.call.Call.TheVariants as call
+use Rattle.std.specs.Prelude.{◌&&◌, ◌||◌, slice_set, length}
 use Rattle.sftp_history.specs.declared.entry.Entry.TheVariants as entry
 use Rattle.sftp_history.specs.declared.event.Owner.TheVariants as owner
 use Rattle.sftp_model.specs.declared.answers.Expected.TheVariants as expected
 use Rattle.sftp_model.specs.declared.reply.Reply.TheVariants as reply
 use Rattle.sftp_model.specs.declared.request.Request.TheVariants as request
-use Rattle.sftp_model.specs.declared.slot.Slot.TheVariants as slots
-use Rattle.sftp_session.specs.declared.lane.Running.TheVariants as running
 use Rattle.sftp_model.specs.declared.outcome.Outcome.TheVariants as outcome
-use Rattle.sftp_model.specs.declared.slot.Facts.{Facts}
-use Rattle.sftp_model.specs.Plans.{Answers}
 use Rattle.sftp_core.specs.Core.{abandoned, abandon_leaves}
-use Rattle.sftp_core.specs.Elsewhere.{abandon_elsewhere}
-use Rattle.sftp_file.specs.declared.stage.Stage.{Stage}
-use Rattle.sftp_file.specs.declared.stage.Stage.TheVariants as stage
 use Rattle.sftp_history.specs.declared.event.Event.TheVariants.{Cancel}
-use Rattle.sftp_history.specs.Calls.{cancelled as cancelled_call, given_up, call_at, site_left}
-use Rattle.sftp_history.specs.Journals.{may_cancel, cancelled_end, is_some_place}
-use Rattle.sftp_history.specs.Calls.{has_waited}
-use Rattle.sftp_history.specs.RunLaws.{wait_more}
-use Rattle.sftp_history.specs.CallLaws.{site_end}
-use Rattle.sftp_session.specs.EndKindLaws.{live_here, dead_now, same_users, no_handle}
-use Rattle.sftp_history.specs.CallLaws.{cancelled_next}
-use Rattle.sftp_session.specs.DropLaws.{table_with, with_here, with_there, ungranted_slot, dead_by, first_state}
-use Rattle.sftp_session.specs.EndLaws.{Steady}
+use Rattle.sftp_history.specs.Journals.{cancelled_end}
+use Rattle.sftp_session.specs.EndKindLaws.{live_here, dead_now}
 use Rattle.sftp_core.specs.Core.{with_place}
-use Rattle.sftp_session.specs.CancelLaws.{UnderWay, CancelsLane, CancelsCall, cancels_call, cancelled_past, cancel_between, cancel_table, brings_in, asked_alone}
+use Rattle.sftp_session.specs.CancelLaws.{CancelsLane, cancels_call, cancelled_past, cancel_between, cancel_table, brings_in, asked_alone}
 
 -- a handle had come to the call
 pub record HandleCame (past : List Entry) (lane : ℕ) (old : Core) (t p : ℕ) (b : Asked) (h : List ℕ) : Type 0 where

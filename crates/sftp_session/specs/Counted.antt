@@ -1,5 +1,5 @@
 -- How many requests are under way, and what is left to do.
-use Rattle.std.specs.Prelude.{◌≡◌, ◌+◌, ◌*◌, ◌-◌, ◌==◌, ℕ, List, [], ◌∷◌, length, if◌then◌else◌}
+use Rattle.std.specs.Prelude.{◌≡◌, ◌+◌, ◌*◌, ◌-◌, ℕ, List, [], ◌∷◌, length, if◌then◌else◌}
 use Rattle.sftp_core.specs.Core.{Core, at, users_of, released, release_gives}
 use Rattle.sftp_core.specs.Grant.{GrantValue}
 use Rattle.sftp_core.specs.Table.{count, is_waiting, is_sent, is_owing}

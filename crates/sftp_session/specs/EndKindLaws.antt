@@ -1,86 +1,61 @@
 -- What the end of a call leaves, by what becomes of the lane's slots.
-use Rattle.std.proofs.Common.{◌≡◌, ◌≢◌, ◌<◌, ◌+◌, ◌==◌, ◌^◌, ℕ, zero, suc, Bool, true, false, List, [], ◌∷◌, ◌++◌, Option, Some, None, refl, ap, sym, ◌∙◌, subst, arith, if◌then◌else◌, inl, inr}
-use Rattle.std.specs.Prelude.{◌⊎◌, ◌&&◌, ◌||◌, slice_get, slice_set, slice_index_or, length}
+use Rattle.std.proofs.Common.{◌≡◌, ◌≢◌, ◌<◌, ◌+◌, ◌==◌, ℕ, Bool, true, false, List, [], ◌∷◌, Option, Some, None, refl, ap, sym, ◌∙◌, subst, arith, inl, inr}
+use Rattle.std.specs.Prelude.{◌||◌, slice_get, slice_set, slice_index_or, length}
 use Rattle.std.specs.List.{list_any}
 use Rattle.std.proofs.lemmas.Bool.Decides.{eqb_tells, nat_tests}
 use Rattle.std.proofs.lemmas.Bool.{eq-eqb, ne_eqb}
-use Rattle.sftp_model.specs.declared.request.Request.{Request}
-use Rattle.sftp_model.specs.declared.slot.Move.TheVariants.{Ask}
 use Rattle.sftp_model.specs.declared.slot.Site.{Site}
 use Rattle.sftp_model.specs.declared.slot.Slot.{Slot}
-use Rattle.sftp_core.specs.Core.{Core, at, queued_last}
-use Rattle.sftp_core.specs.declared.place.Place.{Place}
-use Rattle.sftp_core.specs.declared.place.Place.TheVariants.{Waiting}
+use Rattle.sftp_core.specs.Core.{Core, at}
 use Rattle.sftp_model.specs.Answers.{expected_of}
 use Rattle.sftp_history.specs.declared.event.Owner.{Owner}
 use Rattle.sftp_history.specs.declared.event.Owner.TheVariants as owner
-use Rattle.sftp_history.specs.declared.event.Event.TheVariants.{Submit}
 use Rattle.sftp_history.specs.declared.entry.Entry.{Entry}
 use Rattle.sftp_history.specs.declared.entry.Entry.TheVariants as entry
-use Rattle.sftp_history.specs.Readings.{Asked, asked, awaiting, is_by, ended, own, unsent}
-use Rattle.sftp_history.specs.Calls.{Setting, current, site_of, held_by, held_site, move_of}
-use Rattle.sftp_history.specs.Grants.{is_close, closes, closed, with_closed}
-use Rattle.sftp_history.specs.Ids.{IdState, Free, Pending, Replied, id_state}
-use Rattle.sftp_history.specs.IdLaws.{IsFreeState, free_state}
-use Rattle.sftp_history.specs.Journals.{IsFree, IsNext, IsJournal}
-use Rattle.sftp_history.specs.Turns.{begun_with}
-use Rattle.sftp_history.specs.CallLaws.{may_next, own_submit}
-use Rattle.sftp_history.specs.RunLaws.{Good, Still, begun_more, submit_good}
+use Rattle.sftp_history.specs.Readings.{Asked, ended}
+use Rattle.sftp_history.specs.Calls.{Setting, held_site}
+use Rattle.sftp_history.specs.Ids.{IdState, Replied, id_state}
+use Rattle.sftp_history.specs.Journals.{IsJournal}
+use Rattle.sftp_history.specs.RunLaws.{Good}
 use Rattle.sftp_session.specs.declared.lane.LaneState.{LaneState}
-use Rattle.sftp_session.specs.Held.{Due, due_on, gone_on, submit_holds, still_of_due}
-use Rattle.sftp_session.specs.LaneLaws.{Keeps, SameLane, lane_on, slots_on, keeps_submit, free_grant, free_ask, same_submit}
+use Rattle.sftp_session.specs.LaneLaws.{SameLane}
 use Rattle.sftp_session.specs.Session.{Between, IsTied}
-use Rattle.sftp_session.specs.Standing.{submit_tabled}
 use Rattle.sftp_session.specs.Tables.{is_live, replied, stand, users_in, users_of, slots_of, Tabled}
-use Rattle.sftp_session.specs.Tied.{Asks, CoreTied, LaneTied, SlotTied, IsBorne, is_running}
+use Rattle.sftp_session.specs.Tied.{CoreTied, SlotTied}
 use Rattle.sftp_model.specs.Slots.{slot_at}
 use Rattle.sftp_model.specs.declared.outcome.Outcome.{Outcome}
-use Rattle.sftp_model.specs.declared.slot.Move.TheVariants.{Done}
 use Rattle.sftp_model.specs.Slots.{slot_has, has_grant}
-use Rattle.sftp_history.specs.declared.call.Call.{Call}
-use Rattle.sftp_history.specs.declared.call.Call.TheVariants as call
 use Rattle.sftp_history.specs.declared.event.Event.TheVariants.{End}
-use Rattle.sftp_history.specs.Readings.{is_at, asked_at}
-use Rattle.sftp_history.specs.Grants.{is_grant, holds, is_asked_by, is_unended_asker}
+use Rattle.sftp_history.specs.Grants.{is_grant, is_unended_asker}
 use Rattle.sftp_history.specs.Turns.{begun_but}
-use Rattle.sftp_history.specs.CallLaws.{ended_end, end_site, end_own, own_fresh, asker_owns}
-use Rattle.sftp_history.specs.RunLaws.{end_good, but_begun}
-use Rattle.sftp_session.specs.AskLaws.{set_or_other, set_count}
-use Rattle.sftp_session.specs.Held.{LooseAt}
+use Rattle.sftp_history.specs.CallLaws.{asker_owns}
+use Rattle.sftp_session.specs.AskLaws.{set_count}
 use Rattle.sftp_session.specs.LaneLaws.{same_end}
 use Rattle.sftp_session.specs.OwnLaws.{false_of}
-use Rattle.sftp_session.specs.declared.lane.Running.{Running}
 use Rattle.sftp_session.specs.declared.lane.Running.TheVariants as running
-use Rattle.sftp_session.specs.Tied.{RunTied}
 use Rattle.sftp_model.specs.declared.reply.Reply.{Reply}
 use Rattle.sftp_model.specs.declared.reply.Reply.TheVariants as reply
 use Rattle.sftp_model.specs.declared.answers.Expected.{Expected}
 use Rattle.sftp_model.specs.declared.slot.Slot.TheVariants as slots
 use Rattle.sftp_model.specs.Answers.{is_handle}
 use Rattle.sftp_model.specs.Slots.{with_slot, grant_of}
-use Rattle.sftp_core.specs.Core.{reply_in}
 use Rattle.sftp_core.specs.Table.{brings}
-use Rattle.sftp_core.specs.declared.place.Place.TheVariants.{Granted}
 use Rattle.sftp_file.specs.declared.stage.Stage.TheVariants.{Asked as Asking}
 use Rattle.sftp_file.specs.Files.{FileValue, file_at}
 use Rattle.sftp_file.specs.Polls.{polled_core}
 use Rattle.sftp_core.specs.Grant.{GrantValue}
 use Rattle.sftp_file.specs.StageLaws.{polled_elsewhere}
 use Rattle.sftp_history.specs.Readings.{answer}
-use Rattle.sftp_history.specs.Grants.{is_granted, is_held, is_one_of}
-use Rattle.sftp_history.specs.GrantLaws.{any_none, any_passes}
+use Rattle.sftp_history.specs.Grants.{is_granted}
 use Rattle.sftp_history.specs.IdLaws.{reads}
 use Rattle.sftp_history.specs.Ids.{Reads}
 use Rattle.sftp_session.specs.AskCloseLaws.{InSlot, in_slot}
-use Rattle.sftp_session.specs.EndLaws.{Ended, ended_by, one_more, steady_of, end_between, either_is, left_is}
-use Rattle.sftp_session.specs.Held.{IsLoose}
+use Rattle.sftp_session.specs.EndLaws.{Ended, one_more, steady_of, end_between, either_is, left_is}
 use Rattle.sftp_session.specs.LaneLaws.{slot_on}
-use Rattle.sftp_session.specs.Moves.{file_in, Unasked, HasPolled, IsPlain, SlotsStay, SlotMoves, SlotOpens, SlotFrees}
-use Rattle.sftp_session.specs.OwnLaws.{AskedFor, owned_asked, slot_owned, lane_owned, one_lane, no_asker}
-use Rattle.sftp_session.specs.PollLaws.{polled_gone, polled_granted, polled_work, polled_state}
-use Rattle.sftp_session.specs.Standing.{SameUsers, borne_apart, end_tabled, end_tabled_one, none_by, none_other, asked_there}
-use Rattle.sftp_session.specs.Tied.{IsOwned}
-use Rattle.sftp_session.specs.Users.{one_if, users_set, users_kept, none_uses, uses_none, any_set, slot_uses, used_slot, set_here, set_there, set_length}
+use Rattle.sftp_session.specs.Moves.{HasPolled, IsPlain, SlotsStay, SlotMoves}
+use Rattle.sftp_session.specs.PollLaws.{polled_gone, polled_work, polled_state}
+use Rattle.sftp_session.specs.Standing.{SameUsers, end_tabled, end_tabled_one}
+use Rattle.sftp_session.specs.Users.{users_kept, any_set, set_here, set_there, set_length}
 
 -- ---- what the plain end of a call's request leaves
 

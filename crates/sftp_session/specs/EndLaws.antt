@@ -1,50 +1,34 @@
 -- A call of a lane ends.
-use Rattle.std.proofs.Common.{◌≡◌, ◌≢◌, ◌<◌, ◌+◌, ◌==◌, ◌^◌, ℕ, zero, suc, Bool, true, false, List, [], ◌∷◌, ◌++◌, Option, Some, None, refl, ap, sym, ◌∙◌, subst, arith, if◌then◌else◌, inl, inr}
-use Rattle.std.specs.Prelude.{◌⊎◌, ◌&&◌, ◌||◌, slice_get, slice_set, slice_index_or, length}
+use Rattle.std.proofs.Common.{◌≡◌, ◌≢◌, ◌+◌, ◌==◌, ℕ, Bool, true, false, List, [], ◌∷◌, Option, Some, None, refl, ap, sym, ◌∙◌, subst, arith, inl, inr}
+use Rattle.std.specs.Prelude.{◌||◌, slice_get, slice_set, slice_index_or, length}
 use Rattle.std.specs.List.{list_any}
-use Rattle.std.proofs.lemmas.Bool.Decides.{eqb_tells, nat_tests}
-use Rattle.std.proofs.lemmas.Bool.{eq-eqb, ne_eqb}
-use Rattle.sftp_model.specs.declared.request.Request.{Request}
-use Rattle.sftp_model.specs.declared.slot.Move.TheVariants.{Ask}
+use Rattle.std.proofs.lemmas.Bool.Decides.{eqb_tells}
 use Rattle.sftp_model.specs.declared.slot.Site.{Site}
 use Rattle.sftp_model.specs.declared.slot.Slot.{Slot}
-use Rattle.sftp_core.specs.Core.{Core, at, queued_last}
-use Rattle.sftp_core.specs.declared.place.Place.{Place}
-use Rattle.sftp_core.specs.declared.place.Place.TheVariants.{Waiting}
-use Rattle.sftp_model.specs.Answers.{expected_of}
-use Rattle.sftp_history.specs.declared.event.Owner.{Owner}
-use Rattle.sftp_history.specs.declared.event.Owner.TheVariants as owner
-use Rattle.sftp_history.specs.declared.event.Event.TheVariants.{Submit}
+use Rattle.sftp_core.specs.Core.{Core, at}
 use Rattle.sftp_history.specs.declared.entry.Entry.{Entry}
 use Rattle.sftp_history.specs.declared.entry.Entry.TheVariants as entry
-use Rattle.sftp_history.specs.Readings.{Asked, asked, awaiting, is_by, ended, own, unsent}
-use Rattle.sftp_history.specs.Calls.{Setting, current, site_of, held_by, held_site, move_of}
-use Rattle.sftp_history.specs.Grants.{is_close, closes, closed, with_closed}
-use Rattle.sftp_history.specs.Ids.{IdState, Free, Pending, Replied, id_state}
-use Rattle.sftp_history.specs.IdLaws.{IsFreeState, free_state}
-use Rattle.sftp_history.specs.Journals.{IsFree, IsNext, IsJournal}
-use Rattle.sftp_history.specs.Turns.{begun_with}
-use Rattle.sftp_history.specs.CallLaws.{may_next, own_submit}
-use Rattle.sftp_history.specs.RunLaws.{Good, Still, begun_more, submit_good}
+use Rattle.sftp_history.specs.Readings.{ended, own}
+use Rattle.sftp_history.specs.Calls.{Setting, current, site_of, held_by, held_site}
+use Rattle.sftp_history.specs.Journals.{IsJournal}
+use Rattle.sftp_history.specs.RunLaws.{Good}
 use Rattle.sftp_session.specs.declared.lane.LaneState.{LaneState}
-use Rattle.sftp_session.specs.Held.{Due, due_on, gone_on, submit_holds, still_of_due}
-use Rattle.sftp_session.specs.LaneLaws.{Keeps, SameLane, lane_on, slots_on, keeps_submit, free_grant, free_ask, same_submit}
+use Rattle.sftp_session.specs.Held.{Due, due_on, gone_on}
+use Rattle.sftp_session.specs.LaneLaws.{SameLane, lane_on}
 use Rattle.sftp_session.specs.Session.{Between, IsTied}
-use Rattle.sftp_session.specs.Standing.{submit_tabled}
-use Rattle.sftp_session.specs.Tables.{is_live, replied, stand, users_in, users_of, slots_of, Tabled}
-use Rattle.sftp_session.specs.Tied.{Asks, CoreTied, LaneTied, SlotTied, IsBorne, is_running}
+use Rattle.sftp_session.specs.Tables.{Tabled}
+use Rattle.sftp_session.specs.Tied.{CoreTied, LaneTied, SlotTied, is_running}
 use Rattle.sftp_model.specs.Slots.{slot_at}
 use Rattle.sftp_model.specs.declared.outcome.Outcome.{Outcome}
-use Rattle.sftp_model.specs.declared.slot.Move.TheVariants.{Done}
-use Rattle.sftp_model.specs.Slots.{slot_has, has_grant}
+use Rattle.sftp_model.specs.Slots.{has_grant}
 use Rattle.sftp_history.specs.declared.call.Call.{Call}
 use Rattle.sftp_history.specs.declared.call.Call.TheVariants as call
 use Rattle.sftp_history.specs.declared.event.Event.TheVariants.{End}
 use Rattle.sftp_history.specs.Readings.{is_at, asked_at}
 use Rattle.sftp_history.specs.Grants.{is_grant, holds, is_asked_by, is_unended_asker}
 use Rattle.sftp_history.specs.Turns.{begun_but}
-use Rattle.sftp_history.specs.CallLaws.{ended_end, end_site, end_own, own_fresh, asker_owns}
-use Rattle.sftp_history.specs.RunLaws.{end_good, but_begun}
+use Rattle.sftp_history.specs.CallLaws.{ended_end, end_own, own_fresh, asker_owns}
+use Rattle.sftp_history.specs.RunLaws.{but_begun}
 use Rattle.sftp_session.specs.AskLaws.{set_or_other, set_count}
 use Rattle.sftp_session.specs.Held.{LooseAt}
 use Rattle.sftp_session.specs.LaneLaws.{same_end}

@@ -1,5 +1,5 @@
 -- What holds of the requests of each run so far.
-use Rattle.std.proofs.Common.{◌≡◌, ◌≢◌, ◌<◌, ◌≤◌, ◌==◌, ℕ, zero, suc, Bool, true, false, List, [], ◌∷◌, ◌++◌, length, Option, Some, None, is_some, refl, ap, sym, ◌∙◌, subst, arith, if◌then◌else◌, inl, inr}
+use Rattle.std.proofs.Common.{◌≡◌, ◌<◌, ◌≤◌, ◌==◌, ℕ, Bool, true, false, List, [], ◌∷◌, ◌++◌, length, Option, Some, None, refl, ap, sym, ◌∙◌, subst, arith, if◌then◌else◌, inl, inr}
 use Rattle.std.specs.Prelude.{slice_get, not, nat_lt, MatchOption}
 use Rattle.std.proofs.lemmas.Bool.Decides.{eqb_tells, nat_tests}
 use Rattle.std.proofs.lemmas.Option.{slice_get_past}
@@ -17,8 +17,8 @@ use Rattle.sftp_model.specs.declared.slot.Move.TheVariants.{Ask, Wait, Done}
 use Rattle.sftp_model.specs.declared.slot.Site.{Site}
 use Rattle.sftp_model.specs.declared.slot.Slot.{Slot}
 use Rattle.sftp_model.specs.declared.slot.Slot.TheVariants as slots
-use Rattle.sftp_model.specs.Answers.{expected_of, may_answer, is_end_of_file}
-use Rattle.sftp_model.specs.Plans.{Answers, open_next, open_request, is_too_long, opened, refused, once_answered, read_next, read_file_next, ask_read, overflows, was_read, close_next, close_slot_next, close_grant_next, done_by}
+use Rattle.sftp_model.specs.Answers.{expected_of}
+use Rattle.sftp_model.specs.Plans.{Answers, open_next, open_request, is_too_long, opened, refused, once_answered, read_next, read_file_next, overflows, was_read, close_next, close_slot_next, close_grant_next, done_by}
 use Rattle.sftp_model.specs.Slots.{slot_at, has_grant, with_slot}
 use Rattle.sftp_file.specs.OpenOptions.{flags_of}
 use Rattle.sftp_history.specs.declared.call.Call.{Call}
@@ -28,12 +28,11 @@ use Rattle.sftp_history.specs.declared.event.Owner.TheVariants as owner
 use Rattle.sftp_history.specs.declared.event.Event.TheVariants.{Submit, Send, Take, Cancel, End}
 use Rattle.sftp_history.specs.declared.entry.Entry.{Entry}
 use Rattle.sftp_history.specs.declared.entry.Entry.TheVariants as entry
-use Rattle.sftp_history.specs.Readings.{Asked, asked, asked_at, answer, bearer, is_at, ended, last_cancel, own}
-use Rattle.sftp_history.specs.Calls.{Setting, added, calls_of, lane_calls, call_at, current, next, move_at, move_of, site_of}
+use Rattle.sftp_history.specs.Readings.{Asked, asked, asked_at, answer, ended, last_cancel, own}
+use Rattle.sftp_history.specs.Calls.{Setting, added, calls_of, lane_calls, current, next, move_at, move_of, site_of}
 use Rattle.sftp_history.specs.Grants.{orphan}
-use Rattle.sftp_history.specs.Journals.{IsJournal, IsNext, MayCome, MayTake, MustClose, cancelled_end, goes_on}
-use Rattle.sftp_history.specs.CallLaws.{next_by, next_submit, next_take}
-use Rattle.sftp_history.specs.RequestLaws.{answer_new, answer_other}
+use Rattle.sftp_history.specs.Journals.{IsJournal, IsNext, MayCome, MustClose, cancelled_end}
+use Rattle.sftp_history.specs.CallLaws.{next_by, next_submit}
 
 -- ---- plans
 

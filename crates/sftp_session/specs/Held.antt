@@ -1,23 +1,21 @@
 -- Which grants are held, have a CLOSE, or are to be closed, as a journal goes on.
-use Rattle.std.proofs.Common.{◌≡◌, ◌≢◌, ◌<◌, ◌==◌, ℕ, Bool, true, false, List, [], ◌∷◌, Option, Some, None, refl, ap, sym, ◌∙◌, subst, arith, if◌then◌else◌, inl, inr}
+use Rattle.std.proofs.Common.{◌≡◌, ◌≢◌, ◌<◌, ℕ, Bool, true, false, List, ◌∷◌, Option, Some, None, refl, ap, sym, ◌∙◌, subst, arith, inl, inr}
 use Rattle.std.specs.Prelude.{◌||◌, ◌&&◌, ◌⊎◌, not, length}
 use Rattle.std.proofs.lemmas.Bool.Decides.{eqb_tells}
 use Rattle.sftp_model.specs.declared.request.Request.{Request}
-use Rattle.sftp_model.specs.declared.request.Request.TheVariants as request
 use Rattle.sftp_model.specs.declared.reply.Reply.{Reply}
 use Rattle.sftp_model.specs.Answers.{is_handle}
 use Rattle.sftp_model.specs.Slots.{has_grant}
 use Rattle.sftp_history.specs.declared.event.Owner.{Owner}
-use Rattle.sftp_history.specs.declared.event.Owner.TheVariants as owner
 use Rattle.sftp_history.specs.declared.event.Event.TheVariants.{Submit, Take}
 use Rattle.sftp_history.specs.declared.entry.Entry.{Entry}
 use Rattle.sftp_history.specs.declared.entry.Entry.TheVariants as entry
 use Rattle.sftp_history.specs.Readings.{asked, asked_at, answer, bearer, is_at, ended}
 use Rattle.sftp_history.specs.Calls.{Setting, held_site}
-use Rattle.sftp_history.specs.Grants.{is_granted, is_grant, holds, is_held, any_below, is_one_of, is_orphan, is_close, closes, closed, letting_go, orphan, first_below, is_unended_asker, is_asked_by}
+use Rattle.sftp_history.specs.Grants.{is_granted, is_grant, holds, is_held, is_one_of, is_orphan, closed, letting_go, orphan, is_unended_asker, is_asked_by}
 use Rattle.sftp_history.specs.Journals.{close_of}
-use Rattle.sftp_history.specs.RequestLaws.{answer_beyond, answer_new, answer_other}
-use Rattle.sftp_history.specs.GrantLaws.{none_below, any_passes, any_none, any_where}
+use Rattle.sftp_history.specs.RequestLaws.{answer_new, answer_other}
+use Rattle.sftp_history.specs.GrantLaws.{any_passes, any_where}
 use Rattle.sftp_history.specs.LetGoLaws.{IsSettled, settled_each, each_settled, orphan_plain, orphan_one, granted_below, close_leaves, Leaves}
 use Rattle.sftp_history.specs.RunLaws.{Still}
 use Rattle.sftp_session.specs.Tied.{GoneOnly}

@@ -1,21 +1,19 @@
 -- What a lane holds and awaits stays, as the journal goes on by the events of others.
-use Rattle.std.proofs.Common.{◌≡◌, ◌≢◌, ◌<◌, ◌+◌, ◌==◌, ℕ, Bool, true, false, List, [], ◌∷◌, ◌++◌, Option, Some, None, refl, ap, sym, ◌∙◌, subst, arith, if◌then◌else◌, inl, inr}
+use Rattle.std.proofs.Common.{◌≡◌, ◌≢◌, ◌<◌, ℕ, Bool, true, false, List, ◌∷◌, Option, Some, None, refl, ap, sym, ◌∙◌, subst, arith, inl, inr}
 use Rattle.std.specs.Prelude.{slice_index_or, length}
 use Rattle.std.proofs.lemmas.Bool.Decides.{eqb_tells, nat_tests}
 use Rattle.sftp_model.specs.declared.request.Request.{Request}
 use Rattle.sftp_model.specs.declared.reply.Reply.{Reply}
 use Rattle.sftp_model.specs.declared.reply.Reply.TheVariants as reply
 use Rattle.sftp_model.specs.declared.slot.Slot.{Slot}
-use Rattle.sftp_model.specs.declared.slot.Slot.TheVariants as slots
 use Rattle.sftp_model.specs.declared.slot.Site.{Site}
 use Rattle.sftp_model.specs.Slots.{slot_at, slot_has, has_grant}
 use Rattle.sftp_model.specs.Answers.{expected_of}
 use Rattle.sftp_model.specs.declared.answers.Expected.{Expected}
 use Rattle.sftp_model.specs.declared.outcome.Outcome.{Outcome}
 use Rattle.sftp_core.specs.declared.place.Place.{Place}
-use Rattle.sftp_core.specs.declared.place.Place.TheVariants.{Waiting, Answered, Granted}
+use Rattle.sftp_core.specs.declared.place.Place.TheVariants.{Answered}
 use Rattle.sftp_file.specs.Files.{FileValue}
-use Rattle.sftp_history.specs.declared.call.Call.{Call}
 use Rattle.sftp_history.specs.declared.event.Owner.{Owner}
 use Rattle.sftp_history.specs.declared.event.Owner.TheVariants as owner
 use Rattle.sftp_history.specs.declared.event.Event.TheVariants.{Submit, Send, Take, End}
@@ -30,7 +28,7 @@ use Rattle.sftp_session.specs.declared.lane.Running.TheVariants as running
 use Rattle.sftp_session.specs.declared.lane.LaneState.{LaneState}
 use Rattle.sftp_session.specs.Tables.{is_live, users_of, replied, stand, slots_of, Tabled}
 use Rattle.sftp_session.specs.Users.{slot_uses}
-use Rattle.sftp_session.specs.Tied.{IsBorne, IsOwned, SlotTied, Asks, OpenTied, ReadTied, CloseTied, RunTied, LaneTied}
+use Rattle.sftp_session.specs.Tied.{IsBorne, SlotTied, Asks, RunTied, LaneTied}
 
 -- the handles of the lane's slots are there still, and so is what calls that haven't ended asked for
 pub record Keeps (s : Setting) (past now : List Entry) (lane : ℕ) : Type 0 where

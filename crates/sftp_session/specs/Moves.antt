@@ -1,6 +1,5 @@
 -- What a step of a lane makes of its call, by the call's plan.
-use Rattle.std.specs.Prelude.{◌≡◌, ◌⊎◌, ◌<◌, ◌==◌, ℕ, Bool, true, false, not, List, [], ◌∷◌, length, Option, Some, None, Result, Ok, Err, IsSome, slice_index_or, slice_set}
-use Rattle.std.specs.FinMap as fin
+use Rattle.std.specs.Prelude.{◌≡◌, ◌⊎◌, ◌<◌, ◌==◌, ℕ, Bool, true, false, not, List, [], length, Option, Some, None, Result, Ok, Err, IsSome, slice_index_or, slice_set}
 use Rattle.sftp_model.specs.declared.answers.Expected.TheVariants as expected
 use Rattle.sftp_model.specs.declared.error.Error.{Error}
 use Rattle.sftp_model.specs.declared.outcome.Outcome.{Outcome}
@@ -9,22 +8,19 @@ use Rattle.sftp_model.specs.declared.request.Request.{Request}
 use Rattle.sftp_model.specs.declared.request.Request.TheVariants as request
 use Rattle.sftp_model.specs.declared.reply.Reply.{Reply}
 use Rattle.sftp_model.specs.declared.reply.Reply.TheVariants as reply
-use Rattle.sftp_model.specs.declared.slot.Facts.{Facts}
 use Rattle.sftp_model.specs.declared.slot.Move.{Move}
 use Rattle.sftp_model.specs.declared.slot.Move.TheVariants.{Ask, Wait, Done}
 use Rattle.sftp_model.specs.declared.slot.Site.{Site}
 use Rattle.sftp_model.specs.declared.slot.Slot.TheVariants as slots
 use Rattle.sftp_model.specs.Plans.{Answers}
 use Rattle.sftp_model.specs.Slots.{slot_at, with_slot}
-use Rattle.sftp_core.specs.Core.{Core, at, queued_last, users_of, released, reply_in, IsGrant}
+use Rattle.sftp_core.specs.Core.{Core, at, queued_last, users_of, reply_in, IsGrant}
 use Rattle.sftp_core.specs.Table.{brings}
 use Rattle.sftp_core.specs.Info.{info_of}
-use Rattle.sftp_file.specs.declared.stage.Stage.{Stage}
 use Rattle.sftp_file.specs.declared.stage.Stage.TheVariants.{Ended, Asked as Asking}
 use Rattle.sftp_file.specs.Files.{FileValue, file_at, IsInSlot}
-use Rattle.sftp_file.specs.Polls.{IsReadOf, Opening, Reading, polled_core}
+use Rattle.sftp_file.specs.Polls.{IsReadOf, Reading, polled_core}
 use Rattle.sftp_file.specs.Stages.{IsAsked, IsAwaited}
-use Rattle.sftp_file.specs.Starts.{read_len_of}
 use Rattle.sftp_history.specs.declared.call.Call.{Call}
 use Rattle.sftp_history.specs.declared.call.Call.TheVariants as call
 use Rattle.sftp_history.specs.declared.entry.Entry.{Entry}

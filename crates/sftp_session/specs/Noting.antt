@@ -1,6 +1,5 @@
 -- What a session notes of a step: the entries of its journal, and the lanes that were begun.
-use Rattle.std.specs.Prelude.{◌≡◌, ◌<◌, ◌^◌, ◌+◌, ◌==◌, if◌then◌else◌, ℕ, Bool, true, false, List, [], ◌∷◌, Option, Some, None, slice_get, slice_set, MatchBool}
-use Rattle.sftp_model.specs.declared.outcome.Outcome.{Outcome}
+use Rattle.std.specs.Prelude.{◌<◌, ◌^◌, ◌==◌, if◌then◌else◌, ℕ, List, ◌∷◌, Option, Some, None, slice_get, slice_set}
 use Rattle.sftp_model.specs.declared.request.Request.TheVariants as request
 use Rattle.sftp_core.specs.Core.{Core, at, users_of}
 use Rattle.sftp_file.specs.Files.{FileValue}

@@ -1,10 +1,8 @@
 -- A grant that a lane's slots have is one that a call of this lane asked for, and of no other lane.
-use Rattle.std.proofs.Common.{◌≡◌, ◌≢◌, ◌<◌, ◌+◌, ◌==◌, ℕ, Bool, true, false, List, [], ◌∷◌, Option, Some, None, refl, ap, sym, ◌∙◌, subst, arith, inl, inr}
-use Rattle.std.specs.Prelude.{◌⊎◌, ◌&&◌, ◌||◌, length, slice_get, slice_index_or}
-use Rattle.std.specs.List.{list_any}
+use Rattle.std.proofs.Common.{◌≡◌, ◌≢◌, ◌<◌, ◌+◌, ◌==◌, ℕ, Bool, true, false, List, Option, Some, None, refl, ap, sym, ◌∙◌, subst, arith, inl, inr}
+use Rattle.std.specs.Prelude.{◌&&◌, slice_index_or}
 use Rattle.std.proofs.lemmas.Bool.Decides.{eqb_tells, nat_tests}
 use Rattle.std.proofs.lemmas.Bool.{ne_eqb}
-use Rattle.std.proofs.lemmas.Option.{slice_get-get_or}
 use Rattle.sftp_model.specs.Answers.{expected_of}
 use Rattle.sftp_model.specs.declared.reply.Reply.TheVariants as reply
 use Rattle.sftp_model.specs.declared.slot.Slot.{Slot}
@@ -16,12 +14,11 @@ use Rattle.sftp_file.specs.Files.{FileValue, file_at}
 use Rattle.sftp_history.specs.declared.event.Owner.{Owner}
 use Rattle.sftp_history.specs.declared.event.Owner.TheVariants as owner
 use Rattle.sftp_history.specs.declared.entry.Entry.{Entry}
-use Rattle.sftp_history.specs.Readings.{Asked, asked_at, answer, is_by, ended}
+use Rattle.sftp_history.specs.Readings.{Asked, asked_at, is_by, ended}
 use Rattle.sftp_history.specs.Calls.{Setting, held_site}
-use Rattle.sftp_history.specs.Grants.{is_granted, is_grant, holds, is_held, is_asked_by, is_unended_asker}
-use Rattle.sftp_history.specs.Ids.{IdState, Pending, Replied, id_state, Reads}
+use Rattle.sftp_history.specs.Grants.{is_granted, is_grant, is_asked_by, is_unended_asker}
+use Rattle.sftp_history.specs.Ids.{Replied, id_state, Reads}
 use Rattle.sftp_history.specs.IdLaws.{reads}
-use Rattle.sftp_history.specs.GrantLaws.{any_none}
 use Rattle.sftp_session.specs.declared.lane.LaneState.{LaneState}
 use Rattle.sftp_session.specs.Tables.{is_live, users_in, users_of, replied, stand, slots_of, Tabled}
 use Rattle.sftp_session.specs.Tied.{IsOwned, SlotTied, LaneTied}

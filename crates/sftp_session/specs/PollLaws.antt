@@ -1,7 +1,5 @@
 -- What a poll leaves of the core, and what it tells of the journal.
-use Rattle.std.proofs.Common.{◌≡◌, ◌≢◌, ℕ, Bool, true, false, List, [], Option, Some, None, refl, ap, sym, ◌∙◌, subst, arith}
-use Rattle.std.proofs.lemmas.Bool.{eq-eqb}
-use Rattle.sftp_model.specs.declared.answers.Expected.{Expected}
+use Rattle.std.proofs.Common.{◌≡◌, ℕ, true, List, Option, Some, None, ap, sym, ◌∙◌}
 use Rattle.sftp_model.specs.Answers.{expected_of}
 use Rattle.sftp_model.specs.declared.error.Fault.{Fault}
 use Rattle.sftp_model.specs.declared.reply.Reply.{Reply}
@@ -14,7 +12,6 @@ use Rattle.sftp_core.specs.Table.{brings}
 use Rattle.sftp_file.specs.declared.stage.Stage.TheVariants.{Asked as Asking}
 use Rattle.sftp_file.specs.Polls.{polled_core}
 use Rattle.sftp_history.specs.declared.entry.Entry.{Entry}
-use Rattle.sftp_history.specs.declared.event.Owner.TheVariants as owner
 use Rattle.sftp_history.specs.Readings.{Asked, ended}
 use Rattle.sftp_history.specs.Calls.{Setting}
 use Rattle.sftp_history.specs.Ids.{IdState, Free, Pending, Replied, id_state}

@@ -8,7 +8,6 @@ use Rattle.sftp_core.specs.Info.{offers_limits}
 use Rattle.sftp_core.specs.declared.info.Info.{Info}
 use Rattle.sftp_core.specs.declared.options.SftpOptions.{SftpOptions}
 use Rattle.sftp_history.specs.declared.call.Lane.{Lane}
-use Rattle.sftp_history.specs.declared.entry.Entry.{Entry}
 use Rattle.sftp_history.specs.Calls.{Setting}
 use Rattle.sftp_history.specs.Lanes.{are_ok}
 use Rattle.sftp_history.specs.declared.report.Report.{Report}

@@ -11,7 +11,7 @@ use Rattle.sftp_core.specs.declared.place.Place.TheVariants.{Waiting, Answered, 
 use Rattle.sftp_history.specs.declared.event.Owner.{Owner}
 use Rattle.sftp_history.specs.declared.event.Owner.TheVariants as owner
 use Rattle.sftp_history.specs.declared.entry.Entry.{Entry}
-use Rattle.sftp_history.specs.Readings.{Asked, ended}
+use Rattle.sftp_history.specs.Readings.{ended}
 use Rattle.sftp_history.specs.Calls.{Setting, held_site}
 use Rattle.sftp_history.specs.Ids.{IdState, Free, Pending, Replied, id_state}
 

@@ -1,6 +1,5 @@
 -- A session of lanes: what its lanes hold and await, by its journal.
-use Rattle.std.specs.Prelude.{◌≡◌, ◌<◌, ◌==◌, ℕ, Bool, true, false, List, [], ◌∷◌, length, Option, Some, None, slice_index_or}
-use Rattle.std.specs.List.{list_any}
+use Rattle.std.specs.Prelude.{◌≡◌, ◌<◌, ℕ, Bool, true, false, List, [], ◌∷◌, length, Option, Some, None, slice_index_or}
 use Rattle.sftp_model.specs.declared.request.Request.{Request}
 use Rattle.sftp_model.specs.declared.request.Request.TheVariants as request
 use Rattle.sftp_model.specs.declared.reply.Reply.TheVariants as reply
@@ -10,7 +9,7 @@ use Rattle.sftp_model.specs.declared.slot.Slot.TheVariants as slots
 use Rattle.sftp_model.specs.Plans.{open_request}
 use Rattle.sftp_model.specs.Readings.{has_bit}
 use Rattle.sftp_model.specs.Slots.{slot_at}
-use Rattle.sftp_core.specs.Core.{Core, at}
+use Rattle.sftp_core.specs.Core.{Core}
 use Rattle.sftp_core.specs.Grant.{GrantValue}
 use Rattle.sftp_core.specs.declared.info.Info.{Info}
 use Rattle.sftp_core.specs.declared.phase.Phase.TheVariants as core_phase
@@ -20,7 +19,6 @@ use Rattle.sftp_file.specs.declared.stage.Stage.TheVariants.{Asked as Asking}
 use Rattle.sftp_file.specs.Files.{FileValue, file_at}
 use Rattle.sftp_file.specs.OpenOptions.{flags_of}
 use Rattle.sftp_file.specs.Polls.{Opening, Reading, IsReadOf}
-use Rattle.sftp_history.specs.declared.call.Call.{Call}
 use Rattle.sftp_history.specs.declared.call.Call.TheVariants as call
 use Rattle.sftp_history.specs.declared.event.Owner.TheVariants as owner
 use Rattle.sftp_history.specs.declared.entry.Entry.{Entry}
@@ -28,11 +26,9 @@ use Rattle.sftp_history.specs.Readings.{Asked, ended, own, unsent}
 use Rattle.sftp_history.specs.Calls.{Setting, current, site_of, held_site}
 use Rattle.sftp_history.specs.Grants.{is_grant, is_held, is_one_of, closed}
 use Rattle.sftp_history.specs.Ids.{IdState, Free, Pending, Replied, id_state}
-use Rattle.sftp_history.specs.RunLaws.{Good, Still}
 use Rattle.sftp_session.specs.declared.lane.Running.{Running}
 use Rattle.sftp_session.specs.declared.lane.Running.TheVariants as running
 use Rattle.sftp_session.specs.declared.lane.LaneState.{LaneState}
-use Rattle.sftp_session.specs.Tables.{Tabled}
 
 -- ---- slots
 

@@ -1,10 +1,9 @@
 -- How many slots have a grant, as slots change.
-use Rattle.std.proofs.Common.{◌≡◌, ◌≢◌, ◌<◌, ◌+◌, ◌==◌, ℕ, zero, suc, Bool, true, false, List, [], ◌∷◌, ◌++◌, Option, Some, None, refl, ap, sym, ◌∙◌, arith, if◌then◌else◌, inl, inr}
+use Rattle.std.proofs.Common.{◌≡◌, ◌≢◌, ◌<◌, ◌+◌, ℕ, zero, suc, Bool, true, false, List, [], ◌∷◌, refl, ap, arith, if◌then◌else◌}
 use Rattle.std.specs.Prelude.{◌||◌, length, slice_set, slice_index_or}
 use Rattle.std.specs.List.{list_any}
-use Rattle.std.proofs.lemmas.Bool.Decides.{eqb_tells}
 use Rattle.sftp_model.specs.declared.slot.Slot.{Slot}
-use Rattle.sftp_model.specs.declared.slot.Slot.TheVariants.{Empty, File, Buffered}
+use Rattle.sftp_model.specs.declared.slot.Slot.TheVariants.{Empty}
 use Rattle.sftp_model.specs.Slots.{slot_has}
 use Rattle.sftp_session.specs.Tables.{users_in}
 

@@ -1,10 +1,8 @@
 -- The lanes of an open session, and what each call does to them.
-use Rattle.std.specs.Prelude.{◌≡◌, ◌≢◌, ◌<◌, ◌+◌, ℕ, Bool, true, false, reverse, List, [], Option, Some, None}
+use Rattle.std.specs.Prelude.{◌≡◌, ◌≢◌, ◌<◌, ◌+◌, ℕ, Bool, true, false, reverse, List, [], Option, None}
 use Rattle.sftp_model.specs.declared.frame_error.FrameError.{FrameError}
 use Rattle.sftp_model.specs.declared.reply.Reply.{Reply}
 use Rattle.std.specs.Prelude.{Result}
-use Rattle.sftp_core.specs.declared.errors.TakeError.{TakeError}
-use Rattle.sftp_core.specs.Take.{IsFirst}
 use Rattle.sftp_core.specs.Core.{Core}
 use Rattle.sftp_history.specs.declared.call.Lane.{Lane}
 use Rattle.sftp_history.specs.declared.entry.Entry.{Entry}

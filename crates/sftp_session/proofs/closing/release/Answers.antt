@@ -1,6 +1,6 @@
-use Rattle.std.proofs.Common.{◌≡◌, ◌==◌, ◌∙◌, ◌++◌, ◌∷◌, [], true, Option, Some, ap, sym, subst, rules}
+use Rattle.std.proofs.Common.{◌≡◌, ◌==◌, ◌∙◌, ◌++◌, ◌∷◌, [], true, Option, ap, sym, subst}
 use Rattle.sftp_session.specs.Moves.{MayLetGo}
-use Rattle.sftp_core.specs.Core.{at, users_of, queued_of}
+use Rattle.sftp_core.specs.Core.{at, users_of}
 use Rattle.sftp_file.specs.Files.{FileValue}
 use Rattle.sftp_history.specs.declared.event.Owner.TheVariants as owner
 use Rattle.sftp_history.specs.declared.event.Event.TheVariants.{Submit}

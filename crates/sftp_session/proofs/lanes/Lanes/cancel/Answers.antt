@@ -1,10 +1,8 @@
-use Rattle.std.proofs.Common.{rules, ◌≡◌, ◌<◌, ◌≤◌, ◌^◌, ◌+◌, ◌==◌, ◌∷◌, ◌++◌, [], Bool, true, false, ℕ, List, length, reverse, ap, sym, subst, ◌∙◌, arith, refl}
-use Rattle.std.specs.Prelude.{slice_get, slice_set}
+use Rattle.std.proofs.Common.{rules, ◌≡◌, ◌<◌, ◌^◌, ◌==◌, ◌∷◌, ◌++◌, [], true, false, length, reverse, ap, sym, subst, ◌∙◌}
+use Rattle.std.specs.Prelude.{slice_set}
 use Rattle.std.specs.List.{list_any}
 use Rattle.std.proofs.lemmas.Option.{get_or_from_slice_get}
-use Rattle.sftp_core.specs.Core.{Core}
 use Rattle.sftp_file.specs.Stages.{IsHeld, cancelled}
-use Rattle.sftp_history.specs.Calls.{Setting}
 use Rattle.sftp_session.specs.declared.lane.LaneState.{LaneState}
 use Rattle.sftp_session.specs.declared.lane.Running.TheVariants as running
 use Rattle.sftp_history.specs.Turns.{begun_but}

@@ -1,14 +1,12 @@
-use Rattle.std.proofs.Common.{rules, ◌≡◌, ◌<◌, ◌+◌, ◌∷◌, ◌++◌, [], None, Some, Fits, w32, ◌^◌, ap, sym, subst, ◌∙◌, arith, ℕ}
-use Rattle.std.specs.Prelude.{slice_get, slice_set, reverse}
+use Rattle.std.proofs.Common.{rules, ◌≡◌, ◌<◌, Some, ◌^◌, ap, sym, subst, ◌∙◌, arith, ℕ}
+use Rattle.std.specs.Prelude.{slice_set, reverse}
 use Rattle.std.proofs.lemmas.Option.{get_or_from_slice_get, slice_get_within}
-use Rattle.sftp_history.specs.Calls.{Setting}
-use Rattle.sftp_session.specs.Moves.{MayAdvance, MayLetGo}
+use Rattle.sftp_session.specs.Moves.{MayAdvance}
 use Rattle.sftp_session.specs.Noting.{call_in, noted}
 use Rattle.sftp_session.specs.Working.{Contents, contents_of, StepsIn}
 use Rattle.sftp_lanes.specs.declared.session.Stepped.{Stepped}
 use Rattle.sftp_session.specs.declared.lane.LaneState.{LaneState}
-use Rattle.sftp_session.proofs.Stepping.{no_call, at_call, call_current, call_may, call_few, get_set, moved_granted, steps_noted, moves_at, same_number, state_is, advanced}
-use Rattle.sftp_session.proofs.StepLaws.{steps_nothing}
+use Rattle.sftp_session.proofs.Stepping.{at_call, call_may, call_few, get_set, moved_granted, steps_noted, moves_at, same_number, state_is, advanced}
 use Rattle.sftp_session.proofs.lanes.Lanes.step.Goals as goal
 
 pub advance-requires : goal.advance-requires

@@ -1,6 +1,5 @@
 use Rattle.sftp_history.specs.Calls.{Setting}
 use Rattle.sftp_session.specs.Seen.{setting_by}
-use Rattle.sftp_session.specs.Working.{stage_of}
 use Rattle.sftp_lanes.specs.declared.session.Phase.TheVariants.{Open}
 use Rattle.sftp_session.proofs.Opening.{in_phase, works_on}
 use Rattle.sftp_session.proofs.session.SessionRunsLanes.cancel.Goals as goal

@@ -1,8 +1,5 @@
-use Rattle.std.specs.Option.{option_map}
-use Rattle.sftp_model.specs.Pieces.{joined}
 use Rattle.sftp_history.specs.Calls.{Setting}
 use Rattle.sftp_session.specs.Seen.{setting_by}
-use Rattle.sftp_session.specs.Working.{stage_of}
 use Rattle.sftp_session.proofs.Opening.{works_on}
 use Rattle.sftp_session.proofs.session.SessionRunsLanes.hand_out.Goals as goal
 
