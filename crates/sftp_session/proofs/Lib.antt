@@ -10,3 +10,4 @@ pub mod CancelNoted
 pub mod Opening
 pub mod Counting
 pub mod Reporting
+pub mod Exchanges

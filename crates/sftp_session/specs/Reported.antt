@@ -14,7 +14,7 @@ use Rattle.sftp_history.specs.Settings.{greeting, setting_of}
 use Rattle.sftp_history.specs.Shown.{Shows}
 
 -- The report is that of a run of the lanes under these turns, which the link's log shows where it tells one.
-pub record IsReport (report : Report) (lanes : List Lane) (options : SftpOptions) (schedule : List Turn) (before after : Option (List Piece)) : Type 0 where
+pub record IsReport (lanes : List Lane) (options : SftpOptions) (schedule : List Turn) (before after : Option (List Piece)) (report : Report) : Type 0 where
   pub extensions : Extensions
   pub past : List Entry
   pub run : IsRun (setting_of lanes options extensions past) schedule past

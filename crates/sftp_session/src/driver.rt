@@ -34,7 +34,7 @@ pub fn run_lanes<L: Link>(
 ) -> Result<Report, Error>
     requires lanes { are_ok lanes.now ≡ true }
     requires count { L.LinkState.faults link.old < 2 ^ 64 - 1 }
-    ensures run { IfOk result (λ report. IsReport report lanes.now options.now schedule.now (L.LinkState.log link.old) (L.LinkState.log link.new)) }
+    ensures run { IfOk result (λ report. IsReport lanes.now options.now schedule.now (L.LinkState.log link.old) (L.LinkState.log link.new) report) }
     ensures stops { IfErr result (λ e. Told (Ends (given lanes.now options.now) (L.LinkState.ended link.new) e) (L.LinkState.log link.old) (L.LinkState.log link.new)) }
     ensures cause { Cause (L.LinkState.faults link.old) (L.LinkState.faults link.new) result }
     ensures end { EndCause (L.LinkState.ended link.new) result }

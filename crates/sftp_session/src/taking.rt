@@ -8,8 +8,10 @@ ghost use Rattle.sftp_history.specs.Calls.{Setting};
 ghost use Rattle.sftp_lanes.specs.Refusals.{refuses};
 ghost use Rattle.sftp_session.specs.Working.{IsOpened, IsWorking, HandsAll, TakesBody, past_of};
 
+use crate::closing::{add_entry, note_close};
 use crate::lanes::Lanes;
-use sftp_core::{Chunk, TakeError};
+use sftp_core::{Chunk, TakeError, Taken};
+use sftp_history::{Entry, Event};
 use ssh_encoding::OutOfMemory;
 
 impl Lanes {
@@ -18,15 +20,32 @@ impl Lanes {
         requires opened { IsOpened self.old }
         ensures hands_out { (s : Setting) → IsWorking s self.old → IfOk result (λ chunk. HandsAll s self.old self.new (option_map joined chunk)) }
     {
-        Err(OutOfMemory)
+        if self.core.queued() == 0 {
+            return Ok(None);
+        }
+        self.journal.reserve(1)?;
+        let chunk = self.core.hand_out()?;
+        add_entry(&mut self.journal, Entry::Event(Event::Send));
+        Ok(Some(chunk))
     }
 
     /// Takes the body of one frame. Refused by the first thing that is wrong with it, or for want of memory.
-    pub(crate) fn take(&mut self, _body: &[u8]) -> Result<(), TakeError>
+    pub(crate) fn take(&mut self, body: &[u8]) -> Result<(), TakeError>
         requires opened { IsOpened self.old }
-        ensures takes { (s : Setting) → IsWorking s self.old → OnOk result (TakesBody s (reply_at _body.now) self.old self.new) }
-        ensures refused { IfErr result (λ e. IsFirst e (refuses (past_of self.old) (reply_at _body.now))) }
+        ensures takes { (s : Setting) → IsWorking s self.old → OnOk result (TakesBody s (reply_at body.now) self.old self.new) }
+        ensures refused { IfErr result (λ e. IsFirst e (refuses (past_of self.old) (reply_at body.now))) }
     {
-        Err(TakeError::OutOfMemory)
+        if self.journal.reserve(2).is_err() {
+            return Err(TakeError::OutOfMemory);
+        }
+        let before = self.core.queued();
+        match self.core.take(body)? {
+            Taken::Answer { id, reply } => {
+                add_entry(&mut self.journal, Entry::Event(Event::Take { id, reply }));
+                note_close(&self.core, &mut self.journal, before);
+                Ok(())
+            }
+            _ => Ok(()),
+        }
     }
 }
