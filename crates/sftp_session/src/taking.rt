@@ -45,7 +45,7 @@ impl Lanes {
                 note_close(&self.core, &mut self.journal, before);
                 Ok(())
             }
-            _ => Ok(()),
+            _ => unreachable!(),
         }
     }
 }

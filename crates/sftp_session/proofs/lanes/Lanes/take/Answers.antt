@@ -15,18 +15,11 @@ returns-in_err-id-clause-refused c =
     let o = c.requires.opened in
     rw (p.1) (first_is o.0 (contents_of c.args.self.now) (reply_at c.args.body.now) p.0 c.take.new.self o.1 (search rules))
 
-pub returns-in-Answer-clause-takes : goal.returns-in-Answer-clause-takes
-returns-in-Answer-clause-takes c = λ s w.
+pub returns-clause-takes : goal.returns-clause-takes
+returns-clause-takes c = λ s w.
     let kept : c.reserve.new.self.items ≡ c.args.self.now.journal.items = search rules in
     let told = subst (λ (t : Taken). TakenFrom (reply_at c.args.body.now) t c.args.self.now.core c.take.new.self) c.in-Answer.is c.in_ok-id.ensures.ok in
     let entered : c.add_entry.new.journal.items ≡ c.args.self.now.journal.items ++ entry.Event (Take c.in-Answer.id c.in-Answer.reply) ∷ [] =
     c.add_entry.ensures.items ∙ ap (λ xs. xs ++ entry.Event (Take c.in-Answer.id c.in-Answer.reply) ∷ []) kept in
     take_told s (contents_of c.args.self.now) (reply_at c.args.body.now) c.in-Answer.id c.in-Answer.reply c.take.new.self c.queued-before.result c.args.self.now.journal.items c.add_entry.new.journal.items c.note_close.new.journal.items
     w told c.in_ok-id.ensures.only (sym c.queued-before.ensures) refl entered c.note_close.ensures.none c.note_close.ensures.close
-
-pub returns : goal.returns
-returns c =
-    record {
-      takes = λ s w. absurd (told_only s (contents_of c.args.self.now) (reply_at c.args.body.now) c.in_ok-id.field-0 c.take.new.self w c.in_ok-id.ensures.ok c.in_ok-id.ensures.only c.in_default.not-Answer);
-      refused = tt;
-    }
