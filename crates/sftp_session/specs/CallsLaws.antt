@@ -3,7 +3,7 @@ use Rattle.std.proofs.Common.{◌≡◌, ◌≢◌, ◌<◌, ◌≤◌, ◌+◌,
 use Rattle.std.specs.Prelude.{◌&&◌, slice_get, nat_lt}
 use Rattle.std.specs.List.{list_all, sum_by}
 use Rattle.std.proofs.lemmas.Bool.Decides.{eqb_tells, nat_tests}
-use Rattle.std.proofs.lemmas.List.{append-[]}
+use Rattle.std.proofs.lemmas.List.{append-nil}
 use Rattle.sftp_history.specs.declared.call.Call.{Call}
 use Rattle.sftp_history.specs.declared.call.Lane.{Lane}
 use Rattle.sftp_history.specs.declared.event.Event.TheVariants.{Submit}
@@ -28,7 +28,7 @@ borne_small s (_ ∷ past) id p j e = borne_small s past id p j.1 e
 -- the calls of a lane are those that were handed in
 pub current_is : (s : Setting) (past : List Entry) (lane : ℕ) → added past lane ≡ [] → current s past lane ≡ slice_get (calls_of (slice_get s.lanes lane)) (ended past lane)
 current_is s past lane none =
-    ap (λ more. slice_get (calls_of (slice_get s.lanes lane) ++ more) (ended past lane)) none ∙ ap (λ calls. slice_get calls (ended past lane)) (append-[] (calls_of (slice_get s.lanes lane)))
+    ap (λ more. slice_get (calls_of (slice_get s.lanes lane) ++ more) (ended past lane)) none ∙ ap (λ calls. slice_get calls (ended past lane)) (append-nil (calls_of (slice_get s.lanes lane)))
 
 -- ---- lanes that a session can be given
 
@@ -45,22 +45,33 @@ pub call_within : (lanes : List Lane) (k j : ℕ) (lane : Lane) (c : Call) → a
 call_within lanes k j lane c ok at_lane at_call =
     all_at is_within lane.calls j c (all_at (λ (l : Lane). list_all is_within l.calls) lanes k lane (both (list_all (λ (l : Lane). list_all is_within l.calls) lanes) _ ok).0 at_lane) at_call
 
+one_of : (a b rest : ℕ) → a ≡ b → b ≤ a + rest
+one_of a b rest e = omega (arith, e)
+
+more_of : (a rest b : ℕ) → a ≤ rest → a ≤ b + rest
+more_of a rest b le = omega (arith, le)
+
+two_more : (total n : ℕ) → total ≡ n + n → 2 + total ≡ suc n + suc n
+two_more total n e = omega (arith, e)
+
 sum_at : (lanes : List Lane) (k : ℕ) (lane : Lane) → slice_get lanes k ≡ Some lane → lane_weight lane ≤ sum_by lane_weight lanes
 sum_at [] k lane is = absurd cc
-sum_at (x ∷ lanes) zero lane is = let same : lane_weight x ≡ lane_weight lane = ap lane_weight (let e : x ≡ lane = cc in e) in omega (arith, same)
-sum_at (x ∷ lanes) (suc k) lane is = let more = sum_at lanes k lane is in omega (arith, more)
+sum_at (x ∷ lanes) zero lane is = let same : lane_weight x ≡ lane_weight lane = ap lane_weight (let e : x ≡ lane = cc in e) in one_of (lane_weight x) (lane_weight lane) (sum_by lane_weight lanes) same
+sum_at (x ∷ lanes) (suc k) lane is = more_of (lane_weight lane) (sum_by lane_weight lanes) (lane_weight x) (sum_at lanes k lane is)
 
 calls_weigh : (calls : List Call) → sum_by weight calls ≡ length calls + length calls
 calls_weigh [] = refl
-calls_weigh (c ∷ calls) = let more = calls_weigh calls in omega (arith, more)
+calls_weigh (c ∷ calls) = two_more (sum_by weight calls) (length calls) (calls_weigh calls)
 
 below_limit : (n : ℕ) → nat_lt n (2 ^ 31) ≡ true → n < 2 ^ 31
 below_limit n e = grind (arith, nat_tests)
+
+few_calls : (total n all : ℕ) → all < 2 ^ 31 → 1 + total ≤ all → total ≡ n + n → n < 2 ^ 31
+few_calls total n all less part twice = omega (arith, less, part, twice)
 
 -- a lane has few calls
 pub calls_few : (lanes : List Lane) (k : ℕ) (lane : Lane) → are_ok lanes ≡ true → slice_get lanes k ≡ Some lane → length lane.calls < 2 ^ 31
 calls_few lanes k lane ok is =
     let less : sum_by lane_weight lanes < 2 ^ 31 = below_limit (sum_by lane_weight lanes) (both (list_all (λ (l : Lane). list_all is_within l.calls) lanes) _ ok).1 in
     let part = sum_at lanes k lane is in
-    let twice = calls_weigh lane.calls in
-    omega (arith, less, part, twice)
+    few_calls (sum_by weight lane.calls) (length lane.calls) (sum_by lane_weight lanes) less part (calls_weigh lane.calls)

@@ -26,3 +26,4 @@ pub mod CancelLaws
 pub mod CancelDropLaws
 pub mod LettingLaws
 pub mod CallsLaws
+pub mod Report

@@ -4,4 +4,7 @@
 
 mod lane;
 mod lanes;
+mod whole_run;
+
+pub use whole_run::run_lanes;
 
