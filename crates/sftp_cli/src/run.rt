@@ -34,8 +34,8 @@ pub fn run<S: Source, K: Sink>(
     ensures others { is_script (map string_bytes words.now) ≡ false
         → Writes result (status_of (map string_bytes words.now)) (text_of (map string_bytes words.now)) (K.written sink.old) (K.written sink.new) }
     ensures untouched { is_script (map string_bytes words.now) ≡ false → S.left source.new ≡ S.left source.old }
-    ensures source { HasCause 3 result (S.faults source.old) (S.faults source.new) }
-    ensures sink { HasCause 4 result (K.faults sink.old) (K.faults sink.new) }
+    ensures causes { HasCause 3 result (S.faults source.old) (S.faults source.new)
+        × HasCause 4 result (K.faults sink.old) (K.faults sink.new) }
     ensures status { IsStatus result }
 {
     if is_script(words) {
