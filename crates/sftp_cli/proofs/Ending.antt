@@ -7,11 +7,11 @@ use Rattle.sftp_history.specs.declared.reason.Reason.TheVariants as reason
 use Rattle.sftp_history.specs.declared.script.Script.{Script}
 use Rattle.sftp_history.specs.Lines.{lines_of}
 use Rattle.sftp_history.specs.Scripts.{script_of, script_limit, read_lines, empty_script}
-use Rattle.sftp_link.specs.Told.{Told, Same, Went, WentLess, ReadUpTo}
+use Rattle.sftp_link.specs.Told.{Told, Went, ReadUpTo}
 use Rattle.sftp_cli.specs.declared.failure.Failure.{Failure}
 use Rattle.sftp_cli.specs.declared.failure.Failure.TheVariants.{SourceFailed, SinkFailed, OutOfMemory}
-use Rattle.sftp_cli.specs.Printed.{IsPrinted, IsAnswer, refusal_line}
-use Rattle.sftp_cli.specs.Ended.{read_limit, GaveAll, Ran, Refused, Answered, Cut, Stopped, code, IsStatus, Unfinished, HasCause, status_for, Completes, SourceCause, SinkCause}
+use Rattle.sftp_cli.specs.Printed.{IsAnswer}
+use Rattle.sftp_cli.specs.Ended.{read_limit, GaveAll, Ran, Refused, Answered, Stopped, code, Unfinished, status_for, Completes, SourceCause, SinkCause}
 
 -- ---- what was read is what there was
 
@@ -55,8 +55,8 @@ read_is bytes had now r =
     elim (less_or_not (length bytes) read_limit) [
       | inl lt ↦ ap script_of (all_left bytes had now r lt).0
       | inr le ↦
-        let all : length had ≡ length bytes + length now = ap (λ (l : List ℕ). length l) r.0 ∙ length-append bytes now in
-        of_size had (omega (arith, le, all)) ∙ sym (of_size bytes (omega (arith, le)))
+          let all : length had ≡ length bytes + length now = ap (λ (l : List ℕ). length l) r.0 ∙ length-append bytes now in
+          of_size had (omega (arith, le, all)) ∙ sym (of_size bytes (omega (arith, le)))
     ]
 
 gave_all : (bytes : List ℕ) (script : Script) (left left_now : Option (List ℕ)) → script_of bytes ≡ Ok script → Told (ReadUpTo read_limit bytes) left left_now → Told (GaveAll bytes) left left_now
@@ -140,3 +140,5 @@ answer_finished status left left_now written written_now a why is = absurd (no_c
 pub failure_unfinished : (why : Failure) (status : ℕ) (left left_now written written_now : Option (List ℕ)) → Stopped why left left_now written written_now → status ≡ code why → Unfinished status left left_now written written_now
 failure_unfinished why status left left_now written written_now stopped is other same =
     subst (λ (w : Failure). Stopped w left left_now written written_now) (one_code why other (sym is ∙ same)) stopped
+
+pub ruleset endings = (answer_ran, answer_refused, answer_completes, failure_completes, answer_finished, failure_unfinished)

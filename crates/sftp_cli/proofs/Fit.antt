@@ -1,5 +1,5 @@
 -- A script that was read has lanes that a session can be given, and few files.
-use Rattle.std.proofs.Common.{◌≡◌, ◌<◌, ◌≤◌, ◌^◌, ℕ, zero, suc, ◌+◌, ◌*◌, Bool, true, false, List, [], ◌∷◌, ◌++◌, Result, Ok, Err, if◌then◌else◌, refl, ap, sym, ◌∙◌, subst, arith, length, length-append}
+use Rattle.std.proofs.Common.{◌≡◌, ◌<◌, ◌≤◌, ◌^◌, ℕ, ◌+◌, Bool, true, false, List, [], ◌∷◌, ◌++◌, Result, Ok, Err, if◌then◌else◌, refl, ◌∙◌, subst, arith, length, length-append}
 use Rattle.std.specs.Prelude.{◌==◌, not, ◌&&◌, nat_lt, nat_le, is_some, codes, Option, Some, None}
 use Rattle.std.specs.List.{list_all, sum_by}
 use Rattle.std.specs.Str.{bytes_eq}
@@ -8,16 +8,12 @@ use Rattle.std.proofs.lemmas.List.Sums.{sum_by-cons, sum_by-append}
 use Rattle.std.proofs.lemmas.List.Folds.{list_all-append}
 use Rattle.ssh_encoding.specs.Reading.{◌>>=◌}
 use Rattle.sftp_core.specs.declared.options.SftpOptions.{SftpOptions}
-use Rattle.sftp_file.specs.declared.open_options.OpenOptions.{OpenOptions}
-use Rattle.sftp_model.specs.Readings.{has_bit}
 use Rattle.sftp_history.specs.declared.call.Lane.{Lane}
 use Rattle.sftp_history.specs.declared.call.Call.{Call}
-use Rattle.sftp_history.specs.declared.call.Call.TheVariants as call
 use Rattle.sftp_history.specs.declared.reason.Reason.{Reason}
 use Rattle.sftp_history.specs.declared.reason.Reason.TheVariants as reason
 use Rattle.sftp_history.specs.declared.script.Script.{Script}
 use Rattle.sftp_history.specs.declared.turn.Turn.{Turn}
-use Rattle.sftp_history.specs.declared.turn.Turn.TheVariants as turn
 use Rattle.sftp_history.specs.Lanes.{is_slot, is_within, weight, lane_weight, weight_limit, are_ok}
 use Rattle.sftp_history.specs.Lines.{with_front, lines_of, words_of, is_comment, number_of, within, number_in, bytes_in, flags_in}
 use Rattle.sftp_history.specs.Scripts.{Draft, empty_script, no_word, one_word, two_words, three_words, four_words, unless_said, greatest_u32, greatest_u64, is_file, refusal_in, option_in, option_line, extension_in, with_extension, ext_line, limits_line, cut_line, server_line, file_line, choice_line, pick_line, with_lane, call_at_end, slot_in, open_call, read_call, close_call, in_lane, lane_turn, line_by, line_of, read_line, go_on, read_lines, script_limit, script_of}
@@ -190,11 +186,13 @@ lanes_count (lane ∷ next ∷ lanes) c =
 -- ---- lines
 
 call_fine : (n : ℕ) (d : Draft) (read : Result Call Reason) → Has n d → Named read → Fine (n + 1) (read >>= λ c. Ok (record d { script = record d.script { lanes = call_at_end d.script.lanes c } }))
-call_fine n d (Ok c) k named = record { is = record {
-  few = let h = k.few in omega (arith, h);
-  ok = lanes_end d.script.lanes c k.ok named.is;
-  count = let h = k.count in let l = lanes_count d.script.lanes c in omega (arith, h, l);
-} }
+call_fine n d (Ok c) k named = record {
+  is = record {
+    few = let h = k.few in omega (arith, h);
+    ok = lanes_end d.script.lanes c k.ok named.is;
+    count = let h = k.count in let l = lanes_count d.script.lanes c in omega (arith, h, l);
+  };
+}
 call_fine n d (Err why) k named = record { is = tt }
 
 lane_fine : (n : ℕ) (d : Draft) (lanes : List Lane) (read : Result Call Reason) → Has n d → Named read → Fine (n + 1) (in_lane d lanes read)

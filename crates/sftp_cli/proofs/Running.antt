@@ -1,14 +1,11 @@
 -- A run of lanes over a server that nothing was sent to is served, and stops only for want of memory.
-use Rattle.std.proofs.Common.{◌≡◌, ℕ, true, List, [], ◌++◌, length, refl, ap, sym, ◌∙◌, subst}
-use Rattle.std.specs.Prelude.{Option, Some, None, Result, Ok, Err, IfOk, Vec}
+use Rattle.std.proofs.Common.{◌≡◌, ℕ, true, List, [], ◌++◌, refl, ap, sym, ◌∙◌, subst}
+use Rattle.std.specs.Prelude.{Option, Some, Result, Ok, Err, IfOk, Vec}
 use Rattle.std.specs.declared.alloc.Global.{Global}
 use Rattle.ssh_encoding.specs.declared.out_of_memory.OutOfMemory.{OutOfMemory}
 use Rattle.std.specs.Option.{unwrap_or}
 use Rattle.sftp_core.specs.declared.options.SftpOptions.{SftpOptions}
-use Rattle.sftp_link.specs.declared.piece.Piece.{Piece}
 use Rattle.sftp_link.specs.Told.{Told}
-use Rattle.sftp_model.specs.declared.config.Choice.{Choice}
-use Rattle.sftp_model.specs.declared.config.ServerConfig.{ServerConfig}
 use Rattle.sftp_model.specs.declared.error.Error.{Error}
 use Rattle.sftp_model.specs.declared.error.Error.TheVariants as error
 use Rattle.sftp_model.specs.declared.reply.Reply.{Reply}
@@ -18,13 +15,12 @@ use Rattle.sftp_history.specs.declared.report.Report.{Report}
 use Rattle.sftp_history.specs.declared.script.Script.{Script}
 use Rattle.sftp_history.specs.declared.turn.Turn.{Turn}
 use Rattle.sftp_history.specs.Lanes.{are_ok}
-use Rattle.sftp_history.specs.Readings.{trace_of, outcomes_below}
 use Rattle.sftp_history.specs.Settings.{greeting, setting_of}
 use Rattle.sftp_history.specs.Served.{Serves}
 use Rattle.sftp_history.specs.Shown.{Shows}
 use Rattle.sftp_history.specs.Texts.{text_of, file_lines}
 use Rattle.sftp_lanes.specs.Causes.{Cause}
-use Rattle.sftp_lanes.specs.Logs.{Ends, Showing}
+use Rattle.sftp_lanes.specs.Logs.{Ends}
 use Rattle.sftp_lanes.specs.Session.{Given, IsFixed}
 use Rattle.sftp_map_server.specs.Serving.{Desk, Serving, IsServing, version_reply}
 use Rattle.sftp_served.specs.Unopened.{IsUnopened, unopened}
@@ -98,7 +94,7 @@ printed_run script server report left text is run written =
       version = run.version ∙ ap (λ (d : Desk). version_reply d.granting.config) first;
       served = subst (λ (d : Desk). Serves d.granting.config d.choices d.granting.machine run.past left) first run.served;
       is = written ∙ ap (λ (l : List ℕ). l ++ file_lines left)
-        (ap (λ t. text_of (journal_of t) report.outcomes) run.trace ∙ trace_text run.past report.outcomes ∙ ap (λ o. text_of run.past o) run.outcomes);
+          (ap (λ t. text_of (journal_of t) report.outcomes) run.trace ∙ trace_text run.past report.outcomes ∙ ap (λ o. text_of run.past o) run.outcomes);
     }
 
 -- the same, where there was memory for the text, and the parts of the script are told apart

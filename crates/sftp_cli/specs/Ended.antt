@@ -77,7 +77,7 @@ Unfinished status left left_now written written_now = (why : Failure) → status
 
 -- a count of faults rose where the status is this one, and else is as before
 abbrev pub HasCause : ℕ → ℕ → ℕ → ℕ → Type 0
-HasCause code status before now = ((status ≡ code) × (before < now)) ⊎ ((status ≡ code → ⊥) × (now ≡ before))
+HasCause n status before now = ((status ≡ n) × (before < now)) ⊎ ((status ≡ n → ⊥) × (now ≡ before))
 
 -- the status for what reads as a script, and for what does not
 abbrev pub status_for : Result Script (ℕ × Reason) → ℕ

@@ -1,5 +1,5 @@
 -- What the program writes and answers for the words of its command line.
-use Rattle.std.specs.Prelude.{◌≡◌, ◌⊎◌, ◌<◌, ℕ, Bool, false, List, [], ◌∷◌, Option, codes, if◌then◌else◌}
+use Rattle.std.specs.Prelude.{◌≡◌, ◌⊎◌, ℕ, Bool, false, List, [], ◌∷◌, Option, codes, if◌then◌else◌}
 use Rattle.std.specs.Str.{bytes_eq}
 use Rattle.sftp_cli.specs.declared.answer.TheConstants.{HELP, VERSION, FAULTY}
 use Rattle.sftp_link.specs.Told.{Told, Went, WentLess}

@@ -30,6 +30,7 @@ fn want_of_memory(error: Error) -> OutOfMemory
 }
 
 /// Runs lanes over a server that nothing was sent to.
+#[tactic(auto, using(crate::proofs::Running::served_report))]
 fn served_run(
     alloc: Global,
     server: &mut MapServer,
@@ -112,7 +113,13 @@ pub(crate) fn text_of_run(alloc: Global, script: Script) -> Result<Vec<u8>, OutO
         ..
     } = script;
     let mut server = new_server(alloc, files.as_slice(), config, choices)?;
-    let report = served_run(alloc, &mut server, lanes.as_slice(), turns.as_slice(), &options)?;
+    let report = served_run(
+        alloc,
+        &mut server,
+        lanes.as_slice(),
+        turns.as_slice(),
+        &options,
+    )?;
     traces_keep_texts();
     text_with_files(alloc, &report, &server)
 }

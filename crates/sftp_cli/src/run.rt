@@ -15,12 +15,8 @@ use std::alloc::Global;
 /// written. The script's picks are passed over. `--help` and `--version` are answered with 0 and other words with 2. It is 3
 /// where the source failed, 4 where the sink failed and 5 where there was no memory; with 4 and 5 a front of the text was
 /// written.
-pub fn run<S: Source, K: Sink>(
-    alloc: Global,
-    words: &[String],
-    source: &mut S,
-    sink: &mut K,
-) -> u8
+#[tactic(auto, using(crate::proofs::Ending::endings))]
+pub fn run<S: Source, K: Sink>(alloc: Global, words: &[String], source: &mut S, sink: &mut K) -> u8
     requires source { S.faults source.old < 2 ^ 64 - 1 }
     requires sink { K.faults sink.old < 2 ^ 64 - 1 }
     ensures headline { is_script (map string_bytes words.now) ≡ true → result ≡ 0

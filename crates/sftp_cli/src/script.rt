@@ -1,7 +1,6 @@
 // The word `script`: its bytes are read, run or refused, and the answer is written.
 ghost use Rattle.std.specs.Prelude.{◌≡◌, ◌<◌, ◌-◌, ◌^◌, true, length, IfOk, IfErr, List, ℕ, Ok};
-ghost use Rattle.sftp_link.specs.Told.{Told, Same, ReadUpTo, Went, WentLess};
-ghost use Rattle.sftp_link.specs.Causes.{Cause};
+ghost use Rattle.sftp_link.specs.Told.{Told, ReadUpTo, Went, WentLess};
 ghost use Rattle.sftp_history.specs.Lanes.{are_ok};
 ghost use Rattle.sftp_history.specs.Scripts.{script_of};
 ghost use Rattle.sftp_history.specs.declared.script.Script.{Script};

@@ -55,7 +55,13 @@ fn words(rt: HostRuntime) -> Result<(), Fail> {
 }
 
 /// A script, the numbers of the reads and writes that fail, the status, and the text.
-type Row = (&'static str, &'static [u32], &'static [u32], u8, &'static str);
+type Row = (
+    &'static str,
+    &'static [u32],
+    &'static [u32],
+    u8,
+    &'static str,
+);
 
 /// Scripts that are not run.
 const REFUSED: &[Row] = &[

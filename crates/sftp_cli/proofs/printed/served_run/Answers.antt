@@ -1,9 +1,5 @@
-use Rattle.sftp_cli.proofs.Running.{served_report, only_for_memory}
+use Rattle.sftp_cli.proofs.Running.{only_for_memory}
 use Rattle.sftp_cli.proofs.printed.served_run.Goals as goal
-
-pub returns-in-Ok : goal.returns-in-Ok
-returns-in-Ok c =
-    served_report c.args.lanes.now c.args.options.now c.args.turns.now c.args.server.now c.run_lanes.new._link c.in-Ok.report c.requires.lanes c.requires.unopened c.requires.quiet c.run_lanes.ensures.service c.is_ended-ended.ensures.serving c.in-Ok.ensures.run
 
 pub want_of_memory-requires : goal.want_of_memory-requires
 want_of_memory-requires c =
