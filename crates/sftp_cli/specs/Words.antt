@@ -1,10 +1,16 @@
 -- What the program writes and answers for the words of its command line.
-use Rattle.std.specs.Prelude.{◌≡◌, ◌⊎◌, ◌<◌, ℕ, List, [], ◌∷◌, Option, codes, if◌then◌else◌}
+use Rattle.std.specs.Prelude.{◌≡◌, ◌⊎◌, ℕ, Bool, false, List, [], ◌∷◌, Option, codes, if◌then◌else◌}
 use Rattle.std.specs.Str.{bytes_eq}
 use Rattle.sftp_cli.specs.declared.answer.TheConstants.{HELP, VERSION, FAULTY}
 use Rattle.sftp_link.specs.Told.{Told, Went, WentLess}
 
--- 0 for the two words that it knows alone, 2 for all else
+-- the one word `script`
+abbrev pub is_script : List (List ℕ) → Bool
+is_script [] = false
+is_script (word ∷ []) = bytes_eq word (codes "script")
+is_script (word ∷ another ∷ words) = false
+
+-- of other words: 0 for the two that it knows alone, 2 for all else
 abbrev pub status_of : List (List ℕ) → ℕ
 status_of [] = 2
 status_of (word ∷ []) = if bytes_eq word (codes "--help") then 0 else if bytes_eq word (codes "--version") then 0 else 2
@@ -18,7 +24,3 @@ text_of (word ∷ another ∷ words) = FAULTY.now
 -- the whole text was written and the status is its own, or a front of it and the status says why
 abbrev pub Writes : ℕ → ℕ → List ℕ → Option (List ℕ) → Option (List ℕ) → Type 0
 Writes result status text before now = ((result ≡ status) × Told (Went text) before now) ⊎ (((result ≡ 4) ⊎ (result ≡ 5)) × Told (WentLess text) before now)
-
--- 4 only where the sink's count of faults rose
-abbrev pub HasCause : ℕ → ℕ → ℕ → Type 0
-HasCause result before now = ((result ≡ 4) × (before < now)) ⊎ ((result ≡ 4 → ⊥) × (now ≡ before))

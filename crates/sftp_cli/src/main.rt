@@ -2,12 +2,16 @@
 #![tactic(auto)]
 
 mod answer;
+mod failure;
+mod printed;
+mod refusal;
 mod run;
+mod script;
 #[cfg(test)]
 mod tests;
 
 pub use run::run;
-use sftp_link::WriteSink;
+use sftp_link::{ReadSource, WriteSink};
 use std::env;
 use std::process::ExitCode;
 
@@ -15,6 +19,7 @@ use std::process::ExitCode;
 const FAULTY_WORDS: u8 = 2;
 
 fn main(rt: HostRuntime) -> ExitCode {
+    let mut source = ReadSource::new(rt.stdin());
     let mut sink = WriteSink::new(rt.stdout());
     let mut words = Vec::new(rt.alloc());
     let Ok(args) = env::args(&rt) else {
@@ -22,8 +27,8 @@ fn main(rt: HostRuntime) -> ExitCode {
     };
     for word in args.skip(1) {
         if words.push(word).is_err() {
-            return ExitCode::from(run::OUT_OF_MEMORY);
+            return ExitCode::from(failure::OUT_OF_MEMORY);
         }
     }
-    ExitCode::from(run(&words, &mut sink))
+    ExitCode::from(run(rt.alloc(), &words, &mut source, &mut sink))
 }

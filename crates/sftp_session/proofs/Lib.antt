@@ -11,3 +11,4 @@ pub mod Opening
 pub mod Counting
 pub mod Reporting
 pub mod Exchanges
+pub mod LetGoNoted

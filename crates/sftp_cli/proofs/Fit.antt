@@ -1,0 +1,310 @@
+-- A script that was read has lanes that a session can be given, and few files.
+use Rattle.std.proofs.Common.{◌≡◌, ◌<◌, ◌≤◌, ◌^◌, ℕ, ◌+◌, Bool, true, false, List, [], ◌∷◌, ◌++◌, Result, Ok, Err, if◌then◌else◌, refl, ◌∙◌, subst, arith, length, length-append}
+use Rattle.std.specs.Prelude.{◌==◌, not, ◌&&◌, nat_lt, nat_le, is_some, codes, Option, Some, None}
+use Rattle.std.specs.List.{list_all, sum_by}
+use Rattle.std.specs.Str.{bytes_eq}
+use Rattle.std.proofs.lemmas.Bool.Decides.{nat_tests}
+use Rattle.std.proofs.lemmas.List.Sums.{sum_by-cons, sum_by-append}
+use Rattle.std.proofs.lemmas.List.Folds.{list_all-append}
+use Rattle.ssh_encoding.specs.Reading.{◌>>=◌}
+use Rattle.sftp_core.specs.declared.options.SftpOptions.{SftpOptions}
+use Rattle.sftp_history.specs.declared.call.Lane.{Lane}
+use Rattle.sftp_history.specs.declared.call.Call.{Call}
+use Rattle.sftp_history.specs.declared.reason.Reason.{Reason}
+use Rattle.sftp_history.specs.declared.reason.Reason.TheVariants as reason
+use Rattle.sftp_history.specs.declared.script.Script.{Script}
+use Rattle.sftp_history.specs.declared.turn.Turn.{Turn}
+use Rattle.sftp_history.specs.Lanes.{is_slot, is_within, weight, lane_weight, weight_limit, are_ok}
+use Rattle.sftp_history.specs.Lines.{with_front, lines_of, words_of, is_comment, number_of, within, number_in, bytes_in, flags_in}
+use Rattle.sftp_history.specs.Scripts.{Draft, empty_script, no_word, one_word, two_words, three_words, four_words, unless_said, greatest_u32, greatest_u64, is_file, refusal_in, option_in, option_line, extension_in, with_extension, ext_line, limits_line, cut_line, server_line, file_line, choice_line, pick_line, with_lane, call_at_end, slot_in, open_call, read_call, close_call, in_lane, lane_turn, line_by, line_of, read_line, go_on, read_lines, script_limit, script_of}
+
+-- each call of a lane is within its ranges
+abbrev lane_ok : Lane → Bool
+lane_ok lane = list_all is_within lane.calls
+
+-- no more files than lines, lanes within their ranges, and at most two counts a line
+record Within (n : ℕ) (files : List (List ℕ × List ℕ)) (lanes : List Lane) : Type 0 where
+  few : length files ≤ n
+  ok : list_all lane_ok lanes ≡ true
+  count : sum_by lane_weight lanes ≤ n + n
+
+-- what was read of n lines is so, or it is refused
+abbrev IsFine : ℕ → Result Draft Reason → Type 0
+IsFine n (Ok d) = Within n d.script.files d.script.lanes
+IsFine n (Err why) = Unit {0}
+
+record Fine (n : ℕ) (r : Result Draft Reason) : Type 0 where
+  is : IsFine n r
+
+-- a draft of n lines
+abbrev Has : ℕ → Draft → Type 0
+Has n d = Within n d.script.files d.script.lanes
+
+more : (n : ℕ) (files : List (List ℕ × List ℕ)) (lanes : List Lane) → Within n files lanes → Within (n + 1) files lanes
+more n files lanes w = record { few = let h = w.few in omega (arith, h); ok = w.ok; count = let h = w.count in omega (arith, h) }
+
+-- ---- parts of readings
+
+if_fine : (n : ℕ) (b : Bool) (x y : Result Draft Reason) → Fine n x → Fine n y → Fine n (if b then x else y)
+if_fine n true x y h k = h
+if_fine n false x y h k = k
+
+bind_fine : {A : Type 0} (n : ℕ) (m : Result A Reason) (f : A → Result Draft Reason) → ((x : A) → Fine n (f x)) → Fine n (m >>= f)
+bind_fine n (Ok x) f h = h x
+bind_fine n (Err why) f h = record { is = tt }
+
+unless_fine : (n : ℕ) (b : Bool) (d : Draft) → Has n d → Fine n (unless_said b d)
+unless_fine n true d k = record { is = tt }
+unless_fine n false d k = record { is = k }
+
+no_fine : (n : ℕ) (d : Draft) (words : List (List ℕ)) → Has n d → Fine n (no_word d words)
+no_fine n d [] k = record { is = k }
+no_fine n d (a ∷ words) k = record { is = tt }
+
+one_fine : (n : ℕ) (f : List ℕ → Result Draft Reason) (words : List (List ℕ)) → ((a : List ℕ) → Fine n (f a)) → Fine n (one_word f words)
+one_fine n f [] h = record { is = tt }
+one_fine n f (a ∷ []) h = h a
+one_fine n f (a ∷ b ∷ words) h = record { is = tt }
+
+two_fine : (n : ℕ) (f : List ℕ → List ℕ → Result Draft Reason) (words : List (List ℕ)) → ((a b : List ℕ) → Fine n (f a b)) → Fine n (two_words f words)
+two_fine n f [] h = record { is = tt }
+two_fine n f (a ∷ []) h = record { is = tt }
+two_fine n f (a ∷ b ∷ []) h = h a b
+two_fine n f (a ∷ b ∷ c ∷ words) h = record { is = tt }
+
+four_fine : (n : ℕ) (f : List ℕ → List ℕ → List ℕ → List ℕ → Result Draft Reason) (words : List (List ℕ)) → ((a b c e : List ℕ) → Fine n (f a b c e)) → Fine n (four_words f words)
+four_fine n f [] h = record { is = tt }
+four_fine n f (a ∷ []) h = record { is = tt }
+four_fine n f (a ∷ b ∷ []) h = record { is = tt }
+four_fine n f (a ∷ b ∷ c ∷ []) h = record { is = tt }
+four_fine n f (a ∷ b ∷ c ∷ e ∷ []) h = h a b c e
+four_fine n f (a ∷ b ∷ c ∷ e ∷ g ∷ words) h = record { is = tt }
+
+-- ---- calls
+
+-- a call that was read names slots that are there
+abbrev IsCall : Result Call Reason → Type 0
+IsCall (Ok c) = is_within c ≡ true
+IsCall (Err why) = Unit {0}
+
+record Named (r : Result Call Reason) : Type 0 where
+  is : IsCall r
+
+-- so does a slot
+abbrev IsThere : Result ℕ Reason → Type 0
+IsThere (Ok slot) = is_slot slot ≡ true
+IsThere (Err why) = Unit {0}
+
+record There (r : Result ℕ Reason) : Type 0 where
+  is : IsThere r
+
+below_slots : (n : ℕ) → (nat_le 0 n && nat_le n 15) ≡ true → nat_lt n 16 ≡ true
+below_slots n e = grind (arith, nat_tests)
+
+slot_if : (b : Bool) (n : ℕ) → (b ≡ true → is_slot n ≡ true) → There (if b then Ok n else Err reason.Range)
+slot_if true n h = record { is = h refl }
+slot_if false n h = record { is = tt }
+
+slot_within : (o : Option ℕ) → There (within 0 15 o)
+slot_within None = record { is = tt }
+slot_within (Some n) = slot_if (nat_le 0 n && nat_le n 15) n (below_slots n)
+
+slot_there : (word : List ℕ) → There (slot_in word)
+slot_there word = slot_within (number_of word)
+
+bind_named : {A : Type 0} (m : Result A Reason) (f : A → Result Call Reason) → ((x : A) → Named (f x)) → Named (m >>= f)
+bind_named (Ok x) f h = h x
+bind_named (Err why) f h = record { is = tt }
+
+slot_named : (m : Result ℕ Reason) (f : ℕ → Result Call Reason) → There m → ((slot : ℕ) → is_slot slot ≡ true → Named (f slot)) → Named (m >>= f)
+slot_named (Ok slot) f t h = h slot t.is
+slot_named (Err why) f t h = record { is = tt }
+
+open_named : (a b c : List ℕ) → Named (open_call a b c)
+open_named a b c = slot_named (slot_in a) _ (slot_there a) (λ slot t. bind_named (flags_in b) _ (λ flags. bind_named (bytes_in c) _ (λ path. record { is = t })))
+
+read_named : (a b : List ℕ) → Named (read_call a b)
+read_named a b = slot_named (slot_in a) _ (slot_there a) (λ slot t. bind_named (number_in 0 greatest_u32 b) _ (λ n. record { is = t }))
+
+close_named : (a : List ℕ) → Named (close_call a)
+close_named a = slot_named (slot_in a) _ (slot_there a) (λ slot t. record { is = t })
+
+one_named : (f : List ℕ → Result Call Reason) (words : List (List ℕ)) → ((a : List ℕ) → Named (f a)) → Named (one_word f words)
+one_named f [] h = record { is = tt }
+one_named f (a ∷ []) h = h a
+one_named f (a ∷ b ∷ words) h = record { is = tt }
+
+two_named : (f : List ℕ → List ℕ → Result Call Reason) (words : List (List ℕ)) → ((a b : List ℕ) → Named (f a b)) → Named (two_words f words)
+two_named f [] h = record { is = tt }
+two_named f (a ∷ []) h = record { is = tt }
+two_named f (a ∷ b ∷ []) h = h a b
+two_named f (a ∷ b ∷ c ∷ words) h = record { is = tt }
+
+three_named : (f : List ℕ → List ℕ → List ℕ → Result Call Reason) (words : List (List ℕ)) → ((a b c : List ℕ) → Named (f a b c)) → Named (three_words f words)
+three_named f [] h = record { is = tt }
+three_named f (a ∷ []) h = record { is = tt }
+three_named f (a ∷ b ∷ []) h = record { is = tt }
+three_named f (a ∷ b ∷ c ∷ []) h = h a b c
+three_named f (a ∷ b ∷ c ∷ e ∷ words) h = record { is = tt }
+
+-- ---- a call at the end
+
+both_true : (a b : Bool) → a ≡ true → b ≡ true → (a && b) ≡ true
+both_true true b h k = k
+both_true false b h k = absurd cc
+
+first_true : (a b : Bool) → (a && b) ≡ true → (a ≡ true) × (b ≡ true)
+first_true true b h = (refl, h)
+first_true false b h = absurd cc
+
+lane_ends : (lane : Lane) (c : Call) → lane_ok lane ≡ true → is_within c ≡ true → list_all is_within (lane.calls ++ c ∷ []) ≡ true
+lane_ends lane c h k = list_all-append is_within lane.calls (c ∷ []) ∙ both_true (lane_ok lane) (is_within c && true) h (both_true (is_within c) true k refl)
+
+lanes_end : (lanes : List Lane) (c : Call) → list_all lane_ok lanes ≡ true → is_within c ≡ true → list_all lane_ok (call_at_end lanes c) ≡ true
+lanes_end [] c h k = refl
+lanes_end (lane ∷ []) c h k = both_true (list_all is_within (lane.calls ++ c ∷ [])) true (lane_ends lane c (first_true (lane_ok lane) true h).0 k) refl
+lanes_end (lane ∷ next ∷ lanes) c h k =
+    let both = first_true (lane_ok lane) (list_all lane_ok (next ∷ lanes)) h in
+    both_true (lane_ok lane) (list_all lane_ok (call_at_end (next ∷ lanes) c)) both.0 (lanes_end (next ∷ lanes) c both.1 k)
+
+-- the counts of lanes, each with a call more
+weight_end : (calls : List Call) (c : Call) → sum_by weight (calls ++ c ∷ []) ≡ sum_by weight calls + 2
+weight_end calls c = sum_by-append weight calls (c ∷ [])
+
+last_count : (lane : Lane) (c : Call) → sum_by lane_weight (record { calls = lane.calls ++ c ∷ [] } ∷ []) ≤ sum_by lane_weight (lane ∷ []) + 2
+last_count lane c = let more = weight_end lane.calls c in omega (arith, more)
+
+lanes_count : (lanes : List Lane) (c : Call) → sum_by lane_weight (call_at_end lanes c) ≤ sum_by lane_weight lanes + 2
+lanes_count [] c = omega arith
+lanes_count (lane ∷ []) c = last_count lane c
+lanes_count (lane ∷ next ∷ lanes) c =
+    let here = sum_by-cons lane_weight lane (call_at_end (next ∷ lanes) c) in
+    let there = sum_by-cons lane_weight lane (next ∷ lanes) in
+    let rest = lanes_count (next ∷ lanes) c in
+    rw (here, there) (omega (arith, rest))
+
+-- ---- lines
+
+call_fine : (n : ℕ) (d : Draft) (read : Result Call Reason) → Has n d → Named read → Fine (n + 1) (read >>= λ c. Ok (record d { script = record d.script { lanes = call_at_end d.script.lanes c } }))
+call_fine n d (Ok c) k named = record {
+  is = record {
+    few = let h = k.few in omega (arith, h);
+    ok = lanes_end d.script.lanes c k.ok named.is;
+    count = let h = k.count in let l = lanes_count d.script.lanes c in omega (arith, h, l);
+  };
+}
+call_fine n d (Err why) k named = record { is = tt }
+
+lane_fine : (n : ℕ) (d : Draft) (lanes : List Lane) (read : Result Call Reason) → Has n d → Named read → Fine (n + 1) (in_lane d lanes read)
+lane_fine n d [] read k named = record { is = tt }
+lane_fine n d (lane ∷ lanes) read k named = call_fine n d read k named
+
+begun_fine : (n : ℕ) (d : Draft) → Has n d → Has (n + 1) (with_lane d)
+begun_fine n d k = record {
+  few = let h = k.few in omega (arith, h);
+  ok = list_all-append lane_ok d.script.lanes (record { calls = [] } ∷ []) ∙ both_true (list_all lane_ok d.script.lanes) true k.ok refl;
+  count = let h = k.count in let l = sum_by-append lane_weight d.script.lanes (record { calls = [] } ∷ []) in rw l (omega (arith, h));
+}
+
+files_fine : (n : ℕ) (d : Draft) (a b : List ℕ) → Has n d → Fine (n + 1) (file_line d a b)
+files_fine n d a b k = bind_fine (n + 1) (bytes_in a) _ (λ name. bind_fine (n + 1) (bytes_in b) _ (λ content. unless_fine (n + 1) (is_file d.script.files name) _ (record {
+  few = let h = k.few in let l = length-append d.script.files ((name, content) ∷ []) in rw l (omega (arith, h));
+  ok = k.ok;
+  count = let h = k.count in omega (arith, h);
+})))
+
+option_fine : (n : ℕ) (d : Draft) (key least most : ℕ) (word : List ℕ) (set : ℕ → SftpOptions) → Has n d → Fine n (option_in d key least most word set)
+option_fine n d key least most word set k = bind_fine n (number_in least most word) _ (λ x. unless_fine n _ _ k)
+
+options_fine : (n : ℕ) (d : Draft) (name word : List ℕ) → Has n d → Fine n (option_line d name word)
+options_fine n d name word k =
+    if_fine n (bytes_eq name (codes "max_pending_requests")) _ _ (option_fine n d 0 1 65535 word _ k) (if_fine n (bytes_eq name (codes "requests_buffer_size")) _ _ (option_fine n d 1 1 65536 word _ k) (if_fine n (bytes_eq name (codes "responses_buffer_size")) _ _ (option_fine n d 2 1 65536 word _ k)
+    (if_fine n (bytes_eq name (codes "tokio_compat_file_write_limit")) _ _ (option_fine n d 3 1 16777216 word _ k) (if_fine n (bytes_eq name (codes "max_read_len")) _ _ (option_fine n d 4 1 _ word _ k) (if_fine n (bytes_eq name (codes "max_write_len")) _ _ (option_fine n d 5 1 _ word _ k) (if_fine n (bytes_eq name (codes "flush_interval")) _ _ (option_fine n d 6 0 1000000 word _ k) (record { is = tt })))))))
+
+limits_fine : (n : ℕ) (d : Draft) (p r w h : List ℕ) → Has n d → Fine n (limits_line d p r w h)
+limits_fine n d p r w h k =
+    bind_fine n (number_in 0 greatest_u64 p) _ (λ a. bind_fine n (number_in 0 greatest_u64 r) _ (λ b. bind_fine n (number_in 0 greatest_u64 w) _ (λ c. bind_fine n (number_in 0 greatest_u64 h) _ (λ e. unless_fine n (is_some d.script.server.limits) _ k))))
+
+ext_fine : (n : ℕ) (d : Draft) (name : List ℕ) → Has n d → Fine n (ext_line d name)
+ext_fine n d name k = bind_fine n (extension_in name) _ (λ bit. unless_fine n _ (with_extension d bit) k)
+
+server_fine : (n : ℕ) (d : Draft) (words : List (List ℕ)) → Has n d → Fine n (server_line d words)
+server_fine n d [] k = record { is = tt }
+server_fine n d (kind ∷ words) k =
+    if_fine n (bytes_eq kind (codes "ext")) _ _ (one_fine n (ext_line d) words (λ a. ext_fine n d a k)) (if_fine n (bytes_eq kind (codes "limits")) _ _ (four_fine n (limits_line d) words (λ p r w h. limits_fine n d p r w h k))
+    (if_fine n (bytes_eq kind (codes "cut")) _ _ (one_fine n (cut_line d) words (λ a. bind_fine n (number_in 1 greatest_u32 a) _ (λ x. unless_fine n (not (d.script.server.cut == 0)) _ k))) (record { is = tt })))
+
+turn_fine : (n : ℕ) (d : Draft) (of_lane : ℕ → Turn) (word : List ℕ) → Has n d → Fine n (lane_turn d of_lane word)
+turn_fine n d of_lane word k = bind_fine n (number_in 0 greatest_u32 word) _ (λ x. record { is = k })
+
+line_fine : (n : ℕ) (d : Draft) (word : List ℕ) (words : List (List ℕ)) → Has n d → Fine (n + 1) (line_by d word words)
+line_fine n d word words k =
+    let m : Has (n + 1) d = more n d.script.files d.script.lanes k in
+    if_fine (n + 1) (bytes_eq word (codes "option")) _ _ (two_fine (n + 1) (option_line d) words (λ a b. options_fine (n + 1) d a b m)) (if_fine (n + 1) (bytes_eq word (codes "server")) _ _ (server_fine (n + 1) d words m)
+    (if_fine (n + 1) (bytes_eq word (codes "file")) _ _ (two_fine (n + 1) (file_line d) words (λ a b. files_fine n d a b k))
+    (if_fine (n + 1) (bytes_eq word (codes "choice")) _ _ (two_fine (n + 1) (choice_line d) words (λ a b. bind_fine (n + 1) (refusal_in a) _ (λ x. bind_fine (n + 1) (number_in 0 greatest_u32 b) _ (λ y. record { is = m }))))
+    (if_fine (n + 1) (bytes_eq word (codes "pick")) _ _ (one_fine (n + 1) (pick_line d) words (λ a. bind_fine (n + 1) (number_in 0 greatest_u32 a) _ (λ x. record { is = m })))
+    (if_fine (n + 1) (bytes_eq word (codes "lane")) _ _ (no_fine (n + 1) (with_lane d) words (begun_fine n d k)) (if_fine (n + 1) (bytes_eq word (codes "step")) _ _ (one_fine (n + 1) _ words (λ a. turn_fine (n + 1) d _ a m)) (if_fine (n + 1) (bytes_eq word (codes "cancel")) _ _ (one_fine (n + 1) _ words (λ a. turn_fine (n + 1) d _ a m))
+    (if_fine (n + 1) (bytes_eq word (codes "flush")) _ _ (no_fine (n + 1) _ words m) (if_fine (n + 1) (bytes_eq word (codes "take")) _ _ (no_fine (n + 1) _ words m)
+    (if_fine (n + 1) (bytes_eq word (codes "open")) _ _ (lane_fine n d d.script.lanes _ k (three_named open_call words open_named)) (if_fine (n + 1) (bytes_eq word (codes "read")) _ _ (lane_fine n d d.script.lanes _ k (two_named read_call words read_named)) (if_fine (n + 1) (bytes_eq word (codes "close")) _ _ (lane_fine n d d.script.lanes _ k (one_named close_call words close_named)) (record { is = tt })))))))))))))
+
+words_fine : (n : ℕ) (d : Draft) (words : List (List ℕ)) → Has n d → Fine (n + 1) (line_of d words)
+words_fine n d [] k = record { is = more n d.script.files d.script.lanes k }
+words_fine n d (word ∷ words) k = line_fine n d word words k
+
+-- ---- all lines
+
+go_fine : (script : Script) (m number : ℕ) (n : ℕ) (r : Result Draft Reason) (rest : Draft → Result Script (ℕ × Reason)) → Fine n r → ((d : Draft) → Has n d → rest d ≡ Ok script → Within m script.files script.lanes)
+    → go_on number r rest ≡ Ok script → Within m script.files script.lanes
+go_fine script m number n (Ok d) rest k h e = h d k.is e
+go_fine script m number n (Err why) rest k h e = absurd cc
+
+-- n lines were read before these
+lines_fine : (script : Script) (m n number : ℕ) (d : Draft) (lines : List (List ℕ)) → n + length lines ≤ m → Has n d → read_lines number d lines ≡ Ok script → Within m script.files script.lanes
+lines_fine script m n number d [] le k e =
+    let is : d.script ≡ script = cc e in
+    subst (λ (s : Script). Within m s.files s.lanes) is (record { few = let h = k.few in omega (arith, h, le); ok = k.ok; count = let h = k.count in omega (arith, h, le) })
+lines_fine script m n number d (line ∷ lines) le k e =
+    go_fine script m number (n + 1) (read_line d line) (λ more. read_lines (number + 1) more lines)
+    (if_fine (n + 1) (is_comment line) (Ok d) (line_of d (words_of line)) (record { is = more n d.script.files d.script.lanes k }) (words_fine n d (words_of line) k))
+    (λ next has is. lines_fine script m (n + 1) (number + 1) next lines (omega (arith, le)) has is) e
+
+-- ---- as many lines as bytes at most
+
+front_lines : (b : ℕ) (lines : List (List ℕ)) (n : ℕ) → length lines ≤ n → length (with_front b lines) ≤ n + 1
+front_lines b [] n h = omega arith
+front_lines b (line ∷ lines) n h = omega (arith, h)
+
+lines_if : (t : Bool) (b : ℕ) (lines : List (List ℕ)) (n : ℕ) → length lines ≤ n → length (if t then [] ∷ lines else with_front b lines) ≤ n + 1
+lines_if true b lines n h = omega (arith, h)
+lines_if false b lines n h = front_lines b lines n h
+
+few_lines : (bytes : List ℕ) → length (lines_of bytes) ≤ length bytes
+few_lines [] = omega arith
+few_lines (b ∷ bytes) = let h = lines_if (b == 10) b (lines_of bytes) (length bytes) (few_lines bytes) in omega (arith, h)
+
+by_size : (script : Script) (n : ℕ) (b : Bool) (r : Result Script (ℕ × Reason)) → (b ≡ false → r ≡ Ok script → Within n script.files script.lanes) → (if b then Err (0, reason.Size) else r) ≡ Ok script → Within n script.files script.lanes
+by_size script n true r h e = absurd cc
+by_size script n false r h e = h refl e
+
+at_most : (m n : ℕ) → nat_lt m n ≡ false → n ≤ m
+at_most m n e = grind (arith, nat_tests)
+
+script_within : (bytes : List ℕ) (script : Script) → script_of bytes ≡ Ok script → Within script_limit script.files script.lanes
+script_within bytes script e =
+    by_size script script_limit (nat_lt script_limit (length bytes)) (read_lines 1 (record { script = empty_script; named = [] }) (lines_of bytes))
+    (λ short is. lines_fine script script_limit 0 1 (record { script = empty_script; named = [] }) (lines_of bytes)
+    (let few = few_lines bytes in let most = at_most script_limit (length bytes) short in omega (arith, few, most))
+    (record { few = omega arith; ok = refl; count = omega arith }) is) e
+
+less : (n m : ℕ) → n < m → nat_lt n m ≡ true
+less n m h = grind (arith, nat_tests)
+
+pub script_lanes : (bytes : List ℕ) (script : Script) → script_of bytes ≡ Ok script → are_ok script.lanes ≡ true
+script_lanes bytes script e =
+    let w = script_within bytes script e in
+    let count = w.count in
+    both_true (list_all lane_ok script.lanes) (nat_lt (sum_by lane_weight script.lanes) weight_limit) w.ok (less (sum_by lane_weight script.lanes) weight_limit (omega (arith, count)))
+
+pub script_files : (bytes : List ℕ) (script : Script) → script_of bytes ≡ Ok script → length script.files < 2 ^ 32
+script_files bytes script e = let w = script_within bytes script e in let files = w.few in omega (arith, files)

@@ -1,0 +1,4 @@
+pub mod Files
+pub mod Fit
+pub mod Running
+pub mod Ending

@@ -1,0 +1,74 @@
+-- What the program has to write for the bytes of a script.
+use Rattle.std.specs.Prelude.{◌≡◌, ℕ, List, [], ◌++◌, length, codes, Option, Some, None, Result, Ok, Err}
+use Rattle.sftp_core.specs.declared.options.SftpOptions.{SftpOptions}
+use Rattle.sftp_model.specs.FileMachine.{Machine}
+use Rattle.sftp_model.specs.declared.flags.Extensions.{Extensions}
+use Rattle.sftp_history.specs.declared.call.Lane.{Lane}
+use Rattle.sftp_history.specs.declared.entry.Entry.{Entry}
+use Rattle.sftp_history.specs.declared.reason.Reason.{Reason}
+use Rattle.sftp_history.specs.declared.reason.Reason.TheVariants as reason
+use Rattle.sftp_history.specs.declared.report.Report.{Report}
+use Rattle.sftp_history.specs.declared.script.Script.{Script}
+use Rattle.sftp_history.specs.declared.turn.Turn.{Turn}
+use Rattle.sftp_history.specs.Readings.{trace_of, outcomes_below}
+use Rattle.sftp_history.specs.Runs.{IsRun}
+use Rattle.sftp_history.specs.Served.{Serves}
+use Rattle.sftp_history.specs.Settings.{greeting, setting_of}
+use Rattle.sftp_history.specs.Texts.{line, number_text, file_text, text_with_files}
+use Rattle.sftp_map_server.specs.Granting.{machine_of}
+use Rattle.sftp_map_server.specs.Serving.{Desk, version_reply}
+
+-- ---- a run
+
+-- The text is that of a run of the script's lanes: the frames of its journal, the outcomes, which are the values of the
+-- plans, and the files that are left. VERSION told what the script's server offers, and the journal was served from the
+-- script's files to those that are left. Picks are passed over.
+pub record IsPrinted (script : Script) (text : List ℕ) : Type 0 where
+  pub extensions : Extensions
+  pub past : List Entry
+  pub left : Machine
+  pub run : IsRun (setting_of script.lanes script.options extensions past) script.turns past
+  pub version : greeting extensions ≡ version_reply script.server
+  pub served : Serves script.server script.choices (machine_of script.files) past left
+  pub is : text ≡ text_with_files past (outcomes_below past (length script.lanes)) left
+
+-- the report is that of a run of lanes, which a server served from its first machine to the machine that is left
+pub record IsServedRun (lanes : List Lane) (options : SftpOptions) (turns : List Turn) (first : Desk) (left : Machine) (report : Report) : Type 0 where
+  pub extensions : Extensions
+  pub past : List Entry
+  pub run : IsRun (setting_of lanes options extensions past) turns past
+  pub version : greeting extensions ≡ version_reply first.granting.config
+  pub served : Serves first.granting.config first.choices first.granting.machine past left
+  pub trace : report.trace ≡ trace_of past
+  pub outcomes : report.outcomes ≡ outcomes_below past (length lanes)
+
+-- the line of a file, where there is one
+abbrev pub file_text_of : Option (List ℕ × List ℕ) → List ℕ
+file_text_of None = []
+file_text_of (Some file) = file_text file.0 file.1
+
+-- ---- a refusal
+
+-- the word of a reason
+abbrev pub reason_word : Reason → List ℕ
+reason_word reason.Size = codes "size"
+reason_word reason.Words = codes "words"
+reason_word reason.Word = codes "word"
+reason_word reason.Lane = codes "lane"
+reason_word reason.Count = codes "count"
+reason_word reason.Number = codes "number"
+reason_word reason.Hex = codes "hex"
+reason_word reason.Mode = codes "mode"
+reason_word reason.Range = codes "range"
+reason_word reason.Repeat = codes "repeat"
+
+-- the line that says which line is refused, and why
+abbrev pub refusal_line : ℕ → Reason → List ℕ
+refusal_line number why = line (codes "line " ++ number_text number ++ codes " " ++ reason_word why)
+
+-- ---- both
+
+-- the status and the text for bytes that were read: 0 and the text of a run of the script, or 2 and why they are none
+abbrev pub IsAnswer : Result Script (ℕ × Reason) → ℕ → List ℕ → Type 0
+IsAnswer (Ok script) status text = (status ≡ 0) × IsPrinted script text
+IsAnswer (Err refused) status text = (status ≡ 2) × (text ≡ refusal_line refused.0 refused.1)

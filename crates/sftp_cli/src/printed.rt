@@ -1,0 +1,125 @@
+// A script that was read is run over a server of its files, and the text of the run is made.
+ghost use Rattle.std.specs.Prelude.{◌≡◌, ◌<◌, ◌++◌, ◌^◌, [], true, length, IfOk, OnOk};
+ghost use Rattle.sftp_history.specs.Lanes.{are_ok};
+ghost use Rattle.sftp_history.specs.Texts.{file_lines, text_of};
+ghost use Rattle.sftp_map_server.specs.Order.{file_at};
+ghost use Rattle.sftp_model.specs.Fits.{FitsSet};
+ghost use Rattle.sftp_model.specs.declared.error.Error.TheVariants as errors;
+ghost use Rattle.sftp_served.specs.Unopened.{IsUnopened};
+ghost use Rattle.sftp_text.specs.Traces.{journal_of};
+ghost use Rattle.sftp_cli.specs.Printed.{IsPrinted, IsServedRun, file_text_of};
+
+use sftp_core::SftpOptions;
+use sftp_history::{Lane, Report, Script, Turn};
+use sftp_map_server::MapServer;
+use sftp_model::Error;
+use sftp_served::new_server;
+use sftp_session::run_lanes;
+use sftp_text::{traces_keep_texts, write_file, write_text};
+use ssh_encoding::OutOfMemory;
+use std::alloc::Global;
+
+/// The only error that is left to a run over a server in memory.
+fn want_of_memory(error: Error) -> OutOfMemory
+    requires { error ≡ errors.OutOfMemory }
+{
+    match error {
+        Error::OutOfMemory => OutOfMemory,
+        _ => unreachable!(),
+    }
+}
+
+/// Runs lanes over a server that nothing was sent to.
+#[tactic(auto, using(crate::proofs::Running::served_report))]
+fn served_run(
+    alloc: Global,
+    server: &mut MapServer,
+    lanes: &[Lane],
+    turns: &[Turn],
+    options: &SftpOptions,
+) -> Result<Report, OutOfMemory>
+    requires lanes { are_ok lanes.now ≡ true }
+    requires unopened { IsUnopened server.old.first }
+    requires quiet { server.old.log ≡ [] }
+    ensures { IfOk result (λ report. IsServedRun lanes.now options.now turns.now server.old.first server.new.now.desk.granting.machine report) }
+{
+    match run_lanes(alloc, server, lanes, turns, options) {
+        Ok(report) => {
+            let _ended = server.is_ended();
+            Ok(report)
+        }
+        Err(error) => {
+            let _ended = server.is_ended();
+            Err(want_of_memory(error))
+        }
+    }
+}
+
+/// Appends the line of file k.
+fn write_file_at(
+    alloc: Global,
+    server: &MapServer,
+    k: u64,
+    out: &mut Vec<u8>,
+) -> Result<(), OutOfMemory>
+    ensures { OnOk result (out.new.items ≡ out.old.items ++ file_text_of (file_at server.now.now.desk.granting.machine k)) }
+{
+    match server.file(k) {
+        Some((name, content)) => write_file(alloc, name, content, out),
+        None => Ok(()),
+    }
+}
+
+/// Appends a line for each file, in the order of their names by bytes.
+#[tactic(auto, using(crate::proofs::Files::file_step, crate::proofs::Files::files_end))]
+fn write_files(alloc: Global, server: &MapServer, out: &mut Vec<u8>) -> Result<(), OutOfMemory>
+    ensures { OnOk result (out.new.items ≡ out.old.items ++ file_lines server.now.now.desk.granting.machine) }
+{
+    for k in 0..server.file_count() {
+        write_file_at(alloc, server, k, out)?;
+    }
+    Ok(())
+}
+
+/// The text of a report, and of the files that a server has.
+fn text_with_files(
+    alloc: Global,
+    report: &Report,
+    server: &MapServer,
+) -> Result<Vec<u8>, OutOfMemory>
+    ensures { IfOk result (λ text. text.items ≡ text_of (journal_of report.now.trace) report.now.outcomes ++ file_lines server.now.now.desk.granting.machine) }
+{
+    let mut text = Vec::new(alloc);
+    write_text(alloc, report, &mut text)?;
+    write_files(alloc, server, &mut text)?;
+    Ok(text)
+}
+
+/// Runs a script over a server of its files, and gives the text of the run: its frames, the outcomes, and the files that
+/// are left. Its picks are passed over: the server answers in the order of the requests.
+pub(crate) fn text_of_run(alloc: Global, script: Script) -> Result<Vec<u8>, OutOfMemory>
+    requires lanes { are_ok script.lanes ≡ true }
+    requires files { length script.files < 2 ^ 32 }
+    requires known { FitsSet script.server.extensions.0 }
+    ensures { IfOk result (λ text. IsPrinted script text.items) }
+{
+    let Script {
+        options,
+        server: config,
+        files,
+        choices,
+        lanes,
+        turns,
+        ..
+    } = script;
+    let mut server = new_server(alloc, files.as_slice(), config, choices)?;
+    let report = served_run(
+        alloc,
+        &mut server,
+        lanes.as_slice(),
+        turns.as_slice(),
+        &options,
+    )?;
+    traces_keep_texts();
+    text_with_files(alloc, &report, &server)
+}
