@@ -65,13 +65,15 @@ cancel_at s c lane any w begun lt =
     let before = found.0 in
     let here = found.1 in
     let rest = w.tied.rest in
-    let way = under_way s c.past lane before.slots.items before.running (rest.each lane before here).runs (rest.runs lane before begun here) in
-    (before, record {
-      here = here;
-      way = way;
-      held = subst (IsHeld c.core) (sym way.stage) (holds_of s c.past lane way.ticket way.request c.core rest.table way.asks).counted;
-      few = few_at s c lane before way.calls w here way.current;
-    })
+    let way = under_way s c.past lane before.slots.items before.running (rest.each lane before here).runs (rest.runs lane before begun here) in (
+      before,
+      record {
+        here = here;
+        way = way;
+        held = subst (IsHeld c.core) (sym way.stage) (holds_of s c.past lane way.ticket way.request c.core rest.table way.asks).counted;
+        few = few_at s c lane before way.calls w here way.current;
+      },
+    )
 
 -- ---- what is noted
 
@@ -120,7 +122,7 @@ pub cancels_noted : (s : Setting) (c : Contents) (lane : ℕ) (before : LaneStat
     → core ≡ cancelled c.core (stage_of before.running)
     → (length core.queue ≡ length c.core.queue → past ≡ entry.Event (End lane before.ended outcome.Cancelled) ∷ entry.Event (Cancel lane) ∷ c.past)
     → ((queue : List (ℕ × Request)) (id : ℕ) (h : List ℕ) → core.queue ≡ queue ++ (id, request.Close h) ∷ [] → length queue ≡ length c.core.queue
-        → past ≡ entry.Event (Submit owner.Close id (request.Close h)) ∷ entry.Event (End lane before.ended outcome.Cancelled) ∷ entry.Event (Cancel lane) ∷ c.past)
+    → past ≡ entry.Event (Submit owner.Close id (request.Close h)) ∷ entry.Event (End lane before.ended outcome.Cancelled) ∷ entry.Event (Cancel lane) ∷ c.past)
     → CancelsIn s lane c (cancelled_to c lane before core past) true
 cancels_noted s c lane before core past w any a core_is plain close =
     let core_at : core ≡ abandoned c.core a.way.ticket = core_is ∙ ap (cancelled c.core) a.way.stage in
@@ -171,7 +173,7 @@ cancels_noted s c lane before core past w any a core_is plain close =
         let small : a.way.ticket < 2 ^ 32 = borne_small s c.past a.way.ticket a.way.asks.place w.tied.rest.good.run (small_ticket s c.past a.way.ticket a.way.asks.place _ (id_state c.past a.way.ticket) refl (reads c.past a.way.ticket) a.way.asks.borne) in
         let t = tied_cancel_drop s c.past c.core c.states c.begun lane before after b of_lane some small in
         let past_is : past ≡ entry.Event (Submit owner.Close a.way.ticket (request.Close b)) ∷ cancelled_past c.past lane =
-            k c.core.queue a.way.ticket b t.1.1.1.1.0 refl ∙ ap (λ (x : List Entry). entry.Event (Submit owner.Close a.way.ticket (request.Close b)) ∷ x) same_end in
+        k c.core.queue a.way.ticket b t.1.1.1.1.0 refl ∙ ap (λ (x : List Entry). entry.Event (Submit owner.Close a.way.ticket (request.Close b)) ∷ x) same_end in
         subst (λ (x : List Entry). CancelsIn s lane c (cancelled_to c lane before (abandoned c.core a.way.ticket) x) true) (sym past_is)
         (record {
           cancels = both_true _ _ _ _ (some_true (current s c.past lane) a.way.calls a.way.current) any (refl, refl, (t.1.1.0, t.1.1.1.1.1.still.settled));
@@ -181,7 +183,7 @@ cancels_noted s c lane before core past w any a core_is plain close =
             ok = w.ok;
             tied = t.1.1.1.1.1;
             counted = counted_same (entry.Event (Submit owner.Close a.way.ticket (request.Close b)) ∷ c.past) (entry.Event (Submit owner.Close a.way.ticket (request.Close b)) ∷ cancelled_past c.past lane) _ refl refl
-              (handle_counts c.past c.core a.way.ticket b some w.counted);
+                (handle_counts c.past c.core a.way.ticket b some w.counted);
             unadded = w.unadded;
           };
         })

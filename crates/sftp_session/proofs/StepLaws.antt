@@ -101,7 +101,7 @@ pub steps_nothing : (s : Setting) (c : Contents) (lane : ℕ) → Works s c → 
 steps_nothing s c lane w none =
     record {
       steps = subst (λ (m : Option Move). StepsTo s lane (stage_in c) (stage_in c) m stepped.Nothing)
-        (sym (ap (λ d. move_at d (site_of s c.past lane) s.facts (own c.past lane (ended c.past lane)) (answer c.past)) none)) (refl, refl);
+          (sym (ap (λ d. move_at d (site_of s c.past lane) s.facts (own c.past lane (ended c.past lane)) (answer c.past)) none)) (refl, refl);
       later = later_self s c.past;
       working = w;
       less = omega arith;
@@ -148,18 +148,29 @@ waits_unanswered s c lane place before w here run move =
 begun_runs : (s : Setting) (c : Contents) (lane : ℕ) (before : LaneState) → Works s c → slice_get c.states lane ≡ Some before → is_running before.running ≡ true → Works s (record c { begun = begun_with c.begun lane })
 begun_runs s c lane before w here run =
     record {
-      calls = w.calls; ok = w.ok; counted = w.counted; unadded = w.unadded;
+      calls = w.calls;
+      ok = w.ok;
+      counted = w.counted;
+      unadded = w.unadded;
       tied = record {
         still = w.tied.still;
         rest = record {
           good = record {
-            run = w.tied.rest.good.run; calm = w.tied.rest.good.calm; ready = w.tied.rest.good.ready; unkept = w.tied.rest.good.unkept;
+            run = w.tied.rest.good.run;
+            calm = w.tied.rest.good.calm;
+            ready = w.tied.rest.good.ready;
+            unkept = w.tied.rest.good.unkept;
             cancels = λ l b. begun_more lane l c.begun (may_cancel s c.past l ≡ true) (λ same. subst (λ (k : ℕ). may_cancel s c.past k ≡ true) same (asked_cancels s c lane before w here run)) (λ was. w.tied.rest.good.cancels l was) b;
           };
-          due = w.tied.rest.due; gone = w.tied.rest.gone; work = w.tied.rest.work; table = w.tied.rest.table; count = w.tied.rest.count; each = w.tied.rest.each;
+          due = w.tied.rest.due;
+          gone = w.tied.rest.gone;
+          work = w.tied.rest.work;
+          table = w.tied.rest.table;
+          count = w.tied.rest.count;
+          each = w.tied.rest.each;
           runs = λ l st any is. begun_more lane l c.begun (is_running st.running ≡ true)
-            (λ same. let both : Some before ≡ Some st = sym here ∙ ap (slice_get c.states) same ∙ is in let one : before ≡ st = cc in ap (λ (x : LaneState). is_running x.running) (sym one) ∙ run)
-            (λ was. w.tied.rest.runs l st was is) any;
+              (λ same. let both : Some before ≡ Some st = sym here ∙ ap (slice_get c.states) same ∙ is in let one : before ≡ st = cc in ap (λ (x : LaneState). is_running x.running) (sym one) ∙ run)
+              (λ was. w.tied.rest.runs l st was is) any;
         };
       };
     }
@@ -201,12 +212,12 @@ steps_asked s c lane id r new calls before after d a (move, none, same_ended, ho
     let idle : before.running ≡ running.Idle = runs_idle s past lane before.slots.items before.running mine.runs none in
     let few : before.ended < length calls.calls = below_get calls.calls before.ended d a.call_is in
     let left : is_running after.running ≡ true → lanes_left c.calls (slice_set c.states lane after) + 4 ≤ lanes_left c.calls c.states =
-        (λ run. lanes_less c.calls c.states lane calls before after 4 a.lane_is a.here (asked_less calls before after idle run same_ended few)) in
+    (λ run. lanes_less c.calls c.states lane calls before after 4 a.lane_is a.here (asked_less calls before after idle run same_ended few)) in
     elim how [
       | inl f ↦ (let t = tied_ask s past lane c.core new c.states c.begun before after id r w.tied a.here move none same_ended f small in
           record {
             steps = subst (λ (m : Option Move). StepsTo s lane (stage_in c) (record { past = now; begun = begun_with c.begun lane }) m stepped.Submitted) (sym move)
-              (refl, refl, (id, (t.0, (inl refl, t.1.1.still.settled))));
+                (refl, refl, (id, (t.0, (inl refl, t.1.1.still.settled))));
             later = inr (t.1.0, later_self s past);
             working = record { calls = w.calls; ok = w.ok; tied = t.1.1; counted = subst (Counted now) (sym f.queued) (counted_ask past c.core (owner.Call lane (ended past lane)) id r true f.free w.counted); unadded = w.unadded };
             less = less_work (lanes_left c.calls c.states) (lanes_left c.calls (slice_set c.states lane after)) (weigh c.core) (weigh new) (left f.runs_now) (subst (λ (x : Core). weigh x ≤ weigh c.core + 3) (sym f.queued) (weigh_ask c.core id r true f.free));
@@ -217,14 +228,19 @@ steps_asked s c lane id r new calls before after d a (move, none, same_ended, ho
           let queued : new ≡ queued_last c.core id (request.Close f.file.grant.handle) true = f.queued ∙ ap (λ x. queued_last c.core id x true) f.request in
           record {
             steps = subst (λ (m : Option Move). StepsTo s lane (stage_in c) (record { past = now; begun = begun_with c.begun lane }) m stepped.Submitted) (sym move)
-              (refl, refl, (id, (t.0, (inl refl, t.1.1.still.settled))));
+                (refl, refl, (id, (t.0, (inl refl, t.1.1.still.settled))));
             later = inr (t.1.0, later_self s past);
-            working = record { calls = w.calls; ok = w.ok; tied = t.1.1; unadded = w.unadded;
+            working = record {
+              calls = w.calls;
+              ok = w.ok;
+              tied = t.1.1;
+              unadded = w.unadded;
               counted = subst (λ (x : Request). Counted (entry.Event (Submit (owner.Call lane (ended past lane)) id x) ∷ past) new) (sym f.request)
-                (subst (Counted (entry.Event (Submit (owner.Call lane (ended past lane)) id (request.Close f.file.grant.handle)) ∷ past)) (sym queued)
-                (counted_close past c.core (owner.Call lane (ended past lane)) id f.file.grant.handle g.0 true g.1 w.counted)) };
+                  (subst (Counted (entry.Event (Submit (owner.Call lane (ended past lane)) id (request.Close f.file.grant.handle)) ∷ past)) (sym queued)
+                  (counted_close past c.core (owner.Call lane (ended past lane)) id f.file.grant.handle g.0 true g.1 w.counted));
+            };
             less = less_close (lanes_left c.calls c.states) (lanes_left c.calls (slice_set c.states lane after)) (weigh c.core) (weigh new) (left (ap is_running f.runs))
-              (subst (λ (x : Core). weigh x < weigh c.core) (sym queued) (weigh_close c.core id f.file.grant.handle g.0 true g.1));
+                (subst (λ (x : Core). weigh x < weigh c.core) (sym queued) (weigh_close c.core id f.file.grant.handle g.0 true g.1));
             waits = λ e some. absurd cc;
           })
     ]
@@ -249,7 +265,7 @@ pub record EndCounts (past now : List Entry) (old new : Core) : Type 0 where
 polled_counts : (s : Setting) (c : Contents) (lane t : ℕ) (y : Reply) (new : Core) (o : Outcome) → Works s c → HasPolled c.past lane c.core new t y → EndCounts c.past (entry.Event (End lane (ended c.past lane) o) ∷ c.past) c.core new
 polled_counts s c lane t y new o w p =
     let allowed = place_allowed (at c.core t) (expected_of p.request) y p.answered (holds_of s c.past lane t p.request c.core w.tied.rest.table p.asks).kind
-        (kept_allowed s c.past lane t p.request c.core y w.tied.rest.good.run w.tied.rest.table p.asks p.answered) in
+    (kept_allowed s c.past lane t p.request c.core y w.tied.rest.good.run w.tied.rest.table p.asks p.answered) in
     record {
       counted = counted_same c.past (entry.Event (End lane (ended c.past lane) o) ∷ c.past) new refl refl (subst (Counted c.past) (sym p.core) (counted_polled c.past c.core t y p.answered w.counted));
       lighter = subst (λ (x : Core). weigh x ≤ weigh c.core) (sym p.core) (weigh_polled c.core t y p.answered allowed);
@@ -278,12 +294,17 @@ ends_here : (s : Setting) (c : Contents) (lane : ℕ) (new : Core) (before after
     → (e : EndsAs s c.past lane c.core new before after o freed) → IsNext s c.past (entry.Event (End lane (ended c.past lane) o)) × EndsHere s c.past lane c.core c.states c.begun before after o e.site
 ends_here s c lane new before after o freed w here same e =
     let g = w.tied.rest.good in
-    let next_is : IsNext s c.past (entry.Event (End lane (ended c.past lane) o)) = may_next s c.past (entry.Event (End lane (ended c.past lane) o)) g.calm w.tied.still.settled (refl, (e.site, e.move), g.ready) in
-    (next_is, record {
-      tied = w.tied; here = here; same_ended = same; idle = e.idle;
-      done = ended_by s c.past lane o e.site g.run (end_site s c.past lane o e.site g.calm e.move);
-      good = end_good s c.past c.begun lane o g.run g.ready g.unkept g.cancels next_is;
-    })
+    let next_is : IsNext s c.past (entry.Event (End lane (ended c.past lane) o)) = may_next s c.past (entry.Event (End lane (ended c.past lane) o)) g.calm w.tied.still.settled (refl, (e.site, e.move), g.ready) in (
+      next_is,
+      record {
+        tied = w.tied;
+        here = here;
+        same_ended = same;
+        idle = e.idle;
+        done = ended_by s c.past lane o e.site g.run (end_site s c.past lane o e.site g.calm e.move);
+        good = end_good s c.past c.begun lane o g.run g.ready g.unkept g.cancels next_is;
+      },
+    )
 
 how_counts : (s : Setting) (c : Contents) (lane : ℕ) (new : Core) (before after : LaneState) (o : Outcome) (freed : Option FileValue) → Works s c → EndsAs s c.past lane c.core new before after o freed
     → EndCounts c.past (entry.Event (End lane (ended c.past lane) o) ∷ c.past) c.core new
@@ -322,11 +343,14 @@ slot_leaves s c lane slot new before after o freed left e is b = by_file freed t
 
     by_file : (f : Option FileValue) → SlotTied (entry.Event (End lane (ended c.past lane) o) ∷ c.past) lane f (slot_at (held_site s c.past lane) slot) → EndLeaves s c lane new after o f
     by_file None t = between_empty s _ new _ _ left (slot_at (held_site s c.past lane) slot) refl t b
-    by_file (Some f) t = (slot_at (held_site s c.past lane) slot, record {
-      between = subst (λ (x : Site). Between s (entry.Event (End lane (ended c.past lane) o) ∷ c.past) new (slice_set c.states lane (one_more after)) (begun_but c.begun lane) (slot_at (held_site s c.past lane) slot ∷ []) (owed_by x (slot_at (held_site s c.past lane) slot))) (sym e.done.held) b;
-      letting = refl;
-      tied = t;
-    })
+    by_file (Some f) t = (
+      slot_at (held_site s c.past lane) slot,
+      record {
+        between = subst (λ (x : Site). Between s (entry.Event (End lane (ended c.past lane) o) ∷ c.past) new (slice_set c.states lane (one_more after)) (begun_but c.begun lane) (slot_at (held_site s c.past lane) slot ∷ []) (owed_by x (slot_at (held_site s c.past lane) slot))) (sym e.done.held) b;
+        letting = refl;
+        tied = t;
+      },
+    )
 
 pub end_leaves : (s : Setting) (c : Contents) (lane : ℕ) (new : Core) (before after : LaneState) (o : Outcome) (freed : Option FileValue) → Works s c → slice_get c.states lane ≡ Some before → after.ended ≡ before.ended
     → EndsAs s c.past lane c.core new before after o freed → EndLeaves s c lane new after o freed
@@ -365,7 +389,7 @@ ended_step s c lane core past calls before after d o site a same idle move close
       later = later;
       working = record { calls = a.works.calls; ok = a.works.ok; tied = tied; counted = counted; unadded = unadded };
       less = less_end (lanes_left c.calls c.states) (lanes_left c.calls (slice_set c.states lane (one_more after))) (weigh c.core) (weigh core)
-        (lanes_less c.calls c.states lane calls before (one_more after) 1 a.lane_is a.here (ended_less calls before (one_more after) idle (ap (λ n. n + 1) same) (below_get calls.calls before.ended d a.call_is))) lighter;
+          (lanes_less c.calls c.states lane calls before (one_more after) 1 a.lane_is a.here (ended_less calls before (one_more after) idle (ap (λ n. n + 1) same) (below_get calls.calls before.ended d a.call_is))) lighter;
       waits = λ e some. absurd cc;
     }
 
@@ -390,8 +414,13 @@ steps_ended_shared s c lane new calls before after d o f a (same, e) more =
 
 pub steps_ended_last : (s : Setting) (c : Contents) (lane : ℕ) (new : Core) (calls : Lane) (before after : LaneState) (d : Call) (o : Outcome) (f : FileValue) → AtCall s c lane calls before d → Moves s c.past lane c.core new before after (moved.Ended o (Some f))
     → (users_at (at new f.grant.id) == 1) ≡ true
-    → StepsIn s lane c (record { calls = c.calls; core = let_go new f.grant; past = entry.Event (Submit owner.Close f.grant.id (request.Close f.grant.handle)) ∷ entry.Event (End lane (ended c.past lane) o) ∷ c.past;
-      states = slice_set c.states lane (one_more after); begun = begun_but c.begun lane }) stepped.Ended
+    → StepsIn s lane c (record {
+      calls = c.calls;
+      core = let_go new f.grant;
+      past = entry.Event (Submit owner.Close f.grant.id (request.Close f.grant.handle)) ∷ entry.Event (End lane (ended c.past lane) o) ∷ c.past;
+      states = slice_set c.states lane (one_more after);
+      begun = begun_but c.begun lane;
+    }) stepped.Ended
 steps_ended_last s c lane new calls before after d o f a (same, e) one =
     let k = how_counts s c lane new before after o (Some f) a.works e in
     let h = ends_here s c lane new before after o (Some f) a.works a.here same e in

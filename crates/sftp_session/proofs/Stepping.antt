@@ -137,8 +137,13 @@ steps_noted s c lane new calls before after d (moved.Ended o (Some f)) a h small
     closes : Entry
     closes = entry.Event (Submit owner.Close f.grant.id (request.Close f.grant.handle))
 
-    by_users : (b : Bool) → (users_at (at new f.grant.id) == 1) ≡ b → StepsIn s lane c (record { calls = c.calls; core = let_go new f.grant;
-      past = if users_at (at new f.grant.id) == 1 then closes ∷ at_end else at_end; states = slice_set c.states lane (one_more after); begun = begun_but c.begun lane }) stepped.Ended
+    by_users : (b : Bool) → (users_at (at new f.grant.id) == 1) ≡ b → StepsIn s lane c (record {
+      calls = c.calls;
+      core = let_go new f.grant;
+      past = if users_at (at new f.grant.id) == 1 then closes ∷ at_end else at_end;
+      states = slice_set c.states lane (one_more after);
+      begun = begun_but c.begun lane;
+    }) stepped.Ended
     by_users true is =
         subst (λ (y : Bool). StepsIn s lane c (record { calls = c.calls; core = let_go new f.grant; past = if y then closes ∷ at_end else at_end; states = slice_set c.states lane (one_more after); begun = begun_but c.begun lane }) stepped.Ended) (sym is)
         (steps_ended_last s c lane new calls before after d o f a h is)

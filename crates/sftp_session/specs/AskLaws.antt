@@ -111,35 +111,40 @@ tied_ask s past lane old new states begun before after id r t here move none sam
     let holds = submit_holds s past by id r held in
     let due : Due s now None = due_on s past now None (λ g. refl) gone (λ g w granted other h. holds g w granted ∙ h) tt b.due in
     let keeps : (w : ℕ) → Keeps s past now w =
-        (λ w. keeps_submit s past w by id r (λ p c h is has. free_grant s past [] (at old) id b.table a.free p c h is) (λ p c borne live. free_ask s past [] (at old) id b.table a.free p c borne live)) in
-    let mine = b.each lane before here in
-    (free, (may_next s past e b.good.calm t.still.settled (refl, move, free, b.good.ready, b.good.unkept), record {
-      still = still_of_due s now refl due;
-      rest = record {
-        good = submit_good s past begun lane id r b.good t.still move free;
-        due = due;
-        gone = gone_on s past now (λ g granted. granted) gone (λ g w granted h. sym (holds g w granted) ∙ h) b.gone;
-        work = subst (λ (c : Core). CoreTied s now c) (sym a.queued) (core_asked s past old by id r true b.work);
-        table = subst (λ (c : Core). Tabled s now [] (at c)) (sym a.queued)
-          (submit_tabled s past [] [] (at old) (at (queued_last old id r true)) by id r
-          (put_here old.table id (Waiting (expected_of r) false true) ∙ ap (λ live. Some (Waiting (expected_of r) false live)) (sym (eq-eqb (ended past lane) (ended past lane) refl)))
-          (λ i ne. submit_elsewhere old id r true i ne)
-          (λ i p c w ne is l. ap (λ (x : Site). users_in p x.slots + 0) (held l)) b.table);
-        count = set_count states lane after ∙ b.count;
-        each = λ l st is. elim (set_or_other states lane after l st is) [
-          | inl h ↦ subst (λ (k : ℕ). LaneTied s now k st) h.0 (subst (λ (x : LaneState). LaneTied s now lane x) h.1 (record {
-              ends = same_ended ∙ mine.ends;
-              sixteen = ap length a.slots ∙ mine.sixteen;
-              slots = ap (λ (x : Site). length x.slots) held_mine ∙ mine.slots;
-              each = subst (λ files. (k : ℕ) → SlotTied now lane (slice_index_or files k None) (slot_at (held_site s now lane) k)) (sym a.slots)
-                (slots_on s past now lane before.slots.items refl held_mine (keeps lane) mine.each);
-              runs = a.runs now refl (asks_now past lane id r none);
-            }))
-          | inr h ↦ lane_on s past now l st (same_submit s past l by id r (other_owner lane l (ended past lane) (ended past l) h.0)) (keeps l) (b.each l st h.1)
-        ];
-        runs = λ l st any is. elim (set_or_other states lane after l st is) [
-          | inl h ↦ ap (λ (x : LaneState). is_running x.running) (sym h.1) ∙ a.runs_now
-          | inr h ↦ begun_more lane l begun (is_running st.running ≡ true) (λ same. absurd (h.0 same)) (λ was. b.runs l st was h.1) any
-        ];
-      };
-    }))
+    (λ w. keeps_submit s past w by id r (λ p c h is has. free_grant s past [] (at old) id b.table a.free p c h is) (λ p c borne live. free_ask s past [] (at old) id b.table a.free p c borne live)) in
+    let mine = b.each lane before here in (
+      free,
+      (
+        may_next s past e b.good.calm t.still.settled (refl, move, free, b.good.ready, b.good.unkept),
+        record {
+          still = still_of_due s now refl due;
+          rest = record {
+            good = submit_good s past begun lane id r b.good t.still move free;
+            due = due;
+            gone = gone_on s past now (λ g granted. granted) gone (λ g w granted h. sym (holds g w granted) ∙ h) b.gone;
+            work = subst (λ (c : Core). CoreTied s now c) (sym a.queued) (core_asked s past old by id r true b.work);
+            table = subst (λ (c : Core). Tabled s now [] (at c)) (sym a.queued)
+                (submit_tabled s past [] [] (at old) (at (queued_last old id r true)) by id r
+                (put_here old.table id (Waiting (expected_of r) false true) ∙ ap (λ live. Some (Waiting (expected_of r) false live)) (sym (eq-eqb (ended past lane) (ended past lane) refl)))
+                (λ i ne. submit_elsewhere old id r true i ne)
+                (λ i p c w ne is l. ap (λ (x : Site). users_in p x.slots + 0) (held l)) b.table);
+            count = set_count states lane after ∙ b.count;
+            each = λ l st is. elim (set_or_other states lane after l st is) [
+              | inl h ↦ subst (λ (k : ℕ). LaneTied s now k st) h.0 (subst (λ (x : LaneState). LaneTied s now lane x) h.1 (record {
+                ends = same_ended ∙ mine.ends;
+                sixteen = ap length a.slots ∙ mine.sixteen;
+                slots = ap (λ (x : Site). length x.slots) held_mine ∙ mine.slots;
+                each = subst (λ files. (k : ℕ) → SlotTied now lane (slice_index_or files k None) (slot_at (held_site s now lane) k)) (sym a.slots)
+                    (slots_on s past now lane before.slots.items refl held_mine (keeps lane) mine.each);
+                runs = a.runs now refl (asks_now past lane id r none);
+              }))
+              | inr h ↦ lane_on s past now l st (same_submit s past l by id r (other_owner lane l (ended past lane) (ended past l) h.0)) (keeps l) (b.each l st h.1)
+            ];
+            runs = λ l st any is. elim (set_or_other states lane after l st is) [
+              | inl h ↦ ap (λ (x : LaneState). is_running x.running) (sym h.1) ∙ a.runs_now
+              | inr h ↦ begun_more lane l begun (is_running st.running ≡ true) (λ same. absurd (h.0 same)) (λ was. b.runs l st was h.1) any
+            ];
+          };
+        },
+      ),
+    )

@@ -101,59 +101,80 @@ tied_cancel_drop s past old states begun lane before after h x some small =
     let granted : is_grant past place ≡ true = ap is_granted r.1 in
     let at_place : asked_at past place ≡ Some b = r.2 in
     let owner_is : (w : ℕ) → AskedFor past w place → (lane ≡ w) × ((n : ℕ) → n ≡ ended past w → ⊥) = (λ w owned.
-        let same : owned.asked ≡ b = (let both : Some owned.asked ≡ Some b = sym owned.at ∙ at_place in cc) in
-        let owners : owner.Call w owned.call ≡ owner.Call lane (ended past lane) = sym owned.by ∙ ap (λ (m : Asked). m.by) same in
-        let lane_is : w ≡ lane = cc in let call_is : owned.call ≡ ended past lane = cc in
-        let lt : owned.call < ended past w = owned.before in
-        let ends : ended past w ≡ ended past lane = ap (ended past) lane_is in
-        absurd (omega (arith, call_is, lt, ends))) in
+    let same : owned.asked ≡ b = (let both : Some owned.asked ≡ Some b = sym owned.at ∙ at_place in cc) in
+    let owners : owner.Call w owned.call ≡ owner.Call lane (ended past lane) = sym owned.by ∙ ap (λ (m : Asked). m.by) same in
+    let lane_is : w ≡ lane = cc in let call_is : owned.call ≡ ended past lane = cc in
+    let lt : owned.call < ended past w = owned.before in
+    let ends : ended past w ≡ ended past lane = ap (ended past) lane_is in
+    absurd (omega (arith, call_is, lt, ends))) in
     let there : lane < length s.lanes = (let n = rest.count in let lt = slice_get_within states lane before x.here in omega (arith, n, lt)) in
     let nobody : (w : ℕ) → w < length s.lanes → has_grant (held_site s past w) place ≡ false = (λ w lt. false_of (has_grant (held_site s past w) place) (λ has.
-        (owner_is w (lane_owned s past w place _ (rest.each w _ (slice_get-get_or states w before (let n = rest.count in omega (arith, n, lt)))) has)).1 (ended past w) refl)) in
+    (owner_is w (lane_owned s past w place _ (rest.each w _ (slice_get-get_or states w before (let n = rest.count in omega (arith, n, lt)))) has)).1 (ended past w) refl)) in
     let unused : has_grant site place ≡ false = nobody lane there in
     let held_past : is_held s past place ≡ true = any_passes (holds s past place) (length s.lanes) lane there
-        (or_last (has_grant site place) (is_unended_asker past lane place) (ap (λ y. is_asked_by y lane (ended past lane)) at_place ∙ (λ i. (eq-eqb lane lane refl i) && (eq-eqb (ended past lane) (ended past lane) refl i)))) in
+    (or_last (has_grant site place) (is_unended_asker past lane place) (ap (λ y. is_asked_by y lane (ended past lane)) at_place ∙ (λ i. (eq-eqb lane lane refl i) && (eq-eqb (ended past lane) (ended past lane) refl i)))) in
     let other : (w : ℕ) → lane ≢ w → SameLane s middle now w = (λ w ne. same_end s middle lane (ended past lane) w outcome.Cancelled ne) in
     let loose : IsLoose s now place = record {
-        granted = granted;
-        unheld = any_none (holds s now place) (length s.lanes) (λ w lt. elim (eqb_tells lane w) [
-          | inl q ↦ subst (λ (k : ℕ). holds s now place k ≡ false) q.1 (rw (c.done.asker place) (rw (ap (λ y. has_grant y place) c.done.held ∙ unused) refl))
-          | inr q ↦ (λ i. has_grant ((other w q.1).held i) place || is_asked_by (asked_at past place) w ((other w q.1).ends i))
+      granted = granted;
+      unheld = any_none (holds s now place) (length s.lanes) (λ w lt. elim (eqb_tells lane w) [
+        | inl q ↦ subst (λ (k : ℕ). holds s now place k ≡ false) q.1 (rw (c.done.asker place) (rw (ap (λ y. has_grant y place) c.done.held ∙ unused) refl))
+        | inr q ↦ (λ i. has_grant ((other w q.1).held i) place || is_asked_by (asked_at past place) w ((other w q.1).ends i))
             ∙ rw (nobody w lt, ap (λ y. is_asked_by y w (ended past w)) at_place ∙ ap (λ z. z && (ended past lane == ended past w)) (ne_eqb lane w q.1)) refl
-        ]);
-        unclosed = false_of (is_one_of (closed s past) place) (λ gone. let unheld : is_held s past place ≡ false = (rest.gone place gone).1 in cc);
-      } in
+      ]);
+      unclosed = false_of (is_one_of (closed s past) place) (λ gone. let unheld : is_held s past place ≡ false = (rest.gone place gone).1 in cc);
+    } in
     let virtual : Core = with_place old t (Granted h 0) in
     let users : users_in place (slots_of s now lane) + 0 ≡ 0 = (let none = none_uses place site.slots unused in let same : users_in place (slots_of s now lane) ≡ users_in place site.slots = ap (λ (y : Site). users_in place y.slots) c.done.held in omega (arith, none, same)) in
     let between : Between s now virtual (slice_set states lane (one_more after)) (begun_but begun lane) [] (Some place) =
-        cancel_between s past old virtual states begun lane before after (Some place) x
-        (record { info = rest.work.info; phase = rest.work.phase; read_len = rest.work.read_len; unfailed = rest.work.unfailed; greeted = rest.work.greeted; queue = rest.work.queue })
-        (cancel_table s past old states begun lane before after (at virtual) x (λ q ne. put_elsewhere old.table t (Granted h 0) q ne)
-        (put_here old.table t (Granted h 0)
-        ∙ sym (ap (stand (ended now) (slots_of s now) []) came.state
-        ∙ ap (λ l. replied l (expected_of b.request) (reply.Handle h) (users_of (slots_of s now) [] b.by place)) (dead_now middle now lane c.done.ends)
-        ∙ ap (λ n. Some (Granted h n)) users)))
-        (λ g granted_g ne asks. let same : place ≡ g = asked_alone place g (ap (list_any (λ k. k == g)) (sym u.asks.own) ∙ asker_owns past lane (ended past lane) g asks) in
-        let yes_at : is_at (Some place) g ≡ true = eq-eqb place g same in cc)
-        loose in
+    cancel_between s past old virtual states begun lane before after (Some place) x
+    (record { info = rest.work.info; phase = rest.work.phase; read_len = rest.work.read_len; unfailed = rest.work.unfailed; greeted = rest.work.greeted; queue = rest.work.queue })
+    (cancel_table s past old states begun lane before after (at virtual) x (λ q ne. put_elsewhere old.table t (Granted h 0) q ne)
+    (put_here old.table t (Granted h 0)
+    ∙ sym (ap (stand (ended now) (slots_of s now) []) came.state
+    ∙ ap (λ l. replied l (expected_of b.request) (reply.Handle h) (users_of (slots_of s now) [] b.by place)) (dead_now middle now lane c.done.ends)
+    ∙ ap (λ n. Some (Granted h n)) users)))
+    (λ g granted_g ne asks. let same : place ≡ g = asked_alone place g (ap (list_any (λ k. k == g)) (sym u.asks.own) ∙ asker_owns past lane (ended past lane) g asks) in
+    let yes_at : is_at (Some place) g ≡ true = eq-eqb place g same in cc)
+    loose in
     let orphan_is : orphan s now ≡ Some place = orphan_due s now place refl between.due in
     let d : IsDue s None now old (slice_set states lane (one_more after)) (begun_but begun lane) [] place t h = record {
-        good = between.good; orphan = orphan_is; granted = between.due.loose.granted; unheld = between.due.loose.unheld; gone = between.gone;
-        work = record { info = rest.work.info; phase = rest.work.phase; read_len = rest.work.read_len; unfailed = rest.work.unfailed; greeted = rest.work.greeted; queue = rest.work.queue };
-        table = (at virtual, (between.table, λ q ne. sym (put_elsewhere old.table t (Granted h 0) q ne)));
-        count = between.count; each = λ l st out is. between.each l st is; runs = between.runs; asked = b; dead = dead_now middle now lane c.done.ends; brought = came.state; small = small;
-      } in
+      good = between.good;
+      orphan = orphan_is;
+      granted = between.due.loose.granted;
+      unheld = between.due.loose.unheld;
+      gone = between.gone;
+      work = record { info = rest.work.info; phase = rest.work.phase; read_len = rest.work.read_len; unfailed = rest.work.unfailed; greeted = rest.work.greeted; queue = rest.work.queue };
+      table = (at virtual, (between.table, λ q ne. sym (put_elsewhere old.table t (Granted h 0) q ne)));
+      count = between.count;
+      each = λ l st out is. between.each l st is;
+      runs = between.runs;
+      asked = b;
+      dead = dead_now middle now lane c.done.ends;
+      brought = came.state;
+      small = small;
+    } in
     let close : Entry = entry.Event (Submit owner.Close t (request.Close h)) in
     let core_is : abandoned old t ≡ queued_last old t (request.Close h) false = ap (abandon_leaves old t) came.kept in
     let k : Closed s None (close ∷ now) (queued_last old t (request.Close h) false) (slice_set states lane (one_more after)) (begun_but begun lane) [] =
-        close_closed s None now old (queued_last old t (request.Close h) false) (slice_set states lane (one_more after)) (begun_but begun lane) [] [] place t h d (put_here old.table t (Waiting expected.Status false false))
-        (λ q ne. submit_elsewhere old t (request.Close h) false q ne) (core_asked s now old owner.Close t (request.Close h) false d.work) (λ q ne. refl) in
-    let after_due : Due s (close ∷ now) None = subst (λ (y : Entry). Due s (y ∷ now) None) (sym (close_is now place t b h d.brought)) (due_own s now place t orphan_is between.due) in
-    (c.first, (c.second, (closes_to s None now old (slice_set states lane (one_more after)) (begun_but begun lane) [] place t h d,
-    (due_next s now place close refl orphan_is (must_close s None now old (slice_set states lane (one_more after)) (begun_but begun lane) [] place t h d),
-    (ap (λ (y : Core). y.queue) core_is,
-    subst (λ (y : Core). IsTied s (close ∷ now) y (slice_set states lane (one_more after)) (begun_but begun lane)) (sym core_is)
-    (record { still = still_of_due s (close ∷ now) refl after_due; rest = record { good = k.good; due = after_due; gone = k.gone; work = k.work; table = k.table; count = k.count; each = λ l st is. k.each l st refl is; runs = k.runs } }))))))
+    close_closed s None now old (queued_last old t (request.Close h) false) (slice_set states lane (one_more after)) (begun_but begun lane) [] [] place t h d (put_here old.table t (Waiting expected.Status false false))
+    (λ q ne. submit_elsewhere old t (request.Close h) false q ne) (core_asked s now old owner.Close t (request.Close h) false d.work) (λ q ne. refl) in
+    let after_due : Due s (close ∷ now) None = subst (λ (y : Entry). Due s (y ∷ now) None) (sym (close_is now place t b h d.brought)) (due_own s now place t orphan_is between.due) in (
+      c.first,
+      (
+        c.second,
+        (
+          closes_to s None now old (slice_set states lane (one_more after)) (begun_but begun lane) [] place t h d,
+          (
+            due_next s now place close refl orphan_is (must_close s None now old (slice_set states lane (one_more after)) (begun_but begun lane) [] place t h d),
+            (
+              ap (λ (y : Core). y.queue) core_is,
+              subst (λ (y : Core). IsTied s (close ∷ now) y (slice_set states lane (one_more after)) (begun_but begun lane)) (sym core_is)
+                  (record { still = still_of_due s (close ∷ now) refl after_due; rest = record { good = k.good; due = after_due; gone = k.gone; work = k.work; table = k.table; count = k.count; each = λ l st is. k.each l st refl is; runs = k.runs } }),
+            ),
+          ),
+        ),
+      ),
+    )
   where
     or_last : (p q : Bool) → q ≡ true → (p || q) ≡ true
     or_last true q h = refl

@@ -126,7 +126,6 @@ abandoned_stands core t ends slots_at p a (Replied q c y) borne here none dead =
     ∙ plain_gone (expected_of c.request) y (users_of slots_at [] c.by q) none_brought
     ∙ ap (λ live. replied live (expected_of c.request) y (users_of slots_at [] c.by q)) (sym (ap (λ (m : Asked). is_live ends m.by) borne.1 ∙ dead))
 
-
 -- ---- the journal
 
 -- the journal behind a cancel and its end
@@ -152,16 +151,16 @@ cancels_call s past old states begun lane x t any u =
     let first : IsNext s past c = may_next s past c g.calm t.still.settled (some_call (current s past lane) u.calls u.current, g.cancels lane any, g.ready) in
     let run : IsJournal s middle = (first, g.run) in
     let site_now : site_of s (cancelled_past past lane) lane ≡ held_site s past lane =
-        site_end s middle lane (ended past lane) outcome.Cancelled
-        ∙ ap (λ d. site_left d (Some lane) (site_of s past lane) s.facts (own past lane (ended past lane)) (answer past)) u.current
-        ∙ ap (λ places. cancelled_call u.calls (site_of s past lane) s.facts places (answer past)) u.asks.own
-        ∙ cancelled_holds u.calls (site_of s past lane) s.facts u.asks.place (answer past)
-        ∙ sym (ap (λ places. held_by (current s past lane) places (site_of s past lane)) u.asks.own ∙ ap (λ d. held_by d (u.asks.place ∷ []) (site_of s past lane)) u.current) in
+    site_end s middle lane (ended past lane) outcome.Cancelled
+    ∙ ap (λ d. site_left d (Some lane) (site_of s past lane) s.facts (own past lane (ended past lane)) (answer past)) u.current
+    ∙ ap (λ places. cancelled_call u.calls (site_of s past lane) s.facts places (answer past)) u.asks.own
+    ∙ cancelled_holds u.calls (site_of s past lane) s.facts u.asks.place (answer past)
+    ∙ sym (ap (λ places. held_by (current s past lane) places (site_of s past lane)) u.asks.own ∙ ap (λ d. held_by d (u.asks.place ∷ []) (site_of s past lane)) u.current) in
     record {
       first = first;
       second = cancelled_next s past lane;
       good = end_good s middle begun lane outcome.Cancelled run g.ready g.unkept
-        (λ l b. wait_more (is_some_place (own past l (ended past l))) _ (has_waited s past l) (g.cancels l b)) (cancelled_next s past lane);
+          (λ l b. wait_more (is_some_place (own past l (ended past l))) _ (has_waited s past l) (g.cancels l b)) (cancelled_next s past lane);
       done = ended_by s middle lane outcome.Cancelled (held_site s past lane) run site_now;
       steady = record {
         due = record { each = t.rest.due.each; loose = tt };
@@ -252,7 +251,7 @@ unanswered_asker s past old g lane x u table none granted asks =
         let nothing : is_grant past u.asks.place ≡ false = ap is_granted (ap (answer past) (sym borne.0) ∙ r.1) in absurd cc
     by_state (Replied q c y) is r borne here =
         let stands : at old u.ticket ≡ replied true (expected_of c.request) y (users_of (slots_of s past) [] c.by q) =
-            table u.ticket ∙ ap (stand (ended past) (slots_of s past) []) is ∙ ap (λ l. replied l (expected_of c.request) y (users_of (slots_of s past) [] c.by q)) (ap (λ (m : Asked). is_live (ended past) m.by) borne.1 ∙ live_here past lane) in
+        table u.ticket ∙ ap (stand (ended past) (slots_of s past) []) is ∙ ap (λ l. replied l (expected_of c.request) y (users_of (slots_of s past) [] c.by q)) (ap (λ (m : Asked). is_live (ended past) m.by) borne.1 ∙ live_here past lane) in
         let none_brought : brings y ≡ None = sym (ap brings_in stands) ∙ none in
         let nothing : is_grant past u.asks.place ≡ false = ap is_granted (ap (answer past) (sym borne.0) ∙ r.1) ∙ no_handle y none_brought in absurd cc
 
@@ -269,9 +268,9 @@ tied_cancel s past old states begun lane before after x none =
     let b : Asked = record { by = owner.Call lane (ended past lane); id = u.ticket; request = u.request } in
     let work = abandoned_work s past old u.ticket rest.work (brings_in (at old u.ticket)) refl none in
     let between = cancel_between s past old (abandoned old u.ticket) states begun lane before after None x
-        (record { info = work.info; phase = work.phase; read_len = work.read_len; unfailed = work.unfailed; greeted = work.greeted; queue = work.queue })
-        (cancel_table s past old states begun lane before after (at (abandoned old u.ticket)) x (λ q ne. abandon_elsewhere old u.ticket (at old u.ticket) q ne)
-        (abandoned_stands old u.ticket (ended now) (slots_of s now) u.asks.place b (id_state past u.ticket) u.asks.borne
-        (rest.table u.ticket ∙ live_stand s past now b u.asks.place (id_state past u.ticket) u.asks.borne (live_here past lane)) none (dead_now middle now lane c.done.ends)))
-        (λ g granted ne asks. unanswered_asker s past old g lane before.running u rest.table none granted asks) tt in
+    (record { info = work.info; phase = work.phase; read_len = work.read_len; unfailed = work.unfailed; greeted = work.greeted; queue = work.queue })
+    (cancel_table s past old states begun lane before after (at (abandoned old u.ticket)) x (λ q ne. abandon_elsewhere old u.ticket (at old u.ticket) q ne)
+    (abandoned_stands old u.ticket (ended now) (slots_of s now) u.asks.place b (id_state past u.ticket) u.asks.borne
+    (rest.table u.ticket ∙ live_stand s past now b u.asks.place (id_state past u.ticket) u.asks.borne (live_here past lane)) none (dead_now middle now lane c.done.ends)))
+    (λ g granted ne asks. unanswered_asker s past old g lane before.running u rest.table none granted asks) tt in
     (c.first, (c.second, record { still = still_of_due s now refl between.due; rest = between }))

@@ -121,38 +121,53 @@ tied_take_drop s past old states begun id h t x unwanted small =
     let due : Due s now (Some p.place) = take_loose s past id p.place r m.1.0 m.1.1 refl unheld b.gone b.due in
     let orphan_is : orphan s now ≡ Some p.place = orphan_due s now p.place refl due in
     let nobody : (w : ℕ) → w < length s.lanes → has_grant (held_site s past w) p.place ≡ false =
-        (λ w lt. ungranted_slot s past states p.place w b.count b.each m.1.1 lt (first_state states w (let n = b.count in omega (arith, lt, n)))) in
+    (λ w lt. ungranted_slot s past states p.place w b.count b.each m.1.1 lt (first_state states w (let n = b.count in omega (arith, lt, n)))) in
     let users : users_of (slots_of s past) [] p.asked.by p.place ≡ 0 = no_users s past p.place p.asked.by p.asked.request (came_by s past p.place p.asked b.good.run there) nobody in
     let stands : replied (is_live (ended past) p.asked.by) (expected_of p.asked.request) r (users_of (slots_of s past) [] p.asked.by p.place) ≡ Some (Granted h 0) =
-        (λ i. replied (dead i) (expected_of p.asked.request) r (users i)) in
+    (λ i. replied (dead i) (expected_of p.asked.request) r (users i)) in
     let table : ℕ → Option Place = table_with (at old) id (Some (Granted h 0)) in
     let d : IsDue s None now old states begun [] p.place id h =
-        record {
-          good = good_plain s past begun e b.good next tt;
-          orphan = orphan_is;
-          granted = due.loose.granted;
-          unheld = due.loose.unheld;
-          gone = take_gone s past id p.place r m.1.0 m.1.1 b.gone;
-          work = record { info = b.work.info; phase = b.work.phase; read_len = b.work.read_len; unfailed = b.work.unfailed; greeted = b.work.greeted; queue = b.work.queue };
-          table = (table, (take_tabled s past [] (at old) table id p.place p.asked true r p.state (with_here (at old) id (Some (Granted h 0)) ∙ sym stands) (with_there (at old) id (Some (Granted h 0))) b.table,
-            λ q ne. sym (with_there (at old) id (Some (Granted h 0)) q ne)));
-          count = b.count;
-          each = λ l st out is. lane_on s past now l st (record { ends = refl; owns = refl; held = refl; site = refl; call = refl }) (keeps_take s past l id p.place p.asked true r p.state) (b.each l st is);
-          runs = b.runs;
-          asked = p.asked;
-          dead = dead;
-          brought = ap (λ y. if y then now_replied r (id_state past id) else id_state past id) (eq-eqb id id refl) ∙ ap (now_replied r) p.state;
-          small = small;
-        } in
+    record {
+      good = good_plain s past begun e b.good next tt;
+      orphan = orphan_is;
+      granted = due.loose.granted;
+      unheld = due.loose.unheld;
+      gone = take_gone s past id p.place r m.1.0 m.1.1 b.gone;
+      work = record { info = b.work.info; phase = b.work.phase; read_len = b.work.read_len; unfailed = b.work.unfailed; greeted = b.work.greeted; queue = b.work.queue };
+      table = (
+        table,
+        (
+          take_tabled s past [] (at old) table id p.place p.asked true r p.state (with_here (at old) id (Some (Granted h 0)) ∙ sym stands) (with_there (at old) id (Some (Granted h 0))) b.table,
+          λ q ne. sym (with_there (at old) id (Some (Granted h 0)) q ne),
+        ),
+      );
+      count = b.count;
+      each = λ l st out is. lane_on s past now l st (record { ends = refl; owns = refl; held = refl; site = refl; call = refl }) (keeps_take s past l id p.place p.asked true r p.state) (b.each l st is);
+      runs = b.runs;
+      asked = p.asked;
+      dead = dead;
+      brought = ap (λ y. if y then now_replied r (id_state past id) else id_state past id) (eq-eqb id id refl) ∙ ap (now_replied r) p.state;
+      small = small;
+    } in
     let core_is : take_leaves old id r (at old id) ≡ queued_last old id (request.Close h) false = ap (take_leaves old id r) x.here ∙ ap (λ w. answered old id r x.kind w) unwanted in
     let close : Entry = entry.Event (Submit owner.Close id (request.Close h)) in
     let k : Closed s None (close ∷ now) (queued_last old id (request.Close h) false) states begun [] =
-        close_closed s None now old (queued_last old id (request.Close h) false) states begun [] [] p.place id h d (put_here old.table id (Waiting expected.Status false false)) (λ q ne. submit_elsewhere old id (request.Close h) false q ne)
-        (core_asked s now old owner.Close id (request.Close h) false d.work) (λ q ne. refl) in
-    let after : Due s (close ∷ now) None = subst (λ (y : Entry). Due s (y ∷ now) None) (sym (close_is now p.place id p.asked h d.brought)) (due_own s now p.place id orphan_is due) in
-    (m.0, (next, (closes_to s None now old states begun [] p.place id h d, (due_next s now p.place close refl orphan_is (must_close s None now old states begun [] p.place id h d),
-    subst (λ (c : Core). IsTied s (close ∷ now) c states begun) (sym core_is)
-    (record { still = still_of_due s (close ∷ now) refl after; rest = record { good = k.good; due = after; gone = k.gone; work = k.work; table = k.table; count = k.count; each = λ l st is. k.each l st refl is; runs = k.runs } })))))
+    close_closed s None now old (queued_last old id (request.Close h) false) states begun [] [] p.place id h d (put_here old.table id (Waiting expected.Status false false)) (λ q ne. submit_elsewhere old id (request.Close h) false q ne)
+    (core_asked s now old owner.Close id (request.Close h) false d.work) (λ q ne. refl) in
+    let after : Due s (close ∷ now) None = subst (λ (y : Entry). Due s (y ∷ now) None) (sym (close_is now p.place id p.asked h d.brought)) (due_own s now p.place id orphan_is due) in (
+      m.0,
+      (
+        next,
+        (
+          closes_to s None now old states begun [] p.place id h d,
+          (
+            due_next s now p.place close refl orphan_is (must_close s None now old states begun [] p.place id h d),
+            subst (λ (c : Core). IsTied s (close ∷ now) c states begun) (sym core_is)
+                (record { still = still_of_due s (close ∷ now) refl after; rest = record { good = k.good; due = after; gone = k.gone; work = k.work; table = k.table; count = k.count; each = λ l st is. k.each l st refl is; runs = k.runs } }),
+          ),
+        ),
+      ),
+    )
   where
     no_users : (t : Setting) (w : List Entry) (q : ℕ) (o : Owner) (y : Request) → CameBy t q o y → ((k : ℕ) → k < length t.lanes → has_grant (held_site t w k) q ≡ false) → users_of (slots_of t w) [] o q ≡ 0
     no_users t w q (owner.Call lane c) y came none = let zero_users = none_uses q (slots_of t w lane) (none lane came.0) in omega (arith, zero_users)

@@ -192,9 +192,19 @@ moves_between s past lane old new states begun before after o out left e k =
     let other : (w : ℕ) → lane ≢ w → SameLane s past now w = (λ w ne. same_end s past lane (ended past lane) w o ne) in
     let i : InSlot s past lane k.slot k.file = in_slot s past lane k.slot before k.file mine k.held in
     let place_is : i.place ≡ k.place = (let both : slots.File (file_at i.place k.file) ≡ slots.File (file_at k.place k.file) = sym i.is ∙ k.was in ap (λ g. (λ (x : Option ℕ). number x) (grant_of g)) both) in
-    let mine_now : SlotTied now lane (Some k.further) slot_new =
-        (k.place, (refl, record { asked = i.owned.asked; call = i.owned.call; by = i.owned.by; before = later_call past lane o d.ends i.owned.call i.owned.before;
-          brought = ap (λ (x : GrantValue). id_state past x.id) k.grant ∙ i.owned.brought ∙ ap (λ g. Replied g i.owned.asked (reply.Handle k.file.grant.handle)) place_is ∙ ap (λ (x : GrantValue). Replied k.place i.owned.asked (reply.Handle x.handle)) (sym k.grant) })) in
+    let mine_now : SlotTied now lane (Some k.further) slot_new = (
+      k.place,
+      (
+        refl,
+        record {
+          asked = i.owned.asked;
+          call = i.owned.call;
+          by = i.owned.by;
+          before = later_call past lane o d.ends i.owned.call i.owned.before;
+          brought = ap (λ (x : GrantValue). id_state past x.id) k.grant ∙ i.owned.brought ∙ ap (λ g. Replied g i.owned.asked (reply.Handle k.file.grant.handle)) place_is ∙ ap (λ (x : GrantValue). Replied k.place i.owned.asked (reply.Handle x.handle)) (sym k.grant);
+        },
+      ),
+    ) in
     end_between s past lane old new states begun before after o left [] None (steady_of s past old states begun e.tied) e.here e.same_ended e.idle d e.good (plain_work s past lane old new b.work k.plain)
     (plain_table s past now lane old new b.good.run (λ i. refl) (λ w ne. (other w ne).ends) d.ends (λ w ne. ap (λ (x : Site). x.slots) (other w ne).held)
     (λ q. ap (λ (x : Site). users_in q x.slots) (d.held ∙ k.leaves) ∙ users_kept q site.slots k.slot slot_new (alike q)) b.table k.plain)
@@ -203,9 +213,9 @@ moves_between s past lane old new states begun before after o out left e k =
     (subst (λ files. SlotTied now lane (slice_index_or files j None) (slot_at (with_slot site k.slot slot_new) j)) (sym k.slots)
     (elim (eqb_tells k.slot j) [
       | inl q ↦ subst (λ (m : ℕ). SlotTied now lane (slice_index_or (slice_set before.slots.items k.slot (Some k.further)) m None) (slot_at (with_slot site k.slot slot_new) m)) q.1
-        (rw (set_here before.slots.items k.slot (Some k.further) None (let lt = k.within in let n = mine.sixteen in omega (arith, lt, n))) (rw (set_here site.slots k.slot slot_new slots.Empty within) mine_now))
+          (rw (set_here before.slots.items k.slot (Some k.further) None (let lt = k.within in let n = mine.sixteen in omega (arith, lt, n))) (rw (set_here site.slots k.slot slot_new slots.Empty within) mine_now))
       | inr q ↦ rw (set_there before.slots.items k.slot j (Some k.further) None q.1) (rw (set_there site.slots k.slot j slot_new slots.Empty q.1)
-        (slot_on past now lane (later_call past lane o d.ends) (slice_index_or before.slots.items j None) (slot_at site j) (λ i p a h is has. is) (mine.each j)))
+          (slot_on past now lane (later_call past lane o d.ends) (slice_index_or before.slots.items j None) (slot_at site j) (λ i p a h is has. is) (mine.each j)))
     ])))
     (λ g granted ne h. has_same g ∙ either_is (has_grant site g) (is_unended_asker past lane g) (plain_asker s past lane g old new b.table k.plain granted) h)
     (λ g granted h. left_is (has_grant site g) (is_unended_asker past lane g) (sym (has_same g) ∙ h))

@@ -68,8 +68,8 @@ ended_by s past lane o site run site_now =
       owns = owns;
       held = ap (λ places. held_by (current s now lane) places (site_of s now lane)) owns ∙ held_idle (current s now lane) (site_of s now lane) ∙ site_now;
       asker = λ g. ap (λ n. is_asked_by (asked_at past g) lane n) ends
-        ∙ false_of (is_asked_by (asked_at past g) lane (ended past lane + 1))
-        (λ h. let at : list_any (λ p. p == g) [] ≡ true = ap (list_any (λ p. p == g)) (sym (own_fresh s past lane (ended past lane + 1) run (omega arith))) ∙ asker_owns past lane (ended past lane + 1) g h in cc);
+          ∙ false_of (is_asked_by (asked_at past g) lane (ended past lane + 1))
+          (λ h. let at : list_any (λ p. p == g) [] ≡ true = ap (list_any (λ p. p == g)) (sym (own_fresh s past lane (ended past lane + 1) run (omega arith))) ∙ asker_owns past lane (ended past lane + 1) g h in cc);
     }
 
 -- what a lane holds once its call has ended
@@ -101,19 +101,19 @@ end_between s past lane old new states begun before after o site left owed b her
     let mine = b.each lane before here in
     let other : (w : ℕ) → lane ≢ w → SameLane s past now w = (λ w ne. same_end s past lane (ended past lane) w o ne) in
     let holds_other : (g w : ℕ) → lane ≢ w → holds s now g w ≡ holds s past g w =
-        (λ g w ne i. has_grant ((other w ne).held i) g || is_asked_by (asked_at past g) w ((other w ne).ends i)) in
+    (λ g w ne i. has_grant ((other w ne).held i) g || is_asked_by (asked_at past g) w ((other w ne).ends i)) in
     let forth_all : (g w : ℕ) → is_grant past g ≡ true → is_at owed g ≡ false → holds s past g w ≡ true → holds s now g w ≡ true =
-        (λ g w granted ne h. elim (eqb_tells lane w) [
-          | inl q ↦ subst (λ (l : ℕ). holds s now g l ≡ true) q.1 (left_is (has_grant (held_site s now lane) g) (is_unended_asker now lane g)
-            (ap (λ x. has_grant x g) d.held ∙ forth g granted ne (subst (λ (l : ℕ). holds s past g l ≡ true) (sym q.1) h)))
-          | inr q ↦ holds_other g w q.1 ∙ h
-        ]) in
+    (λ g w granted ne h. elim (eqb_tells lane w) [
+      | inl q ↦ subst (λ (l : ℕ). holds s now g l ≡ true) q.1 (left_is (has_grant (held_site s now lane) g) (is_unended_asker now lane g)
+          (ap (λ x. has_grant x g) d.held ∙ forth g granted ne (subst (λ (l : ℕ). holds s past g l ≡ true) (sym q.1) h)))
+      | inr q ↦ holds_other g w q.1 ∙ h
+    ]) in
     let back_all : (g w : ℕ) → is_grant past g ≡ true → holds s now g w ≡ true → holds s past g w ≡ true =
-        (λ g w granted h. elim (eqb_tells lane w) [
-          | inl q ↦ subst (λ (l : ℕ). holds s past g l ≡ true) q.1 (back g granted (sym (ap (λ x. has_grant x g) d.held)
-            ∙ either_is (has_grant (held_site s now lane) g) (is_unended_asker now lane g) (d.asker g) (subst (λ (l : ℕ). holds s now g l ≡ true) (sym q.1) h)))
-          | inr q ↦ sym (holds_other g w q.1) ∙ h
-        ]) in
+    (λ g w granted h. elim (eqb_tells lane w) [
+      | inl q ↦ subst (λ (l : ℕ). holds s past g l ≡ true) q.1 (back g granted (sym (ap (λ x. has_grant x g) d.held)
+          ∙ either_is (has_grant (held_site s now lane) g) (is_unended_asker now lane g) (d.asker g) (subst (λ (l : ℕ). holds s now g l ≡ true) (sym q.1) h)))
+      | inr q ↦ sym (holds_other g w q.1) ∙ h
+    ]) in
     record {
       good = good;
       due = due_on s past now owed (λ g. refl) refl forth_all loose b.due;
@@ -123,12 +123,12 @@ end_between s past lane old new states begun before after o site left owed b her
       count = set_count states lane (one_more after) ∙ b.count;
       each = λ l st is. elim (set_or_other states lane (one_more after) l st is) [
         | inl h ↦ subst (λ (k : ℕ). LaneTied s now k st) h.0 (subst (λ (x : LaneState). LaneTied s now lane x) h.1 (record {
-            ends = (let e = mine.ends in let f = d.ends in omega (arith, same_ended, e, f));
-            sixteen = sixteen;
-            slots = ap (λ (x : Site). length x.slots) d.held ∙ slots;
-            each = λ k. subst (λ (x : Site). SlotTied now lane (slice_index_or after.slots.items k None) (slot_at x k)) (sym d.held) (each k);
-            runs = subst (λ (x : Running). RunTied s now lane after.slots.items x) (sym idle) d.owns;
-          }))
+          ends = (let e = mine.ends in let f = d.ends in omega (arith, same_ended, e, f));
+          sixteen = sixteen;
+          slots = ap (λ (x : Site). length x.slots) d.held ∙ slots;
+          each = λ k. subst (λ (x : Site). SlotTied now lane (slice_index_or after.slots.items k None) (slot_at x k)) (sym d.held) (each k);
+          runs = subst (λ (x : Running). RunTied s now lane after.slots.items x) (sym idle) d.owns;
+        }))
         | inr h ↦ lane_on s past now l st (other l h.0) (record { grants = λ i p a hh is has. is; asks = λ i p a borne live. borne }) (b.each l st h.1)
       ];
       runs = λ l st any is. let was = but_begun begun lane l any in elim (set_or_other states lane (one_more after) l st is) [

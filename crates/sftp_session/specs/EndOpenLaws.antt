@@ -85,17 +85,17 @@ opens_between s past lane old new states begun before after o out left e k =
     let other : (w : ℕ) → lane ≢ w → SameLane s past now w = (λ w ne. same_end s past lane (ended past lane) w o ne) in
     let slots_now : slots_of s now lane ≡ slice_set site.slots k.slot put = ap (λ (x : Site). x.slots) (d.held ∙ k.leaves) in
     let unused : has_grant site place ≡ false = false_of (has_grant site place) (λ has.
-        let owned : AskedFor past lane place = lane_owned s past lane place before mine has in
-        let same : owned.asked ≡ b = (let both : Some owned.asked ≡ Some b = sym owned.at ∙ at_place in cc) in
-        let owners : owner.Call lane owned.call ≡ owner.Call lane (ended past lane) = sym owned.by ∙ ap (λ (x : Asked). x.by) same in
-        let call_is : owned.call ≡ ended past lane = cc in
-        let lt : owned.call < ended past lane = owned.before in absurd (omega (arith, call_is, lt))) in
+    let owned : AskedFor past lane place = lane_owned s past lane place before mine has in
+    let same : owned.asked ≡ b = (let both : Some owned.asked ≡ Some b = sym owned.at ∙ at_place in cc) in
+    let owners : owner.Call lane owned.call ≡ owner.Call lane (ended past lane) = sym owned.by ∙ ap (λ (x : Asked). x.by) same in
+    let call_is : owned.call ≡ ended past lane = cc in
+    let lt : owned.call < ended past lane = owned.before in absurd (omega (arith, call_is, lt))) in
     let users : users_in place (slots_of s now lane) + users_in place (had ∷ []) ≡ 1 =
-        (let counts = users_set place site.slots k.slot put within in
-        let none = none_uses place site.slots unused in
-        let one : one_if (slot_has place put) ≡ 1 = ap one_if (eq-eqb place place refl) in
-        let same : users_in place (slots_of s now lane) ≡ users_in place (slice_set site.slots k.slot put) = ap (users_in place) slots_now in
-        omega (arith, counts, none, one, same)) in
+    (let counts = users_set place site.slots k.slot put within in
+    let none = none_uses place site.slots unused in
+    let one : one_if (slot_has place put) ≡ 1 = ap one_if (eq-eqb place place refl) in
+    let same : users_in place (slots_of s now lane) ≡ users_in place (slice_set site.slots k.slot put) = ap (users_in place) slots_now in
+    omega (arith, counts, none, one, same)) in
     put_between s past lane old new states begun before after o left k.slot (Some k.file) put e k.within k.leaves k.slots
     (place, (refl, record { asked = b; call = ended past lane; by = refl; before = (let n = d.ends in omega (arith, n)); brought = state }))
     (λ g has. subst (λ (n : ℕ). is_unended_asker past lane n ≡ true) (file_is g place k.file has) asks)
@@ -104,8 +104,8 @@ opens_between s past lane old new states begun before after o out left e k =
     (subst (λ (x : Core). Tabled s now (had ∷ []) (at x)) (sym p.core)
     (end_tabled_one s past now lane t place b (had ∷ []) (at old) (at (polled_core old (Asking t))) rest.good.run (λ i. refl) (λ w ne. (other w ne).ends) d.ends p.asks.own p.asks.borne
     (λ i ne. put_users s past now lane k.slot put (id_state past i) within (λ w ne2. ap (λ (x : Site). x.slots) (other w ne2).held) slots_now
-      (λ q a r is. false_of (slot_has q put) (λ has. ne (borne_apart past i t place a b r (reply.Handle h) (subst (λ (n : ℕ). id_state past i ≡ Replied n a r) (sym (file_is q place k.file has)) is) state)))
-      (λ q a r w c is by ne2. had_apart s past lane k.slot i q w c a r before mine is by ne2))
+    (λ q a r is. false_of (slot_has q put) (λ has. ne (borne_apart past i t place a b r (reply.Handle h) (subst (λ (n : ℕ). id_state past i ≡ Replied n a r) (sym (file_is q place k.file has)) is) state)))
+    (λ q a r w c is by ne2. had_apart s past lane k.slot i q w c a r before mine is by ne2))
     (λ i ne. polled_elsewhere old t i ne)
     (polled_granted old t (reply.Handle h) h p.answered refl
     ∙ sym (ap (stand (ended now) (slots_of s now) (had ∷ [])) state
@@ -137,5 +137,5 @@ frees_between s past lane old new states begun before after o out left e k =
     (subst (λ (x : Core). Tabled s now (slot_at site k.slot ∷ []) (at x)) (sym k.unasked.core)
     (end_tabled s past now lane (slot_at site k.slot ∷ []) (at old) rest.good.run (λ i. refl) (λ w ne. (other w ne).ends) d.ends k.unasked.own
     (λ i. put_users s past now lane k.slot slots.Empty (id_state past i) within (λ w ne2. ap (λ (x : Site). x.slots) (other w ne2).held) (ap (λ (x : Site). x.slots) (d.held ∙ k.leaves))
-      (λ q a r is. refl)
-      (λ q a r w c is by ne2. had_apart s past lane k.slot i q w c a r before mine is by ne2)) rest.table))
+    (λ q a r is. refl)
+    (λ q a r w c is by ne2. had_apart s past lane k.slot i q w c a r before mine is by ne2)) rest.table))

@@ -101,10 +101,10 @@ put_users s past now lane slot new x within others mine none_new apart p a r is 
     by_owner : (by : Owner) → a.by ≡ by → users_of (slots_of s now) (slot_at (held_site s past lane) slot ∷ []) by p ≡ users_of (slots_of s past) [] by p
     by_owner (owner.Call w c) e = elim (eqb_tells lane w) [
       | inl d ↦ subst (λ (k : ℕ). users_in p (slots_of s now k) + (one_if (slot_has p (slot_at (held_site s past lane) slot)) + 0) ≡ users_in p (slots_of s past k) + 0) d.1
-        (let counts = users_set p (held_site s past lane).slots slot new within in
-        let missing : one_if (slot_has p new) ≡ 0 = ap one_if (none_new p a r is) in
-        let here : users_in p (slots_of s now lane) ≡ users_in p (slice_set (held_site s past lane).slots slot new) = ap (users_in p) mine in
-        omega (arith, counts, missing, here))
+          (let counts = users_set p (held_site s past lane).slots slot new within in
+          let missing : one_if (slot_has p new) ≡ 0 = ap one_if (none_new p a r is) in
+          let here : users_in p (slots_of s now lane) ≡ users_in p (slice_set (held_site s past lane).slots slot new) = ap (users_in p) mine in
+          omega (arith, counts, missing, here))
       | inr d ↦ (let missing : one_if (slot_has p (slot_at (held_site s past lane) slot)) ≡ 0 = ap one_if (apart p a r w c is e d.1) in
           let same : users_in p (slots_of s now w) ≡ users_in p (slots_of s past w) = ap (users_in p) (others w d.1) in omega (arith, missing, same))
     ]
@@ -138,9 +138,9 @@ put_between s past lane old new states begun before after o left slot f put e sm
     (λ j. subst (λ files. SlotTied now lane (slice_index_or files j None) (slot_at left j)) (sym slots_are)
     (elim (eqb_tells slot j) [
       | inl q ↦ subst (λ (m : ℕ). SlotTied now lane (slice_index_or (slice_set before.slots.items slot f) m None) (slot_at left m)) q.1
-        (rw (set_here before.slots.items slot f None (let n = mine.sixteen in omega (arith, small, n))) (subst (λ (x : Slot). SlotTied now lane f x) (sym put_here_is) tied))
+          (rw (set_here before.slots.items slot f None (let n = mine.sixteen in omega (arith, small, n))) (subst (λ (x : Slot). SlotTied now lane f x) (sym put_here_is) tied))
       | inr q ↦ rw (set_there before.slots.items slot j f None q.1) (subst (λ (x : Slot). SlotTied now lane (slice_index_or before.slots.items j None) x) (sym (put_other j q.1))
-        (slot_on past now lane (later_call past lane o d.ends) (slice_index_or before.slots.items j None) (slot_at site j) (λ i p a h is has. is) (mine.each j)))
+          (slot_on past now lane (later_call past lane o d.ends) (slice_index_or before.slots.items j None) (slot_at site j) (λ i p a h is has. is) (mine.each j)))
     ]))
     (λ g granted ne h. elim (either (has_grant site g) (is_unended_asker past lane g) h) [
       | inr asks ↦ slot_uses g left.slots slot (ap (slot_has g) put_here_is ∙ askers g granted asks)
@@ -166,8 +166,8 @@ put_between s past lane old new states begun before after o left slot f put e sm
             (λ i. has_grant ((other l q.1).held i) g || is_asked_by (asked_at past g) l ((other l q.1).ends i)) ∙ rw (free, asker) refl)
       ]);
       unclosed = false_of (is_one_of (closed s past) g) (λ h.
-      let held : is_held s past g ≡ true = any_passes (holds s past g) (length s.lanes) lane there (left_is (has_grant site g) (is_unended_asker past lane g) (had_grant g w.0)) in
-      let unheld : is_held s past g ≡ false = (b.gone g h).1 in cc);
+          let held : is_held s past g ≡ true = any_passes (holds s past g) (length s.lanes) lane there (left_is (has_grant site g) (is_unended_asker past lane g) (had_grant g w.0)) in
+          let unheld : is_held s past g ≡ false = (b.gone g h).1 in cc);
     }))
   where
     either : (x y : Bool) → (x || y) ≡ true → (x ≡ true) ⊎ (y ≡ true)

@@ -91,8 +91,8 @@ between_shared s past core states begun lane f had x more =
     let owned = x.tied.1.1 in
     let users = freed_users s past core states begun lane f had x in
     let has : has_grant (held_site s past lane) place ≡ true =
-        some_slot (has_grant (held_site s past lane) place) refl
-        (λ none. let nothing = none_uses place (slots_of s past lane) none in let clash : (users_at (at core f.grant.id) == 1) ≡ true = eq-eqb (users_at (at core f.grant.id)) 1 (omega (arith, users, nothing)) in cc) in
+    some_slot (has_grant (held_site s past lane) place) refl
+    (λ none. let nothing = none_uses place (slots_of s past lane) none in let clash : (users_at (at core f.grant.id) == 1) ≡ true = eq-eqb (users_at (at core f.grant.id)) 1 (omega (arith, users, nothing)) in cc) in
     let owes : owed_by (held_site s past lane) had ≡ None = owed_file (held_site s past lane) place f had x.tied.1.0 ∙ ap (λ y. if y then None else Some place) has in
     let due : Due s past None = subst (λ (o : Option ℕ). Due s past o) owes b.due in
     let c : Sharing core (let_go core f.grant) f.grant (users_at (at core f.grant.id)) = let_go_shares core f.grant more in
@@ -105,13 +105,13 @@ between_shared s past core states begun lane f had x more =
         work = c.work s past b.work;
         table = λ i. elim (eqb_tells i f.grant.id) [
           | inl q ↦ subst (λ (k : ℕ). at (let_go core f.grant) k ≡ stand (ended past) (slots_of s past) [] (id_state past k)) (sym q.1)
-            (c.here ∙ ap (λ n. Some (Granted f.grant.handle n)) (omega (arith, users))
-            ∙ sym (ap (stand (ended past) (slots_of s past) []) owned.brought
-            ∙ ap (λ live. replied live (expected_of owned.asked.request) (reply.Handle f.grant.handle) (users_of (slots_of s past) [] owned.asked.by place)) (not_live past lane owned.call owned.asked.by owned.by owned.before)
-            ∙ ap (λ by. Some (Granted f.grant.handle (users_of (slots_of s past) [] by place))) owned.by))
+              (c.here ∙ ap (λ n. Some (Granted f.grant.handle n)) (omega (arith, users))
+              ∙ sym (ap (stand (ended past) (slots_of s past) []) owned.brought
+              ∙ ap (λ live. replied live (expected_of owned.asked.request) (reply.Handle f.grant.handle) (users_of (slots_of s past) [] owned.asked.by place)) (not_live past lane owned.call owned.asked.by owned.by owned.before)
+              ∙ ap (λ by. Some (Granted f.grant.handle (users_of (slots_of s past) [] by place))) owned.by))
           | inr q ↦ c.elsewhere i q.1 ∙ b.table i ∙ stand_same (ended past) (slots_of s past) (slots_of s past) (had ∷ []) [] (id_state past i)
-            (λ o p a w is. users_same (slots_of s past) (slots_of s past) (had ∷ []) [] p
-            (λ l. ap (λ n. users_in p (slots_of s past l) + n) (sym (freed_none s past core states begun lane f had x i p a w is q.1))) o)
+              (λ o p a w is. users_same (slots_of s past) (slots_of s past) (had ∷ []) [] p
+              (λ l. ap (λ n. users_in p (slots_of s past l) + n) (sym (freed_none s past core states begun lane f had x i p a w is q.1))) o)
         ];
         count = b.count;
         each = b.each;
@@ -137,23 +137,25 @@ freed_due s past core states begun lane f had x one small =
     let is_one : users_at (at core f.grant.id) ≡ 1 = grind (arith, nat_tests) in
     let nothing : has_grant (held_site s past lane) place ≡ false = uses_none place (slots_of s past lane) (omega (arith, users, is_one)) in
     let owes : owed_by (held_site s past lane) had ≡ Some place = owed_file (held_site s past lane) place f had x.tied.1.0 ∙ ap (λ y. if y then None else Some place) nothing in
-    let due : Due s past (Some place) = subst (λ (o : Option ℕ). Due s past o) owes b.due in
-    (due, record {
-      good = b.good;
-      orphan = orphan_due s past place x.letting due;
-      granted = due.loose.granted;
-      unheld = due.loose.unheld;
-      gone = b.gone;
-      work = b.work;
-      table = (at core, (b.table, λ q ne. refl));
-      count = b.count;
-      each = λ l st out is. b.each l st is;
-      runs = b.runs;
-      asked = owned.asked;
-      dead = not_live past lane owned.call owned.asked.by owned.by owned.before;
-      brought = owned.brought;
-      small = small;
-    })
+    let due : Due s past (Some place) = subst (λ (o : Option ℕ). Due s past o) owes b.due in (
+      due,
+      record {
+        good = b.good;
+        orphan = orphan_due s past place x.letting due;
+        granted = due.loose.granted;
+        unheld = due.loose.unheld;
+        gone = b.gone;
+        work = b.work;
+        table = (at core, (b.table, λ q ne. refl));
+        count = b.count;
+        each = λ l st out is. b.each l st is;
+        runs = b.runs;
+        asked = owned.asked;
+        dead = not_live past lane owned.call owned.asked.by owned.by owned.before;
+        brought = owned.brought;
+        small = small;
+      },
+    )
 
 pub between_last : (s : Setting) (past : List Entry) (core : Core) (states : List LaneState) (begun : List ℕ) (lane : ℕ) (f : FileValue) (had : Slot) → Freed s past core states begun lane f had
     → (users_at (at core f.grant.id) == 1) ≡ true → f.grant.id < 2 ^ 32
@@ -167,8 +169,11 @@ between_last s past core states begun lane f had x one small =
     let d = both.1 in
     let c : Closing core (let_go core f.grant) f.grant.id f.grant.handle = let_go_closes core f.grant one in
     let k : Closed s None (e ∷ past) (let_go core f.grant) states begun [] =
-        close_closed s None past core (let_go core f.grant) states begun (had ∷ []) [] place f.grant.id f.grant.handle d c.here c.elsewhere (c.work s past x.between.work) (λ p ne. freed_other had place p f x.tied.1.0 ne) in
-    let due : Due s (e ∷ past) None = subst (λ (y : Entry). Due s (y ∷ past) None) (sym (close_is past place f.grant.id d.asked f.grant.handle d.brought)) (due_own s past place f.grant.id d.orphan both.0) in
-    (closes_to s None past core states begun (had ∷ []) place f.grant.id f.grant.handle d,
-    (due_next s past place e x.between.good.calm d.orphan (must_close s None past core states begun (had ∷ []) place f.grant.id f.grant.handle d),
-    record { still = still_of_due s (e ∷ past) x.letting due; rest = record { good = k.good; due = due; gone = k.gone; work = k.work; table = k.table; count = k.count; each = λ l st is. k.each l st refl is; runs = k.runs } }))
+    close_closed s None past core (let_go core f.grant) states begun (had ∷ []) [] place f.grant.id f.grant.handle d c.here c.elsewhere (c.work s past x.between.work) (λ p ne. freed_other had place p f x.tied.1.0 ne) in
+    let due : Due s (e ∷ past) None = subst (λ (y : Entry). Due s (y ∷ past) None) (sym (close_is past place f.grant.id d.asked f.grant.handle d.brought)) (due_own s past place f.grant.id d.orphan both.0) in (
+      closes_to s None past core states begun (had ∷ []) place f.grant.id f.grant.handle d,
+      (
+        due_next s past place e x.between.good.calm d.orphan (must_close s None past core states begun (had ∷ []) place f.grant.id f.grant.handle d),
+        record { still = still_of_due s (e ∷ past) x.letting due; rest = record { good = k.good; due = due; gone = k.gone; work = k.work; table = k.table; count = k.count; each = λ l st is. k.each l st refl is; runs = k.runs } },
+      ),
+    )

@@ -99,10 +99,10 @@ pub due_on : (s : Setting) (past now : List Entry) (due : Option ℕ) → ((g : 
 due_on s past now due grants gone holds_on loose d =
     record {
       each = λ g granted unclosed other.
-      (let granted_past : is_grant past g ≡ true = sym (grants g) ∙ granted in
-      let unclosed_past : is_one_of (closed s past) g ≡ false = sym (ap (λ c. is_one_of c g) gone) ∙ unclosed in
-      let who = any_where (holds s past g) (length s.lanes) (d.each g granted_past unclosed_past refl) in
-      any_passes (holds s now g) (length s.lanes) who.0 who.1.0 (holds_on g who.0 granted_past other who.1.1));
+          (let granted_past : is_grant past g ≡ true = sym (grants g) ∙ granted in
+          let unclosed_past : is_one_of (closed s past) g ≡ false = sym (ap (λ c. is_one_of c g) gone) ∙ unclosed in
+          let who = any_where (holds s past g) (length s.lanes) (d.each g granted_past unclosed_past refl) in
+          any_passes (holds s now g) (length s.lanes) who.0 who.1.0 (holds_on g who.0 granted_past other who.1.1));
       loose = loose;
     }
 
@@ -143,10 +143,10 @@ pub due_close : (s : Setting) (past now : List Entry) (g : ℕ) (due : Option �
 due_close s past now g due grants gone only_g holds_on d =
     record {
       each = λ k granted unclosed other.
-      (let left = open_still g k (closed s past) (sym (ap (λ c. is_one_of c k) gone) ∙ unclosed) in
-      let granted_past : is_grant past k ≡ true = sym (grants k) ∙ granted in
-      let who = any_where (holds s past k) (length s.lanes) (d.each k granted_past left.1 (only_g k left.0)) in
-      any_passes (holds s now k) (length s.lanes) who.0 who.1.0 (holds_on k who.0 granted_past left.0 who.1.1));
+          (let left = open_still g k (closed s past) (sym (ap (λ c. is_one_of c k) gone) ∙ unclosed) in
+          let granted_past : is_grant past k ≡ true = sym (grants k) ∙ granted in
+          let who = any_where (holds s past k) (length s.lanes) (d.each k granted_past left.1 (only_g k left.0)) in
+          any_passes (holds s now k) (length s.lanes) who.0 who.1.0 (holds_on k who.0 granted_past left.0 who.1.1));
       loose = tt;
     }
 

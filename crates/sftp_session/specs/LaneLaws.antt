@@ -66,24 +66,44 @@ asks_on s past now lane id r same keeps a =
       place = a.place;
       own = ap (own now lane) (sym ends) ∙ same.owns ∙ a.own;
       borne = subst (λ (k : ℕ). IsBorne (id_state now id) a.place (record { by = owner.Call lane k; id = id; request = r })) ends
-        (keeps.asks id a.place (record { by = owner.Call lane (ended past lane); id = id; request = r }) a.borne (live_now past lane));
+          (keeps.asks id a.place (record { by = owner.Call lane (ended past lane); id = id; request = r }) a.borne (live_now past lane));
     }
 
 runs_on : (s : Setting) (past now : List Entry) (lane : ℕ) (files : List (Option FileValue)) → SameLane s past now lane → Keeps s past now lane → (x : Running) → RunTied s past lane files x → RunTied s now lane files x
 runs_on s past now lane files same keeps running.Idle r = ap (own now lane) same.ends ∙ same.owns ∙ r
 runs_on s past now lane files same keeps (running.Open o) r =
     record {
-      slot = r.slot; options = r.options; path = r.path; ticket = r.ticket; call = same.call ∙ r.call; stage = r.stage; readable = r.readable; writable = r.writable;
+      slot = r.slot;
+      options = r.options;
+      path = r.path;
+      ticket = r.ticket;
+      call = same.call ∙ r.call;
+      stage = r.stage;
+      readable = r.readable;
+      writable = r.writable;
       asks = asks_on s past now lane r.ticket _ same keeps r.asks;
     }
 runs_on s past now lane files same keeps (running.Read o) r =
     record {
-      slot = r.slot; n = r.n; ticket = r.ticket; file = r.file; call = same.call ∙ r.call; stage = r.stage; held = r.held; of_file = r.of_file;
+      slot = r.slot;
+      n = r.n;
+      ticket = r.ticket;
+      file = r.file;
+      call = same.call ∙ r.call;
+      stage = r.stage;
+      held = r.held;
+      of_file = r.of_file;
       asks = asks_on s past now lane r.ticket _ same keeps r.asks;
     }
 runs_on s past now lane files same keeps (running.Close o) r =
     record {
-      slot = r.slot; ticket = r.ticket; file = r.file; handle = r.handle; call = same.call ∙ r.call; is = r.is; held = ap (λ (x : Site). slot_at x r.slot) same.site ∙ r.held;
+      slot = r.slot;
+      ticket = r.ticket;
+      file = r.file;
+      handle = r.handle;
+      call = same.call ∙ r.call;
+      is = r.is;
+      held = ap (λ (x : Site). slot_at x r.slot) same.site ∙ r.held;
       asks = asks_on s past now lane r.ticket _ same keeps r.asks;
     }
 

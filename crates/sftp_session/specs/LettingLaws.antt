@@ -181,15 +181,15 @@ let_go_users s past core states begun lane state m i p a w is = by_owner a.by re
     by_owner : (o : Owner) → a.by ≡ o → users_of (slots_of s (entry.LetGo lane ∷ past)) (site_of s past lane).slots o p ≡ users_of (slots_of s past) [] o p
     by_owner (owner.Call l c) e = elim (eqb_tells lane l) [
       | inl q ↦ subst (λ (k : ℕ). users_in p (slots_of s (entry.LetGo lane ∷ past) k) + users_in p (site_of s past lane).slots ≡ users_in p (slots_of s past k) + 0) q.1
-        (let bare : users_in p (slots_of s (entry.LetGo lane ∷ past) lane) ≡ 0 = ap (users_in p) (let_go_slots s past lane m.done) in
-        let same : users_in p (slots_of s past lane) ≡ users_in p (site_of s past lane).slots = ap (λ (x : Site). users_in p x.slots) (site_held s past lane m.done) in
-        omega (arith, bare, same))
+          (let bare : users_in p (slots_of s (entry.LetGo lane ∷ past) lane) ≡ 0 = ap (users_in p) (let_go_slots s past lane m.done) in
+          let same : users_in p (slots_of s past lane) ≡ users_in p (site_of s past lane).slots = ap (λ (x : Site). users_in p x.slots) (site_held s past lane m.done) in
+          omega (arith, bare, same))
       | inr q ↦ (let free : has_grant (site_of s past lane) p ≡ false = false_of (has_grant (site_of s past lane) p) (λ has.
-            let owned : AskedFor past lane p = lane_owned s past lane p state (m.tied.rest.each lane state m.here) (ap (λ x. has_grant x p) (site_held s past lane m.done) ∙ has) in
-            let there : asked_at past p ≡ Some a = (subst (Reads past i) is (reads past i)).2 in
-            let same : owned.asked ≡ a = (let both : Some owned.asked ≡ Some a = sym owned.at ∙ there in cc) in
-            let owners : owner.Call lane owned.call ≡ owner.Call l c = sym owned.by ∙ ap (λ (x : Asked). x.by) same ∙ e in
-            q.1 cc) in
+          let owned : AskedFor past lane p = lane_owned s past lane p state (m.tied.rest.each lane state m.here) (ap (λ x. has_grant x p) (site_held s past lane m.done) ∙ has) in
+          let there : asked_at past p ≡ Some a = (subst (Reads past i) is (reads past i)).2 in
+          let same : owned.asked ≡ a = (let both : Some owned.asked ≡ Some a = sym owned.at ∙ there in cc) in
+          let owners : owner.Call lane owned.call ≡ owner.Call l c = sym owned.by ∙ ap (λ (x : Asked). x.by) same ∙ e in
+          q.1 cc) in
           let none = none_uses p (site_of s past lane).slots free in
           let others : users_in p (slots_of s (entry.LetGo lane ∷ past) l) ≡ users_in p (slots_of s past l) = ap (λ (x : Site). users_in p x.slots) (let_go_other s past lane l q.1).held in
           omega (arith, none, others))
@@ -211,7 +211,7 @@ letting_first s past core states begun lane state m =
     let bare : (held_site s now lane).slots ≡ fresh_site.slots = let_go_slots s past lane m.done in
     let fewer : (g w : ℕ) → is_grant past g ≡ true → holds s now g w ≡ true → holds s past g w ≡ true = (λ g w granted h. elim (eqb_tells lane w) [
       | inl q ↦ subst (λ (l : ℕ). holds s past g l ≡ true) q.1
-        (none_left (has_grant (held_site s now lane) g) (is_unended_asker past lane g) (has_grant (held_site s past lane) g) (ap (list_any (slot_has g)) bare ∙ no_fresh g) (subst (λ (l : ℕ). holds s now g l ≡ true) (sym q.1) h))
+          (none_left (has_grant (held_site s now lane) g) (is_unended_asker past lane g) (has_grant (held_site s past lane) g) (ap (list_any (slot_has g)) bare ∙ no_fresh g) (subst (λ (l : ℕ). holds s now g l ≡ true) (sym q.1) h))
       | inr q ↦ sym (ap (λ x. has_grant x g || is_unended_asker past w g) (let_go_other s past lane w q.1).held) ∙ h
     ]) in
     record {
@@ -229,12 +229,12 @@ letting_first s past core states begun lane state m =
       later = (next, b.good.run);
       passed = tt;
       unclosed = λ g has. false_of (is_one_of (closed s past) g) (λ gone.
-        let had : has_grant (held_site s past lane) g ≡ true = ap (λ x. has_grant x g) held ∙ has in
-        let there : lane < length s.lanes = (let n = b.count in let lt = slice_get_within states lane state m.here in omega (arith, n, lt)) in
-        let held_now : is_held s past g ≡ true = any_passes (holds s past g) (length s.lanes) lane there (ap (λ y. y || is_unended_asker past lane g) had) in
-        let unheld : is_held s past g ≡ false = (b.gone g gone).1 in cc);
+          let had : has_grant (held_site s past lane) g ≡ true = ap (λ x. has_grant x g) held ∙ has in
+          let there : lane < length s.lanes = (let n = b.count in let lt = slice_get_within states lane state m.here in omega (arith, n, lt)) in
+          let held_now : is_held s past g ≡ true = any_passes (holds s past g) (length s.lanes) lane there (ap (λ y. y || is_unended_asker past lane g) had) in
+          let unheld : is_held s past g ≡ false = (b.gone g gone).1 in cc);
       owned = λ j le. slot_on past now lane (λ n lt. lt) (slice_index_or state.slots.items j None) (slot_at (site_of s past lane) j) (λ i p a h x has. x)
-        (subst (λ (y : Site). SlotTied past lane (slice_index_or state.slots.items j None) (slot_at y j)) held (mine.each j));
+          (subst (λ (y : Site). SlotTied past lane (slice_index_or state.slots.items j None) (slot_at y j)) held (mine.each j));
       emptied = λ j lt. absurd (omega (arith, lt));
       files_len = mine.sixteen;
       slots_len = ap (λ (x : Site). length x.slots) (sym held) ∙ mine.slots;
@@ -283,18 +283,28 @@ letting_none s past lane now core states begun files k lt none x =
     let c = x.closed_so_far in
     record {
       closed_so_far = record {
-        good = c.good; gone = c.gone; work = c.work; count = c.count; each = c.each; runs = c.runs;
+        good = c.good;
+        gone = c.gone;
+        work = c.work;
+        count = c.count;
+        each = c.each;
+        runs = c.runs;
         table = λ i. subst (λ (y : List Slot). Tabled s now y (at core)) behind c.table i
-          ∙ stand_same (ended now) (slots_of s now) (slots_of s now) (slots.Empty ∷ drop (suc k) site.slots) (drop (suc k) site.slots) (id_state now i)
-          (λ o p a w is. users_same (slots_of s now) (slots_of s now) (slots.Empty ∷ drop (suc k) site.slots) (drop (suc k) site.slots) p (λ l. omega arith) o);
+            ∙ stand_same (ended now) (slots_of s now) (slots_of s now) (slots.Empty ∷ drop (suc k) site.slots) (drop (suc k) site.slots) (id_state now i)
+            (λ o p a w is. users_same (slots_of s now) (slots_of s now) (slots.Empty ∷ drop (suc k) site.slots) (drop (suc k) site.slots) p (λ l. omega arith) o);
       };
-      letting = x.letting; to = x.to; later = x.later;
+      letting = x.letting;
+      to = x.to;
+      later = x.later;
       passed = passed_more (closed s now) site.slots k within x.passed (λ g is. absurd (let clash : None ≡ Some g = sym (ap grant_of empty) ∙ is in cc));
       unclosed = λ g has. x.unclosed g (ap (list_any (slot_has g)) behind ∙ has);
       owned = rest_owned now now lane k site files refl (λ i p a h is has. is) x.owned;
       emptied = λ j le. emptied_more files k j (let n = x.files_len in omega (arith, lt, n)) x.emptied le;
       files_len = set_count files k None ∙ x.files_len;
-      slots_len = x.slots_len; bare = x.bare; ends = x.ends; owns = x.owns;
+      slots_len = x.slots_len;
+      bare = x.bare;
+      ends = x.ends;
+      owns = x.owns;
     }
 
 -- what a file in the next slot is
@@ -334,34 +344,44 @@ letting_shared s past lane now core states begun files k f lt x n more =
     let within : k < length site.slots = (let m = x.slots_len in omega (arith, lt, m)) in
     let users : users_at (at core f.grant.id) ≡ users_in n.place later + 1 = ap (λ p. users_at p) n.stands in
     let has : list_any (slot_has n.place) later ≡ true = true_of (list_any (slot_has n.place) later)
-        (λ none. let nothing = none_uses n.place later none in let clash : (users_at (at core f.grant.id) == 1) ≡ true = eq-eqb (users_at (at core f.grant.id)) 1 (omega (arith, users, nothing)) in cc) in
+    (λ none. let nothing = none_uses n.place later none in let clash : (users_at (at core f.grant.id) == 1) ≡ true = eq-eqb (users_at (at core f.grant.id)) 1 (omega (arith, users, nothing)) in cc) in
     let c = x.closed_so_far in
     let sh : Sharing core (let_go core f.grant) f.grant (users_at (at core f.grant.id)) = let_go_shares core f.grant more in
     let owned = n.owned in
     let bare : users_in n.place (slots_of s now lane) ≡ 0 = ap (users_in n.place) x.bare in
     record {
       closed_so_far = record {
-        good = c.good; gone = c.gone; work = sh.work s now c.work; count = c.count; each = c.each; runs = c.runs;
+        good = c.good;
+        gone = c.gone;
+        work = sh.work s now c.work;
+        count = c.count;
+        each = c.each;
+        runs = c.runs;
         table = λ i. elim (eqb_tells i f.grant.id) [
           | inl q ↦ subst (λ (m : ℕ). at (let_go core f.grant) m ≡ stand (ended now) (slots_of s now) later (id_state now m)) (sym q.1)
-            (sh.here ∙ ap (λ m. Some (Granted f.grant.handle m)) (omega (arith, users, bare))
-            ∙ sym (ap (stand (ended now) (slots_of s now) later) owned.brought
-            ∙ ap (λ live. replied live (expected_of owned.asked.request) (reply.Handle f.grant.handle) (users_of (slots_of s now) later owned.asked.by n.place)) (not_live now lane owned.call owned.asked.by owned.by owned.before)
-            ∙ ap (λ by. Some (Granted f.grant.handle (users_of (slots_of s now) later by n.place))) owned.by))
+              (sh.here ∙ ap (λ m. Some (Granted f.grant.handle m)) (omega (arith, users, bare))
+              ∙ sym (ap (stand (ended now) (slots_of s now) later) owned.brought
+              ∙ ap (λ live. replied live (expected_of owned.asked.request) (reply.Handle f.grant.handle) (users_of (slots_of s now) later owned.asked.by n.place)) (not_live now lane owned.call owned.asked.by owned.by owned.before)
+              ∙ ap (λ by. Some (Granted f.grant.handle (users_of (slots_of s now) later by n.place))) owned.by))
           | inr q ↦ sh.elsewhere i q.1 ∙ subst (λ (y : List Slot). Tabled s now y (at core)) n.behind c.table i
-            ∙ stand_same (ended now) (slots_of s now) (slots_of s now) (slots.File (file_at n.place f) ∷ later) later (id_state now i)
-            (λ o p a w is. users_same (slots_of s now) (slots_of s now) (slots.File (file_at n.place f) ∷ later) later p
-            (λ l. let none : one_if (slot_has p (slots.File (file_at n.place f))) ≡ 0 = ap one_if (ne_eqb n.place p (λ same. q.1 (borne_apart now i f.grant.id p a owned.asked w (reply.Handle f.grant.handle) is (owned.brought ∙ ap (λ (m : ℕ). Replied m owned.asked (reply.Handle f.grant.handle)) same)))) in omega (arith, none)) o)
+              ∙ stand_same (ended now) (slots_of s now) (slots_of s now) (slots.File (file_at n.place f) ∷ later) later (id_state now i)
+              (λ o p a w is. users_same (slots_of s now) (slots_of s now) (slots.File (file_at n.place f) ∷ later) later p
+              (λ l. let none : one_if (slot_has p (slots.File (file_at n.place f))) ≡ 0 = ap one_if (ne_eqb n.place p (λ same. q.1 (borne_apart now i f.grant.id p a owned.asked w (reply.Handle f.grant.handle) is (owned.brought ∙ ap (λ (m : ℕ). Replied m owned.asked (reply.Handle f.grant.handle)) same)))) in omega (arith, none)) o)
         ];
       };
-      letting = x.letting; to = x.to; later = x.later;
+      letting = x.letting;
+      to = x.to;
+      later = x.later;
       passed = passed_more (closed s now) site.slots k within x.passed
-        (λ g is. let same : n.place ≡ g = (let both : Some n.place ≡ Some g = sym (ap grant_of n.is) ∙ is in cc) in ap (λ y. y || is_one_of (closed s now) g) (subst (λ (m : ℕ). list_any (slot_has m) later ≡ true) same has));
+          (λ g is. let same : n.place ≡ g = (let both : Some n.place ≡ Some g = sym (ap grant_of n.is) ∙ is in cc) in ap (λ y. y || is_one_of (closed s now) g) (subst (λ (m : ℕ). list_any (slot_has m) later ≡ true) same has));
       unclosed = λ g h. x.unclosed g (ap (list_any (slot_has g)) n.behind ∙ or_last (slot_has g (slots.File (file_at n.place f))) (list_any (slot_has g) later) h);
       owned = rest_owned now now lane k site files refl (λ i p a h is has2. is) x.owned;
       emptied = λ j le. emptied_more files k j (let m = x.files_len in omega (arith, lt, m)) x.emptied le;
       files_len = set_count files k None ∙ x.files_len;
-      slots_len = x.slots_len; bare = x.bare; ends = x.ends; owns = x.owns;
+      slots_len = x.slots_len;
+      bare = x.bare;
+      ends = x.ends;
+      owns = x.owns;
     }
   where
     true_of : (b : Bool) → (b ≡ false → ⊥) → b ≡ true
@@ -388,19 +408,31 @@ letting_last s past lane now core states begun files k f lt x n one small any =
     let asked_for : AskedFor now lane n.place = owned_asked now lane n.place f owned in
     let open_still : is_one_of (closed s now) n.place ≡ false = x.unclosed n.place (ap (list_any (slot_has n.place)) n.behind ∙ ap (λ b. b || list_any (slot_has n.place) later) (eq-eqb n.place n.place refl)) in
     let orphan_is : orphan s now ≡ Some n.place =
-        ap (orphan_at s now (closed s now)) x.letting ∙ first_passed (closed s now) site.slots k x.passed ∙ ap (first_let_go (closed s now)) n.behind
-        ∙ ap (λ b. if b then first_let_go (closed s now) later else Some n.place) (λ i. none i || open_still i) in
+    ap (orphan_at s now (closed s now)) x.letting ∙ first_passed (closed s now) site.slots k x.passed ∙ ap (first_let_go (closed s now)) n.behind
+    ∙ ap (λ b. if b then first_let_go (closed s now) later else Some n.place) (λ i. none i || open_still i) in
     let unheld : is_held s now n.place ≡ false = any_none (holds s now n.place) (length s.lanes) (λ w below.
-        (let slot_free : has_grant (held_site s now w) n.place ≡ false = elim (eqb_tells lane w) [
-          | inl q ↦ subst (λ (l : ℕ). has_grant (held_site s now l) n.place ≡ false) q.1 (ap (list_any (slot_has n.place)) x.bare ∙ no_fresh n.place)
-          | inr q ↦ false_of (has_grant (held_site s now w) n.place) (λ has. q.1 (one_lane now lane w n.place asked_for
-            (lane_owned s now w n.place _ (c.each w _ (ne_eqb lane w q.1) (slice_get-get_or states w any (let m = c.count in omega (arith, below, m)))) has)))
-        ] in
-        let asker : is_unended_asker now w n.place ≡ false = no_asker now lane w n.place asked_for in rw (slot_free, asker) refl)) in
+    (let slot_free : has_grant (held_site s now w) n.place ≡ false = elim (eqb_tells lane w) [
+      | inl q ↦ subst (λ (l : ℕ). has_grant (held_site s now l) n.place ≡ false) q.1 (ap (list_any (slot_has n.place)) x.bare ∙ no_fresh n.place)
+      | inr q ↦ false_of (has_grant (held_site s now w) n.place) (λ has. q.1 (one_lane now lane w n.place asked_for
+          (lane_owned s now w n.place _ (c.each w _ (ne_eqb lane w q.1) (slice_get-get_or states w any (let m = c.count in omega (arith, below, m)))) has)))
+    ] in
+    let asker : is_unended_asker now w n.place ≡ false = no_asker now lane w n.place asked_for in rw (slot_free, asker) refl)) in
     let d : IsDue s (Some lane) now core states begun (drop k site.slots) n.place f.grant.id f.grant.handle = record {
-        good = c.good; orphan = orphan_is; granted = asked_for.granted; unheld = unheld; gone = c.gone; work = c.work; table = (at core, (c.table, λ q ne. refl));
-        count = c.count; each = c.each; runs = c.runs; asked = owned.asked; dead = not_live now lane owned.call owned.asked.by owned.by owned.before; brought = owned.brought; small = small;
-      } in
+      good = c.good;
+      orphan = orphan_is;
+      granted = asked_for.granted;
+      unheld = unheld;
+      gone = c.gone;
+      work = c.work;
+      table = (at core, (c.table, λ q ne. refl));
+      count = c.count;
+      each = c.each;
+      runs = c.runs;
+      asked = owned.asked;
+      dead = not_live now lane owned.call owned.asked.by owned.by owned.before;
+      brought = owned.brought;
+      small = small;
+    } in
     let e : Entry = entry.Event (Submit owner.Close f.grant.id (request.Close f.grant.handle)) in
     let cl : Closing core (let_go core f.grant) f.grant.id f.grant.handle = let_go_closes core f.grant one in
     let must = must_close s (Some lane) now core states begun (drop k site.slots) n.place f.grant.id f.grant.handle d in
@@ -409,26 +441,29 @@ letting_last s past lane now core states begun files k f lt x n one small any =
     let state : id_state now f.grant.id ≡ Replied n.place owned.asked (reply.Handle f.grant.handle) = owned.brought in
     record {
       closed_so_far = close_closed s (Some lane) now core (let_go core f.grant) states begun (drop k site.slots) later n.place f.grant.id f.grant.handle d cl.here cl.elsewhere (cl.work s now c.work)
-        (λ p ne. sym (ap (users_in p) n.behind ∙ ap (λ b. one_if b + users_in p later) (ne_eqb n.place p (λ same. ne (sym same))) ∙ omega arith));
+          (λ p ne. sym (ap (users_in p) n.behind ∙ ap (λ b. one_if b + users_in p later) (ne_eqb n.place p (λ same. ne (sym same))) ∙ omega arith));
       letting = x.letting;
       to = inr ((n.place, (orphan_is, must)), x.to);
       later = (due_next s now n.place e c.good.calm orphan_is must, x.later);
       passed = subst (λ (y : List (Option ℕ)). Passed y site.slots (suc k)) (sym gone_now)
-        (passed_more (Some n.place ∷ closed s now) site.slots k within (passed_on (closed s now) (Some n.place ∷ closed s now) site.slots k (λ g h. or_last (is_at (Some n.place) g) (is_one_of (closed s now) g) h) x.passed)
-        (λ g was. let same : n.place ≡ g = (let both : Some n.place ≡ Some g = sym (ap grant_of n.is) ∙ was in cc) in
-        or_last (list_any (slot_has g) later) (is_one_of (Some n.place ∷ closed s now) g) (ap (λ b. b || is_one_of (closed s now) g) (eq-eqb n.place g same))));
+          (passed_more (Some n.place ∷ closed s now) site.slots k within (passed_on (closed s now) (Some n.place ∷ closed s now) site.slots k (λ g h. or_last (is_at (Some n.place) g) (is_one_of (closed s now) g) h) x.passed)
+          (λ g was. let same : n.place ≡ g = (let both : Some n.place ≡ Some g = sym (ap grant_of n.is) ∙ was in cc) in
+          or_last (list_any (slot_has g) later) (is_one_of (Some n.place ∷ closed s now) g) (ap (λ b. b || is_one_of (closed s now) g) (eq-eqb n.place g same))));
       unclosed = λ g h. ap (λ y. is_one_of y g) gone_now
-        ∙ ap (λ b. b || is_one_of (closed s now) g) (ne_eqb n.place g (λ same. let had : list_any (slot_has n.place) later ≡ true = subst (λ (m : ℕ). list_any (slot_has m) later ≡ true) (sym same) h in cc))
-        ∙ x.unclosed g (ap (list_any (slot_has g)) n.behind ∙ or_last (slot_has g (slots.File (file_at n.place f))) (list_any (slot_has g) later) h);
+          ∙ ap (λ b. b || is_one_of (closed s now) g) (ne_eqb n.place g (λ same. let had : list_any (slot_has n.place) later ≡ true = subst (λ (m : ℕ). list_any (slot_has m) later ≡ true) (sym same) h in cc))
+          ∙ x.unclosed g (ap (list_any (slot_has g)) n.behind ∙ or_last (slot_has g (slots.File (file_at n.place f))) (list_any (slot_has g) later) h);
       owned = rest_owned now (e ∷ now) lane k site files refl
-        (λ i p a h was has. elim (eqb_tells f.grant.id i) [
-          | inl q ↦ absurd (let same : n.place ≡ p = (let both : Replied n.place owned.asked (reply.Handle f.grant.handle) ≡ Replied p a (reply.Handle h) = sym state ∙ ap (id_state now) q.1 ∙ was in cc) in
-              let had : list_any (slot_has n.place) later ≡ true = subst (λ (m : ℕ). list_any (slot_has m) later ≡ true) (sym same) has in cc)
-          | inr q ↦ rw q.0 was
-        ]) x.owned;
+          (λ i p a h was has. elim (eqb_tells f.grant.id i) [
+            | inl q ↦ absurd (let same : n.place ≡ p = (let both : Replied n.place owned.asked (reply.Handle f.grant.handle) ≡ Replied p a (reply.Handle h) = sym state ∙ ap (id_state now) q.1 ∙ was in cc) in
+                let had : list_any (slot_has n.place) later ≡ true = subst (λ (m : ℕ). list_any (slot_has m) later ≡ true) (sym same) has in cc)
+            | inr q ↦ rw q.0 was
+          ]) x.owned;
       emptied = λ j le. emptied_more files k j (let m = x.files_len in omega (arith, lt, m)) x.emptied le;
       files_len = set_count files k None ∙ x.files_len;
-      slots_len = x.slots_len; bare = x.bare; ends = x.ends; owns = x.owns;
+      slots_len = x.slots_len;
+      bare = x.bare;
+      ends = x.ends;
+      owns = x.owns;
     }
   where
     or_last : (p q : Bool) → q ≡ true → (p || q) ≡ true
@@ -456,32 +491,34 @@ letting_done s past core new now states begun lane before after m same_running s
     let mine = m.tied.rest.each lane before m.here in
     let all_gone : drop 16 site.slots ≡ [] = drop_all site.slots 16 (let n = x.slots_len in omega (arith, n)) in
     let bare_orphan : orphan s now ≡ None = ap (orphan_at s now (closed s now)) x.letting ∙ first_passed (closed s now) site.slots 16 x.passed ∙ ap (first_let_go (closed s now)) all_gone in
-    let still : Still s now = record { settled = bare_orphan; plain = let_go_settled s past now lane m.tied.still.plain m.done x.to bare_orphan } in
-    (bare_orphan, record {
-      still = still;
-      rest = record {
-        good = c.good;
-        due = due_of_still s now still;
-        gone = c.gone;
-        work = c.work;
-        table = subst (λ (y : List Slot). Tabled s now y (at new)) all_gone c.table;
-        count = set_count states lane after ∙ c.count;
-        each = λ l st is. elim (set_or_other states lane after l st is) [
-          | inl h ↦ subst (λ (k : ℕ). LaneTied s now k st) h.0 (subst (λ (y : LaneState). LaneTied s now lane y) h.1 (record {
+    let still : Still s now = record { settled = bare_orphan; plain = let_go_settled s past now lane m.tied.still.plain m.done x.to bare_orphan } in (
+      bare_orphan,
+      record {
+        still = still;
+        rest = record {
+          good = c.good;
+          due = due_of_still s now still;
+          gone = c.gone;
+          work = c.work;
+          table = subst (λ (y : List Slot). Tabled s now y (at new)) all_gone c.table;
+          count = set_count states lane after ∙ c.count;
+          each = λ l st is. elim (set_or_other states lane after l st is) [
+            | inl h ↦ subst (λ (k : ℕ). LaneTied s now k st) h.0 (subst (λ (y : LaneState). LaneTied s now lane y) h.1 (record {
               ends = same_ended ∙ mine.ends ∙ sym x.ends;
               sixteen = x.files_len;
               slots = ap length x.bare;
               each = λ k. rw (all_empty after.slots.items k x.files_len x.emptied) (ap (λ y. slice_index_or y k slots.Empty) x.bare ∙ fresh_empty 16 k);
               runs = subst (λ (y : Running). RunTied s now lane after.slots.items y) (sym (same_running ∙ idle_running before.running mine.runs)) (ap (own now lane) x.ends ∙ x.owns);
             }))
-          | inr h ↦ c.each l st (ne_eqb lane l h.0) h.1
-        ];
-        runs = λ l st any is. elim (set_or_other states lane after l st is) [
-          | inl h ↦ ap (λ (y : LaneState). is_running y.running) (sym h.1) ∙ ap is_running same_running ∙ c.runs lane before (subst (λ (k : ℕ). list_any (λ z. z == k) begun ≡ true) (sym h.0) any) m.here
-          | inr h ↦ c.runs l st any h.1
-        ];
-      };
-    })
+            | inr h ↦ c.each l st (ne_eqb lane l h.0) h.1
+          ];
+          runs = λ l st any is. elim (set_or_other states lane after l st is) [
+            | inl h ↦ ap (λ (y : LaneState). is_running y.running) (sym h.1) ∙ ap is_running same_running ∙ c.runs lane before (subst (λ (k : ℕ). list_any (λ z. z == k) begun ≡ true) (sym h.0) any) m.here
+            | inr h ↦ c.runs l st any h.1
+          ];
+        };
+      },
+    )
   where
     all_empty : (files : List (Option FileValue)) (k : ℕ) → length files ≡ 16 → ((j : ℕ) → j < 16 → slice_index_or files j None ≡ None) → slice_index_or files k None ≡ None
     all_empty files k len empty = by_test (nat_lt k 16) refl

@@ -155,7 +155,7 @@ pub record EndsAs (s : Setting) (past : List Entry) (lane : ℕ) (old new : Core
   pub move : move_of s past lane ≡ Some (Done o site)
   pub idle : after.running ≡ running.Idle
   pub how : SlotsStay s past lane old new before after freed site ⊎ (SlotMoves s past lane old new before after freed site
-    ⊎ (SlotOpens s past lane old new before after freed site ⊎ SlotFrees s past lane old new before after freed site))
+      ⊎ (SlotOpens s past lane old new before after freed site ⊎ SlotFrees s past lane old new before after freed site))
 
 -- what a step makes of a lane's call
 abbrev pub Moves : Setting → List Entry → ℕ → Core → Core → LaneState → LaneState → Moved → Type 0

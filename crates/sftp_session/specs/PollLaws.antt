@@ -18,7 +18,6 @@ use Rattle.sftp_history.specs.Ids.{IdState, Free, Pending, Replied, id_state}
 use Rattle.sftp_session.specs.Tables.{is_live, users_of, replied, stand, slots_of, Tabled}
 use Rattle.sftp_session.specs.Tied.{CoreTied, IsBorne}
 
-
 -- a reply without a handle is taken out
 gone_by : (core : Core) (t : ℕ) (f : Option Fault) (p : Option Place) (y : Reply) → reply_in p ≡ Some y → brings y ≡ None → at (poll_leaves core t f p) t ≡ None
 gone_by core t f (Some (Answered e r)) y is none =

@@ -68,7 +68,7 @@ dropped_ticket core id h (Some (Waiting e sent wanted)) is w =
       here = put_here asked_core.table id (Waiting e sent false) ∙ (λ i. Some (Waiting (kind i) (unsent_still i) false));
       elsewhere = λ q ne. put_elsewhere asked_core.table id (Waiting e sent false) q ne ∙ submit_elsewhere core id (request.Close h) true q ne;
       work = λ s past c. let k = core_asked s past core owner.Close id (request.Close h) true c in
-        record { info = k.info; phase = k.phase; read_len = k.read_len; unfailed = k.unfailed; greeted = k.greeted; queue = k.queue };
+          record { info = k.info; phase = k.phase; read_len = k.read_len; unfailed = k.unfailed; greeted = k.greeted; queue = k.queue };
     }
 dropped_ticket core id h (Some (Answered e r)) is w = absurd cc
 dropped_ticket core id h (Some (Granted handle users)) is w = absurd cc
@@ -155,16 +155,16 @@ close_closed s but past old new states begun left rest g id h d here elsewhere w
       gone = subst (λ (x : Entry). GoneOnly s (x ∷ past)) (sym is) (gone_own s past g id d.orphan d.granted d.unheld d.gone);
       work = work;
       table = submit_tabled s past left rest d.table.0 (at new) owner.Close id r here (λ q ne. elsewhere q ne ∙ d.table.1.1 q ne)
-        (λ i p a w ne was lane. ap (λ n. users_in p (slots_of s past lane) + n) (fewer p (λ same. ne (borne_apart past i id p a d.asked w (reply.Handle h) was (d.brought ∙ ap (λ (n : ℕ). Replied n d.asked (reply.Handle h)) (sym same))))))
-        d.table.1.0;
+          (λ i p a w ne was lane. ap (λ n. users_in p (slots_of s past lane) + n) (fewer p (λ same. ne (borne_apart past i id p a d.asked w (reply.Handle h) was (d.brought ∙ ap (λ (n : ℕ). Replied n d.asked (reply.Handle h)) (sym same))))))
+          d.table.1.0;
       count = d.count;
       each = λ l st out there. lane_on s past (e ∷ past) l st (same_submit s past l owner.Close id r refl)
-        (keeps_submit s past l owner.Close id r
-        (λ p c hh was has. let same : g ≡ p = (let both : Replied g d.asked (reply.Handle h) ≡ Replied p c (reply.Handle hh) = sym d.brought ∙ was in cc) in
-        let nothing : has_grant (held_site s past l) p ≡ false = subst (λ (n : ℕ). has_grant (held_site s past l) n ≡ false) same
+          (keeps_submit s past l owner.Close id r
+          (λ p c hh was has. let same : g ≡ p = (let both : Replied g d.asked (reply.Handle h) ≡ Replied p c (reply.Handle hh) = sym d.brought ∙ was in cc) in
+          let nothing : has_grant (held_site s past l) p ≡ false = subst (λ (n : ℕ). has_grant (held_site s past l) n ≡ false) same
           (held_slot s past g l d.unheld (let n = d.count in let lt = slice_get_within states l st there in omega (arith, n, lt))) in cc)
-        (λ p c borne live. let b : IsBorne (Replied g d.asked (reply.Handle h)) p c = subst (λ (x : IdState). IsBorne x p c) d.brought borne in
-        let alive : is_live (ended past) d.asked.by ≡ true = ap (λ (m : Asked). is_live (ended past) m.by) b.1 ∙ live in let dead = d.dead in cc))
-        (d.each l st out there);
+          (λ p c borne live. let b : IsBorne (Replied g d.asked (reply.Handle h)) p c = subst (λ (x : IdState). IsBorne x p c) d.brought borne in
+          let alive : is_live (ended past) d.asked.by ≡ true = ap (λ (m : Asked). is_live (ended past) m.by) b.1 ∙ live in let dead = d.dead in cc))
+          (d.each l st out there);
       runs = d.runs;
     }

@@ -78,11 +78,11 @@ pub submit_tabled : (s : Setting) (past : List Entry) (loose left : List Slot) (
 submit_tabled s past loose left table now by id r here elsewhere same t i =
     elim (eqb_tells id i) [
       | inl d ↦ subst (λ (k : ℕ). now k ≡ stand (ended past) (slots_of s (entry.Event (Submit by id r) ∷ past)) left (id_state (entry.Event (Submit by id r) ∷ past) k)) d.1
-        (here ∙ ap (stand (ended past) (slots_of s (entry.Event (Submit by id r) ∷ past)) left) (sym (at_id id refl)))
+          (here ∙ ap (stand (ended past) (slots_of s (entry.Event (Submit by id r) ∷ past)) left) (sym (at_id id refl)))
       | inr d ↦ rw d.0
-        (elsewhere i (λ e. d.1 (sym e)) ∙ t i
-        ∙ stand_same (ended past) (slots_of s past) (slots_of s (entry.Event (Submit by id r) ∷ past)) loose left (id_state past i)
-        (λ o p a w is. users_same (slots_of s past) (slots_of s (entry.Event (Submit by id r) ∷ past)) loose left p (same i p a w (λ e. d.1 (sym e)) is) o))
+          (elsewhere i (λ e. d.1 (sym e)) ∙ t i
+          ∙ stand_same (ended past) (slots_of s past) (slots_of s (entry.Event (Submit by id r) ∷ past)) loose left (id_state past i)
+          (λ o p a w is. users_same (slots_of s past) (slots_of s (entry.Event (Submit by id r) ∷ past)) loose left p (same i p a w (λ e. d.1 (sym e)) is) o))
     ]
   where
     at_id : (k : ℕ) → k ≡ id → id_state (entry.Event (Submit by id r) ∷ past) id ≡ Pending (asked past) (record { by = by; id = id; request = r }) false
@@ -204,8 +204,8 @@ end_tabled_one s past now lane t p b left table new run ids others mine one born
     elim (eqb_tells i t) [
       | inl d ↦ subst (λ (k : ℕ). new k ≡ stand (ended now) (slots_of s now) left (id_state now k)) (sym d.1) (here ∙ ap (stand (ended now) (slots_of s now) left) (sym (ids t)))
       | inr d ↦ elsewhere i d.1 ∙ old i
-        ∙ end_stand past now lane (slots_of s past) (slots_of s now) [] left (id_state past i) others mine
-        (λ q a there. (none_other past i t p q lane (ended past lane) a b one borne d.1 there, none_by past i q lane (ended past lane + 1) a (own_fresh s past lane (ended past lane + 1) run (omega arith)) there))
-        (same i d.1)
-        ∙ ap (stand (ended now) (slots_of s now) left) (sym (ids i))
+          ∙ end_stand past now lane (slots_of s past) (slots_of s now) [] left (id_state past i) others mine
+          (λ q a there. (none_other past i t p q lane (ended past lane) a b one borne d.1 there, none_by past i q lane (ended past lane + 1) a (own_fresh s past lane (ended past lane + 1) run (omega arith)) there))
+          (same i d.1)
+          ∙ ap (stand (ended now) (slots_of s now) left) (sym (ids i))
     ]

@@ -62,20 +62,22 @@ tied_send s past old states begun t some =
     let e : Entry = entry.Event Send in
     let b = t.rest in
     let next : IsNext s past e = may_next s past e b.good.calm t.still.settled some in
-    let due : Due s (e ∷ past) None = due_on s past (e ∷ past) None (λ g. refl) refl (λ g w granted ne h. h) tt b.due in
-    (next, record {
-      still = still_of_due s (e ∷ past) refl due;
-      rest = record {
-        good = good_plain s past begun e b.good next tt;
-        due = due;
-        gone = gone_on s past (e ∷ past) (λ g granted. granted) refl (λ g w granted h. h) b.gone;
-        work = record { info = b.work.info; phase = b.work.phase; read_len = b.work.read_len; unfailed = b.work.unfailed; greeted = refl; queue = refl };
-        table = send_tabled s past [] (at old) (at (handed_out old)) (hand_out_each old) b.table;
-        count = b.count;
-        each = λ l st is. lane_on s past (e ∷ past) l st (record { ends = refl; owns = refl; held = refl; site = refl; call = refl }) (keeps_send s past l) (b.each l st is);
-        runs = b.runs;
-      };
-    })
+    let due : Due s (e ∷ past) None = due_on s past (e ∷ past) None (λ g. refl) refl (λ g w granted ne h. h) tt b.due in (
+      next,
+      record {
+        still = still_of_due s (e ∷ past) refl due;
+        rest = record {
+          good = good_plain s past begun e b.good next tt;
+          due = due;
+          gone = gone_on s past (e ∷ past) (λ g granted. granted) refl (λ g w granted h. h) b.gone;
+          work = record { info = b.work.info; phase = b.work.phase; read_len = b.work.read_len; unfailed = b.work.unfailed; greeted = refl; queue = refl };
+          table = send_tabled s past [] (at old) (at (handed_out old)) (hand_out_each old) b.table;
+          count = b.count;
+          each = λ l st is. lane_on s past (e ∷ past) l st (record { ends = refl; owns = refl; held = refl; site = refl; call = refl }) (keeps_send s past l) (b.each l st is);
+          runs = b.runs;
+        };
+      },
+    )
 
 -- ---- a reply
 
@@ -219,24 +221,29 @@ tied_take s past old states begun id r t x how =
     let next : IsNext s past e = may_next s past e b.good.calm t.still.settled (m.0, b.good.unkept) in
     let there : asked_at past p.place ≡ Some p.asked = (subst (Reads past id) p.state (reads past id)).3 in
     let due : Due s (e ∷ past) None = take_held s past id p.place r m.1.0
-        (λ brought. elim how [
-          | inl w ↦ asker_holds s past p.place p.asked there p.asked.by refl (sym p.wanted_is ∙ w) (came_by s past p.place p.asked b.good.run there)
-          | inr none ↦ absurd (plain_handle r brought none)
-        ]) b.due in
-    let core_is : take_leaves old id r (at old id) ≡ answered old id r x.kind x.wanted = taken_here old id r x.kind x.wanted x.here in
-    (m.0, (next, record {
-      still = still_of_due s (e ∷ past) refl due;
-      rest = record {
-        good = good_plain s past begun e b.good next tt;
-        due = due;
-        gone = take_gone s past id p.place r m.1.0 m.1.1 b.gone;
-        work = subst (λ (c : Core). CoreTied s (e ∷ past) c) (sym core_is) (taken_work s past old id r x.kind x.wanted b.work how);
-        table = take_tabled s past [] (at old) (at (take_leaves old id r (at old id))) id p.place p.asked true r p.state
-          (ap (λ (c : Core). at c id) core_is ∙ taken_stands old id r x.kind x.wanted (users_of (slots_of s past) [] p.asked.by p.place) how
-          ∙ (λ i. replied (p.wanted_is i) (p.kind_is i) r (users_of (slots_of s past) [] p.asked.by p.place)))
-          (λ i ne. take_elsewhere old id r (at old id) i ne) b.table;
-        count = b.count;
-        each = λ l st is. lane_on s past (e ∷ past) l st (record { ends = refl; owns = refl; held = refl; site = refl; call = refl }) (keeps_take s past l id p.place p.asked true r p.state) (b.each l st is);
-        runs = b.runs;
-      };
-    }))
+    (λ brought. elim how [
+      | inl w ↦ asker_holds s past p.place p.asked there p.asked.by refl (sym p.wanted_is ∙ w) (came_by s past p.place p.asked b.good.run there)
+      | inr none ↦ absurd (plain_handle r brought none)
+    ]) b.due in
+    let core_is : take_leaves old id r (at old id) ≡ answered old id r x.kind x.wanted = taken_here old id r x.kind x.wanted x.here in (
+      m.0,
+      (
+        next,
+        record {
+          still = still_of_due s (e ∷ past) refl due;
+          rest = record {
+            good = good_plain s past begun e b.good next tt;
+            due = due;
+            gone = take_gone s past id p.place r m.1.0 m.1.1 b.gone;
+            work = subst (λ (c : Core). CoreTied s (e ∷ past) c) (sym core_is) (taken_work s past old id r x.kind x.wanted b.work how);
+            table = take_tabled s past [] (at old) (at (take_leaves old id r (at old id))) id p.place p.asked true r p.state
+                (ap (λ (c : Core). at c id) core_is ∙ taken_stands old id r x.kind x.wanted (users_of (slots_of s past) [] p.asked.by p.place) how
+                ∙ (λ i. replied (p.wanted_is i) (p.kind_is i) r (users_of (slots_of s past) [] p.asked.by p.place)))
+                (λ i ne. take_elsewhere old id r (at old id) i ne) b.table;
+            count = b.count;
+            each = λ l st is. lane_on s past (e ∷ past) l st (record { ends = refl; owns = refl; held = refl; site = refl; call = refl }) (keeps_take s past l id p.place p.asked true r p.state) (b.each l st is);
+            runs = b.runs;
+          };
+        },
+      ),
+    )

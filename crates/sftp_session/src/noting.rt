@@ -44,7 +44,11 @@ fn call_at(calls: &[Call], k: usize) -> Option<&Call>
 }
 
 /// The current call of a lane.
-pub(crate) fn current_call<'a>(lanes: &'a [Lane], states: &[LaneState], lane: u32) -> Option<&'a Call>
+pub(crate) fn current_call<'a>(
+    lanes: &'a [Lane],
+    states: &[LaneState],
+    lane: u32,
+) -> Option<&'a Call>
     ensures { option_copied result ≡ call_in lanes.now states.now lane }
 {
     let calls = lane_at(lanes, lane as usize)?;

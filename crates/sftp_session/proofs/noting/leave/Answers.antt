@@ -12,19 +12,21 @@ loop-k-preserved-then-index-lane c =
     let lane = c.args.lane in
     let is = c.remove.ensures.by_index.2 in
     let h = c.loop-k.invariant in
-    let front = ap (take c.loop-k.k) is ∙ take-removed (λ l. not (l == lane)) items c.loop-k.k c.index.result.now (omega arith) c.index.ensures in
-    (omega (arith, c.remove.ensures.len),
-    ap (λ l. begun_but l lane) is ∙ filter-removed (λ l. not (l == lane)) items c.loop-k.k c.index.result.now (omega arith) c.index.ensures (ap not (eq-eqb _ _ c.if-index-lane.true)) ∙ h.1,
-    ap (λ l. begun_but l lane) front ∙ h.2 ∙ sym front)
+    let front = ap (take c.loop-k.k) is ∙ take-removed (λ l. not (l == lane)) items c.loop-k.k c.index.result.now (omega arith) c.index.ensures in (
+      omega (arith, c.remove.ensures.len),
+      ap (λ l. begun_but l lane) is ∙ filter-removed (λ l. not (l == lane)) items c.loop-k.k c.index.result.now (omega arith) c.index.ensures (ap not (eq-eqb _ _ c.if-index-lane.true)) ∙ h.1,
+      ap (λ l. begun_but l lane) front ∙ h.2 ∙ sym front,
+    )
 
 pub loop-k-smaller : goal.loop-k-smaller
 loop-k-smaller c = omega arith
 
 pub loop-k-preserved : goal.loop-k-preserved
-loop-k-preserved c =
-    (omega arith,
-    c.loop-k.invariant.1,
-    filter-front (λ l. not (l == c.args.lane)) c.loop-k.begun.items c.loop-k.k c.index.result.now (omega arith) c.index.ensures (ap not (ne_eqb _ _ c.if-index-lane.false)) c.loop-k.invariant.2)
+loop-k-preserved c = (
+  omega arith,
+  c.loop-k.invariant.1,
+  filter-front (λ l. not (l == c.args.lane)) c.loop-k.begun.items c.loop-k.k c.index.result.now (omega arith) c.index.ensures (ap not (ne_eqb _ _ c.if-index-lane.false)) c.loop-k.invariant.2,
+)
 
 pub returns : goal.returns
 returns c =

@@ -6,7 +6,7 @@ use Rattle.sftp_core.specs.declared.tokens.Taken.{Taken}
 use Rattle.sftp_history.specs.declared.event.Event.TheVariants.{Take}
 use Rattle.sftp_history.specs.declared.entry.Entry.TheVariants as entry
 use Rattle.sftp_session.specs.Working.{contents_of}
-use Rattle.sftp_session.proofs.Exchanges.{take_told, told_only, first_is}
+use Rattle.sftp_session.proofs.Exchanges.{take_told, first_is}
 use Rattle.sftp_session.proofs.lanes.Lanes.take.Goals as goal
 
 pub returns-in_err-id-clause-refused : goal.returns-in_err-id-clause-refused
