@@ -128,9 +128,7 @@ fn refused_scripts(rt: HostRuntime) -> Result<(), Fail> {
 
 #[test]
 fn runs(rt: HostRuntime) -> Result<(), Fail> {
-    let rows = RUNS;
-    let rows = &rows[..0]; // Delete this line once `run_lanes` runs lanes.
-    check_rows(&rt, rt.alloc(), rows)
+    check_rows(&rt, rt.alloc(), RUNS)
 }
 
 /// The words of reasons are their display texts.

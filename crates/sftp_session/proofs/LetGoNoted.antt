@@ -5,7 +5,6 @@ use Rattle.std.specs.List.{filter}
 use Rattle.std.specs.Option.{option_map_or}
 use Rattle.std.proofs.lemmas.Bool.Decides.{eqb_tells, nat_tests}
 use Rattle.std.proofs.lemmas.Bool.{eq-eqb, ne_eqb}
-use Rattle.std.proofs.lemmas.List.{reverse-append}
 use Rattle.std.proofs.lemmas.Option.{slice_get_within}
 use Rattle.sftp_core.specs.Core.{Core, at, users_of as users_at, IsGrant}
 use Rattle.sftp_core.specs.Grant.{GrantValue}
@@ -41,6 +40,7 @@ use Rattle.sftp_session.specs.Tables.{users_in, slots_of}
 use Rattle.sftp_session.specs.Tied.{SlotTied, LaneTied}
 use Rattle.sftp_session.specs.Users.{one_if, set_here, set_there}
 use Rattle.sftp_session.specs.Working.{Contents, Works, LetsGoIn, stage_in}
+use Rattle.sftp_session.proofs.Stepping.{pushed}
 
 -- ---- files that may be let go
 
@@ -197,9 +197,6 @@ stands_first s c lane state w here j f is =
     (users_in slot.0 (slots_of s c.past lane) + 0, (owned_stands s c.past lane slot.0 f [] (at c.core) w.tied.rest.table owned, omega (arith, below)))
 
 -- ---- one slot
-
-pub pushed : (items : List Entry) (e : Entry) → reverse (items ++ e ∷ []) ≡ e ∷ reverse items
-pushed items e = reverse-append items (e ∷ [])
 
 -- a lane is being let go, and its core counts as the journal does
 abbrev pub IsLetting : Setting → List Entry → ℕ → List Entry → Core → List LaneState → List ℕ → List (Option FileValue) → ℕ → Type 0

@@ -24,6 +24,7 @@ pub mod TakeLaws
 pub mod DropLaws
 pub mod CancelLaws
 pub mod CancelDropLaws
+pub mod PassedLaws
 pub mod LettingLaws
 pub mod CallsLaws
 pub mod Noting

@@ -5,7 +5,8 @@ use Rattle.sftp_history.specs.declared.entry.Entry.{Entry}
 use Rattle.sftp_history.specs.declared.entry.Entry.TheVariants as entry
 use Rattle.sftp_session.specs.declared.lane.LaneState.{LaneState}
 use Rattle.sftp_session.specs.Working.{contents_of}
-use Rattle.sftp_session.proofs.LetGoNoted.{IsLetting, pushed, stands_first, lets_first, lets_go}
+use Rattle.sftp_session.proofs.Stepping.{pushed}
+use Rattle.sftp_session.proofs.LetGoNoted.{IsLetting, stands_first, lets_first, lets_go}
 use Rattle.sftp_session.proofs.lanes.Lanes.let_go.Goals as goal
 
 pub let_go_slots-requires-clause-granted : goal.let_go_slots-requires-clause-granted
