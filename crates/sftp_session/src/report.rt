@@ -1,6 +1,6 @@
 // What a session reports of its journal.
 ghost use Rattle.std.specs.Prelude.{◌≡◌, IfOk, reverse};
-ghost use Rattle.sftp_history.specs.Readings.{outcomes_below as below, outcomes_of as of_lane, trace_of};
+ghost use Rattle.sftp_history.specs.Readings.{outcomes_below as below, outcomes_of as of_lane, trace_of, was_let_go};
 
 use sftp_history::{Entry, Event, Outcome};
 use sftp_model::TryCopy;
@@ -22,7 +22,11 @@ pub(crate) fn events_of(alloc: Global, journal: Vec<Entry>) -> Result<Items<Even
 }
 
 /// The outcomes of a lane's calls, in their order.
-fn outcomes_of(alloc: Global, journal: &[Entry], lane: u32) -> Result<Items<Outcome>, OutOfMemory>
+pub(crate) fn outcomes_of(
+    alloc: Global,
+    journal: &[Entry],
+    lane: u32,
+) -> Result<Items<Outcome>, OutOfMemory>
     ensures { IfOk result (λ outcomes. outcomes ≡ of_lane (reverse journal.now) lane) }
 {
     let mut outcomes = Vec::new(alloc);
@@ -56,4 +60,18 @@ pub(crate) fn outcomes_below(
         lanes.push(outcomes_of(alloc, journal, lane)?)?;
     }
     Ok(Items::new(lanes))
+}
+
+/// Whether a journal lets a lane go.
+pub(crate) fn lets_go(journal: &[Entry], lane: u32) -> bool
+    ensures { result ≡ was_let_go (reverse journal.now) lane }
+{
+    let mut found = false;
+    for entry in journal {
+        match entry {
+            Entry::LetGo { lane: l } if *l == lane => found = true,
+            _ => {}
+        }
+    }
+    found
 }

@@ -1,18 +1,21 @@
 // A session of lanes: its opening, and each call of its lanes.
-ghost use Rattle.std.specs.Prelude.{◌≡◌, ◌∷◌, [], Some, true, IfOk};
+ghost use Rattle.std.specs.Prelude.{◌≡◌, ◌∷◌, [], Some, true, IfOk, reverse};
 ghost use Rattle.sftp_core.specs.Info.{offers_limits as offers};
 ghost use Rattle.sftp_history.specs.Lanes.{are_ok};
 ghost use Rattle.sftp_lanes.specs.NoLanes.{offered, asked_past};
+ghost use Rattle.sftp_history.specs.Readings.{outcomes_of as of_lane, was_let_go};
 ghost use Rattle.sftp_session.specs.Seen.{IsNew, Reports};
+ghost use Rattle.sftp_session.specs.Working.{past_of};
 
 use crate::fresh::let_go_states;
 use crate::lanes::Lanes;
-use crate::report::{events_of, outcomes_below};
+use crate::report::{events_of, lets_go, outcomes_below, outcomes_of};
 use bitflags::Flags;
-use sftp_core::{Chunk, Info, SftpOptions, TakeError, Taken};
-use sftp_history::{Entry, Event, Lane, Owner, Report};
+use sftp_core::{Chunk, Fault, Info, SftpOptions, TakeError, Taken};
+use sftp_history::{Entry, Event, Lane, Outcome, Owner, Report};
 use sftp_lanes::{Phase, RunsLanes, Stepped};
 use sftp_model::{Extensions, Reply, Request, TryCopy};
+use sftp_values::Items;
 use ssh_encoding::OutOfMemory;
 use std::alloc::Global;
 use std::marker::Model;
@@ -63,6 +66,41 @@ impl<'a> Session<'a> {
             info: None,
             work,
         })
+    }
+
+    /// What is known of the server, once the session is open.
+    pub fn info(&self) -> Option<Info>
+        ensures { result ≡ self.now.info }
+    {
+        self.info
+    }
+
+    /// The kept fault, which is the first one.
+    pub fn fault(&self) -> Option<Fault>
+        ensures { result ≡ self.now.work.core.fault }
+    {
+        self.work.core.fault()
+    }
+
+    /// What happened so far, the first entry first.
+    pub fn journal(&self) -> &[Entry]
+        ensures { reverse result.now ≡ past_of self.now.work }
+    {
+        self.work.journal.as_slice()
+    }
+
+    /// The outcomes of the calls of a lane that have ended, in their order. Refused for want of memory.
+    pub fn outcomes(&self, lane: u32) -> Result<Items<Outcome>, OutOfMemory>
+        ensures { IfOk result (λ outcomes. outcomes ≡ of_lane (past_of self.now.work) lane) }
+    {
+        outcomes_of(self.alloc, self.work.journal.as_slice(), lane)
+    }
+
+    /// Whether a lane was let go.
+    pub fn was_let_go(&self, lane: u32) -> bool
+        ensures { result ≡ was_let_go (past_of self.now.work) lane }
+    {
+        lets_go(self.work.journal.as_slice(), lane)
     }
 
     /// Ends the session, and reports what it did. Refused for want of memory. Nothing is sent.

@@ -34,3 +34,28 @@ fn runs(rt: HostRuntime) -> Result<(), Fail> {
     assert!(rt; events(rt.alloc())? == Ok(0));
     Ok(())
 }
+
+/// What a session without lanes tells before it is open: its entries, its outcomes, and whether it was let go, has a
+/// fault or knows its server.
+fn told(alloc: Global) -> Result<(usize, usize, bool, bool, bool), Fail> {
+    let session = Session::new(alloc, &[], &SftpOptions::new())?;
+    let outcomes = match session.outcomes(0) {
+        Ok(outcomes) => outcomes.as_slice().len(),
+        Err(_) => 9,
+    };
+    let told = (
+        session.journal().len(),
+        outcomes,
+        session.was_let_go(0),
+        session.fault().is_some(),
+        session.info().is_some(),
+    );
+    session.give_up();
+    Ok(told)
+}
+
+#[test]
+fn a_new_session_tells_nothing(rt: HostRuntime) -> Result<(), Fail> {
+    assert!(rt; told(rt.alloc())? == (0, 0, false, false, false));
+    Ok(())
+}
