@@ -103,12 +103,39 @@ lane 0 call 0 refused sftp 2
 lane 0 call 1 nofile
 ";
 
+/// An open is cancelled before its reply was taken.
+const CANCELLED: &str = "file 61 01\nlane\nopen 0 r 61\nstep 0\nflush\ncancel 0\n";
+
+/// An open is cancelled after its reply was taken.
+const CANCELLED_LATE: &str = "file 61 01\nlane\nopen 0 r 61\nstep 0\nflush\ntake\ncancel 0\n";
+
+/// What is printed of both: the handle that came is closed.
+const CANCELLED_TEXT: &str = "> open 00000001610000000100000000
+< handle 0000000400000000
+> close 0000000400000000
+< status 000000000000000000000000
+lane 0 call 0 cancelled
+file 61 01
+";
+
+/// `HELLO`, over a server that takes and gives one byte a call.
+const CUT: &str = "server cut 1\nfile 61 68656c6c6f\nlane\nopen 0 r 61\nread 0 5\nclose 0\n";
+
+/// The limits of a server are asked for.
+const LIMITS_TEXT: &str = "> extended 000000126c696d697473406f70656e7373682e636f6d
+< extended_reply 0000000000000000000000000000000000000000000000000000000000000000
+";
+
 /// Scripts that are run.
 const RUNS: &[Row] = &[
     (HELLO, &[], &[], 0, HELLO_TEXT),
     ("lane\n", &[], &[], 0, ""),
     (MISSING, &[], &[], 0, MISSING_TEXT),
     (HELLO, &[], &[0], 4, ""),
+    (CANCELLED, &[], &[], 0, CANCELLED_TEXT),
+    (CANCELLED_LATE, &[], &[], 0, CANCELLED_TEXT),
+    (CUT, &[], &[], 0, HELLO_TEXT),
+    ("server limits 0 0 0 0\nlane\n", &[], &[], 0, LIMITS_TEXT),
 ];
 
 /// Each row's script has its status and text.
