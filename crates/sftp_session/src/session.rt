@@ -1,10 +1,13 @@
 // A session of lanes: its opening, and each call of its lanes.
-ghost use Rattle.std.specs.Prelude.{◌≡◌, ◌∷◌, [], Some, true, IfOk, reverse};
+ghost use Rattle.std.specs.Prelude.{◌≡◌, ◌∷◌, [], Some, true, IfOk, OnOk, reverse};
 ghost use Rattle.sftp_core.specs.Info.{offers_limits as offers};
 ghost use Rattle.sftp_history.specs.Lanes.{are_ok};
 ghost use Rattle.sftp_lanes.specs.NoLanes.{offered, asked_past};
 ghost use Rattle.sftp_history.specs.Readings.{outcomes_of as of_lane, was_let_go};
-ghost use Rattle.sftp_session.specs.Seen.{IsNew, Reports};
+ghost use Rattle.sftp_history.specs.declared.entry.Entry.TheVariants as entry;
+ghost use Rattle.sftp_history.specs.Journals.{IsNext};
+ghost use Rattle.sftp_lanes.specs.declared.session.Phase.TheVariants as phases;
+ghost use Rattle.sftp_session.specs.Seen.{IsNew, Reports, setting_at};
 ghost use Rattle.sftp_session.specs.Working.{past_of};
 
 use crate::fresh::let_go_states;
@@ -101,6 +104,19 @@ impl<'a> Session<'a> {
         ensures { result ≡ was_let_go (past_of self.now.work) lane }
     {
         lets_go(self.work.journal.as_slice(), lane)
+    }
+
+    /// Keeps a fault as the last entry of the journal; no call of the lanes comes behind it. Refused for want of memory.
+    pub fn fail(&mut self, fault: Fault) -> Result<(), OutOfMemory>
+        requires open { self.old.phase ≡ phases.Open }
+        ensures kept { OnOk result (past_of self.new.work ≡ entry.Kept fault ∷ past_of self.old.work) }
+        ensures next { IsNext (setting_at self.old) (past_of self.old.work) (entry.Kept fault) }
+        ensures phase { OnOk result (self.new.phase ≡ phases.Failed) }
+    {
+        self.work.journal.reserve(1)?;
+        self.work.journal.push(Entry::Kept(fault)).unwrap();
+        self.phase = Phase::Failed;
+        Ok(())
     }
 
     /// Ends the session, and reports what it did. Refused for want of memory. Nothing is sent.

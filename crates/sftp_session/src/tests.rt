@@ -2,7 +2,8 @@
 ghost use Rattle.std.specs.Prelude.{◌≡◌, IfOk};
 
 use crate::*;
-use sftp_core::SftpOptions;
+use sftp_core::{Fault, SftpOptions};
+use sftp_lanes::RunsLanes;
 use sftp_link::{Scripted, ScriptedLink};
 use sftp_model::Error;
 use sftp_values::ByteText;
@@ -57,5 +58,31 @@ fn told(alloc: Global) -> Result<(usize, usize, bool, bool, bool), Fail> {
 #[test]
 fn a_new_session_tells_nothing(rt: HostRuntime) -> Result<(), Fail> {
     assert!(rt; told(rt.alloc())? == (0, 0, false, false, false));
+    Ok(())
+}
+
+/// How many entries stand once a session has failed whose server sent VERSION 3.
+fn failed(alloc: Global, fault: Fault) -> Result<usize, Fail> {
+    let mut session = Session::new(alloc, &[], &SftpOptions::new())?;
+    let count = match session.greet() {
+        Ok(chunk) => {
+            session.give_back(chunk);
+            match session.take_version(b"\x02\x00\x00\x00\x03") {
+                Ok(false) => match session.fail(fault) {
+                    Ok(()) => session.journal().len(),
+                    Err(_) => 9,
+                },
+                _ => 9,
+            }
+        }
+        Err(_) => 9,
+    };
+    session.give_up();
+    Ok(count)
+}
+
+#[test]
+fn a_failed_session_has_an_entry(rt: HostRuntime) -> Result<(), Fail> {
+    assert!(rt; failed(rt.alloc(), Fault::Link)? == 1);
     Ok(())
 }
