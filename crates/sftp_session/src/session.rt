@@ -1,5 +1,6 @@
 // A session of lanes: its opening, and each call of its lanes.
-ghost use Rattle.std.specs.Prelude.{◌≡◌, ◌∷◌, [], Some, true, IfOk, OnOk, reverse};
+ghost use Rattle.std.specs.Prelude.{◌≡◌, ◌∷◌, [], Some, true, IfOk, OnErr, OnOk, reverse};
+ghost use Rattle.sftp_core.specs.Core.{failed_with};
 ghost use Rattle.sftp_core.specs.Info.{offers_limits as offers};
 ghost use Rattle.sftp_history.specs.Lanes.{are_ok};
 ghost use Rattle.sftp_lanes.specs.NoLanes.{offered, asked_past};
@@ -106,15 +107,23 @@ impl<'a> Session<'a> {
         lets_go(self.work.journal.as_slice(), lane)
     }
 
-    /// Keeps a fault as the last entry of the journal; no call of the lanes comes behind it. Refused for want of memory.
+    /// Keeps a fault, also as the last entry of the journal; no call of the lanes comes behind it. Refused for want of
+    /// memory, the session is as it was.
     pub fn fail(&mut self, fault: Fault) -> Result<(), OutOfMemory>
         requires open { self.old.phase ≡ phases.Open }
-        ensures kept { OnOk result (past_of self.new.work ≡ entry.Kept fault ∷ past_of self.old.work) }
+        ensures rest { OnOk result (self.new ≡ record self.old {
+          phase = phases.Failed;
+          work = record self.old.work { core = failed_with self.old.work.core fault; journal = self.new.work.journal };
+        }) }
+        ensures journal { OnOk result (past_of self.new.work ≡ entry.Kept fault ∷ past_of self.old.work) }
         ensures next { IsNext (setting_at self.old) (past_of self.old.work) (entry.Kept fault) }
-        ensures phase { OnOk result (self.new.phase ≡ phases.Failed) }
+        ensures told { OnOk result (self.new.work.core.fault ≡ Some fault) }
+        ensures stands { OnErr result (self.new ≡ record self.old { work = record self.old.work { journal = self.new.work.journal } }) }
+        ensures unchanged { OnErr result (past_of self.new.work ≡ past_of self.old.work) }
     {
         self.work.journal.reserve(1)?;
         self.work.journal.push(Entry::Kept(fault)).unwrap();
+        self.work.core.fail(fault);
         self.phase = Phase::Failed;
         Ok(())
     }

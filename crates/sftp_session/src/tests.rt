@@ -61,8 +61,8 @@ fn a_new_session_tells_nothing(rt: HostRuntime) -> Result<(), Fail> {
     Ok(())
 }
 
-/// How many entries stand once a session has failed whose server sent VERSION 3.
-fn failed(alloc: Global, fault: Fault) -> Result<usize, Fail> {
+/// How many entries stand once a session has failed whose server sent VERSION 3, and the fault that it tells then.
+fn failed(alloc: Global, fault: Fault) -> Result<(usize, Option<Fault>), Fail> {
     let mut session = Session::new(alloc, &[], &SftpOptions::new())?;
     let count = match session.greet() {
         Ok(chunk) => {
@@ -77,12 +77,13 @@ fn failed(alloc: Global, fault: Fault) -> Result<usize, Fail> {
         }
         Err(_) => 9,
     };
+    let told = (count, session.fault());
     session.give_up();
-    Ok(count)
+    Ok(told)
 }
 
 #[test]
 fn a_failed_session_has_an_entry(rt: HostRuntime) -> Result<(), Fail> {
-    assert!(rt; failed(rt.alloc(), Fault::Link)? == 1);
+    assert!(rt; failed(rt.alloc(), Fault::Link)? == (1, Some(Fault::Link)));
     Ok(())
 }
