@@ -1,5 +1,5 @@
--- How the program ends with the word `script`.
-use Rattle.std.proofs.Common.{◌≡◌, ◌<◌, ◌≤◌, ◌⊎◌, inl, inr, ℕ, ◌+◌, Bool, true, false, List, [], ◌++◌, length, refl, ap, sym, ◌∙◌, subst, arith, append-nil, length-append, if◌then◌else◌}
+-- How the program ends with a script.
+use Rattle.std.proofs.Common.{◌≡◌, ◌<◌, ◌≤◌, ◌⊎◌, inl, inr, ℕ, zero, suc, ◌+◌, Bool, true, false, List, [], ◌∷◌, ◌++◌, length, refl, ap, sym, ◌∙◌, subst, arith, append-nil, length-append, if◌then◌else◌}
 use Rattle.std.specs.Prelude.{nat_lt, Option, Some, None, Result, Ok, Err}
 use Rattle.std.proofs.lemmas.Bool.Decides.{nat_tests}
 use Rattle.sftp_history.specs.declared.reason.Reason.{Reason}
@@ -9,9 +9,11 @@ use Rattle.sftp_history.specs.Lines.{lines_of}
 use Rattle.sftp_history.specs.Scripts.{script_of, script_limit, read_lines, empty_script}
 use Rattle.sftp_link.specs.Told.{Told, Went, ReadUpTo}
 use Rattle.sftp_cli.specs.declared.failure.Failure.{Failure}
-use Rattle.sftp_cli.specs.declared.failure.Failure.TheVariants.{SourceFailed, SinkFailed, OutOfMemory}
-use Rattle.sftp_cli.specs.Printed.{IsAnswer}
-use Rattle.sftp_cli.specs.Ended.{read_limit, GaveAll, Ran, Refused, Answered, Stopped, code, Unfinished, status_for, Completes, SourceCause, SinkCause}
+use Rattle.sftp_cli.specs.declared.failure.Failure.TheVariants.{SourceFailed, SinkFailed, OutOfMemory, DialFailed}
+use Rattle.sftp_cli.specs.Dialled.{LastLink, IsShown, IsStopped, RunsOver, Undialled}
+use Rattle.sftp_cli.specs.Printed.{IsAnswer, IsPrinted, RunsInMemory}
+use Rattle.sftp_cli.specs.Ended.{read_limit, GaveAll, Ran, Refused, Answered, Stopped, code, IsStatus, Unfinished, HasCause, EndsFor, Completes, IsWhole, IsWholeOrStopped, SourceCause, SinkCause, DialCause}
+use Rattle.sftp_cli.specs.Words.{is_script, is_unix, takes_script}
 
 -- ---- what was read is what there was
 
@@ -64,81 +66,251 @@ gave_all bytes script None left_now e t = tt
 gave_all bytes script (Some had) None e t = t
 gave_all bytes script (Some had) (Some now) e t = all_left bytes had now t (script_short bytes script e)
 
--- ---- the status of a whole answer
+-- ---- a whole answer
 
--- the answer to what was read, by its two cases
-ran_by : (r : Result Script (ℕ × Reason)) (bytes text : List ℕ) (left left_now written written_now : Option (List ℕ)) (status : ℕ) → script_of bytes ≡ r → IsAnswer r status text → Told (ReadUpTo read_limit bytes) left left_now
-    → Told (Went text) written written_now → status ≡ 0 → Ran left left_now written written_now
-ran_by (Ok script) bytes text left left_now written written_now status e a t w is =
-    record { bytes = bytes; script = script; text = text; gave = gave_all bytes script left left_now e t; reads = e; printed = a.1; wrote = w }
-ran_by (Err why) bytes text left left_now written written_now status e a t w is = absurd (let bad : 0 ≡ 2 = sym is ∙ a.0 in cc bad)
+-- the statuses that are right for a script: 0 and 1
+abbrev Small : (Script → ℕ → List ℕ → Type 0) → Type 0
+Small right = (script : Script) (status : ℕ) (text : List ℕ) → right script status text → status < 2
 
-refused_by : (r : Result Script (ℕ × Reason)) (bytes text : List ℕ) (left left_now written written_now : Option (List ℕ)) (status : ℕ) → script_of bytes ≡ r → IsAnswer r status text → Told (ReadUpTo read_limit bytes) left left_now
-    → Told (Went text) written written_now → status ≡ 2 → Refused left left_now written written_now
-refused_by (Ok script) bytes text left left_now written written_now status e a t w is = absurd (let bad : 2 ≡ 0 = sym is ∙ a.0 in cc bad)
-refused_by (Err why) bytes text left left_now written written_now status e a t w is =
+-- of what is right for a script, that with this status
+abbrev Picks : (Script → ℕ → List ℕ → Type 0) → ℕ → (Script → List ℕ → Type 0) → Type 0
+Picks right n part = (script : Script) (status : ℕ) (text : List ℕ) → right script status text → status ≡ n → part script text
+
+ran_by : (right : Script → ℕ → List ℕ → Type 0) (part : Script → List ℕ → Type 0) (n : ℕ) (r : Result Script (ℕ × Reason)) (bytes text : List ℕ) (left left_now written written_now : Option (List ℕ)) (status : ℕ)
+    → Picks right n part → n < 2 → script_of bytes ≡ r → IsAnswer right r status text → Told (ReadUpTo read_limit bytes) left left_now → Told (Went text) written written_now → status ≡ n → Ran part left left_now written written_now
+ran_by right part n (Ok script) bytes text left left_now written written_now status picks small e a t w is =
+    record { bytes = bytes; script = script; text = text; gave = gave_all bytes script left left_now e t; reads = e; printed = picks script status text a is; wrote = w }
+ran_by right part n (Err why) bytes text left left_now written written_now status picks small e a t w is = absurd (let two : status ≡ 2 = a.0 in omega (arith, small, is, two))
+
+answer_ran : (right : Script → ℕ → List ℕ → Type 0) (part : Script → List ℕ → Type 0) (n status : ℕ) (left left_now written written_now : Option (List ℕ)) → Picks right n part → n < 2
+    → Answered right status left left_now written written_now → status ≡ n → Ran part left left_now written written_now
+answer_ran right part n status left left_now written written_now picks small a is =
+    ran_by right part n (script_of a.bytes) a.bytes a.text left left_now written written_now status picks small refl a.answer a.gave a.wrote is
+
+refused_by : (right : Script → ℕ → List ℕ → Type 0) (r : Result Script (ℕ × Reason)) (bytes text : List ℕ) (left left_now written written_now : Option (List ℕ)) (status : ℕ) → Small right → script_of bytes ≡ r
+    → IsAnswer right r status text → Told (ReadUpTo read_limit bytes) left left_now → Told (Went text) written written_now → status ≡ 2 → Refused left left_now written written_now
+refused_by right (Ok script) bytes text left left_now written written_now status small e a t w is = absurd (let lt : status < 2 = small script status text a in omega (arith, lt, is))
+refused_by right (Err why) bytes text left left_now written written_now status small e a t w is =
     record { bytes = bytes; number = why.0; why = why.1; gave = t; reads = e; wrote = subst (λ (l : List ℕ). Told (Went l) written written_now) a.1 w }
 
-status_by : (r : Result Script (ℕ × Reason)) (status : ℕ) (text : List ℕ) → IsAnswer r status text → status ≡ status_for r
-status_by (Ok script) status text a = a.0
-status_by (Err why) status text a = a.0
+answer_refused : (right : Script → ℕ → List ℕ → Type 0) (status : ℕ) (left left_now written written_now : Option (List ℕ)) → Small right → Answered right status left left_now written written_now → status ≡ 2
+    → Refused left left_now written written_now
+answer_refused right status left left_now written written_now small a is =
+    refused_by right (script_of a.bytes) a.bytes a.text left left_now written written_now status small refl a.answer a.gave a.wrote is
 
-pub answer_ran : (status : ℕ) (left left_now written written_now : Option (List ℕ)) → Answered status left left_now written written_now → status ≡ 0 → Ran left left_now written written_now
-answer_ran status left left_now written written_now a is = ran_by (script_of a.bytes) a.bytes a.text left left_now written written_now status refl a.answer a.gave a.wrote is
+small_by : (right : Script → ℕ → List ℕ → Type 0) (r : Result Script (ℕ × Reason)) (status : ℕ) (text : List ℕ) → Small right → IsAnswer right r status text → status < 3
+small_by right (Ok script) status text small a = let lt : status < 2 = small script status text a in omega (arith, lt)
+small_by right (Err why) status text small a = let two : status ≡ 2 = a.0 in omega (arith, two)
 
-pub answer_refused : (status : ℕ) (left left_now written written_now : Option (List ℕ)) → Answered status left left_now written written_now → status ≡ 2 → Refused left left_now written written_now
-answer_refused status left left_now written written_now a is = refused_by (script_of a.bytes) a.bytes a.text left left_now written written_now status refl a.answer a.gave a.wrote is
+-- a whole answer has a status below those of failures
+answer_small : (right : Script → ℕ → List ℕ → Type 0) (status : ℕ) (left left_now written written_now : Option (List ℕ)) → Small right → Answered right status left left_now written written_now → status < 3
+answer_small right status left left_now written written_now small a = small_by right (script_of a.bytes) status a.text small a.answer
 
--- it is 0 or 2
-zero_or_two : (r : Result Script (ℕ × Reason)) (status : ℕ) → status ≡ status_for r → (status ≡ 0) ⊎ (status ≡ 2)
-zero_or_two (Ok script) status e = inl e
-zero_or_two (Err why) status e = inr e
+told_read : (bytes had : List ℕ) (left_now : Option (List ℕ)) → Told (ReadUpTo read_limit bytes) (Some had) left_now → script_of had ≡ script_of bytes
+told_read bytes had None t = absurd t
+told_read bytes had (Some now) t = read_is bytes had now t
 
-answer_status : (status : ℕ) (left left_now written written_now : Option (List ℕ)) → Answered status left left_now written written_now → (status ≡ 0) ⊎ (status ≡ 2)
-answer_status status left left_now written written_now a = zero_or_two (script_of a.bytes) status (status_by (script_of a.bytes) status a.text a.answer)
+ends_by : (right : Script → ℕ → List ℕ → Type 0) (ends : ℕ → Type 0) (r : Result Script (ℕ × Reason)) (status : ℕ) (text : List ℕ) → ((script : Script) → right script status text → ends status) → IsAnswer right r status text
+    → EndsFor ends r status
+ends_by right ends (Ok script) status text h a = h script a
+ends_by right ends (Err why) status text h a = a.0
 
--- ---- what the program promises
+answer_completes : (right : Script → ℕ → List ℕ → Type 0) (ends : ℕ → Type 0) (status : ℕ) (left left_now written written_now : Option (List ℕ)) → ((script : Script) (text : List ℕ) → right script status text → ends status)
+    → Answered right status left left_now written written_now → Completes ends status left
+answer_completes right ends status left left_now written written_now h a had is =
+    let gave : Told (ReadUpTo read_limit a.bytes) (Some had) left_now = subst (λ (l : Option (List ℕ)). Told (ReadUpTo read_limit a.bytes) l left_now) is a.gave in
+    inl (subst (λ r. EndsFor ends r status) (sym (told_read a.bytes had left_now gave)) (ends_by right ends (script_of a.bytes) status a.text (λ script. h script a.text) a.answer))
 
-no_code : (why : Failure) (status : ℕ) → status ≡ code why → (status ≡ 0) ⊎ (status ≡ 2) → ⊥
-no_code SourceFailed status is h = elim h [ inl z ↦ (let bad : 3 ≡ 0 = sym is ∙ z in cc bad) | inr z ↦ (let bad : 3 ≡ 2 = sym is ∙ z in cc bad) ]
-no_code SinkFailed status is h = elim h [ inl z ↦ (let bad : 4 ≡ 0 = sym is ∙ z in cc bad) | inr z ↦ (let bad : 4 ≡ 2 = sym is ∙ z in cc bad) ]
-no_code OutOfMemory status is h = elim h [ inl z ↦ (let bad : 5 ≡ 0 = sym is ∙ z in cc bad) | inr z ↦ (let bad : 5 ≡ 2 = sym is ∙ z in cc bad) ]
+-- ---- failures
+
+big_code : (why : Failure) → 2 < code why
+big_code SourceFailed = omega arith
+big_code SinkFailed = omega arith
+big_code OutOfMemory = omega arith
+big_code DialFailed = omega arith
 
 -- each failure has its own status
 one_code : (a b : Failure) → code a ≡ code b → a ≡ b
 one_code SourceFailed SourceFailed e = refl
 one_code SourceFailed SinkFailed e = absurd (cc e)
 one_code SourceFailed OutOfMemory e = absurd (cc e)
+one_code SourceFailed DialFailed e = absurd (cc e)
 one_code SinkFailed SourceFailed e = absurd (cc e)
 one_code SinkFailed SinkFailed e = refl
 one_code SinkFailed OutOfMemory e = absurd (cc e)
+one_code SinkFailed DialFailed e = absurd (cc e)
 one_code OutOfMemory SourceFailed e = absurd (cc e)
 one_code OutOfMemory SinkFailed e = absurd (cc e)
 one_code OutOfMemory OutOfMemory e = refl
-
-told_read : (bytes had : List ℕ) (left_now : Option (List ℕ)) → Told (ReadUpTo read_limit bytes) (Some had) left_now → script_of had ≡ script_of bytes
-told_read bytes had None t = absurd t
-told_read bytes had (Some now) t = read_is bytes had now t
-
-pub answer_completes : (status : ℕ) (left left_now written written_now : Option (List ℕ)) → Answered status left left_now written written_now → Completes status left
-answer_completes status left left_now written written_now a had is =
-    let gave : Told (ReadUpTo read_limit a.bytes) (Some had) left_now = subst (λ (l : Option (List ℕ)). Told (ReadUpTo read_limit a.bytes) l left_now) is a.gave in
-    inl (status_by (script_of a.bytes) status a.text a.answer ∙ ap status_for (sym (told_read a.bytes had left_now gave)))
-
--- without a fault there was no memory
-pub failure_completes : (why : Failure) (status : ℕ) (left : Option (List ℕ)) (source source_now sink sink_now : ℕ) → SourceCause {T = ℕ} (Err why) source source_now → SinkCause {T = ℕ} (Err why) sink sink_now → status ≡ code why
-    → source_now ≡ source → sink_now ≡ sink → Completes status left
-failure_completes SourceFailed status left source source_now sink sink_now s k is same also had told = absurd (omega (arith, s, same))
-failure_completes SinkFailed status left source source_now sink sink_now s k is same also had told = absurd (omega (arith, k, also))
-failure_completes OutOfMemory status left source source_now sink sink_now s k is same also had told = inr is
+one_code OutOfMemory DialFailed e = absurd (cc e)
+one_code DialFailed SourceFailed e = absurd (cc e)
+one_code DialFailed SinkFailed e = absurd (cc e)
+one_code DialFailed OutOfMemory e = absurd (cc e)
+one_code DialFailed DialFailed e = refl
 
 -- a whole answer ends with no status of a failure
-pub answer_finished : (status : ℕ) (left left_now written written_now : Option (List ℕ)) → Answered status left left_now written written_now → Unfinished status left left_now written written_now
-answer_finished status left left_now written written_now a why is = absurd (no_code why status is (answer_status status left left_now written written_now a))
+answer_finished : (right : Script → ℕ → List ℕ → Type 0) (status : ℕ) (left left_now written written_now : Option (List ℕ)) → Small right → Answered right status left left_now written written_now
+    → Unfinished right status left left_now written written_now
+answer_finished right status left left_now written written_now small a why is =
+    absurd (let lt : status < 3 = answer_small right status left left_now written written_now small a in let big : 2 < code why = big_code why in omega (arith, lt, big, is))
 
 -- a failure ends with its own status
-pub failure_unfinished : (why : Failure) (status : ℕ) (left left_now written written_now : Option (List ℕ)) → Stopped why left left_now written written_now → status ≡ code why → Unfinished status left left_now written written_now
-failure_unfinished why status left left_now written written_now stopped is other same =
-    subst (λ (w : Failure). Stopped w left left_now written written_now) (one_code why other (sym is ∙ same)) stopped
+pub failure_unfinished : (right : Script → ℕ → List ℕ → Type 0) (why : Failure) (status : ℕ) (left left_now written written_now : Option (List ℕ)) → Stopped right why left left_now written written_now → status ≡ code why
+    → Unfinished right status left left_now written written_now
+failure_unfinished right why status left left_now written written_now stopped is other same =
+    subst (λ (w : Failure). Stopped right w left left_now written written_now) (one_code why other (sym is ∙ same)) stopped
 
-pub ruleset endings = (answer_ran, answer_refused, answer_completes, failure_completes, answer_finished, failure_unfinished)
+-- without a fault there was no memory
+pub failure_completes : (ends : ℕ → Type 0) (why : Failure) (status : ℕ) (left : Option (List ℕ)) (source source_now sink sink_now dial dial_now : ℕ) → SourceCause {T = ℕ} (Err why) source source_now
+    → SinkCause {T = ℕ} (Err why) sink sink_now → DialCause {T = ℕ} (Err why) dial dial_now → status ≡ code why → source_now ≡ source → sink_now ≡ sink → dial_now ≡ dial → Completes ends status left
+failure_completes ends SourceFailed status left source source_now sink sink_now dial dial_now s k d is same also too had told = absurd (omega (arith, s, same))
+failure_completes ends SinkFailed status left source source_now sink sink_now dial dial_now s k d is same also too had told = absurd (omega (arith, k, also))
+failure_completes ends DialFailed status left source source_now sink sink_now dial dial_now s k d is same also too had told = absurd (omega (arith, d, too))
+failure_completes ends OutOfMemory status left source source_now sink sink_now dial dial_now s k d is same also too had told = inr is
+
+-- ---- causes
+
+-- a whole answer has no cause among failures
+pub no_cause : (n status before now : ℕ) → status < 3 → 2 < n → now ≡ before → HasCause n status before now
+no_cause n status before now small big same = inr ((λ is. absurd (omega (arith, small, big, is))), same)
+
+pub source_cause : (why : Failure) (status before now : ℕ) → SourceCause {T = ℕ} (Err why) before now → status ≡ code why → HasCause 3 status before now
+source_cause SourceFailed status before now h is = inl (is, h)
+source_cause SinkFailed status before now h is = inr ((λ e. let bad : 4 ≡ 3 = sym is ∙ e in cc bad), h)
+source_cause OutOfMemory status before now h is = inr ((λ e. let bad : 5 ≡ 3 = sym is ∙ e in cc bad), h)
+source_cause DialFailed status before now h is = inr ((λ e. let bad : 6 ≡ 3 = sym is ∙ e in cc bad), h)
+
+pub sink_cause : (why : Failure) (status before now : ℕ) → SinkCause {T = ℕ} (Err why) before now → status ≡ code why → HasCause 4 status before now
+sink_cause SourceFailed status before now h is = inr ((λ e. let bad : 3 ≡ 4 = sym is ∙ e in cc bad), h)
+sink_cause SinkFailed status before now h is = inl (is, h)
+sink_cause OutOfMemory status before now h is = inr ((λ e. let bad : 5 ≡ 4 = sym is ∙ e in cc bad), h)
+sink_cause DialFailed status before now h is = inr ((λ e. let bad : 6 ≡ 4 = sym is ∙ e in cc bad), h)
+
+pub dial_cause : (why : Failure) (status before now : ℕ) → DialCause {T = ℕ} (Err why) before now → status ≡ code why → HasCause 6 status before now
+dial_cause SourceFailed status before now h is = inr ((λ e. let bad : 3 ≡ 6 = sym is ∙ e in cc bad), h)
+dial_cause SinkFailed status before now h is = inr ((λ e. let bad : 4 ≡ 6 = sym is ∙ e in cc bad), h)
+dial_cause OutOfMemory status before now h is = inr ((λ e. let bad : 5 ≡ 6 = sym is ∙ e in cc bad), h)
+dial_cause DialFailed status before now h is = inl (is, h)
+
+-- the status of a failure is one of the statuses; without a dial it isn't that of a dial
+pub failure_status : (why : Failure) (status : ℕ) → status ≡ code why → (status ≡ 6) ⊎ IsStatus status
+failure_status SourceFailed status is = inr (inr (inr (inl is)))
+failure_status SinkFailed status is = inr (inr (inr (inr (inl is))))
+failure_status OutOfMemory status is = inr (inr (inr (inr (inr is))))
+failure_status DialFailed status is = inl is
+
+pub undialled_status : (why : Failure) (status : ℕ) → DialCause {T = ℕ} (Err why) 0 0 → status ≡ code why → IsStatus status
+undialled_status SourceFailed status h is = inr (inr (inl is))
+undialled_status SinkFailed status h is = inr (inr (inr (inl is)))
+undialled_status OutOfMemory status h is = inr (inr (inr (inr is)))
+undialled_status DialFailed status h is = absurd (omega (arith, h))
+
+pub any_status : (why : Failure) (status : ℕ) → status ≡ code why → (status ≡ 1) ⊎ (status ≡ 6) ⊎ IsStatus status
+any_status why status is = inr (failure_status why status is)
+
+pub small_status : (status : ℕ) → status < 3 → (status ≡ 1) ⊎ (status ≡ 6) ⊎ IsStatus status
+small_status zero lt = inr (inr (inl refl))
+small_status (suc zero) lt = inl refl
+small_status (suc (suc zero)) lt = inr (inr (inr (inl refl)))
+small_status (suc (suc (suc n))) lt = absurd (omega (arith, lt))
+
+pub ruleset endings = (failure_unfinished, failure_completes, no_cause, source_cause, sink_cause, dial_cause)
+
+-- ---- over a server in memory
+
+memory_small : Small RunsInMemory
+memory_small script status text a = let zero : status ≡ 0 = a.0 in omega (arith, zero)
+
+pub memory_ran : (status : ℕ) (left left_now written written_now : Option (List ℕ)) → Answered RunsInMemory status left left_now written written_now → status ≡ 0 → Ran IsPrinted left left_now written written_now
+memory_ran status left left_now written written_now a is = answer_ran RunsInMemory IsPrinted 0 status left left_now written written_now (λ script n text r e. r.1) (omega arith) a is
+
+pub memory_refused : (status : ℕ) (left left_now written written_now : Option (List ℕ)) → Answered RunsInMemory status left left_now written written_now → status ≡ 2 → Refused left left_now written written_now
+memory_refused status left left_now written written_now a is = answer_refused RunsInMemory status left left_now written written_now memory_small a is
+
+pub memory_small_status : (status : ℕ) (left left_now written written_now : Option (List ℕ)) → Answered RunsInMemory status left left_now written written_now → status < 3
+memory_small_status status left left_now written written_now a = answer_small RunsInMemory status left left_now written written_now memory_small a
+
+pub memory_completes : (status : ℕ) (left left_now written written_now : Option (List ℕ)) → Answered RunsInMemory status left left_now written written_now → Completes IsWhole status left
+memory_completes status left left_now written written_now a = answer_completes RunsInMemory IsWhole status left left_now written written_now (λ script text r. r.0) a
+
+pub memory_finished : (status : ℕ) (left left_now written written_now : Option (List ℕ)) → Answered RunsInMemory status left left_now written written_now → Unfinished RunsInMemory status left left_now written written_now
+memory_finished status left left_now written written_now a = answer_finished RunsInMemory status left left_now written written_now memory_small a
+
+memory_status_by : (r : Result Script (ℕ × Reason)) (status : ℕ) (text : List ℕ) → IsAnswer RunsInMemory r status text → IsStatus status
+memory_status_by (Ok script) status text a = inl a.0
+memory_status_by (Err why) status text a = inr (inl a.0)
+
+pub memory_status : (status : ℕ) (left left_now written written_now : Option (List ℕ)) → Answered RunsInMemory status left left_now written written_now → IsStatus status
+memory_status status left left_now written written_now a = memory_status_by (script_of a.bytes) status a.text a.answer
+
+pub ruleset in_memory = (memory_ran, memory_refused, memory_small_status, memory_completes, memory_finished, memory_status, undialled_status)
+
+-- ---- over a link
+
+link_small : (last : LastLink) → Small (RunsOver last)
+link_small last script status text (inl a) = let zero : status ≡ 0 = a.0 in omega (arith, zero)
+link_small last script status text (inr a) = let one : status ≡ 1 = a.0 in omega (arith, one)
+
+shown_by : (last : LastLink) → Picks (RunsOver last) 0 (λ script text. IsShown last script text)
+shown_by last script status text (inl a) is = a.1
+shown_by last script status text (inr a) is = absurd (let bad : 1 ≡ 0 = sym a.0 ∙ is in cc bad)
+
+stopped_by : (last : LastLink) → Picks (RunsOver last) 1 (λ script text. IsStopped last script text)
+stopped_by last script status text (inl a) is = absurd (let bad : 0 ≡ 1 = sym a.0 ∙ is in cc bad)
+stopped_by last script status text (inr a) is = a.1
+
+pub link_ran : (last : LastLink) (status : ℕ) (left left_now written written_now : Option (List ℕ)) → Answered (RunsOver last) status left left_now written written_now → status ≡ 0
+    → Ran (λ script text. IsShown last script text) left left_now written written_now
+link_ran last status left left_now written written_now a is = answer_ran (RunsOver last) (λ script text. IsShown last script text) 0 status left left_now written written_now (shown_by last) (omega arith) a is
+
+pub link_stopped : (last : LastLink) (status : ℕ) (left left_now written written_now : Option (List ℕ)) → Answered (RunsOver last) status left left_now written written_now → status ≡ 1
+    → Ran (λ script text. IsStopped last script text) left left_now written written_now
+link_stopped last status left left_now written written_now a is = answer_ran (RunsOver last) (λ script text. IsStopped last script text) 1 status left left_now written written_now (stopped_by last) (omega arith) a is
+
+pub link_refused : (last : LastLink) (status : ℕ) (left left_now written written_now : Option (List ℕ)) → Answered (RunsOver last) status left left_now written written_now → status ≡ 2 → Refused left left_now written written_now
+link_refused last status left left_now written written_now a is = answer_refused (RunsOver last) status left left_now written written_now (link_small last) a is
+
+pub link_small_status : (last : LastLink) (status : ℕ) (left left_now written written_now : Option (List ℕ)) → Answered (RunsOver last) status left left_now written written_now → status < 3
+link_small_status last status left left_now written written_now a = answer_small (RunsOver last) status left left_now written written_now (link_small last) a
+
+whole_or_stopped : (last : LastLink) (script : Script) (status : ℕ) (text : List ℕ) → RunsOver last script status text → IsWholeOrStopped status
+whole_or_stopped last script status text (inl a) = inl a.0
+whole_or_stopped last script status text (inr a) = inr a.0
+
+pub link_completes : (last : LastLink) (status : ℕ) (left left_now written written_now : Option (List ℕ)) → Answered (RunsOver last) status left left_now written written_now → Completes IsWholeOrStopped status left
+link_completes last status left left_now written written_now a =
+    answer_completes (RunsOver last) IsWholeOrStopped status left left_now written written_now (λ script text r. whole_or_stopped last script status text r) a
+
+pub link_finished : (last : LastLink) (status : ℕ) (left left_now written written_now : Option (List ℕ)) → Answered (RunsOver last) status left left_now written written_now → Unfinished (RunsOver last) status left left_now written written_now
+link_finished last status left left_now written written_now a = answer_finished (RunsOver last) status left left_now written written_now (link_small last) a
+
+-- with the status of a refused script, and with that of a source or a dial that failed, nothing was put back
+pub answer_undialled : (status : ℕ) (before now : LastLink) → status < 3 → (status ≡ 2 → now ≡ before) → (status ≡ 2) ⊎ (status ≡ 3) ⊎ (status ≡ 6) → now ≡ before
+answer_undialled status before now small h (inl is) = h is
+answer_undialled status before now small h (inr (inl is)) = absurd (omega (arith, small, is))
+answer_undialled status before now small h (inr (inr is)) = absurd (omega (arith, small, is))
+
+pub failure_undialled : (why : Failure) (status : ℕ) (before now : LastLink) → Undialled why before now → status ≡ code why → (status ≡ 2) ⊎ (status ≡ 3) ⊎ (status ≡ 6) → now ≡ before
+failure_undialled SourceFailed status before now h is which = h
+failure_undialled DialFailed status before now h is which = h
+failure_undialled SinkFailed status before now h is (inl e) = absurd (let bad : 4 ≡ 2 = sym is ∙ e in cc bad)
+failure_undialled SinkFailed status before now h is (inr (inl e)) = absurd (let bad : 4 ≡ 3 = sym is ∙ e in cc bad)
+failure_undialled SinkFailed status before now h is (inr (inr e)) = absurd (let bad : 4 ≡ 6 = sym is ∙ e in cc bad)
+failure_undialled OutOfMemory status before now h is (inl e) = absurd (let bad : 5 ≡ 2 = sym is ∙ e in cc bad)
+failure_undialled OutOfMemory status before now h is (inr (inl e)) = absurd (let bad : 5 ≡ 3 = sym is ∙ e in cc bad)
+failure_undialled OutOfMemory status before now h is (inr (inr e)) = absurd (let bad : 5 ≡ 6 = sym is ∙ e in cc bad)
+
+pub ruleset over_link = (link_ran, link_stopped, link_refused, link_small_status, link_completes, link_finished, answer_undialled, failure_undialled, any_status, small_status)
+
+-- ---- the words
+
+-- words that ask for a script in memory ask for no link
+pub one_job : (words : List (List ℕ)) → is_script words ≡ true → is_unix words ≡ false
+one_job [] e = refl
+one_job (word ∷ []) e = refl
+one_job (word ∷ path ∷ words) e = absurd (let bad : false ≡ true = e in cc bad)
+
+pub no_job : (words : List (List ℕ)) → is_script words ≡ false → is_unix words ≡ false → takes_script words ≡ false
+no_job words e u = rw (e, u) refl
+
+pub ruleset dispatch = (one_job, no_job)

@@ -2,3 +2,4 @@ pub mod Files
 pub mod Fit
 pub mod Running
 pub mod Ending
+pub mod Linked

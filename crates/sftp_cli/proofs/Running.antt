@@ -56,6 +56,7 @@ served_report lanes options turns old now r ok new none same serving report =
       run = report.run;
       version = some_is (greeting report.extensions) (version_reply now.first.granting.config) told ∙ ap (λ (d : Desk). version_reply d.granting.config) same;
       served = subst (λ (d : Desk). Serves d.granting.config d.choices d.granting.machine report.past now.now.desk.granting.machine) same served;
+      closed = report.closed;
       trace = report.trace;
       outcomes = report.outcomes;
     }
@@ -93,6 +94,7 @@ printed_run script server report left text is run written =
       run = run.run;
       version = run.version ∙ ap (λ (d : Desk). version_reply d.granting.config) first;
       served = subst (λ (d : Desk). Serves d.granting.config d.choices d.granting.machine run.past left) first run.served;
+      closed = run.closed;
       is = written ∙ ap (λ (l : List ℕ). l ++ file_lines left)
           (ap (λ t. text_of (journal_of t) report.outcomes) run.trace ∙ trace_text run.past report.outcomes ∙ ap (λ o. text_of run.past o) run.outcomes);
     }

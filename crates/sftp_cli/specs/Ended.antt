@@ -1,12 +1,13 @@
--- What the program did for the word `script`, by the status that it ended with.
+-- What the program did for a script, by the status that it ended with. What is right for a script is a parameter: it is one
+-- thing over a server in memory, and another over a link to a server elsewhere.
 use Rattle.std.specs.Prelude.{◌≡◌, ◌⊎◌, ◌<◌, ℕ, List, [], Option, Some, Result, Ok, Err}
 use Rattle.sftp_history.specs.declared.reason.Reason.{Reason}
 use Rattle.sftp_history.specs.declared.script.Script.{Script}
 use Rattle.sftp_history.specs.Scripts.{script_of}
 use Rattle.sftp_link.specs.Told.{Told, Same, Went, WentLess, ReadUpTo}
 use Rattle.sftp_cli.specs.declared.failure.Failure.{Failure}
-use Rattle.sftp_cli.specs.declared.failure.Failure.TheVariants.{SourceFailed, SinkFailed, OutOfMemory}
-use Rattle.sftp_cli.specs.Printed.{IsPrinted, IsAnswer, refusal_line}
+use Rattle.sftp_cli.specs.declared.failure.Failure.TheVariants.{SourceFailed, SinkFailed, OutOfMemory, DialFailed}
+use Rattle.sftp_cli.specs.Printed.{IsAnswer, refusal_line}
 
 -- one byte more than a script may have
 abbrev pub read_limit : ℕ
@@ -16,15 +17,15 @@ read_limit = 16777217
 abbrev pub GaveAll : List ℕ → List ℕ → List ℕ → Type 0
 GaveAll bytes before now = (before ≡ bytes) × (now ≡ [])
 
--- The script was run: the bytes that the source gave, which are all that it had, read as a script, and the text of a
--- run of it was written.
-pub record Ran (left left_now written written_now : Option (List ℕ)) : Type 0 where
+-- The script was run: the bytes that the source gave, which are all that it had, read as a script, and a text was written
+-- that is right for it.
+pub record Ran (right : Script → List ℕ → Type 0) (left left_now written written_now : Option (List ℕ)) : Type 0 where
   pub bytes : List ℕ
   pub script : Script
   pub text : List ℕ
   pub gave : Told (GaveAll bytes) left left_now
   pub reads : script_of bytes ≡ Ok script
-  pub printed : IsPrinted script text
+  pub printed : right script text
   pub wrote : Told (Went text) written written_now
 
 -- The script was refused: the bytes that the source gave, all that it had or too many, don't read as a script, and the
@@ -38,55 +39,65 @@ pub record Refused (left left_now written written_now : Option (List ℕ)) : Typ
   pub wrote : Told (Went (refusal_line number why)) written written_now
 
 -- the whole answer to what the source gave was written
-pub record Answered (status : ℕ) (left left_now written written_now : Option (List ℕ)) : Type 0 where
+pub record Answered (right : Script → ℕ → List ℕ → Type 0) (status : ℕ) (left left_now written written_now : Option (List ℕ)) : Type 0 where
   pub bytes : List ℕ
   pub text : List ℕ
   pub gave : Told (ReadUpTo read_limit bytes) left left_now
-  pub answer : IsAnswer (script_of bytes) status text
+  pub answer : IsAnswer right (script_of bytes) status text
   pub wrote : Told (Went text) written written_now
 
 -- a front of the answer to what the source gave was written, and not the whole
-pub record Cut (left left_now written written_now : Option (List ℕ)) : Type 0 where
+pub record Cut (right : Script → ℕ → List ℕ → Type 0) (left left_now written written_now : Option (List ℕ)) : Type 0 where
   pub bytes : List ℕ
   pub status : ℕ
   pub text : List ℕ
   pub gave : Told (ReadUpTo read_limit bytes) left left_now
-  pub answer : IsAnswer (script_of bytes) status text
+  pub answer : IsAnswer right (script_of bytes) status text
   pub wrote : Told (WentLess text) written written_now
 
--- where the source failed nothing was written, where the sink failed a front of the answer; where there was no memory
--- either
-abbrev pub Stopped : Failure → Option (List ℕ) → Option (List ℕ) → Option (List ℕ) → Option (List ℕ) → Type 0
-Stopped SourceFailed left left_now written written_now = Told Same written written_now
-Stopped SinkFailed left left_now written written_now = Cut left left_now written written_now
-Stopped OutOfMemory left left_now written written_now = Told Same written written_now ⊎ Cut left left_now written written_now
+-- where the source or the dial failed nothing was written, where the sink failed a front of the answer; where there was no
+-- memory either
+abbrev pub Stopped : (Script → ℕ → List ℕ → Type 0) → Failure → Option (List ℕ) → Option (List ℕ) → Option (List ℕ) → Option (List ℕ) → Type 0
+Stopped right SourceFailed left left_now written written_now = Told Same written written_now
+Stopped right DialFailed left left_now written written_now = Told Same written written_now
+Stopped right SinkFailed left left_now written written_now = Cut right left left_now written written_now
+Stopped right OutOfMemory left left_now written written_now = Told Same written written_now ⊎ Cut right left left_now written written_now
 
 -- the status of a failure
 abbrev pub code : Failure → ℕ
 code SourceFailed = 3
 code SinkFailed = 4
 code OutOfMemory = 5
+code DialFailed = 6
 
--- one of the program's five statuses
+-- one of the statuses that each of the program's words may end with
 abbrev pub IsStatus : ℕ → Type 0
 IsStatus status = (status ≡ 0) ⊎ (status ≡ 2) ⊎ (status ≡ 3) ⊎ (status ≡ 4) ⊎ (status ≡ 5)
 
 -- a status that says why the answer wasn't written says so truly
-abbrev pub Unfinished : ℕ → Option (List ℕ) → Option (List ℕ) → Option (List ℕ) → Option (List ℕ) → Type 0
-Unfinished status left left_now written written_now = (why : Failure) → status ≡ code why → Stopped why left left_now written written_now
+abbrev pub Unfinished : (Script → ℕ → List ℕ → Type 0) → ℕ → Option (List ℕ) → Option (List ℕ) → Option (List ℕ) → Option (List ℕ) → Type 0
+Unfinished right status left left_now written written_now = (why : Failure) → status ≡ code why → Stopped right why left left_now written written_now
 
 -- a count of faults rose where the status is this one, and else is as before
 abbrev pub HasCause : ℕ → ℕ → ℕ → ℕ → Type 0
 HasCause n status before now = ((status ≡ n) × (before < now)) ⊎ ((status ≡ n → ⊥) × (now ≡ before))
 
--- the status for what reads as a script, and for what does not
-abbrev pub status_for : Result Script (ℕ × Reason) → ℕ
-status_for (Ok script) = 0
-status_for (Err refused) = 2
+-- a status for what reads as a script, where these are, and for what does not
+abbrev pub EndsFor : (ℕ → Type 0) → Result Script (ℕ × Reason) → ℕ → Type 0
+EndsFor ends (Ok script) status = ends status
+EndsFor ends (Err refused) status = status ≡ 2
 
--- where the source tells what it had, the status is that for it, unless there was no memory
-abbrev pub Completes : ℕ → Option (List ℕ) → Type 0
-Completes status left = (had : List ℕ) → left ≡ Some had → (status ≡ status_for (script_of had)) ⊎ (status ≡ 5)
+-- where the source tells what it had, the status is one for it, unless there was no memory
+abbrev pub Completes : (ℕ → Type 0) → ℕ → Option (List ℕ) → Type 0
+Completes ends status left = (had : List ℕ) → left ≡ Some had → EndsFor ends (script_of had) status ⊎ (status ≡ 5)
+
+-- a run over a server in memory ends whole
+abbrev pub IsWhole : ℕ → Type 0
+IsWhole status = status ≡ 0
+
+-- a run over a link ends whole, or with an error that stopped it
+abbrev pub IsWholeOrStopped : ℕ → Type 0
+IsWholeOrStopped status = (status ≡ 0) ⊎ (status ≡ 1)
 
 -- a count of faults rose where this is the failure, and else is as before
 abbrev pub SourceCause : {T : Type 0} → Result T Failure → ℕ → ℕ → Type 0
@@ -96,3 +107,7 @@ SourceCause other before now = now ≡ before
 abbrev pub SinkCause : {T : Type 0} → Result T Failure → ℕ → ℕ → Type 0
 SinkCause (Err SinkFailed) before now = before < now
 SinkCause other before now = now ≡ before
+
+abbrev pub DialCause : {T : Type 0} → Result T Failure → ℕ → ℕ → Type 0
+DialCause (Err DialFailed) before now = before < now
+DialCause other before now = now ≡ before

@@ -10,6 +10,7 @@ use Rattle.sftp_history.specs.declared.reason.Reason.TheVariants as reason
 use Rattle.sftp_history.specs.declared.report.Report.{Report}
 use Rattle.sftp_history.specs.declared.script.Script.{Script}
 use Rattle.sftp_history.specs.declared.turn.Turn.{Turn}
+use Rattle.sftp_history.specs.Closes.{AreClosed}
 use Rattle.sftp_history.specs.Readings.{trace_of, outcomes_below}
 use Rattle.sftp_history.specs.Runs.{IsRun}
 use Rattle.sftp_history.specs.Served.{Serves}
@@ -21,8 +22,8 @@ use Rattle.sftp_map_server.specs.Serving.{Desk, version_reply}
 -- ---- a run
 
 -- The text is that of a run of the script's lanes: the frames of its journal, the outcomes, which are the values of the
--- plans, and the files that are left. VERSION told what the script's server offers, and the journal was served from the
--- script's files to those that are left. Picks are passed over.
+-- plans, and the files that are left. VERSION told what the script's server offers, the journal was served from the
+-- script's files to those that are left, and each handle was closed exactly as often as it was granted. Picks are passed over.
 pub record IsPrinted (script : Script) (text : List ℕ) : Type 0 where
   pub extensions : Extensions
   pub past : List Entry
@@ -30,6 +31,7 @@ pub record IsPrinted (script : Script) (text : List ℕ) : Type 0 where
   pub run : IsRun (setting_of script.lanes script.options extensions past) script.turns past
   pub version : greeting extensions ≡ version_reply script.server
   pub served : Serves script.server script.choices (machine_of script.files) past left
+  pub closed : AreClosed past
   pub is : text ≡ text_with_files past (outcomes_below past (length script.lanes)) left
 
 -- the report is that of a run of lanes, which a server served from its first machine to the machine that is left
@@ -39,6 +41,7 @@ pub record IsServedRun (lanes : List Lane) (options : SftpOptions) (turns : List
   pub run : IsRun (setting_of lanes options extensions past) turns past
   pub version : greeting extensions ≡ version_reply first.granting.config
   pub served : Serves first.granting.config first.choices first.granting.machine past left
+  pub closed : AreClosed past
   pub trace : report.trace ≡ trace_of past
   pub outcomes : report.outcomes ≡ outcomes_below past (length lanes)
 
@@ -68,7 +71,11 @@ refusal_line number why = line (codes "line " ++ number_text number ++ codes " "
 
 -- ---- both
 
--- the status and the text for bytes that were read: 0 and the text of a run of the script, or 2 and why they are none
-abbrev pub IsAnswer : Result Script (ℕ × Reason) → ℕ → List ℕ → Type 0
-IsAnswer (Ok script) status text = (status ≡ 0) × IsPrinted script text
-IsAnswer (Err refused) status text = (status ≡ 2) × (text ≡ refusal_line refused.0 refused.1)
+-- the status and the text of a run over a server in memory
+abbrev pub RunsInMemory : Script → ℕ → List ℕ → Type 0
+RunsInMemory script status text = (status ≡ 0) × IsPrinted script text
+
+-- the status and the text for bytes that were read: what is right for the script that they are, or 2 and why they are none
+abbrev pub IsAnswer : (Script → ℕ → List ℕ → Type 0) → Result Script (ℕ × Reason) → ℕ → List ℕ → Type 0
+IsAnswer right (Ok script) status text = right script status text
+IsAnswer right (Err refused) status text = (status ≡ 2) × (text ≡ refusal_line refused.0 refused.1)

@@ -1,5 +1,5 @@
 -- What the program writes and answers for the words of its command line.
-use Rattle.std.specs.Prelude.{◌≡◌, ◌⊎◌, ℕ, Bool, false, List, [], ◌∷◌, Option, codes, if◌then◌else◌}
+use Rattle.std.specs.Prelude.{◌≡◌, ◌⊎◌, ℕ, Bool, false, ◌||◌, List, [], ◌∷◌, Option, codes, if◌then◌else◌}
 use Rattle.std.specs.Str.{bytes_eq}
 use Rattle.sftp_cli.specs.declared.answer.TheConstants.{HELP, VERSION, FAULTY}
 use Rattle.sftp_link.specs.Told.{Told, Went, WentLess}
@@ -9,6 +9,17 @@ abbrev pub is_script : List (List ℕ) → Bool
 is_script [] = false
 is_script (word ∷ []) = bytes_eq word (codes "script")
 is_script (word ∷ another ∷ words) = false
+
+-- the word `unix`, and a path behind it
+abbrev pub is_unix : List (List ℕ) → Bool
+is_unix [] = false
+is_unix (word ∷ []) = false
+is_unix (word ∷ path ∷ []) = bytes_eq word (codes "unix")
+is_unix (word ∷ path ∷ another ∷ words) = false
+
+-- words with which a script is read
+abbrev pub takes_script : List (List ℕ) → Bool
+takes_script words = is_script words || is_unix words
 
 -- of other words: 0 for the two that it knows alone, 2 for all else
 abbrev pub status_of : List (List ℕ) → ℕ

@@ -1,9 +1,22 @@
-ghost use Rattle.std.specs.Prelude.{◌≡◌, map};
+ghost use Rattle.std.specs.Prelude.{◌≡◌, map, is_some};
 ghost use Rattle.std.specs.String.{string_bytes};
-ghost use Rattle.sftp_cli.specs.Words.{is_script, status_of, text_of};
+ghost use Rattle.sftp_cli.specs.Words.{is_script, is_unix, status_of, text_of};
 
 /// What `--help` writes.
-pub(crate) const HELP: &str = "Usage: sftp_cli script | --help | --version\n";
+pub(crate) const HELP: &str = "\
+Usage: sftp_cli script | unix PATH | --help | --version
+
+  script       runs the script on standard input over a server of its files in memory
+  unix PATH    runs it over the SFTP server that listens on the Unix socket PATH
+  --help       writes this text
+  --version    writes the version
+
+The frames that were sent and taken, the outcomes of the calls and, with script, the
+files that are left are written to standard output. The status is 0 where all was done,
+1 where the session failed, 2 for a script or words that can't be used, 3 where the
+input failed, 4 where the output failed, 5 where memory ran out, and 6 where nothing
+answers at PATH.
+";
 
 /// What `--version` writes.
 pub(crate) const VERSION: &str = "tilfrjon 0.1.0\n";
@@ -25,6 +38,22 @@ pub(crate) fn is_script(words: &[String]) -> bool
     match words {
         [word] => word.as_str() == "script",
         _ => false,
+    }
+}
+
+/// The path, where the words are `unix` and a path.
+pub(crate) fn unix_path(words: &[String]) -> Option<&str>
+    ensures { is_some result ≡ is_unix (map string_bytes words.now) }
+{
+    match words {
+        [word, path] => {
+            if word.as_str() == "unix" {
+                Some(path.as_str())
+            } else {
+                None
+            }
+        }
+        _ => None,
     }
 }
 

@@ -13,6 +13,9 @@ const SINK_FAULT: u8 = 4;
 /// The status where there was no memory.
 pub(crate) const OUT_OF_MEMORY: u8 = 5;
 
+/// The status where the dial failed.
+const DIAL_FAULT: u8 = 6;
+
 /// Why the answer to a script isn't written whole.
 #[derive(Clone, Copy)]
 pub enum Failure {
@@ -22,6 +25,8 @@ pub enum Failure {
     SinkFailed,
     /// There was no memory.
     OutOfMemory,
+    /// The dial gave no link.
+    DialFailed,
 }
 
 impl Failure {
@@ -33,6 +38,7 @@ impl Failure {
             Failure::SourceFailed => SOURCE_FAULT,
             Failure::SinkFailed => SINK_FAULT,
             Failure::OutOfMemory => OUT_OF_MEMORY,
+            Failure::DialFailed => DIAL_FAULT,
         }
     }
 }

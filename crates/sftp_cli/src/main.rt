@@ -2,6 +2,7 @@
 #![tactic(auto)]
 
 mod answer;
+mod dialled;
 mod failure;
 mod printed;
 mod refusal;
@@ -11,7 +12,7 @@ mod script;
 mod tests;
 
 pub use run::run;
-use sftp_link::{ReadSource, WriteSink};
+use sftp_link::{ReadSource, UnixDial, WriteSink};
 use std::env;
 use std::process::ExitCode;
 
@@ -21,6 +22,7 @@ const FAULTY_WORDS: u8 = 2;
 fn main(rt: HostRuntime) -> ExitCode {
     let mut source = ReadSource::new(rt.stdin());
     let mut sink = WriteSink::new(rt.stdout());
+    let mut dial = UnixDial::new(&rt);
     let mut words = Vec::new(rt.alloc());
     let Ok(args) = env::args(&rt) else {
         return ExitCode::from(FAULTY_WORDS);
@@ -30,5 +32,5 @@ fn main(rt: HostRuntime) -> ExitCode {
             return ExitCode::from(failure::OUT_OF_MEMORY);
         }
     }
-    ExitCode::from(run(rt.alloc(), &words, &mut source, &mut sink))
+    ExitCode::from(run(rt.alloc(), &words, &mut source, &mut sink, &mut dial))
 }

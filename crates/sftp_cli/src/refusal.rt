@@ -1,9 +1,12 @@
-// The line that says why a script is refused.
+// The lines that say why a script is refused, and with which error a run stopped.
 ghost use Rattle.std.specs.Prelude.{◌≡◌, IfOk};
+ghost use Rattle.std.specs.Option.{option_copied};
+ghost use Rattle.sftp_cli.specs.Dialled.{error_line, error_name};
 ghost use Rattle.sftp_cli.specs.Printed.{reason_word, refusal_line};
 
 use itoa::Buffer;
 use sftp_history::Reason;
+use sftp_model::Error;
 use ssh_encoding::OutOfMemory;
 use std::alloc::Global;
 
@@ -35,6 +38,37 @@ pub(crate) fn refusal_line(alloc: Global, number: u64, why: Reason) -> Result<Ve
     text.extend_from_slice(digits.format(number).as_bytes())?;
     text.extend_from_slice(b" ")?;
     text.extend_from_slice(reason_word(why).as_bytes())?;
+    text.push(b'\n')?;
+    Ok(text)
+}
+
+/// The name of an error that stops a run; None for want of memory, which has a status of its own.
+pub(crate) fn error_name(error: &Error) -> Option<&'static str>
+    ensures { option_copied result ≡ error_name error.now }
+{
+    match error {
+        Error::OutOfMemory => None,
+        Error::LinkFault => Some("LinkFault"),
+        Error::LinkEnded => Some("LinkEnded"),
+        Error::UnsupportedSftpProtocol { .. } => Some("UnsupportedSftpProtocol"),
+        Error::FormatError(_) => Some("FormatError"),
+        Error::HandleTooLong { .. } => Some("HandleTooLong"),
+        Error::InvalidResponseId { .. } => Some("InvalidResponseId"),
+        Error::InvalidResponse { .. } => Some("InvalidResponse"),
+        Error::SftpError { .. } => Some("SftpError"),
+        Error::UnsupportedExtension(_) => Some("UnsupportedExtension"),
+        Error::IOError(_) => Some("IOError"),
+        Error::BackgroundTaskFailure(_) => Some("BackgroundTaskFailure"),
+    }
+}
+
+/// The line that names the error with which a run stopped.
+#[tactic(auto, using(sftp_wire::proofs::Puts::puts))]
+pub(crate) fn error_line(alloc: Global, name: &str) -> Result<Vec<u8>, OutOfMemory>
+    ensures { IfOk result (λ text. text.items ≡ error_line name.now) }
+{
+    let mut text = Vec::from_slice(alloc, b"error ")?;
+    text.extend_from_slice(name.as_bytes())?;
     text.push(b'\n')?;
     Ok(text)
 }

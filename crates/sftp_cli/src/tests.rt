@@ -1,19 +1,29 @@
+ghost use Rattle.std.specs.Prelude.{◌<◌, ◌-◌, ◌^◌};
+
+mod links;
+mod socket;
+
+use crate::answer::HELP;
 use crate::refusal::reason_word;
 use crate::run;
 use sftp_history::Reason;
-use sftp_link::{MemorySink, MemorySource};
+use sftp_link::{MemoryDial, MemorySink, MemorySource};
 use std::alloc::Global;
 use std::process::Abort;
 use std::test::Fail;
 
-/// The status for words and a script, and what was written, where the reads and the writes with these numbers fail.
-fn ran(
+/// The status for words and a script over a dial, and what was written, where the reads and the writes with these numbers
+/// fail.
+fn ran_over(
     alloc: Global,
     words: &[&str],
     script: &str,
     reads: &[u32],
     writes: &[u32],
-) -> Result<(u8, String), Fail> {
+    dial: &mut MemoryDial,
+) -> Result<(u8, String), Fail>
+    requires { dial.old.faults < 2 ^ 64 - 1 }
+{
     let mut owned = Vec::new(alloc);
     for word in words {
         owned.push(String::from_str(alloc, *word)?)?;
@@ -23,27 +33,37 @@ fn ran(
         Vec::from_slice(alloc, reads)?,
     );
     let mut sink = MemorySink::new(alloc, Vec::from_slice(alloc, writes)?);
-    let status = run(alloc, &owned, &mut source, &mut sink);
+    let status = run(alloc, &owned, &mut source, &mut sink, dial);
     Ok((
         status,
         String::from_utf8(Vec::from_slice(alloc, sink.bytes())?)?,
     ))
 }
 
+/// The same, with a dial that gives no link.
+fn ran(
+    alloc: Global,
+    words: &[&str],
+    script: &str,
+    reads: &[u32],
+    writes: &[u32],
+) -> Result<(u8, String), Fail> {
+    let mut dial = MemoryDial::new(None);
+    ran_over(alloc, words, script, reads, writes, &mut dial)
+}
+
 #[test]
 fn words(rt: HostRuntime) -> Result<(), Fail> {
     let alloc = rt.alloc();
     for (words, fails, status, text) in [
-        (
-            ["--help"].as_slice(),
-            [].as_slice(),
-            0,
-            "Usage: sftp_cli script | --help | --version\n",
-        ),
+        (["--help"].as_slice(), [].as_slice(), 0, HELP),
         (&["--version"], &[], 0, "tilfrjon 0.1.0\n"),
         (&["frob"], &[], 2, "line 0 words\n"),
         (&["--help", "--version"], &[], 2, "line 0 words\n"),
         (&["script", "script"], &[], 2, "line 0 words\n"),
+        (&["unix"], &[], 2, "line 0 words\n"),
+        (&["unix", "p", "q"], &[], 2, "line 0 words\n"),
+        (&["unix", "p"], &[], 6, ""),
         (&[], &[], 2, "line 0 words\n"),
         (&["--help"], &[0], 4, ""),
     ] {

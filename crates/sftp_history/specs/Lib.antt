@@ -4,6 +4,7 @@ pub mod Readings
 pub mod Calls
 pub mod Settings
 pub mod Grants
+pub mod Closes
 pub mod Ids
 pub mod Journals
 pub mod Turns
@@ -36,3 +37,8 @@ pub mod CountLaws
 pub mod LimitsLaws
 pub mod SettingRows
 pub mod CloseRows
+pub mod PlanLaws
+pub mod HolderLaws
+pub mod ClosedLaws
+pub mod AllClosedLaws
+pub mod ClosesRows

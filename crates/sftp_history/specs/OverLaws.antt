@@ -122,7 +122,7 @@ lets_go_good s (suc n) before now le g to = let_go_one s n to.0 now (omega arith
 
 -- ---- the whole
 
-over_by : (s : Setting) (turns : List Turn) (past : List Entry) (run : IsRun s turns past) → IsJournal s past × IsOver s past
+over_by : (s : Setting) (turns : List Turn) (past : List Entry) (run : IsRun s turns past) → IsJournal s past × (IsOver s past × IsSettled s past)
 over_by s turns past (at, (by, is)) =
     let first = opens_good s at.opened by.opens in
     let turned : Passes s (at_first at.opened) at.turned = turns_pass s turns (at_first at.opened) at.turned by.turns in
@@ -136,11 +136,15 @@ over_by s turns past (at, (by, is)) =
     let let_go : Gone s (length s.lanes) at.let_go = lets_go_good s (length s.lanes) at.ended at.let_go (omega arith) gone by.lets_go in
     let drained : Passes s at.let_go at.drained = drains_pass s by.drains.0 at.let_go at.drained by.drains.1 in
     let good : GoodStage s at.drained = drained.good let_go.good in
-    subst (λ (p : List Entry). IsJournal s p × IsOver s p) is
-    (good.good.run, ((λ lane lt. drained.keeps.unlet lane ∙ let_go.let_go lane lt), good.still.settled, by.answered))
+    subst (λ (p : List Entry). IsJournal s p × (IsOver s p × IsSettled s p)) is
+    (good.good.run, (((λ lane lt. drained.keeps.unlet lane ∙ let_go.let_go lane lt), good.still.settled, by.answered), good.still.plain))
 
 pub runs_are_journals : (s : Setting) (turns : List Turn) (past : List Entry) → IsRun s turns past → IsJournal s past
 runs_are_journals s turns past run = (over_by s turns past run).0
 
 pub runs_are_over : (s : Setting) (turns : List Turn) (past : List Entry) → IsRun s turns past → IsOver s past
-runs_are_over s turns past run = (over_by s turns past run).1
+runs_are_over s turns past run = (over_by s turns past run).1.0
+
+-- behind a whole run no grant at all is to be closed
+pub runs_settle : (s : Setting) (turns : List Turn) (past : List Entry) → IsRun s turns past → IsSettled s past
+runs_settle s turns past run = (over_by s turns past run).1.1

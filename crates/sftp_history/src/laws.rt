@@ -1,5 +1,5 @@
 // Laws of the definitions. The functions do nothing: what they ensure holds of all values.
-ghost use Rattle.std.specs.Prelude.{◌≡◌, ◌≢◌, ◌<◌, ℕ, List, [], ◌∷◌, Some, None};
+ghost use Rattle.std.specs.Prelude.{◌≡◌, ◌≢◌, ◌<◌, ◌≤◌, ℕ, true, false, List, [], ◌∷◌, Some, None};
 ghost use Rattle.sftp_model.specs.declared.reply.Reply.{Reply};
 ghost use Rattle.sftp_history.specs.declared.entry.Entry.{Entry};
 ghost use Rattle.sftp_history.specs.declared.entry.Entry.TheVariants as entry;
@@ -9,7 +9,8 @@ ghost use Rattle.sftp_history.specs.Calls.{Setting, current};
 ghost use Rattle.sftp_history.specs.Ids.{id_state, Reads};
 ghost use Rattle.sftp_history.specs.Journals.{IsJournal, IsOver, MayTake};
 ghost use Rattle.sftp_history.specs.LetGoLaws.{IsSettled};
-ghost use Rattle.sftp_history.specs.Grants.{orphan};
+ghost use Rattle.sftp_history.specs.Grants.{orphan, is_grant, is_held, is_one_of, closed};
+ghost use Rattle.sftp_history.specs.Closes.{granted_handles, closed_handles, times, AreClosed, closes_of};
 ghost use Rattle.sftp_history.specs.Runs.{IsRun};
 ghost use Rattle.sftp_history.specs.Turns.{Stage, ClosesTo};
 ghost use Rattle.sftp_history.specs.declared.turn.Turn.{Turn};
@@ -49,4 +50,21 @@ pub fn letting_go_settles()
     ensures { (s : Setting) (past now : List Entry) (lane : ℕ) → IsSettled s past
         → current s past lane ≡ None → ClosesTo s (entry.LetGo lane ∷ past) now → orphan s now ≡ None
         → IsSettled s now }
+{}
+
+/// Each grant has one CLOSE at most, and where it has one, it came by a HANDLE and nothing holds it any more.
+/// Behind a whole run each grant has one.
+pub fn grants_are_closed_once()
+    ensures once { (s : Setting) (past : List Entry) (g : ℕ) → IsJournal s past → closes_of s past g ≤ 1 }
+    ensures granted { (s : Setting) (past : List Entry) (g : ℕ) → IsJournal s past
+        → is_one_of (closed s past) g ≡ true → (is_grant past g ≡ true) × (is_held s past g ≡ false) }
+    ensures all { (s : Setting) (turns : List Turn) (past : List Entry) (g : ℕ) → IsRun s turns past
+        → is_grant past g ≡ true → closes_of s past g ≡ 1 }
+{}
+
+/// No handle was closed more often than it was granted, and behind a whole run each was closed exactly as often.
+pub fn handles_are_closed()
+    ensures so_far { (s : Setting) (past : List Entry) (handle : List ℕ) → IsJournal s past
+        → times handle (closed_handles past) ≤ times handle (granted_handles past) }
+    ensures all { (s : Setting) (turns : List Turn) (past : List Entry) → IsRun s turns past → AreClosed past }
 {}

@@ -1,10 +1,16 @@
--- What stands at the edge: a reader or a writer of std, and how often it failed.
-use Rattle.std.specs.Prelude.{ℕ, List, Option, take, ◌≤◌, length}
+-- What stands at the edge: a reader, a writer or a stream of std, and how often it failed.
+use Rattle.std.specs.Prelude.{ℕ, List, Option, Bool, take, ◌≤◌, length}
 use Rattle.std.specs.Io.KnownBytes.{Appends}
 
 pub record Counting (R : Type 0) : Type 0 where
   pub inner : R
   pub faults : ℕ
+
+-- a connected stream, how often it failed, and whether the last call on it was a recv that found the end
+pub record Streaming (S : Type 0) : Type 0 where
+  pub inner : S
+  pub faults : ℕ
+  pub ended : Bool
 
 -- some of the first bytes were appended, where the bytes are known
 abbrev pub AppendsSome : Option (List ℕ) → Option (List ℕ) → List ℕ → Type 0

@@ -14,6 +14,7 @@ mod piece;
 mod script;
 mod scripted_link;
 mod stream;
+mod unix;
 mod whole;
 
 pub use device_error::DeviceError;
@@ -26,6 +27,7 @@ pub use memory_dial::MemoryDial;
 pub use piece::{Piece, Scripted};
 pub use scripted_link::ScriptedLink;
 pub use stream::{Sink, Source};
+pub use unix::{StreamLink, UnixDial, UnixLink};
 pub use whole::{read_up_to, recv_exact, send_all, write_all};
 
 #[cfg(test)]

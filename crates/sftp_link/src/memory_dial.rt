@@ -1,6 +1,6 @@
 ghost use Rattle.std.specs.Prelude.{◌≡◌, ◌<◌, ◌-◌, ◌^◌, Some, None, false, reverse, IfOk, if◌then◌else◌};
 ghost use Rattle.sftp_link.specs.Causes.{Cause};
-ghost use Rattle.sftp_link.specs.Dialled.{IsEmptyLog, IsFresh, pieces_of, log_of, faults_of, ended_of, DialsNext};
+ghost use Rattle.sftp_link.specs.Dialled.{IsEmptyLog, IsFresh, pieces_of, log_of, faults_of, ended_of, after_put_back, DialsNext};
 
 use crate::device_error::DeviceError;
 use crate::dial::Dial;
@@ -18,11 +18,13 @@ pub struct MemoryDial {
 }
 
 impl Model for MemoryDial {
+    ghost use Rattle.std.specs.Prelude.{Option};
     ghost use Rattle.sftp_link.specs.Dialled.{Line, IsFresh};
+    ghost use Rattle.sftp_link.specs.Script.{Play};
 
-    ghost Value = { Line };
+    ghost Value = { Line (Option Play) Play };
 
-    ghost view = { λ d. record { link = d.link; last = d.last; faults = d.faults } };
+    ghost view = { λ d. record { from = d.link; last = d.last; faults = d.faults } };
 
     ghost invariant = { λ d. IsFresh d.link };
 }
@@ -32,7 +34,7 @@ impl MemoryDial {
     /// the link.
     pub fn new(link: Option<ScriptedLink>) -> MemoryDial
         requires { IsFresh link }
-        ensures { result ≡ record { link = link; last = None; faults = 0 } }
+        ensures { result ≡ record { from = link; last = None; faults = 0 } }
     {
         MemoryDial {
             link,
@@ -57,9 +59,9 @@ impl Dial for MemoryDial {
 
     ghost last = { λ d. log_of d.last };
 
-    ghost last_faults = { λ d. faults_of d.last };
+    ghost last_faults = { λ d. faults_of d.last (λ l. l.calls.faults) };
 
-    ghost last_ended = { λ d. ended_of d.last };
+    ghost last_ended = { λ d. ended_of d.last (λ l. l.ended) };
 
     ghost faults = { λ d. d.faults };
 
@@ -70,8 +72,8 @@ impl Dial for MemoryDial {
         ensures unfailed { IfOk result (λ end. end.calls.faults ≡ 0) }
         ensures end { IfOk result (λ end. end.ended ≡ false) }
         ensures last { log_of self.new.last ≡ log_of self.old.last }
-        ensures last_faults { faults_of self.new.last ≡ faults_of self.old.last }
-        ensures last_ended { ended_of self.new.last ≡ ended_of self.old.last }
+        ensures last_faults { faults_of self.new.last (λ l. l.calls.faults) ≡ faults_of self.old.last (λ l. l.calls.faults) }
+        ensures last_ended { ended_of self.new.last (λ l. l.ended) ≡ ended_of self.old.last (λ l. l.ended) }
         ensures cause { Cause self.old.faults self.new.faults result }
         ensures next { DialsNext self.old self.new result }
     {
@@ -86,12 +88,11 @@ impl Dial for MemoryDial {
 
     fn put_back(&mut self, end: Logged<ScriptedLink>)
         ensures last { log_of self.new.last ≡ Some (reverse end.pieces) }
-        ensures last_faults { faults_of self.new.last ≡ end.link.calls.faults }
-        ensures last_ended { ended_of self.new.last ≡
+        ensures last_faults { faults_of self.new.last (λ l. l.calls.faults) ≡ end.link.calls.faults }
+        ensures last_ended { ended_of self.new.last (λ l. l.ended) ≡
             (if end.starved then false else end.link.ended) }
         ensures faults { self.new.faults ≡ self.old.faults }
-        ensures next { self.new ≡
-            record { link = self.old.link; last = Some end; faults = self.old.faults } }
+        ensures next { self.new ≡ after_put_back self.old end }
     {
         self.last = Some(end);
     }

@@ -1,3 +1,5 @@
+mod unix;
+
 use super::*;
 use sftp_values::{ByteText, is_same};
 use std::alloc::{AllocError, Global};

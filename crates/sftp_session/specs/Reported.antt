@@ -8,12 +8,14 @@ use Rattle.sftp_history.specs.declared.call.Lane.{Lane}
 use Rattle.sftp_history.specs.declared.entry.Entry.{Entry}
 use Rattle.sftp_history.specs.declared.report.Report.{Report}
 use Rattle.sftp_history.specs.declared.turn.Turn.{Turn}
+use Rattle.sftp_history.specs.Closes.{AreClosed}
 use Rattle.sftp_history.specs.Readings.{outcomes_below, trace_of}
 use Rattle.sftp_history.specs.Runs.{IsRun}
 use Rattle.sftp_history.specs.Settings.{greeting, setting_of}
 use Rattle.sftp_history.specs.Shown.{Shows}
 
--- The report is that of a run of the lanes under these turns, which the link's log shows where it tells one.
+-- The report is that of a run of the lanes under these turns, which the link's log shows where it tells one. Each handle was
+-- closed exactly as often as it was granted.
 pub record IsReport (lanes : List Lane) (options : SftpOptions) (schedule : List Turn) (before after : Option (List Piece)) (report : Report) : Type 0 where
   pub extensions : Extensions
   pub past : List Entry
@@ -21,4 +23,5 @@ pub record IsReport (lanes : List Lane) (options : SftpOptions) (schedule : List
   pub hello : report.hello ≡ Some (greeting extensions)
   pub trace : report.trace ≡ trace_of past
   pub outcomes : report.outcomes ≡ outcomes_below past (length lanes)
+  pub closed : AreClosed past
   pub log : Told (Shows (greeting extensions) past) before after

@@ -21,7 +21,7 @@ use std::alloc::Global;
 /// taken.
 ///
 /// With Ok the report is that of a run of the lanes under these turns: its events are the run's journal, and the link's
-/// log, where it tells one, shows VERSION and that journal. `LinkFault` comes only where the link's count of faults rose,
+/// log, where it tells one, shows VERSION and that journal; each handle was closed exactly as often as it was granted. `LinkFault` comes only where the link's count of faults rose,
 /// `LinkEnded` only where its last call found the end, and each other error but `OutOfMemory` is the first thing that is
 /// wrong with the frame that came last. After an error the log shows VERSION and a journal that is a run so far of the
 /// lanes, or the hello, and then nothing, a front of the next frames to be sent, or bytes of one frame that wasn't taken.

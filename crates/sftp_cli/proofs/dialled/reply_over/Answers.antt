@@ -1,0 +1,14 @@
+use Rattle.std.proofs.Common.{false, sym, inr, refl, if◌then◌else◌}
+use Rattle.std.specs.Prelude.{reverse}
+use Rattle.sftp_cli.proofs.Linked.{is_stopped}
+use Rattle.sftp_cli.proofs.dialled.reply_over.Goals as goal
+
+pub returns-in-Some : goal.returns-in-Some
+returns-in-Some g c =
+    let link = c.run_lanes.new.link in
+    inr (
+      refl,
+      is_stopped c.args.script.now c.as_slice-lanes.result.now c.args.link.now.pieces (reverse link.pieces) (g.L.LinkState.faults c.args.link.now.link) (g.L.LinkState.faults link.link)
+          (if link.starved then false else g.L.LinkState.ended link.link) c.in-Err.error c.in-Some.name.now c.in_ok-error_line-in-Some.field-0.items c.as_slice-lanes.ensures c.requires.quiet c.requires.unfailed
+          c.in-Err.ensures.stops c.in-Err.ensures.cause c.in-Err.ensures.end (sym c.in-Some.ensures) c.in_ok-error_line-in-Some.ensures,
+    )

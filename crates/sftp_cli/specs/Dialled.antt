@@ -1,0 +1,91 @@
+-- What the program has to write for a script whose lanes run over a link to a server elsewhere.
+use Rattle.std.specs.Prelude.{◌≡◌, ◌⊎◌, ℕ, Bool, List, [], ◌++◌, length, codes, Option, Some, None, Err}
+use Rattle.sftp_link.specs.declared.piece.Piece.{Piece}
+use Rattle.sftp_model.specs.declared.error.Error.{Error}
+use Rattle.sftp_model.specs.declared.error.Error.TheVariants as errors
+use Rattle.sftp_model.specs.declared.flags.Extensions.{Extensions}
+use Rattle.sftp_history.specs.declared.entry.Entry.{Entry}
+use Rattle.sftp_history.specs.declared.report.Report.{Report}
+use Rattle.sftp_history.specs.declared.script.Script.{Script}
+use Rattle.sftp_history.specs.Closes.{AreClosed}
+use Rattle.sftp_history.specs.Readings.{outcomes_below}
+use Rattle.sftp_history.specs.Runs.{IsRun}
+use Rattle.sftp_history.specs.Settings.{greeting, setting_of}
+use Rattle.sftp_history.specs.Shown.{Shows}
+use Rattle.sftp_history.specs.Texts.{line, text_of}
+use Rattle.sftp_lanes.specs.Causes.{Cause, EndCause}
+use Rattle.sftp_lanes.specs.Logs.{Ends}
+use Rattle.sftp_session.specs.Seen.{given}
+use Rattle.sftp_cli.specs.declared.failure.Failure.{Failure}
+use Rattle.sftp_cli.specs.declared.failure.Failure.TheVariants.{SourceFailed, SinkFailed, OutOfMemory, DialFailed}
+
+-- what a dial tells of the link that was put back last: its log, how often it failed, and whether its last call found the end
+pub record LastLink : Type 0 where
+  pub log : Option (List Piece)
+  pub faults : ℕ
+  pub ended : Bool
+
+abbrev pub last_link : Option (List Piece) → ℕ → Bool → LastLink
+last_link log faults ended = record { log = log; faults = faults; ended = ended }
+
+-- ---- a whole run
+
+-- The text is that of a run of the script's lanes: the frames of its journal and the outcomes, which are the values of the
+-- plans. The link's log shows VERSION and that journal, and each handle was closed exactly as often as it was granted.
+pub record IsShown (last : LastLink) (script : Script) (text : List ℕ) : Type 0 where
+  pub extensions : Extensions
+  pub past : List Entry
+  pub log : List Piece
+  pub told : last.log ≡ Some log
+  pub run : IsRun (setting_of script.lanes script.options extensions past) script.turns past
+  pub shown : Shows (greeting extensions) past [] log
+  pub closed : AreClosed past
+  pub is : text ≡ text_of past (outcomes_below past (length script.lanes))
+
+-- ---- a run that stopped
+
+-- the name of an error that stops a run; want of memory has a status of its own
+abbrev pub error_name : Error → Option (List ℕ)
+error_name errors.OutOfMemory = None
+error_name errors.LinkFault = Some (codes "LinkFault")
+error_name errors.LinkEnded = Some (codes "LinkEnded")
+error_name (errors.UnsupportedSftpProtocol version) = Some (codes "UnsupportedSftpProtocol")
+error_name (errors.FormatError kind) = Some (codes "FormatError")
+error_name (errors.HandleTooLong len) = Some (codes "HandleTooLong")
+error_name (errors.InvalidResponseId id) = Some (codes "InvalidResponseId")
+error_name (errors.InvalidResponse id) = Some (codes "InvalidResponse")
+error_name (errors.SftpError code message language) = Some (codes "SftpError")
+error_name (errors.UnsupportedExtension set) = Some (codes "UnsupportedExtension")
+error_name (errors.IOError kind) = Some (codes "IOError")
+error_name (errors.BackgroundTaskFailure fault) = Some (codes "BackgroundTaskFailure")
+
+-- the line that names an error
+abbrev pub error_line : List ℕ → List ℕ
+error_line name = line (codes "error " ++ name)
+
+-- The run stopped with an error other than want of memory, and the line names it. The link failed only where its count of
+-- faults rose and ended only where its last call found the end; any other error is the first thing that is wrong with the
+-- frame that came last. The log shows how far the run had come.
+pub record IsStopped (last : LastLink) (script : Script) (text : List ℕ) : Type 0 where
+  pub error : Error
+  pub log : List Piece
+  pub told : last.log ≡ Some log
+  pub name : List ℕ
+  pub named : error_name error ≡ Some name
+  pub cause : Cause {T = Report} 0 last.faults (Err error)
+  pub end : EndCause {T = Report} last.ended (Err error)
+  pub stops : Ends (given script.lanes script.options) last.ended error [] log
+  pub is : text ≡ error_line name
+
+-- ---- both
+
+-- the status and the text of a run over a link: 0 and the run's, or 1 and the error that stopped it
+abbrev pub RunsOver : LastLink → Script → ℕ → List ℕ → Type 0
+RunsOver last script status text = ((status ≡ 0) × IsShown last script text) ⊎ ((status ≡ 1) × IsStopped last script text)
+
+-- where the source or the dial failed no link was put back
+abbrev pub Undialled : Failure → LastLink → LastLink → Type 0
+Undialled SourceFailed before now = now ≡ before
+Undialled DialFailed before now = now ≡ before
+Undialled SinkFailed before now = Unit {0}
+Undialled OutOfMemory before now = Unit {0}

@@ -1,0 +1,5 @@
+use Rattle.sftp_history.specs.AllClosedLaws.{handles_most, handles_closed}
+use Rattle.sftp_history.proofs.laws.handles_are_closed.Goals as goal
+
+pub returns : goal.returns
+returns c = record { so_far = handles_most; all = handles_closed }
