@@ -193,11 +193,11 @@ dial_cause OutOfMemory status before now h is = inr ((λ e. let bad : 5 ≡ 6 = 
 dial_cause DialFailed status before now h is = inl (is, h)
 
 -- the status of a failure is one of the statuses; without a dial it isn't that of a dial
-pub failure_status : (why : Failure) (status : ℕ) → status ≡ code why → (status ≡ 6) ⊎ IsStatus status
-failure_status SourceFailed status is = inr (inr (inr (inl is)))
-failure_status SinkFailed status is = inr (inr (inr (inr (inl is))))
-failure_status OutOfMemory status is = inr (inr (inr (inr (inr is))))
-failure_status DialFailed status is = inl is
+pub failure_status : (why : Failure) (status : ℕ) → status ≡ code why → IsStatus status ⊎ (status ≡ 1) ⊎ (status ≡ 6)
+failure_status SourceFailed status is = inl (inr (inr (inl is)))
+failure_status SinkFailed status is = inl (inr (inr (inr (inl is))))
+failure_status OutOfMemory status is = inl (inr (inr (inr (inr is))))
+failure_status DialFailed status is = inr (inr is)
 
 pub undialled_status : (why : Failure) (status : ℕ) → DialCause {T = ℕ} (Err why) 0 0 → status ≡ code why → IsStatus status
 undialled_status SourceFailed status h is = inr (inr (inl is))
@@ -205,13 +205,10 @@ undialled_status SinkFailed status h is = inr (inr (inr (inl is)))
 undialled_status OutOfMemory status h is = inr (inr (inr (inr is)))
 undialled_status DialFailed status h is = absurd (omega (arith, h))
 
-pub any_status : (why : Failure) (status : ℕ) → status ≡ code why → (status ≡ 1) ⊎ (status ≡ 6) ⊎ IsStatus status
-any_status why status is = inr (failure_status why status is)
-
-pub small_status : (status : ℕ) → status < 3 → (status ≡ 1) ⊎ (status ≡ 6) ⊎ IsStatus status
-small_status zero lt = inr (inr (inl refl))
-small_status (suc zero) lt = inl refl
-small_status (suc (suc zero)) lt = inr (inr (inr (inl refl)))
+pub small_status : (status : ℕ) → status < 3 → IsStatus status ⊎ (status ≡ 1) ⊎ (status ≡ 6)
+small_status zero lt = inl (inl refl)
+small_status (suc zero) lt = inr (inl refl)
+small_status (suc (suc zero)) lt = inl (inr (inl refl))
 small_status (suc (suc (suc n))) lt = absurd (omega (arith, lt))
 
 pub ruleset endings = (failure_unfinished, failure_completes, no_cause, source_cause, sink_cause, dial_cause)
@@ -300,7 +297,7 @@ failure_undialled OutOfMemory status before now h is (inl e) = absurd (let bad :
 failure_undialled OutOfMemory status before now h is (inr (inl e)) = absurd (let bad : 5 ≡ 3 = sym is ∙ e in cc bad)
 failure_undialled OutOfMemory status before now h is (inr (inr e)) = absurd (let bad : 5 ≡ 6 = sym is ∙ e in cc bad)
 
-pub ruleset over_link = (link_ran, link_stopped, link_refused, link_small_status, link_completes, link_finished, answer_undialled, failure_undialled, any_status, small_status)
+pub ruleset over_link = (link_ran, link_stopped, link_refused, link_small_status, link_completes, link_finished, answer_undialled, failure_undialled, failure_status, small_status)
 
 -- ---- the words
 

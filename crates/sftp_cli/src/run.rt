@@ -53,7 +53,7 @@ fn end_unix<S: Source, K: Sink, D: Dial>(
         → Completes IsWholeOrStopped result (S.left source.old) }
     ensures causes { HasCause 3 result (S.faults source.old) (S.faults source.new) × HasCause 4 result (K.faults sink.old) (K.faults sink.new)
         × HasCause 6 result (D.faults dial.old) (D.faults dial.new) }
-    ensures status { (result ≡ 1) ⊎ (result ≡ 6) ⊎ IsStatus result }
+    ensures status { IsStatus result ⊎ (result ≡ 1) ⊎ (result ≡ 6) }
 {
     match run_unix(alloc, path, source, sink, dial) {
         Ok(status) => status,
@@ -100,8 +100,7 @@ pub fn run<S: Source, K: Sink, D: Dial>(
     ensures over_link { is_unix (map string_bytes words.now) ≡ true → result ≡ 0
         → Ran (λ script text. IsShown (last_link (D.last dial.new) (D.last_faults dial.new) (D.last_ended dial.new)) script text)
         (S.left source.old) (S.left source.new) (K.written sink.old) (K.written sink.new) }
-    ensures error { result ≡ 1 → (is_unix (map string_bytes words.now) ≡ true)
-        × Ran (λ script text. IsStopped (last_link (D.last dial.new) (D.last_faults dial.new) (D.last_ended dial.new)) script text)
+    ensures error { result ≡ 1 → Ran (λ script text. IsStopped (last_link (D.last dial.new) (D.last_faults dial.new) (D.last_ended dial.new)) script text)
         (S.left source.old) (S.left source.new) (K.written sink.old) (K.written sink.new) }
     ensures refused { takes_script (map string_bytes words.now) ≡ true → result ≡ 2
         → Refused (S.left source.old) (S.left source.new) (K.written sink.old) (K.written sink.new) }
@@ -123,7 +122,7 @@ pub fn run<S: Source, K: Sink, D: Dial>(
     ensures untouched { takes_script (map string_bytes words.now) ≡ false → S.left source.new ≡ S.left source.old }
     ensures causes { HasCause 3 result (S.faults source.old) (S.faults source.new)
         × HasCause 4 result (K.faults sink.old) (K.faults sink.new) × HasCause 6 result (D.faults dial.old) (D.faults dial.new) }
-    ensures status { (result ≡ 1) ⊎ (result ≡ 6) ⊎ IsStatus result }
+    ensures status { IsStatus result ⊎ ((is_unix (map string_bytes words.now) ≡ true) × ((result ≡ 1) ⊎ (result ≡ 6))) }
 {
     if is_script(words) {
         end_script(alloc, source, sink)

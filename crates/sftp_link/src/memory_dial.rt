@@ -72,8 +72,10 @@ impl Dial for MemoryDial {
         ensures unfailed { IfOk result (λ end. end.calls.faults ≡ 0) }
         ensures end { IfOk result (λ end. end.ended ≡ false) }
         ensures last { log_of self.new.last ≡ log_of self.old.last }
-        ensures last_faults { faults_of self.new.last (λ l. l.calls.faults) ≡ faults_of self.old.last (λ l. l.calls.faults) }
-        ensures last_ended { ended_of self.new.last (λ l. l.ended) ≡ ended_of self.old.last (λ l. l.ended) }
+        ensures last_faults { faults_of self.new.last (λ l. l.calls.faults) ≡
+            faults_of self.old.last (λ l. l.calls.faults) }
+        ensures last_ended { ended_of self.new.last (λ l. l.ended) ≡
+            ended_of self.old.last (λ l. l.ended) }
         ensures cause { Cause self.old.faults self.new.faults result }
         ensures next { DialsNext self.old self.new result }
     {
@@ -88,7 +90,8 @@ impl Dial for MemoryDial {
 
     fn put_back(&mut self, end: Logged<ScriptedLink>)
         ensures last { log_of self.new.last ≡ Some (reverse end.pieces) }
-        ensures last_faults { faults_of self.new.last (λ l. l.calls.faults) ≡ end.link.calls.faults }
+        ensures last_faults { faults_of self.new.last (λ l. l.calls.faults) ≡
+            end.link.calls.faults }
         ensures last_ended { ended_of self.new.last (λ l. l.ended) ≡
             (if end.starved then false else end.link.ended) }
         ensures faults { self.new.faults ≡ self.old.faults }

@@ -60,7 +60,8 @@ impl<S> LinkState for StreamLink<S> {
 }
 
 impl<S: Read + Write> LinkOut for StreamLink<S> {
-    /// One write of the stream; `Failed` where it answers an error or takes nothing.
+    /// One write of the stream; `Failed` where it answers an error or takes nothing, each counted
+    /// as one fault.
     fn send(&mut self, bytes: &[u8]) -> Result<usize, DeviceError>
         requires some { 0 < length bytes.now }
         requires count { self.old.faults < 2 ^ 64 - 1 }
@@ -84,7 +85,8 @@ impl<S: Read + Write> LinkOut for StreamLink<S> {
 }
 
 impl<S: Read + Write> LinkIn for StreamLink<S> {
-    /// One read of the stream; `Failed` where it answers an error.
+    /// One read of the stream, which may wait for the peer; `Failed` where it answers an error,
+    /// counted as one fault.
     fn recv(&mut self, room: &mut [u8]) -> Result<usize, DeviceError>
         requires some { 0 < length room.old }
         requires count { self.old.faults < 2 ^ 64 - 1 }
@@ -155,7 +157,8 @@ impl<R: Net> Dial for UnixDial<R> {
 
     ghost faults = { λ d. d.faults };
 
-    /// One connect to the socket at the path; `Failed` where it answers an error.
+    /// One connect to the socket at the path; `Failed` where it answers an error, as where nothing
+    /// listens there. Either way the link that was put back stays.
     fn dial(&mut self, path: &str) -> Result<UnixLink, DeviceError>
         requires count { self.old.faults < 2 ^ 64 - 1 }
         ensures unfailed { IfOk result (λ end. end.faults ≡ 0) }

@@ -7,6 +7,7 @@ pub mod StepLaws
 pub mod Leaving
 pub mod Stepping
 pub mod CancelNoted
+pub mod FaultLaws
 pub mod Opening
 pub mod Counting
 pub mod Reporting

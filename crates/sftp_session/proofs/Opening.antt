@@ -42,7 +42,7 @@ use Rattle.sftp_history.specs.RunLaws.{Good, Still}
 use Rattle.sftp_history.specs.Runs.{queried}
 use Rattle.sftp_history.specs.Settings.{greeting, limits_told, limits_of, read_limits}
 use Rattle.sftp_lanes.specs.declared.session.Phase.{Phase}
-use Rattle.sftp_lanes.specs.declared.session.Phase.TheVariants.{Open}
+use Rattle.sftp_lanes.specs.declared.session.Phase.TheVariants.{Failed, Open}
 use Rattle.sftp_lanes.specs.Session.{IsFixed}
 use Rattle.sftp_lanes.proofs.Bare.{GoesOn, idle_awaited, idle_unanswered, limits_in_core, may_take, takes_limits}
 use Rattle.sftp_lanes.specs.NoLanes.{IsIdle as IsQuiet, IsOpen, asked_core, idle_core, offered}
@@ -53,6 +53,8 @@ use Rattle.sftp_session.specs.Counted.{Counted}
 use Rattle.sftp_session.specs.Held.{due_of_still}
 use Rattle.sftp_session.specs.Seen.{AreFreshStates, IsFreshState, IsInPhase, IsSession, IsUntouched, facts_by, setting_by}
 use Rattle.sftp_session.specs.Session.{IsTied}
+use Rattle.sftp_session.specs.SoFar.{HasRoom, StaysSoFar}
+use Rattle.sftp_session.proofs.FaultLaws.{so_far}
 use Rattle.sftp_session.specs.Tables.{replied, slots_of, stand}
 use Rattle.sftp_session.specs.Tied.{CoreTied, LaneTied, RunTied, SlotTied}
 use Rattle.sftp_session.specs.Working.{IsWorking, past_of}
@@ -214,6 +216,10 @@ counted s past options info core idle o =
 
 -- ---- the opened session
 
+-- a frame changes no lane
+pub still_untouched : (lanes : List Lane) (info : Option Info) (old new : Lanes) → new ≡ record old { core = new.core; journal = new.journal } → IsUntouched lanes info old → IsUntouched lanes None new
+still_untouched lanes info old new is u = rw is (record { calls = u.calls; untold = refl; begun = u.begun; count = u.count; each = u.each })
+
 -- no lane has done anything, and this is known of the server
 pub opened_working : (lanes : List Lane) (options : SftpOptions) (version : Option Reply) (info : Info) (known : Option Info) (w : Lanes) → are_ok lanes ≡ true → known ≡ Some info → w.core ≡ idle_core options info
     → IsQuiet (past_of w) → IsUntouched lanes None w → IsIdle (setting_by lanes options version known) (past_of w) → IsInPhase lanes options version known w Open
@@ -299,10 +305,15 @@ same_version r other e = cc
 -- what is so in one phase
 pub in_phase : (lanes : List Lane) (options : SftpOptions) (version : Option Reply) (known : Option Info) (w : Lanes) (phase other : Phase) → IsSession lanes options version known w phase → phase ≡ other
     → IsInPhase lanes options version known w other
-in_phase lanes options version known w phase other is e = subst (IsInPhase lanes options version known w) e is.1
+in_phase lanes options version known w phase other is e = subst (IsInPhase lanes options version known w) e is.now
 
 -- an open session is open still, where its lanes work on
-pub works_on : (lanes : List Lane) (options : SftpOptions) (version : Option Reply) (known : Option Info) (old new : Lanes) (phase : Phase) → IsSession lanes options version known old phase → phase ≡ Open
+pub works_on : (lanes : List Lane) (options : SftpOptions) (version : Option Reply) (known : Option Info) (old new : Lanes) (phase : Phase) → IsSession lanes options version known old phase → phase ≡ Open → HasRoom new
     → (IsWorking (setting_by lanes options version known) old → IsWorking (setting_by lanes options version known) new) → IsSession lanes options version known new phase
-works_on lanes options version known old new phase is open_is on =
-    (is.0, subst (IsInPhase lanes options version known new) (sym open_is) (on (subst (IsInPhase lanes options version known old) open_is is.1)))
+works_on lanes options version known old new phase is open_is room on =
+    record { ok = is.ok; room = room; now = subst (IsInPhase lanes options version known new) (sym open_is) (on (subst (IsInPhase lanes options version known old) open_is is.now)) }
+
+-- and it has failed where its journal is one that may stand
+pub fails_by : (lanes : List Lane) (options : SftpOptions) (version : Option Reply) (known : Option Info) (old new : Lanes) (phase : Phase) → IsSession lanes options version known old phase → HasRoom new → StaysSoFar old new
+    → IsSession lanes options version known new Failed
+fails_by lanes options version known old new phase is room stays = record { ok = is.ok; room = room; now = stays (setting_by lanes options version known) (so_far lanes options version known old phase is) }

@@ -28,5 +28,6 @@ pub mod PassedLaws
 pub mod LettingLaws
 pub mod CallsLaws
 pub mod Noting
+pub mod SoFar
 pub mod Seen
 pub mod Reported

@@ -20,6 +20,7 @@ use Rattle.sftp_lanes.specs.Session.{Given}
 use Rattle.sftp_session.specs.declared.lane.LaneState.{LaneState}
 use Rattle.sftp_session.specs.declared.lane.Running.TheVariants as running
 use Rattle.sftp_session.specs.declared.lanes.Lanes.{Lanes}
+use Rattle.sftp_session.specs.SoFar.{HasRoom, IsSoFar}
 use Rattle.sftp_session.specs.Working.{IsWorking, past_of}
 
 -- the lanes that were handed in, the options, how far the opening has come, VERSION and what is known of the server once
@@ -80,19 +81,24 @@ pub record IsMade (lanes : List Lane) (options : SftpOptions) (w : Lanes) : Type
   pub core : w.core ≡ fresh options
   pub past : past_of w ≡ []
   pub untouched : IsUntouched lanes None w
+  pub room : HasRoom w
 
 -- ---- once it is
 
+-- what a session is in each phase
 abbrev pub IsInPhase : List Lane → SftpOptions → Option Reply → Option Info → Lanes → Phase → Type 0
 IsInPhase lanes options version info w Fresh = IsBare options version (past_of w) w.core Fresh × IsUntouched lanes info w
 IsInPhase lanes options version info w Greeted = IsBare options version (past_of w) w.core Greeted × IsUntouched lanes info w
 IsInPhase lanes options version info w Asking = IsBare options version (past_of w) w.core Asking × IsUntouched lanes info w
 IsInPhase lanes options version info w Queried = IsBare options version (past_of w) w.core Queried × IsUntouched lanes info w
 IsInPhase lanes options version info w Open = IsWorking (setting_by lanes options version info) w
-IsInPhase lanes options version info w Failed = Unit {0}
+IsInPhase lanes options version info w Failed = IsSoFar (setting_by lanes options version info) w.core.fault (past_of w)
 
-abbrev pub IsSession : List Lane → SftpOptions → Option Reply → Option Info → Lanes → Phase → Type 0
-IsSession lanes options version info w phase = (are_ok lanes ≡ true) × IsInPhase lanes options version info w phase
+-- its lanes are ones that can be run, and the entry of a fault has room
+pub record IsSession (lanes : List Lane) (options : SftpOptions) (version : Option Reply) (info : Option Info) (w : Lanes) (phase : Phase) : Type 0 where
+  pub ok : are_ok lanes ≡ true
+  pub room : HasRoom w
+  pub now : IsInPhase lanes options version info w phase
 
 -- a session whose hello stands in the queue
 pub record IsNew (given : List Lane) (asked : SftpOptions) (s : Seen) : Type 0 where

@@ -1,11 +1,12 @@
 // The call of a lane is cancelled.
-ghost use Rattle.std.specs.Prelude.{◌≡◌, ◌<◌, ◌^◌, IfOk};
+ghost use Rattle.std.specs.Prelude.{◌≡◌, ◌<◌, ◌^◌, IfOk, OnErr};
 ghost use Rattle.std.specs.List.{list_any};
 ghost use Rattle.sftp_file.specs.Stages.{IsHeld, cancelled};
 ghost use Rattle.sftp_history.specs.Calls.{Setting};
 ghost use Rattle.sftp_session.specs.declared.lane.Running.TheVariants as running;
 ghost use Rattle.sftp_session.specs.CancelLaws.{stage_of};
 ghost use Rattle.sftp_session.specs.EndLaws.{one_more};
+ghost use Rattle.sftp_session.specs.SoFar.{HasRoom, IsLeft};
 ghost use Rattle.sftp_session.specs.Working.{IsOpened, IsWorking, CancelsLane};
 
 use crate::closing::{add_entry, note_close};
@@ -48,9 +49,12 @@ impl Lanes {
     /// Cancels the call of a lane that was begun, and answers whether it was. Refused for want of memory.
     pub(crate) fn cancel(&mut self, lane: u32) -> Result<bool, OutOfMemory>
         requires opened { IsOpened self.old }
+        requires room { HasRoom self.old }
         ensures cancels { (s : Setting) → IsWorking s self.old → IfOk result (λ event. CancelsLane s lane self.old self.new event) }
+        ensures left { OnErr result (IsLeft self.old self.new) }
+        ensures room { HasRoom self.new }
     {
-        self.journal.reserve(3)?;
+        self.journal.reserve(4)?;
         if lane as usize >= self.states.len() || !self.begun.contains(&lane) {
             return Ok(false);
         }

@@ -46,10 +46,7 @@ pub fn run_lanes<L: Link>(
     };
     match run_session(alloc, &mut session, link, schedule) {
         Ok(()) => {}
-        Err(error) => {
-            session.give_up();
-            return Err(error);
-        }
+        Err(error) => return Err(error),
     }
     match session.into_report() {
         Ok(report) => Ok(report),

@@ -46,36 +46,19 @@ impl Lanes {
         let mut work = Lanes {
             calls: copies_of(alloc, lanes)?,
             core: Core::new(alloc, options)?,
-            journal: Vec::new(alloc),
+            journal: Vec::with_capacity(alloc, 1)?,
             begun: Vec::new(alloc),
             states: Vec::with_capacity(alloc, lanes.len())?,
         };
         for _ in 0..lanes.len() {
-            match empty_slots(alloc) {
-                Ok(slots) => work.states.push_reserved(LaneState {
-                    running: Running::Idle,
-                    slots,
-                    ended: 0,
-                }),
-                Err(e) => {
-                    work.give_up();
-                    return Err(e);
-                }
-            }
+            let slots = empty_slots(alloc)?;
+            work.states.push_reserved(LaneState {
+                running: Running::Idle,
+                slots,
+                ended: 0,
+            });
         }
         Ok(work)
-    }
-
-    /// Lets all go that the lanes hold. Nothing is sent.
-    pub(crate) fn give_up(self) {
-        let Lanes {
-            calls: _,
-            core,
-            journal: _,
-            begun: _,
-            states,
-        } = self;
-        let_go_states(states, core.end());
     }
 }
 

@@ -97,7 +97,7 @@ impl LaneState {
             → CoreTied s past core.old → Tabled s past [] (at core.old) → last_cancel past ≡ None
             → current s past lane ≡ Some call.now
             → IfOk result (λ m. Moves s past lane core.old core.new self.old self.new m) }
-        ensures steady { OnOk result (IsSteadyCore core.old core.new) }
+        ensures steady { IsSteadyCore core.old core.new }
     {
         match &self.running {
             Running::Idle => self.begin(alloc, core, call),
@@ -121,7 +121,7 @@ impl LaneState {
             → CoreTied s past core.old → Tabled s past [] (at core.old) → last_cancel past ≡ None
             → current s past lane ≡ Some call.now
             → IfOk result (λ m. Moves s past lane core.old core.new self.old self.new m) }
-        ensures steady { OnOk result (IsSteadyCore core.old core.new) }
+        ensures steady { IsSteadyCore core.old core.new }
     {
         match call {
             Call::OpenFile { flags, path, .. } => {
@@ -158,7 +158,7 @@ impl LaneState {
         ensures begins { (slot : ℕ) (site : Site) (facts : Facts) (answers : Answers) → IfOk result (λ m.
             OpenBegins core.old core.new self.old self.new (has_bit (flags_of flags).0 1) (has_bit (flags_of flags).0 2)
             site (open_next slot (flags_of flags) path.now site facts [] answers) m) }
-        ensures steady { OnOk result (IsSteadyCore core.old core.new) }
+        ensures steady { IsSteadyCore core.old core.new }
     {
         if core.kept() >= MOST_IDS {
             return Err(OutOfMemory);
@@ -200,7 +200,7 @@ impl LaneState {
             → HasAt (file_in self.old slot) slot place site answers → facts.read_len ≡ read_len_of core.old
             → IfOk result (λ m. ReadBegins core.old core.new self.old self.new slot site
             (read_next slot n site facts [] answers) m) }
-        ensures steady { OnOk result (IsSteadyCore core.old core.new) }
+        ensures steady { IsSteadyCore core.old core.new }
     {
         if core.kept() >= MOST_IDS {
             return Err(OutOfMemory);
@@ -338,7 +338,7 @@ impl LaneState {
             → answers asked ≡ reply_in (at core.old ticket)
             → IfOk result (λ m. ReadPolls core.old core.new self.old self.new slot place asked ticket f site
             (read_next slot n site facts (asked ∷ []) answers) m) }
-        ensures steady { OnOk result (IsSteadyCore core.old core.new) }
+        ensures steady { IsSteadyCore core.old core.new }
     {
         let Running::Read(call) = &mut self.running else {
             unreachable!()

@@ -7,6 +7,7 @@ mod closing;
 mod counts;
 mod driver;
 mod fresh;
+mod keeping;
 mod lane;
 mod lanes;
 mod letting;

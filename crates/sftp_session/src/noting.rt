@@ -90,6 +90,8 @@ impl Lanes {
         ensures begun { self.new.begun.items ≡ begun_with self.old.begun.items lane }
         ensures journal { self.new.journal.items ≡ self.old.journal.items ++ entry.Event (Submit (owner.Call lane call) id request) ∷ [] }
         ensures small { id < 2 ^ 32 }
+        ensures len { vec_len self.new.journal ≡ vec_len self.old.journal + 1 }
+        ensures capacity { vec_capacity self.old.journal ≤ vec_capacity self.new.journal }
     {
         add_entry(
             &mut self.journal,
@@ -107,6 +109,8 @@ impl Lanes {
         requires granted { MayLetGo self.old.core freed }
         requires room { vec_len self.old.journal + 2 ≤ vec_capacity self.old.journal }
         ensures rest { self.new ≡ record self.old { begun = self.new.begun; journal = self.new.journal; core = self.new.core } }
+        ensures len { vec_len self.new.journal ≤ vec_len self.old.journal + 2 }
+        ensures capacity { vec_capacity self.old.journal ≤ vec_capacity self.new.journal }
         ensures begun { self.new.begun.items ≡ begun_but self.old.begun.items lane }
         ensures nothing { freed ≡ None → (self.new.core ≡ self.old.core) × (self.new.journal.items ≡ self.old.journal.items ++ entry.Event (End lane call outcome) ∷ []) }
         ensures shared { (f : FileValue) → freed ≡ Some f → (users_of (at self.old.core f.grant.id) == 1) ≡ false
@@ -131,12 +135,13 @@ impl Lanes {
     pub(crate) fn note(&mut self, lane: u32, call: u32, moved: Moved) -> Stepped
         requires granted { MayLetGo self.old.core (freed_of moved) }
         requires few { call < 2 ^ 31 }
-        requires journal { vec_len self.old.journal + 2 ≤ vec_capacity self.old.journal }
+        requires journal { vec_len self.old.journal + 3 ≤ vec_capacity self.old.journal }
         requires begun { vec_len self.old.begun < vec_capacity self.old.begun }
         requires there { lane < vec_len self.old.states }
         requires number { (state : State) → slice_get self.old.states.items lane ≡ Some state → state.ended ≡ call }
         ensures noted { (state : State) → slice_get self.old.states.items lane ≡ Some state → contents_of self.new ≡ noted (contents_of self.old) lane call state moved }
         ensures event { result ≡ step_of moved }
+        ensures room { vec_len self.new.journal < vec_capacity self.new.journal }
         ensures small { IsSmallMove moved }
     {
         match moved {

@@ -1,17 +1,18 @@
 // A session of lanes: its opening, and each call of its lanes.
-ghost use Rattle.std.specs.Prelude.{◌≡◌, ◌∷◌, [], Some, true, IfOk, OnErr, OnOk, reverse};
+ghost use Rattle.std.specs.Prelude.{◌≡◌, ◌∷◌, [], None, Some, true, IfOk, reverse};
+ghost use Rattle.std.specs.Option.{unwrap_or};
 ghost use Rattle.sftp_core.specs.Core.{failed_with};
 ghost use Rattle.sftp_core.specs.Info.{offers_limits as offers};
 ghost use Rattle.sftp_history.specs.Lanes.{are_ok};
 ghost use Rattle.sftp_lanes.specs.NoLanes.{offered, asked_past};
 ghost use Rattle.sftp_history.specs.Readings.{outcomes_of as of_lane, was_let_go};
 ghost use Rattle.sftp_history.specs.declared.entry.Entry.TheVariants as entry;
-ghost use Rattle.sftp_history.specs.Journals.{IsNext};
+ghost use Rattle.sftp_history.specs.Journals.{IsJournal, IsNext};
 ghost use Rattle.sftp_lanes.specs.declared.session.Phase.TheVariants as phases;
 ghost use Rattle.sftp_session.specs.Seen.{IsNew, Reports, setting_at};
+ghost use Rattle.sftp_session.specs.SoFar.{kept_in, kept_past};
 ghost use Rattle.sftp_session.specs.Working.{past_of};
 
-use crate::fresh::let_go_states;
 use crate::lanes::Lanes;
 use crate::report::{events_of, lets_go, outcomes_below, outcomes_of};
 use bitflags::Flags;
@@ -24,8 +25,10 @@ use ssh_encoding::OutOfMemory;
 use std::alloc::Global;
 use std::marker::Model;
 
-/// A session that runs the lanes that it was given. After an error of `step`, `cancel`, `let_go`, `hand_out` or `take` it
-/// can't be used any more. It isn't droppable: `into_report` and `give_up` spend it.
+/// A session that runs the lanes that it was given. After an error of `step`, `cancel`, `let_go`, `hand_out` or `take` no
+/// call of its lanes can be made any more, and it tells what happened still. Its journal is a run so far in every phase,
+/// and has the kept fault. Dropped, it lets all go that its lanes hold, and sends nothing.
+#[derive(Drop)]
 pub struct Session<'a> {
     alloc: Global,
     lanes: &'a [Lane],
@@ -81,14 +84,16 @@ impl<'a> Session<'a> {
 
     /// The kept fault, which is the first one.
     pub fn fault(&self) -> Option<Fault>
-        ensures { result ≡ self.now.work.core.fault }
+        ensures value { result ≡ self.now.work.core.fault }
+        ensures entry { result ≡ kept_in (past_of self.now.work) }
     {
         self.work.core.fault()
     }
 
     /// What happened so far, the first entry first.
     pub fn journal(&self) -> &[Entry]
-        ensures { reverse result.now ≡ past_of self.now.work }
+        ensures value { reverse result.now ≡ past_of self.now.work }
+        ensures so_far { IsJournal (setting_at self.now) (past_of self.now.work) }
     {
         self.work.journal.as_slice()
     }
@@ -107,25 +112,19 @@ impl<'a> Session<'a> {
         lets_go(self.work.journal.as_slice(), lane)
     }
 
-    /// Keeps a fault, also as the last entry of the journal; no call of the lanes comes behind it. Refused for want of
-    /// memory, the session is as it was.
-    pub fn fail(&mut self, fault: Fault) -> Result<(), OutOfMemory>
-        requires open { self.old.phase ≡ phases.Open }
-        ensures rest { OnOk result (self.new ≡ record self.old {
+    /// Keeps a fault, also as the last entry of the journal; where one is kept already, that one stays, and nothing is
+    /// added. No call of the lanes can be made any more. Takes no memory.
+    pub fn fail(&mut self, fault: Fault)
+        ensures rest { self.new ≡ record self.old {
           phase = phases.Failed;
           work = record self.old.work { core = failed_with self.old.work.core fault; journal = self.new.work.journal };
-        }) }
-        ensures journal { OnOk result (past_of self.new.work ≡ entry.Kept fault ∷ past_of self.old.work) }
-        ensures next { IsNext (setting_at self.old) (past_of self.old.work) (entry.Kept fault) }
-        ensures told { OnOk result (self.new.work.core.fault ≡ Some fault) }
-        ensures stands { OnErr result (self.new ≡ record self.old { work = record self.old.work { journal = self.new.work.journal } }) }
-        ensures unchanged { OnErr result (past_of self.new.work ≡ past_of self.old.work) }
+        } }
+        ensures journal { past_of self.new.work ≡ kept_past self.old.work.core.fault fault (past_of self.old.work) }
+        ensures next { self.old.work.core.fault ≡ None → IsNext (setting_at self.old) (past_of self.old.work) (entry.Kept fault) }
+        ensures told { self.new.work.core.fault ≡ Some (unwrap_or self.old.work.core.fault fault) }
     {
-        self.work.journal.reserve(1)?;
-        self.work.journal.push(Entry::Kept(fault)).unwrap();
-        self.work.core.fail(fault);
+        self.work.keep(fault);
         self.phase = Phase::Failed;
-        Ok(())
     }
 
     /// Ends the session, and reports what it did. Refused for want of memory. Nothing is sent.
@@ -141,34 +140,13 @@ impl<'a> Session<'a> {
             info: _,
             work,
         } = self;
-        let Lanes {
-            calls: _,
-            core,
-            journal,
-            begun: _,
-            states,
-        } = work;
-        let_go_states(states, core.end());
+        let journal = work.into_journal();
         let outcomes = outcomes_below(alloc, journal.as_slice(), lanes.len() as u32)?;
         Ok(Report {
             hello: version,
             trace: events_of(alloc, journal)?,
             outcomes,
         })
-    }
-
-    /// Gives the session up. Nothing is sent.
-    pub fn give_up(self) {
-        let Session {
-            alloc: _,
-            lanes: _,
-            options: _,
-            phase: _,
-            version: _,
-            info: _,
-            work,
-        } = self;
-        work.give_up();
     }
 }
 
@@ -216,10 +194,7 @@ impl<'a> RunsLanes for Session<'a> {
     }
 
     fn take_version(&mut self, body: &[u8]) -> Result<bool, TakeError> {
-        if self.work.journal.reserve(1).is_err() {
-            return Err(TakeError::OutOfMemory);
-        }
-        match self.work.core.take(body) {
+        match self.work.take_frame(body) {
             Ok(Taken::Version(reply)) => {
                 if offers_limits(&reply) {
                     self.work.journal.push(query_entry()).unwrap();
@@ -242,7 +217,7 @@ impl<'a> RunsLanes for Session<'a> {
     }
 
     fn query(&mut self) -> Result<Chunk, OutOfMemory> {
-        self.work.journal.reserve(1)?;
+        self.work.journal.reserve(2)?;
         let chunk = self.work.core.hand_out()?;
         self.work.journal.push(Entry::Event(Event::Send)).unwrap();
         self.phase = Phase::Queried;
@@ -250,10 +225,7 @@ impl<'a> RunsLanes for Session<'a> {
     }
 
     fn take_limits(&mut self, body: &[u8]) -> Result<(), TakeError> {
-        if self.work.journal.reserve(1).is_err() {
-            return Err(TakeError::OutOfMemory);
-        }
-        match self.work.core.take(body) {
+        match self.work.take_frame(body) {
             Ok(Taken::Limits { id, reply }) => {
                 self.work
                     .journal

@@ -37,22 +37,20 @@ fn runs(rt: HostRuntime) -> Result<(), Fail> {
 }
 
 /// What a session without lanes tells before it is open: its entries, its outcomes, and whether it was let go, has a
-/// fault or knows its server.
+/// fault or knows its server. It is dropped then.
 fn told(alloc: Global) -> Result<(usize, usize, bool, bool, bool), Fail> {
     let session = Session::new(alloc, &[], &SftpOptions::new())?;
     let outcomes = match session.outcomes(0) {
         Ok(outcomes) => outcomes.as_slice().len(),
         Err(_) => 9,
     };
-    let told = (
+    Ok((
         session.journal().len(),
         outcomes,
         session.was_let_go(0),
         session.fault().is_some(),
         session.info().is_some(),
-    );
-    session.give_up();
-    Ok(told)
+    ))
 }
 
 #[test]
@@ -61,29 +59,45 @@ fn a_new_session_tells_nothing(rt: HostRuntime) -> Result<(), Fail> {
     Ok(())
 }
 
-/// How many entries stand once a session has failed whose server sent VERSION 3, and the fault that it tells then.
-fn failed(alloc: Global, fault: Fault) -> Result<(usize, Option<Fault>), Fail> {
+/// What a session tells that fails twice before VERSION: how many entries it has, and its fault.
+fn failed_twice(
+    alloc: Global,
+    first: Fault,
+    second: Fault,
+) -> Result<(usize, Option<Fault>), Fail> {
     let mut session = Session::new(alloc, &[], &SftpOptions::new())?;
-    let count = match session.greet() {
-        Ok(chunk) => {
-            session.give_back(chunk);
-            match session.take_version(b"\x02\x00\x00\x00\x03") {
-                Ok(false) => match session.fail(fault) {
-                    Ok(()) => session.journal().len(),
-                    Err(_) => 9,
-                },
-                _ => 9,
-            }
-        }
-        Err(_) => 9,
-    };
-    let told = (count, session.fault());
-    session.give_up();
-    Ok(told)
+    session.fail(first);
+    session.fail(second);
+    Ok((session.journal().len(), session.fault()))
 }
 
 #[test]
-fn a_failed_session_has_an_entry(rt: HostRuntime) -> Result<(), Fail> {
-    assert!(rt; failed(rt.alloc(), Fault::Link)? == (1, Some(Fault::Link)));
+fn the_first_fault_stays(rt: HostRuntime) -> Result<(), Fail> {
+    assert!(rt; failed_twice(rt.alloc(), Fault::Link, Fault::Ended)? == (1, Some(Fault::Link)));
+    Ok(())
+}
+
+/// What a session tells that was sent the body of VERSION and failed then: how many entries it has, and its fault.
+fn failed(alloc: Global, body: &[u8], fault: Fault) -> Result<(usize, Option<Fault>), Fail> {
+    let mut session = Session::new(alloc, &[], &SftpOptions::new())?;
+    if let Ok(chunk) = session.greet() {
+        session.give_back(chunk);
+        let _taken = session.take_version(body).is_ok();
+    }
+    session.fail(fault);
+    Ok((session.journal().len(), session.fault()))
+}
+
+#[test]
+fn an_open_session_fails(rt: HostRuntime) -> Result<(), Fail> {
+    let told = failed(rt.alloc(), b"\x02\x00\x00\x00\x03", Fault::Link)?;
+    assert!(rt; told == (1, Some(Fault::Link)));
+    Ok(())
+}
+
+#[test]
+fn a_refused_version_is_an_entry(rt: HostRuntime) -> Result<(), Fail> {
+    let told = failed(rt.alloc(), b"\x02\x00\x00\x00\x04", Fault::Link)?;
+    assert!(rt; told == (1, Some(Fault::Protocol { version: 4 })));
     Ok(())
 }

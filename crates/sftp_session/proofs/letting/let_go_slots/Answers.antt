@@ -34,13 +34,11 @@ loop-k-preserved c =
           (c.loop-k.invariant.4 s past lane states begun any x)),
     )
 
-pub returns : goal.returns
-returns c =
+pub returns-clause-let_go : goal.returns-clause-let_go
+returns-clause-let_go c =
     let sixteen : length c.loop-k.slots.items ≡ 16 = c.loop-k.invariant.0 in
     let most : c.loop-k.k ≤ 16 = c.loop-k.invariant.1 in
     let least : length c.loop-k.slots.items ≤ c.loop-k.k = search rules in
     let all : c.loop-k.k ≡ 16 = omega (arith, sixteen, most, least) in
-    record {
-      let_go = λ s past lane states begun any x counted.
-          subst (λ (n : ℕ). IsLetting s past lane (reverse c.loop-k.journal.items) c.loop-k.core states begun c.loop-k.slots.items n) all (c.loop-k.invariant.4 s past lane states begun any (x, counted));
-    }
+    λ s past lane states begun any x counted.
+    subst (λ (n : ℕ). IsLetting s past lane (reverse c.loop-k.journal.items) c.loop-k.core states begun c.loop-k.slots.items n) all (c.loop-k.invariant.4 s past lane states begun any (x, counted))

@@ -10,7 +10,7 @@ abbrev pub invariant-loop-k : goal.invariant-loop-k
 invariant-loop-k l =
     (length l.slots.items ≡ 16)
     × (l.k ≤ 16)
-    × (vec_len l.journal + 16 ≤ vec_capacity l.journal + l.k)
+    × (vec_len l.journal + 17 ≤ vec_capacity l.journal + l.k)
     × Stand l.core l.slots.items
     × ((s : Setting) (past : List Entry) (lane : ℕ) (states : List LaneState) (begun : List ℕ) → LaneState
     → IsLetting s past lane (reverse l.fn.journal.items) l.fn.core states begun l.fn.slots.items 0

@@ -39,3 +39,7 @@ returns-in_ok-refused-in-Err c =
           (refused_is c.in-Err.error c.args.core.now site _ c.requires.open.unfailed c.in_ok-refused-in-Err.ensures.other h.0 ∙ ap (λ x. Done x site) (sym o), record { core = h.1; state = refl; none = refl }));
       steady = open_steady (flags_of c.args.flags) c.args.path.now _ _ (Err c.in-Err.error) c.in-Err.ensures.starts;
     }
+
+pub returns-in_err-refused-in-Err-clause-steady : goal.returns-in_err-refused-in-Err-clause-steady
+returns-in_err-refused-in-Err-clause-steady c =
+    open_steady (flags_of c.args.flags) c.args.path.now _ _ (Err c.in-Err.error) c.in-Err.ensures.starts

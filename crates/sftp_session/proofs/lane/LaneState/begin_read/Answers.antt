@@ -111,3 +111,7 @@ returns-in_ok-refused-in-Err-clause-begins c =
 pub returns-in_ok-refused-in-Err-clause-steady : goal.returns-in_ok-refused-in-Err-clause-steady
 returns-in_ok-refused-in-Err-clause-steady c =
     read_steady c.in-Some-index_mut.file c.args.n _ _ (Err c.in-Err.error) c.in-Err.ensures.starts
+
+pub returns-in_err-refused-in-Err-clause-steady : goal.returns-in_err-refused-in-Err-clause-steady
+returns-in_err-refused-in-Err-clause-steady c =
+    read_steady c.in-Some-index_mut.file c.args.n _ _ (Err c.in-Err.error) c.in-Err.ensures.starts

@@ -23,20 +23,18 @@ let_go_slots-requires-clause-sixteen c =
     slice_get-get_or c.args.self.now.states.items c.args.lane c.index_mut.result.now there ∙ ap (λ (x : LaneState). Some x) (sym c.index_mut.ensures.value) in
     (c.requires.opened.1.tied.rest.each c.args.lane c.index_mut.result.now here).sixteen
 
-pub returns : goal.returns
-returns c =
+pub returns-clause-lets_go : goal.returns-clause-lets_go
+returns-clause-lets_go c =
     let there : c.args.lane < length c.args.self.now.states.items = search rules in
     let here : slice_get c.args.self.now.states.items c.args.lane ≡ Some c.index_mut.result.now =
     slice_get-get_or c.args.self.now.states.items c.args.lane c.index_mut.result.now there ∙ ap (λ (x : LaneState). Some x) (sym c.index_mut.ensures.value) in
     let kept : c.reserve.new.self.items ≡ c.args.self.now.journal.items = search rules in
     let noted : reverse c.add_entry.new.journal.items ≡ entry.LetGo c.args.lane ∷ reverse c.args.self.now.journal.items =
     ap reverse c.add_entry.ensures.items ∙ pushed c.reserve.new.self.items (entry.LetGo c.args.lane) ∙ ap (λ (y : List Entry). entry.LetGo c.args.lane ∷ reverse y) kept in
-    record {
-      lets_go = λ s w done holds.
-          let first = subst (λ (y : List Entry). IsLetting s (reverse c.args.self.now.journal.items) c.args.lane y c.args.self.now.core c.args.self.now.states.items c.args.self.now.begun.items c.index_mut.result.now.slots.items 0)
-          (sym noted)
-          (lets_first s (contents_of c.args.self.now) c.args.lane c.index_mut.result.now w here done holds) in
-          lets_go s (contents_of c.args.self.now) c.args.lane c.index_mut.result.now (record { running = c.index_mut.result.now.running; slots = c.let_go_slots.new.slots; ended = c.index_mut.result.now.ended })
-          c.let_go_slots.new.core (reverse c.let_go_slots.new.journal.items) w here done holds refl refl
-          (c.let_go_slots.ensures.let_go s (reverse c.args.self.now.journal.items) c.args.lane c.args.self.now.states.items c.args.self.now.begun.items c.index_mut.result.now first.0 first.1);
-    }
+    λ s w done holds.
+    let first = subst (λ (y : List Entry). IsLetting s (reverse c.args.self.now.journal.items) c.args.lane y c.args.self.now.core c.args.self.now.states.items c.args.self.now.begun.items c.index_mut.result.now.slots.items 0)
+    (sym noted)
+    (lets_first s (contents_of c.args.self.now) c.args.lane c.index_mut.result.now w here done holds) in
+    lets_go s (contents_of c.args.self.now) c.args.lane c.index_mut.result.now (record { running = c.index_mut.result.now.running; slots = c.let_go_slots.new.slots; ended = c.index_mut.result.now.ended })
+    c.let_go_slots.new.core (reverse c.let_go_slots.new.journal.items) w here done holds refl refl
+    (c.let_go_slots.ensures.let_go s (reverse c.args.self.now.journal.items) c.args.lane c.args.self.now.states.items c.args.self.now.begun.items c.index_mut.result.now first.0 first.1)

@@ -8,6 +8,6 @@ use Rattle.sftp_session.proofs.lanes.Lanes.new.Goals as goal
 pub loop-preserved : goal.loop-preserved
 loop-preserved c =
     let i = c.loop.invariant in
-    let made : LaneState = record { running = running.Idle; slots = c.in-Ok.slots; ended = 0 } in
+    let made : LaneState = record { running = running.Idle; slots = c.in_ok-slots.slots; ended = 0 } in
     let count : length c.push_reserved.new.self.items ≡ c.loop.counter + 1 = search rules in
-    (i.0, i.1, i.2, i.3, count, search rules, search rules, subst AreFreshStates (sym c.push_reserved.ensures.items) (more_fresh c.loop.work.states.items made i.7 (record { idle = refl; none = refl; empty = c.in-Ok.ensures })))
+    (i.0, i.1, i.2, i.3, i.4, count, search rules, search rules, subst AreFreshStates (sym c.push_reserved.ensures.items) (more_fresh c.loop.work.states.items made i.8 (record { idle = refl; none = refl; empty = c.in_ok-slots.ensures })))

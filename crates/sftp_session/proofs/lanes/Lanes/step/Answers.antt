@@ -54,21 +54,19 @@ note-requires-clause-number c =
     ap (λ (x : LaneState). x.ended) (state_is c.args.self.now.states.items c.args.lane a.1.0 c.advance.new.self state a.1.1.here there)
     ∙ same_number w.0 (contents_of c.args.self.now).past c.args.lane c.args.self.now.core c.advance.new.core a.1.0 c.advance.new.self c.in_ok-moved.moved moves ∙ ap (λ (x : LaneState). x.ended) (sym before_is)
 
-pub returns : goal.returns
-returns c =
+pub returns-clause-steps : goal.returns-clause-steps
+returns-clause-steps c =
     let some : call_in c.args.self.now.calls c.args.self.now.states.items c.args.lane ≡ Some c.in-Some.call.now = search rules in
-    record {
-      steps = λ s w.
-          let a = at_call s (contents_of c.args.self.now) c.args.lane c.in-Some.call.now w some in
-          let before_is : c.index_mut-state.result.now ≡ a.1.0 = c.index_mut-state.ensures.value ∙ get_or_from_slice_get c.args.self.now.states.items c.args.lane a.1.0 _ a.1.1.here in
-          let moves = moves_at s (contents_of c.args.self.now) c.args.lane c.advance.new.core a.0 a.1.0 c.index_mut-state.result.now c.advance.new.self c.in-Some.call.now c.in_ok-moved.moved a.1.1 before_is c.in_ok-moved.ensures.moves in
-          let steps = steps_noted s (contents_of c.args.self.now) c.args.lane c.advance.new.core a.0 a.1.0 c.advance.new.self c.in-Some.call.now c.in_ok-moved.moved a.1.1 moves c.note.ensures.small in
-          let known = c.note.ensures.noted c.advance.new.self (get_set c.args.self.now.states.items c.args.lane a.1.0 c.advance.new.self a.1.1.here) in
-          let kept : c.reserve.new.self.items ≡ c.args.self.now.journal.items = search rules in
-          let begun_kept : c.reserve-2.new.self.items ≡ c.args.self.now.begun.items = search rules in
-          let whole : contents_of c.note.new.self ≡ noted (advanced (contents_of c.args.self.now) c.args.lane c.advance.new.core c.advance.new.self) c.args.lane a.1.0.ended c.advance.new.self c.in_ok-moved.moved =
-          known ∙ (λ i. noted (record { calls = c.args.self.now.calls; core = c.advance.new.core; past = reverse (kept i); states = slice_set c.args.self.now.states.items c.args.lane c.advance.new.self; begun = begun_kept i }) c.args.lane c.index_mut-state.result.now.ended c.advance.new.self c.in_ok-moved.moved) ∙ ap (λ (n : ℕ). noted (advanced (contents_of c.args.self.now) c.args.lane c.advance.new.core c.advance.new.self) c.args.lane n c.advance.new.self c.in_ok-moved.moved) (ap (λ (x : LaneState). x.ended) before_is) in
-          subst (λ (x : Contents). StepsIn s c.args.lane (contents_of c.args.self.now) x c.note.result) (sym whole)
-          (subst (λ (e : Stepped). StepsIn s c.args.lane (contents_of c.args.self.now) (noted (advanced (contents_of c.args.self.now) c.args.lane c.advance.new.core c.advance.new.self) c.args.lane a.1.0.ended c.advance.new.self c.in_ok-moved.moved) e)
-          (sym c.note.ensures.event) steps);
-    }
+    λ s w.
+    let a = at_call s (contents_of c.args.self.now) c.args.lane c.in-Some.call.now w some in
+    let before_is : c.index_mut-state.result.now ≡ a.1.0 = c.index_mut-state.ensures.value ∙ get_or_from_slice_get c.args.self.now.states.items c.args.lane a.1.0 _ a.1.1.here in
+    let moves = moves_at s (contents_of c.args.self.now) c.args.lane c.advance.new.core a.0 a.1.0 c.index_mut-state.result.now c.advance.new.self c.in-Some.call.now c.in_ok-moved.moved a.1.1 before_is c.in_ok-moved.ensures.moves in
+    let steps = steps_noted s (contents_of c.args.self.now) c.args.lane c.advance.new.core a.0 a.1.0 c.advance.new.self c.in-Some.call.now c.in_ok-moved.moved a.1.1 moves c.note.ensures.small in
+    let known = c.note.ensures.noted c.advance.new.self (get_set c.args.self.now.states.items c.args.lane a.1.0 c.advance.new.self a.1.1.here) in
+    let kept : c.reserve.new.self.items ≡ c.args.self.now.journal.items = search rules in
+    let begun_kept : c.reserve-2.new.self.items ≡ c.args.self.now.begun.items = search rules in
+    let whole : contents_of c.note.new.self ≡ noted (advanced (contents_of c.args.self.now) c.args.lane c.advance.new.core c.advance.new.self) c.args.lane a.1.0.ended c.advance.new.self c.in_ok-moved.moved =
+    known ∙ (λ i. noted (record { calls = c.args.self.now.calls; core = c.advance.new.core; past = reverse (kept i); states = slice_set c.args.self.now.states.items c.args.lane c.advance.new.self; begun = begun_kept i }) c.args.lane c.index_mut-state.result.now.ended c.advance.new.self c.in_ok-moved.moved) ∙ ap (λ (n : ℕ). noted (advanced (contents_of c.args.self.now) c.args.lane c.advance.new.core c.advance.new.self) c.args.lane n c.advance.new.self c.in_ok-moved.moved) (ap (λ (x : LaneState). x.ended) before_is) in
+    subst (λ (x : Contents). StepsIn s c.args.lane (contents_of c.args.self.now) x c.note.result) (sym whole)
+    (subst (λ (e : Stepped). StepsIn s c.args.lane (contents_of c.args.self.now) (noted (advanced (contents_of c.args.self.now) c.args.lane c.advance.new.core c.advance.new.self) c.args.lane a.1.0.ended c.advance.new.self c.in_ok-moved.moved) e)
+    (sym c.note.ensures.event) steps)

@@ -1,4 +1,4 @@
-use Rattle.std.proofs.Common.{◌≡◌, ◌∙◌, ◌∷◌, [], ◌++◌, sym, refl, ap, subst, rules, List, Option}
+use Rattle.std.proofs.Common.{◌≡◌, ◌∙◌, ◌∷◌, [], ◌++◌, sym, refl, ap, subst, rules, List, Option, None}
 use Rattle.std.specs.Prelude.{reverse}
 use Rattle.std.proofs.lemmas.List.{reverse-append}
 use Rattle.sftp_model.specs.declared.reply.Reply.{Reply}
@@ -18,11 +18,12 @@ use Rattle.sftp_lanes.specs.Session.{IsLater}
 use Rattle.sftp_lanes.proofs.Bare.{came, may_take, opened_later, queried_first}
 use Rattle.sftp_session.specs.Seen.{setting_by}
 use Rattle.sftp_session.specs.declared.lanes.Lanes.{Lanes}
-use Rattle.sftp_session.proofs.Opening.{in_phase, info_came, is_fixed, limits_are, opens_told, same_limits}
+use Rattle.sftp_session.proofs.FaultLaws.{refused_so_far}
+use Rattle.sftp_session.proofs.Opening.{fails_by, in_phase, info_came, is_fixed, limits_are, opens_told, same_limits, still_untouched}
 use Rattle.sftp_session.proofs.session.SessionRunsLanes.take_limits.Goals as goal
 
-pub invariant_of-self-in-Ok-Limits : goal.invariant_of-self-in-Ok-Limits
-invariant_of-self-in-Ok-Limits c =
+pub invariant_of-self : goal.invariant_of-self
+invariant_of-self c =
     let f = in_phase c.self.inside.lanes.now c.self.inside.options c.self.inside.version c.self.inside.info c.self.inside.work c.self.inside.phase Queried c.self.invariant (rw (← c.self.view_is) at c.requires.queried) in
     let q = f.0 in
     let t = came _ q.0 _ _ _ _ q.1.2 c.in-Ok-Limits.ensures.only c.in-Ok-Limits.ensures.ok in
@@ -36,9 +37,19 @@ invariant_of-self-in-Ok-Limits c =
     let all : reverse c.push.new.self.items ≡ entry.Event (Take 0 t.reply) ∷ queried 0 = past ∙ (λ i. entry.Event (Take (zero i) (same i)) ∷ q.1.3 i) in
     let calm = info_came _ q.0 _ _ _ _ t.reply q.1.2 c.in-Ok-Limits.ensures.only c.in-Ok-Limits.ensures.ok t.reads in
     let known = c.info-self-inside.ensures.value ∙ ap (λ (k : Core). info_of k.phase) calm in
-    let now : Lanes = record c.self.inside.work { core = c.take.new.self; journal = c.push.new.self } in
-    let u = f.1 in
-    (c.self.invariant.0, opens_told _ _ _ c.self.inside.info _ q.0 (limits_in t.reply) t.reply now c.self.invariant.0 q.1.0 q.1.1 known calm t.goes all (record { calls = u.calls; untold = u.untold; begun = u.begun; count = u.count; each = u.each }))
+    let now : Lanes = record c.take_frame.new.self { journal = c.push.new.self } in
+    let u = still_untouched _ _ _ c.take_frame.new.self c.take_frame.ensures.rest f.1 in
+    record {
+      ok = c.self.invariant.ok;
+      room = search rules;
+      now = opens_told _ _ _ None _ q.0 (limits_in t.reply) t.reply now c.self.invariant.ok q.1.0 q.1.1 known calm t.goes all (record { calls = u.calls; untold = u.untold; begun = u.begun; count = u.count; each = u.each });
+    }
+
+pub invariant_of-self-in-Err : goal.invariant_of-self-in-Err
+invariant_of-self-in-Err c =
+    let q = (in_phase c.self.inside.lanes.now c.self.inside.options c.self.inside.version c.self.inside.info c.self.inside.work c.self.inside.phase Queried c.self.invariant (rw (← c.self.view_is) at c.requires.queried)).0 in
+    fails_by c.self.inside.lanes.now c.self.inside.options c.self.inside.version c.self.inside.info c.self.inside.work c.take_frame.new.self c.self.inside.phase c.self.invariant c.take_frame.ensures.room
+    (λ s. refused_so_far s c.in-Err.e _ _ _ _ _ (ap (λ (k : Core). k.fault) q.1.2) c.in-Err.ensures.refused c.in-Err.ensures.noted)
 
 pub returns-in-Ok-Limits-clause-ok : goal.returns-in-Ok-Limits-clause-ok
 returns-in-Ok-Limits-clause-ok c =
