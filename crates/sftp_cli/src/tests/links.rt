@@ -252,6 +252,18 @@ const ROWS: &[Row] = &[
             Item::To(2, 0, 101, OK),
         ],
         &[],
+        0,
+        0,
+        LONGEST_TEXT,
+    ),
+    (
+        OPEN,
+        &[
+            VERSION,
+            Item::To(1, 0, 102, LONGEST),
+            Item::To(2, 0, 101, OK),
+        ],
+        &[],
         1,
         0,
         LONGEST_TEXT,
