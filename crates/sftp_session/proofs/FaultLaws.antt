@@ -21,7 +21,7 @@ use Rattle.sftp_lanes.specs.declared.session.Phase.{Phase}
 use Rattle.sftp_lanes.specs.declared.session.Phase.TheVariants.{Fresh, Greeted, Asking, Queried, Open, Failed}
 use Rattle.sftp_session.specs.declared.lanes.Lanes.{Lanes}
 use Rattle.sftp_session.specs.Seen.{IsInPhase, IsSession, setting_by}
-use Rattle.sftp_session.specs.SoFar.{IsLeft, IsSoFar, StaysSoFar, kept_in, kept_past, refused_past}
+use Rattle.sftp_session.specs.SoFar.{IsLeft, IsSoFar, kept_in, kept_past, refused_past}
 use Rattle.sftp_session.specs.Working.{IsWorking, past_of}
 
 -- ---- journals without a fault

@@ -82,7 +82,7 @@ impl<'a> Session<'a> {
         self.info
     }
 
-    /// The kept fault, which is the first one.
+    /// The kept fault, which is the first one. The journal has its entry exactly where one is kept.
     pub fn fault(&self) -> Option<Fault>
         ensures value { result ≡ self.now.work.core.fault }
         ensures entry { result ≡ kept_in (past_of self.now.work) }
@@ -90,7 +90,7 @@ impl<'a> Session<'a> {
         self.work.core.fault()
     }
 
-    /// What happened so far, the first entry first.
+    /// What happened so far, the first entry first: a run so far in every phase.
     pub fn journal(&self) -> &[Entry]
         ensures value { reverse result.now ≡ past_of self.now.work }
         ensures so_far { IsJournal (setting_at self.now) (past_of self.now.work) }

@@ -1,4 +1,4 @@
-use Rattle.std.proofs.Common.{rules, ◌≡◌, refl, ap, sym, subst, ◌∙◌, [], ◌∷◌, ◌++◌}
+use Rattle.std.proofs.Common.{◌≡◌, refl, ap, sym, subst, ◌∙◌, [], ◌∷◌, ◌++◌}
 use Rattle.sftp_model.specs.ReplyReadings.{reply_at}
 use Rattle.sftp_core.specs.Take.{TakenFrom}
 use Rattle.sftp_core.specs.declared.tokens.Taken.{Taken}
