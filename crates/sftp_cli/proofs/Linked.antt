@@ -16,11 +16,8 @@ use Rattle.sftp_session.specs.Reported.{IsReport}
 use Rattle.sftp_session.specs.Seen.{given}
 use Rattle.sftp_text.specs.Traces.{journal_of}
 use Rattle.sftp_text.specs.TraceLaws.{trace_text}
+use Rattle.sftp_cli.proofs.Running.{from_empty}
 use Rattle.sftp_cli.specs.Dialled.{LastLink, IsShown, IsStopped, last_link, error_name, error_line}
-
--- a log that was empty
-from_empty : (R : List Piece → List Piece → Type 0) (before now : List Piece) → before ≡ [] → R (reverse before) now → R [] now
-from_empty R before now none h = subst (λ (b : List Piece). R (reverse b) now) none h
 
 pub is_shown : (script : Script) (before log : List Piece) (faults : ℕ) (ended : Bool) (report : Report) (text : List ℕ) → before ≡ []
     → IsReport script.lanes script.options script.turns (Some (reverse before)) (Some log) report → text ≡ text_of (journal_of report.trace) report.outcomes → IsShown (last_link (Some log) faults ended) script text
@@ -31,7 +28,7 @@ is_shown script before log faults ended report text none run is =
       log = log;
       told = refl;
       run = run.run;
-      shown = from_empty (Shows (greeting run.extensions) run.past) before log none run.log;
+      shown = from_empty (λ (b now : List Piece). Shows (greeting run.extensions) run.past (reverse b) now) before log none run.log;
       closed = run.closed;
       is = is ∙ ap (λ t. text_of (journal_of t) report.outcomes) run.trace ∙ trace_text run.past report.outcomes ∙ ap (λ o. text_of run.past o) run.outcomes;
     }
@@ -48,7 +45,7 @@ is_stopped script lanes before log first faults ended e name text same none zero
       named = named;
       cause = subst (λ (n : ℕ). Cause {T = Report} n faults (Err e)) zero cause;
       end = end;
-      stops = subst (λ (l : List Lane). Ends (given l script.options) ended e [] log) same (from_empty (Ends (given lanes script.options) ended e) before log none stops);
+      stops = subst (λ (l : List Lane). Ends (given l script.options) ended e [] log) same (from_empty (λ (b now : List Piece). Ends (given lanes script.options) ended e (reverse b) now) before log none stops);
       is = is;
     }
 

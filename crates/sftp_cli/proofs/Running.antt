@@ -35,7 +35,7 @@ some_is : {A : Type 0} (x y : A) → Some x ≡ Some y → x ≡ y
 some_is x y e = ap (λ o. unwrap_or o x) e
 
 -- the log was empty
-from_empty : {A : Type 0} (R : List A → List A → Type 0) (before now : List A) → before ≡ [] → R before now → R [] now
+pub from_empty : {A : Type 0} (R : List A → List A → Type 0) (before now : List A) → before ≡ [] → R before now → R [] now
 from_empty R before now none h = subst (λ b. R b now) none h
 
 pub served_report : (lanes : List Lane) (options : SftpOptions) (turns : List Turn) (old now : Serving) (r : Report) → are_ok lanes ≡ true → IsUnopened old.first → old.log ≡ [] → now.first ≡ old.first
