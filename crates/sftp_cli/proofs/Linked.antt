@@ -10,12 +10,12 @@ use Rattle.sftp_history.specs.declared.script.Script.{Script}
 use Rattle.sftp_history.specs.Settings.{greeting}
 use Rattle.sftp_history.specs.Shown.{Shows}
 use Rattle.sftp_history.specs.Texts.{text_of}
-use Rattle.sftp_lanes.specs.Causes.{Cause, EndCause}
-use Rattle.sftp_lanes.specs.Logs.{Ends}
-use Rattle.sftp_session.specs.Reported.{IsReport}
-use Rattle.sftp_session.specs.Seen.{given}
+use Rattle.sftp_driver.specs.Causes.{Cause, EndCause}
+use Rattle.sftp_driver.specs.Logs.{Ends}
+use Rattle.sftp_lanes.specs.Reported.{IsReport}
+use Rattle.sftp_lanes.specs.Seen.{given}
 use Rattle.sftp_text.specs.Traces.{journal_of}
-use Rattle.sftp_text.specs.TraceLaws.{trace_text}
+use Rattle.sftp_text.proofs.TraceLaws.{trace_text}
 use Rattle.sftp_cli.proofs.Running.{from_empty}
 use Rattle.sftp_cli.specs.Dialled.{LastLink, IsShown, IsStopped, last_link, error_name, error_line}
 

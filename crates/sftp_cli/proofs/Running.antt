@@ -19,15 +19,15 @@ use Rattle.sftp_history.specs.Settings.{greeting, setting_of}
 use Rattle.sftp_history.specs.Served.{Serves}
 use Rattle.sftp_history.specs.Shown.{Shows}
 use Rattle.sftp_history.specs.Texts.{text_of, file_lines}
-use Rattle.sftp_lanes.specs.Causes.{Cause}
-use Rattle.sftp_lanes.specs.Logs.{Ends}
-use Rattle.sftp_lanes.specs.Session.{Given, IsFixed}
+use Rattle.sftp_driver.specs.Causes.{Cause}
+use Rattle.sftp_driver.specs.Logs.{Ends}
+use Rattle.sftp_driver.specs.Session.{Given, IsFixed}
 use Rattle.sftp_map_server.specs.Serving.{Desk, Serving, IsServing, version_reply}
 use Rattle.sftp_served.specs.Unopened.{IsUnopened, unopened}
 use Rattle.sftp_served.proofs.Whole.{version_is_told, run_is_served, stops_for_memory}
-use Rattle.sftp_session.specs.Reported.{IsReport}
+use Rattle.sftp_lanes.specs.Reported.{IsReport}
 use Rattle.sftp_text.specs.Traces.{journal_of}
-use Rattle.sftp_text.specs.TraceLaws.{trace_text}
+use Rattle.sftp_text.proofs.TraceLaws.{trace_text}
 use Rattle.sftp_cli.specs.Printed.{IsPrinted, IsServedRun}
 
 -- a value in Some

@@ -13,9 +13,9 @@ use Rattle.sftp_history.specs.Runs.{IsRun}
 use Rattle.sftp_history.specs.Settings.{greeting, setting_of}
 use Rattle.sftp_history.specs.Shown.{Shows}
 use Rattle.sftp_history.specs.Texts.{line, text_of}
-use Rattle.sftp_lanes.specs.Causes.{Cause, EndCause}
-use Rattle.sftp_lanes.specs.Logs.{Ends}
-use Rattle.sftp_session.specs.Seen.{given}
+use Rattle.sftp_driver.specs.Causes.{Cause, EndCause}
+use Rattle.sftp_driver.specs.Logs.{Ends}
+use Rattle.sftp_lanes.specs.Seen.{given}
 use Rattle.sftp_cli.specs.declared.failure.Failure.{Failure}
 use Rattle.sftp_cli.specs.declared.failure.Failure.TheVariants.{SourceFailed, SinkFailed, OutOfMemory, DialFailed}
 

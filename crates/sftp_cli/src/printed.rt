@@ -11,10 +11,10 @@ ghost use Rattle.sftp_cli.specs.Printed.{IsPrinted, IsServedRun, file_text_of};
 
 use sftp_core::SftpOptions;
 use sftp_history::{Lane, Report, Script, Turn};
+use sftp_lanes::run_lanes;
 use sftp_map_server::MapServer;
 use sftp_model::Error;
 use sftp_served::new_server;
-use sftp_session::run_lanes;
 use sftp_text::{traces_keep_texts, write_file, write_text};
 use ssh_encoding::OutOfMemory;
 use std::alloc::Global;

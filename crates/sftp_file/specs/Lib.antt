@@ -5,7 +5,4 @@ pub mod Stages
 pub mod Starts
 pub mod Polls
 pub mod Planned
-pub mod OptionLaws
-pub mod StageLaws
-pub mod KeepLaws
 pub mod FileRows

@@ -18,6 +18,3 @@ pub use open_options::OpenOptions;
 pub use poll::Poll;
 pub use read_call::ReadCall;
 pub use sftp_model::{Error, IoKind};
-
-#[cfg(test)]
-mod tests;

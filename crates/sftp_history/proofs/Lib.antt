@@ -1,1 +1,17 @@
 pub mod Weights
+pub mod AllClosedLaws
+pub mod CallLaws
+pub mod ClosedLaws
+pub mod CountLaws
+pub mod GrantLaws
+pub mod HolderLaws
+pub mod IdLaws
+pub mod JournalLaws
+pub mod LetGoLaws
+pub mod LimitsLaws
+pub mod OverLaws
+pub mod PlanLaws
+pub mod RequestLaws
+pub mod RunLaws
+pub mod TextLaws
+pub mod WholeRunLaws

@@ -18,6 +18,7 @@ use Rattle.sftp_history.specs.declared.entry.Entry.{Entry}
 use Rattle.sftp_history.specs.declared.entry.Entry.TheVariants as entry
 use Rattle.sftp_history.specs.Readings.{Asked, asked, asked_at, answer, is_at, is_by, ended}
 use Rattle.sftp_history.specs.Calls.{Setting, call_at, site_of, held_site}
+use Rattle.std.proofs.Common.{◌≡◌, ℕ, Bool, true, false, List, [], ◌∷◌, Option, Some, None, if◌then◌else◌}
 
 -- ---- holders
 
@@ -127,3 +128,7 @@ closed s (_ ∷ past) = closed s past
 -- the grant that is to be closed next
 abbrev pub orphan : Setting → List Entry → Option ℕ
 orphan s past = orphan_at s past (closed s past) (letting_go s past)
+
+-- no grant is to be closed, by the order of places
+abbrev pub IsSettled : Setting → List Entry → Type 0
+IsSettled s past = first_below (is_orphan s past (closed s past)) (asked past) ≡ None

@@ -13,7 +13,7 @@ use Rattle.sftp_history.specs.Runs.{IsRun, TurnsTo, DrainsTo, round_of, at_first
 use Rattle.sftp_history.specs.RowWords.{setting_with, submit, send, take, end, cancel, close, open_of, ok, granted, handle}
 use Rattle.sftp_history.specs.JournalRows.{s, was_closed, over}
 use Rattle.sftp_history.specs.LaneRows.{opens}
-use Rattle.sftp_history.specs.OverLaws.{runs_are_journals, runs_are_over}
+use Rattle.sftp_history.proofs.OverLaws.{runs_are_journals, runs_are_over}
 use Rattle.sftp_history.specs.declared.turn.Turn.{Turn}
 use Rattle.sftp_history.specs.Readings.{outcomes_below}
 

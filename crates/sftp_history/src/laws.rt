@@ -8,7 +8,7 @@ ghost use Rattle.sftp_history.specs.Readings.{Asked, answer, asked_at, bearer};
 ghost use Rattle.sftp_history.specs.Calls.{Setting, current};
 ghost use Rattle.sftp_history.specs.Ids.{id_state, Reads};
 ghost use Rattle.sftp_history.specs.Journals.{IsJournal, IsOver, MayTake};
-ghost use Rattle.sftp_history.specs.LetGoLaws.{IsSettled};
+ghost use Rattle.sftp_history.specs.Grants.{IsSettled};
 ghost use Rattle.sftp_history.specs.Grants.{orphan, is_grant, is_held, is_one_of, closed};
 ghost use Rattle.sftp_history.specs.Closes.{granted_handles, closed_handles, times, AreClosed, closes_of};
 ghost use Rattle.sftp_history.specs.Runs.{IsRun};

@@ -29,6 +29,3 @@ pub use rows::{journals_as_worked_out, journals_that_are_none};
 pub use script::Script;
 pub use sftp_model::Outcome;
 pub use turn::Turn;
-
-#[cfg(test)]
-mod tests;

@@ -1,162 +1,45 @@
--- What a session that runs lanes promises of each of its calls, in the words of its journal.
-use Rattle.std.specs.Prelude.{◌≡◌, ◌≢◌, ◌<◌, ◌≤◌, ◌⊎◌, ℕ, Bool, true, false, ◌&&◌, List, [], ◌∷◌, Option, Some, None, Result, Ok, nat_lt, is_some, length, MatchBool}
-use Rattle.sftp_core.specs.declared.options.SftpOptions.{SftpOptions}
-use Rattle.sftp_model.specs.declared.flags.Extensions.{Extensions}
-use Rattle.sftp_model.specs.declared.frame_error.FrameError.{FrameError}
-use Rattle.sftp_model.specs.declared.reply.Reply.{Reply}
-use Rattle.sftp_model.specs.declared.request.Request.TheVariants as request
-use Rattle.sftp_model.specs.declared.slot.Move.{Move}
-use Rattle.sftp_model.specs.declared.slot.Move.TheVariants.{Ask, Wait, Done}
-use Rattle.sftp_history.specs.declared.call.Lane.{Lane}
-use Rattle.sftp_history.specs.declared.turn.Turn.{Turn}
-use Rattle.sftp_history.specs.declared.turn.Turn.TheVariants as turn
-use Rattle.sftp_history.specs.declared.event.Owner.TheVariants as owner
-use Rattle.sftp_history.specs.declared.event.Event.TheVariants.{Submit, Send, Take, Cancel, End}
+-- A session of lanes between two events, and at rest.
+use Rattle.std.specs.Prelude.{◌≡◌, ◌==◌, ℕ, true, List, [], length, Option, Some, None, slice_get, false}
+use Rattle.std.specs.List.{list_any}
+use Rattle.sftp_model.specs.declared.slot.Slot.{Slot}
+use Rattle.sftp_core.specs.Core.{Core, at}
 use Rattle.sftp_history.specs.declared.entry.Entry.{Entry}
-use Rattle.sftp_history.specs.declared.entry.Entry.TheVariants as entry
-use Rattle.sftp_history.specs.Readings.{asked, sent, ended, unanswered, was_let_go, unsent_bytes}
-use Rattle.sftp_history.specs.Calls.{Setting, current}
-use Rattle.sftp_history.specs.Settings.{greeting, setting_of}
-use Rattle.sftp_core.specs.Info.{offers_limits}
-use Rattle.sftp_history.specs.Grants.{orphan}
-use Rattle.sftp_history.specs.Journals.{IsNext, IsFree, MayTake, cancelled_end}
-use Rattle.sftp_history.specs.Runs.{Opens}
-use Rattle.sftp_history.specs.Turns.{Stage, SettlesTo, is_begun, begun_with, begun_but}
-use Rattle.sftp_lanes.specs.declared.session.Phase.{Phase}
-use Rattle.sftp_lanes.specs.declared.session.Phase.TheVariants.{Asking, Open}
-use Rattle.sftp_lanes.specs.declared.session.Stepped.{Stepped}
-use Rattle.sftp_lanes.specs.declared.session.Stepped.TheVariants as stepped
+use Rattle.sftp_history.specs.Calls.{Setting}
+use Rattle.sftp_history.specs.Steady.{Good, Still}
+use Rattle.sftp_lanes.specs.declared.lane.LaneState.{LaneState}
+use Rattle.sftp_lanes.specs.Tables.{Tabled}
+use Rattle.sftp_lanes.specs.Tied.{CoreTied, GoneOnly, LaneTied, is_running}
+use Rattle.sftp_history.specs.Readings.{is_at}
+use Rattle.sftp_history.specs.Grants.{is_grant, is_held, is_one_of, closed}
 
--- what a session was made of
-pub record Given : Type 0 where
-  pub lanes : List Lane
-  pub options : SftpOptions
+-- this grant has no holder and no CLOSE
+pub record IsLoose (s : Setting) (past : List Entry) (g : ℕ) : Type 0 where
+  pub granted : is_grant past g ≡ true
+  pub unheld : is_held s past g ≡ false
+  pub unclosed : is_one_of (closed s past) g ≡ false
 
--- nothing has happened
-abbrev pub at_rest : Stage
-at_rest = record { past = []; begun = [] }
+abbrev pub LooseAt : Setting → List Entry → Option ℕ → Type 0
+LooseAt s past None = Unit {0}
+LooseAt s past (Some g) = IsLoose s past g
 
--- ---- how journals go on
+-- each grant without a CLOSE has a holder, but for one that is due
+pub record Due (s : Setting) (past : List Entry) (due : Option ℕ) : Type 0 where
+  pub each : (g : ℕ) → is_grant past g ≡ true → is_one_of (closed s past) g ≡ false → is_at due g ≡ false → is_held s past g ≡ true
+  pub loose : LooseAt s past due
 
--- now is before, and then entries each of which might come next
-abbrev pub IsLater : Setting → List Entry → List Entry → Type 0
-IsLater s before [] = before ≡ []
-IsLater s before (e ∷ past) = (before ≡ e ∷ past) ⊎ (IsNext s past e × IsLater s before past)
+-- Core and lanes are what the journal says, but for slots that were emptied and whose files are still to be let go, and a
+-- grant that is due to be closed.
+pub record Between (s : Setting) (past : List Entry) (core : Core) (states : List LaneState) (begun : List ℕ) (left : List Slot) (owed : Option ℕ) : Type 0 where
+  pub good : Good s past begun
+  pub due : Due s past owed
+  pub gone : GoneOnly s past
+  pub work : CoreTied s past core
+  pub table : Tabled s past left (at core)
+  pub count : length states ≡ length s.lanes
+  pub each : (lane : ℕ) (state : LaneState) → slice_get states lane ≡ Some state → LaneTied s past lane state
+  pub runs : (lane : ℕ) (state : LaneState) → list_any (λ x. x == lane) begun ≡ true → slice_get states lane ≡ Some state → is_running state.running ≡ true
 
--- ---- the opening
-
--- VERSION was read: the query for limits stands in the journal where the server offers to tell them
-abbrev pub Begins : Bool → Phase → List Entry → Type 0
-Begins false phase past = (phase ≡ Open) × (past ≡ [])
-Begins true phase past = (phase ≡ Asking) × ((id : ℕ) × (IsFree [] id × (past ≡ entry.Event (Submit owner.Setup id request.LimitsQuery) ∷ [])))
-
--- a body is VERSION 3, and the session goes on by what it offers
-pub record Greets (body_reads : Result (Option ℕ × Reply) FrameError) (asks : Bool) (version : Option Reply) (phase : Phase) (past : List Entry) : Type 0 where
-  pub extensions : Extensions
-  pub reads : body_reads ≡ Ok (None, greeting extensions)
-  pub told : version ≡ Some (greeting extensions)
-  pub asked : asks ≡ offers_limits extensions
-  pub begins : Begins asks phase past
-
--- VERSION 3 was taken, and the session goes on by what it offers
-pub record Welcomed (asks : Bool) (version : Option Reply) (phase : Phase) (past : List Entry) : Type 0 where
-  pub extensions : Extensions
-  pub told : version ≡ Some (greeting extensions)
-  pub asked : asks ≡ offers_limits extensions
-  pub begins : Begins asks phase past
-
--- a body is the reply to the query for limits, and the session goes by it
-abbrev pub Tells : Result (Option ℕ × Reply) FrameError → List Entry → List Entry → Type 0
-Tells body_reads before now =
-    (id : ℕ) × ((r : Reply) × ((body_reads ≡ Ok (Some id, r)) × MayTake before id r × (now ≡ entry.Event (Take id r) ∷ before)))
-
--- the setting is what the lanes, the options, VERSION and the limits fix
-abbrev pub IsFixed : Given → Option Reply → List Entry → Setting → Type 0
-IsFixed given version past s = (extensions : Extensions) × ((version ≡ Some (greeting extensions)) × (s ≡ setting_of given.lanes given.options extensions past))
-
--- the journal is a run so far, and the setting is fixed
-abbrev pub IsSoFar : Given → Option Reply → Setting → List Entry → Type 0
-IsSoFar given version s past = IsLater s [] past × IsFixed given version past s
-
--- the session was opened
-pub record IsOpened (given : Given) (version : Option Reply) (past : List Entry) (s : Setting) : Type 0 where
-  pub fixed : IsFixed given version past s
-  pub opens : Opens s.limits past
-  pub later : IsLater s [] past
-  pub holds : (lane : ℕ) → was_let_go past lane ≡ false
-
--- ---- calls of an open session
-
--- one step of a lane, what it was, and the CLOSEs that are due then
-abbrev pub StepsTo : Setting → ℕ → Stage → Stage → Option Move → Stepped → Type 0
-StepsTo s lane before now None event = (event ≡ stepped.Nothing) × (now ≡ before)
-StepsTo s lane before now (Some (Wait place)) event = (event ≡ stepped.Nothing) × (now ≡ record { past = before.past; begun = begun_with before.begun lane })
-StepsTo s lane before now (Some (Ask r)) event =
-    (event ≡ stepped.Submitted) × (now.begun ≡ begun_with before.begun lane)
-    × ((id : ℕ) × (IsFree before.past id × SettlesTo s (entry.Event (Submit (owner.Call lane (ended before.past lane)) id r) ∷ before.past) now.past))
-StepsTo s lane before now (Some (Done o site)) event =
-    (event ≡ stepped.Ended) × (now.begun ≡ begun_but before.begun lane)
-    × SettlesTo s (entry.Event (End lane (ended before.past lane) o) ∷ before.past) now.past
-
--- the call of a begun lane is cancelled, and the CLOSEs that are due then
-abbrev pub Cancels : Setting → ℕ → Stage → Stage → Bool → Type 0
-Cancels s lane before now event =
-    MatchBool (is_some (current s before.past lane) && is_begun before lane)
-    ((event ≡ true) × (now.begun ≡ begun_but before.begun lane)
-    × SettlesTo s (cancelled_end (entry.Event (Cancel lane) ∷ before.past) lane ∷ entry.Event (Cancel lane) ∷ before.past) now.past)
-    ((event ≡ false) × (now ≡ before))
-
--- a lane that is there is let go, and the CLOSEs that are due then
-abbrev pub LetsGo : Setting → ℕ → Stage → Stage → Type 0
-LetsGo s lane before now =
-    MatchBool (nat_lt lane (length s.lanes)) ((now.begun ≡ before.begun) × SettlesTo s (entry.LetGo lane ∷ before.past) now.past) (now ≡ before)
-
--- a body is a reply that may be taken, it is taken, and the CLOSEs that are due then
-abbrev pub Takes : Setting → Result (Option ℕ × Reply) FrameError → Stage → Stage → Type 0
-Takes s body_reads before now =
-    (id : ℕ) × ((r : Reply)
-    × ((body_reads ≡ Ok (Some id, r)) × MayTake before.past id r × (now.begun ≡ before.begun) × SettlesTo s (entry.Event (Take id r) ∷ before.past) now.past))
-
--- what is unsent was handed out, where something is
-abbrev pub HandsOut : Setting → Stage → Option (List ℕ) → Stage → Type 0
-HandsOut s before None now = (nat_lt (sent before.past) (asked before.past) ≡ false) × (now ≡ before)
-HandsOut s before (Some bytes) now =
-    (nat_lt (sent before.past) (asked before.past) ≡ true) × (bytes ≡ unsent_bytes before.past)
-    × (now ≡ record { past = entry.Event Send ∷ before.past; begun = before.begun }) × (orphan s (entry.Event Send ∷ before.past) ≡ None)
-    × IsNext s before.past (entry.Event Send)
-
--- a step moved a lane, or there was nothing to do
-abbrev pub is_event : Stepped → Bool
-is_event stepped.Nothing = false
-is_event stepped.Submitted = true
-is_event stepped.Ended = true
-
--- an event makes what is left to do less, and nothing makes it more
-abbrev pub LessBy : Bool → ℕ → ℕ → Type 0
-LessBy true before now = now < before
-LessBy false before now = now ≤ before
-
--- no call of a lane that had none left has come, and no lane was let go
-abbrev pub IsSteady : Setting → List Entry → List Entry → Type 0
-IsSteady s before now =
-    ((lane : ℕ) → current s before lane ≡ None → current s now lane ≡ None) × ((lane : ℕ) → was_let_go now lane ≡ was_let_go before lane)
-
--- the journal went on, and let go of no lane
-abbrev pub GoesOn : Setting → List Entry → List Entry → Type 0
-GoesOn s before now = IsLater s before now × IsSteady s before now
-
--- what is unsent was sent, where something is
-abbrev pub Flushed : Setting → Stage → Stage → Type 0
-Flushed s before now =
-    MatchBool (nat_lt (sent before.past) (asked before.past))
-    ((now ≡ record { past = entry.Event Send ∷ before.past; begun = before.begun }) × (orphan s (entry.Event Send ∷ before.past) ≡ None))
-    (now ≡ before)
-
--- a lane was moved, or it has no call left, or something is unanswered
-abbrev pub Progresses : Setting → ℕ → Stage → Stage → ℕ → ℕ → Type 0
-Progresses s lane before now work left =
-    (left < work) ⊎ ((left ≤ work) × (current s before.past lane ≢ None → 0 < unanswered now.past))
-
--- a flush and a take
-abbrev pub drain_of : List Turn
-drain_of = turn.Flush ∷ turn.Take ∷ []
+-- and nothing is due
+pub record IsTied (s : Setting) (past : List Entry) (core : Core) (states : List LaneState) (begun : List ℕ) : Type 0 where
+  pub still : Still s past
+  pub rest : Between s past core states begun [] None

@@ -1,63 +1,55 @@
-// A whole run.
-ghost use Rattle.std.specs.Prelude.{◌≡◌, ◌<◌, ◌^◌, ◌-◌, IfErr, OnOk};
+// A whole run of lanes over a link.
+ghost use Rattle.std.specs.Prelude.{◌≡◌, ◌<◌, ◌^◌, ◌-◌, true, IfOk, IfErr};
 ghost use Rattle.sftp_link.specs.Told.{Told};
-ghost use Rattle.sftp_history.specs.Runs.{IsRun};
-ghost use Rattle.sftp_lanes.specs.Session.{IsFixed, at_rest};
-ghost use Rattle.sftp_lanes.specs.Causes.{Cause, EndCause};
-ghost use Rattle.sftp_lanes.specs.Logs.{Ends, Showing};
+ghost use Rattle.sftp_history.specs.Lanes.{are_ok};
+ghost use Rattle.sftp_driver.specs.Causes.{Cause, EndCause};
+ghost use Rattle.sftp_driver.specs.Logs.{Ends};
+ghost use Rattle.sftp_lanes.specs.Seen.{given};
+ghost use Rattle.sftp_lanes.specs.Reported.{IsReport};
 
-use crate::opening::open;
-use crate::runs::{drain, end_lanes, let_go_lanes, run_turns};
-use crate::session::{Phase, RunsLanes};
-use sftp_history::Turn;
+use crate::session::Session;
+use sftp_core::SftpOptions;
+use sftp_driver::run_session;
+use sftp_history::{Lane, Report, Turn};
 use sftp_link::Link;
 use sftp_model::Error;
+use ssh_encoding::OutOfMemory;
 use std::alloc::Global;
 
-/// Runs the lanes of a session over a link: the hello and the limits, the turns of the schedule, then for each lane
-/// in order rounds of a step, a flush and a take until it has no call left; then the lanes are let go in order, and the
-/// last replies are taken.
+/// Runs lanes over a link: the hello and the limits, the turns of the schedule, then for each lane in order rounds of
+/// a step, a flush and a take until it has no call left; then the lanes are let go in order, and the last replies are
+/// taken.
 ///
-/// With Ok the journal is a run of the lanes under these turns, and the link's log, where it tells one, shows VERSION and
-/// the journal. `LinkFault` comes only where the link's count of faults rose, `LinkEnded` only where its last call
-/// found the end, and each other error but `OutOfMemory` is the first thing that is wrong with the frame that came
-/// last. After an error the log shows VERSION and a journal that is a run so far of the lanes, or the hello, and then
-/// nothing, a front of the next frames to be sent, or bytes of one frame that wasn't taken.
-pub fn run_session<X: RunsLanes, L: Link>(
+/// With Ok the report is that of a run of the lanes under these turns: its events are the run's journal, and the link's
+/// log, where it tells one, shows VERSION and that journal; each handle was closed exactly as often as it was granted. `LinkFault` comes only where the link's count of faults rose,
+/// `LinkEnded` only where its last call found the end, and each other error but `OutOfMemory` is the first thing that is
+/// wrong with the frame that came last. After an error the log shows VERSION and a journal that is a run so far of the
+/// lanes, or the hello, and then nothing, a front of the next frames to be sent, or bytes of one frame that wasn't taken.
+pub fn run_lanes<L: Link>(
     alloc: Global,
-    session: &mut X,
     link: &mut L,
+    lanes: &[Lane],
     schedule: &[Turn],
-) -> Result<(), Error>
-    requires fresh { X.phase session.old ≡ Phase.Fresh }
-    requires rest { X.stage session.old ≡ at_rest }
+    options: &SftpOptions,
+) -> Result<Report, Error>
+    requires lanes { are_ok lanes.now ≡ true }
     requires count { L.LinkState.faults link.old < 2 ^ 64 - 1 }
-    ensures run { OnOk result (IsRun (X.setting session.new) schedule.now (X.stage session.new).past) }
-    ensures fixed { OnOk result (IsFixed (X.given session.old) (X.version session.new) (X.stage session.new).past (X.setting session.new)) }
-    ensures log { OnOk result (Told (Showing (X.version session.new) (X.stage session.new).past) (L.LinkState.log link.old) (L.LinkState.log link.new)) }
-    ensures stops { IfErr result (λ e. Told (Ends (X.given session.old) (L.LinkState.ended link.new) e) (L.LinkState.log link.old) (L.LinkState.log link.new)) }
+    ensures run { IfOk result (λ report. IsReport lanes.now options.now schedule.now (L.LinkState.log link.old) (L.LinkState.log link.new) report) }
+    ensures stops { IfErr result (λ e. Told (Ends (given lanes.now options.now) (L.LinkState.ended link.new) e) (L.LinkState.log link.old) (L.LinkState.log link.new)) }
     ensures cause { Cause (L.LinkState.faults link.old) (L.LinkState.faults link.new) result }
     ensures end { EndCause (L.LinkState.ended link.new) result }
     ensures service { L.LinkState.service link.new ≡ L.LinkState.service link.old }
 {
-    match open(alloc, session, link) {
+    let mut session = match Session::new(alloc, lanes, options) {
+        Ok(session) => session,
+        Err(OutOfMemory) => return Err(Error::OutOfMemory),
+    };
+    match run_session(alloc, &mut session, link, schedule) {
         Ok(()) => {}
         Err(error) => return Err(error),
     }
-    match run_turns(alloc, session, link, schedule) {
-        Ok(()) => {}
-        Err(error) => return Err(error),
-    }
-    match end_lanes(alloc, session, link) {
-        Ok(()) => {}
-        Err(error) => return Err(error),
-    }
-    match let_go_lanes(session, link) {
-        Ok(()) => {}
-        Err(error) => return Err(error),
-    }
-    match drain(alloc, session, link) {
-        Ok(()) => Ok(()),
-        Err(error) => Err(error),
+    match session.into_report() {
+        Ok(report) => Ok(report),
+        Err(OutOfMemory) => Err(Error::OutOfMemory),
     }
 }

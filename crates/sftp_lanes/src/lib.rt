@@ -1,17 +1,20 @@
-//! Runs the lanes of an SFTP session over a link.
+//! A session that runs lanes: each lane makes its calls by the states of `sftp_file`, over one core, and the session keeps
+//! a journal of what happened.
 #![tactic(auto)]
 
+mod cancelling;
+mod closing;
+mod counts;
 mod driver;
-mod exchange;
-mod no_lanes;
-mod opening;
-mod runs;
+mod fresh;
+mod keeping;
+mod lane;
+mod lanes;
+mod letting;
+mod noting;
+mod report;
 mod session;
-mod turns;
+mod taking;
 
-pub use driver::run_session;
-pub use no_lanes::NoLanes;
-pub use session::{Phase, RunsLanes, Stepped};
-
-#[cfg(test)]
-mod tests;
+pub use driver::run_lanes;
+pub use session::Session;

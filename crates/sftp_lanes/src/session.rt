@@ -1,197 +1,321 @@
-ghost use Rattle.std.specs.Prelude.{◌≡◌, ◌≢◌, ◌<◌, ◌∷◌, ◌↔◌, [], ℕ, false, Option, None, Ok, IsTrue, IfOk, IfErr, OnOk, OnErr, length};
-ghost use Rattle.std.specs.Option.{option_map};
-ghost use Rattle.sftp_model.specs.Pieces.{joined};
-ghost use Rattle.sftp_model.specs.declared.reply.Reply.{Reply};
-ghost use Rattle.sftp_model.specs.ReplyReadings.{reply_at};
-ghost use Rattle.sftp_history.specs.Calls.{Setting, current, move_of};
-ghost use Rattle.sftp_history.specs.Readings.{awaited, unanswered, unsent_bytes, was_let_go};
-ghost use Rattle.sftp_history.specs.Shown.{hello_frame};
-ghost use Rattle.sftp_history.specs.Turns.{Stage, SettlesTo, is_full};
+// A session of lanes: its opening, and each call of its lanes.
+ghost use Rattle.std.specs.Prelude.{◌≡◌, ◌∷◌, [], None, Some, true, IfOk, reverse};
+ghost use Rattle.std.specs.Option.{unwrap_or};
+ghost use Rattle.sftp_core.specs.Core.{failed_with};
+ghost use Rattle.sftp_core.specs.Info.{offers_limits as offers};
+ghost use Rattle.sftp_history.specs.Lanes.{are_ok};
+ghost use Rattle.sftp_driver.specs.NoLanes.{offered, asked_past};
+ghost use Rattle.sftp_history.specs.Readings.{outcomes_of as of_lane, was_let_go};
 ghost use Rattle.sftp_history.specs.declared.entry.Entry.TheVariants as entry;
-ghost use Rattle.sftp_history.specs.declared.event.Event.TheVariants.{Send};
-ghost use Rattle.sftp_lanes.specs.Session.{Given, IsLater, Greets, Tells, IsFixed, StepsTo, Cancels, Takes, HandsOut, LetsGo, is_event, LessBy, at_rest};
-ghost use Rattle.sftp_lanes.specs.declared.session.Phase.{Phase};
-ghost use Rattle.sftp_core.specs.Take.{IsFirst};
-ghost use Rattle.sftp_lanes.specs.Refusals.{refuses, refuses_hello};
+ghost use Rattle.sftp_history.specs.Journals.{IsJournal, IsNext};
+ghost use Rattle.sftp_driver.specs.declared.session.Phase.TheVariants as phases;
+ghost use Rattle.sftp_lanes.specs.Seen.{IsNew, Reports, setting_at};
+ghost use Rattle.sftp_lanes.specs.SoFar.{kept_in, kept_past};
+ghost use Rattle.sftp_lanes.specs.Working.{past_of};
 
-use sftp_core::{Chunk, TakeError};
+use crate::lanes::Lanes;
+use crate::report::{events_of, lets_go, outcomes_below, outcomes_of};
+use bitflags::Flags;
+use sftp_core::{Chunk, Fault, Info, SftpOptions, TakeError, Taken};
+use sftp_driver::{Phase, RunsLanes, Stepped};
+use sftp_history::{Entry, Event, Lane, Outcome, Owner, Report};
+use sftp_model::{Extensions, Reply, Request, TryCopy};
+use sftp_values::Items;
 use ssh_encoding::OutOfMemory;
+use std::alloc::Global;
+use std::marker::Model;
 
-/// How far the opening of a session has come.
-#[derive(Clone, Copy, Debug, PartialEq, Eq)]
-pub enum Phase {
-    /// The hello stands in the queue.
-    Fresh,
-    /// The hello was handed out, and VERSION is awaited.
-    Greeted,
-    /// VERSION was taken, and the query for limits stands in the queue.
-    Asking,
-    /// The query for limits was handed out, and its reply is awaited.
-    Queried,
-    /// Lanes may be stepped.
-    Open,
-    /// A frame was refused, and the session can't be used any more.
-    Failed,
+/// A session that runs the lanes that it was given. After an error of `step`, `cancel`, `let_go`, `hand_out` or `take` no
+/// call of its lanes can be made any more, and it tells what happened still. Its journal is a run so far in every phase,
+/// and has the kept fault. Dropped, it lets all go that its lanes hold, and sends nothing.
+#[derive(Drop)]
+pub struct Session<'a> {
+    alloc: Global,
+    lanes: &'a [Lane],
+    options: SftpOptions,
+    phase: Phase,
+    version: Option<Reply>,
+    info: Option<Info>,
+    work: Lanes,
 }
 
-/// What one step of a lane was.
-#[derive(Clone, Copy, Debug, PartialEq, Eq)]
-pub enum Stepped {
-    /// The lane has no call left, or its call waits for a reply.
-    Nothing,
-    /// A request was submitted.
-    Submitted,
-    /// The call ended.
-    Ended,
+impl<'a> Model for Session<'a> {
+    ghost use Rattle.std.specs.Coded.{codes};
+    ghost use Rattle.sftp_lanes.specs.contracts.lanes.Lanes as of_lanes;
+    ghost use Rattle.sftp_lanes.specs.Seen.{Seen, IsSession};
+
+    ghost Value = { Seen };
+
+    ghost coded = { Prim.hlevel (codes, of_lanes.the_row.coded) };
+
+    ghost view = { λ s. record { lanes = s.lanes.now; options = s.options; phase = s.phase; version = s.version; info = s.info; work = s.work } };
+
+    ghost invariant = { λ s. IsSession s.lanes.now s.options s.version s.info s.work s.phase };
 }
 
-/// A session that runs lanes, as the driver needs it. It keeps a journal, and closes each handle that nothing holds
-/// any more as soon as it is so.
-pub trait RunsLanes {
-    // The lanes and the options that it was made of.
-    ghost given: { Self → Given };
+impl<'a> Session<'a> {
+    /// A session whose hello stands in the queue. Refused for want of memory.
+    pub fn new(
+        alloc: Global,
+        lanes: &'a [Lane],
+        options: &SftpOptions,
+    ) -> Result<Session<'a>, OutOfMemory>
+        requires { are_ok lanes.now ≡ true }
+        ensures { IfOk result (λ session. IsNew lanes.now options.now session) }
+    {
+        let work = Lanes::new(alloc, lanes, options)?;
+        Ok(Session {
+            alloc,
+            lanes,
+            options: *options,
+            phase: Phase::Fresh,
+            version: None,
+            info: None,
+            work,
+        })
+    }
 
-    // What its lanes go by.
-    ghost setting: { Self → Setting };
+    /// What is known of the server, once the session is open.
+    pub fn info(&self) -> Option<Info>
+        ensures { result ≡ self.now.info }
+    {
+        self.info
+    }
 
-    // How far its opening has come.
-    ghost phase: { Self → Phase };
+    /// The kept fault, which is the first one. The journal has its entry exactly where one is kept.
+    pub fn fault(&self) -> Option<Fault>
+        ensures value { result ≡ self.now.work.core.fault }
+        ensures entry { result ≡ kept_in (past_of self.now.work) }
+    {
+        self.work.core.fault()
+    }
 
-    // The server's VERSION, once it was taken.
-    ghost version: { Self → Option Reply };
+    /// What happened so far, the first entry first: a run so far in every phase.
+    pub fn journal(&self) -> &[Entry]
+        ensures value { reverse result.now ≡ past_of self.now.work }
+        ensures so_far { IsJournal (setting_at self.now) (past_of self.now.work) }
+    {
+        self.work.journal.as_slice()
+    }
 
-    // Its journal, the newest entry first, and the lanes whose call was begun.
-    ghost stage: { Self → Stage };
+    /// The outcomes of the calls of a lane that have ended, in their order. Refused for want of memory.
+    pub fn outcomes(&self, lane: u32) -> Result<Items<Outcome>, OutOfMemory>
+        ensures { IfOk result (λ outcomes. outcomes ≡ of_lane (past_of self.now.work) lane) }
+    {
+        outcomes_of(self.alloc, self.work.journal.as_slice(), lane)
+    }
 
-    // What is left to do: each event makes it less.
-    ghost work: { Self → ℕ };
+    /// Whether a lane was let go.
+    pub fn was_let_go(&self, lane: u32) -> bool
+        ensures { result ≡ was_let_go (past_of self.now.work) lane }
+    {
+        lets_go(self.work.journal.as_slice(), lane)
+    }
 
-    /// The frame of the hello. Refused for want of memory.
-    fn greet(&mut self) -> Result<Chunk, OutOfMemory>
-        requires fresh { phase self.old ≡ Phase.Fresh }
-        ensures ok { IfOk result (λ chunk. joined chunk ≡ hello_frame) }
-        ensures phase { OnOk result (phase self.new ≡ Phase.Greeted) }
-        ensures stage { OnOk result (stage self.new ≡ stage self.old) }
-        ensures given { given self.new ≡ given self.old };
+    /// Keeps a fault, also as the last entry of the journal; where one is kept already, that one stays, and nothing is
+    /// added. No call of the lanes can be made any more. Takes no memory.
+    pub fn fail(&mut self, fault: Fault)
+        ensures rest { self.new ≡ record self.old {
+          phase = phases.Failed;
+          work = record self.old.work { core = failed_with self.old.work.core fault; journal = self.new.work.journal };
+        } }
+        ensures journal { past_of self.new.work ≡ kept_past self.old.work.core.fault fault (past_of self.old.work) }
+        ensures next { self.old.work.core.fault ≡ None → IsNext (setting_at self.old) (past_of self.old.work) (entry.Kept fault) }
+        ensures told { self.new.work.core.fault ≡ Some (unwrap_or self.old.work.core.fault fault) }
+    {
+        self.work.keep(fault);
+        self.phase = Phase::Failed;
+    }
 
-    /// Takes the body of VERSION, and answers whether the limits are to be asked for. Refused by the first thing
-    /// that is wrong with it, or for want of memory.
-    fn take_version(&mut self, body: &[u8]) -> Result<bool, TakeError>
-        requires greeted { phase self.old ≡ Phase.Greeted }
-        requires rest { stage self.old ≡ at_rest }
-        ensures ok { IfOk result (λ asks. Greets (reply_at body.now) asks (version self.new) (phase self.new) (stage self.new).past) }
-        ensures begun { OnOk result ((stage self.new).begun ≡ (stage self.old).begun) }
-        ensures later { OnOk result (IsLater (setting self.new) (stage self.old).past (stage self.new).past) }
-        ensures fixed { OnOk result (IsFixed (given self.new) (version self.new) (stage self.new).past (setting self.new)) }
-        ensures refused { IfErr result (λ e. IsFirst e (refuses_hello (reply_at body.now))) }
-        ensures given { given self.new ≡ given self.old };
+    /// Ends the session, and reports what it did. Refused for want of memory. Nothing is sent.
+    pub fn into_report(self) -> Result<Report, OutOfMemory>
+        ensures { IfOk result (λ report. Reports self.entry report) }
+    {
+        let Session {
+            alloc,
+            lanes,
+            options: _,
+            phase: _,
+            version,
+            info: _,
+            work,
+        } = self;
+        let journal = work.into_journal();
+        let outcomes = outcomes_below(alloc, journal.as_slice(), lanes.len() as u32)?;
+        Ok(Report {
+            hello: version,
+            trace: events_of(alloc, journal)?,
+            outcomes,
+        })
+    }
+}
 
-    /// The frame of the query for limits. Refused for want of memory.
-    fn query(&mut self) -> Result<Chunk, OutOfMemory>
-        requires asking { phase self.old ≡ Phase.Asking }
-        ensures ok { IfOk result (λ chunk. joined chunk ≡ unsent_bytes (stage self.old).past) }
-        ensures phase { OnOk result (phase self.new ≡ Phase.Queried) }
-        ensures event { OnOk result ((stage self.new).past ≡ entry.Event Send ∷ (stage self.old).past) }
-        ensures begun { OnOk result ((stage self.new).begun ≡ (stage self.old).begun) }
-        ensures later { OnOk result (IsLater (setting self.new) (stage self.old).past (stage self.new).past) }
-        ensures same { setting self.new ≡ setting self.old }
-        ensures version { version self.new ≡ version self.old }
-        ensures given { given self.new ≡ given self.old };
+/// Whether a VERSION offers the query for limits.
+fn offers_limits(reply: &Reply) -> bool
+    ensures { result ≡ offers (offered (Some reply.now)) }
+{
+    match reply {
+        Reply::Version { extensions, .. } => extensions.contains(Extensions::LIMITS),
+        _ => false,
+    }
+}
 
-    /// Takes the body of the reply to the query for limits. Refused by the first thing that is wrong with it, or for
-    /// want of memory.
-    fn take_limits(&mut self, body: &[u8]) -> Result<(), TakeError>
-        requires queried { phase self.old ≡ Phase.Queried }
-        ensures ok { OnOk result (Tells (reply_at body.now) (stage self.old).past (stage self.new).past) }
-        ensures phase { OnOk result (phase self.new ≡ Phase.Open) }
-        ensures begun { OnOk result ((stage self.new).begun ≡ (stage self.old).begun) }
-        ensures later { OnOk result (IsLater (setting self.new) [] (stage self.new).past) }
-        ensures fixed { OnOk result (IsFixed (given self.new) (version self.new) (stage self.new).past (setting self.new)) }
-        ensures refused { IfErr result (λ e. IsFirst e (refuses (stage self.old).past (reply_at body.now))) }
-        ensures version { version self.new ≡ version self.old }
-        ensures given { given self.new ≡ given self.old };
+/// The query for limits was submitted.
+fn query_entry() -> Entry
+    ensures { result ∷ [] ≡ asked_past }
+{
+    Entry::Event(Event::Submit {
+        owner: Owner::Setup,
+        id: 0,
+        request: Request::LimitsQuery,
+    })
+}
 
-    /// One step of a lane: its call's next request, or its end, or nothing. Refused for want of memory.
-    fn step(&mut self, lane: u32) -> Result<Stepped, OutOfMemory>
-        requires open { phase self.old ≡ Phase.Open }
-        ensures ok { IfOk result (λ event. StepsTo (setting self.old) lane (stage self.old) (stage self.new) (move_of (setting self.old) (stage self.old).past lane) event) }
-        ensures later { OnOk result (IsLater (setting self.old) (stage self.old).past (stage self.new).past) }
-        ensures work { IfOk result (λ event. LessBy (is_event event) (work self.old) (work self.new)) }
-        ensures waits { IfOk result (λ event. is_event event ≡ false → current (setting self.old) (stage self.old).past lane ≢ None → 0 < unanswered (stage self.new).past) }
-        ensures phase { OnOk result (phase self.new ≡ phase self.old) }
-        ensures version { version self.new ≡ version self.old }
-        ensures same { setting self.new ≡ setting self.old };
+impl<'a> RunsLanes for Session<'a> {
+    ghost use Rattle.sftp_lanes.specs.Seen.{given_of, setting_at};
+    ghost use Rattle.sftp_lanes.specs.Working.{stage_of, work_of};
 
-    /// Cancels the call of a lane that was begun, and answers whether it was. Refused for want of memory.
-    fn cancel(&mut self, lane: u32) -> Result<bool, OutOfMemory>
-        requires open { phase self.old ≡ Phase.Open }
-        ensures ok { IfOk result (λ event. Cancels (setting self.old) lane (stage self.old) (stage self.new) event) }
-        ensures later { OnOk result (IsLater (setting self.old) (stage self.old).past (stage self.new).past) }
-        ensures phase { OnOk result (phase self.new ≡ phase self.old) }
-        ensures version { version self.new ≡ version self.old }
-        ensures same { setting self.new ≡ setting self.old };
+    ghost given = { λ s. given_of s };
 
-    /// Lets go of all that the slots of a lane hold, where the lane is there. Refused for want of memory.
-    fn let_go(&mut self, lane: u32) -> Result<(), OutOfMemory>
-        requires open { phase self.old ≡ Phase.Open }
-        requires done { current (setting self.old) (stage self.old).past lane ≡ None }
-        requires holds { was_let_go (stage self.old).past lane ≡ false }
-        ensures ok { OnOk result (LetsGo (setting self.old) lane (stage self.old) (stage self.new)) }
-        ensures later { OnOk result (IsLater (setting self.old) (stage self.old).past (stage self.new).past) }
-        ensures phase { OnOk result (phase self.new ≡ phase self.old) }
-        ensures version { version self.new ≡ version self.old }
-        ensures same { setting self.new ≡ setting self.old };
+    ghost setting = { λ s. setting_at s };
 
-    /// The frames of all unsent requests; None where nothing is unsent. Refused for want of memory.
-    fn hand_out(&mut self) -> Result<Option<Chunk>, OutOfMemory>
-        requires open { phase self.old ≡ Phase.Open }
-        ensures ok { IfOk result (λ chunk. HandsOut (setting self.old) (stage self.old) (option_map joined chunk) (stage self.new)) }
-        ensures work { OnOk result (work self.new ≡ work self.old) }
-        ensures phase { OnOk result (phase self.new ≡ phase self.old) }
-        ensures version { version self.new ≡ version self.old }
-        ensures same { setting self.new ≡ setting self.old };
+    ghost phase = { λ s. s.phase };
 
-    /// Takes a chunk back whose frames were sent.
-    fn give_back(&mut self, chunk: Chunk)
-        ensures stage { stage self.new ≡ stage self.old }
-        ensures work { work self.new ≡ work self.old }
-        ensures phase { phase self.new ≡ phase self.old }
-        ensures version { version self.new ≡ version self.old }
-        ensures same { setting self.new ≡ setting self.old }
-        ensures given { given self.new ≡ given self.old };
+    ghost version = { λ s. s.version };
 
-    /// Takes the body of one frame. Refused by the first thing that is wrong with it, or for want of memory.
-    fn take(&mut self, body: &[u8]) -> Result<(), TakeError>
-        requires open { phase self.old ≡ Phase.Open }
-        ensures ok { OnOk result (Takes (setting self.old) (reply_at body.now) (stage self.old) (stage self.new)) }
-        ensures later { OnOk result (IsLater (setting self.old) (stage self.old).past (stage self.new).past) }
-        ensures work { OnOk result (work self.new < work self.old) }
-        ensures refused { IfErr result (λ e. IsFirst e (refuses (stage self.old).past (reply_at body.now))) }
-        ensures phase { OnOk result (phase self.new ≡ phase self.old) }
-        ensures version { version self.new ≡ version self.old }
-        ensures same { setting self.new ≡ setting self.old };
+    ghost stage = { λ s. stage_of s.work };
 
-    /// Whether more requests are unsent than may be.
-    fn wants_flush(&self) -> bool
-        requires open { phase self.now ≡ Phase.Open }
-        ensures { result ≡ is_full (setting self.now) (stage self.now).past };
+    ghost work = { λ s. work_of s.work };
 
-    /// How many sent requests have no reply.
-    fn awaited(&self) -> u32
-        requires open { phase self.now ≡ Phase.Open }
-        ensures { result ≡ awaited (stage self.now).past };
+    fn greet(&mut self) -> Result<Chunk, OutOfMemory> {
+        let chunk = self.work.core.hand_out()?;
+        self.phase = Phase::Greeted;
+        Ok(chunk)
+    }
 
-    /// How many requests have no reply.
-    fn unanswered(&self) -> u32
-        requires open { phase self.now ≡ Phase.Open }
-        ensures { result ≡ unanswered (stage self.now).past };
+    fn take_version(&mut self, body: &[u8]) -> Result<bool, TakeError> {
+        match self.work.take_frame(body) {
+            Ok(Taken::Version(reply)) => {
+                if offers_limits(&reply) {
+                    self.work.journal.push(query_entry()).unwrap();
+                    self.phase = Phase::Asking;
+                    self.version = Some(reply);
+                    return Ok(true);
+                }
+                self.info = self.work.core.info();
+                self.phase = Phase::Open;
+                self.version = Some(reply);
+                Ok(false)
+            }
+            Ok(_) => unreachable!(),
+            Err(TakeError::OutOfMemory) => Err(TakeError::OutOfMemory),
+            Err(e) => {
+                self.phase = Phase::Failed;
+                Err(e)
+            }
+        }
+    }
 
-    /// How many lanes there are.
-    fn lane_count(&self) -> u32
-        ensures { result ≡ length (setting self.now).lanes };
+    fn query(&mut self) -> Result<Chunk, OutOfMemory> {
+        self.work.journal.reserve(2)?;
+        let chunk = self.work.core.hand_out()?;
+        self.work.journal.push(Entry::Event(Event::Send)).unwrap();
+        self.phase = Phase::Queried;
+        Ok(chunk)
+    }
 
-    /// Whether a lane has no call left.
-    fn is_done(&self, lane: u32) -> bool
-        requires open { phase self.now ≡ Phase.Open }
-        ensures { IsTrue result ↔ (current (setting self.now) (stage self.now).past lane ≡ None) };
+    fn take_limits(&mut self, body: &[u8]) -> Result<(), TakeError> {
+        match self.work.take_frame(body) {
+            Ok(Taken::Limits { id, reply }) => {
+                self.work
+                    .journal
+                    .push(Entry::Event(Event::Take { id, reply }))
+                    .unwrap();
+                self.info = self.work.core.info();
+                self.phase = Phase::Open;
+                Ok(())
+            }
+            Ok(_) => unreachable!(),
+            Err(TakeError::OutOfMemory) => Err(TakeError::OutOfMemory),
+            Err(e) => {
+                self.phase = Phase::Failed;
+                Err(e)
+            }
+        }
+    }
+
+    fn step(&mut self, lane: u32) -> Result<Stepped, OutOfMemory> {
+        match self.work.step(self.alloc, lane) {
+            Ok(event) => Ok(event),
+            Err(e) => {
+                self.phase = Phase::Failed;
+                Err(e)
+            }
+        }
+    }
+
+    fn cancel(&mut self, lane: u32) -> Result<bool, OutOfMemory> {
+        match self.work.cancel(lane) {
+            Ok(event) => Ok(event),
+            Err(e) => {
+                self.phase = Phase::Failed;
+                Err(e)
+            }
+        }
+    }
+
+    fn let_go(&mut self, lane: u32) -> Result<(), OutOfMemory> {
+        match self.work.let_go(lane) {
+            Ok(()) => Ok(()),
+            Err(e) => {
+                self.phase = Phase::Failed;
+                Err(e)
+            }
+        }
+    }
+
+    fn hand_out(&mut self) -> Result<Option<Chunk>, OutOfMemory> {
+        match self.work.hand_out() {
+            Ok(chunk) => Ok(chunk),
+            Err(e) => {
+                self.phase = Phase::Failed;
+                Err(e)
+            }
+        }
+    }
+
+    fn give_back(&mut self, chunk: Chunk) {
+        self.work.core.give_back(chunk);
+    }
+
+    fn take(&mut self, body: &[u8]) -> Result<(), TakeError> {
+        match self.work.take(body) {
+            Ok(()) => Ok(()),
+            Err(e) => {
+                self.phase = Phase::Failed;
+                Err(e)
+            }
+        }
+    }
+
+    fn wants_flush(&self) -> bool {
+        self.work
+            .wants_flush(self.options.get_max_pending_requests())
+    }
+
+    fn awaited(&self) -> u32 {
+        self.work.awaited()
+    }
+
+    fn unanswered(&self) -> u32 {
+        self.work.unanswered()
+    }
+
+    fn lane_count(&self) -> u32 {
+        self.lanes.len() as u32
+    }
+
+    fn is_done(&self, lane: u32) -> bool {
+        self.work.is_done(lane)
+    }
 }

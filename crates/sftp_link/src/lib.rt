@@ -29,6 +29,3 @@ pub use scripted_link::ScriptedLink;
 pub use stream::{Sink, Source};
 pub use unix::{StreamLink, UnixDial, UnixLink};
 pub use whole::{read_up_to, recv_exact, send_all, write_all};
-
-#[cfg(test)]
-mod tests;

@@ -62,7 +62,7 @@ fn is_query(request: &Request) -> bool
 }
 
 /// Whether the answer to a request has no more bytes than one DATA can bring.
-pub(crate) fn gives_within(request: &Request, choice: Choice) -> bool
+pub fn gives_within(request: &Request, choice: Choice) -> bool
     ensures { result ≡ gives_within_by request.now choice }
 {
     match request {

@@ -8,9 +8,7 @@ mod machine;
 mod map_server;
 mod names;
 
+pub use desk::gives_within;
 pub use laws::grants_are_new;
 pub use machine::Machine;
 pub use map_server::MapServer;
-
-#[cfg(test)]
-mod tests;

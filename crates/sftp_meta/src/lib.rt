@@ -18,6 +18,3 @@ pub use metadata_builder::MetaDataBuilder;
 pub use permissions::Permissions;
 pub use raw_permissions::RawPermissions;
 pub use unix_timestamp::{UnixTimeStamp, UnixTimeStampError};
-
-#[cfg(test)]
-mod tests;

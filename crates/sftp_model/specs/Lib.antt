@@ -2,6 +2,7 @@ pub mod Pieces
 pub mod Paths
 pub mod FieldErrors
 pub mod Same
+pub mod Numbers
 pub mod Frames
 pub mod Readings
 pub mod ReplyReadings

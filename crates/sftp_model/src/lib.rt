@@ -15,6 +15,7 @@ mod handle;
 mod laws;
 mod lengths;
 mod machine;
+pub mod numbers;
 mod outcome;
 mod remote_path;
 mod reply;
@@ -42,6 +43,3 @@ pub use remote_path::RemotePath;
 pub use reply::{NameEntry, Reply};
 pub use request::Request;
 pub use slot::{Buffer, Facts, FileAt, Move, Site, Slot};
-
-#[cfg(test)]
-mod tests;

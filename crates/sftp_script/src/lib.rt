@@ -16,6 +16,3 @@ mod words;
 pub use error::ScriptError;
 pub use script::read_script;
 pub use sftp_history::{Reason, Script};
-
-#[cfg(test)]
-mod tests;

@@ -22,7 +22,7 @@ use Rattle.sftp_history.specs.declared.entry.Entry.TheVariants as entry
 use Rattle.sftp_history.specs.Readings.{asked, answer, sent, own, ended, awaited}
 use Rattle.sftp_history.specs.Calls.{Setting, added, calls_of, lane_calls, current, move_at, move_of, site_of}
 use Rattle.sftp_history.specs.Journals.{IsJournal, IsNext, MayTake, cancelled_end}
-use Rattle.sftp_history.specs.CallLaws.{next_submit}
+use Rattle.sftp_history.proofs.CallLaws.{next_submit}
 use Rattle.sftp_history.specs.Lanes.{weight, lane_weight, weight_limit, is_within, are_ok}
 use Rattle.sftp_history.specs.Runs.{TurnsTo, RoundsTo, EndsTo, LetsGoTo, DrainsTo, Opens, round_of, IsRun}
 use Rattle.sftp_history.specs.Turns.{Stage, TurnTo, MovesBy, RulesTo, ClosesTo, is_full, is_begun, begun_but}

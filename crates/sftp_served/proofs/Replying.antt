@@ -26,7 +26,7 @@ use Rattle.sftp_core.specs.Info.{offers_limits}
 use Rattle.sftp_core.specs.Take.{wrong_content}
 use Rattle.sftp_history.specs.declared.event.Owner.{Owner}
 use Rattle.sftp_wire.proofs.Lengths.{lengths}
-use Rattle.sftp_lanes.specs.Refusals.{refuses_limits}
+use Rattle.sftp_driver.specs.Refusals.{refuses_limits}
 use Rattle.sftp_history.specs.Readings.{Asked}
 use Rattle.sftp_history.specs.Served.{first_choice, limits_reply}
 use Rattle.sftp_map_server.specs.Granting.{Granting, gives_within, handle_of, next}

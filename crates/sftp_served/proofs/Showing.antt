@@ -14,15 +14,15 @@ use Rattle.sftp_core.specs.declared.errors.TakeError.{TakeError}
 use Rattle.sftp_link.specs.declared.piece.Piece.{Piece}
 use Rattle.sftp_link.specs.declared.piece.Piece.TheVariants.{Sent, Got}
 use Rattle.sftp_link.specs.Log.{SentOn}
-use Rattle.sftp_lanes.specs.Refusals.{refuses, refuses_hello, refuses_reply, sent_at, awaited_at}
+use Rattle.sftp_driver.specs.Refusals.{refuses, refuses_hello, refuses_reply, sent_at, awaited_at}
 use Rattle.sftp_history.specs.declared.event.Event.TheVariants.{Submit, Send, Take}
 use Rattle.sftp_history.specs.declared.entry.Entry.{Entry}
 use Rattle.sftp_history.specs.declared.entry.Entry.TheVariants as entry
 use Rattle.sftp_history.specs.Readings.{Asked, asked, asked_at, bearer, answer, is_at, awaiting, sent, unsent_bytes, unanswered_below, awaited}
 use Rattle.sftp_history.specs.Calls.{Setting}
 use Rattle.sftp_history.specs.Journals.{IsJournal}
-use Rattle.sftp_history.specs.JournalLaws.{unanswered_borne}
-use Rattle.sftp_history.specs.RequestLaws.{answer_beyond, is_awaiting}
+use Rattle.sftp_history.proofs.JournalLaws.{unanswered_borne}
+use Rattle.sftp_history.proofs.RequestLaws.{answer_beyond, is_awaiting}
 use Rattle.sftp_history.specs.Shown.{Shows, IsFrameOf, hello_frame}
 use Rattle.sftp_map_server.specs.Serving.{Server, Desk, IsServed, Gives, AllShort, opened, step, version_reply}
 use Rattle.sftp_map_server.proofs.Short.{version_within}

@@ -43,7 +43,7 @@ use Rattle.sftp_history.specs.Readings.{answer, bearer, is_at, own, ended, last_
 use Rattle.sftp_history.specs.Calls.{Setting, next, current, site_of, move_at, move_of}
 use Rattle.sftp_history.specs.Grants.{orphan}
 use Rattle.sftp_history.specs.Journals.{IsJournal, MayCome, MustClose, cancelled_end}
-use Rattle.sftp_history.specs.JournalLaws.{submit_free}
+use Rattle.sftp_history.proofs.JournalLaws.{submit_free}
 use Rattle.sftp_history.specs.Shown.{Shows, IsFrameOf}
 
 -- a request of a call, or a CLOSE, which fits a frame

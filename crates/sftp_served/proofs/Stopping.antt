@@ -15,10 +15,10 @@ use Rattle.sftp_core.specs.declared.options.SftpOptions.{SftpOptions}
 use Rattle.sftp_link.specs.declared.piece.Piece.{Piece}
 use Rattle.sftp_link.specs.Log.{GotOn}
 use Rattle.sftp_wire.specs.FrameReader.{missing}
-use Rattle.sftp_lanes.specs.Causes.{Cause}
-use Rattle.sftp_lanes.specs.Logs.{Ends, Behind, BehindHello, IsUnsent, GotUnusable}
-use Rattle.sftp_lanes.specs.Refusals.{refuses, refuses_hello}
-use Rattle.sftp_lanes.specs.Session.{Given, IsLater}
+use Rattle.sftp_driver.specs.Causes.{Cause}
+use Rattle.sftp_driver.specs.Logs.{Ends, Behind, BehindHello, IsUnsent, GotUnusable}
+use Rattle.sftp_driver.specs.Refusals.{refuses, refuses_hello}
+use Rattle.sftp_driver.specs.Session.{Given, IsLater}
 use Rattle.sftp_history.specs.declared.call.Lane.{Lane}
 use Rattle.sftp_history.specs.declared.entry.Entry.{Entry}
 use Rattle.sftp_history.specs.Readings.{awaited}

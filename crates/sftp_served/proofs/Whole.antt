@@ -7,9 +7,9 @@ use Rattle.sftp_model.specs.declared.reply.Reply.{Reply}
 use Rattle.sftp_model.specs.Fits.{FitsNumber}
 use Rattle.sftp_link.specs.Told.{Told}
 use Rattle.sftp_link.specs.declared.piece.Piece.{Piece}
-use Rattle.sftp_lanes.specs.Causes.{Cause}
-use Rattle.sftp_lanes.specs.Logs.{Ends, Showing}
-use Rattle.sftp_lanes.specs.Session.{Given, IsFixed}
+use Rattle.sftp_driver.specs.Causes.{Cause}
+use Rattle.sftp_driver.specs.Logs.{Ends, Showing}
+use Rattle.sftp_driver.specs.Session.{Given, IsFixed}
 use Rattle.sftp_core.specs.declared.options.SftpOptions.{SftpOptions}
 use Rattle.sftp_model.specs.declared.flags.Extensions.{Extensions}
 use Rattle.sftp_history.specs.declared.call.Lane.{Lane}
@@ -18,7 +18,7 @@ use Rattle.sftp_history.specs.declared.turn.Turn.{Turn}
 use Rattle.sftp_history.specs.Calls.{Setting}
 use Rattle.sftp_history.specs.Journals.{IsJournal}
 use Rattle.sftp_history.specs.Lanes.{are_ok}
-use Rattle.sftp_history.specs.OverLaws.{runs_are_journals}
+use Rattle.sftp_history.proofs.OverLaws.{runs_are_journals}
 use Rattle.sftp_history.specs.Runs.{IsRun}
 use Rattle.sftp_history.specs.Served.{Serves}
 use Rattle.sftp_history.specs.Settings.{greeting, setting_of}

@@ -13,9 +13,9 @@ ghost use Rattle.sftp_history.specs.Calls.{Setting};
 ghost use Rattle.sftp_history.specs.Lanes.{are_ok};
 ghost use Rattle.sftp_history.specs.Runs.{IsRun};
 ghost use Rattle.sftp_history.specs.Served.{Serves};
-ghost use Rattle.sftp_lanes.specs.Causes.{Cause};
-ghost use Rattle.sftp_lanes.specs.Logs.{Ends, Showing};
-ghost use Rattle.sftp_lanes.specs.Session.{Given, IsFixed};
+ghost use Rattle.sftp_driver.specs.Causes.{Cause};
+ghost use Rattle.sftp_driver.specs.Logs.{Ends, Showing};
+ghost use Rattle.sftp_driver.specs.Session.{Given, IsFixed};
 ghost use Rattle.sftp_map_server.specs.Serving.{Serving, IsServing, version_reply};
 ghost use Rattle.sftp_served.specs.Unopened.{IsUnopened};
 

@@ -8,6 +8,3 @@ mod served;
 pub use fitting::new_server;
 pub use laws::{runs_are_served, scripts_are_known};
 pub use served::run_served;
-
-#[cfg(test)]
-mod tests;

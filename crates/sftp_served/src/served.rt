@@ -4,12 +4,12 @@ ghost use Rattle.sftp_model.specs.declared.error.Error.TheVariants as error;
 ghost use Rattle.sftp_history.specs.Lanes.{are_ok};
 ghost use Rattle.sftp_history.specs.Runs.{IsRun};
 ghost use Rattle.sftp_history.specs.Served.{Serves};
-ghost use Rattle.sftp_lanes.specs.Session.{IsFixed, at_rest};
+ghost use Rattle.sftp_driver.specs.Session.{IsFixed, at_rest};
 ghost use Rattle.sftp_map_server.specs.Serving.{version_reply};
 ghost use Rattle.sftp_served.specs.Unopened.{IsUnopened};
 
+use sftp_driver::{Phase, RunsLanes, run_session};
 use sftp_history::Turn;
-use sftp_lanes::{Phase, RunsLanes, run_session};
 use sftp_map_server::MapServer;
 use sftp_model::Error;
 use std::alloc::Global;

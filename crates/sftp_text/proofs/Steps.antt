@@ -12,7 +12,7 @@ use Rattle.sftp_history.specs.declared.entry.Entry.TheVariants as entry
 use Rattle.sftp_history.specs.Readings.{unsent}
 use Rattle.sftp_history.specs.Texts.{frame_lines, request_line, reply_line}
 use Rattle.sftp_text.specs.Traces.{journal_of, submitted}
-use Rattle.sftp_text.specs.TraceLaws.{journal_of_more}
+use Rattle.sftp_text.proofs.TraceLaws.{journal_of_more}
 
 -- the requests that are submitted from a first place on, and before another one
 abbrev pub between : List Event → ℕ → ℕ → List (ℕ × Request)

@@ -13,6 +13,3 @@ pub use laws::traces_keep_texts;
 pub use sftp_history::Report;
 pub use ssh_encoding::OutOfMemory;
 pub use text::{write_file, write_text};
-
-#[cfg(test)]
-mod tests;

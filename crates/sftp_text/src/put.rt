@@ -20,7 +20,7 @@ pub(crate) fn put_word(word: &str, out: &mut Vec<u8>) -> Result<(), OutOfMemory>
 }
 
 /// The digits of a number.
-#[tactic(auto, using(sftp_wire::proofs::Puts::puts, sftp_history::specs::TextLaws::number_decimal))]
+#[tactic(auto, using(sftp_wire::proofs::Puts::puts, sftp_history::proofs::TextLaws::number_decimal))]
 pub(crate) fn put_number(n: u64, out: &mut Vec<u8>) -> Result<(), OutOfMemory>
     ensures ok { OnOk result (out.new.items ≡ out.old.items ++ number_text n) }
     ensures grows { Grows out.old.items out.new.items }

@@ -24,6 +24,3 @@ pub use sftp_model::{
 };
 pub use sftp_values::{ByteText, Items};
 pub use write::{Message, request_len, write_body, write_reply, write_request};
-
-#[cfg(test)]
-mod tests;

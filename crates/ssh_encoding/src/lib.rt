@@ -37,6 +37,3 @@ pub use writer::Writer;
 
 /// What the calls of this crate answer.
 pub type Result<T> = std::result::Result<T, Error>;
-
-#[cfg(test)]
-mod tests;

@@ -1,5 +1,5 @@
-use Rattle.sftp_history.specs.AllClosedLaws.{closed_exactly}
-use Rattle.sftp_history.specs.ClosedLaws.{closed_once, gone_loose}
+use Rattle.sftp_history.proofs.AllClosedLaws.{closed_exactly}
+use Rattle.sftp_history.proofs.ClosedLaws.{closed_once, gone_loose}
 use Rattle.sftp_history.proofs.laws.grants_are_closed_once.Goals as goal
 
 pub returns : goal.returns

@@ -1,4 +1,4 @@
-use Rattle.sftp_history.specs.AllClosedLaws.{handles_most, handles_closed}
+use Rattle.sftp_history.proofs.AllClosedLaws.{handles_most, handles_closed}
 use Rattle.sftp_history.proofs.laws.handles_are_closed.Goals as goal
 
 pub returns : goal.returns

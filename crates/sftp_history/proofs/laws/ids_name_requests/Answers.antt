@@ -1,5 +1,5 @@
-use Rattle.sftp_history.specs.RequestLaws.{bearer_one}
-use Rattle.sftp_history.specs.JournalLaws.{unanswered_borne, unanswered_apart}
+use Rattle.sftp_history.proofs.RequestLaws.{bearer_one}
+use Rattle.sftp_history.proofs.JournalLaws.{unanswered_borne, unanswered_apart}
 use Rattle.sftp_history.proofs.laws.ids_name_requests.Goals as goal
 
 pub returns : goal.returns

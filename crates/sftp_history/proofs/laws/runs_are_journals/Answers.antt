@@ -1,4 +1,4 @@
-use Rattle.sftp_history.specs.OverLaws.{runs_are_journals, runs_are_over}
+use Rattle.sftp_history.proofs.OverLaws.{runs_are_journals, runs_are_over}
 use Rattle.sftp_history.proofs.laws.runs_are_journals.Goals as goal
 
 pub returns : goal.returns

@@ -2,7 +2,7 @@ use Rattle.std.proofs.Common.{List, Some, ap, sym, ◌∙◌, subst}
 use Rattle.sftp_link.specs.declared.piece.Piece.{Piece}
 use Rattle.sftp_link.specs.Told.{Told}
 use Rattle.sftp_history.specs.Served.{Serves}
-use Rattle.sftp_lanes.specs.Logs.{Ends, Showing}
+use Rattle.sftp_driver.specs.Logs.{Ends, Showing}
 use Rattle.sftp_map_server.specs.Serving.{Desk, version_reply}
 use Rattle.sftp_served.specs.Unopened.{IsUnopened}
 use Rattle.sftp_served.proofs.Whole.{version_is_told, run_is_served, stops_for_memory}

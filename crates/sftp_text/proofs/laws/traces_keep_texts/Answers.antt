@@ -1,4 +1,4 @@
-use Rattle.sftp_text.specs.TraceLaws.{trace_text}
+use Rattle.sftp_text.proofs.TraceLaws.{trace_text}
 use Rattle.sftp_text.proofs.laws.traces_keep_texts.Goals as goal
 
 pub returns : goal.returns

@@ -6,7 +6,7 @@ use Rattle.sftp_file.specs.declared.stage.Stage.TheVariants.{Asked}
 use Rattle.sftp_file.specs.Polls.{close_answer}
 use Rattle.sftp_file.proofs.PlannedLaws.{planned_close}
 use Rattle.sftp_file.proofs.PolledLaws.{answered_by}
-use Rattle.sftp_file.specs.KeepLaws.{after_keeps_grants}
+use Rattle.sftp_file.proofs.KeepLaws.{after_keeps_grants}
 use Rattle.sftp_file.proofs.close_call.CloseCall.poll.Goals as goal
 
 pub returns-in-Ok-Reply-clause-answer : goal.returns-in-Ok-Reply-clause-answer

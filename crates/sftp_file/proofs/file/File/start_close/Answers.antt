@@ -3,7 +3,7 @@ use Rattle.sftp_model.specs.declared.answers.Expected.TheVariants as expected
 use Rattle.sftp_model.specs.declared.request.Request.TheVariants as request
 use Rattle.sftp_core.specs.Core.{queued_last}
 use Rattle.sftp_file.specs.Stages.{Holds}
-use Rattle.sftp_file.specs.StageLaws.{submitted_holds}
+use Rattle.sftp_file.proofs.StageLaws.{submitted_holds}
 use Rattle.sftp_file.proofs.file.File.start_close.Goals as goal
 
 pub returns-in-Some-clause-awaits : goal.returns-in-Some-clause-awaits

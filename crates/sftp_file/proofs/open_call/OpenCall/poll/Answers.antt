@@ -4,7 +4,7 @@ use Rattle.sftp_core.specs.declared.tokens.Polled.TheVariants as polled
 use Rattle.sftp_model.specs.Answers.{is_status}
 use Rattle.sftp_file.specs.declared.stage.Stage.TheVariants.{Asked}
 use Rattle.sftp_file.proofs.PolledLaws.{refused_by, grant_came}
-use Rattle.sftp_file.specs.KeepLaws.{after_keeps_grants}
+use Rattle.sftp_file.proofs.KeepLaws.{after_keeps_grants}
 use Rattle.sftp_file.proofs.open_call.OpenCall.poll.Goals as goal
 
 pub returns-in-Ok-Reply-clause-answer : goal.returns-in-Ok-Reply-clause-answer

@@ -6,7 +6,7 @@ use Rattle.sftp_file.specs.declared.stage.Stage.TheVariants.{Asked}
 use Rattle.sftp_file.specs.Polls.{read_answer}
 use Rattle.sftp_file.proofs.PlannedLaws.{planned_read}
 use Rattle.sftp_file.proofs.PolledLaws.{answered_by, file_by}
-use Rattle.sftp_file.specs.KeepLaws.{after_keeps_grants}
+use Rattle.sftp_file.proofs.KeepLaws.{after_keeps_grants}
 use Rattle.sftp_file.proofs.read_call.ReadCall.poll.Goals as goal
 
 pub returns-in-Ok-Reply-clause-answer : goal.returns-in-Ok-Reply-clause-answer

@@ -1,7 +1,7 @@
 use Rattle.std.proofs.Common.{rules, ◌≡◌, true, None}
 use Rattle.sftp_core.specs.Core.{at, queued_last}
-use Rattle.sftp_file.specs.KeepLaws.{keeps_submitted}
-use Rattle.sftp_file.specs.StageLaws.{submitted_holds}
+use Rattle.sftp_file.proofs.KeepLaws.{keeps_submitted}
+use Rattle.sftp_file.proofs.StageLaws.{submitted_holds}
 use Rattle.sftp_file.proofs.stage.Stage.ask.Goals as goal
 
 pub returns-in-Ok-clause-awaits : goal.returns-in-Ok-clause-awaits

@@ -1,6 +1,6 @@
 use Rattle.std.proofs.Common.{rules, ◌≡◌, IsTrue}
 use Rattle.sftp_core.specs.Core.{at, is_ticket, abandoned}
-use Rattle.sftp_file.specs.KeepLaws.{cancelled_keeps_grants}
+use Rattle.sftp_file.proofs.KeepLaws.{cancelled_keeps_grants}
 use Rattle.sftp_file.specs.declared.stage.Stage.TheVariants.{Asked}
 use Rattle.sftp_file.proofs.stage.Stage.cancel.Goals as goal
 

@@ -1,0 +1,11 @@
+//! Tests of the libraries by their public calls. Links, the core, files and histories: whole calls, hostile replies, and texts.
+#![tactic(auto)]
+
+#[cfg(test)]
+mod file;
+#[cfg(test)]
+mod history;
+#[cfg(test)]
+mod link;
+#[cfg(test)]
+mod pipeline;

@@ -1,0 +1,15 @@
+//! Tests of the libraries by their public calls. The driver, sessions, the server in memory, scripts and texts.
+#![tactic(auto)]
+
+#[cfg(test)]
+mod driver;
+#[cfg(test)]
+mod lanes;
+#[cfg(test)]
+mod map_server;
+#[cfg(test)]
+mod script;
+#[cfg(test)]
+mod served;
+#[cfg(test)]
+mod text;

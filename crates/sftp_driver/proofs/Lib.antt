@@ -1,0 +1,6 @@
+pub mod Getting
+pub mod Journals
+pub mod Stopping
+pub mod Rounds
+pub mod Settled
+pub mod Bare

@@ -1,0 +1,6 @@
+pub mod Session
+pub mod NoLanes
+pub mod Refusals
+pub mod Causes
+pub mod Logs
+pub mod Reading

@@ -1,0 +1,103 @@
+-- What a link's log shows of a run that goes on, and of one that stops.
+use Rattle.std.specs.Prelude.{◌≡◌, ◌⊎◌, ◌<◌, ◌≤◌, ℕ, Bool, true, List, [], length, Option, Some, None, Result}
+use Rattle.sftp_model.specs.declared.error.Error.{Error}
+use Rattle.sftp_model.specs.declared.error.Error.TheVariants as error
+use Rattle.sftp_model.specs.declared.frame_error.FormatKind.{FormatKind}
+use Rattle.sftp_model.specs.declared.frame_error.FrameError.{FrameError}
+use Rattle.sftp_model.specs.declared.reply.Reply.{Reply}
+use Rattle.sftp_model.specs.Frames.{frame, body_limit}
+use Rattle.sftp_model.specs.ReplyReadings.{reply_at}
+use Rattle.sftp_core.specs.declared.errors.TakeError.{TakeError}
+use Rattle.sftp_link.specs.declared.piece.Piece.{Piece}
+use Rattle.sftp_link.specs.Log.{SentOn, GotOn}
+use Rattle.sftp_link.specs.Told.{SentLess}
+use Rattle.sftp_wire.specs.FrameReader.{fault_of, missing}
+use Rattle.sftp_history.specs.declared.entry.Entry.{Entry}
+use Rattle.sftp_history.specs.Readings.{awaited, unsent_bytes}
+use Rattle.sftp_history.specs.Calls.{Setting}
+use Rattle.sftp_history.specs.Shown.{Shows, hello_frame}
+use Rattle.sftp_history.specs.Settings.{greeting, setting_of}
+use Rattle.sftp_model.specs.declared.flags.Extensions.{Extensions}
+use Rattle.sftp_driver.specs.Session.{Given, IsLater}
+use Rattle.sftp_driver.specs.Refusals.{refuses, refuses_hello, error_of}
+
+-- whatever the log showed before, it shows the journal that has gone on
+abbrev pub Keeps : List Entry → List Entry → List Piece → List Piece → Type 0
+Keeps past now before after = (hello : Reply) (first : List Piece) → Shows hello past first before → Shows hello now first after
+
+-- the log shows VERSION, where it was taken, and the journal
+abbrev pub Showing : Option Reply → List Entry → List Piece → List Piece → Type 0
+Showing None past before after = ⊥
+Showing (Some hello) past before after = Shows hello past before after
+
+-- ---- parts
+
+-- nothing was sent, or a front of the bytes which is not the whole
+abbrev pub SentPart : List ℕ → List Piece → List Piece → Type 0
+SentPart bytes before now = (now ≡ before) ⊎ SentLess bytes before now
+
+-- bytes of one frame were got
+abbrev pub GotBytes : List Piece → List Piece → Type 0
+GotBytes before now = (bytes : List ℕ) × ((length bytes ≤ 1048579) × GotOn before now bytes)
+
+-- less than a frame was got
+abbrev pub GotPart : List Piece → List Piece → Type 0
+GotPart before now = (bytes : List ℕ) × ((0 < missing bytes) × (length bytes ≤ 1048579) × GotOn before now bytes)
+
+-- a length was got which no frame may have
+abbrev pub GotBadLength : FormatKind → List Piece → List Piece → Type 0
+GotBadLength kind before now = (bytes : List ℕ) × ((fault_of bytes ≡ Some kind) × (length bytes ≤ 1048579) × GotOn before now bytes)
+
+-- one frame was got, and by what it reads as it is refused with this error
+abbrev pub GotRefused : (Result (Option ℕ × Reply) FrameError → Option TakeError) → Error → List Piece → List Piece → Type 0
+GotRefused first e before now =
+    (body : List ℕ) × ((length body ≤ body_limit) × GotOn before now (frame body) × ((t : TakeError) × ((first (reply_at body) ≡ Some t) × (e ≡ error_of t))))
+
+-- what was got can't be used, and this error says why
+abbrev pub GotUnusable : (Result (Option ℕ × Reply) FrameError → Option TakeError) → Error → List Piece → List Piece → Type 0
+GotUnusable first e before now = ((kind : FormatKind) × ((e ≡ error.FormatError kind) × GotBadLength kind before now)) ⊎ GotRefused first e before now
+
+-- ---- stops
+
+-- Behind the journal that the log shows stands, where a run stops with this error, a part of the next Send's
+-- frames, or what came where the reply to a sent request was awaited.
+abbrev pub Behind : Bool → Error → List Entry → List Piece → List Piece → Type 0
+Behind ended error.OutOfMemory past mid after = SentPart (unsent_bytes past) mid after ⊎ ((0 < awaited past) × GotBytes mid after)
+Behind ended error.LinkFault past mid after = SentPart (unsent_bytes past) mid after ⊎ ((0 < awaited past) × GotBytes mid after)
+Behind ended error.LinkEnded past mid after = (ended ≡ true) × (0 < awaited past) × GotPart mid after
+Behind ended other past mid after = (0 < awaited past) × GotUnusable (refuses past) other mid after
+
+-- where a run stops, the log shows such a journal, and then a part
+abbrev pub StopsAs : (List Entry → Type 0) → Bool → Error → List Entry → List Piece → List Piece → Type 0
+StopsAs such ended e past before after =
+    (hello : Reply) (first : List Piece) → Shows hello past first before
+    → (now : List Entry) × ((mid : List Piece) × (such now × Shows hello now first mid × Behind ended e now mid after))
+
+-- where a run stops, the log shows a journal that is the earlier one gone on, and then a part
+abbrev pub Stops : Setting → Bool → Error → List Entry → List Piece → List Piece → Type 0
+Stops s ended e past before after = StopsAs (IsLater s past) ended e past before after
+
+-- the hello was sent, and then came what can't be used, or less than a frame, or it failed within a frame
+abbrev pub BehindHello : Bool → Error → List Piece → List Piece → Type 0
+BehindHello ended error.OutOfMemory mid after = GotBytes mid after
+BehindHello ended error.LinkFault mid after = GotBytes mid after
+BehindHello ended error.LinkEnded mid after = (ended ≡ true) × GotPart mid after
+BehindHello ended other mid after = GotUnusable refuses_hello other mid after
+
+-- why not all could be sent: for want of memory, or by a fault of the link
+abbrev pub IsUnsent : Error → Type 0
+IsUnsent error.OutOfMemory = Unit {0}
+IsUnsent error.LinkFault = Unit {0}
+IsUnsent other = ⊥
+
+-- before VERSION was taken: a part of the hello, where not all could be sent, or the hello and then a part
+abbrev pub HelloStops : Bool → Error → List Piece → List Piece → Type 0
+HelloStops ended e before after = (IsUnsent e × SentPart hello_frame before after) ⊎ ((mid : List Piece) × (SentOn before mid hello_frame × BehindHello ended e mid after))
+
+-- where a session stops, VERSION was not taken, or the log shows VERSION, a journal that is a run of the lanes so
+-- far, and a part
+abbrev pub Ends : Given → Bool → Error → List Piece → List Piece → Type 0
+Ends given ended e before after =
+    HelloStops ended e before after
+    ⊎ ((extensions : Extensions) × ((now : List Entry) × ((mid : List Piece)
+    × (IsLater (setting_of given.lanes given.options extensions now) [] now × Shows (greeting extensions) now before mid × Behind ended e now mid after))))

@@ -1,0 +1,14 @@
+//! Runs the lanes of an SFTP session over a link.
+#![tactic(auto)]
+
+mod driver;
+mod exchange;
+mod no_lanes;
+mod opening;
+mod runs;
+mod session;
+mod turns;
+
+pub use driver::run_session;
+pub use no_lanes::NoLanes;
+pub use session::{Phase, RunsLanes, Stepped};

@@ -1,7 +1,0 @@
-use Rattle.sftp_lanes.proofs.Journals.{later_self}
-use Rattle.sftp_lanes.specs.NoLanes.{setting_in}
-use Rattle.sftp_lanes.proofs.no_lanes.NoLanesRunsLanes.cancel.Goals as goal
-
-pub returns-clause-later : goal.returns-clause-later
-returns-clause-later c =
-    later_self (setting_in c.args.self.now) c.args.self.now.past

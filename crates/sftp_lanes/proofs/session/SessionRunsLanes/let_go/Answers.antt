@@ -1,0 +1,15 @@
+use Rattle.sftp_history.specs.Calls.{Setting}
+use Rattle.sftp_lanes.specs.Seen.{setting_by}
+use Rattle.sftp_lanes.proofs.FaultLaws.{left_so_far}
+use Rattle.sftp_lanes.proofs.Opening.{fails_by, works_on}
+use Rattle.sftp_lanes.proofs.session.SessionRunsLanes.let_go.Goals as goal
+
+pub invariant_of-self : goal.invariant_of-self
+invariant_of-self c =
+    let s : Setting = setting_by c.self.inside.lanes.now c.self.inside.options c.self.inside.version c.self.inside.info in
+    works_on c.self.inside.lanes.now c.self.inside.options c.self.inside.version c.self.inside.info c.self.inside.work c.let_go.new.self c.self.inside.phase c.self.invariant (rw (← c.self.view_is) at c.requires.open)
+    c.let_go.ensures.room (λ working. (c.in-Ok.ensures.lets_go s working (rw (← c.self.view_is) at c.requires.done) (rw (← c.self.view_is) at c.requires.holds)).working)
+
+pub invariant_of-self-in-Err : goal.invariant_of-self-in-Err
+invariant_of-self-in-Err c =
+    fails_by c.self.inside.lanes.now c.self.inside.options c.self.inside.version c.self.inside.info c.self.inside.work c.let_go.new.self c.self.inside.phase c.self.invariant c.let_go.ensures.room (λ s. left_so_far s c.self.inside.work c.let_go.new.self c.in-Err.ensures.left)
