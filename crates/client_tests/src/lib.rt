@@ -1,4 +1,4 @@
-//! Tests of the libraries by their public calls. Links, the core, files and histories: whole calls, hostile replies, and texts.
+//! Tests of the libraries by their public calls. Links, files and histories: whole calls, hostile replies, and texts.
 #![tactic(auto)]
 
 #[cfg(test)]
@@ -7,5 +7,3 @@ mod file;
 mod history;
 #[cfg(test)]
 mod link;
-#[cfg(test)]
-mod pipeline;

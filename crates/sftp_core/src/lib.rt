@@ -23,4 +23,8 @@ pub use phase::Phase;
 pub use pipeline::Core;
 pub use place::Place;
 pub use sftp_model::{Fault, Limits};
+pub use ssh_encoding::OutOfMemory;
 pub use tokens::{Grant, Polled, Taken, Ticket};
+
+#[cfg(test)]
+mod tests;

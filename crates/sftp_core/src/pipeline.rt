@@ -19,10 +19,10 @@ use ssh_encoding::OutOfMemory;
 use std::alloc::Global;
 use std::marker::Model;
 
+mod queue;
+mod replies;
 #[cfg(test)]
 mod seats;
-mod sending;
-mod taking;
 mod tickets;
 
 /// The protocol of one session without its link: it numbers requests, queues their frames, and hands each reply to

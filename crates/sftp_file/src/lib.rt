@@ -18,3 +18,4 @@ pub use open_options::OpenOptions;
 pub use poll::Poll;
 pub use read_call::ReadCall;
 pub use sftp_model::{Error, IoKind};
+pub use ssh_encoding::OutOfMemory;

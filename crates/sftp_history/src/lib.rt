@@ -21,11 +21,13 @@ pub use entry::Entry;
 pub use event::{Event, Owner};
 pub use lanes::lanes_ok;
 pub use laws::{
-    ids_are_read, ids_name_requests, letting_go_settles, replies_stay, runs_are_journals,
+    grants_are_closed_once, handles_are_closed, ids_are_read, ids_name_requests,
+    letting_go_settles, replies_stay, runs_are_journals,
 };
 pub use reason::Reason;
 pub use report::Report;
 pub use rows::{journals_as_worked_out, journals_that_are_none};
 pub use script::Script;
 pub use sftp_model::Outcome;
+pub use ssh_encoding::OutOfMemory;
 pub use turn::Turn;

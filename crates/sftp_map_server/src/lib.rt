@@ -12,3 +12,5 @@ pub use desk::gives_within;
 pub use laws::grants_are_new;
 pub use machine::Machine;
 pub use map_server::MapServer;
+pub use sftp_model::{Choice, Limits, ServerConfig};
+pub use ssh_encoding::OutOfMemory;

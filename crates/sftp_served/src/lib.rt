@@ -8,3 +8,4 @@ mod served;
 pub use fitting::new_server;
 pub use laws::{runs_are_served, scripts_are_known};
 pub use served::run_served;
+pub use ssh_encoding::OutOfMemory;

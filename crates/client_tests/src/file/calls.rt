@@ -17,9 +17,6 @@ const READ: &[u8] = b"\0\0\0\x16\x05\0\0\0\x01\0\0\0\x01a\0\0\0\0\0\0\0\0\0\0\0\
 
 const READ_ON: &[u8] = b"\0\0\0\x16\x05\0\0\0\x01\0\0\0\x01a\0\0\0\0\0\0\0\x03\0\0\0\x08";
 
-const READ_LAST: &[u8] =
-    b"\0\0\0\x16\x05\0\0\0\x01\0\0\0\x01a\xff\xff\xff\xff\xff\xff\xff\xf8\0\0\0\x07";
-
 const OPEN_TO_WRITE: &[u8] = b"\0\0\0\x15\x03\0\0\0\0\0\0\0\x04open\0\0\0\x02\0\0\0\0";
 
 const CLOSE: &[u8] = b"\0\0\0\x0a\x04\0\0\0\0\0\0\0\x01a";
@@ -121,23 +118,19 @@ fn reads(rt: HostRuntime) -> Result<(), Fail> {
     Ok(())
 }
 
-/// What refused calls give: by the server, past the greatest offset, up to it, and by the server again.
-fn refusals(core: &mut Core, alloc: Global) -> Option<[Told; 4]> {
+/// What calls give that the server refuses: a read, and the close.
+fn refusals(core: &mut Core, alloc: Global) -> Option<[Told; 2]> {
     let mut file = opened(core, alloc)?;
-    let by_server = of_read(read(core, &mut file, 8, READ, REFUSED_READ));
-    file.offset = u64::MAX - 7;
-    let over = of_read(read(core, &mut file, 8, b"", b""));
-    let within = of_read(read(core, &mut file, 7, READ_LAST, END));
+    let read = of_read(read(core, &mut file, 8, READ, REFUSED_READ));
     let closed = of_close(close(core, file, CLOSE, REFUSED));
-    Some([by_server, over, within, closed])
+    Some([read, closed])
 }
 
 #[test]
 fn refused(rt: HostRuntime) -> Result<(), Fail> {
     let mut core = greeted(rt.alloc())?;
     let seen = refusals(&mut core, rt.alloc());
-    let over = Told::Local(IoKind::OffsetOverflow);
-    assert_eq!(rt; seen, Some([Told::Status, over, Told::End, Told::Status]));
+    assert_eq!(rt; seen, Some([Told::Status, Told::Status]));
     assert_eq!(rt; (core.kept(), core.queued()), (0, 0));
     Ok(())
 }

@@ -6,14 +6,14 @@ use sftp_file::OpenOptions;
 fn options(letters: &str) -> OpenOptions {
     let mut options = OpenOptions::new();
     for letter in letters.bytes() {
-        match letter {
-            b'r' => options.read = true,
-            b'w' => options.write = true,
-            b'a' => options.append = true,
-            b't' => options.truncate = true,
-            b'c' => options.create = true,
-            _ => options.create_new = true,
-        }
+        let _ = match letter {
+            b'r' => options.read(true),
+            b'w' => options.write(true),
+            b'a' => options.append(true),
+            b't' => options.truncate(true),
+            b'c' => options.create(true),
+            _ => options.create_new(true),
+        };
     }
     options
 }

@@ -1,6 +1,6 @@
 // Replies that no honest server sends.
-use crate::pipeline::seats::*;
-use sftp_core::*;
+use crate::tests::seats::*;
+use crate::*;
 use sftp_model::{FormatKind, Request};
 use std::process::Abort;
 use std::test::Fail;

@@ -1,6 +1,6 @@
 // The frames of a queue, in order, as bytes.
-use crate::pipeline::seats::*;
-use sftp_core::*;
+use crate::tests::seats::*;
+use crate::*;
 use sftp_model::Request;
 use std::process::Abort;
 use std::test::Fail;

@@ -1,5 +1,5 @@
 // Session lengths.
-use sftp_core::*;
+use crate::*;
 use std::test::Fail;
 
 const MOST: u64 = 18446744073709551615;

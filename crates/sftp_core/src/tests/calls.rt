@@ -1,7 +1,7 @@
 // Each call of a core on its happy path, over hand-written bodies.
-use crate::pipeline::seats::*;
+use crate::tests::seats::*;
+use crate::*;
 use bitflags::Flags;
-use sftp_core::*;
 use sftp_model::{Extensions, Request};
 use std::process::Abort;
 use std::test::Fail;

@@ -2,7 +2,7 @@
 ghost use Rattle.std.specs.Prelude.{◌≡◌};
 ghost use Rattle.sftp_core.specs.Core.{is_call};
 
-use sftp_core::*;
+use crate::*;
 use sftp_model::{FileAttrs, Handle, OpenFlags, RemotePath, Reply, Request};
 use std::alloc::Global;
 use std::test::Fail;
