@@ -1,0 +1,16 @@
+use crate::{read_host, write_host};
+use std::test::Fail;
+
+/// A host is read as it was written.
+#[test]
+fn a_host(rt: HostRuntime) -> Result<(), Fail> {
+    let mut bytes = Vec::new(rt.alloc());
+    write_host(&String::from_str(rt.alloc(), "localhost")?, 22, &mut bytes)?;
+    assert_eq!(rt;
+        bytes.as_slice(),
+        b"\0\0\0\x09localhost\0\0\0\x16".as_slice()
+    );
+    let (name, port) = read_host(rt.alloc(), &bytes)?;
+    assert_eq!(rt; (name.as_str(), port), ("localhost", 22));
+    Ok(())
+}
