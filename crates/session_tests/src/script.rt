@@ -251,3 +251,21 @@ fn each_kind_of_line(rt: HostRuntime) -> Result<(), Fail> {
         Err(_) => Err(Fail::new("a good script is refused")),
     }
 }
+
+#[test]
+fn texts(rt: HostRuntime) -> Result<(), Fail> {
+    let refused = ScriptError::Line {
+        line: 3,
+        reason: Reason::Word,
+    };
+    assert_eq!(rt;
+        format!(in rt.alloc(); "{refused}")?.as_str(),
+        "line 3 word"
+    );
+    let starved = ScriptError::OutOfMemory;
+    assert_eq!(rt;
+        format!(in rt.alloc(); "{starved}")?.as_str(),
+        "out of memory"
+    );
+    Ok(())
+}

@@ -15,3 +15,4 @@ pub mod RequestLaws
 pub mod RunLaws
 pub mod TextLaws
 pub mod WholeRunLaws
+pub mod NoRuns

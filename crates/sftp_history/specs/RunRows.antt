@@ -13,7 +13,6 @@ use Rattle.sftp_history.specs.Runs.{IsRun, TurnsTo, DrainsTo, round_of, at_first
 use Rattle.sftp_history.specs.RowWords.{setting_with, submit, send, take, end, cancel, close, open_of, ok, granted, handle}
 use Rattle.sftp_history.specs.JournalRows.{s, was_closed, over}
 use Rattle.sftp_history.specs.LaneRows.{opens}
-use Rattle.sftp_history.proofs.OverLaws.{runs_are_journals, runs_are_over}
 use Rattle.sftp_history.specs.declared.turn.Turn.{Turn}
 use Rattle.sftp_history.specs.Readings.{outcomes_below}
 
@@ -161,18 +160,3 @@ without_close =
     ∷ send
     ∷ submit 0 0 0 (open_of (codes "a"))
     ∷ []
-
-pub run_without_close : (turns : List Turn) → IsRun opens turns without_close → ⊥
-run_without_close turns run = let e = (runs_are_over opens turns without_close run).1 in absurd cc
-
--- the CLOSE was not sent
-pub run_without_send : (turns : List Turn) → IsRun opens turns (close 0 (handle 7) ∷ without_close) → ⊥
-run_without_send turns run = let e = (runs_are_over opens turns (close 0 (handle 7) ∷ without_close) run).2 in absurd cc
-
--- a second CLOSE
-pub run_with_two_closes : (turns : List Turn) → IsRun opens turns (close 1 (handle 7) ∷ close 0 (handle 7) ∷ without_close) → ⊥
-run_with_two_closes turns run = (runs_are_journals opens turns (close 1 (handle 7) ∷ close 0 (handle 7) ∷ without_close) run).0
-
--- the lane was not let go
-pub run_without_letting_go : (turns : List Turn) → IsRun s turns was_closed → ⊥
-run_without_letting_go turns run = let e : false ≡ true = (runs_are_over s turns was_closed run).0 0 (omega arith) in absurd cc
