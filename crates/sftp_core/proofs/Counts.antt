@@ -7,7 +7,7 @@ use Rattle.std.proofs.lemmas.List.Sums.{sum_by-cons, count_by-le-length}
 use Rattle.sftp_core.specs.declared.place.Place.{Place}
 use Rattle.sftp_core.specs.declared.place.Place.TheVariants.{Waiting, Answered, Granted}
 use Rattle.sftp_core.specs.Table.{Places, count, tally, is_waiting, is_unsent, is_sent, is_owing, sent_place, all_sent}
-use Rattle.sftp_core.specs.Sent.{entries_sent, values_sent}
+use Rattle.sftp_core.proofs.Sent.{entries_sent, values_sent}
 
 pub len_more : (t : Places) (id : ℕ) (v : Place) → fin.len (fin.insert t id v) ≤ fin.len t + 1
 len_more t id v = rw (fin.len-insert nat_cmp_total t id v) (elim (fin.contains_key t id) as (λ b. cond b (fin.len t) (fin.len t + 1) ≤ fin.len t + 1) [ true ↦ omega arith | false ↦ omega arith ])

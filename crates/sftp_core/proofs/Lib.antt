@@ -5,3 +5,5 @@ pub mod Tallies
 pub mod Sounds
 pub mod Places
 pub mod Turning
+pub mod Elsewhere
+pub mod Sent

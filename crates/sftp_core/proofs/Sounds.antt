@@ -21,7 +21,7 @@ use Rattle.sftp_wire.specs.Body.{Measures}
 use Rattle.std.specs.Prelude.{IsSome, is_some}
 use Rattle.sftp_core.specs.Frames.{IsShort}
 use Rattle.sftp_core.specs.Table.{Places, count, tally, is_waiting, is_sent, is_unsent, is_owing, all_sent, sent_place, IsAllowed}
-use Rattle.sftp_core.specs.Sent.{get_sent}
+use Rattle.sftp_core.proofs.Sent.{get_sent}
 use Rattle.sftp_core.specs.Sound.{IsSound, hello_queued}
 use Rattle.sftp_core.proofs.Tables.{count-insert_new, count-insert_old, count-remove}
 use Rattle.sftp_core.proofs.Counts.{len_more, len_same, len_less, len_sent, count_len, unsent_waiting, waiting_split, count_unsent_sent, count_owing_sent}

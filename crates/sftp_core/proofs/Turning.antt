@@ -18,10 +18,10 @@ use Rattle.sftp_core.specs.declared.place.Place.TheVariants.{Waiting, Answered, 
 use Rattle.sftp_core.specs.Grant.{GrantValue}
 use Rattle.sftp_core.specs.Info.{info_of, offers_limits}
 use Rattle.sftp_core.specs.Table.{Places, is_waiting, sent_place, all_sent, brings}
-use Rattle.sftp_core.specs.Sent.{get_sent}
+use Rattle.sftp_core.proofs.Sent.{get_sent}
 use Rattle.sftp_core.specs.Core.{Core, at, fresh, with_place, queued_last, dropped, given_leaves, poll_leaves, abandon_leaves, release_leaves, users_of, is_ticket}
 use Rattle.sftp_core.specs.Take.{take_leaves, taken_in, opened, greeted_by, extensions_in}
-use Rattle.sftp_core.specs.Elsewhere.{poll_phase, abandon_phase, take_phase, release_phase}
+use Rattle.sftp_core.proofs.Elsewhere.{poll_phase, abandon_phase, take_phase, release_phase}
 use Rattle.sftp_core.specs.Turns.{Sign, Asked, Replied, TakeTurns, Call, Submit, Take, Abandon, Release, Retain, Poll, HandOut, Fail, May, leaves, signs, close_signs, answer_signs, greeting_signs, take_signs, abandon_signs, release_signs, MayAll, all_signs}
 
 -- whether a request under the id has no reply, after these signs

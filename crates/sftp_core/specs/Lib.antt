@@ -2,12 +2,10 @@ pub mod Options
 pub mod Info
 pub mod Frames
 pub mod Table
-pub mod Sent
 pub mod Grant
 pub mod Core
 pub mod Take
 pub mod CoreRows
 pub mod Entries
 pub mod Sound
-pub mod Elsewhere
 pub mod Turns

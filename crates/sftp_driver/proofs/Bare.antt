@@ -31,8 +31,8 @@ use Rattle.sftp_history.specs.Settings.{greeting}
 use Rattle.sftp_core.specs.Core.{Core, at, dropped, fresh, without, handed_out, awaited_of, unanswered_of, queued_of}
 use Rattle.sftp_core.proofs.Counts.{count_len}
 use Rattle.sftp_core.specs.Table.{Places, all_sent, brings, count, is_sent, is_waiting, sent_place}
-use Rattle.sftp_core.specs.Sent.{get_sent}
-use Rattle.sftp_core.specs.Elsewhere.{put_here, put_elsewhere, gone_here, gone_elsewhere}
+use Rattle.sftp_core.proofs.Sent.{get_sent}
+use Rattle.sftp_core.proofs.Elsewhere.{put_here, put_elsewhere, gone_here, gone_elsewhere}
 use Rattle.sftp_core.specs.Take.{Read, TakenFrom, greeted, taken_as, limits_in, opened, wrong_at, wrong_limits, wrong_content, or_else, take_refusal, Refused, First, IsFirst, IsTakeError, fault_of, taken, take_leaves}
 use Rattle.sftp_core.specs.declared.info.Info.{Info}
 use Rattle.sftp_model.specs.declared.error.Fault.{Fault}

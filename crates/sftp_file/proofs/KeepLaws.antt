@@ -18,7 +18,7 @@ use Rattle.sftp_core.specs.Table.{expected_at, sent_place}
 use Rattle.sftp_core.specs.Core.{Core, at, is_ticket, queued_last, handed_out, failed_with, after_poll, users_of, IsGrant, released, retained}
 use Rattle.sftp_core.specs.Take.{Read, take_leaves, wrong_at, wrong_in, taken_in, take_refusal, TakenFrom, Refused, IsTakeError, fault_of}
 use Rattle.sftp_core.specs.declared.errors.TakeError.{TakeError}
-use Rattle.sftp_core.specs.Elsewhere.{other_place, take_elsewhere, hand_out_each, retain_elsewhere}
+use Rattle.sftp_core.proofs.Elsewhere.{other_place, take_elsewhere, hand_out_each, retain_elsewhere}
 use Rattle.sftp_file.specs.declared.stage.Stage.{Stage}
 use Rattle.sftp_file.specs.declared.stage.Stage.TheVariants.{Ended, Ready, Asked}
 use Rattle.sftp_file.specs.Polls.{polled_core}

@@ -10,7 +10,7 @@ use Rattle.sftp_core.specs.declared.place.Place.TheVariants.{Waiting, Answered, 
 use Rattle.sftp_core.specs.declared.tokens.Polled.TheVariants as polled
 use Rattle.sftp_core.specs.Table.{brings}
 use Rattle.sftp_core.specs.Core.{Core, at, with_place, given, given_leaves, poll_gives, poll_leaves, polled_with, after_poll, reply_in}
-use Rattle.sftp_core.specs.Elsewhere.{put_here}
+use Rattle.sftp_core.proofs.Elsewhere.{put_here}
 use Rattle.sftp_core.specs.Grant.{GrantValue}
 use Rattle.sftp_file.specs.declared.poll.Poll.TheVariants as poll
 use Rattle.sftp_file.specs.declared.stage.Stage.{Stage}

@@ -12,7 +12,7 @@ use Rattle.std.specs.Option.{option_map}
 use Rattle.sftp_core.specs.Table.{expected_at, sent_place}
 use Rattle.sftp_core.specs.Core.{Core, at, is_ticket, queued_last, reply_in, with_place, abandon_leaves, handed_out, released, retained, users_of, IsGrant}
 use Rattle.sftp_core.specs.Take.{take_leaves, wrong_at}
-use Rattle.sftp_core.specs.Elsewhere.{put_here, submit_elsewhere, poll_elsewhere, abandon_elsewhere, release_elsewhere, hand_out_each}
+use Rattle.sftp_core.proofs.Elsewhere.{put_here, submit_elsewhere, poll_elsewhere, abandon_elsewhere, release_elsewhere, hand_out_each}
 use Rattle.sftp_file.specs.declared.stage.Stage.{Stage}
 use Rattle.sftp_file.specs.declared.stage.Stage.TheVariants.{Ended, Ready, Asked}
 use Rattle.sftp_file.specs.Polls.{polled_core}

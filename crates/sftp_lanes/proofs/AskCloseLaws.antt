@@ -7,7 +7,7 @@ use Rattle.sftp_model.specs.declared.request.Request.{Request}
 use Rattle.sftp_model.specs.declared.slot.Move.TheVariants.{Ask}
 use Rattle.sftp_model.specs.declared.slot.Site.{Site}
 use Rattle.sftp_core.specs.Core.{Core, at, queued_last, users_of as users_at}
-use Rattle.sftp_core.specs.Elsewhere.{put_here, submit_elsewhere}
+use Rattle.sftp_core.proofs.Elsewhere.{put_here, submit_elsewhere}
 use Rattle.sftp_core.specs.declared.place.Place.TheVariants.{Waiting, Granted}
 use Rattle.sftp_model.specs.Answers.{expected_of}
 use Rattle.sftp_history.specs.declared.event.Owner.{Owner}
@@ -40,7 +40,7 @@ use Rattle.std.proofs.lemmas.Option.{slice_get-get_or}
 use Rattle.sftp_lanes.proofs.AskLaws.{set_or_other, set_count, other_owner, own_now, asks_now, core_asked}
 use Rattle.sftp_lanes.specs.Moves.{AsksClose, file_in}
 use Rattle.sftp_lanes.proofs.OwnLaws.{AskedFor, owned_asked, owned_stands, lane_owned, one_lane, no_asker, not_live, false_of}
-use Rattle.sftp_lanes.specs.Users.{users_set, users_kept, uses_none, any_set, slot_uses, set_here, set_there, set_length}
+use Rattle.sftp_lanes.proofs.Users.{users_set, users_kept, uses_none, any_set, slot_uses, set_here, set_there, set_length}
 use Rattle.sftp_lanes.specs.declared.lane.Running.{Running}
 
 -- what the file of a slot is to its journal

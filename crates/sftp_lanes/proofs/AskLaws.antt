@@ -8,7 +8,7 @@ use Rattle.sftp_model.specs.declared.slot.Move.TheVariants.{Ask}
 use Rattle.sftp_model.specs.declared.slot.Site.{Site}
 use Rattle.sftp_model.specs.declared.slot.Slot.{Slot}
 use Rattle.sftp_core.specs.Core.{Core, at, queued_last}
-use Rattle.sftp_core.specs.Elsewhere.{put_here, submit_elsewhere}
+use Rattle.sftp_core.proofs.Elsewhere.{put_here, submit_elsewhere}
 use Rattle.sftp_core.specs.declared.place.Place.{Place}
 use Rattle.sftp_core.specs.declared.place.Place.TheVariants.{Waiting}
 use Rattle.sftp_model.specs.Answers.{expected_of}

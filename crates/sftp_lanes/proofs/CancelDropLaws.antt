@@ -1,6 +1,6 @@
 -- The call of a lane is cancelled whose handle had come: it is closed.
 use Rattle.sftp_core.specs.Core.{Core, at, queued_last, abandoned, abandon_leaves, with_place}
-use Rattle.sftp_core.specs.Elsewhere.{put_here, put_elsewhere, submit_elsewhere}
+use Rattle.sftp_core.proofs.Elsewhere.{put_here, put_elsewhere, submit_elsewhere}
 use Rattle.sftp_core.specs.Table.{brings}
 use Rattle.sftp_core.specs.declared.place.Place.TheVariants.{Answered, Granted, Waiting}
 use Rattle.sftp_history.proofs.CallLaws.{due_next, asker_owns}
@@ -28,7 +28,7 @@ use Rattle.sftp_lanes.proofs.ReleaseLaws.{IsDue, must_close, closes_to, close_is
 use Rattle.sftp_lanes.specs.Letting.{Closed}
 use Rattle.sftp_lanes.specs.Tables.{is_live, replied, stand, users_in, users_of, slots_of, Tabled}
 use Rattle.sftp_lanes.specs.Tied.{IsBorne}
-use Rattle.sftp_lanes.specs.Users.{none_uses}
+use Rattle.sftp_lanes.proofs.Users.{none_uses}
 use Rattle.sftp_lanes.specs.declared.lane.LaneState.{LaneState}
 use Rattle.std.proofs.Common.{◌≡◌, ◌≢◌, ◌<◌, ◌+◌, ◌==◌, ◌^◌, ℕ, Bool, true, false, List, [], ◌∷◌, ◌++◌, Some, None, refl, ap, sym, ◌∙◌, subst, arith, inl, inr}
 use Rattle.std.proofs.lemmas.Bool.Decides.{eqb_tells}

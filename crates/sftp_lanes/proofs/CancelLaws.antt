@@ -1,6 +1,6 @@
 -- The call of a lane is cancelled.
 use Rattle.sftp_core.specs.Core.{Core, at, abandoned, abandon_leaves, dropped}
-use Rattle.sftp_core.specs.Elsewhere.{gone_here, put_here, abandon_elsewhere}
+use Rattle.sftp_core.proofs.Elsewhere.{gone_here, put_here, abandon_elsewhere}
 use Rattle.sftp_core.specs.Table.{brings}
 use Rattle.sftp_core.specs.declared.place.Place.TheVariants.{Answered, Granted, Waiting}
 use Rattle.sftp_core.specs.declared.place.Place.{Place}

@@ -12,7 +12,7 @@ use Rattle.sftp_model.specs.Answers.{allows, expected_of}
 use Rattle.sftp_core.specs.declared.place.Place.{Place}
 use Rattle.sftp_core.specs.declared.place.Place.TheVariants.{Waiting, Answered, Granted}
 use Rattle.sftp_core.specs.Core.{Core, at, with_place, queued_last, reply_in, given_leaves, poll_leaves, dropped, abandoned, abandon_leaves, users_of, handed_out, IsGrant}
-use Rattle.sftp_core.specs.Elsewhere.{put_here, put_elsewhere}
+use Rattle.sftp_core.proofs.Elsewhere.{put_here, put_elsewhere}
 use Rattle.sftp_core.specs.Grant.{GrantValue}
 use Rattle.sftp_core.specs.Table.{tally, is_waiting, is_sent, is_owing, asks_handle, brings, all_sent, IsAllowed}
 use Rattle.sftp_core.proofs.Tables.{count-insert_new, count-insert_old, count-remove}

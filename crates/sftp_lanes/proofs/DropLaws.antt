@@ -31,11 +31,11 @@ use Rattle.sftp_model.specs.declared.reply.Reply.{Reply}
 use Rattle.sftp_model.specs.declared.reply.Reply.TheVariants as reply
 use Rattle.sftp_history.proofs.GrantLaws.{any_none}
 use Rattle.sftp_history.proofs.IdLaws.{reads}
-use Rattle.sftp_lanes.specs.Users.{none_uses}
+use Rattle.sftp_lanes.proofs.Users.{none_uses}
 use Rattle.std.proofs.lemmas.Option.{slice_get-get_or}
 use Rattle.sftp_model.specs.declared.answers.Expected.TheVariants as expected
 use Rattle.sftp_model.specs.declared.request.Request.TheVariants as request
-use Rattle.sftp_core.specs.Elsewhere.{put_here, submit_elsewhere}
+use Rattle.sftp_core.proofs.Elsewhere.{put_here, submit_elsewhere}
 use Rattle.sftp_history.specs.Turns.{ClosesTo}
 use Rattle.sftp_lanes.proofs.AskLaws.{core_asked}
 use Rattle.sftp_lanes.proofs.ReleaseLaws.{IsDue, must_close, closes_to, close_is, close_closed}

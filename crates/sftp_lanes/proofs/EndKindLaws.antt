@@ -48,7 +48,7 @@ use Rattle.sftp_lanes.specs.Noting.{one_more}
 use Rattle.sftp_lanes.specs.Moves.{HasPolled, IsPlain, SlotsStay, SlotMoves}
 use Rattle.sftp_lanes.proofs.PollLaws.{polled_gone, polled_work, polled_state}
 use Rattle.sftp_lanes.proofs.StandingLaws.{SameUsers, end_tabled, end_tabled_one}
-use Rattle.sftp_lanes.specs.Users.{users_kept, any_set, set_here, set_there, set_length}
+use Rattle.sftp_lanes.proofs.Users.{users_kept, any_set, set_here, set_there, set_length}
 
 -- ---- what the plain end of a call's request leaves
 

@@ -39,7 +39,7 @@ use Rattle.sftp_lanes.specs.Noting.{one_more}
 use Rattle.sftp_lanes.specs.Moves.{SlotOpens, SlotFrees}
 use Rattle.sftp_lanes.proofs.PollLaws.{polled_granted, polled_work}
 use Rattle.sftp_lanes.proofs.StandingLaws.{borne_apart, end_tabled, end_tabled_one, asked_there}
-use Rattle.sftp_lanes.specs.Users.{one_if, users_set, none_uses}
+use Rattle.sftp_lanes.proofs.Users.{one_if, users_set, none_uses}
 use Rattle.sftp_lanes.proofs.EndKindLaws.{EndsHere, polled_is, dead_now}
 use Rattle.sftp_lanes.proofs.EndPutLaws.{owed_by, put_users, put_between}
 

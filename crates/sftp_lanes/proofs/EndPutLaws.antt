@@ -32,7 +32,7 @@ use Rattle.sftp_history.proofs.GrantLaws.{any_none, any_passes}
 use Rattle.sftp_lanes.proofs.EndLaws.{steady_of, end_between, left_is}
 use Rattle.sftp_lanes.specs.Noting.{one_more}
 use Rattle.sftp_lanes.proofs.StandingLaws.{SameUsers}
-use Rattle.sftp_lanes.specs.Users.{one_if, users_set, slot_uses, used_slot, set_here, set_there, set_length}
+use Rattle.sftp_lanes.proofs.Users.{one_if, users_set, slot_uses, used_slot, set_here, set_there, set_length}
 use Rattle.std.proofs.lemmas.Option.{slice_get_within, slice_get-get_or}
 use Rattle.sftp_lanes.proofs.EndKindLaws.{EndsHere, later_call}
 

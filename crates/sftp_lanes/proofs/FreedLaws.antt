@@ -26,7 +26,7 @@ use Rattle.sftp_model.specs.declared.slot.Slot.TheVariants as slots
 use Rattle.sftp_core.specs.declared.place.Place.TheVariants.{Granted}
 use Rattle.sftp_file.specs.Files.{FileValue, file_at}
 use Rattle.sftp_lanes.proofs.StandingLaws.{borne_apart, stand_same, users_same}
-use Rattle.sftp_lanes.specs.Users.{one_if, none_uses, uses_none}
+use Rattle.sftp_lanes.proofs.Users.{one_if, none_uses, uses_none}
 use Rattle.sftp_model.specs.declared.request.Request.TheVariants as request
 use Rattle.sftp_history.specs.Grants.{letting_go}
 use Rattle.sftp_history.specs.Turns.{ClosesTo}

@@ -33,7 +33,7 @@ use Rattle.sftp_history.specs.Ids.{IdState, Free, Pending, Replied, id_state, no
 use Rattle.sftp_history.proofs.IdLaws.{reads}
 use Rattle.sftp_lanes.specs.Tables.{is_live, users_in, replied, stand, slots_of, Tabled, users_of as all_users}
 use Rattle.sftp_lanes.specs.Tied.{IsBorne, IsOwned, SlotTied, Asks}
-use Rattle.sftp_lanes.specs.Users.{one_if, users_set, none_uses, some_uses}
+use Rattle.sftp_lanes.proofs.Users.{one_if, users_set, none_uses, some_uses}
 use Rattle.sftp_lanes.specs.Moves.{HasAt, HasUsers, MayLetGo}
 
 -- ---- grants of slots

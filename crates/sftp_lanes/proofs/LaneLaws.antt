@@ -27,7 +27,7 @@ use Rattle.sftp_lanes.specs.declared.lane.Running.{Running}
 use Rattle.sftp_lanes.specs.declared.lane.Running.TheVariants as running
 use Rattle.sftp_lanes.specs.declared.lane.LaneState.{LaneState}
 use Rattle.sftp_lanes.specs.Tables.{is_live, users_of, replied, stand, slots_of, Tabled}
-use Rattle.sftp_lanes.specs.Users.{slot_uses}
+use Rattle.sftp_lanes.proofs.Users.{slot_uses}
 use Rattle.sftp_lanes.specs.Tied.{IsBorne, SlotTied, Asks, RunTied, LaneTied}
 
 -- the handles of the lane's slots are there still, and so is what calls that haven't ended asked for

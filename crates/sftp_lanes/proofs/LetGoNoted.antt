@@ -39,7 +39,7 @@ use Rattle.sftp_lanes.proofs.OwnLaws.{owned_stands}
 use Rattle.sftp_lanes.proofs.ReleaseLaws.{Closing, let_go_closes, Sharing, let_go_shares}
 use Rattle.sftp_lanes.specs.Tables.{users_in, slots_of}
 use Rattle.sftp_lanes.specs.Tied.{SlotTied, LaneTied}
-use Rattle.sftp_lanes.specs.Users.{one_if, set_here, set_there}
+use Rattle.sftp_lanes.proofs.Users.{one_if, set_here, set_there}
 use Rattle.sftp_lanes.specs.Working.{Contents, Works, LetsGoIn, stage_in}
 use Rattle.sftp_lanes.proofs.Stepping.{pushed}
 

@@ -38,7 +38,7 @@ use Rattle.sftp_file.specs.Files.{FileValue, file_at}
 use Rattle.sftp_history.proofs.GrantLaws.{any_none, any_passes}
 use Rattle.sftp_history.proofs.IdLaws.{reads}
 use Rattle.sftp_lanes.proofs.StandingLaws.{SameUsers, borne_apart, stand_same, users_same, stand_alike}
-use Rattle.sftp_lanes.specs.Users.{one_if, none_uses, uses_none, slot_uses, set_here, set_there}
+use Rattle.sftp_lanes.proofs.Users.{one_if, none_uses, uses_none, slot_uses, set_here, set_there}
 use Rattle.std.proofs.lemmas.Option.{slice_get_within, slice_get-get_or}
 use Rattle.sftp_model.specs.declared.request.Request.TheVariants as request
 use Rattle.sftp_history.specs.Turns.{ClosesTo}

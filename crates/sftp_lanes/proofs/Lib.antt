@@ -35,3 +35,4 @@ pub mod ReleaseLaws
 pub mod TakeLaws
 pub mod HeldLaws
 pub mod StandingLaws
+pub mod Users

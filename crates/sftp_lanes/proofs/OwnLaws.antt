@@ -22,7 +22,7 @@ use Rattle.sftp_history.proofs.IdLaws.{reads}
 use Rattle.sftp_lanes.specs.declared.lane.LaneState.{LaneState}
 use Rattle.sftp_lanes.specs.Tables.{is_live, users_in, users_of, replied, stand, slots_of, Tabled}
 use Rattle.sftp_lanes.specs.Tied.{IsOwned, SlotTied, LaneTied}
-use Rattle.sftp_lanes.specs.Users.{used_slot}
+use Rattle.sftp_lanes.proofs.Users.{used_slot}
 
 -- a call of the lane that has ended asked for what is at this place
 pub record AskedFor (past : List Entry) (lane place : ℕ) : Type 0 where

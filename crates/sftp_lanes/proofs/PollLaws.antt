@@ -7,7 +7,7 @@ use Rattle.sftp_model.specs.declared.slot.Slot.{Slot}
 use Rattle.sftp_core.specs.declared.place.Place.{Place}
 use Rattle.sftp_core.specs.declared.place.Place.TheVariants.{Waiting, Answered, Granted}
 use Rattle.sftp_core.specs.Core.{Core, at, poll_leaves, given_leaves, reply_in}
-use Rattle.sftp_core.specs.Elsewhere.{put_here, gone_here}
+use Rattle.sftp_core.proofs.Elsewhere.{put_here, gone_here}
 use Rattle.sftp_core.specs.Table.{brings}
 use Rattle.sftp_file.specs.declared.stage.Stage.TheVariants.{Asked as Asking}
 use Rattle.sftp_file.specs.Polls.{polled_core}

@@ -32,7 +32,7 @@ use Rattle.sftp_core.specs.Table.{brings}
 use Rattle.sftp_history.proofs.GrantLaws.{any_passes}
 use Rattle.sftp_history.proofs.IdLaws.{reads}
 use Rattle.sftp_model.specs.declared.answers.Expected.TheVariants as expected
-use Rattle.sftp_core.specs.Elsewhere.{put_here, gone_here, take_elsewhere, hand_out_each}
+use Rattle.sftp_core.proofs.Elsewhere.{put_here, gone_here, take_elsewhere, hand_out_each}
 use Rattle.sftp_core.specs.Take.{take_leaves, wrong_at, answered}
 use Rattle.sftp_core.specs.declared.errors.TakeError.{TakeError}
 use Rattle.sftp_history.specs.declared.event.Event.TheVariants.{Send, Take}

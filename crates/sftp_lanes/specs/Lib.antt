@@ -1,6 +1,5 @@
 pub mod Tables
 pub mod Tied
-pub mod Users
 pub mod Moves
 pub mod Session
 pub mod Counted

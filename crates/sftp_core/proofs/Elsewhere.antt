@@ -14,7 +14,7 @@ use Rattle.sftp_core.specs.declared.place.Place.{Place}
 use Rattle.sftp_core.specs.declared.place.Place.TheVariants.{Waiting, Answered, Granted}
 use Rattle.sftp_core.specs.Grant.{GrantValue}
 use Rattle.sftp_core.specs.Table.{Places, brings, sent_place}
-use Rattle.sftp_core.specs.Sent.{get_sent}
+use Rattle.sftp_core.proofs.Sent.{get_sent}
 use Rattle.sftp_core.specs.Core.{Core, at, poll_leaves, given_leaves, abandon_leaves, dropped, release_leaves, retained, queued_last, with_place, handed_out}
 use Rattle.sftp_core.specs.Take.{take_leaves}
 
