@@ -1,21 +1,21 @@
-// A request goes through bytes: written as a frame, taken in by a frame reader, and read again.
-ghost use Rattle.std.specs.Prelude.{◌≡◌, ◌<◌, ◌^◌, IfOk};
+// A request goes through bytes, as a client writes it and a server reads it.
+ghost use Rattle.std.specs.Prelude.{◌≡◌, IfOk};
 ghost use Rattle.sftp_model.specs.Fits.{FitsRequest};
 
 use sftp_model::{FrameError, Request};
-use sftp_wire::{FrameReader, frames_read_back, read_request, write_request};
+use sftp_wire::{Message, frames_read_back, read_request, write_body};
 use std::alloc::Global;
 
-/// The request that a server reads where a client wrote this one.
+/// The request that a server reads where a client wrote this one, without the length of its frame.
 pub fn through_bytes(alloc: Global, request: &Request, id: u32) -> Result<Request, FrameError>
     requires { FitsRequest request.now }
     ensures { IfOk result (λ read. read ≡ request.now) }
 {
     frames_read_back();
-    let mut frame = Vec::new(alloc);
-    if write_request(request, id, &mut frame).is_err() {
+    let mut body = Vec::new(alloc);
+    if write_body(Message::Request(request), id, &mut body).is_err() {
         return Err(FrameError::OutOfMemory);
     }
-    let (_, read) = read_request(alloc, &frame[4..])?;
+    let (_, read) = read_request(alloc, &body)?;
     Ok(read)
 }

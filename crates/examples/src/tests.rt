@@ -1,4 +1,5 @@
-use crate::{read_host, write_host};
+use crate::{read_host, through_bytes, write_host};
+use sftp_model::Request;
 use std::test::Fail;
 
 /// A host is read as it was written.
@@ -12,5 +13,13 @@ fn a_host(rt: HostRuntime) -> Result<(), Fail> {
     );
     let (name, port) = read_host(rt.alloc(), &bytes)?;
     assert_eq!(rt; (name.as_str(), port), ("localhost", 22));
+    Ok(())
+}
+
+/// A hello comes through bytes.
+#[test]
+fn a_hello(rt: HostRuntime) -> Result<(), Fail> {
+    let read = through_bytes(rt.alloc(), &Request::Init { version: 3 }, 0)?;
+    assert!(rt; read == Request::Init { version: 3 });
     Ok(())
 }
