@@ -1,6 +1,6 @@
 -- What the body of a reply reads as (draft-ietf-secsh-filexfer-02, sections 4 and 7).
 use Rattle.std.specs.Prelude.{ℕ, zero, suc, ◌==◌, List, [], ◌∷◌, Option, Result, Ok, if◌then◌else◌}
-use Rattle.ssh_encoding.specs.Reading.{◌>>=◌, byte_at, with_front}
+use Rattle.ssh_encoding.specs.Reading.{◌>>=◌, byte_at, with_prefix}
 use Rattle.sftp_model.specs.declared.config.Limits.{Limits}
 use Rattle.sftp_model.specs.declared.frame_error.FrameError.{FrameError}
 use Rattle.sftp_model.specs.declared.reply.NameEntry.{NameEntry}
@@ -41,7 +41,7 @@ entry_at bytes = do
 -- so many entries, one by one
 abbrev pub entries_at : ℕ → List ℕ → Result (List NameEntry × List ℕ) FrameError
 entries_at zero bytes = Ok ([], bytes)
-entries_at (suc n) bytes = entry_at bytes >>= λ entry. with_front (entry.0 ∷ []) (entries_at n entry.1)
+entries_at (suc n) bytes = entry_at bytes >>= λ entry. with_prefix (entry.0 ∷ []) (entries_at n entry.1)
 
 unfoldable pub names_at : List ℕ → Result (Reply × List ℕ) FrameError
 names_at bytes = do
