@@ -6,6 +6,7 @@ use Rattle.sftp_model.specs.declared.frame_error.FrameError.{FrameError}
 use Rattle.sftp_model.specs.declared.reply.NameEntry.{NameEntry}
 use Rattle.sftp_model.specs.declared.reply.Reply.{Reply}
 use Rattle.sftp_model.specs.declared.reply.Reply.TheVariants as reply
+use Rattle.sftp_model.specs.Numbers.{SSH_FXP_VERSION, SSH_FXP_STATUS, SSH_FXP_HANDLE, SSH_FXP_DATA, SSH_FXP_NAME, SSH_FXP_ATTRS, SSH_FXP_EXTENDED_REPLY}
 use Rattle.sftp_model.specs.Readings.{field, whole, with_short_handles, with_id, without_id, unknown_type, uint32_at, uint64_at, text_at, attributes_at, extensions_at}
 
 unfoldable pub version_at : List ℕ → Result (Reply × List ℕ) FrameError
@@ -58,16 +59,16 @@ attrs_at bytes = do
 unfoldable pub extended_at : List ℕ → Result (Reply × List ℕ) FrameError
 extended_at bytes = Ok (reply.Extended bytes, [])
 
--- the fields behind a type byte
+-- the fields after a type byte
 unfoldable pub reply_fields_at : ℕ → List ℕ → Result ((Option ℕ × Reply) × List ℕ) FrameError
 reply_fields_at kind bytes =
-    if kind == 2 then without_id version_at bytes
-    else if kind == 101 then with_id status_at bytes
-    else if kind == 102 then with_id handle_at bytes
-    else if kind == 103 then with_id content_at bytes
-    else if kind == 104 then with_id names_at bytes
-    else if kind == 105 then with_id attrs_at bytes
-    else if kind == 201 then with_id extended_at bytes
+    if kind == SSH_FXP_VERSION then without_id version_at bytes
+    else if kind == SSH_FXP_STATUS then with_id status_at bytes
+    else if kind == SSH_FXP_HANDLE then with_id handle_at bytes
+    else if kind == SSH_FXP_DATA then with_id content_at bytes
+    else if kind == SSH_FXP_NAME then with_id names_at bytes
+    else if kind == SSH_FXP_ATTRS then with_id attrs_at bytes
+    else if kind == SSH_FXP_EXTENDED_REPLY then with_id extended_at bytes
     else unknown_type kind
 
 abbrev pub handles_of_reply : Reply → List (List ℕ)
