@@ -1,4 +1,6 @@
 mod labels;
+mod laws;
+mod lists;
 mod numbers;
 mod readers;
 mod texts;

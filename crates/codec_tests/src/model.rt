@@ -1,4 +1,4 @@
-use bitflags::Flags;
+// Copies, contents and paths of the model, and the texts of its errors.
 use bytes::Bytes;
 use sftp_model::*;
 use sftp_values::{ByteText, Items, Same, is_same};
@@ -13,413 +13,142 @@ fn path(alloc: Global, bytes: &[u8]) -> Result<RemotePath, Fail> {
     Ok(RemotePath::new(Vec::from_slice(alloc, bytes)?))
 }
 
-fn handle(bytes: &[u8]) -> Result<Handle, Fail> {
-    match Handle::new(bytes) {
-        Some(handle) => Ok(handle),
-        None => Err(Fail::new("the handle is too long")),
-    }
+/// Whether a copy by the trait's bound equals its source.
+fn is_copied<T: TryCopy + Same + Drop>(alloc: Global, value: &T) -> Result<bool, Fail> {
+    Ok(is_same(&value.try_copy(alloc)?, value))
 }
-
-fn content(alloc: Global) -> Result<Content, Fail> {
-    let mut content = Content::new(alloc);
-    content.push(Bytes::from_static(b"hel"))?;
-    content.push(Bytes::from_static(b""))?;
-    content.push(Bytes::from_static(b"lo"))?;
-    Ok(content)
-}
-
-const NO_ATTRS: FileAttrs = FileAttrs {
-    size: None,
-    id: None,
-    permissions: None,
-    time: None,
-};
 
 #[test]
 fn copies_of_bytes(rt: HostRuntime) -> Result<(), Fail> {
-    let alloc = rt.alloc();
-    copy_equals(alloc, text(alloc, b"text")?)?;
-    copy_equals(alloc, path(alloc, b"/path")?)?;
-    copy_equals(alloc, handle(b"handle")?)?;
-    copy_equals(alloc, content(alloc)?)?;
-    let bytes: Bytes = Bytes::from_static(b"bytes");
-    assert!(rt; bytes.try_copy(alloc)? == bytes);
-    Ok(())
-}
-
-/// Fails where a copy by the trait's bound differs from its source.
-fn copy_equals<T: TryCopy + Same + Drop>(alloc: Global, value: T) -> Result<(), Fail> {
-    let copy = value.try_copy(alloc)?;
-    if is_same(&copy, &value) {
-        Ok(())
-    } else {
-        Err(Fail::new("a copy differs from its source"))
-    }
-}
-
-#[test]
-fn copies_of_opening_requests(rt: HostRuntime) -> Result<(), Fail> {
-    let alloc = rt.alloc();
-    copy_equals(alloc, Request::Init { version: 3 })?;
-    copy_equals(
-        alloc,
-        Request::OpenFile {
-            path: path(alloc, b"a")?,
-            flags: OpenFlags::READ,
-            attrs: NO_ATTRS,
-        },
-    )?;
-    copy_equals(
-        alloc,
-        Request::Close {
-            handle: handle(b"h")?,
-        },
-    )?;
-    copy_equals(
-        alloc,
-        Request::Read {
-            handle: handle(b"h")?,
-            offset: 1,
-            len: 2,
-        },
-    )?;
-    copy_equals(
-        alloc,
-        Request::Write {
-            handle: handle(b"h")?,
-            offset: 1,
-            content: content(alloc)?,
-        },
-    )?;
+    let text = text(rt.alloc(), b"text")?;
+    assert!(rt; is_copied(rt.alloc(), &text)?);
+    let items = Items::new(vec![in rt.alloc(); text]?);
+    assert!(rt; is_copied(rt.alloc(), &items)?);
+    assert!(rt; items.into_vec().len() == 1);
     Ok(())
 }
 
 #[test]
-fn copies_of_attribute_requests(rt: HostRuntime) -> Result<(), Fail> {
-    let alloc = rt.alloc();
-    copy_equals(
-        alloc,
-        Request::Lstat {
-            path: path(alloc, b"a")?,
-        },
-    )?;
-    copy_equals(
-        alloc,
-        Request::Fstat {
-            handle: handle(b"h")?,
-        },
-    )?;
-    copy_equals(
-        alloc,
-        Request::Setstat {
-            path: path(alloc, b"a")?,
-            attrs: NO_ATTRS,
-        },
-    )?;
-    copy_equals(
-        alloc,
-        Request::Fsetstat {
-            handle: handle(b"h")?,
-            attrs: NO_ATTRS,
-        },
-    )?;
-    copy_equals(
-        alloc,
-        Request::Opendir {
-            path: path(alloc, b"a")?,
-        },
-    )?;
+fn copy_of_path(rt: HostRuntime) -> Result<(), Fail> {
+    let path = path(rt.alloc(), b"/path")?;
+    assert!(rt; is_copied(rt.alloc(), &path)?);
     Ok(())
 }
 
 #[test]
-fn copies_of_directory_requests(rt: HostRuntime) -> Result<(), Fail> {
-    let alloc = rt.alloc();
-    copy_equals(
-        alloc,
-        Request::Readdir {
-            handle: handle(b"h")?,
-        },
-    )?;
-    copy_equals(
-        alloc,
-        Request::Remove {
-            path: path(alloc, b"a")?,
-        },
-    )?;
-    copy_equals(
-        alloc,
-        Request::Mkdir {
-            path: path(alloc, b"a")?,
-            attrs: NO_ATTRS,
-        },
-    )?;
-    copy_equals(
-        alloc,
-        Request::Rmdir {
-            path: path(alloc, b"a")?,
-        },
-    )?;
-    copy_equals(
-        alloc,
-        Request::Realpath {
-            path: path(alloc, b"a")?,
-        },
-    )?;
+fn copy_of_handle(rt: HostRuntime) -> Result<(), Fail> {
+    let handle = Handle::new(b"handle").ok_or("a handle over 256 bytes")?;
+    assert!(rt; is_copied(rt.alloc(), &handle)?);
     Ok(())
 }
 
+/// Bytes in two pieces equal the same bytes in one.
 #[test]
-fn copies_of_path_requests(rt: HostRuntime) -> Result<(), Fail> {
-    let alloc = rt.alloc();
-    copy_equals(
-        alloc,
-        Request::Stat {
-            path: path(alloc, b"a")?,
-        },
-    )?;
-    copy_equals(
-        alloc,
-        Request::Rename {
-            old: path(alloc, b"a")?,
-            to: path(alloc, b"b")?,
-        },
-    )?;
-    copy_equals(
-        alloc,
-        Request::Readlink {
-            path: path(alloc, b"a")?,
-        },
-    )?;
-    copy_equals(
-        alloc,
-        Request::Symlink {
-            src: path(alloc, b"a")?,
-            dst: path(alloc, b"b")?,
-        },
-    )?;
-    copy_equals(
-        alloc,
-        Request::PosixRename {
-            old: path(alloc, b"a")?,
-            to: path(alloc, b"b")?,
-        },
-    )?;
-    Ok(())
-}
-
-#[test]
-fn copies_of_extended_requests(rt: HostRuntime) -> Result<(), Fail> {
-    let alloc = rt.alloc();
-    copy_equals(
-        alloc,
-        Request::Hardlink {
-            old: path(alloc, b"a")?,
-            to: path(alloc, b"b")?,
-        },
-    )?;
-    copy_equals(
-        alloc,
-        Request::Fsync {
-            handle: handle(b"h")?,
-        },
-    )?;
-    copy_equals(
-        alloc,
-        Request::ExpandPath {
-            path: path(alloc, b"a")?,
-        },
-    )?;
-    copy_equals(
-        alloc,
-        Request::CopyData {
-            from: handle(b"h")?,
-            from_offset: 1,
-            len: 2,
-            to: handle(b"k")?,
-            to_offset: 3,
-        },
-    )?;
-    copy_equals(alloc, Request::LimitsQuery)?;
-    Ok(())
-}
-
-#[test]
-fn copies_of_replies(rt: HostRuntime) -> Result<(), Fail> {
-    let alloc = rt.alloc();
-    copy_equals(
-        alloc,
-        Reply::Version {
-            version: 3,
-            extensions: Extensions::LIMITS,
-        },
-    )?;
-    copy_equals(
-        alloc,
-        Reply::Status {
-            code: 2,
-            message: text(alloc, b"no")?,
-            language: text(alloc, b"en")?,
-        },
-    )?;
-    copy_equals(alloc, Reply::Handle(handle(b"h")?))?;
-    copy_equals(alloc, Reply::Content(Bytes::from_static(b"hello")))?;
-    Ok(())
-}
-
-#[test]
-fn copies_of_listings(rt: HostRuntime) -> Result<(), Fail> {
-    let alloc = rt.alloc();
-    let mut entries = Vec::new(alloc);
-    entries.push(NameEntry {
-        filename: path(alloc, b"x")?,
-        longname: text(alloc, b"-rw x")?,
-        attrs: NO_ATTRS,
-    })?;
-    copy_equals(alloc, Reply::Names(Items::new(entries)))?;
-    copy_equals(alloc, Reply::Attrs(NO_ATTRS))?;
-    copy_equals(alloc, Reply::Extended(text(alloc, b"x")?))?;
-    Ok(())
-}
-
-#[test]
-fn copies_of_errors(rt: HostRuntime) -> Result<(), Fail> {
-    let alloc = rt.alloc();
-    copy_equals(alloc, Error::UnsupportedSftpProtocol { version: 2 })?;
-    copy_equals(
-        alloc,
-        Error::SftpError {
-            code: 2,
-            message: text(alloc, b"no")?,
-            language: text(alloc, b"")?,
-        },
-    )?;
-    copy_equals(alloc, Error::UnsupportedExtension(Extensions::FSYNC))?;
-    copy_equals(alloc, Error::BackgroundTaskFailure(Fault::Ended))?;
-    Ok(())
-}
-
-#[test]
-fn copies_of_outcomes(rt: HostRuntime) -> Result<(), Fail> {
-    let alloc = rt.alloc();
-    copy_equals(alloc, Outcome::Count(5))?;
-    copy_equals(alloc, Outcome::Bytes(text(alloc, b"hello")?))?;
-    copy_equals(alloc, Outcome::Path(path(alloc, b"/")?))?;
-    copy_equals(alloc, Outcome::Refused(Error::IOError(IoKind::SeekFromEnd)))?;
-    Ok(())
-}
-
-#[test]
-fn handles_and_contents(rt: HostRuntime) -> Result<(), Fail> {
-    let alloc = rt.alloc();
-    assert_eq!(rt; handle(&[7; 256])?.as_bytes(), [7u8; 256].as_slice());
-    assert!(rt; Handle::new(&[7; 257]).is_none());
-    let pieces = content(alloc)?;
-    assert_eq!(rt; pieces.pieces().len(), 3);
-    let mut whole = Content::new(alloc);
+fn contents(rt: HostRuntime) -> Result<(), Fail> {
+    let mut content = Content::new(rt.alloc());
+    content.push(Bytes::from_static(b"hel"))?;
+    content.push(Bytes::from_static(b"lo"))?;
+    assert!(rt; is_copied(rt.alloc(), &content)?);
+    let mut whole = Content::new(rt.alloc());
     whole.push(Bytes::from_static(b"hello"))?;
-    assert!(rt; whole == pieces);
-    whole.push(Bytes::from_static(b"!"))?;
-    assert!(rt; whole != pieces);
-    assert!(rt; pieces != whole);
+    assert!(rt; whole == content);
     Ok(())
+}
+
+/// A refusal with its message.
+fn refusal(alloc: Global) -> Result<Error, Fail> {
+    Ok(Error::SftpError {
+        code: 2,
+        message: text(alloc, b"no")?,
+        language: text(alloc, b"en")?,
+    })
+}
+
+#[test]
+fn copy_of_error(rt: HostRuntime) -> Result<(), Fail> {
+    let error = refusal(rt.alloc())?;
+    assert!(rt; is_copied(rt.alloc(), &error)?);
+    Ok(())
+}
+
+#[test]
+fn copy_of_outcome(rt: HostRuntime) -> Result<(), Fail> {
+    let outcome = Outcome::Refused(refusal(rt.alloc())?);
+    assert!(rt; is_copied(rt.alloc(), &outcome)?);
+    Ok(())
+}
+
+fn joins(alloc: Global, directory: &[u8], name: &[u8], joined: &[u8]) -> Result<bool, Fail> {
+    Ok(path(alloc, directory)?.join(alloc, name)?.as_bytes() == joined)
 }
 
 #[test]
 fn paths_are_joined(rt: HostRuntime) -> Result<(), Fail> {
-    let alloc = rt.alloc();
-    let rows: [(&[u8], &[u8], &[u8]); 6] = [
+    let rows: [(&[u8], &[u8], &[u8]); 3] = [
         (b"/x", b"a", b"/x/a"),
         (b"/x/", b"a", b"/x/a"),
         (b"/x", b"/a", b"/a"),
-        (b"", b"a", b"a"),
-        (b"/x", b"", b"/x/"),
-        (b"", b"", b""),
     ];
-    for (directory, name, want) in rows {
-        let joined = path(alloc, directory)?.join(alloc, name)?;
-        assert_eq!(rt; joined.as_bytes(), want);
+    for (directory, name, joined) in rows {
+        assert!(rt; joins(rt.alloc(), directory, name, joined)?);
     }
-    assert!(rt; path(alloc, b"/")?.is_absolute());
-    assert!(rt; !path(alloc, b"")?.is_absolute());
     Ok(())
 }
 
-#[test]
-fn flags_have_the_protocol_bits(rt: HostRuntime) {
-    let flags = OpenFlags::READ.union(OpenFlags::EXCL);
-    assert_eq!(rt; flags.bits(), 33);
-    assert!(rt; flags.contains(OpenFlags::EXCL));
-    assert_eq!(rt; OpenFlags::all().bits(), 63);
-    assert_eq!(rt; Extensions::all().bits(), 63);
-    assert_eq!(rt; Extensions::COPY_DATA.bits(), 16);
+fn shows(alloc: Global, error: &Error, text: &str) -> Result<bool, Fail> {
+    Ok(format!(in alloc; "{error}")?.as_str() == text)
 }
 
 #[test]
-fn answers_and_lengths(rt: HostRuntime) -> Result<(), Fail> {
-    let read = Request::Read {
-        handle: handle(b"h")?,
-        offset: 0,
-        len: 1,
-    };
-    assert!(rt; may_answer(&read, &Reply::Content(Bytes::from_static(b"a"))));
-    assert!(rt; !may_answer(&read, &Reply::Content(Bytes::from_static(b"ab"))));
-    let end = Reply::Status {
-        code: 1,
-        message: text(rt.alloc(), b"")?,
-        language: text(rt.alloc(), b"")?,
-    };
-    assert!(rt; ends(&read, &end));
-    let limits = Limits {
-        packet_len: 10,
-        read_len: u64::MAX,
-        write_len: 5,
-        open_handles: 0,
-    };
-    assert!(rt; session_lengths(Some(limits), None, None) == (1, 5));
-    assert!(rt; session_lengths(None, Some(7), None) == (7, 32768));
-    frames_read_back();
-    machine_answers();
-    machine_fits();
-    plans_wait_for_missing();
-    plans_fit();
-    cancelled_calls_leave();
-    Ok(())
-}
-
-#[test]
-fn texts(rt: HostRuntime) -> Result<(), Fail> {
+fn texts_of_errors(rt: HostRuntime) -> Result<(), Fail> {
     let alloc = rt.alloc();
-    let refused = Error::SftpError {
-        code: 2,
-        message: text(alloc, b"no")?,
-        language: text(alloc, b"")?,
-    };
-    assert_eq!(rt;
-        format!(in alloc; "{refused}")?.as_str(),
-        "the server refused the request with status 2"
+    assert!(rt;
+        shows(
+            alloc,
+            &Error::InvalidResponseId { id: 7 },
+            "a reply bears the id 7, which no unanswered request has",
+        )?
     );
-    let format = Error::FormatError(FormatKind::TrailingData { remaining: 3 });
-    assert_eq!(rt;
-        format!(in alloc; "{format}")?.as_str(),
-        "3 bytes stand behind the last field of a frame"
+    assert!(rt;
+        shows(
+            alloc,
+            &Error::FormatError(FormatKind::TrailingData { remaining: 3 }),
+            "3 bytes stand behind the last field of a frame",
+        )?
     );
-    let earlier = Error::BackgroundTaskFailure(Fault::Protocol { version: 2 });
-    assert_eq!(rt;
-        format!(in alloc; "{earlier}")?.as_str(),
-        "the session had failed before: the server speaks version 2 of the protocol, and only 3 is supported"
+    assert!(rt;
+        shows(
+            alloc,
+            &Error::BackgroundTaskFailure(Fault::Protocol { version: 2 }),
+            "the session had failed before: the server speaks version 2 of the protocol, and only 3 is supported",
+        )?
     );
-    assert_eq!(rt;
-        format!(in alloc; "{}", Error::IOError(IoKind::PathTooLong))?.as_str(),
-        "the path is too long for a frame"
+    assert!(rt;
+        shows(
+            alloc,
+            &Error::IOError(IoKind::PathTooLong),
+            "the path is too long for a frame"
+        )?
     );
-    assert_eq!(rt;
-        format!(in alloc; "{}", FrameError::HandleTooLong { len: 257 })?.as_str(),
-        "a handle has 257 bytes, and at most 256 are allowed"
+    Ok(())
+}
+
+#[test]
+fn text_of_refusal(rt: HostRuntime) -> Result<(), Fail> {
+    let error = refusal(rt.alloc())?;
+    assert!(rt;
+        shows(
+            rt.alloc(),
+            &error,
+            "the server refused the request with status 2"
+        )?
     );
-    assert_eq!(rt;
-        format!(in alloc; "{}", FrameError::from(ssh_encoding::Error::Overflow))?.as_str(),
-        "a length is over 1048575"
-    );
+    Ok(())
+}
+
+#[test]
+fn texts_of_frame_errors(rt: HostRuntime) -> Result<(), Fail> {
+    let text = format!(in rt.alloc(); "{}", FrameError::HandleTooLong { len: 257 })?;
+    assert!(rt; text.as_str() == "a handle has 257 bytes, and at most 256 are allowed");
     Ok(())
 }

@@ -1,6 +1,4 @@
-mod bodies;
 mod frames;
-mod laws;
 mod replies;
 mod requests;
 mod values;

@@ -4,7 +4,7 @@ use Rattle.std.specs.Int.{Width, w32, w64, byte_len, from_be_bytes}
 use Rattle.std.proofs.lemmas.Bool.{le-ltb}
 use Rattle.std.proofs.lemmas.List.{take_at, drop_at, length-append, append-nil}
 use Rattle.std.proofs.lemmas.Nat.{from_be_bytes-to_be_bytes_4, from_be_bytes-to_be_bytes_8}
-use Rattle.ssh_encoding.specs.Reading.{number_at, prefix_at, max_len}
+use Rattle.ssh_encoding.specs.Reading.{number_at, prefix_at, MAX_LEN}
 use Rattle.ssh_encoding.specs.Writing.{uint32, uint64, string}
 use Rattle.sftp_model.specs.declared.file_attrs.FileAttrs.{FileAttrs}
 use Rattle.sftp_model.specs.declared.frame_error.FrameError.{FrameError}
@@ -55,7 +55,7 @@ prefix_is head v rest len value h =
     let front : take 4 (head ++ (v ++ rest)) ≡ head = take_at head (v ++ rest) 4 len in
     let behind : drop 4 (head ++ (v ++ rest)) ≡ v ++ rest = drop_at head (v ++ rest) 4 len in
     let long : ltb (length (head ++ (v ++ rest))) 4 ≡ false = le-ltb _ _ (omega (arith, length-append head (v ++ rest), len)) in
-    let small : ltb max_len (length v) ≡ false = le-ltb _ _ h in
+    let small : ltb MAX_LEN (length v) ≡ false = le-ltb _ _ h in
     let room : ltb (length (v ++ rest)) (length v) ≡ false = le-ltb _ _ (omega (arith, length-append v rest)) in
     rw (long, front, value, small, behind, room, take_at v rest (length v) refl, drop_at v rest (length v) refl) refl
 

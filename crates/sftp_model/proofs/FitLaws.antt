@@ -15,9 +15,9 @@ use Rattle.sftp_model.specs.declared.request.Request.{Request}
 use Rattle.sftp_model.specs.declared.request.Request.TheVariants as request
 use Rattle.sftp_model.specs.FileMachine.{Machine, Held, at_key, status, bytes_of_file, capped, after_open, after_read, after_close, answered, apply}
 use Rattle.sftp_model.specs.Fits.{FitsNumber, FitsHandle, FitsSet, FitsRequest, FitsReply, AsksWithinFrame, GrantsFit, AsksWithinReply}
-use Rattle.sftp_model.specs.Frames.{body_limit, no_attributes, attributes, request_body}
+use Rattle.sftp_model.specs.Numbers.{MAX_BODY_LEN, MAX_TRANSFER_LEN}
+use Rattle.sftp_model.specs.Frames.{no_attributes, attributes, request_body}
 use Rattle.sftp_model.specs.Answers.{is_end_of_file}
-use Rattle.sftp_model.specs.Lengths.{greatest_len}
 use Rattle.sftp_model.specs.Plans.{Facts, Move, Ask, Done, Answers, once_answered, refused, refuses, handle_of, is_too_long, open_request, opened, open_next, overflows, ask_read, was_read, read_file_next, read_next, on_file, done_by, close_grant_next, close_slot_next, close_next}
 use Rattle.sftp_model.specs.Slots.{FileAt, Slot, Empty, File, Buffered, Site, slot_at, with_slot, has_grant}
 use Rattle.sftp_model.proofs.MachineLaws.{content, has_bytes, has_read, capped_below}
@@ -25,10 +25,10 @@ use Rattle.sftp_model.proofs.MachineLaws.{content, has_bytes, has_read, capped_b
 -- ---- open
 
 -- a path whose OPEN isn't too long fits
-path_fits : (flags : OpenFlags) (path : List ℕ) → is_too_long (open_request flags path) ≡ false → length path ≤ body_limit
+path_fits : (flags : OpenFlags) (path : List ℕ) → is_too_long (open_request flags path) ≡ false → length path ≤ MAX_BODY_LEN
 unfolding request_body string
 path_fits flags path e =
-    let short : length (request_body (open_request flags path) 0) ≤ body_limit = ltb-false _ _ e in
+    let short : length (request_body (open_request flags path) 0) ≤ MAX_BODY_LEN = ltb-false _ _ e in
     omega (
       arith,
       length-append (uint32 (length path)) path,
@@ -131,10 +131,10 @@ after_open_fits : (m : Machine) (handle : List ℕ) (file : Option ℕ) → Fits
 after_open_fits m handle None h = status_fits m 2 (lit< tt)
 after_open_fits m handle (Some file) h = record { fits = h }
 
-content_short : (bytes : List ℕ) (most len : ℕ) → len ≤ greatest_len → length (take (capped most len) bytes) ≤ body_limit
+content_short : (bytes : List ℕ) (most len : ℕ) → len ≤ MAX_TRANSFER_LEN → length (take (capped most len) bytes) ≤ MAX_BODY_LEN
 content_short bytes most len h = omega (arith, length-take (capped most len) bytes, capped_below most len)
 
-after_read_fits : (m : Machine) (most offset len : ℕ) (held : Option Held) → len ≤ greatest_len → FitsAnswer (after_read m most offset len held)
+after_read_fits : (m : Machine) (most offset len : ℕ) (held : Option Held) → len ≤ MAX_TRANSFER_LEN → FitsAnswer (after_read m most offset len held)
 after_read_fits m most offset len None h = status_fits m 4 (lit< tt)
 after_read_fits m most offset len (Some held) h =
     if_fits (not held.readable) (status 3, m) (has_read m most offset len held) (status_fits m 3 (lit< tt))

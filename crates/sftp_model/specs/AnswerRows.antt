@@ -5,6 +5,7 @@ use Rattle.sftp_model.specs.declared.config.Limits.{Limits}
 use Rattle.sftp_model.specs.declared.request.Request.{Request}
 use Rattle.sftp_model.specs.declared.request.Request.TheVariants as request
 use Rattle.sftp_model.specs.declared.reply.Reply.TheVariants as reply
+use Rattle.sftp_model.specs.Numbers.{SSH_FX_OK, SSH_FX_EOF, SSH_FX_NO_SUCH_FILE}
 use Rattle.sftp_model.specs.Answers.{may_answer, ends}
 use Rattle.sftp_model.specs.Frames.{no_attributes}
 use Rattle.sftp_model.specs.Lengths.{session_lengths}
@@ -18,10 +19,10 @@ open_a = request.OpenFile (codes "a") (record { 0 = 1 }) no_attributes
 pub open_by_handle : may_answer open_a (reply.Handle []) ≡ true
 open_by_handle = refl
 
-pub open_by_refusal : may_answer open_a (reply.Status 2 [] []) ≡ true
+pub open_by_refusal : may_answer open_a (reply.Status SSH_FX_NO_SUCH_FILE [] []) ≡ true
 open_by_refusal = refl
 
-pub open_by_ok : may_answer open_a (reply.Status 0 [] []) ≡ false
+pub open_by_ok : may_answer open_a (reply.Status SSH_FX_OK [] []) ≡ false
 open_by_ok = refl
 
 pub open_by_content : may_answer open_a (reply.Content (1 ∷ [])) ≡ false
@@ -39,16 +40,16 @@ read_by_two = refl
 pub read_by_none : may_answer read_one (reply.Content []) ≡ false
 read_by_none = refl
 
-pub read_by_end : may_answer read_one (reply.Status 1 [] []) ≡ true
+pub read_by_end : may_answer read_one (reply.Status SSH_FX_EOF [] []) ≡ true
 read_by_end = refl
 
-pub read_ends : ends read_one (reply.Status 1 [] []) ≡ true
+pub read_ends : ends read_one (reply.Status SSH_FX_EOF [] []) ≡ true
 read_ends = refl
 
-pub open_is_refused : ends open_a (reply.Status 1 [] []) ≡ false
+pub open_is_refused : ends open_a (reply.Status SSH_FX_EOF [] []) ≡ false
 open_is_refused = refl
 
-pub close_by_ok : may_answer (request.Close []) (reply.Status 0 [] []) ≡ true
+pub close_by_ok : may_answer (request.Close []) (reply.Status SSH_FX_OK [] []) ≡ true
 close_by_ok = refl
 
 pub close_by_handle : may_answer (request.Close []) (reply.Handle []) ≡ false
@@ -63,7 +64,7 @@ realpath_by_no_entry = refl
 pub limits_by_reply : may_answer request.LimitsQuery (reply.Extended []) ≡ true
 limits_by_reply = refl
 
-pub stat_by_ok : may_answer (request.Stat []) (reply.Status 0 [] []) ≡ false
+pub stat_by_ok : may_answer (request.Stat []) (reply.Status SSH_FX_OK [] []) ≡ false
 stat_by_ok = refl
 
 -- ---- session lengths

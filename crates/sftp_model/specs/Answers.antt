@@ -7,14 +7,15 @@ use Rattle.sftp_model.specs.declared.reply.Reply.{Reply}
 use Rattle.sftp_model.specs.declared.reply.Reply.TheVariants as reply
 use Rattle.sftp_model.specs.declared.answers.Expected.{Expected}
 use Rattle.sftp_model.specs.declared.answers.Expected.TheVariants as expected
+use Rattle.sftp_model.specs.Numbers.{SSH_FX_OK, SSH_FX_EOF}
 
 abbrev pub is_status : Reply → Bool
 is_status (reply.Status code message language) = true
 is_status other = false
 
--- a STATUS other than 0
+-- a STATUS other than OK
 abbrev pub is_refusal : Reply → Bool
-is_refusal (reply.Status code message language) = not (code == 0)
+is_refusal (reply.Status code message language) = not (code == SSH_FX_OK)
 is_refusal other = false
 
 abbrev pub is_handle : Reply → Bool
@@ -48,7 +49,7 @@ abbrev pub is_version : Reply → Bool
 is_version (reply.Version version extensions) = true
 is_version other = false
 
--- what may answer a request: a reply of this kind, or for each but the last a STATUS other than 0
+-- what may answer a request: a reply of this kind, or for each but the last a STATUS other than OK
 abbrev pub expected_of : Request → Expected
 expected_of (request.Init version) = expected.Version
 expected_of (request.OpenFile path flags attrs) = expected.Handle
@@ -81,12 +82,12 @@ may_answer r answer = allows (expected_of r) answer
 abbrev pub MayAnswer : Request → Reply → Type 0
 MayAnswer r answer = IsTrue (may_answer r answer)
 
--- a STATUS 1
+-- a STATUS of EOF
 abbrev pub is_end_of_file : Reply → Bool
-is_end_of_file (reply.Status code message language) = code == 1
+is_end_of_file (reply.Status code message language) = code == SSH_FX_EOF
 is_end_of_file other = false
 
--- Whether a reply says that nothing is left to read. To other requests than READ and READDIR a STATUS 1 is
+-- Whether a reply says that nothing is left to read. To other requests than READ and READDIR a STATUS of EOF is
 -- a refusal as any other.
 abbrev pub ends : Request → Reply → Bool
 ends (request.Read handle offset len) answer = is_end_of_file answer

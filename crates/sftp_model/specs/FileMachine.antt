@@ -1,6 +1,6 @@
 -- A server of files in memory: how it answers a request, and what it has then. Of the requests of
 -- draft-ietf-secsh-filexfer-02 it knows OPEN to read, READ and CLOSE (section 6); it answers all others by
--- STATUS 8, an operation that is not supported (section 7).
+-- STATUS of OP_UNSUPPORTED (section 7).
 use Rattle.std.specs.Prelude.{◌≡◌, ◌≢◌, ℕ, ◌==◌, true, false, not, min, List, [], ◌∷◌, ◌++◌, length, take, drop, Option, Some, None, nat_le, if◌then◌else◌, slice_index_or}
 use Rattle.std.specs.Str.{bytes_eq}
 use Rattle.sftp_model.specs.declared.config.Choice.{Choice}
@@ -10,6 +10,7 @@ use Rattle.sftp_model.specs.declared.request.Request.TheVariants as request
 use Rattle.sftp_model.specs.declared.reply.Reply.{Reply}
 use Rattle.sftp_model.specs.declared.reply.Reply.TheVariants as reply
 pub use Rattle.sftp_model.specs.declared.machine.Held.{Held}
+use Rattle.sftp_model.specs.Numbers.{SSH_FX_OK, SSH_FX_EOF, SSH_FX_NO_SUCH_FILE, SSH_FX_PERMISSION_DENIED, SSH_FX_FAILURE, SSH_FX_OP_UNSUPPORTED, SSH_FXF_READ}
 
 -- Names and handles are told apart by their bytes. A file is named by its number, so that it lives on
 -- while a handle has it.
@@ -44,29 +45,29 @@ open_to_read file = record { file = file; readable = true; writable = false; app
 
 -- OPEN: a name that is there is granted the handle, another is refused
 abbrev pub after_open : Machine → List ℕ → Option ℕ → Reply × Machine
-after_open m handle None = (status 2, m)
+after_open m handle None = (status SSH_FX_NO_SUCH_FILE, m)
 after_open m handle (Some file) = (reply.Handle handle, record m { handles = m.handles ++ (handle, open_to_read file) ∷ [] })
 
 -- READ: from the offset on, at most the length asked, what the file has and the cap
 abbrev pub after_read : Machine → ℕ → ℕ → ℕ → Option Held → Reply × Machine
-after_read m cap offset len None = (status 4, m)
+after_read m cap offset len None = (status SSH_FX_FAILURE, m)
 after_read m cap offset len (Some held) =
-    if not held.readable then (status 3, m)
-    else if len == 0 then (status 4, m)
-    else if nat_le (length (bytes_of_file m held.file)) offset then (status 1, m)
+    if not held.readable then (status SSH_FX_PERMISSION_DENIED, m)
+    else if len == 0 then (status SSH_FX_FAILURE, m)
+    else if nat_le (length (bytes_of_file m held.file)) offset then (status SSH_FX_EOF, m)
     else (reply.Content (take (capped cap len) (drop offset (bytes_of_file m held.file))), m)
 
 -- CLOSE: the handle is gone
 abbrev pub after_close : Machine → List ℕ → Option Held → Reply × Machine
-after_close m handle None = (status 4, m)
-after_close m handle (Some held) = (status 0, record m { handles = without_key m.handles handle })
+after_close m handle None = (status SSH_FX_FAILURE, m)
+after_close m handle (Some held) = (status SSH_FX_OK, record m { handles = without_key m.handles handle })
 
 -- the answer to a request that isn't refused; `handle` is what an OPEN is granted
 abbrev pub answered : Machine → ServerConfig → Request → ℕ → List ℕ → Reply × Machine
-answered m config (request.OpenFile path flags attrs) cap handle = if flags.0 == 1 then after_open m handle (at_key m.names path) else (status 8, m)
+answered m config (request.OpenFile path flags attrs) cap handle = if flags.0 == SSH_FXF_READ then after_open m handle (at_key m.names path) else (status SSH_FX_OP_UNSUPPORTED, m)
 answered m config (request.Read h offset len) cap handle = after_read m cap offset len (at_key m.handles h)
 answered m config (request.Close h) cap handle = after_close m h (at_key m.handles h)
-answered m config other cap handle = (status 8, m)
+answered m config other cap handle = (status SSH_FX_OP_UNSUPPORTED, m)
 
 -- The reply to a request, and the machine after it. A choice may refuse any request, which changes nothing.
 abbrev pub apply : Machine → ServerConfig → Request → Choice → List ℕ → Reply × Machine
@@ -74,9 +75,9 @@ apply m config r choice handle = if choice.refuse == 0 then answered m config r 
 
 -- ---- laws of the machine
 
--- an answer by a STATUS other than 0 leaves the machine as it was
+-- an answer by a STATUS other than OK leaves the machine as it was
 abbrev pub KeepsWhereRefused : Machine → Reply → Machine → Type 0
-KeepsWhereRefused before (reply.Status code message language) after = code ≢ 0 → after ≡ before
+KeepsWhereRefused before (reply.Status code message language) after = code ≢ SSH_FX_OK → after ≡ before
 KeepsWhereRefused before other after = Unit {0}
 
 -- any request but the hello

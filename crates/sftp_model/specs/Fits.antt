@@ -1,5 +1,5 @@
--- The requests and replies that a frame can carry: each number fits its field, each string its length, a
--- handle has at most 256 bytes, and a set has no unknown bit.
+-- The requests and replies that a frame can carry: each number fits its field, each string and each
+-- handle its bound, and a set has no unknown bit.
 use Rattle.std.specs.Prelude.{ℕ, ◌≡◌, ◌^◌, ◌<◌, ◌≤◌, List, length, All, IfSome, Ok}
 use Rattle.sftp_model.specs.declared.config.Limits.{Limits}
 use Rattle.sftp_model.specs.declared.file_attrs.FileAttrs.{FileAttrs}
@@ -8,8 +8,8 @@ use Rattle.sftp_model.specs.declared.request.Request.TheVariants as request
 use Rattle.sftp_model.specs.declared.reply.NameEntry.{NameEntry}
 use Rattle.sftp_model.specs.declared.reply.Reply.{Reply}
 use Rattle.sftp_model.specs.declared.reply.Reply.TheVariants as reply
-use Rattle.sftp_model.specs.Frames.{body_limit, limits_content, request_body, reply_body, request_id, reply_id}
-use Rattle.sftp_model.specs.Lengths.{greatest_len}
+use Rattle.sftp_model.specs.Numbers.{MAX_BODY_LEN, MAX_HANDLE_LEN, MAX_TRANSFER_LEN}
+use Rattle.sftp_model.specs.Frames.{limits_content, request_body, reply_body, request_id, reply_id}
 use Rattle.sftp_model.specs.Plans.{Answers, handle_of, Move, Ask}
 use Rattle.sftp_model.specs.ReplyReadings.{reply_at, limits_at}
 use Rattle.sftp_model.specs.RequestReadings.{request_at}
@@ -21,10 +21,10 @@ abbrev pub FitsLong : ℕ → Type 0
 FitsLong n = n < 2 ^ 64
 
 abbrev pub FitsText : List ℕ → Type 0
-FitsText text = length text ≤ body_limit
+FitsText text = length text ≤ MAX_BODY_LEN
 
 abbrev pub FitsHandle : List ℕ → Type 0
-FitsHandle handle = length handle ≤ 256
+FitsHandle handle = length handle ≤ MAX_HANDLE_LEN
 
 -- six known bits
 abbrev pub FitsSet : ℕ → Type 0
@@ -107,11 +107,11 @@ abbrev pub AsksWithinFrame : Move → Type 0
 AsksWithinFrame (Ask r) = FitsRequest r
 AsksWithinFrame other = Unit {0}
 
--- the handles that were granted have at most 256 bytes
+-- the handles that were granted are within their bound
 abbrev pub GrantsFit : Answers → Type 0
 GrantsFit answers = (place : ℕ) → FitsHandle (handle_of (answers place))
 
 -- a READ asks for no more than one DATA can bring
 abbrev pub AsksWithinReply : Request → Type 0
-AsksWithinReply (request.Read handle offset len) = len ≤ greatest_len
+AsksWithinReply (request.Read handle offset len) = len ≤ MAX_TRANSFER_LEN
 AsksWithinReply other = Unit {0}

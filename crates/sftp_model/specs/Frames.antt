@@ -11,10 +11,7 @@ use Rattle.sftp_model.specs.declared.request.Request.TheVariants as request
 use Rattle.sftp_model.specs.declared.reply.Reply.{Reply}
 use Rattle.sftp_model.specs.declared.reply.Reply.TheVariants as reply
 use Rattle.sftp_model.specs.declared.reply.NameEntry.{NameEntry}
-
--- the greatest length of a body and of a string
-abbrev pub body_limit : ℕ
-body_limit = 1048575
+use Rattle.sftp_model.specs.Numbers.{SSH_FXP_INIT, SSH_FXP_VERSION, SSH_FXP_OPEN, SSH_FXP_CLOSE, SSH_FXP_READ, SSH_FXP_WRITE, SSH_FXP_LSTAT, SSH_FXP_FSTAT, SSH_FXP_SETSTAT, SSH_FXP_FSETSTAT, SSH_FXP_OPENDIR, SSH_FXP_READDIR, SSH_FXP_REMOVE, SSH_FXP_MKDIR, SSH_FXP_RMDIR, SSH_FXP_REALPATH, SSH_FXP_STAT, SSH_FXP_RENAME, SSH_FXP_READLINK, SSH_FXP_SYMLINK, SSH_FXP_STATUS, SSH_FXP_HANDLE, SSH_FXP_DATA, SSH_FXP_NAME, SSH_FXP_ATTRS, SSH_FXP_EXTENDED, SSH_FXP_EXTENDED_REPLY, SSH_FILEXFER_ATTR_SIZE, SSH_FILEXFER_ATTR_UIDGID, SSH_FILEXFER_ATTR_PERMISSIONS, SSH_FILEXFER_ATTR_ACMODTIME}
 
 -- ---- attributes (draft, section 5)
 
@@ -34,9 +31,9 @@ bit n (Some x) = n
 abbrev pub two_numbers : ℕ × ℕ → List ℕ
 two_numbers p = uint32 p.0 ++ uint32 p.1
 
--- the bits of the fields that are there: size 1, owner and group 2, permissions 4, times 8
+-- the bits of the fields that are there
 abbrev pub attribute_bits : FileAttrs → ℕ
-attribute_bits a = bit 1 a.size + bit 2 a.id + bit 4 a.permissions + bit 8 a.time
+attribute_bits a = bit SSH_FILEXFER_ATTR_SIZE a.size + bit SSH_FILEXFER_ATTR_UIDGID a.id + bit SSH_FILEXFER_ATTR_PERMISSIONS a.permissions + bit SSH_FILEXFER_ATTR_ACMODTIME a.time
 
 -- these bits, and then these fields
 unfoldable pub attributes : FileAttrs → List ℕ
@@ -88,29 +85,29 @@ of_type kind id fields = kind ∷ uint32 id ++ fields
 
 -- EXTENDED (draft, section 8)
 abbrev pub extended : List ℕ → ℕ → List ℕ → List ℕ
-extended name id fields = of_type 200 id (string name ++ fields)
+extended name id fields = of_type SSH_FXP_EXTENDED id (string name ++ fields)
 
 -- the body of a request; the hello has no id
 unfoldable pub request_body : Request → ℕ → List ℕ
-request_body (request.Init version) id = 1 ∷ uint32 version
-request_body (request.OpenFile path flags attrs) id = of_type 3 id (string path ++ uint32 flags.0 ++ attributes attrs)
-request_body (request.Close handle) id = of_type 4 id (string handle)
-request_body (request.Read handle offset len) id = of_type 5 id (string handle ++ uint64 offset ++ uint32 len)
-request_body (request.Write handle offset content) id = of_type 6 id (string handle ++ uint64 offset ++ string content)
-request_body (request.Lstat path) id = of_type 7 id (string path)
-request_body (request.Fstat handle) id = of_type 8 id (string handle)
-request_body (request.Setstat path attrs) id = of_type 9 id (string path ++ attributes attrs)
-request_body (request.Fsetstat handle attrs) id = of_type 10 id (string handle ++ attributes attrs)
-request_body (request.Opendir path) id = of_type 11 id (string path)
-request_body (request.Readdir handle) id = of_type 12 id (string handle)
-request_body (request.Remove path) id = of_type 13 id (string path)
-request_body (request.Mkdir path attrs) id = of_type 14 id (string path ++ attributes attrs)
-request_body (request.Rmdir path) id = of_type 15 id (string path)
-request_body (request.Realpath path) id = of_type 16 id (string path)
-request_body (request.Stat path) id = of_type 17 id (string path)
-request_body (request.Rename old to) id = of_type 18 id (string old ++ string to)
-request_body (request.Readlink path) id = of_type 19 id (string path)
-request_body (request.Symlink src dst) id = of_type 20 id (string src ++ string dst)
+request_body (request.Init version) id = SSH_FXP_INIT ∷ uint32 version
+request_body (request.OpenFile path flags attrs) id = of_type SSH_FXP_OPEN id (string path ++ uint32 flags.0 ++ attributes attrs)
+request_body (request.Close handle) id = of_type SSH_FXP_CLOSE id (string handle)
+request_body (request.Read handle offset len) id = of_type SSH_FXP_READ id (string handle ++ uint64 offset ++ uint32 len)
+request_body (request.Write handle offset content) id = of_type SSH_FXP_WRITE id (string handle ++ uint64 offset ++ string content)
+request_body (request.Lstat path) id = of_type SSH_FXP_LSTAT id (string path)
+request_body (request.Fstat handle) id = of_type SSH_FXP_FSTAT id (string handle)
+request_body (request.Setstat path attrs) id = of_type SSH_FXP_SETSTAT id (string path ++ attributes attrs)
+request_body (request.Fsetstat handle attrs) id = of_type SSH_FXP_FSETSTAT id (string handle ++ attributes attrs)
+request_body (request.Opendir path) id = of_type SSH_FXP_OPENDIR id (string path)
+request_body (request.Readdir handle) id = of_type SSH_FXP_READDIR id (string handle)
+request_body (request.Remove path) id = of_type SSH_FXP_REMOVE id (string path)
+request_body (request.Mkdir path attrs) id = of_type SSH_FXP_MKDIR id (string path ++ attributes attrs)
+request_body (request.Rmdir path) id = of_type SSH_FXP_RMDIR id (string path)
+request_body (request.Realpath path) id = of_type SSH_FXP_REALPATH id (string path)
+request_body (request.Stat path) id = of_type SSH_FXP_STAT id (string path)
+request_body (request.Rename old to) id = of_type SSH_FXP_RENAME id (string old ++ string to)
+request_body (request.Readlink path) id = of_type SSH_FXP_READLINK id (string path)
+request_body (request.Symlink src dst) id = of_type SSH_FXP_SYMLINK id (string src ++ string dst)
 request_body (request.PosixRename old to) id = extended posix_rename_name id (string old ++ string to)
 request_body (request.Hardlink old to) id = extended hardlink_name id (string old ++ string to)
 request_body (request.Fsync handle) id = extended fsync_name id (string handle)
@@ -126,13 +123,13 @@ name_entry e = string e.filename ++ string e.longname ++ attributes e.attrs
 
 -- the body of a reply; VERSION has no id
 unfoldable pub reply_body : Reply → ℕ → List ℕ
-reply_body (reply.Version version extensions) id = 2 ∷ uint32 version ++ extension_pairs extensions.0 extension_table
-reply_body (reply.Status code message language) id = of_type 101 id (uint32 code ++ string message ++ string language)
-reply_body (reply.Handle handle) id = of_type 102 id (string handle)
-reply_body (reply.Content content) id = of_type 103 id (string content)
-reply_body (reply.Names names) id = of_type 104 id (uint32 (length names) ++ flat_map name_entry names)
-reply_body (reply.Attrs attrs) id = of_type 105 id (attributes attrs)
-reply_body (reply.Extended content) id = of_type 201 id content
+reply_body (reply.Version version extensions) id = SSH_FXP_VERSION ∷ uint32 version ++ extension_pairs extensions.0 extension_table
+reply_body (reply.Status code message language) id = of_type SSH_FXP_STATUS id (uint32 code ++ string message ++ string language)
+reply_body (reply.Handle handle) id = of_type SSH_FXP_HANDLE id (string handle)
+reply_body (reply.Content content) id = of_type SSH_FXP_DATA id (string content)
+reply_body (reply.Names names) id = of_type SSH_FXP_NAME id (uint32 (length names) ++ flat_map name_entry names)
+reply_body (reply.Attrs attrs) id = of_type SSH_FXP_ATTRS id (attributes attrs)
+reply_body (reply.Extended content) id = of_type SSH_FXP_EXTENDED_REPLY id content
 
 -- the content of the reply to the query for limits (OpenSSH's PROTOCOL, section 4.8)
 unfoldable pub limits_content : Limits → List ℕ

@@ -2,14 +2,11 @@
 -- (OpenSSH's PROTOCOL, section 4.8), if there was one, and the user's options.
 use Rattle.std.specs.Prelude.{ℕ, ◌-◌, ◌==◌, min, max, Option, Some, None, nat_lt, if◌then◌else◌}
 use Rattle.sftp_model.specs.declared.config.Limits.{Limits}
+use Rattle.sftp_model.specs.Numbers.{MAX_TRANSFER_LEN}
 
 -- where the server sets no length
 abbrev pub default_len : ℕ
 default_len = 32768
-
--- what a frame of 1048575 bytes leaves for content, with 300 bytes for all else
-abbrev pub greatest_len : ℕ
-greatest_len = 1048275
 
 -- a packet length as a uint32, with room for a frame's head
 abbrev pub packet_len_of : ℕ → ℕ
@@ -37,7 +34,7 @@ capped_by (Some most) len = min most len
 
 -- the least of the length, the option and the greatest length, and at least 1
 abbrev pub session_len : Option ℕ → ℕ → ℕ
-session_len most len = max 1 (min greatest_len (capped_by most len))
+session_len most len = max 1 (min MAX_TRANSFER_LEN (capped_by most len))
 
 -- the session's read length and write length
 abbrev pub session_lengths : Option Limits → Option ℕ → Option ℕ → ℕ × ℕ

@@ -8,6 +8,7 @@ use Rattle.sftp_model.specs.declared.reply.Reply.TheVariants as reply
 use Rattle.sftp_model.specs.declared.outcome.Outcome.TheVariants as outcome
 use Rattle.sftp_model.specs.declared.error.Error.TheVariants as error
 use Rattle.sftp_model.specs.declared.error.IoKind.TheVariants as kind
+use Rattle.sftp_model.specs.Numbers.{SSH_FX_OK, SSH_FX_EOF, SSH_FX_NO_SUCH_FILE, SSH_FX_PERMISSION_DENIED, SSH_FX_FAILURE, SSH_FXF_READ}
 use Rattle.sftp_model.specs.Frames.{no_attributes, attributes, request_body}
 use Rattle.sftp_model.specs.Slots.{FileAt, File, Buffered, Site, fresh_site, with_slot}
 use Rattle.sftp_model.specs.Plans.{Facts, Ask, Wait, Done, Answers, open_next, read_next, close_next, cancelled_open, cancelled_read, cancelled_close}
@@ -17,7 +18,7 @@ abbrev replies : List Reply → Answers
 replies taken place = slice_get taken place
 
 abbrev to_read : OpenFlags
-to_read = record { 0 = 1 }
+to_read = record { 0 = SSH_FXF_READ }
 
 abbrev facts : Facts
 facts = record { extensions = record { 0 = 0 }; read_len = 32768; write_len = 32768; write_limit = 655360 }
@@ -45,11 +46,11 @@ pub open_done : open_next 0 to_read (codes "a") fresh_site facts (0 ∷ []) (rep
 open_done = refl
 
 -- the grant is the place of the OPEN, whatever its number
-pub open_done_later : open_next 3 (record { 0 = 6 }) (codes "a") fresh_site facts (1 ∷ []) (replies (reply.Status 0 [] [] ∷ reply.Handle handle ∷ [])) ≡ Done outcome.Opened (with_slot fresh_site 3 (File (record { grant = 1; readable = false; writable = true; offset = 0 })))
+pub open_done_later : open_next 3 (record { 0 = 6 }) (codes "a") fresh_site facts (1 ∷ []) (replies (reply.Status SSH_FX_OK [] [] ∷ reply.Handle handle ∷ [])) ≡ Done outcome.Opened (with_slot fresh_site 3 (File (record { grant = 1; readable = false; writable = true; offset = 0 })))
 open_done_later = refl
 
 -- what the slot held stays where the server refuses
-pub open_refused : open_next 0 to_read (codes "b") (with_file 7) facts (1 ∷ []) (replies (reply.Handle handle ∷ reply.Status 2 [] [] ∷ [])) ≡ Done (outcome.Refused (error.SftpError 2 [] [])) (with_file 7)
+pub open_refused : open_next 0 to_read (codes "b") (with_file 7) facts (1 ∷ []) (replies (reply.Handle handle ∷ reply.Status SSH_FX_NO_SUCH_FILE [] [] ∷ [])) ≡ Done (outcome.Refused (error.SftpError SSH_FX_NO_SUCH_FILE [] [])) (with_file 7)
 open_refused = refl
 
 -- ---- read
@@ -74,10 +75,10 @@ read_waits = refl
 pub read_done : read_next 0 5 (with_file 2) facts (1 ∷ []) (replies (reply.Handle handle ∷ reply.Content (codes "hel") ∷ [])) ≡ Done (outcome.Bytes (codes "hel")) (with_file 5)
 read_done = refl
 
-pub read_ends : read_next 0 5 (with_file 2) facts (1 ∷ []) (replies (reply.Handle handle ∷ reply.Status 1 [] [] ∷ [])) ≡ Done outcome.End (with_file 2)
+pub read_ends : read_next 0 5 (with_file 2) facts (1 ∷ []) (replies (reply.Handle handle ∷ reply.Status SSH_FX_EOF [] [] ∷ [])) ≡ Done outcome.End (with_file 2)
 read_ends = refl
 
-pub read_refused : read_next 0 5 (with_file 2) facts (1 ∷ []) (replies (reply.Handle handle ∷ reply.Status 3 (codes "no") [] ∷ [])) ≡ Done (outcome.Refused (error.SftpError 3 (codes "no") [])) (with_file 2)
+pub read_refused : read_next 0 5 (with_file 2) facts (1 ∷ []) (replies (reply.Handle handle ∷ reply.Status SSH_FX_PERMISSION_DENIED (codes "no") [] ∷ [])) ≡ Done (outcome.Refused (error.SftpError SSH_FX_PERMISSION_DENIED (codes "no") [])) (with_file 2)
 read_refused = refl
 
 -- a request may go to the greatest offset, and not past it
@@ -102,11 +103,11 @@ read_nothing_not_readable = refl
 pub close_asks : close_next 0 (with_file 5) facts [] (replies (reply.Handle handle ∷ [])) ≡ Ask (request.Close handle)
 close_asks = refl
 
-pub close_done : close_next 0 (with_file 5) facts (1 ∷ []) (replies (reply.Handle handle ∷ reply.Status 0 [] [] ∷ [])) ≡ Done outcome.Done fresh_site
+pub close_done : close_next 0 (with_file 5) facts (1 ∷ []) (replies (reply.Handle handle ∷ reply.Status SSH_FX_OK [] [] ∷ [])) ≡ Done outcome.Done fresh_site
 close_done = refl
 
 -- the slot is empty then too
-pub close_refused : close_next 0 (with_file 5) facts (1 ∷ []) (replies (reply.Handle handle ∷ reply.Status 4 [] [] ∷ [])) ≡ Done (outcome.Refused (error.SftpError 4 [] [])) fresh_site
+pub close_refused : close_next 0 (with_file 5) facts (1 ∷ []) (replies (reply.Handle handle ∷ reply.Status SSH_FX_FAILURE [] [] ∷ [])) ≡ Done (outcome.Refused (error.SftpError SSH_FX_FAILURE [] [])) fresh_site
 close_refused = refl
 
 abbrev with_two : Site

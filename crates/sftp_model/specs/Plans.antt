@@ -11,7 +11,8 @@ use Rattle.sftp_model.specs.declared.outcome.Outcome.TheVariants as outcome
 use Rattle.sftp_model.specs.declared.error.Error.TheVariants as error
 use Rattle.sftp_model.specs.declared.error.IoKind.{IoKind}
 use Rattle.sftp_model.specs.declared.error.IoKind.TheVariants as kind
-use Rattle.sftp_model.specs.Frames.{no_attributes, request_body, body_limit}
+use Rattle.sftp_model.specs.Numbers.{SSH_FX_OK, SSH_FXF_READ, SSH_FXF_WRITE, MAX_BODY_LEN}
+use Rattle.sftp_model.specs.Frames.{no_attributes, request_body}
 use Rattle.sftp_model.specs.Readings.{has_bit}
 use Rattle.sftp_model.specs.Answers.{is_end_of_file}
 use Rattle.sftp_model.specs.Slots.{FileAt, Slot, Empty, File, Buffered, Site, slot_at, with_slot, has_grant, moved}
@@ -28,7 +29,7 @@ abbrev pub once_answered : ℕ → Option Reply → (Reply → Move) → Move
 once_answered place None go = Wait place
 once_answered place (Some r) go = go r
 
--- a STATUS other than 0 refuses; no reply that a request doesn't allow gets here
+-- a STATUS other than OK refuses; no reply that a request doesn't allow gets here
 abbrev pub refused : Reply → Site → Move
 refused (reply.Status code message language) site = Done (outcome.Refused (error.SftpError code message language)) site
 refused other site = Done (outcome.Refused (error.InvalidResponse None)) site
@@ -55,7 +56,7 @@ open_request flags path = request.OpenFile path flags no_attributes
 
 -- a file that was opened: it may be read and written by its flags, and stands at its start
 abbrev pub opened_file : OpenFlags → ℕ → FileAt
-opened_file flags place = record { grant = place; readable = has_bit flags.0 1; writable = has_bit flags.0 2; offset = 0 }
+opened_file flags place = record { grant = place; readable = has_bit flags.0 SSH_FXF_READ; writable = has_bit flags.0 SSH_FXF_WRITE; offset = 0 }
 
 -- a HANDLE puts the file into the slot, and what the slot held is let go
 abbrev pub opened : ℕ → OpenFlags → Site → ℕ → Reply → Move
@@ -64,7 +65,7 @@ opened slot flags site place other = refused other site
 
 -- whether the body of a request passes the greatest length
 abbrev pub is_too_long : Request → Bool
-is_too_long r = nat_lt body_limit (length (request_body r 0))
+is_too_long r = nat_lt MAX_BODY_LEN (length (request_body r 0))
 
 abbrev pub open_next : ℕ → OpenFlags → List ℕ → Site → Facts → List ℕ → Answers → Move
 open_next slot flags path site facts [] answers = if is_too_long (open_request flags path) then refuses kind.PathTooLong site else Ask (open_request flags path)
@@ -82,7 +83,7 @@ ask_read file len site answers =
     else if overflows file.offset len then refuses kind.OffsetOverflow site
     else Ask (request.Read (handle_of (answers file.grant)) file.offset len)
 
--- a DATA moves the file behind its bytes; a STATUS 1 is the end
+-- a DATA moves the file past its bytes; a STATUS of EOF is the end
 abbrev pub was_read : ℕ → FileAt → Site → Reply → Move
 was_read slot file site (reply.Content bytes) = Done (outcome.Bytes bytes) (with_slot site slot (moved file (length bytes)))
 was_read slot file site other = if is_end_of_file other then Done outcome.End site else refused other site
@@ -96,9 +97,9 @@ read_next slot n site facts own answers = on_file (slot_at site slot) site (read
 
 -- ---- close: the slot is emptied, and its last user sends a CLOSE
 
--- a STATUS 0, or a refusal
+-- a STATUS of OK, or a refusal
 abbrev pub done_by : Site → Reply → Move
-done_by site (reply.Status code message language) = if code == 0 then Done outcome.Done site else refused (reply.Status code message language) site
+done_by site (reply.Status code message language) = if code == SSH_FX_OK then Done outcome.Done site else refused (reply.Status code message language) site
 done_by site other = refused other site
 
 -- the site is that with the slot emptied; a CLOSE is asked where no other slot has the grant

@@ -1,4 +1,4 @@
--- What the body of a frame reads as, field by field from its front. The refusal is that of the first field
+-- What the body of a frame reads as, field by field from its first byte. The refusal is that of the first field
 -- that fails (draft-ietf-secsh-filexfer-02, sections 3 to 8).
 use Rattle.std.specs.Prelude.{ℕ, zero, suc, ◌==◌, Bool, true, false, not, List, [], ◌∷◌, length, codes, Option, Some, None, Result, Ok, Err, nat_lt, if◌then◌else◌}
 use Rattle.std.specs.Int.{w32, w64}
@@ -10,6 +10,7 @@ use Rattle.sftp_model.specs.declared.file_attrs.FileAttrs.{FileAttrs}
 use Rattle.sftp_model.specs.declared.frame_error.FrameError.{FrameError}
 use Rattle.sftp_model.specs.declared.frame_error.FrameError.TheVariants as errors
 use Rattle.sftp_model.specs.declared.frame_error.FormatKind.TheVariants as kinds
+use Rattle.sftp_model.specs.Numbers.{SSH_FILEXFER_ATTR_SIZE, SSH_FILEXFER_ATTR_UIDGID, SSH_FILEXFER_ATTR_PERMISSIONS, SSH_FILEXFER_ATTR_ACMODTIME, SSH_FILEXFER_ATTR_EXTENDED, MAX_HANDLE_LEN}
 use Rattle.sftp_model.specs.FieldErrors.{frame_error}
 use Rattle.sftp_model.specs.Frames.{extension_table}
 
@@ -18,16 +19,16 @@ abbrev pub field : {A : Type 0} → Result A Error → Result A FrameError
 field (Ok x) = Ok x
 field (Err e) = Err (frame_error e)
 
--- nothing may stand behind the last field
+-- nothing may stand after the last field
 abbrev pub whole : {A : Type 0} → A × List ℕ → Result A FrameError
 whole read = if length read.1 == 0 then Ok read.0 else Err (errors.Format (kinds.TrailingData (length read.1)))
 
--- no handle may have more than 256 bytes; the first one that has is told
+-- no handle may be longer than the bound; the first one that is longer is told
 abbrev pub with_short_handles : {A : Type 0} → List (List ℕ) → A → Result A FrameError
 with_short_handles [] x = Ok x
-with_short_handles (h ∷ handles) x = if nat_lt 256 (length h) then Err (errors.HandleTooLong (length h)) else with_short_handles handles x
+with_short_handles (h ∷ handles) x = if nat_lt MAX_HANDLE_LEN (length h) then Err (errors.HandleTooLong (length h)) else with_short_handles handles x
 
--- fields behind an id
+-- fields after an id
 abbrev pub with_id : {A : Type 0} → (List ℕ → Result (A × List ℕ) FrameError) → List ℕ → Result ((Option ℕ × A) × List ℕ) FrameError
 with_id fields bytes = do
   id ← field (number_at w32 bytes)
@@ -70,7 +71,7 @@ two_numbers_at bytes = do
   second ← uint32_at first.1
   Ok ((first.0, second.0), second.1)
 
--- what stands behind a count of pairs of strings, which are passed over one by one
+-- what stands after a count of pairs of strings, which are passed over one by one
 abbrev pub behind_pairs : ℕ → List ℕ → Result (List ℕ) FrameError
 behind_pairs zero bytes = Ok bytes
 behind_pairs (suc n) bytes = do
@@ -88,11 +89,11 @@ behind_counted_pairs bytes = do
 unfoldable pub attributes_at : List ℕ → Result (FileAttrs × List ℕ) FrameError
 attributes_at bytes = do
   flags ← uint32_at bytes
-  size ← where_set (has_bit flags.0 1) uint64_at flags.1
-  id ← where_set (has_bit flags.0 2) two_numbers_at size.1
-  permissions ← where_set (has_bit flags.0 4) uint32_at id.1
-  time ← where_set (has_bit flags.0 8) two_numbers_at permissions.1
-  pairs ← where_set (has_bit flags.0 2147483648) behind_counted_pairs time.1
+  size ← where_set (has_bit flags.0 SSH_FILEXFER_ATTR_SIZE) uint64_at flags.1
+  id ← where_set (has_bit flags.0 SSH_FILEXFER_ATTR_UIDGID) two_numbers_at size.1
+  permissions ← where_set (has_bit flags.0 SSH_FILEXFER_ATTR_PERMISSIONS) uint32_at id.1
+  time ← where_set (has_bit flags.0 SSH_FILEXFER_ATTR_ACMODTIME) two_numbers_at permissions.1
+  pairs ← where_set (has_bit flags.0 SSH_FILEXFER_ATTR_EXTENDED) behind_counted_pairs time.1
   Ok (record { size = size.0; id = id.0; permissions = permissions.0; time = time.0 }, pairs.1)
 
 -- ---- extensions (section 4, and OpenSSH's PROTOCOL)

@@ -1,11 +1,12 @@
 -- What the body of a reply reads as (draft-ietf-secsh-filexfer-02, sections 4 and 7).
 use Rattle.std.specs.Prelude.{ℕ, zero, suc, ◌==◌, List, [], ◌∷◌, Option, Result, Ok, if◌then◌else◌}
-use Rattle.ssh_encoding.specs.Reading.{◌>>=◌, byte_at, with_front}
+use Rattle.ssh_encoding.specs.Reading.{◌>>=◌, byte_at, with_prefix}
 use Rattle.sftp_model.specs.declared.config.Limits.{Limits}
 use Rattle.sftp_model.specs.declared.frame_error.FrameError.{FrameError}
 use Rattle.sftp_model.specs.declared.reply.NameEntry.{NameEntry}
 use Rattle.sftp_model.specs.declared.reply.Reply.{Reply}
 use Rattle.sftp_model.specs.declared.reply.Reply.TheVariants as reply
+use Rattle.sftp_model.specs.Numbers.{SSH_FXP_VERSION, SSH_FXP_STATUS, SSH_FXP_HANDLE, SSH_FXP_DATA, SSH_FXP_NAME, SSH_FXP_ATTRS, SSH_FXP_EXTENDED_REPLY}
 use Rattle.sftp_model.specs.Readings.{field, whole, with_short_handles, with_id, without_id, unknown_type, uint32_at, uint64_at, text_at, attributes_at, extensions_at}
 
 unfoldable pub version_at : List ℕ → Result (Reply × List ℕ) FrameError
@@ -41,7 +42,7 @@ entry_at bytes = do
 -- so many entries, one by one
 abbrev pub entries_at : ℕ → List ℕ → Result (List NameEntry × List ℕ) FrameError
 entries_at zero bytes = Ok ([], bytes)
-entries_at (suc n) bytes = entry_at bytes >>= λ entry. with_front (entry.0 ∷ []) (entries_at n entry.1)
+entries_at (suc n) bytes = entry_at bytes >>= λ entry. with_prefix (entry.0 ∷ []) (entries_at n entry.1)
 
 unfoldable pub names_at : List ℕ → Result (Reply × List ℕ) FrameError
 names_at bytes = do
@@ -58,16 +59,16 @@ attrs_at bytes = do
 unfoldable pub extended_at : List ℕ → Result (Reply × List ℕ) FrameError
 extended_at bytes = Ok (reply.Extended bytes, [])
 
--- the fields behind a type byte
+-- the fields after a type byte
 unfoldable pub reply_fields_at : ℕ → List ℕ → Result ((Option ℕ × Reply) × List ℕ) FrameError
 reply_fields_at kind bytes =
-    if kind == 2 then without_id version_at bytes
-    else if kind == 101 then with_id status_at bytes
-    else if kind == 102 then with_id handle_at bytes
-    else if kind == 103 then with_id content_at bytes
-    else if kind == 104 then with_id names_at bytes
-    else if kind == 105 then with_id attrs_at bytes
-    else if kind == 201 then with_id extended_at bytes
+    if kind == SSH_FXP_VERSION then without_id version_at bytes
+    else if kind == SSH_FXP_STATUS then with_id status_at bytes
+    else if kind == SSH_FXP_HANDLE then with_id handle_at bytes
+    else if kind == SSH_FXP_DATA then with_id content_at bytes
+    else if kind == SSH_FXP_NAME then with_id names_at bytes
+    else if kind == SSH_FXP_ATTRS then with_id attrs_at bytes
+    else if kind == SSH_FXP_EXTENDED_REPLY then with_id extended_at bytes
     else unknown_type kind
 
 abbrev pub handles_of_reply : Reply → List (List ℕ)

@@ -6,6 +6,7 @@ use Rattle.sftp_model.specs.declared.file_attrs.FileAttrs.{FileAttrs}
 use Rattle.sftp_model.specs.declared.frame_error.FrameError.{FrameError}
 use Rattle.sftp_model.specs.declared.request.Request.{Request}
 use Rattle.sftp_model.specs.declared.request.Request.TheVariants as request
+use Rattle.sftp_model.specs.Numbers.{SSH_FXP_INIT, SSH_FXP_OPEN, SSH_FXP_CLOSE, SSH_FXP_READ, SSH_FXP_WRITE, SSH_FXP_LSTAT, SSH_FXP_FSTAT, SSH_FXP_SETSTAT, SSH_FXP_FSETSTAT, SSH_FXP_OPENDIR, SSH_FXP_READDIR, SSH_FXP_REMOVE, SSH_FXP_MKDIR, SSH_FXP_RMDIR, SSH_FXP_REALPATH, SSH_FXP_STAT, SSH_FXP_RENAME, SSH_FXP_READLINK, SSH_FXP_SYMLINK, SSH_FXP_EXTENDED}
 use Rattle.sftp_model.specs.Frames.{posix_rename_name, hardlink_name, fsync_name, expand_path_name, copy_data_name, limits_name}
 use Rattle.sftp_model.specs.Readings.{field, whole, with_short_handles, with_id, without_id, unknown_type, uint32_at, uint64_at, text_at, attributes_at}
 
@@ -64,7 +65,7 @@ copy_data_at bytes = do
   to_offset ← uint64_at to.1
   Ok (request.CopyData from.0 from_offset.0 len.0 to.0 to_offset.0, to_offset.1)
 
--- the fields behind the name of an extension
+-- the fields after the name of an extension
 unfoldable pub extension_fields_at : List ℕ → List ℕ → Result (Request × List ℕ) FrameError
 extension_fields_at name bytes =
     if bytes_eq name posix_rename_name then two_texts_at request.PosixRename bytes
@@ -73,36 +74,36 @@ extension_fields_at name bytes =
     else if bytes_eq name expand_path_name then one_text_at request.ExpandPath bytes
     else if bytes_eq name copy_data_name then copy_data_at bytes
     else if bytes_eq name limits_name then Ok (request.LimitsQuery, bytes)
-    else unknown_type 200
+    else unknown_type SSH_FXP_EXTENDED
 
 unfoldable pub extended_request_at : List ℕ → Result (Request × List ℕ) FrameError
 extended_request_at bytes = do
   name ← text_at bytes
   extension_fields_at name.0 name.1
 
--- the fields behind a type byte
+-- the fields after a type byte
 unfoldable pub request_fields_at : ℕ → List ℕ → Result ((Option ℕ × Request) × List ℕ) FrameError
 request_fields_at kind bytes =
-    if kind == 1 then without_id init_at bytes
-    else if kind == 3 then with_id open_at bytes
-    else if kind == 4 then with_id (one_text_at request.Close) bytes
-    else if kind == 5 then with_id read_at bytes
-    else if kind == 6 then with_id write_at bytes
-    else if kind == 7 then with_id (one_text_at request.Lstat) bytes
-    else if kind == 8 then with_id (one_text_at request.Fstat) bytes
-    else if kind == 9 then with_id (text_and_attributes_at request.Setstat) bytes
-    else if kind == 10 then with_id (text_and_attributes_at request.Fsetstat) bytes
-    else if kind == 11 then with_id (one_text_at request.Opendir) bytes
-    else if kind == 12 then with_id (one_text_at request.Readdir) bytes
-    else if kind == 13 then with_id (one_text_at request.Remove) bytes
-    else if kind == 14 then with_id (text_and_attributes_at request.Mkdir) bytes
-    else if kind == 15 then with_id (one_text_at request.Rmdir) bytes
-    else if kind == 16 then with_id (one_text_at request.Realpath) bytes
-    else if kind == 17 then with_id (one_text_at request.Stat) bytes
-    else if kind == 18 then with_id (two_texts_at request.Rename) bytes
-    else if kind == 19 then with_id (one_text_at request.Readlink) bytes
-    else if kind == 20 then with_id (two_texts_at request.Symlink) bytes
-    else if kind == 200 then with_id extended_request_at bytes
+    if kind == SSH_FXP_INIT then without_id init_at bytes
+    else if kind == SSH_FXP_OPEN then with_id open_at bytes
+    else if kind == SSH_FXP_CLOSE then with_id (one_text_at request.Close) bytes
+    else if kind == SSH_FXP_READ then with_id read_at bytes
+    else if kind == SSH_FXP_WRITE then with_id write_at bytes
+    else if kind == SSH_FXP_LSTAT then with_id (one_text_at request.Lstat) bytes
+    else if kind == SSH_FXP_FSTAT then with_id (one_text_at request.Fstat) bytes
+    else if kind == SSH_FXP_SETSTAT then with_id (text_and_attributes_at request.Setstat) bytes
+    else if kind == SSH_FXP_FSETSTAT then with_id (text_and_attributes_at request.Fsetstat) bytes
+    else if kind == SSH_FXP_OPENDIR then with_id (one_text_at request.Opendir) bytes
+    else if kind == SSH_FXP_READDIR then with_id (one_text_at request.Readdir) bytes
+    else if kind == SSH_FXP_REMOVE then with_id (one_text_at request.Remove) bytes
+    else if kind == SSH_FXP_MKDIR then with_id (text_and_attributes_at request.Mkdir) bytes
+    else if kind == SSH_FXP_RMDIR then with_id (one_text_at request.Rmdir) bytes
+    else if kind == SSH_FXP_REALPATH then with_id (one_text_at request.Realpath) bytes
+    else if kind == SSH_FXP_STAT then with_id (one_text_at request.Stat) bytes
+    else if kind == SSH_FXP_RENAME then with_id (two_texts_at request.Rename) bytes
+    else if kind == SSH_FXP_READLINK then with_id (one_text_at request.Readlink) bytes
+    else if kind == SSH_FXP_SYMLINK then with_id (two_texts_at request.Symlink) bytes
+    else if kind == SSH_FXP_EXTENDED then with_id extended_request_at bytes
     else unknown_type kind
 
 -- the handles among the fields, in their order

@@ -1,10 +1,11 @@
 ghost use Rattle.std.specs.Prelude.{◌≡◌};
 ghost use Rattle.sftp_model.specs.Answers.{expected_of, allows, may_answer, ends, is_status, is_refusal, is_handle, is_content, is_names, is_some_names, is_attrs, is_extended, is_version};
 
+use crate::numbers::{SSH_FX_EOF, SSH_FX_OK};
 use crate::reply::Reply;
 use crate::request::Request;
 
-/// Which replies may answer a request. Each but `Version` and `Status` allows a STATUS other than 0 as well
+/// Which replies may answer a request. Each but `Version` and `Status` allows a STATUS other than OK as well
 /// (draft-ietf-secsh-filexfer-02, sections 6 and 7).
 #[derive(Clone, Copy, Debug, PartialEq, Eq)]
 pub enum Expected {
@@ -63,7 +64,7 @@ impl Expected {
 }
 
 /// Whether a reply may answer a request. A READ of `len` is answered by DATA of 1 to `len` bytes, and what
-/// asks for one path by a NAME of at least one entry; a STATUS 0 answers only what has nothing else to tell
+/// asks for one path by a NAME of at least one entry; a STATUS of OK answers only what has nothing else to tell
 /// (draft-ietf-secsh-filexfer-02, sections 6 and 7).
 pub fn may_answer(request: &Request, reply: &Reply) -> bool
     ensures { result ≡ may_answer request.now reply.now }
@@ -71,14 +72,14 @@ pub fn may_answer(request: &Request, reply: &Reply) -> bool
     Expected::of(request).allows(reply)
 }
 
-/// Whether a reply says that nothing is left to read: a STATUS 1 to a READ or READDIR. To other requests
-/// a STATUS 1 is a refusal.
+/// Whether a reply says that nothing is left to read: a STATUS of EOF to a READ or READDIR. To other
+/// requests it is a refusal.
 pub fn ends(request: &Request, reply: &Reply) -> bool
     ensures { result ≡ ends request.now reply.now }
 {
     match request {
         Request::Read { .. } | Request::Readdir { .. } => match reply {
-            Reply::Status { code, .. } => *code == 1,
+            Reply::Status { code, .. } => *code == SSH_FX_EOF,
             _ => false,
         },
         _ => false,
@@ -101,7 +102,7 @@ fn is_refusal(reply: &Reply) -> bool
     ensures { result ≡ is_refusal reply.now }
 {
     match reply {
-        Reply::Status { code, .. } => *code != 0,
+        Reply::Status { code, .. } => *code != SSH_FX_OK,
         _ => false,
     }
 }

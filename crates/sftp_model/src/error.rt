@@ -22,7 +22,7 @@ pub enum Fault {
     /// A frame breaks the form of a reply.
     #[error("{0}")]
     Format(FormatKind),
-    /// A handle is longer than 256 bytes.
+    /// A handle is longer than `MAX_HANDLE_LEN`.
     #[error("a handle has {len} bytes, and at most 256 are allowed")]
     HandleTooLong { len: u32 },
     /// No sent request that is unanswered bears the id of a reply.
@@ -85,7 +85,7 @@ pub enum Error {
     /// A frame breaks the form of a reply.
     #[error("{0}")]
     FormatError(FormatKind),
-    /// A handle is longer than 256 bytes.
+    /// A handle is longer than `MAX_HANDLE_LEN`.
     #[error("a handle has {len} bytes, and at most 256 are allowed")]
     HandleTooLong {
         len: u32,

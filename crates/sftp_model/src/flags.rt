@@ -1,5 +1,7 @@
 ghost use Rattle.std.specs.Prelude.{⊤, ◌≡◌, [], ◌∷◌, codes};
+ghost use Rattle.sftp_model.specs.Numbers.{SSH_FXF_READ, SSH_FXF_WRITE, SSH_FXF_APPEND, SSH_FXF_CREAT, SSH_FXF_TRUNC, SSH_FXF_EXCL};
 
+use crate::numbers;
 use bitflags::{Flag, Flags, bitflag_items};
 
 /// How a file is opened (draft-ietf-secsh-filexfer-02, section 6.3).
@@ -8,12 +10,12 @@ pub struct OpenFlags(u32);
 
 bitflag_items! {
     impl OpenFlags: u32 {
-        const READ = 1;
-        const WRITE = 2;
-        const APPEND = 4;
-        const CREAT = 8;
-        const TRUNC = 16;
-        const EXCL = 32;
+        const READ = numbers::SSH_FXF_READ;
+        const WRITE = numbers::SSH_FXF_WRITE;
+        const APPEND = numbers::SSH_FXF_APPEND;
+        const CREAT = numbers::SSH_FXF_CREAT;
+        const TRUNC = numbers::SSH_FXF_TRUNC;
+        const EXCL = numbers::SSH_FXF_EXCL;
     }
 }
 
@@ -22,8 +24,8 @@ impl Flags for OpenFlags {
 
     ghost exact = { ⊤ };
 
-    ghost table = { (codes "READ", 1) ∷ (codes "WRITE", 2) ∷ (codes "APPEND", 4) ∷ (codes "CREAT", 8)
-        ∷ (codes "TRUNC", 16) ∷ (codes "EXCL", 32) ∷ [] };
+    ghost table = { (codes "READ", SSH_FXF_READ) ∷ (codes "WRITE", SSH_FXF_WRITE) ∷ (codes "APPEND", SSH_FXF_APPEND)
+        ∷ (codes "CREAT", SSH_FXF_CREAT) ∷ (codes "TRUNC", SSH_FXF_TRUNC) ∷ (codes "EXCL", SSH_FXF_EXCL) ∷ [] };
 
     ghost set_of = { λ p. p.0 };
 

@@ -9,10 +9,10 @@ pub enum FormatKind {
     /// A field goes past the body's end, or a length that must not be 0 is 0.
     #[error("a field ends past the end of its frame")]
     Length,
-    /// A length is over 1048575.
+    /// A length is over `MAX_BODY_LEN`.
     #[error("a length is over 1048575")]
     Overflow,
-    /// Bytes stand behind the last field.
+    /// Bytes stand after the last field.
     #[error("{remaining} bytes stand behind the last field of a frame")]
     TrailingData { remaining: usize },
     /// No frame has this type byte.
@@ -27,7 +27,7 @@ pub enum FrameError {
     OutOfMemory,
     #[error("{0}")]
     Format(FormatKind),
-    /// All fields read, and a handle is longer than 256 bytes.
+    /// All fields read, and a handle is longer than `MAX_HANDLE_LEN`.
     #[error("a handle has {len} bytes, and at most 256 are allowed")]
     HandleTooLong { len: u32 },
 }

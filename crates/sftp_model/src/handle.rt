@@ -2,41 +2,46 @@ ghost use Rattle.std.specs.Prelude.{◌≡◌, ◌==◌, ◌<◌, ◌≤◌, Lis
 ghost use Rattle.std.proofs.Common.{rules};
 ghost use Rattle.std.specs.Cmp.Lexicographic.{pointwise};
 ghost use Rattle.std.specs.Cmp.Rules.{comparing};
+ghost use Rattle.sftp_model.specs.Numbers.{MAX_HANDLE_LEN};
 
 use crate::copy::TryCopy;
+use crate::numbers;
 use ssh_encoding::OutOfMemory;
 use std::alloc::Global;
 use std::marker::Model;
 
-/// The name that a server gives to an open file or directory: at most 256 bytes, held in place.
+/// The name that a server gives to an open file or directory: at most `MAX_HANDLE_LEN` bytes, held in place.
 /// A contract sees it as their list (draft-ietf-secsh-filexfer-02, section 7).
 #[derive(Debug, Drop)]
 pub struct Handle {
-    bytes: [u8; 256],
+    bytes: [u8; numbers::MAX_HANDLE_LEN],
     len: usize,
 }
 
 impl Model for Handle {
+    ghost use Rattle.std.specs.Prelude.{List, ℕ, take, ◌≤◌};
+    ghost use Rattle.sftp_model.specs.Numbers.{MAX_HANDLE_LEN};
+
     ghost Value = { List ℕ };
 
     ghost view = { λ h. take h.len h.bytes };
 
-    ghost invariant = { λ h. h.len ≤ 256 };
+    ghost invariant = { λ h. h.len ≤ MAX_HANDLE_LEN };
 }
 
 impl Handle {
-    /// The handle of these bytes; None exactly where they are more than 256.
+    /// The handle of these bytes; None exactly where they are more than `MAX_HANDLE_LEN`.
     pub fn new(bytes: &[u8]) -> Option<Handle>
         ensures value { IfSome result (λ h. h ≡ bytes.now) }
-        ensures fits { IfSome result (λ h. length h ≤ 256) }
-        ensures none { IfNone result (256 < length bytes.now) }
+        ensures fits { IfSome result (λ h. length h ≤ MAX_HANDLE_LEN) }
+        ensures none { IfNone result (MAX_HANDLE_LEN < length bytes.now) }
     {
-        if bytes.len() > 256 {
+        if bytes.len() > numbers::MAX_HANDLE_LEN {
             return None;
         }
-        let mut held = [0u8; 256];
-        let front = &mut held[..bytes.len()];
-        front.copy_from_slice(bytes);
+        let mut held = [0u8; numbers::MAX_HANDLE_LEN];
+        let prefix = &mut held[..bytes.len()];
+        prefix.copy_from_slice(bytes);
         Some(Handle {
             bytes: held,
             len: bytes.len(),
@@ -53,10 +58,10 @@ impl Handle {
         }
     }
 
-    /// The bytes, at most 256.
+    /// The bytes, at most `MAX_HANDLE_LEN`.
     pub fn as_bytes(&self) -> &[u8]
         ensures value { result.now ≡ self.now }
-        ensures fits { length self.now ≤ 256 }
+        ensures fits { length self.now ≤ MAX_HANDLE_LEN }
     {
         &self.bytes[..self.len]
     }

@@ -1,9 +1,11 @@
 ghost use Rattle.std.specs.Prelude.{◌≡◌, ◌≤◌};
+ghost use Rattle.sftp_model.specs.Numbers.{MAX_TRANSFER_LEN};
 ghost use Rattle.sftp_model.specs.Lengths.{session_lengths, session_len, advertised_len, packet_len_of};
 
 use crate::config::Limits;
+use crate::numbers;
 
-/// A session's read length and write length, in bytes, each from 1 to 1048275: what the server's limits
+/// A session's read length and write length, in bytes, each from 1 to `MAX_TRANSFER_LEN`: what the server's limits
 /// advertise, 32768 where they say nothing, and at most the options `max_read_len` and `max_write_len`
 /// (OpenSSH's PROTOCOL, section 4.8).
 pub fn session_lengths(
@@ -12,8 +14,8 @@ pub fn session_lengths(
     max_write_len: Option<u32>,
 ) -> (u32, u32)
     ensures value { result ≡ session_lengths limits max_read_len max_write_len }
-    ensures read_range { (1 ≤ result.0) × (result.0 ≤ 1048275) }
-    ensures write_range { (1 ≤ result.1) × (result.1 ≤ 1048275) }
+    ensures read_range { (1 ≤ result.0) × (result.0 ≤ MAX_TRANSFER_LEN) }
+    ensures write_range { (1 ≤ result.1) × (result.1 ≤ MAX_TRANSFER_LEN) }
 {
     match limits {
         None => (
@@ -35,9 +37,6 @@ pub fn session_lengths(
 
 /// Bytes of a READ or WRITE where the server sets no length.
 const DEFAULT_LEN: u32 = 32768;
-
-/// The most bytes of a READ or WRITE: a frame's 1048575, less 300 for all but the content.
-const GREATEST_LEN: u32 = 1048275;
 
 /// A length of the limits as a uint32.
 fn advertised_len(packet_len: u64, len: u64) -> u32
@@ -66,11 +65,11 @@ fn packet_len_of(packet_len: u64) -> u32
 /// The least of a length, the option and the greatest length, and at least 1.
 fn session_len(most: Option<u32>, len: u32) -> u32
     ensures value { result ≡ session_len most len }
-    ensures range { (1 ≤ result) × (result ≤ 1048275) }
+    ensures range { (1 ≤ result) × (result ≤ MAX_TRANSFER_LEN) }
 {
     let capped = match most {
         None => len,
         Some(most) => most.min(len),
     };
-    GREATEST_LEN.min(capped).max(1)
+    numbers::MAX_TRANSFER_LEN.min(capped).max(1)
 }

@@ -43,3 +43,4 @@ pub use remote_path::RemotePath;
 pub use reply::{NameEntry, Reply};
 pub use request::Request;
 pub use slot::{Buffer, Facts, FileAt, Move, Site, Slot};
+pub use ssh_encoding::OutOfMemory;

@@ -41,7 +41,7 @@ pub enum Reply {
     Names(Items<NameEntry>),
     /// ATTRS.
     Attrs(FileAttrs),
-    /// EXTENDED_REPLY: the bytes behind the id.
+    /// EXTENDED_REPLY: the bytes after the id.
     Extended(ByteText),
 }
 

@@ -4,19 +4,19 @@ use Rattle.std.specs.Int.RustNames.{bit_or}
 use Rattle.sftp_model.specs.declared.reply.NameEntry.{NameEntry}
 use Rattle.sftp_model.specs.declared.frame_error.FrameError.{FrameError}
 use Rattle.sftp_model.specs.Readings.{text_at, pair_bit, with_pairs}
-use Rattle.ssh_encoding.specs.Reading.{with_front}
+use Rattle.ssh_encoding.specs.Reading.{with_prefix}
 use Rattle.sftp_model.specs.ReplyReadings.{entry_at, entries_at}
 
 -- a front in two steps
-front_twice : (front more : List NameEntry) (read : Result (List NameEntry × List ℕ) FrameError) → with_front (front ++ more) read ≡ with_front front (with_front more read)
+front_twice : (front more : List NameEntry) (read : Result (List NameEntry × List ℕ) FrameError) → with_prefix (front ++ more) read ≡ with_prefix front (with_prefix more read)
 front_twice front more (Ok x) = ap (λ (l : List NameEntry). Ok (l, x.1)) (append_assoc front more x.0)
 front_twice front more (Err e) = refl
 
 pub entries_more : (front : List NameEntry) (n m : ℕ) (bytes rest : List ℕ) (entry : NameEntry) → n ≡ suc m → entry_at bytes ≡ Ok (entry, rest)
-    → with_front (front ++ entry ∷ []) (entries_at m rest) ≡ with_front front (entries_at n bytes)
+    → with_prefix (front ++ entry ∷ []) (entries_at m rest) ≡ with_prefix front (entries_at n bytes)
 entries_more front n m bytes rest entry is h = rw (is, h) (front_twice front (entry ∷ []) (entries_at m rest))
 
-pub entries_refused : (front : List NameEntry) (n m : ℕ) (bytes : List ℕ) (e : FrameError) → n ≡ suc m → entry_at bytes ≡ Err e → with_front front (entries_at n bytes) ≡ Err e
+pub entries_refused : (front : List NameEntry) (n m : ℕ) (bytes : List ℕ) (e : FrameError) → n ≡ suc m → entry_at bytes ≡ Err e → with_prefix front (entries_at n bytes) ≡ Err e
 entries_refused front n m bytes e is h = rw (is, h) refl
 
 -- bytes that are not at their end

@@ -2,7 +2,8 @@
 use Rattle.std.specs.Prelude.{ℕ, Bool, true, false, ◌≡◌, ◌<◌, ◌≤◌, ◌-◌, ◌^◌, List, [], ◌∷◌, ◌++◌, length, min, Option, Some, None}
 use Rattle.std.specs.List.{flat_map}
 use Rattle.ssh_encoding.specs.Writing.{uint32, uint64, string}
-use Rattle.sftp_model.specs.Frames.{body_limit, attributes, name_entry, extension_pairs, extension_table, request_body, reply_body}
+use Rattle.sftp_model.specs.Numbers.{MAX_BODY_LEN}
+use Rattle.sftp_model.specs.Frames.{attributes, name_entry, extension_pairs, extension_table, request_body, reply_body}
 use Rattle.sftp_model.specs.Pieces.{joined}
 use Rattle.sftp_wire.specs.declared.body.Field.{Field}
 use Rattle.sftp_wire.specs.declared.body.Field.TheVariants as fields
@@ -41,10 +42,10 @@ saturated n = min n (2 ^ 64 - 1)
 
 -- a length within the limit of bodies, or that it is over it
 abbrev pub Measures : Option ℕ → ℕ → Type 0
-Measures None len = body_limit < len
-Measures (Some n) len = (n ≡ len) × (len ≤ body_limit)
+Measures None len = MAX_BODY_LEN < len
+Measures (Some n) len = (n ≡ len) × (len ≤ MAX_BODY_LEN)
 
--- new is old and more behind it
+-- new is old and more after it
 pub record Grows (old new : List ℕ) : Type 0 where
   pub more : List ℕ
   pub is : new ≡ old ++ more

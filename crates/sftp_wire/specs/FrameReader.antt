@@ -6,7 +6,7 @@ use Rattle.sftp_model.specs.declared.frame_error.FormatKind.{FormatKind}
 use Rattle.sftp_model.specs.declared.frame_error.FormatKind.TheVariants as kinds
 use Rattle.sftp_model.specs.declared.frame_error.FrameError.{FrameError}
 use Rattle.sftp_model.specs.declared.frame_error.FrameError.TheVariants as errors
-use Rattle.sftp_model.specs.Frames.{body_limit}
+use Rattle.sftp_model.specs.Numbers.{MAX_BODY_LEN}
 
 -- the bytes that were taken, and the refusal that is kept in place of more
 pub record Received : Type 0 where
@@ -30,7 +30,7 @@ abbrev pub fault_of_len : Option ℕ → Option FormatKind
 fault_of_len None = None
 fault_of_len (Some len) =
     if len == 0 then Some kinds.Length
-    else if nat_lt body_limit len then Some kinds.Overflow
+    else if nat_lt MAX_BODY_LEN len then Some kinds.Overflow
     else None
 
 abbrev pub fault_of : List ℕ → Option FormatKind
@@ -48,7 +48,7 @@ abbrev pub need_where : Option FormatKind → List ℕ → ℕ
 need_where None bytes = missing bytes
 need_where (Some kind) bytes = 1
 
--- how many bytes are missing to the end of the length, or of the body; 1 behind a refusal
+-- how many bytes are missing to the end of the length, or of the body; 1 after a refusal
 abbrev pub need_of : Received → ℕ
 need_of r = need_where r.refused r.bytes
 
@@ -68,7 +68,7 @@ fault_where (Some kind) bytes = Some kind
 abbrev pub fault_with : Received → List ℕ → Option FormatKind
 fault_with r bytes = fault_where r.refused (r.bytes ++ bytes)
 
--- the bytes came behind those before them
+-- the bytes came after those before them
 abbrev pub Pushed : Received → List ℕ → Received → Type 0
 Pushed old bytes new = (fault_with old bytes ≡ None) × (new ≡ record { bytes = old.bytes ++ bytes; refused = None })
 
@@ -78,7 +78,7 @@ NotPushed old bytes new errors.OutOfMemory = new ≡ old
 NotPushed old bytes new (errors.Format kind) = (fault_with old bytes ≡ Some kind) × (new ≡ record { bytes = old.bytes; refused = Some kind })
 NotPushed old bytes new (errors.HandleTooLong len) = ⊥
 
--- what the kept bytes are: a front of a frame, with the length that they tell
+-- what the kept bytes are: a prefix of a frame, with the length that they tell
 pub record IsFront (bytes : List ℕ) (len : Option ℕ) : Type 0 where
   pub told : len ≡ len_of bytes
   pub good : fault_of_len len ≡ None

@@ -17,11 +17,11 @@ abbrev pub Gives : {T : Type 0} → Result T FrameError → Result T FrameError 
 Gives (Ok v) read = read ≡ Ok v
 Gives (Err e) read = IsMemory e ⊎ (read ≡ Err e)
 
--- fields behind which nothing may stand, and whose handles are short
+-- fields after which nothing may stand, and whose handles are short
 abbrev pub to_end : {A : Type 0} → (A → List (List ℕ)) → Result ((Option ℕ × A) × List ℕ) FrameError → Result (Option ℕ × A) FrameError
 to_end handles fields = fields >>= λ f. whole f >>= λ read. with_short_handles (handles read.1) read
 
--- what stands behind a value that is dropped
+-- what stands after a value that is dropped
 abbrev pub passed_to : Result (List ℕ) FrameError → Result (Unit {0} × List ℕ) FrameError
 passed_to rest = rest >>= λ bytes. Ok (tt, bytes)
 
@@ -33,6 +33,6 @@ abbrev pub GivesAs : {T S : Type 0} → (T → S) → Result T FrameError → Re
 GivesAs seen (Ok v) read = read ≡ Ok (seen v)
 GivesAs seen (Err e) read = IsMemory e ⊎ (read ≡ Err e)
 
--- fields behind an id that was read before
+-- fields after an id that was read before
 abbrev pub behind : {A : Type 0} → Option ℕ → Result (A × List ℕ) FrameError → Result ((Option ℕ × A) × List ℕ) FrameError
 behind id fields = fields >>= λ read. Ok ((id, read.0), read.1)

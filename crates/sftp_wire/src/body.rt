@@ -6,7 +6,7 @@ ghost use Rattle.sftp_wire.specs.Body.{body_bytes};
 use crate::names;
 use bitflags::Flags;
 use bytes::Bytes;
-use sftp_model::{Extensions, FileAttrs, NameEntry, Reply, Request};
+use sftp_model::{Extensions, FileAttrs, NameEntry, Reply, Request, numbers};
 
 /// A field of a body, as it is written.
 #[derive(Clone, Copy)]
@@ -86,22 +86,25 @@ impl<'a> Body<'a> {
     {
         use Field::{Attributes, Long, Number, Pieces, Text};
         match request {
-            Request::Init { version } => without_id(1, one(Number(*version))),
+            Request::Init { version } => without_id(numbers::SSH_FXP_INIT, one(Number(*version))),
             Request::OpenFile { path, flags, attrs } => of_type(
-                3,
+                numbers::SSH_FXP_OPEN,
                 three(
                     Text(path.as_bytes()),
                     Number(flags.bits()),
                     Attributes(*attrs),
                 ),
             ),
-            Request::Close { handle } => of_type(4, one(Text(handle.as_bytes()))),
+            Request::Close { handle } => of_type(
+                numbers::SSH_FXP_CLOSE,
+                one(Text(handle.as_bytes())),
+            ),
             Request::Read {
                 handle,
                 offset,
                 len,
             } => of_type(
-                5,
+                numbers::SSH_FXP_READ,
                 three(Text(handle.as_bytes()), Long(*offset), Number(*len)),
             ),
             Request::Write {
@@ -109,44 +112,62 @@ impl<'a> Body<'a> {
                 offset,
                 content,
             } => of_type(
-                6,
+                numbers::SSH_FXP_WRITE,
                 three(
                     Text(handle.as_bytes()),
                     Long(*offset),
                     Pieces(content.pieces()),
                 ),
             ),
-            Request::Lstat { path } => of_type(7, one(Text(path.as_bytes()))),
-            Request::Fstat { handle } => of_type(8, one(Text(handle.as_bytes()))),
+            Request::Lstat { path } => of_type(numbers::SSH_FXP_LSTAT, one(Text(path.as_bytes()))),
+            Request::Fstat { handle } => of_type(
+                numbers::SSH_FXP_FSTAT,
+                one(Text(handle.as_bytes())),
+            ),
             Request::Setstat { path, attrs } => of_type(
-                9,
+                numbers::SSH_FXP_SETSTAT,
                 two(Text(path.as_bytes()), Attributes(*attrs)),
             ),
             Request::Fsetstat { handle, attrs } => of_type(
-                10,
+                numbers::SSH_FXP_FSETSTAT,
                 two(Text(handle.as_bytes()), Attributes(*attrs)),
             ),
-            Request::Opendir { path } => of_type(11, one(Text(path.as_bytes()))),
-            Request::Readdir { handle } => of_type(12, one(Text(handle.as_bytes()))),
-            Request::Remove { path } => of_type(13, one(Text(path.as_bytes()))),
+            Request::Opendir { path } => of_type(
+                numbers::SSH_FXP_OPENDIR,
+                one(Text(path.as_bytes())),
+            ),
+            Request::Readdir { handle } => of_type(
+                numbers::SSH_FXP_READDIR,
+                one(Text(handle.as_bytes())),
+            ),
+            Request::Remove { path } => of_type(
+                numbers::SSH_FXP_REMOVE,
+                one(Text(path.as_bytes())),
+            ),
             Request::Mkdir { path, attrs } => of_type(
-                14,
+                numbers::SSH_FXP_MKDIR,
                 two(Text(path.as_bytes()), Attributes(*attrs)),
             ),
-            Request::Rmdir { path } => of_type(15, one(Text(path.as_bytes()))),
-            Request::Realpath { path } => of_type(16, one(Text(path.as_bytes()))),
-            Request::Stat { path } => of_type(17, one(Text(path.as_bytes()))),
+            Request::Rmdir { path } => of_type(numbers::SSH_FXP_RMDIR, one(Text(path.as_bytes()))),
+            Request::Realpath { path } => of_type(
+                numbers::SSH_FXP_REALPATH,
+                one(Text(path.as_bytes())),
+            ),
+            Request::Stat { path } => of_type(numbers::SSH_FXP_STAT, one(Text(path.as_bytes()))),
             Request::Rename { old, to } => of_type(
-                18,
+                numbers::SSH_FXP_RENAME,
                 two(Text(old.as_bytes()), Text(to.as_bytes())),
             ),
-            Request::Readlink { path } => of_type(19, one(Text(path.as_bytes()))),
+            Request::Readlink { path } => of_type(
+                numbers::SSH_FXP_READLINK,
+                one(Text(path.as_bytes())),
+            ),
             Request::Symlink { src, dst } => of_type(
-                20,
+                numbers::SSH_FXP_SYMLINK,
                 two(Text(src.as_bytes()), Text(dst.as_bytes())),
             ),
             Request::PosixRename { old, to } => of_type(
-                200,
+                numbers::SSH_FXP_EXTENDED,
                 three(
                     Text(names::POSIX_RENAME),
                     Text(old.as_bytes()),
@@ -154,7 +175,7 @@ impl<'a> Body<'a> {
                 ),
             ),
             Request::Hardlink { old, to } => of_type(
-                200,
+                numbers::SSH_FXP_EXTENDED,
                 three(
                     Text(names::HARDLINK),
                     Text(old.as_bytes()),
@@ -162,11 +183,11 @@ impl<'a> Body<'a> {
                 ),
             ),
             Request::Fsync { handle } => of_type(
-                200,
+                numbers::SSH_FXP_EXTENDED,
                 two(Text(names::FSYNC), Text(handle.as_bytes())),
             ),
             Request::ExpandPath { path } => of_type(
-                200,
+                numbers::SSH_FXP_EXTENDED,
                 two(Text(names::EXPAND_PATH), Text(path.as_bytes())),
             ),
             Request::CopyData {
@@ -176,7 +197,7 @@ impl<'a> Body<'a> {
                 to,
                 to_offset,
             } => of_type(
-                200,
+                numbers::SSH_FXP_EXTENDED,
                 [
                     Text(names::COPY_DATA),
                     Text(from.as_bytes()),
@@ -186,7 +207,7 @@ impl<'a> Body<'a> {
                     Long(*to_offset),
                 ],
             ),
-            Request::LimitsQuery => of_type(200, one(Text(names::LIMITS))),
+            Request::LimitsQuery => of_type(numbers::SSH_FXP_EXTENDED, one(Text(names::LIMITS))),
         }
     }
 
@@ -200,24 +221,33 @@ impl<'a> Body<'a> {
             Reply::Version {
                 version,
                 extensions,
-            } => without_id(2, two(Number(*version), Pairs(*extensions))),
+            } => without_id(
+                numbers::SSH_FXP_VERSION,
+                two(Number(*version), Pairs(*extensions)),
+            ),
             Reply::Status {
                 code,
                 message,
                 language,
             } => of_type(
-                101,
+                numbers::SSH_FXP_STATUS,
                 three(
                     Number(*code),
                     Text(message.as_slice()),
                     Text(language.as_slice()),
                 ),
             ),
-            Reply::Handle(handle) => of_type(102, one(Text(handle.as_bytes()))),
-            Reply::Content(content) => of_type(103, one(Text(content.as_slice()))),
-            Reply::Names(names) => of_type(104, one(Entries(names.as_slice()))),
-            Reply::Attrs(attrs) => of_type(105, one(Attributes(*attrs))),
-            Reply::Extended(content) => of_type(201, one(Raw(content.as_slice()))),
+            Reply::Handle(handle) => of_type(numbers::SSH_FXP_HANDLE, one(Text(handle.as_bytes()))),
+            Reply::Content(content) => of_type(
+                numbers::SSH_FXP_DATA,
+                one(Text(content.as_slice())),
+            ),
+            Reply::Names(names) => of_type(numbers::SSH_FXP_NAME, one(Entries(names.as_slice()))),
+            Reply::Attrs(attrs) => of_type(numbers::SSH_FXP_ATTRS, one(Attributes(*attrs))),
+            Reply::Extended(content) => of_type(
+                numbers::SSH_FXP_EXTENDED_REPLY,
+                one(Raw(content.as_slice())),
+            ),
         }
     }
 }

@@ -1,4 +1,4 @@
-// Fields behind the bytes of a vector. A refusal may leave a front of a field there.
+// Fields after the bytes of a vector. A refusal may leave a prefix of a field there.
 ghost use Rattle.std.specs.Prelude.{◌≡◌, ◌<◌, ◌^◌, ◌++◌, [], ◌∷◌, length, OnOk, OnErr};
 ghost use Rattle.std.specs.List.{flat_map};
 ghost use Rattle.ssh_encoding.specs.Writing.{uint32, uint64, string};
@@ -11,7 +11,7 @@ use crate::measure::{pieces_len, where_there};
 use crate::names;
 use bitflags::Flags;
 use bytes::Bytes;
-use sftp_model::{Extensions, FileAttrs, NameEntry};
+use sftp_model::{Extensions, FileAttrs, NameEntry, numbers};
 use ssh_encoding::{Encode, Error, OutOfMemory, Writer};
 
 #[tactic(auto, using(crate::proofs::Puts::puts))]
@@ -99,10 +99,10 @@ fn put_two_numbers(numbers: (u32, u32), out: &mut Vec<u8>) -> Result<(), Error>
 fn attribute_bits(attrs: &FileAttrs) -> u32
     ensures { result ≡ attribute_bits attrs.now }
 {
-    where_there(&attrs.size, 1)
-        + where_there(&attrs.id, 2)
-        + where_there(&attrs.permissions, 4)
-        + where_there(&attrs.time, 8)
+    where_there(&attrs.size, numbers::SSH_FILEXFER_ATTR_SIZE)
+        + where_there(&attrs.id, numbers::SSH_FILEXFER_ATTR_UIDGID)
+        + where_there(&attrs.permissions, numbers::SSH_FILEXFER_ATTR_PERMISSIONS)
+        + where_there(&attrs.time, numbers::SSH_FILEXFER_ATTR_ACMODTIME)
 }
 
 #[tactic(auto, using(crate::proofs::Puts::puts))]

@@ -1,14 +1,12 @@
 ghost use Rattle.std.specs.Prelude.{◌≡◌, ◌≤◌, length, ◌+◌, drop, None, Some, MatchOption, IfOk, IfSome, IfErr, OnOk};
 ghost use Rattle.ssh_encoding.specs.Writing.{string};
+ghost use Rattle.sftp_model.specs.Numbers.{MAX_BODY_LEN};
 ghost use Rattle.sftp_wire.specs.FrameReader.{nothing, need_of, body_of, Pushed, NotPushed, fault_of_len, told_len, len_of, missing_with};
 
-use sftp_model::{FormatKind, FrameError};
+use sftp_model::{FormatKind, FrameError, numbers};
 use ssh_encoding::Decode;
 use std::alloc::Global;
 use std::marker::Model;
-
-/// The greatest length of a body.
-pub(crate) const BODY_LIMIT: u32 = 1048575;
 
 /// Takes one frame in any pieces (draft-ietf-secsh-filexfer-02, section 3). A contract sees the bytes that
 /// were taken since it was cleared, and the refusal that it keeps.
@@ -49,12 +47,12 @@ fn fault(body_len: Option<u32>) -> Option<FormatKind>
     match body_len {
         None => None,
         Some(0) => Some(FormatKind::Length),
-        Some(len) if len > BODY_LIMIT => Some(FormatKind::Overflow),
+        Some(len) if len > numbers::MAX_BODY_LEN => Some(FormatKind::Overflow),
         Some(_) => None,
     }
 }
 
-/// The bytes behind the length, where just so many came.
+/// The bytes after the length, where just so many came.
 fn body(bytes: &[u8]) -> &[u8]
     requires length { 4 ≤ length bytes.now }
     requires whole { length bytes.now ≡ 4 + told_len bytes.now }
@@ -80,10 +78,10 @@ impl FrameReader {
     }
 
     /// How many bytes are missing to the end of the length, or of the body: 0 exactly where a frame is whole,
-    /// and 1 behind a refusal.
+    /// and 1 after a refusal.
     pub fn need(&self) -> usize
         ensures need { result ≡ need_of self.now }
-        ensures bounded { self.now.refused ≡ None → length self.now.bytes + result ≤ 1048579 }
+        ensures bounded { self.now.refused ≡ None → length self.now.bytes + result ≤ 4 + MAX_BODY_LEN }
     {
         match (self.refused, self.body_len) {
             (Some(_), _) => 1,
@@ -94,7 +92,7 @@ impl FrameReader {
 
     /// Takes the next bytes, at most as many as are missing. `OutOfMemory` leaves the reader as it was. Where the
     /// length is told then, `Format(Length)` exactly where it is 0, and `Format(Overflow)` exactly where it is over
-    /// 1048575: these bytes aren't kept, and each further push is refused so, until `clear`.
+    /// `MAX_BODY_LEN`: these bytes aren't kept, and each further push is refused so, until `clear`.
     pub fn push(&mut self, bytes: &[u8]) -> Result<(), FrameError>
         requires { length bytes.now ≤ need_of self.old }
         ensures ok { OnOk result (Pushed self.old bytes.now self.new) }
@@ -123,7 +121,7 @@ impl FrameReader {
     /// The body of the frame, once it is whole.
     pub fn frame(&self) -> Option<&[u8]>
         ensures body { MatchOption result (body_of self.now ≡ None) (λ b. body_of self.now ≡ Some b.now) }
-        ensures spelled { IfSome result (λ b. (self.now.bytes ≡ string b.now) × (length b.now ≤ 1048575)) }
+        ensures spelled { IfSome result (λ b. (self.now.bytes ≡ string b.now) × (length b.now ≤ MAX_BODY_LEN)) }
     {
         if self.need() == 0 {
             Some(body(&self.bytes))

@@ -19,8 +19,10 @@ pub use frame_reader::FrameReader;
 pub use reading_replies::{read_limits, read_reply};
 pub use reading_requests::read_request;
 pub use sftp_model::{
-    Content, Expected, Extensions, FileAttrs, FormatKind, FrameError, Handle, Limits, NameEntry,
-    OpenFlags, RemotePath, Reply, Request, TryCopy, frames_read_back,
+    Choice, Content, Expected, Extensions, FileAttrs, FormatKind, FrameError, Handle, Limits,
+    NameEntry, OpenFlags, RemotePath, Reply, Request, ServerConfig, TryCopy, frames_read_back,
+    numbers,
 };
 pub use sftp_values::{ByteText, Items};
+pub use ssh_encoding::OutOfMemory;
 pub use write::{Message, request_len, write_body, write_reply, write_request};

@@ -7,11 +7,10 @@ ghost use Rattle.sftp_model.specs.Frames.{bit, attributes, name_entry, extension
 ghost use Rattle.sftp_wire.specs.Body.{field_bytes, body_bytes, saturated, Measures};
 
 use crate::body::{Body, Field};
-use crate::frame_reader::BODY_LIMIT;
 use crate::names;
 use bitflags::Flags;
 use bytes::Bytes;
-use sftp_model::{Extensions, FileAttrs, NameEntry};
+use sftp_model::{Extensions, FileAttrs, NameEntry, numbers};
 
 fn raw_len(bytes: &[u8]) -> usize
     ensures { result ≡ saturated (length bytes.now) }
@@ -129,14 +128,14 @@ fn fields_len(fields: &[Field]) -> usize
 }
 
 impl<'a> Body<'a> {
-    /// The number of bytes; None exactly where it is over 1048575.
+    /// The number of bytes; None exactly where it is over `MAX_BODY_LEN`.
     #[tactic(auto, using(crate::proofs::Lengths::lengths))]
     pub(crate) fn len(&self) -> Option<u32>
         ensures { (id : ℕ) → Measures result (length (body_bytes self.now id)) }
     {
-        let front = if self.has_id { 5 } else { 1 };
-        let len = fields_len(&self.fields).saturating_add(front);
-        if len > BODY_LIMIT as usize {
+        let head = if self.has_id { 5 } else { 1 };
+        let len = fields_len(&self.fields).saturating_add(head);
+        if len > numbers::MAX_BODY_LEN as usize {
             return None;
         }
         Some(len as u32)

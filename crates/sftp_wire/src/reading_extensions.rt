@@ -1,4 +1,4 @@
-// The fields of an EXTENDED behind its name (OpenSSH's PROTOCOL, section 4; `copy-data` is of
+// The fields of an EXTENDED after its name (OpenSSH's PROTOCOL, section 4; `copy-data` is of
 // draft-ietf-secsh-filexfer-extensions-00, section 7).
 ghost use Rattle.std.specs.Prelude.{Some};
 ghost use Rattle.sftp_model.specs.declared.request.Request.TheVariants as request;
@@ -8,7 +8,7 @@ ghost use Rattle.sftp_wire.specs.Reading.{Gives, behind, to_end};
 use crate::names;
 use crate::reading_fields::{finished, handle_of, long, text};
 use crate::reading_shapes::{one_handle, one_path, two_paths};
-use sftp_model::{FormatKind, FrameError, Request};
+use sftp_model::{FormatKind, FrameError, Request, numbers};
 use ssh_encoding::Reader;
 use std::alloc::Global;
 
@@ -84,7 +84,7 @@ fn copy_data<R: Reader>(
     ))
 }
 
-/// The fields behind the name of an extension. A name outside the six is `InvalidDiscriminant(200)`.
+/// The fields after the name of an extension. A name outside the six is `InvalidDiscriminant(SSH_FXP_EXTENDED)`.
 #[tactic(auto, unfolding(sftp_model::specs::RequestReadings::extension_fields_at))]
 pub(crate) fn extension<R: Reader>(
     alloc: Global,
@@ -108,6 +108,6 @@ pub(crate) fn extension<R: Reader>(
         finished(reader)?;
         Ok((Some(id), Request::LimitsQuery))
     } else {
-        Err(FrameError::Format(FormatKind::InvalidDiscriminant(200)))
+        Err(FrameError::Format(FormatKind::InvalidDiscriminant(numbers::SSH_FXP_EXTENDED)))
     }
 }

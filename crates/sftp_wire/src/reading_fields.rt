@@ -1,12 +1,13 @@
-// Fields from the front of a body (draft-ietf-secsh-filexfer-02, sections 3 and 5). A count takes no memory.
+// Fields of a body, one after another (draft-ietf-secsh-filexfer-02, sections 3 and 5). A count takes no memory.
 ghost use Rattle.std.specs.Prelude.{◌≡◌, ◌==◌, ◌≤◌, true, false, length, nat_lt, OnOk, IfOk, IfErr};
 ghost use Rattle.sftp_model.specs.declared.frame_error.FrameError.TheVariants as errors;
 ghost use Rattle.sftp_model.specs.declared.frame_error.FormatKind.TheVariants as kinds;
+ghost use Rattle.sftp_model.specs.Numbers.{MAX_BODY_LEN, MAX_HANDLE_LEN};
 ghost use Rattle.sftp_model.specs.Readings.{uint32_at, uint64_at, text_at, two_numbers_at, where_set, behind_pairs, behind_counted_pairs, attributes_at};
 ghost use Rattle.sftp_wire.specs.Reading.{ReadsField, passed, passed_to};
 
 use bytes::Bytes;
-use sftp_model::{FileAttrs, FormatKind, FrameError, Handle};
+use sftp_model::{FileAttrs, FormatKind, FrameError, Handle, numbers};
 use ssh_encoding::{Decode, Reader};
 use std::alloc::Global;
 
@@ -24,7 +25,7 @@ pub(crate) fn long<R: Reader>(alloc: Global, reader: &mut R) -> Result<u64, Fram
 
 pub(crate) fn text<R: Reader>(alloc: Global, reader: &mut R) -> Result<Vec<u8>, FrameError>
     ensures read { ReadsField (λ v. v.items) (R.left reader.new) result (text_at (R.left reader.old)) }
-    ensures short { IfOk result (λ v. length v.items ≤ 1048575) }
+    ensures short { IfOk result (λ v. length v.items ≤ MAX_BODY_LEN) }
 {
     Ok(Vec::<u8>::decode(alloc, reader)?)
 }
@@ -124,11 +125,27 @@ pub(crate) fn attributes<R: Reader>(alloc: Global, reader: &mut R) -> Result<Fil
     ensures { ReadsField (λ a. a) (R.left reader.new) result (attributes_at (R.left reader.old)) }
 {
     let flags = number(alloc, reader)?;
-    let size = long_where(alloc, flags & 1 != 0, reader)?;
-    let id = two_where(alloc, flags & 2 != 0, reader)?;
-    let permissions = number_where(alloc, flags & 4 != 0, reader)?;
-    let time = two_where(alloc, flags & 8 != 0, reader)?;
-    counted_pairs_where(alloc, flags & 0x8000_0000 != 0, reader)?;
+    let size = long_where(alloc, flags & numbers::SSH_FILEXFER_ATTR_SIZE != 0, reader)?;
+    let id = two_where(
+        alloc,
+        flags & numbers::SSH_FILEXFER_ATTR_UIDGID != 0,
+        reader,
+    )?;
+    let permissions = number_where(
+        alloc,
+        flags & numbers::SSH_FILEXFER_ATTR_PERMISSIONS != 0,
+        reader,
+    )?;
+    let time = two_where(
+        alloc,
+        flags & numbers::SSH_FILEXFER_ATTR_ACMODTIME != 0,
+        reader,
+    )?;
+    counted_pairs_where(
+        alloc,
+        flags & numbers::SSH_FILEXFER_ATTR_EXTENDED != 0,
+        reader,
+    )?;
     Ok(FileAttrs {
         size,
         id,
@@ -149,11 +166,11 @@ pub(crate) fn finished<R: Reader>(reader: &R) -> Result<(), FrameError>
     Err(FrameError::Format(FormatKind::TrailingData { remaining }))
 }
 
-/// The handle of these bytes; `HandleTooLong` exactly over 256.
+/// The handle of these bytes; `HandleTooLong` exactly over `MAX_HANDLE_LEN`.
 pub(crate) fn handle_of(bytes: &[u8]) -> Result<Handle, FrameError>
-    requires { length bytes.now ≤ 1048575 }
-    ensures ok { IfOk result (λ h. (nat_lt 256 (length bytes.now) ≡ false) × (h ≡ bytes.now)) }
-    ensures err { IfErr result (λ e. (nat_lt 256 (length bytes.now) ≡ true) × (e ≡ errors.HandleTooLong (length bytes.now))) }
+    requires { length bytes.now ≤ MAX_BODY_LEN }
+    ensures ok { IfOk result (λ h. (nat_lt MAX_HANDLE_LEN (length bytes.now) ≡ false) × (h ≡ bytes.now)) }
+    ensures err { IfErr result (λ e. (nat_lt MAX_HANDLE_LEN (length bytes.now) ≡ true) × (e ≡ errors.HandleTooLong (length bytes.now))) }
 {
     match Handle::new(bytes) {
         Some(handle) => Ok(handle),

@@ -9,7 +9,9 @@ ghost use Rattle.sftp_wire.specs.Reading.{ReadsField, Gives, to_end};
 use crate::names;
 use crate::reading_fields::{attributes, finished, handle_of, long, number, shared_text, text};
 use bitflags::Flags;
-use sftp_model::{Extensions, FormatKind, FrameError, Limits, NameEntry, RemotePath, Reply};
+use sftp_model::{
+    Extensions, FormatKind, FrameError, Limits, NameEntry, RemotePath, Reply, numbers,
+};
 use sftp_values::{ByteText, Items};
 use ssh_encoding::{Decode, Reader};
 use std::alloc::Global;
@@ -19,17 +21,17 @@ fn named_bit(name: &[u8]) -> u32
     ensures { result ≡ bit_of_name extension_table name.now }
 {
     if name == names::POSIX_RENAME {
-        1
+        Extensions::POSIX_RENAME.bits()
     } else if name == names::HARDLINK {
-        2
+        Extensions::HARDLINK.bits()
     } else if name == names::FSYNC {
-        4
+        Extensions::FSYNC.bits()
     } else if name == names::EXPAND_PATH {
-        8
+        Extensions::EXPAND_PATH.bits()
     } else if name == names::COPY_DATA {
-        16
+        Extensions::COPY_DATA.bits()
     } else if name == names::LIMITS {
-        32
+        Extensions::LIMITS.bits()
     } else {
         0
     }
@@ -206,8 +208,8 @@ fn extended<R: Reader>(alloc: Global, reader: &mut R) -> Result<(Option<u32>, Re
 }
 
 /// Reads the body of a reply, and its id, which VERSION alone lacks. `Format` and `HandleTooLong` tell the first
-/// thing that is wrong from the front on (draft-ietf-secsh-filexfer-02, sections 3, 4 and 7); `OutOfMemory` may come
-/// in place of any answer. A count takes no memory by itself.
+/// thing that is wrong, from the first byte on (draft-ietf-secsh-filexfer-02, sections 3, 4 and 7); `OutOfMemory` may
+/// come in place of any answer. A count takes no memory by itself.
 #[tactic(auto, unfolding(sftp_model::specs::ReplyReadings::reply_at, sftp_model::specs::ReplyReadings::reply_fields_at))]
 pub fn read_reply(alloc: Global, body: &[u8]) -> Result<(Option<u32>, Reply), FrameError>
     ensures { Gives result (reply_at body.now) }
@@ -215,13 +217,13 @@ pub fn read_reply(alloc: Global, body: &[u8]) -> Result<(Option<u32>, Reply), Fr
     let mut reader = body;
     let kind = u8::decode(alloc, &mut reader)?;
     match kind {
-        2 => version(alloc, &mut reader),
-        101 => status(alloc, &mut reader),
-        102 => handle(alloc, &mut reader),
-        103 => content(alloc, &mut reader),
-        104 => listing(alloc, &mut reader),
-        105 => attrs(alloc, &mut reader),
-        201 => extended(alloc, &mut reader),
+        numbers::SSH_FXP_VERSION => version(alloc, &mut reader),
+        numbers::SSH_FXP_STATUS => status(alloc, &mut reader),
+        numbers::SSH_FXP_HANDLE => handle(alloc, &mut reader),
+        numbers::SSH_FXP_DATA => content(alloc, &mut reader),
+        numbers::SSH_FXP_NAME => listing(alloc, &mut reader),
+        numbers::SSH_FXP_ATTRS => attrs(alloc, &mut reader),
+        numbers::SSH_FXP_EXTENDED_REPLY => extended(alloc, &mut reader),
         _ => Err(FrameError::Format(FormatKind::InvalidDiscriminant(kind))),
     }
 }

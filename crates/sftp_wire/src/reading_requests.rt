@@ -11,7 +11,7 @@ use crate::reading_fields::{attributes, finished, handle_of, long, number, share
 use crate::reading_shapes::{one_handle, one_path, path_and_attributes, two_paths};
 use bitflags::Flags;
 use bytes::Bytes;
-use sftp_model::{Content, FormatKind, FrameError, OpenFlags, RemotePath, Request};
+use sftp_model::{Content, FormatKind, FrameError, OpenFlags, RemotePath, Request, numbers};
 use ssh_encoding::{Decode, Reader};
 use std::alloc::Global;
 
@@ -305,9 +305,10 @@ fn extended<R: Reader>(
 }
 
 /// Reads the body of a request, and its id, which the hello alone lacks. `Format` and `HandleTooLong` tell the
-/// first thing that is wrong from the front on, a handle over 256 bytes last (draft-ietf-secsh-filexfer-02, sections
-/// 3, 4, 6 and 8); an EXTENDED by another name than the six is `InvalidDiscriminant(200)`. `OutOfMemory` may come in
-/// place of any answer. A count takes no memory by itself.
+/// first thing that is wrong, from the first byte on, and a handle over `MAX_HANDLE_LEN` last
+/// (draft-ietf-secsh-filexfer-02, sections 3, 4, 6 and 8); an EXTENDED by another name than the six is
+/// `InvalidDiscriminant(SSH_FXP_EXTENDED)`. `OutOfMemory` may come in place of any answer. A count takes no memory by
+/// itself.
 #[tactic(auto, unfolding(sftp_model::specs::RequestReadings::request_at, sftp_model::specs::RequestReadings::request_fields_at))]
 pub fn read_request(alloc: Global, body: &[u8]) -> Result<(Option<u32>, Request), FrameError>
     ensures { Gives result (request_at body.now) }
@@ -315,26 +316,26 @@ pub fn read_request(alloc: Global, body: &[u8]) -> Result<(Option<u32>, Request)
     let mut reader = body;
     let kind = u8::decode(alloc, &mut reader)?;
     match kind {
-        1 => init(alloc, &mut reader),
-        3 => open_file(alloc, number(alloc, &mut reader)?, &mut reader),
-        4 => close(alloc, number(alloc, &mut reader)?, &mut reader),
-        5 => read(alloc, number(alloc, &mut reader)?, &mut reader),
-        6 => write(alloc, number(alloc, &mut reader)?, &mut reader),
-        7 => lstat(alloc, number(alloc, &mut reader)?, &mut reader),
-        8 => fstat(alloc, number(alloc, &mut reader)?, &mut reader),
-        9 => setstat(alloc, number(alloc, &mut reader)?, &mut reader),
-        10 => fsetstat(alloc, number(alloc, &mut reader)?, &mut reader),
-        11 => opendir(alloc, number(alloc, &mut reader)?, &mut reader),
-        12 => readdir(alloc, number(alloc, &mut reader)?, &mut reader),
-        13 => remove(alloc, number(alloc, &mut reader)?, &mut reader),
-        14 => mkdir(alloc, number(alloc, &mut reader)?, &mut reader),
-        15 => rmdir(alloc, number(alloc, &mut reader)?, &mut reader),
-        16 => realpath(alloc, number(alloc, &mut reader)?, &mut reader),
-        17 => stat(alloc, number(alloc, &mut reader)?, &mut reader),
-        18 => rename(alloc, number(alloc, &mut reader)?, &mut reader),
-        19 => readlink(alloc, number(alloc, &mut reader)?, &mut reader),
-        20 => symlink(alloc, number(alloc, &mut reader)?, &mut reader),
-        200 => extended(alloc, number(alloc, &mut reader)?, &mut reader),
+        numbers::SSH_FXP_INIT => init(alloc, &mut reader),
+        numbers::SSH_FXP_OPEN => open_file(alloc, number(alloc, &mut reader)?, &mut reader),
+        numbers::SSH_FXP_CLOSE => close(alloc, number(alloc, &mut reader)?, &mut reader),
+        numbers::SSH_FXP_READ => read(alloc, number(alloc, &mut reader)?, &mut reader),
+        numbers::SSH_FXP_WRITE => write(alloc, number(alloc, &mut reader)?, &mut reader),
+        numbers::SSH_FXP_LSTAT => lstat(alloc, number(alloc, &mut reader)?, &mut reader),
+        numbers::SSH_FXP_FSTAT => fstat(alloc, number(alloc, &mut reader)?, &mut reader),
+        numbers::SSH_FXP_SETSTAT => setstat(alloc, number(alloc, &mut reader)?, &mut reader),
+        numbers::SSH_FXP_FSETSTAT => fsetstat(alloc, number(alloc, &mut reader)?, &mut reader),
+        numbers::SSH_FXP_OPENDIR => opendir(alloc, number(alloc, &mut reader)?, &mut reader),
+        numbers::SSH_FXP_READDIR => readdir(alloc, number(alloc, &mut reader)?, &mut reader),
+        numbers::SSH_FXP_REMOVE => remove(alloc, number(alloc, &mut reader)?, &mut reader),
+        numbers::SSH_FXP_MKDIR => mkdir(alloc, number(alloc, &mut reader)?, &mut reader),
+        numbers::SSH_FXP_RMDIR => rmdir(alloc, number(alloc, &mut reader)?, &mut reader),
+        numbers::SSH_FXP_REALPATH => realpath(alloc, number(alloc, &mut reader)?, &mut reader),
+        numbers::SSH_FXP_STAT => stat(alloc, number(alloc, &mut reader)?, &mut reader),
+        numbers::SSH_FXP_RENAME => rename(alloc, number(alloc, &mut reader)?, &mut reader),
+        numbers::SSH_FXP_READLINK => readlink(alloc, number(alloc, &mut reader)?, &mut reader),
+        numbers::SSH_FXP_SYMLINK => symlink(alloc, number(alloc, &mut reader)?, &mut reader),
+        numbers::SSH_FXP_EXTENDED => extended(alloc, number(alloc, &mut reader)?, &mut reader),
         _ => Err(FrameError::Format(FormatKind::InvalidDiscriminant(kind))),
     }
 }

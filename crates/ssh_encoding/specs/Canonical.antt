@@ -23,7 +23,7 @@ abbrev pub signed : List ℕ → ℤ
 signed [] = pos 0
 signed (b ∷ bytes) = if nat_lt 127 b then negsuc (unsigned (inverted (b ∷ bytes))) else pos (unsigned (b ∷ bytes))
 
--- without the zeros in front
+-- without leading zeros
 abbrev pub strip : List ℕ → List ℕ
 strip [] = []
 strip (b ∷ bytes) = if b == 0 then strip bytes else b ∷ bytes

@@ -8,7 +8,7 @@ use Rattle.std.specs.Str.{is_utf8}
 use Rattle.ssh_encoding.specs.declared.error.Error.{Error}
 use Rattle.ssh_encoding.specs.declared.error.Error.TheVariants as errors
 use Rattle.ssh_encoding.specs.Canonical.{is_canonical}
-use Rattle.ssh_encoding.specs.Reading.{◌>>=◌, tested, bytes_at, number_at, byte_at, bool_at, len_at, prefix_at, prefixed, inside, all_at, string_at, text_at, mpint_at, label_at, texts_within, texts_at, with_front, max_len, max_label_len}
+use Rattle.ssh_encoding.specs.Reading.{◌>>=◌, tested, bytes_at, number_at, byte_at, bool_at, len_at, prefix_at, prefixed, inside, all_at, string_at, text_at, mpint_at, label_at, texts_within, texts_at, with_prefix, MAX_LEN, MAX_LABEL_LEN}
 use Rattle.ssh_encoding.specs.Spelling.{Begins, IsExact, IsByte, IsArray, IsFlag, IsNumber, IsLen, IsString, IsText, AreTexts, IsTextList, IsMpint, IsLabel}
 
 -- ---- steps of a reading
@@ -105,15 +105,15 @@ number_exact w bytes rest n = record {
       rw (b.splits, long, take_at b.text rest (byte_len w) b.is.len, drop_at b.text rest (byte_len w) b.is.len, ← b.is.value) refl;
 }
 
-small_len : (n : ℕ) → nat_le n max_len ≡ true → n ≤ max_len
+small_len : (n : ℕ) → nat_le n MAX_LEN ≡ true → n ≤ MAX_LEN
 small_len n h = grind arith
 
-len_small : (n : ℕ) → n ≤ max_len → nat_le n max_len ≡ true
+len_small : (n : ℕ) → n ≤ MAX_LEN → nat_le n MAX_LEN ≡ true
 len_small n h = grind arith
 
 pub len_exact : (bytes rest : List ℕ) (n : ℕ) → IsExact IsLen len_at bytes rest n
 unfolding len_at
-len_exact bytes rest n = tested_exact (IsNumber w32) IsLen (number_at w32) (λ m. nat_le m max_len) errors.Overflow bytes rest n
+len_exact bytes rest n = tested_exact (IsNumber w32) IsLen (number_at w32) (λ m. nat_le m MAX_LEN) errors.Overflow bytes rest n
     (λ text h t. record { is = h; small = small_len n t }) (λ text h. (h.is, len_small n h.small)) (number_exact w32 bytes rest n)
 
 -- a spelling of an equal value, with an equal rest
@@ -126,14 +126,14 @@ prefix_takes bytes v rest e =
     let n : ℕ = from_be_bytes w32 (take 4 bytes) in
     let tail : List ℕ = drop 4 bytes in
     let a = guard (ltb (length bytes) 4) _ _ (v, rest) e in
-    let b = guard (ltb max_len n) _ _ (v, rest) a.1 in
+    let b = guard (ltb MAX_LEN n) _ _ (v, rest) a.1 in
     let c = guard (ltb (length tail) n) _ _ (v, rest) b.1 in
     let long : 4 ≤ length bytes = ltb-false _ _ a.0 in
-    let small : n ≤ max_len = ltb-false _ _ b.0 in
+    let small : n ≤ MAX_LEN = ltb-false _ _ b.0 in
     let room : n ≤ length tail = ltb-false _ _ c.0 in
     let len : length (take n tail) ≡ n = omega (arith, length-take n tail) in
     let four : length (take 4 bytes) ≡ 4 = omega (arith, length-take 4 bytes) in
-    let short : length (take n tail) ≤ max_len = omega arith in
+    let short : length (take n tail) ≤ MAX_LEN = omega arith in
     let is : (take n tail, drop n tail) ≡ (v, rest) = ok_is _ _ c.1 in
     begins_at bytes v rest (take n tail) (drop n tail) is record {
       text = take 4 bytes ++ take n tail;
@@ -148,7 +148,7 @@ prefix_again bytes v rest h =
     let front : take 4 (h.is.head ++ (v ++ rest)) ≡ h.is.head = take_at h.is.head (v ++ rest) 4 h.is.counts.len in
     let back : drop 4 (h.is.head ++ (v ++ rest)) ≡ v ++ rest = drop_at h.is.head (v ++ rest) 4 h.is.counts.len in
     let long : ltb (length (h.is.head ++ (v ++ rest))) 4 ≡ false = le-ltb _ _ (omega (arith, length-append h.is.head (v ++ rest), h.is.counts.len)) in
-    let small : ltb max_len (length v) ≡ false = le-ltb _ _ h.is.small in
+    let small : ltb MAX_LEN (length v) ≡ false = le-ltb _ _ h.is.small in
     let room : ltb (length (v ++ rest)) (length v) ≡ false = le-ltb _ _ (omega (arith, length-append v rest)) in
     rw (e, long, front, ← h.is.counts.value, small, back, room, take_at v rest (length v) refl, drop_at v rest (length v) refl) refl
 
@@ -182,30 +182,30 @@ mpint_exact bytes rest v = tested_exact IsString IsMpint string_at is_canonical 
 
 record IsName (v text : List ℕ) : Type 0 where
   is : IsString v text
-  short : nat_le (length v) max_label_len ≡ true
+  short : nat_le (length v) MAX_LABEL_LEN ≡ true
 
 record IsNameText (v text : List ℕ) : Type 0 where
   is : IsName v text
   utf8 : is_utf8 v ≡ true
 
 abbrev short_at : List ℕ → Result (List ℕ × List ℕ) Error
-short_at bytes = tested (λ t. nat_le (length t) max_label_len) errors.Length (string_at bytes)
+short_at bytes = tested (λ t. nat_le (length t) MAX_LABEL_LEN) errors.Length (string_at bytes)
 
 abbrev name_at : List ℕ → Result (List ℕ × List ℕ) Error
 name_at bytes = tested is_utf8 errors.CharacterEncoding (short_at bytes)
 
 short_exact : (bytes rest v : List ℕ) → IsExact IsName short_at bytes rest v
-short_exact bytes rest v = tested_exact IsString IsName string_at (λ t. nat_le (length t) max_label_len) errors.Length bytes rest v
+short_exact bytes rest v = tested_exact IsString IsName string_at (λ t. nat_le (length t) MAX_LABEL_LEN) errors.Length bytes rest v
     (λ text h t. record { is = h; short = t }) (λ text h. (h.is, h.short)) (string_exact bytes rest v)
 
 name_exact : (bytes rest v : List ℕ) → IsExact IsNameText name_at bytes rest v
 name_exact bytes rest v = tested_exact IsName IsNameText short_at is_utf8 errors.CharacterEncoding bytes rest v
     (λ text h t. record { is = h; utf8 = t }) (λ text h. (h.is, h.utf8)) (short_exact bytes rest v)
 
-short_le : (n : ℕ) → nat_le n max_label_len ≡ true → n ≤ max_label_len
+short_le : (n : ℕ) → nat_le n MAX_LABEL_LEN ≡ true → n ≤ MAX_LABEL_LEN
 short_le n h = grind arith
 
-le_short : (n : ℕ) → n ≤ max_label_len → nat_le n max_label_len ≡ true
+le_short : (n : ℕ) → n ≤ MAX_LABEL_LEN → nat_le n MAX_LABEL_LEN ≡ true
 le_short n h = grind arith
 
 pub label_exact : {A : Type 0} (meaning : List ℕ → Result A Error) (bytes rest : List ℕ) (v : A) → IsExact (IsLabel meaning) (label_at meaning) bytes rest v
@@ -237,9 +237,9 @@ text_shorter : (bytes rest v : List ℕ) → Begins (IsText v) bytes rest → le
 text_shorter bytes rest v h =
     rw (ap (λ l. length l) h.splits, length-append h.text rest, ap (λ l. length l) h.is.is.is, length-append h.is.is.head v, h.is.is.counts.len) (omega arith)
 
-with_front_ok : (front : List (List ℕ)) (r : Result (List (List ℕ) × List ℕ) Error) (y : List (List ℕ) × List ℕ) → with_front front r ≡ Ok y
+with_prefix_ok : (front : List (List ℕ)) (r : Result (List (List ℕ) × List ℕ) Error) (y : List (List ℕ) × List ℕ) → with_prefix front r ≡ Ok y
     → (x : List (List ℕ) × List ℕ) × (r ≡ Ok x) × ((front ++ x.0, x.1) ≡ y)
-with_front_ok front r y e = let b = bind_ok r (λ x. Ok (front ++ x.0, x.1)) y e in (b.0, b.1, ok_is _ _ b.2)
+with_prefix_ok front r y e = let b = bind_ok r (λ x. Ok (front ++ x.0, x.1)) y e in (b.0, b.1, ok_is _ _ b.2)
 
 -- what is read to the end are texts, and nothing is left
 pub record AllTexts (vs : List (List ℕ)) (bytes rest : List ℕ) : Type 0 where
@@ -254,9 +254,9 @@ texts_takes zero [] y h e = subst (λ z. is_all z []) (ok_is _ _ e) record { tex
 texts_takes zero (b ∷ bytes) y h e = absurd (omega arith)
 texts_takes (suc most) [] y h e = subst (λ z. is_all z []) (ok_is _ _ e) record { texts = refl; none = refl }
 texts_takes (suc most) (b ∷ bytes) y h e =
-    let step = bind_ok (text_at (b ∷ bytes)) (λ text. with_front (text.0 ∷ []) (texts_within most text.1)) y e in
+    let step = bind_ok (text_at (b ∷ bytes)) (λ text. with_prefix (text.0 ∷ []) (texts_within most text.1)) y e in
     let first = (text_exact (b ∷ bytes) step.0.1 step.0.0).takes step.1 in
-    let rest = with_front_ok (step.0.0 ∷ []) (texts_within most step.0.1) y step.2 in
+    let rest = with_prefix_ok (step.0.0 ∷ []) (texts_within most step.0.1) y step.2 in
     let shorter : length step.0.1 + 4 ≤ length (b ∷ bytes) = text_shorter (b ∷ bytes) step.0.1 step.0.0 first in
     let later = texts_takes most step.0.1 rest.0 (omega arith) rest.1 in
     subst (λ z. is_all z (b ∷ bytes)) rest.2 record {

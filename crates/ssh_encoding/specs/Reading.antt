@@ -32,7 +32,7 @@ abbrev pub Names : {T A : Type 0} → (T → A) → Result T Error → Result A 
 Names seen (Ok v) meaning = meaning ≡ Ok (seen v)
 Names seen (Err e) meaning = (e ≡ errors.OutOfMemory) ⊎ (meaning ≡ Err e)
 
--- ---- readings: the value at the front and the bytes behind it, or the refusal
+-- ---- readings: the first value and the bytes after it, or the refusal
 
 infixl 10 ◌>>=◌
 abbrev pub ◌>>=◌ : {A B E : Type 0} → Result A E → (A → Result B E) → Result B E
@@ -45,12 +45,12 @@ tested test refusal (Ok x) = if test x.0 then Ok x else Err refusal
 tested test refusal (Err e) = Err e
 
 -- the greatest length that is read
-abbrev pub max_len : ℕ
-max_len = 1048575
+abbrev pub MAX_LEN : ℕ
+MAX_LEN = 1048575
 
 -- the most bytes that a label has
-abbrev pub max_label_len : ℕ
-max_label_len = 48
+abbrev pub MAX_LABEL_LEN : ℕ
+MAX_LABEL_LEN = 48
 
 -- byte[n]
 abbrev pub bytes_at : ℕ → List ℕ → Result (List ℕ × List ℕ) Error
@@ -73,17 +73,17 @@ number_at w bytes = if nat_lt (length bytes) (byte_len w) then Err errors.Length
 
 -- a length: a uint32 within the limit
 unfoldable pub len_at : List ℕ → Result (ℕ × List ℕ) Error
-len_at bytes = tested (λ n. nat_le n max_len) errors.Overflow (number_at w32 bytes)
+len_at bytes = tested (λ n. nat_le n MAX_LEN) errors.Overflow (number_at w32 bytes)
 
--- What stands behind a length, and what follows it; or the refusal, and where it leaves the reader.
+-- What stands after a length, and what follows it; or the refusal, and where it leaves the reader.
 unfoldable pub prefix_at : List ℕ → Result (List ℕ × List ℕ) (Error × List ℕ)
 prefix_at bytes =
     if nat_lt (length bytes) 4 then Err (errors.Length, bytes)
-    else if nat_lt max_len (from_be_bytes w32 (take 4 bytes)) then Err (errors.Overflow, drop 4 bytes)
+    else if nat_lt MAX_LEN (from_be_bytes w32 (take 4 bytes)) then Err (errors.Overflow, drop 4 bytes)
     else if nat_lt (length (drop 4 bytes)) (from_be_bytes w32 (take 4 bytes)) then Err (errors.Length, drop 4 bytes)
     else Ok (take (from_be_bytes w32 (take 4 bytes)) (drop 4 bytes), drop (from_be_bytes w32 (take 4 bytes)) (drop 4 bytes))
 
--- What a reading makes of the bytes behind a length.
+-- What a reading makes of the bytes after a length.
 abbrev pub inside : {A : Type 0} → (List ℕ → Result (A × List ℕ) Error) → Result (List ℕ × List ℕ) (Error × List ℕ) → Result (A × List ℕ) Error
 inside reading (Ok p) = reading p.0 >>= λ x. Ok (x.0, p.1)
 inside reading (Err r) = Err r.0
@@ -110,19 +110,19 @@ mpint_at bytes = tested is_canonical errors.MpintEncoding (string_at bytes)
 -- a name: a string of at most 48 bytes in UTF-8 that has a meaning
 unfoldable pub label_at : {A : Type 0} → (List ℕ → Result A Error) → List ℕ → Result (A × List ℕ) Error
 label_at meaning bytes = do
-  text ← tested is_utf8 errors.CharacterEncoding (tested (λ t. nat_le (length t) max_label_len) errors.Length (string_at bytes))
+  text ← tested is_utf8 errors.CharacterEncoding (tested (λ t. nat_le (length t) MAX_LABEL_LEN) errors.Length (string_at bytes))
   label ← meaning text.0
   Ok (label, text.1)
 
--- what is read, behind what was read before
-abbrev pub with_front : {A E : Type 0} → List A → Result (List A × List ℕ) E → Result (List A × List ℕ) E
-with_front front read = read >>= λ x. Ok (front ++ x.0, x.1)
+-- what is read, after what was read before
+abbrev pub with_prefix : {A E : Type 0} → List A → Result (List A × List ℕ) E → Result (List A × List ℕ) E
+with_prefix prefix read = read >>= λ x. Ok (prefix ++ x.0, x.1)
 
 -- texts to the end of the list; each takes four bytes or more, so `most` is at most the number of bytes
 abbrev pub texts_within : ℕ → List ℕ → Result (List (List ℕ) × List ℕ) Error
 texts_within zero bytes = Ok ([], bytes)
 texts_within (suc most) [] = Ok ([], [])
-texts_within (suc most) (b ∷ bytes) = text_at (b ∷ bytes) >>= λ text. with_front (text.0 ∷ []) (texts_within most text.1)
+texts_within (suc most) (b ∷ bytes) = text_at (b ∷ bytes) >>= λ text. with_prefix (text.0 ∷ []) (texts_within most text.1)
 
 abbrev pub texts_at : List ℕ → Result (List (List ℕ) × List ℕ) Error
 texts_at bytes = texts_within (length bytes) bytes
@@ -144,7 +144,7 @@ text_within most bytes = string_within most bytes >>= λ p. if is_utf8 p.0 then 
 unfoldable pub string_len_at : List ℕ → Result (ℕ × List ℕ) (Error × List ℕ)
 string_len_at bytes = prefix_at bytes >>= λ p. Ok (length p.0, p.1)
 
--- A reader of the bytes behind a length was found, and the other one stands behind the length.
+-- A reader of the bytes after a length was found, and the other one stands after the length.
 abbrev pub FindsPrefix : {S : Type 0} → (S → List ℕ) → List ℕ → Result S Error → List ℕ → Result (List ℕ × List ℕ) (Error × List ℕ) → Type 0
 FindsPrefix left old (Ok inner) new read = (read ≡ Ok (left inner, drop (length (left inner)) new)) × (left inner ≡ take (length (left inner)) new) × (length (left inner) ≤ length new) × (new ≡ drop 4 old)
 FindsPrefix left old (Err e) new read = read ≡ Err (e, new)
@@ -156,7 +156,7 @@ pub record Lent {S F T : Type 0} (g : Once F (MutBor S × Unit {0}) (T × (MutBo
   pub shows : left inner ≡ bytes
   pub met : FnOnceReturnsAtMut g f inner result after
 
--- What `read_prefixed` does to a reader that held old and then holds new: behind the bytes after Ok, behind the length after the closure's own refusal.
+-- What `read_prefixed` does to a reader that held old and then holds new: after the bytes on Ok, after the length on the closure's own refusal.
 abbrev pub ReadsPrefixed : {F S T E : Type 0} → Once F (MutBor S × Unit {0}) (Result T E × (MutBor S × Unit {0})) → (S → List ℕ) → (Error → E → Type 0) → F → List ℕ → Result T E → List ℕ → Result (List ℕ × List ℕ) (Error × List ℕ) → Type 0
 ReadsPrefixed g left gives f old result new (Err r) = IsErrAnd result (gives r.0) × (new ≡ r.1)
 ReadsPrefixed g left gives f old result new (Ok p) = Lent g left f p.0 result × (new ≡ (if is_ok result then p.1 else drop 4 old))

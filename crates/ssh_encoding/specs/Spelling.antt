@@ -2,7 +2,7 @@
 use Rattle.std.specs.Prelude.{ℕ, ◌≡◌, ◌≤◌, ◌<◌, ◌==◌, Bool, true, not, List, [], ◌∷◌, ◌++◌, length, get_or, Result, Ok}
 use Rattle.std.specs.Int.{Width, w32, byte_len, from_be_bytes}
 use Rattle.std.specs.Str.{is_utf8}
-use Rattle.ssh_encoding.specs.Reading.{max_len, max_label_len}
+use Rattle.ssh_encoding.specs.Reading.{MAX_LEN, MAX_LABEL_LEN}
 use Rattle.ssh_encoding.specs.Canonical.{is_canonical}
 use Rattle.ssh_encoding.specs.declared.error.Error.{Error}
 
@@ -43,14 +43,14 @@ pub record IsNumber (w : Width) (n : ℕ) (text : List ℕ) : Type 0 where
 -- a number within the limit of lengths
 pub record IsLen (n : ℕ) (text : List ℕ) : Type 0 where
   pub is : IsNumber w32 n text
-  pub small : n ≤ max_len
+  pub small : n ≤ MAX_LEN
 
 -- four bytes of length, and that many bytes
 pub record IsString (v text : List ℕ) : Type 0 where
   pub head : List ℕ
   pub counts : IsNumber w32 (length v) head
   pub is : text ≡ head ++ v
-  pub small : length v ≤ max_len
+  pub small : length v ≤ MAX_LEN
 
 -- a string in UTF-8
 pub record IsText (v text : List ℕ) : Type 0 where
@@ -77,6 +77,6 @@ pub record IsMpint (v text : List ℕ) : Type 0 where
 pub record IsLabel {A : Type 0} (meaning : List ℕ → Result A Error) (v : A) (text : List ℕ) : Type 0 where
   pub name : List ℕ
   pub is : IsString name text
-  pub short : length name ≤ max_label_len
+  pub short : length name ≤ MAX_LABEL_LEN
   pub utf8 : is_utf8 name ≡ true
   pub means : meaning name ≡ Ok v

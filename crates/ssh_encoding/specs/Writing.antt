@@ -40,7 +40,7 @@ len_refusal n = if nat_lt max_uint32 n then Some errors.Overflow else None
 abbrev pub string_refusal : List ℕ → Option Error
 string_refusal bytes = len_refusal (length bytes)
 
--- n bytes behind their length: whether `usize` holds it, whether four bytes hold it, and last the bytes' own refusal
+-- n bytes after their length: whether `usize` holds it, whether four bytes hold it, and last the bytes' own refusal
 abbrev pub or_else : Option Error → Option Error → Option Error
 or_else (Some e) last = Some e
 or_else None last = last
@@ -50,7 +50,7 @@ prefixed_refusal n last = if nat_lt max_usize n then Some errors.Length else or_
 
 -- ---- what contracts say of writing
 
--- new is old and then a front of the list
+-- new is old and then a prefix of the list
 pub record IsPart (old new list : List ℕ) : Type 0 where
   pub part : List ℕ
   pub more : List ℕ

@@ -6,11 +6,8 @@ ghost use Rattle.ssh_encoding.specs.Spelling.{Begins, IsExact, IsByte, IsArray, 
 ghost use Rattle.ssh_encoding.specs.Exact.{byte_exact, array_exact, flag_exact, number_exact, len_exact};
 
 use crate::error::Error;
-use crate::reader::Reader;
+use crate::reader::{MAX_LEN, Reader};
 use std::alloc::Global;
-
-/// The greatest length that is read, in bytes.
-const MAX_LEN: usize = 1048575;
 
 /// A type that is read from bytes.
 ///
@@ -30,7 +27,7 @@ pub trait Decode: Sized {
     /// The list spells the value.
     ghost spells: { Seen → List ℕ → Type 0 };
 
-    /// Reads a value from the front. It takes memory for what the value holds, and never by a count that it
+    /// Reads a value. It takes memory for what the value holds, and never by a count that it
     /// reads alone.
     fn decode<R: Reader>(alloc: Global, reader: &mut R) -> Result<Self, Self::Error>
         ensures read { Reads seen (Self.Error.from_gives OutOfMemory) (R.left reader.new) result (reading (R.left reader.old)) }
@@ -159,7 +156,7 @@ impl<const N: usize> Decode for [u8; N] {
     ghost exact = { array_exact N };
 }
 
-/// A length: a uint32. `Length` where fewer than four bytes are left, `Overflow` over 1048575.
+/// A length: a uint32. `Length` where fewer than four bytes are left, `Overflow` over 1048575 (`MAX_LEN`).
 impl Decode for usize {
     type Error = Error;
 

@@ -12,7 +12,7 @@ pub trait Absorb {
     /// The bytes that it took.
     ghost absorbed: { Self → List ℕ };
 
-    /// Takes the bytes. After a refusal it may have taken a front of them.
+    /// Takes the bytes. After a refusal it may have taken a prefix of them.
     fn absorb(&mut self, bytes: &[u8]) -> Result<(), OutOfMemory>
         ensures ok { OnOk result (absorbed self.new ≡ absorbed self.old ++ bytes.now) }
         ensures err { OnErr result (IsPart (absorbed self.old) (absorbed self.new) bytes.now) };

@@ -22,7 +22,7 @@ pub trait Encode {
 
     /// Appends the value's bytes. `Length` where a sum of lengths passes `usize::MAX`, `Overflow` where a length
     /// that is written passes `u32::MAX`, `OutOfMemory` from the writer; the writer then holds what it held and
-    /// a front of the value's bytes.
+    /// a prefix of the value's bytes.
     fn encode<W: Writer>(&self, writer: &mut W) -> Result<(), Error>
         ensures writes { Writes (W.wrote writer.old) (W.wrote writer.new) result (written self.now) (refusal self.now) }
         ensures same { W.goes_to writer.old writer.new };

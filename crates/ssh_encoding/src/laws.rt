@@ -2,7 +2,7 @@ ghost use Rattle.std.specs.Prelude.{◌≡◌, ℕ, List, Ok, ◌++◌, ◌<◌,
 ghost use Rattle.std.specs.String.{string_bytes};
 ghost use Rattle.std.specs.Str.{is_utf8};
 ghost use Rattle.std.specs.List.{flat_map};
-ghost use Rattle.ssh_encoding.specs.Reading.{max_len, max_label_len};
+ghost use Rattle.ssh_encoding.specs.Reading.{MAX_LEN, MAX_LABEL_LEN};
 ghost use Rattle.ssh_encoding.specs.Spelling.{AreBytes};
 ghost use Rattle.ssh_encoding.specs.Again.{byte_again, flag_again, number_again, long_number_again, len_again, array_again, string_again, text_again, text_list_again, mpint_again, label_again};
 ghost use Rattle.ssh_encoding.specs.Once.{byte_once, number_once, long_number_once, len_once, array_once, string_once, text_once, text_list_once, mpint_once};
@@ -75,7 +75,7 @@ impl OneSpelling for u64 {
 }
 
 impl Codec for usize {
-    ghost fits = { λ n. n ≤ max_len };
+    ghost fits = { λ n. n ≤ MAX_LEN };
 
     ghost again = { len_again };
 }
@@ -95,7 +95,7 @@ impl<const N: usize> OneSpelling for [u8; N] {
 }
 
 impl Codec for Vec<u8> {
-    ghost fits = { λ v. length v.items ≤ max_len };
+    ghost fits = { λ v. length v.items ≤ MAX_LEN };
 
     ghost again = { λ v h. string_again v.items h };
 }
@@ -105,7 +105,7 @@ impl OneSpelling for Vec<u8> {
 }
 
 impl Codec for Bytes {
-    ghost fits = { λ b. length b ≤ max_len };
+    ghost fits = { λ b. length b ≤ MAX_LEN };
 
     ghost again = { λ b h. string_again b h };
 }
@@ -115,7 +115,7 @@ impl OneSpelling for Bytes {
 }
 
 impl Codec for String {
-    ghost fits = { λ s. (length (string_bytes s) ≤ max_len) × (is_utf8 (string_bytes s) ≡ true) };
+    ghost fits = { λ s. (length (string_bytes s) ≤ MAX_LEN) × (is_utf8 (string_bytes s) ≡ true) };
 
     ghost again = { λ s h. text_again (string_bytes s) h.0 h.1 };
 }
@@ -127,7 +127,7 @@ impl OneSpelling for String {
 impl Codec for Mpint {
     ghost use Rattle.ssh_encoding.specs.Canonical.{is_canonical};
 
-    ghost fits = { λ m. (length m ≤ max_len) × (is_canonical m ≡ true) };
+    ghost fits = { λ m. (length m ≤ MAX_LEN) × (is_canonical m ≡ true) };
 
     ghost again = { λ m h. mpint_again m h.0 h.1 };
 }
@@ -137,7 +137,7 @@ impl OneSpelling for Mpint {
 }
 
 impl<L: Label> Codec for L {
-    ghost fits = { λ label. (length (L.name_of label) ≤ max_label_len) × (is_utf8 (L.name_of label) ≡ true) × (L.meaning (L.name_of label) ≡ Ok (L.label_seen label)) };
+    ghost fits = { λ label. (length (L.name_of label) ≤ MAX_LABEL_LEN) × (is_utf8 (L.name_of label) ≡ true) × (L.meaning (L.name_of label) ≡ Ok (L.label_seen label)) };
 
     ghost again = { λ label h. label_again L.meaning (L.label_seen label) (L.name_of label) h.0 h.1 h.2 };
 }
@@ -146,7 +146,7 @@ impl Codec for Vec<String> {
     ghost use Rattle.ssh_encoding.specs.Again.{AreUtf8, texts_written};
     ghost use Rattle.ssh_encoding.specs.Reading.{texts_of};
 
-    ghost fits = { λ v. (length (texts_written (texts_of v.items)) ≤ max_len) × AreUtf8 (texts_of v.items) };
+    ghost fits = { λ v. (length (texts_written (texts_of v.items)) ≤ MAX_LEN) × AreUtf8 (texts_of v.items) };
 
     ghost again = { λ v h. text_list_again v.items h.0 h.1 };
 }

@@ -59,7 +59,7 @@ fn is_same_number(a: &[u8], b: &[u8]) -> bool
     a == b
 }
 
-/// The bytes without the zeros in front.
+/// The bytes without leading zeros.
 fn stripped(bytes: &[u8]) -> &[u8]
     ensures { result.now ≡ strip bytes.now }
 {
@@ -108,7 +108,7 @@ impl Mpint {
         Mpint::from_bytes(alloc, bytes)
     }
 
-    /// The number that the bytes spell without a sign. Zeros in front may stand.
+    /// The number that the bytes spell without a sign. Leading zeros may stand.
     #[tactic(auto, using(crate::proofs::Numbers::positives))]
     pub fn from_positive_bytes(alloc: Global, bytes: &[u8]) -> Result<Mpint, Error>
         ensures ok { IfOk result (λ m. m ≡ positive bytes.now) }
@@ -128,7 +128,7 @@ impl Mpint {
         self.bytes.as_slice()
     }
 
-    /// The bytes of the number without a sign and without a 00 in front. None exactly for a number below zero.
+    /// The bytes of the number without a sign and without a leading 00. None exactly for a number below zero.
     pub fn as_positive_bytes(&self) -> Option<&[u8]>
         ensures bytes { option_map (λ s. s.now) result ≡ positive_bytes self.now }
         ensures number { MatchOption result ((n : ℕ) × (signed self.now ≡ negsuc n)) (λ s. signed self.now ≡ pos (unsigned s.now)) }

@@ -5,9 +5,9 @@ ghost use Rattle.ssh_encoding.specs.Reading.{ReadsTo, ReadsPrefixed, FindsPrefix
 use crate::error::Error;
 
 /// The greatest length that is read, in bytes. It bounds what a length from outside can ask for.
-const MAX_LEN: usize = 1048575;
+pub(crate) const MAX_LEN: usize = 1_048_575;
 
-/// What bytes are read from, front to back.
+/// What bytes are read from, the first one first.
 ///
 /// An implementation gives the first four calls; the others stand on these. `&[u8]` is a reader of the bytes
 /// that it holds.
@@ -19,10 +19,10 @@ pub trait Reader: Sized + Drop {
     fn remaining_len(&self) -> usize
         ensures { result ≡ length (left self.now) };
 
-    /// Fills `out` from the front. `Length` where fewer bytes are left; nothing is read then.
+    /// Fills `out` with the next bytes. `Length` where fewer bytes are left; nothing is read then, and `out` is as before.
     fn fill(&mut self, out: &mut [u8]) -> Result<(), Error>
         ensures ok { OnOk result ((length out.old ≤ length (left self.old)) × (out.new ≡ take (length out.old) (left self.old)) × (left self.new ≡ drop (length out.old) (left self.old))) }
-        ensures err { IfErr result (λ e. (e ≡ Error.Length) × (length (left self.old) < length out.old) × (left self.new ≡ left self.old)) }
+        ensures err { IfErr result (λ e. (e ≡ Error.Length) × (length (left self.old) < length out.old) × (left self.new ≡ left self.old) × (out.new ≡ out.old)) }
         ensures rest { IsSuffix (left self.new) (left self.old) };
 
     /// The next `n` bytes as a reader of their own. Nothing is read.
@@ -43,7 +43,7 @@ pub trait Reader: Sized + Drop {
         self.remaining_len() == 0
     }
 
-    /// Fills `out` from the front, and lends it. `Length` where fewer bytes are left; nothing is read then.
+    /// Fills `out` with the next bytes, and lends it. `Length` where fewer bytes are left; nothing is read then.
     final fn read<'o>(&mut self, out: &'o mut [u8]) -> Result<&'o [u8], Error>
         ensures ok { IfOk result (λ got. (length out.old ≤ length (left self.old)) × (got.now ≡ take (length out.old) (left self.old)) × (left self.new ≡ drop (length out.old) (left self.old))) }
         ensures err { IfErr result (λ e. (e ≡ Error.Length) × (length (left self.old) < length out.old) × (left self.new ≡ left self.old)) }
@@ -101,8 +101,8 @@ pub trait Reader: Sized + Drop {
         Ok(value)
     }
 
-    /// Reads a string into the front of `out`, and lends that front. Refused as [`Reader::read_prefixed`], and
-    /// `Length` where `out` is shorter than the string; the reader stands behind the length then.
+    /// Reads a string into a prefix of `out`, and lends that prefix. Refused as [`Reader::read_prefixed`], and
+    /// `Length` where `out` is shorter than the string; the reader stands after the length then.
     #[tactic(auto, unfolding(crate::specs::Reading::string_within), using(crate::proofs::Suffix::suffixes))]
     final fn read_byten<'o>(&mut self, out: &'o mut [u8]) -> Result<&'o [u8], Error>
         ensures read { ReadsTo (λ s. s.now) (left self.new) result (string_within (length out.old) (left self.old)) }
@@ -116,8 +116,8 @@ pub trait Reader: Sized + Drop {
         self.read(&mut out[..len])
     }
 
-    /// Reads a text into the front of `buf`, and lends it. Refused as [`Reader::read_byten`], and
-    /// `CharacterEncoding` where the string isn't UTF-8; the reader stands behind the string then.
+    /// Reads a text into a prefix of `buf`, and lends it. Refused as [`Reader::read_byten`], and
+    /// `CharacterEncoding` where the string isn't UTF-8; the reader stands after the string then.
     #[tactic(auto, unfolding(crate::specs::Reading::text_within), using(crate::proofs::Text::utf8_tests))]
     final fn read_string<'o>(&mut self, buf: &'o mut [u8]) -> Result<&'o str, Error>
         ensures read { ReadsTo (λ s. s.now) (left self.new) result (text_within (length buf.old) (left self.old)) }
@@ -130,7 +130,7 @@ pub trait Reader: Sized + Drop {
         }
     }
 
-    /// The bytes behind a length as a reader of their own. This reader then stands behind the length.
+    /// The bytes after a length as a reader of their own. This reader then stands after the length.
     /// Refused as [`Reader::read_prefixed`].
     #[tactic(auto, unfolding(crate::specs::Reading::prefix_at), using(crate::proofs::Suffix::suffixes))]
     final fn read_prefix(&mut self) -> Result<Self, Error>
@@ -149,12 +149,12 @@ pub trait Reader: Sized + Drop {
         Ok(self.front(n))
     }
 
-    /// Reads a length of four bytes and lends that many bytes to `f`. After Ok this reader stands behind them,
+    /// Reads a length of four bytes and lends that many bytes to `f`. After Ok this reader stands after them,
     /// whatever `f` left.
     ///
     /// `Length` where fewer than four bytes are left; nothing is read then. `Overflow` where the length is over
     /// 1048575, else `Length` where fewer bytes follow, else what `f` refuses: after each of these three the
-    /// reader stands behind the length.
+    /// reader stands after the length.
     final fn read_prefixed<T, E: From<Error>, F: FnOnce(&mut Self) -> Result<T, E>>(
         &mut self,
         f: F,
@@ -194,9 +194,9 @@ impl<'a> Reader for &'a [u8] {
         if all.len() < out.len() {
             return Err(Error::Length);
         }
-        let (front, rest) = all.split_at(out.len());
+        let (read, rest) = all.split_at(out.len());
         *self = rest;
-        out.copy_from_slice(front);
+        out.copy_from_slice(read);
         Ok(())
     }
 

@@ -12,7 +12,7 @@ pub trait Writer: Sized {
     /// Both write to one place. It says something of a writer that holds a `&mut`.
     ghost goes_to: { Self → Self → Type 0 };
 
-    /// Appends the bytes. `OutOfMemory` alone; a front of the bytes may stand then.
+    /// Appends the bytes. `OutOfMemory` alone; a prefix of the bytes may stand then.
     fn write(&mut self, bytes: &[u8]) -> Result<(), Error>
         ensures ok { OnOk result (wrote self.new ≡ wrote self.old ++ bytes.now) }
         ensures err { IfErr result (λ e. (e ≡ Error.OutOfMemory) × IsPart (wrote self.old) (wrote self.new) bytes.now) }

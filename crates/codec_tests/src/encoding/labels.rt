@@ -3,6 +3,7 @@ ghost use Rattle.std.specs.Prelude.{List, ℕ, Ok, Err, if◌then◌else◌, len
 ghost use Rattle.std.specs.String.{string_bytes};
 ghost use Rattle.ssh_encoding.specs.declared.error.Error.TheVariants as errors;
 
+use crate::encoding::values::{is_spelled, refusal};
 use ssh_encoding::*;
 use std::alloc::Global;
 use std::test::Fail;
@@ -31,29 +32,9 @@ impl Label for Name {
     }
 }
 
-/// What is read of a string that holds these bytes.
-fn read(alloc: Global, bytes: &[u8]) -> Result<Name> {
-    let written = bytes.encode_vec(alloc)?;
-    let mut reader = written.as_slice();
-    Name::decode(alloc, &mut reader)
-}
-
 #[test]
 fn labels(rt: HostRuntime) -> std::result::Result<(), Fail> {
-    let alloc = rt.alloc();
-    let longest = [b'a'; 48];
-    let name = read(alloc, &longest)?;
-    assert_eq!(rt; name.as_str().as_bytes(), longest.as_slice());
-    assert_eq!(rt;
-        name.encode_vec(alloc)?,
-        longest.as_slice().encode_vec(alloc)?
-    );
-    assert_eq!(rt; name.encoded_len()?, 52);
-    assert_eq!(rt; read(alloc, &[b'a'; 49]).err(), Some(Error::Length));
-    assert_eq!(rt; read(alloc, b"\xff").err(), Some(Error::CharacterEncoding));
-    assert_eq!(rt;
-        read(alloc, b"").err(),
-        Some(Error::Label(LabelError::new(alloc, "")?))
-    );
+    assert!(rt; is_spelled::<Name>(rt.alloc(), b"\0\0\0\x03ssh")?);
+    assert!(rt; refusal::<Name>(rt.alloc(), b"\0\0\0\0").is_some());
     Ok(())
 }

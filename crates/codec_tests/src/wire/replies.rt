@@ -1,9 +1,29 @@
-// Replies as bytes and back. The bytes are laid out by draft-ietf-secsh-filexfer-02, sections 3 to 5 and 7.
-use crate::wire::values::{handle, names, text, whole_attrs};
-use bytes::Bytes;
+// Replies as bytes and back. The bytes are laid out by draft-ietf-secsh-filexfer-02, sections 3 to 5 and 7, and by
+// OpenSSH's PROTOCOL, section 4.
+use crate::wire::values::{long_handle, names, no_attrs};
 use sftp_wire::*;
 use std::alloc::Global;
 use std::test::Fail;
+
+/// Frames with the id 2, which VERSION lacks.
+const FRAMES: [&[u8]; 8] = [
+    // VERSION 3 with `limits@openssh.com`
+    b"\0\0\0\x20\x02\0\0\0\x03\0\0\0\x12limits@openssh.com\0\0\0\x011",
+    // VERSION 3 with two extensions
+    b"\0\0\0\x38\x02\0\0\0\x03\0\0\0\x18posix-rename@openssh.com\0\0\0\x011\0\0\0\x09copy-data\0\0\0\x011",
+    // STATUS 4
+    b"\0\0\0\x15\x65\0\0\0\x02\0\0\0\x04\0\0\0\x02no\0\0\0\x02en",
+    // HANDLE
+    b"\0\0\0\x0d\x66\0\0\0\x02\0\0\0\x04\0\0\0\x01",
+    // DATA
+    b"\0\0\0\x0e\x67\0\0\0\x02\0\0\0\x05hello",
+    // NAME of two entries, the second with all attributes
+    b"\0\0\0\x45\x68\0\0\0\x02\0\0\0\x02\0\0\0\x01a\0\0\0\x06long a\0\0\0\0\0\0\0\x01b\0\0\0\0\0\0\0\x0f\0\0\0\0\0\0\0\x05\0\0\0\x01\0\0\0\x02\0\0\x81\xa4\0\0\0\x03\0\0\0\x04",
+    // ATTRS with all attributes
+    b"\0\0\0\x25\x69\0\0\0\x02\0\0\0\x0f\0\0\0\0\0\0\0\x05\0\0\0\x01\0\0\0\x02\0\0\x81\xa4\0\0\0\x03\0\0\0\x04",
+    // EXTENDED_REPLY
+    b"\0\0\0\x08\xc9\0\0\0\x02any",
+];
 
 fn is_written(alloc: Global, reply: &Reply, frame: &[u8]) -> Result<bool, Fail> {
     let mut out = Vec::new(alloc);
@@ -11,143 +31,88 @@ fn is_written(alloc: Global, reply: &Reply, frame: &[u8]) -> Result<bool, Fail> 
     Ok(out.as_slice() == frame)
 }
 
-fn is_same(read: &(Option<u32>, Reply), id: Option<u32>, reply: &Reply) -> bool {
-    read.0 == id && read.1 == *reply
+fn is_copied(alloc: Global, reply: &Reply) -> Result<bool, Fail> {
+    Ok(reply.try_copy(alloc)? == *reply)
 }
 
-fn is_read(alloc: Global, id: Option<u32>, reply: &Reply, frame: &[u8]) -> Result<bool, Fail> {
+/// Whether the reply that a frame carries is written as the frame, and equals its copy.
+fn is_spelled(alloc: Global, frame: &[u8]) -> Result<bool, Fail> {
     let body = frame.get(4..).ok_or("no length")?;
-    let read = read_reply(alloc, body)?;
-    Ok(is_same(&read, id, reply))
-}
-
-/// Whether a reply with the id 2 is written as these bytes, and is read from them.
-fn is_spelled(alloc: Global, id: Option<u32>, reply: Reply, frame: &[u8]) -> Result<bool, Fail> {
-    let writes = is_written(alloc, &reply, frame)?;
-    let reads = is_read(alloc, id, &reply, frame)?;
-    Ok(writes && reads)
+    let (_id, reply) = read_reply(alloc, body)?;
+    Ok(is_written(alloc, &reply, frame)? && is_copied(alloc, &reply)?)
 }
 
 #[test]
-fn replies(rt: HostRuntime) -> Result<(), Fail> {
-    let alloc = rt.alloc();
-    let reply = Reply::Version {
-        version: 3,
-        extensions: Extensions::LIMITS,
+fn every_reply(rt: HostRuntime) -> Result<(), Fail> {
+    for frame in FRAMES {
+        assert!(rt; is_spelled(rt.alloc(), frame)?);
+    }
+    Ok(())
+}
+
+fn is_read(alloc: Global, body: &[u8], reply: &Reply) -> Result<bool, Fail> {
+    let (id, read) = read_reply(alloc, body)?;
+    Ok(id == Some(2) && read == *reply)
+}
+
+/// The entries of a NAME.
+#[test]
+fn listing(rt: HostRuntime) -> Result<(), Fail> {
+    let reply = Reply::Names(names(rt.alloc())?);
+    let body = FRAMES[5].get(4..).ok_or("no length")?;
+    assert!(rt; is_read(rt.alloc(), body, &reply)?);
+    Ok(())
+}
+
+/// Attributes with a pair are read without it.
+#[test]
+fn dropped_pairs(rt: HostRuntime) -> Result<(), Fail> {
+    let attrs = FileAttrs {
+        size: Some(5),
+        ..no_attrs()
     };
+    let body = b"\x69\0\0\0\x02\x80\0\0\x01\0\0\0\0\0\0\0\x05\0\0\0\x01\0\0\0\0\0\0\0\0";
+    assert!(rt; is_read(rt.alloc(), body, &Reply::Attrs(attrs))?);
+    Ok(())
+}
+
+/// One body of each refusal.
+#[test]
+fn refusals(rt: HostRuntime) -> Result<(), Fail> {
+    let table: [(&[u8], FormatKind); 4] = [
+        // a NAME of 4294967295 entries that ends with its count
+        (b"\x68\0\0\0\x02\xff\xff\xff\xff", FormatKind::Length),
+        // a handle whose length is over the limit
+        (b"\x66\0\0\0\x02\0\x10\0\0", FormatKind::Overflow),
+        // ATTRS and a byte more
+        (
+            b"\x69\0\0\0\x02\0\0\0\0\0",
+            FormatKind::TrailingData { remaining: 1 },
+        ),
+        // an unknown type
+        (b"\x64", FormatKind::InvalidDiscriminant(100)),
+    ];
+    for (body, kind) in table {
+        assert!(rt; read_reply(rt.alloc(), body).err() == Some(FrameError::Format(kind)));
+    }
+    let body = long_handle(rt.alloc())?;
     assert!(rt;
-        is_spelled(
-            alloc,
-            None,
-            reply,
-            b"\x00\x00\x00\x20\x02\x00\x00\x00\x03\x00\x00\x00\x12\x6c\x69\x6d\x69\x74\x73\x40\x6f\x70\x65\x6e\x73\x73\x68\x2e\x63\x6f\x6d\x00\x00\x00\x01\x31"
-        )?
-    );
-    let reply = Reply::Version {
-        version: 3,
-        extensions: Extensions::POSIX_RENAME | Extensions::COPY_DATA,
-    };
-    assert!(rt;
-        is_spelled(
-            alloc,
-            None,
-            reply,
-            b"\x00\x00\x00\x38\x02\x00\x00\x00\x03\x00\x00\x00\x18\x70\x6f\x73\x69\x78\x2d\x72\x65\x6e\x61\x6d\x65\x40\x6f\x70\x65\x6e\x73\x73\x68\x2e\x63\x6f\x6d\x00\x00\x00\x01\x31\x00\x00\x00\x09\x63\x6f\x70\x79\x2d\x64\x61\x74\x61\x00\x00\x00\x01\x31"
-        )?
-    );
-    let reply = Reply::Status {
-        code: 4,
-        message: text(alloc, b"no")?,
-        language: text(alloc, b"en")?,
-    };
-    assert!(rt;
-        is_spelled(
-            alloc,
-            Some(2),
-            reply,
-            b"\x00\x00\x00\x15\x65\x00\x00\x00\x02\x00\x00\x00\x04\x00\x00\x00\x02\x6e\x6f\x00\x00\x00\x02\x65\x6e"
-        )?
-    );
-    let reply = Reply::Handle(handle(&[0, 0, 0, 1])?);
-    assert!(rt;
-        is_spelled(
-            alloc,
-            Some(2),
-            reply,
-            b"\x00\x00\x00\x0d\x66\x00\x00\x00\x02\x00\x00\x00\x04\x00\x00\x00\x01"
-        )?
-    );
-    let reply = Reply::Content(Bytes::from_vec(Vec::from_slice(alloc, b"hello")?)?);
-    assert!(rt;
-        is_spelled(
-            alloc,
-            Some(2),
-            reply,
-            b"\x00\x00\x00\x0e\x67\x00\x00\x00\x02\x00\x00\x00\x05\x68\x65\x6c\x6c\x6f"
-        )?
-    );
-    let reply = Reply::Names(names(alloc)?);
-    assert!(rt;
-        is_spelled(
-            alloc,
-            Some(2),
-            reply,
-            b"\x00\x00\x00\x45\x68\x00\x00\x00\x02\x00\x00\x00\x02\x00\x00\x00\x01\x61\x00\x00\x00\x06\x6c\x6f\x6e\x67\x20\x61\x00\x00\x00\x00\x00\x00\x00\x01\x62\x00\x00\x00\x00\x00\x00\x00\x0f\x00\x00\x00\x00\x00\x00\x00\x05\x00\x00\x00\x01\x00\x00\x00\x02\x00\x00\x81\xa4\x00\x00\x00\x03\x00\x00\x00\x04"
-        )?
-    );
-    let reply = Reply::Attrs(whole_attrs());
-    assert!(rt;
-        is_spelled(
-            alloc,
-            Some(2),
-            reply,
-            b"\x00\x00\x00\x25\x69\x00\x00\x00\x02\x00\x00\x00\x0f\x00\x00\x00\x00\x00\x00\x00\x05\x00\x00\x00\x01\x00\x00\x00\x02\x00\x00\x81\xa4\x00\x00\x00\x03\x00\x00\x00\x04"
-        )?
-    );
-    let reply = Reply::Extended(text(alloc, b"any")?);
-    assert!(rt;
-        is_spelled(
-            alloc,
-            Some(2),
-            reply,
-            b"\x00\x00\x00\x08\xc9\x00\x00\x00\x02\x61\x6e\x79"
-        )?
+        read_reply(rt.alloc(), &body).err() == Some(FrameError::HandleTooLong { len: 257 })
     );
     Ok(())
 }
 
-/// The frame of a reply with so many bytes of content is refused, and what stood before is left alone.
-#[test]
-fn longest_reply(rt: HostRuntime) -> Result<(), Fail> {
-    let alloc = rt.alloc();
-    let mut out = Vec::from_slice(alloc, b"before")?;
-    let long = Reply::Extended(ByteText::new(vec![in alloc; 7u8; 1048571]?));
-    assert_eq!(rt;
-        write_reply(&long, 2, &mut out),
-        Err(FrameError::Format(FormatKind::Overflow))
-    );
-    assert_eq!(rt; out.as_slice(), b"before".as_slice());
-    let longest = Reply::Extended(ByteText::new(vec![in alloc; 7u8; 1048570]?));
-    write_reply(&longest, 2, &mut out)?;
-    assert_eq!(rt; out.len(), 6 + 4 + 1048575);
-    Ok(())
-}
-
-/// The content of the reply to the query for limits: four numbers in 32 bytes (OpenSSH's PROTOCOL, section 4.8).
+/// The content of the reply to the query for limits: four numbers (OpenSSH's PROTOCOL, section 4.8).
 #[test]
 fn limits(rt: HostRuntime) -> Result<(), Fail> {
-    let alloc = rt.alloc();
     let content =
-        b"\x00\x00\x00\x00\x00\x00\x00\x01\x00\x00\x00\x00\x00\x00\x00\x02\x00\x00\x00\x00\x00\x00\x00\x03\xff\xff\xff\xff\xff\xff\xff\xff\x00";
+        b"\0\0\0\0\0\0\0\x01\0\0\0\0\0\0\0\x02\0\0\0\0\0\0\0\x03\xff\xff\xff\xff\xff\xff\xff\xff";
     let limits = Limits {
         packet_len: 1,
         read_len: 2,
         write_len: 3,
-        open_handles: 18446744073709551615,
+        open_handles: u64::MAX,
     };
-    assert!(rt; read_limits(alloc, &content[..32]) == Ok(limits));
-    assert!(rt; read_limits(alloc, &content[..31]) == Err(FrameError::Format(FormatKind::Length)));
-    let trailing = FormatKind::TrailingData { remaining: 1 };
-    assert!(rt; read_limits(alloc, content) == Err(FrameError::Format(trailing)));
+    assert!(rt; read_limits(rt.alloc(), content) == Ok(limits));
     Ok(())
 }

@@ -1,10 +1,60 @@
-// Requests as bytes and back. The bytes are laid out by draft-ietf-secsh-filexfer-02, sections 3 to 6 and 8.
-use crate::wire::values::{content, handle, no_attrs, path, whole_attrs};
+// Requests as bytes and back. The bytes are laid out by draft-ietf-secsh-filexfer-02, sections 3 to 6 and 8, and by
+// OpenSSH's PROTOCOL, section 4.
+use crate::wire::values::{no_attrs, path, whole_attrs};
+use bytes::Bytes;
 use sftp_wire::*;
 use std::alloc::Global;
 use std::test::Fail;
 
-/// The frame that is written for a request with the id 7.
+/// Frames with the id 7, which the hello lacks.
+const FRAMES: [&[u8]; 25] = [
+    // the hello, version 3
+    b"\0\0\0\x05\x01\0\0\0\x03",
+    // OPEN of `a` to write and create, with all attributes
+    b"\0\0\0\x2e\x03\0\0\0\x07\0\0\0\x01a\0\0\0\x0a\0\0\0\x0f\0\0\0\0\0\0\0\x05\0\0\0\x01\0\0\0\x02\0\0\x81\xa4\0\0\0\x03\0\0\0\x04",
+    // CLOSE
+    b"\0\0\0\x0d\x04\0\0\0\x07\0\0\0\x04\0\0\0\x01",
+    // READ of 3 bytes at 258
+    b"\0\0\0\x19\x05\0\0\0\x07\0\0\0\x04\0\0\0\x01\0\0\0\0\0\0\x01\x02\0\0\0\x03",
+    // WRITE of `hello` at 258
+    b"\0\0\0\x1e\x06\0\0\0\x07\0\0\0\x04\0\0\0\x01\0\0\0\0\0\0\x01\x02\0\0\0\x05hello",
+    // LSTAT
+    b"\0\0\0\x0a\x07\0\0\0\x07\0\0\0\x01a",
+    // FSTAT
+    b"\0\0\0\x0d\x08\0\0\0\x07\0\0\0\x04\0\0\0\x01",
+    // SETSTAT of all attributes
+    b"\0\0\0\x2a\x09\0\0\0\x07\0\0\0\x01a\0\0\0\x0f\0\0\0\0\0\0\0\x05\0\0\0\x01\0\0\0\x02\0\0\x81\xa4\0\0\0\x03\0\0\0\x04",
+    // FSETSTAT of none
+    b"\0\0\0\x11\x0a\0\0\0\x07\0\0\0\x04\0\0\0\x01\0\0\0\0",
+    // OPENDIR
+    b"\0\0\0\x0a\x0b\0\0\0\x07\0\0\0\x01a",
+    // READDIR
+    b"\0\0\0\x0d\x0c\0\0\0\x07\0\0\0\x04\0\0\0\x01",
+    // REMOVE
+    b"\0\0\0\x0a\x0d\0\0\0\x07\0\0\0\x01a",
+    // MKDIR
+    b"\0\0\0\x0e\x0e\0\0\0\x07\0\0\0\x01a\0\0\0\0",
+    // RMDIR
+    b"\0\0\0\x0a\x0f\0\0\0\x07\0\0\0\x01a",
+    // REALPATH
+    b"\0\0\0\x0a\x10\0\0\0\x07\0\0\0\x01a",
+    // STAT
+    b"\0\0\0\x0a\x11\0\0\0\x07\0\0\0\x01a",
+    // RENAME of `a` to `b`
+    b"\0\0\0\x0f\x12\0\0\0\x07\0\0\0\x01a\0\0\0\x01b",
+    // READLINK
+    b"\0\0\0\x0a\x13\0\0\0\x07\0\0\0\x01a",
+    // SYMLINK: the target `a`, and the link `b`
+    b"\0\0\0\x0f\x14\0\0\0\x07\0\0\0\x01a\0\0\0\x01b",
+    // the six extensions
+    b"\0\0\0\x2b\xc8\0\0\0\x07\0\0\0\x18posix-rename@openssh.com\0\0\0\x01a\0\0\0\x01b",
+    b"\0\0\0\x27\xc8\0\0\0\x07\0\0\0\x14hardlink@openssh.com\0\0\0\x01a\0\0\0\x01b",
+    b"\0\0\0\x22\xc8\0\0\0\x07\0\0\0\x11fsync@openssh.com\0\0\0\x04\0\0\0\x01",
+    b"\0\0\0\x25\xc8\0\0\0\x07\0\0\0\x17expand-path@openssh.com\0\0\0\x01a",
+    b"\0\0\0\x37\xc8\0\0\0\x07\0\0\0\x09copy-data\0\0\0\x04\0\0\0\x01\0\0\0\0\0\0\0\x02\0\0\0\0\0\0\0\x03\0\0\0\x01\x04\0\0\0\0\0\0\0\x05",
+    b"\0\0\0\x1b\xc8\0\0\0\x07\0\0\0\x12limits@openssh.com",
+];
+
 fn written(alloc: Global, request: &Request) -> Result<Vec<u8>, Fail> {
     let mut out = Vec::new(alloc);
     match request_len(request) {
@@ -15,334 +65,87 @@ fn written(alloc: Global, request: &Request) -> Result<Vec<u8>, Fail> {
 }
 
 fn is_written(alloc: Global, request: &Request, frame: &[u8]) -> Result<bool, Fail> {
-    let out = written(alloc, request)?;
-    Ok(out.as_slice() == frame)
+    Ok(written(alloc, request)?.as_slice() == frame)
 }
 
-fn is_same(read: &(Option<u32>, Request), id: Option<u32>, request: &Request) -> bool {
-    read.0 == id && read.1 == *request
+fn is_copied(alloc: Global, request: &Request) -> Result<bool, Fail> {
+    Ok(request.try_copy(alloc)? == *request)
 }
 
-fn is_read(alloc: Global, id: Option<u32>, request: &Request, frame: &[u8]) -> Result<bool, Fail> {
+/// Whether the request that a frame carries is written as the frame, and equals its copy.
+fn is_spelled(alloc: Global, frame: &[u8]) -> Result<bool, Fail> {
     let body = frame.get(4..).ok_or("no length")?;
-    let read = read_request(alloc, body)?;
-    Ok(is_same(&read, id, request))
-}
-
-/// Whether a request is written as these bytes, and is read from them.
-fn is_spelled(
-    alloc: Global,
-    id: Option<u32>,
-    request: Request,
-    frame: &[u8],
-) -> Result<bool, Fail> {
-    let writes = is_written(alloc, &request, frame)?;
-    let reads = is_read(alloc, id, &request, frame)?;
-    Ok(writes && reads)
+    let (_id, request) = read_request(alloc, body)?;
+    Ok(is_written(alloc, &request, frame)? && is_copied(alloc, &request)?)
 }
 
 #[test]
-fn requests_of_handles(rt: HostRuntime) -> Result<(), Fail> {
-    let alloc = rt.alloc();
-    let request = Request::Init { version: 3 };
-    assert!(rt;
-        is_spelled(
-            alloc,
-            None,
-            request,
-            b"\x00\x00\x00\x05\x01\x00\x00\x00\x03"
-        )?
-    );
+fn every_request(rt: HostRuntime) -> Result<(), Fail> {
+    for frame in FRAMES {
+        assert!(rt; is_spelled(rt.alloc(), frame)?);
+    }
+    Ok(())
+}
+
+fn is_read(alloc: Global, frame: &[u8], request: &Request) -> Result<bool, Fail> {
+    let body = frame.get(4..).ok_or("no length")?;
+    let (id, read) = read_request(alloc, body)?;
+    Ok(id == Some(7) && read == *request)
+}
+
+/// The fields of an OPEN.
+#[test]
+fn open(rt: HostRuntime) -> Result<(), Fail> {
     let request = Request::OpenFile {
-        path: path(alloc, b"a")?,
+        path: path(rt.alloc(), b"a")?,
         flags: OpenFlags::WRITE | OpenFlags::CREAT,
         attrs: whole_attrs(),
     };
-    assert!(rt;
-        is_spelled(
-            alloc,
-            Some(7),
-            request,
-            b"\x00\x00\x00\x2e\x03\x00\x00\x00\x07\x00\x00\x00\x01\x61\x00\x00\x00\x0a\x00\x00\x00\x0f\x00\x00\x00\x00\x00\x00\x00\x05\x00\x00\x00\x01\x00\x00\x00\x02\x00\x00\x81\xa4\x00\x00\x00\x03\x00\x00\x00\x04"
-        )?
-    );
-    let request = Request::Close {
-        handle: handle(&[0, 0, 0, 1])?,
-    };
-    assert!(rt;
-        is_spelled(
-            alloc,
-            Some(7),
-            request,
-            b"\x00\x00\x00\x0d\x04\x00\x00\x00\x07\x00\x00\x00\x04\x00\x00\x00\x01"
-        )?
-    );
-    let request = Request::Read {
-        handle: handle(&[0, 0, 0, 1])?,
-        offset: 258,
-        len: 3,
-    };
-    assert!(rt;
-        is_spelled(
-            alloc,
-            Some(7),
-            request,
-            b"\x00\x00\x00\x19\x05\x00\x00\x00\x07\x00\x00\x00\x04\x00\x00\x00\x01\x00\x00\x00\x00\x00\x00\x01\x02\x00\x00\x00\x03"
-        )?
-    );
+    assert!(rt; is_read(rt.alloc(), FRAMES[1], &request)?);
+    Ok(())
+}
+
+/// `hello` in two pieces.
+fn hello(alloc: Global) -> Result<Content, Fail> {
+    let mut content = Content::new(alloc);
+    content.push(Bytes::from_static(b"he"))?;
+    content.push(Bytes::from_static(b"llo"))?;
+    Ok(content)
+}
+
+/// The content of a WRITE, however it is cut.
+#[test]
+fn write(rt: HostRuntime) -> Result<(), Fail> {
+    let handle = Handle::new(&[0, 0, 0, 1]).ok_or("a handle over 256 bytes")?;
     let request = Request::Write {
-        handle: handle(&[0, 0, 0, 1])?,
+        handle,
         offset: 258,
-        content: content(alloc, b"he", b"llo")?,
+        content: hello(rt.alloc())?,
     };
     assert!(rt;
-        is_spelled(
-            alloc,
-            Some(7),
-            request,
-            b"\x00\x00\x00\x1e\x06\x00\x00\x00\x07\x00\x00\x00\x04\x00\x00\x00\x01\x00\x00\x00\x00\x00\x00\x01\x02\x00\x00\x00\x05\x68\x65\x6c\x6c\x6f"
-        )?
-    );
-    let request = Request::Fstat {
-        handle: handle(&[0, 0, 0, 1])?,
-    };
-    assert!(rt;
-        is_spelled(
-            alloc,
-            Some(7),
-            request,
-            b"\x00\x00\x00\x0d\x08\x00\x00\x00\x07\x00\x00\x00\x04\x00\x00\x00\x01"
-        )?
-    );
-    let request = Request::Fsetstat {
-        handle: handle(&[0, 0, 0, 1])?,
-        attrs: no_attrs(),
-    };
-    assert!(rt;
-        is_spelled(
-            alloc,
-            Some(7),
-            request,
-            b"\x00\x00\x00\x11\x0a\x00\x00\x00\x07\x00\x00\x00\x04\x00\x00\x00\x01\x00\x00\x00\x00"
-        )?
-    );
-    let request = Request::Readdir {
-        handle: handle(&[0, 0, 0, 1])?,
-    };
-    assert!(rt;
-        is_spelled(
-            alloc,
-            Some(7),
-            request,
-            b"\x00\x00\x00\x0d\x0c\x00\x00\x00\x07\x00\x00\x00\x04\x00\x00\x00\x01"
-        )?
+        is_read(rt.alloc(), FRAMES[4], &request)? && is_written(rt.alloc(), &request, FRAMES[4])?
     );
     Ok(())
 }
 
+/// The first path of a SYMLINK is the target.
 #[test]
-fn requests_of_paths(rt: HostRuntime) -> Result<(), Fail> {
-    let alloc = rt.alloc();
-    let request = Request::Lstat {
-        path: path(alloc, b"a")?,
-    };
-    assert!(rt;
-        is_spelled(
-            alloc,
-            Some(7),
-            request,
-            b"\x00\x00\x00\x0a\x07\x00\x00\x00\x07\x00\x00\x00\x01\x61"
-        )?
-    );
-    let request = Request::Opendir {
-        path: path(alloc, b"a")?,
-    };
-    assert!(rt;
-        is_spelled(
-            alloc,
-            Some(7),
-            request,
-            b"\x00\x00\x00\x0a\x0b\x00\x00\x00\x07\x00\x00\x00\x01\x61"
-        )?
-    );
-    let request = Request::Remove {
-        path: path(alloc, b"a")?,
-    };
-    assert!(rt;
-        is_spelled(
-            alloc,
-            Some(7),
-            request,
-            b"\x00\x00\x00\x0a\x0d\x00\x00\x00\x07\x00\x00\x00\x01\x61"
-        )?
-    );
-    let request = Request::Rmdir {
-        path: path(alloc, b"a")?,
-    };
-    assert!(rt;
-        is_spelled(
-            alloc,
-            Some(7),
-            request,
-            b"\x00\x00\x00\x0a\x0f\x00\x00\x00\x07\x00\x00\x00\x01\x61"
-        )?
-    );
-    let request = Request::Realpath {
-        path: path(alloc, b"a")?,
-    };
-    assert!(rt;
-        is_spelled(
-            alloc,
-            Some(7),
-            request,
-            b"\x00\x00\x00\x0a\x10\x00\x00\x00\x07\x00\x00\x00\x01\x61"
-        )?
-    );
-    let request = Request::Stat {
-        path: path(alloc, b"a")?,
-    };
-    assert!(rt;
-        is_spelled(
-            alloc,
-            Some(7),
-            request,
-            b"\x00\x00\x00\x0a\x11\x00\x00\x00\x07\x00\x00\x00\x01\x61"
-        )?
-    );
-    let request = Request::Readlink {
-        path: path(alloc, b"a")?,
-    };
-    assert!(rt;
-        is_spelled(
-            alloc,
-            Some(7),
-            request,
-            b"\x00\x00\x00\x0a\x13\x00\x00\x00\x07\x00\x00\x00\x01\x61"
-        )?
-    );
-    let request = Request::Setstat {
-        path: path(alloc, b"a")?,
-        attrs: whole_attrs(),
-    };
-    assert!(rt;
-        is_spelled(
-            alloc,
-            Some(7),
-            request,
-            b"\x00\x00\x00\x2a\x09\x00\x00\x00\x07\x00\x00\x00\x01\x61\x00\x00\x00\x0f\x00\x00\x00\x00\x00\x00\x00\x05\x00\x00\x00\x01\x00\x00\x00\x02\x00\x00\x81\xa4\x00\x00\x00\x03\x00\x00\x00\x04"
-        )?
-    );
-    let request = Request::Mkdir {
-        path: path(alloc, b"a")?,
-        attrs: no_attrs(),
-    };
-    assert!(rt;
-        is_spelled(
-            alloc,
-            Some(7),
-            request,
-            b"\x00\x00\x00\x0e\x0e\x00\x00\x00\x07\x00\x00\x00\x01\x61\x00\x00\x00\x00"
-        )?
-    );
-    let request = Request::Rename {
-        old: path(alloc, b"a")?,
-        to: path(alloc, b"b")?,
-    };
-    assert!(rt;
-        is_spelled(
-            alloc,
-            Some(7),
-            request,
-            b"\x00\x00\x00\x0f\x12\x00\x00\x00\x07\x00\x00\x00\x01\x61\x00\x00\x00\x01\x62"
-        )?
-    );
+fn symlink(rt: HostRuntime) -> Result<(), Fail> {
     let request = Request::Symlink {
-        src: path(alloc, b"a")?,
-        dst: path(alloc, b"b")?,
+        src: path(rt.alloc(), b"a")?,
+        dst: path(rt.alloc(), b"b")?,
     };
-    assert!(rt;
-        is_spelled(
-            alloc,
-            Some(7),
-            request,
-            b"\x00\x00\x00\x0f\x14\x00\x00\x00\x07\x00\x00\x00\x01\x61\x00\x00\x00\x01\x62"
-        )?
-    );
+    assert!(rt; is_read(rt.alloc(), FRAMES[18], &request)?);
     Ok(())
 }
 
+/// MKDIR without attributes.
 #[test]
-fn requests_by_extension(rt: HostRuntime) -> Result<(), Fail> {
-    let alloc = rt.alloc();
-    let request = Request::PosixRename {
-        old: path(alloc, b"a")?,
-        to: path(alloc, b"b")?,
+fn mkdir(rt: HostRuntime) -> Result<(), Fail> {
+    let request = Request::Mkdir {
+        path: path(rt.alloc(), b"a")?,
+        attrs: no_attrs(),
     };
-    assert!(rt;
-        is_spelled(
-            alloc,
-            Some(7),
-            request,
-            b"\x00\x00\x00\x2b\xc8\x00\x00\x00\x07\x00\x00\x00\x18\x70\x6f\x73\x69\x78\x2d\x72\x65\x6e\x61\x6d\x65\x40\x6f\x70\x65\x6e\x73\x73\x68\x2e\x63\x6f\x6d\x00\x00\x00\x01\x61\x00\x00\x00\x01\x62"
-        )?
-    );
-    let request = Request::Hardlink {
-        old: path(alloc, b"a")?,
-        to: path(alloc, b"b")?,
-    };
-    assert!(rt;
-        is_spelled(
-            alloc,
-            Some(7),
-            request,
-            b"\x00\x00\x00\x27\xc8\x00\x00\x00\x07\x00\x00\x00\x14\x68\x61\x72\x64\x6c\x69\x6e\x6b\x40\x6f\x70\x65\x6e\x73\x73\x68\x2e\x63\x6f\x6d\x00\x00\x00\x01\x61\x00\x00\x00\x01\x62"
-        )?
-    );
-    let request = Request::Fsync {
-        handle: handle(&[0, 0, 0, 1])?,
-    };
-    assert!(rt;
-        is_spelled(
-            alloc,
-            Some(7),
-            request,
-            b"\x00\x00\x00\x22\xc8\x00\x00\x00\x07\x00\x00\x00\x11\x66\x73\x79\x6e\x63\x40\x6f\x70\x65\x6e\x73\x73\x68\x2e\x63\x6f\x6d\x00\x00\x00\x04\x00\x00\x00\x01"
-        )?
-    );
-    let request = Request::ExpandPath {
-        path: path(alloc, b"a")?,
-    };
-    assert!(rt;
-        is_spelled(
-            alloc,
-            Some(7),
-            request,
-            b"\x00\x00\x00\x25\xc8\x00\x00\x00\x07\x00\x00\x00\x17\x65\x78\x70\x61\x6e\x64\x2d\x70\x61\x74\x68\x40\x6f\x70\x65\x6e\x73\x73\x68\x2e\x63\x6f\x6d\x00\x00\x00\x01\x61"
-        )?
-    );
-    let request = Request::CopyData {
-        from: handle(&[0, 0, 0, 1])?,
-        from_offset: 2,
-        len: 3,
-        to: handle(&[4])?,
-        to_offset: 5,
-    };
-    assert!(rt;
-        is_spelled(
-            alloc,
-            Some(7),
-            request,
-            b"\x00\x00\x00\x37\xc8\x00\x00\x00\x07\x00\x00\x00\x09\x63\x6f\x70\x79\x2d\x64\x61\x74\x61\x00\x00\x00\x04\x00\x00\x00\x01\x00\x00\x00\x00\x00\x00\x00\x02\x00\x00\x00\x00\x00\x00\x00\x03\x00\x00\x00\x01\x04\x00\x00\x00\x00\x00\x00\x00\x05"
-        )?
-    );
-    let request = Request::LimitsQuery;
-    assert!(rt;
-        is_spelled(
-            alloc,
-            Some(7),
-            request,
-            b"\x00\x00\x00\x1b\xc8\x00\x00\x00\x07\x00\x00\x00\x12\x6c\x69\x6d\x69\x74\x73\x40\x6f\x70\x65\x6e\x73\x73\x68\x2e\x63\x6f\x6d"
-        )?
-    );
+    assert!(rt; is_read(rt.alloc(), FRAMES[12], &request)?);
     Ok(())
 }

@@ -1,5 +1,4 @@
 // Values of the tests.
-use bytes::Bytes;
 use sftp_wire::*;
 use std::alloc::Global;
 use std::test::Fail;
@@ -10,18 +9,6 @@ pub(crate) fn text(alloc: Global, bytes: &[u8]) -> Result<ByteText, Fail> {
 
 pub(crate) fn path(alloc: Global, bytes: &[u8]) -> Result<RemotePath, Fail> {
     Ok(RemotePath::new(Vec::from_slice(alloc, bytes)?))
-}
-
-pub(crate) fn handle(bytes: &[u8]) -> Result<Handle, Fail> {
-    Ok(Handle::new(bytes).ok_or("a handle of more than 256 bytes")?)
-}
-
-/// The content of two pieces.
-pub(crate) fn content(alloc: Global, first: &[u8], second: &[u8]) -> Result<Content, Fail> {
-    let mut content = Content::new(alloc);
-    content.push(Bytes::from_vec(Vec::from_slice(alloc, first)?)?)?;
-    content.push(Bytes::from_vec(Vec::from_slice(alloc, second)?)?)?;
-    Ok(content)
 }
 
 pub(crate) fn no_attrs() -> FileAttrs {
@@ -42,18 +29,25 @@ pub(crate) fn whole_attrs() -> FileAttrs {
     }
 }
 
+fn entry(alloc: Global, name: &[u8], long: &[u8], attrs: FileAttrs) -> Result<NameEntry, Fail> {
+    Ok(NameEntry {
+        filename: path(alloc, name)?,
+        longname: text(alloc, long)?,
+        attrs,
+    })
+}
+
 /// Two entries, the second with attributes.
 pub(crate) fn names(alloc: Global) -> Result<Items<NameEntry>, Fail> {
     let mut names = Vec::new(alloc);
-    names.push(NameEntry {
-        filename: path(alloc, b"a")?,
-        longname: text(alloc, b"long a")?,
-        attrs: no_attrs(),
-    })?;
-    names.push(NameEntry {
-        filename: path(alloc, b"b")?,
-        longname: text(alloc, b"")?,
-        attrs: whole_attrs(),
-    })?;
+    names.push(entry(alloc, b"a", b"long a", no_attrs())?)?;
+    names.push(entry(alloc, b"b", b"", whole_attrs())?)?;
     Ok(Items::new(names))
+}
+
+/// The body of a HANDLE of 257 bytes.
+pub(crate) fn long_handle(alloc: Global) -> Result<Vec<u8>, Fail> {
+    let mut body = Vec::from_slice(alloc, b"\x66\0\0\0\x02\0\0\x01\x01")?;
+    body.extend_from_slice(&[7; 257])?;
+    Ok(body)
 }

@@ -1,13 +1,9 @@
 // The laws at each type, through their bounds. They do nothing when they run.
 use bytes::Bytes;
-use sftp_values::{ByteText, Items, is_same};
-use sftp_wire::frames_read_back;
 use ssh_encoding::{Mpint, one_spelling, round_trip};
-use std::test::Fail;
 
 #[test]
 fn laws() {
-    frames_read_back();
     round_trip::<bool>();
     round_trip::<u8>();
     round_trip::<u32>();
@@ -29,12 +25,4 @@ fn laws() {
     one_spelling::<String>();
     one_spelling::<Vec<String>>();
     one_spelling::<Mpint>();
-}
-
-#[test]
-fn same_values(rt: HostRuntime) -> Result<(), Fail> {
-    let one = Items::new(vec![in rt.alloc(); ByteText::new(Vec::from_slice(rt.alloc(), b"a")?)]?);
-    assert!(rt; is_same(&one, &one));
-    assert_eq!(rt; one.into_vec().len(), 1);
-    Ok(())
 }
