@@ -3,7 +3,8 @@ use Rattle.std.specs.Prelude.{◌≡◌, ℕ, ◌+◌, ◌-◌, ◌<◌, ◌==�
 use Rattle.std.specs.FinMap as fin
 use Rattle.std.specs.Option.{unwrap_or}
 use Rattle.sftp_model.specs.Answers.{expected_of}
-use Rattle.sftp_model.specs.Frames.{request_body, body_limit}
+use Rattle.sftp_model.specs.Numbers.{MAX_BODY_LEN}
+use Rattle.sftp_model.specs.Frames.{request_body}
 use Rattle.sftp_model.specs.declared.request.Request.{Request}
 use Rattle.sftp_model.specs.declared.request.Request.TheVariants as request
 use Rattle.sftp_model.specs.declared.reply.Reply.{Reply}
@@ -124,7 +125,7 @@ is_call other = true
 
 -- a frame of this request is over the limit
 abbrev pub is_long : Request → Bool
-is_long asked = nat_lt body_limit (length (request_body asked 0))
+is_long asked = nat_lt MAX_BODY_LEN (length (request_body asked 0))
 
 -- a kept fault comes before the length
 abbrev pub refusal_of : Option Fault → Bool → Option SubmitError

@@ -1,7 +1,8 @@
 -- The bytes of a queue.
 use Rattle.std.specs.Prelude.{ℕ, ◌≤◌, ◌<◌, List, length}
 use Rattle.std.specs.List.{All, flat_map}
-use Rattle.sftp_model.specs.Frames.{request_body, request_frame, body_limit}
+use Rattle.sftp_model.specs.Numbers.{MAX_BODY_LEN}
+use Rattle.sftp_model.specs.Frames.{request_body, request_frame}
 use Rattle.sftp_model.specs.declared.request.Request.{Request}
 
 -- the frame of a queued request, with its id
@@ -14,7 +15,7 @@ frames_of queue = flat_map frame_of queue
 
 -- the body of a queued request is within the limit of frames
 abbrev pub IsShort : ℕ × Request → Type 0
-IsShort queued = length (request_body queued.1 queued.0) ≤ body_limit
+IsShort queued = length (request_body queued.1 queued.0) ≤ MAX_BODY_LEN
 
 -- no piece is empty
 abbrev pub AreFilled : List (List ℕ) → Type 0

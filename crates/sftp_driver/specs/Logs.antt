@@ -5,7 +5,8 @@ use Rattle.sftp_model.specs.declared.error.Error.TheVariants as error
 use Rattle.sftp_model.specs.declared.frame_error.FormatKind.{FormatKind}
 use Rattle.sftp_model.specs.declared.frame_error.FrameError.{FrameError}
 use Rattle.sftp_model.specs.declared.reply.Reply.{Reply}
-use Rattle.sftp_model.specs.Frames.{frame, body_limit}
+use Rattle.sftp_model.specs.Numbers.{MAX_BODY_LEN}
+use Rattle.sftp_model.specs.Frames.{frame}
 use Rattle.sftp_model.specs.ReplyReadings.{reply_at}
 use Rattle.sftp_core.specs.declared.errors.TakeError.{TakeError}
 use Rattle.sftp_link.specs.declared.piece.Piece.{Piece}
@@ -51,7 +52,7 @@ GotBadLength kind before now = (bytes : List ℕ) × ((fault_of bytes ≡ Some k
 -- one frame was got, and by what it reads as it is refused with this error
 abbrev pub GotRefused : (Result (Option ℕ × Reply) FrameError → Option TakeError) → Error → List Piece → List Piece → Type 0
 GotRefused first e before now =
-    (body : List ℕ) × ((length body ≤ body_limit) × GotOn before now (frame body) × ((t : TakeError) × ((first (reply_at body) ≡ Some t) × (e ≡ error_of t))))
+    (body : List ℕ) × ((length body ≤ MAX_BODY_LEN) × GotOn before now (frame body) × ((t : TakeError) × ((first (reply_at body) ≡ Some t) × (e ≡ error_of t))))
 
 -- what was got can't be used, and this error says why
 abbrev pub GotUnusable : (Result (Option ℕ × Reply) FrameError → Option TakeError) → Error → List Piece → List Piece → Type 0

@@ -2,7 +2,8 @@
 use Rattle.std.specs.Prelude.{◌≡◌, ◌≤◌, ℕ, List, [], ◌∷◌, length, Option, Some, None, Ok}
 use Rattle.sftp_model.specs.declared.reply.Reply.{Reply}
 use Rattle.sftp_model.specs.declared.request.Request.TheVariants as request
-use Rattle.sftp_model.specs.Frames.{frame, body_limit, request_frame}
+use Rattle.sftp_model.specs.Numbers.{MAX_BODY_LEN}
+use Rattle.sftp_model.specs.Frames.{frame, request_frame}
 use Rattle.sftp_model.specs.ReplyReadings.{reply_at}
 use Rattle.sftp_link.specs.declared.piece.Piece.{Piece}
 use Rattle.sftp_link.specs.Log.{SentOn, GotOn}
@@ -15,7 +16,7 @@ use Rattle.sftp_history.specs.Readings.{unsent_bytes}
 pub record IsFrameOf (id : Option ℕ) (r : Reply) (bytes : List ℕ) : Type 0 where
   pub body : List ℕ
   pub framed : bytes ≡ frame body
-  pub short : length body ≤ body_limit
+  pub short : length body ≤ MAX_BODY_LEN
   pub reads : reply_at body ≡ Ok (id, r)
 
 -- one frame was got that reads as this id and reply

@@ -16,8 +16,8 @@ use Rattle.sftp_model.specs.declared.request.Request.TheVariants as request
 use Rattle.sftp_model.specs.Answers.{MayAnswer, is_handle}
 use Rattle.sftp_model.specs.FileMachine.{Machine, at_key, status, bytes_of_file, capped, after_open, after_read, after_close, answered, apply, IsAfterHello}
 use Rattle.sftp_model.specs.Fits.{FitsReply}
-use Rattle.sftp_model.specs.Frames.{body_limit, extension_pair, extension_pairs, extension_table, limits_content, reply_body}
-use Rattle.sftp_model.specs.Lengths.{greatest_len}
+use Rattle.sftp_model.specs.Numbers.{MAX_BODY_LEN, MAX_TRANSFER_LEN}
+use Rattle.sftp_model.specs.Frames.{extension_pair, extension_pairs, extension_table, limits_content, reply_body}
 use Rattle.sftp_history.specs.Served.{limits_reply}
 use Rattle.sftp_map_server.specs.Serving.{told_bits, version_reply}
 use Rattle.sftp_map_server.specs.Granting.{Granting, all_handles, gives_within, handle_of, next, served}
@@ -26,7 +26,7 @@ use Rattle.sftp_map_server.specs.Granting.{Granting, all_handles, gives_within, 
 abbrev pub IsShort : Reply → Type 0
 IsShort (reply.Status code message language) = (code < 2 ^ 32) × (length message ≡ 0) × (length language ≡ 0)
 IsShort (reply.Handle handle) = length handle ≡ 4
-IsShort (reply.Content content) = length content ≤ greatest_len
+IsShort (reply.Content content) = length content ≤ MAX_TRANSFER_LEN
 IsShort other = ⊥
 
 pub record Short (r : Reply) : Type 0 where
@@ -43,7 +43,7 @@ open_short : (m : Machine) (n : ℕ) (file : Option ℕ) → Short (after_open m
 open_short m n None = said 2 (lit< tt)
 open_short m n (Some file) = record { is = refl }
 
-read_short : (m : Machine) (cap offset len : ℕ) (held : Option Held) → capped cap len ≤ greatest_len → Short (after_read m cap offset len held).0
+read_short : (m : Machine) (cap offset len : ℕ) (held : Option Held) → capped cap len ≤ MAX_TRANSFER_LEN → Short (after_read m cap offset len held).0
 read_short m cap offset len None h = said 4 (lit< tt)
 read_short m cap offset len (Some held) h =
     if_reply Short (not held.readable) _ _ (λ e. said 3 (lit< tt)) (λ e.
@@ -55,7 +55,7 @@ close_short : (m : Machine) (handle : List ℕ) (held : Option Held) → Short (
 close_short m handle None = said 4 (lit< tt)
 close_short m handle (Some held) = said 0 (lit< tt)
 
-within : (n : ℕ) → nat_le n greatest_len ≡ true → n ≤ greatest_len
+within : (n : ℕ) → nat_le n MAX_TRANSFER_LEN ≡ true → n ≤ MAX_TRANSFER_LEN
 within n e = grind (arith, nat_tests)
 
 answered_short : (m : Machine) (config : ServerConfig) (r : Request) (choice : Choice) (n : ℕ) → gives_within r choice ≡ true → Short (answered m config r choice.cap (handle_of n)).0
@@ -96,7 +96,7 @@ len_string : (s : List ℕ) → length (string s) ≡ 4 + length s
 unfolding string
 len_string s = let l = length-append (uint32 (length s)) s in let n = len_number (length s) in omega (arith, l, n)
 
-reply_short : (r : Reply) (id : ℕ) → IsShort r → length (reply_body r id) ≤ body_limit
+reply_short : (r : Reply) (id : ℕ) → IsShort r → length (reply_body r id) ≤ MAX_BODY_LEN
 unfolding reply_body
 reply_short (reply.Status code message language) id h =
     let a = length-append (uint32 code) (string message) in
@@ -111,7 +111,7 @@ reply_short (reply.Content content) id h =
 reply_short other id h = absurd h
 
 -- the body of the machine's reply is within the limit
-pub next_within : (g : Granting) (r : Request) (choice : Choice) (id : ℕ) → gives_within r choice ≡ true → choice.refuse < 2 ^ 32 → length (reply_body (next g r choice).0 id) ≤ body_limit
+pub next_within : (g : Granting) (r : Request) (choice : Choice) (id : ℕ) → gives_within r choice ≡ true → choice.refuse < 2 ^ 32 → length (reply_body (next g r choice).0 id) ≤ MAX_BODY_LEN
 next_within g r choice id w c = reply_short (next g r choice).0 id (next_short g r choice w c).is
 
 pair_within : (b : Bool) (name : List ℕ) → length (if b then [] else string name ++ string (codes "1")) ≤ 9 + length name
@@ -131,7 +131,7 @@ pairs_within set (row ∷ table) =
     omega (arith, a, p, i)
 
 -- VERSION's body is within the limit
-pub version_within : (config : ServerConfig) (id : ℕ) → length (reply_body (version_reply config) id) ≤ body_limit
+pub version_within : (config : ServerConfig) (id : ℕ) → length (reply_body (version_reply config) id) ≤ MAX_BODY_LEN
 unfolding reply_body
 version_within config id =
     let set = told_bits config.extensions.0 config.limits in
@@ -154,7 +154,7 @@ len_limits l =
     omega (arith, a, b, c, p, r, w, o)
 
 -- so is that of the answer to the query for limits
-pub limits_within : (limits : Option Limits) (id : ℕ) → length (reply_body (limits_reply limits) id) ≤ body_limit
+pub limits_within : (limits : Option Limits) (id : ℕ) → length (reply_body (limits_reply limits) id) ≤ MAX_BODY_LEN
 unfolding reply_body
 limits_within None id = reply_short (status 8) id (said 8 (lit< tt)).is
 limits_within (Some limits) id =

@@ -8,7 +8,7 @@ use Rattle.std.proofs.lemmas.Nat.{be_bytes_4}
 use Rattle.ssh_encoding.specs.Writing.{string, uint32}
 use Rattle.sftp_model.specs.declared.frame_error.FormatKind.{FormatKind}
 use Rattle.sftp_model.specs.declared.frame_error.FormatKind.TheVariants as kinds
-use Rattle.sftp_model.specs.Frames.{body_limit}
+use Rattle.sftp_model.specs.Numbers.{MAX_BODY_LEN}
 use Rattle.sftp_wire.specs.FrameReader.{told_len, len_of, missing, missing_with, fault_of, fault_of_len}
 use Rattle.sftp_map_server.specs.Serving.{Desk, Absorbs, behind, server_of, step, over_at}
 
@@ -66,11 +66,11 @@ both_false true b x y e = absurd cc
 both_false false true x y e = absurd cc
 both_false false false x y e = (refl, refl)
 
-good_len : (n : ℕ) → is_some (fault_of_len (Some n)) ≡ false → (0 < n) × (n ≤ body_limit)
+good_len : (n : ℕ) → is_some (fault_of_len (Some n)) ≡ false → (0 < n) × (n ≤ MAX_BODY_LEN)
 good_len n e =
-    let p = both_false (n == 0) (nat_lt body_limit n) kinds.Length kinds.Overflow e in
+    let p = both_false (n == 0) (nat_lt MAX_BODY_LEN n) kinds.Length kinds.Overflow e in
     let z = eqb-false n 0 p.0 in
-    let l = ltb-false body_limit n p.1 in (
+    let l = ltb-false MAX_BODY_LEN n p.1 in (
       elim (cases_lt 0 n) [
         | inl lt ↦ lt
         | inr le ↦ absurd (z (omega (arith, le)))
@@ -78,7 +78,7 @@ good_len n e =
       l,
     )
 
-good_told : (xs : List ℕ) → 4 ≤ length xs → is_some (fault_of xs) ≡ false → (0 < told_len xs) × (told_len xs ≤ body_limit)
+good_told : (xs : List ℕ) → 4 ≤ length xs → is_some (fault_of xs) ≡ false → (0 < told_len xs) × (told_len xs ≤ MAX_BODY_LEN)
 good_told xs h e = good_len (told_len xs) (ap (λ (b : Bool). is_some (fault_of_len (if b then None else Some (told_len xs)))) (sym (le-ltb (length xs) 4 h)) ∙ e)
 
 -- ---- what is absorbed

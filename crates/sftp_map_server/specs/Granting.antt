@@ -9,7 +9,7 @@ use Rattle.sftp_model.specs.declared.reply.Reply.{Reply}
 use Rattle.sftp_model.specs.declared.machine.Held.{Held}
 use Rattle.sftp_model.specs.Answers.{is_handle}
 use Rattle.sftp_model.specs.FileMachine.{Machine, apply, at_key, after_open, after_close, capped, open_to_read, status}
-use Rattle.sftp_model.specs.Lengths.{greatest_len}
+use Rattle.sftp_model.specs.Numbers.{MAX_TRANSFER_LEN}
 
 -- the machine, what it offers, and how many handles it granted
 pub record Granting : Type 0 where
@@ -75,7 +75,7 @@ with_handles g handles = record {
 
 -- a READ gives no more than one DATA can bring: by the length asked or by the cap
 abbrev pub gives_within : Request → Choice → Bool
-gives_within (request.Read handle offset len) choice = nat_le (capped choice.cap len) greatest_len
+gives_within (request.Read handle offset len) choice = nat_le (capped choice.cap len) MAX_TRANSFER_LEN
 gives_within other choice = true
 
 -- ---- handles

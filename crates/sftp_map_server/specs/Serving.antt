@@ -14,7 +14,8 @@ use Rattle.sftp_model.specs.declared.request.Request.TheVariants as request
 use Rattle.sftp_model.specs.declared.reply.Reply.{Reply}
 use Rattle.sftp_model.specs.declared.reply.Reply.TheVariants as reply
 use Rattle.sftp_model.specs.FileMachine.{status}
-use Rattle.sftp_model.specs.Frames.{body_limit, reply_frame, limits_content}
+use Rattle.sftp_model.specs.Numbers.{MAX_BODY_LEN}
+use Rattle.sftp_model.specs.Frames.{reply_frame, limits_content}
 use Rattle.sftp_model.specs.RequestReadings.{request_at}
 use Rattle.sftp_wire.specs.FrameReader.{fault_of, missing}
 use Rattle.sftp_history.specs.Served.{first_choice, limits_reply}
@@ -119,7 +120,7 @@ behind d rest =
 -- each body has a length that a frame may have
 abbrev pub AllShort : List (List ℕ) → Type 0
 AllShort [] = Unit {0}
-AllShort (body ∷ more) = (0 < length body) × (length body ≤ body_limit) × AllShort more
+AllShort (body ∷ more) = (0 < length body) × (length body ≤ MAX_BODY_LEN) × AllShort more
 
 -- bytes came: the frames that are whole then are answered in order
 pub record Absorbs (before : Server) (bytes : List ℕ) (after : Server) : Type 0 where

@@ -1,7 +1,8 @@
 // What the machine answers to the body of a frame.
 ghost use Rattle.std.specs.Prelude.{◌≡◌, ◌≤◌, ◌++◌, Some, false, length, IfOk, OnOk, OnErr};
 ghost use Rattle.std.specs.Result.{result_ok};
-ghost use Rattle.sftp_model.specs.Frames.{body_limit, reply_body, reply_frame};
+ghost use Rattle.sftp_model.specs.Numbers.{MAX_BODY_LEN};
+ghost use Rattle.sftp_model.specs.Frames.{reply_body, reply_frame};
 ghost use Rattle.sftp_model.specs.RequestReadings.{request_at};
 ghost use Rattle.sftp_map_server.specs.Granting.{gives_within as gives_within_by};
 ghost use Rattle.sftp_history.specs.Served.{first_choice, limits_reply};
@@ -110,7 +111,7 @@ fn told_limits(alloc: Global, limits: Limits) -> Result<Reply, OutOfMemory>
 
 /// Puts the frame of a reply behind the output.
 fn put(reply: &Reply, id: u32, output: &mut Vec<u8>) -> Result<(), OutOfMemory>
-    requires { length (reply_body reply.now id) ≤ body_limit }
+    requires { length (reply_body reply.now id) ≤ MAX_BODY_LEN }
     ensures ok { OnOk result (output.new.items ≡ output.old.items ++ reply_frame reply.now id) }
     ensures err { OnErr result (output.new.items ≡ output.old.items) }
 {

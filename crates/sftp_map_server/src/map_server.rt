@@ -6,7 +6,7 @@ ghost use Rattle.sftp_link.specs.Script.{limited as limited_by};
 ghost use Rattle.sftp_link.specs.Told.{IsEnd, Receives, Sends};
 ghost use Rattle.sftp_map_server.specs.Order.{file_at};
 ghost use Rattle.sftp_map_server.specs.Serving.{Absorbs, Gives, IsServing, server_of, opened, first_desk};
-ghost use Rattle.sftp_model.specs.Frames.{body_limit};
+ghost use Rattle.sftp_model.specs.Numbers.{MAX_BODY_LEN};
 ghost use Rattle.sftp_wire.specs.FrameReader.{told_len as told_len_of, fault_of, missing as missing_of};
 ghost use Rattle.ssh_encoding.specs.Writing.{string};
 

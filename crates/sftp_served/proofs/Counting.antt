@@ -10,7 +10,7 @@ use Rattle.sftp_model.specs.declared.reply.Reply.{Reply}
 use Rattle.sftp_model.specs.declared.request.Request.{Request}
 use Rattle.sftp_model.specs.declared.slot.Move.{Move}
 use Rattle.sftp_model.specs.declared.slot.Move.TheVariants.{Ask, Wait, Done}
-use Rattle.sftp_model.specs.Lengths.{greatest_len}
+use Rattle.sftp_model.specs.Numbers.{MAX_TRANSFER_LEN}
 use Rattle.sftp_history.specs.declared.call.Call.{Call}
 use Rattle.sftp_history.specs.declared.call.Lane.{Lane}
 use Rattle.sftp_history.specs.declared.turn.Turn.{Turn}
@@ -130,11 +130,11 @@ some_le : (places : List ℕ) → some_of places ≤ 1
 some_le [] = omega arith
 some_le (p ∷ places) = omega arith
 
-asked_none : (s : Setting) (past : List Entry) (lane call id : ℕ) (r : Request) → IsNext s past (entry.Event (Submit (owner.Call lane call) id r)) → TakesFit past → s.facts.read_len ≤ greatest_len → own past lane (ended past lane) ≡ []
+asked_none : (s : Setting) (past : List Entry) (lane call id : ℕ) (r : Request) → IsNext s past (entry.Event (Submit (owner.Call lane call) id r)) → TakesFit past → s.facts.read_len ≤ MAX_TRANSFER_LEN → own past lane (ended past lane) ≡ []
 asked_none s past lane call id r next f m = (asks_once s past lane r (grants_fit past f) m (next_submit s past lane call id r next).1).0
 
 -- by the calls that ended, and one where the next has asked
-by_ends : (s : Setting) (past : List Entry) (lane : ℕ) → IsJournal s past → TakesFit past → s.facts.read_len ≤ greatest_len → called_by past lane ≤ ended past lane + some_of (own past lane (ended past lane))
+by_ends : (s : Setting) (past : List Entry) (lane : ℕ) → IsJournal s past → TakesFit past → s.facts.read_len ≤ MAX_TRANSFER_LEN → called_by past lane ≤ ended past lane + some_of (own past lane (ended past lane))
 by_ends s [] lane j f m = omega arith
 by_ends s (entry.Event (Submit (owner.Call l call) id r) ∷ past) lane j f m =
     let old = by_ends s past lane j.1 f m in
@@ -181,7 +181,7 @@ asks_below s past lane r p e =
     let c = has_call (current s past lane) (move_of s past lane) r e (λ none. ap (λ (c : Option Call). move_at c (site_of s past lane) s.facts (own past lane (ended past lane)) (answer past)) none) in
     there_below (calls_of (slice_get s.lanes lane)) (ended past lane) c.0 (ap (λ (w : List Call). slice_get w (ended past lane)) (sym (plain_calls s past lane p)) ∙ c.1)
 
-by_calls : (s : Setting) (past : List Entry) (lane : ℕ) → IsPlain past → IsJournal s past → TakesFit past → s.facts.read_len ≤ greatest_len → called_by past lane ≤ length (calls_of (slice_get s.lanes lane))
+by_calls : (s : Setting) (past : List Entry) (lane : ℕ) → IsPlain past → IsJournal s past → TakesFit past → s.facts.read_len ≤ MAX_TRANSFER_LEN → called_by past lane ≤ length (calls_of (slice_get s.lanes lane))
 by_calls s [] lane p j f m = omega arith
 by_calls s (entry.Event (Submit (owner.Call l call) id r) ∷ past) lane p j f m =
     elim (eqb_tells l lane) [
@@ -268,7 +268,7 @@ sum_weighs f k (lane ∷ lanes) h =
     omega (arith, here, zero_is, one, more, both)
 
 -- of lanes that a session can be given
-pub run_calls : (s : Setting) (turns : List Turn) (past : List Entry) → IsRun s turns past → IsJournal s past → TakesFit past → s.facts.read_len ≤ greatest_len → are_ok s.lanes ≡ true → called past < all_handles
+pub run_calls : (s : Setting) (turns : List Turn) (past : List Entry) → IsRun s turns past → IsJournal s past → TakesFit past → s.facts.read_len ≤ MAX_TRANSFER_LEN → are_ok s.lanes ≡ true → called past < all_handles
 run_calls s turns past run j f m ok =
     let p = run_plain s turns past run in
     let sum = called_sum s past p j in

@@ -9,7 +9,8 @@ use Rattle.sftp_model.specs.declared.frame_error.FrameError.{FrameError}
 use Rattle.sftp_model.specs.declared.reply.Reply.{Reply}
 use Rattle.sftp_model.specs.declared.request.Request.{Request}
 use Rattle.sftp_model.specs.declared.config.ServerConfig.{ServerConfig}
-use Rattle.sftp_model.specs.Frames.{body_limit, request_body, reply_body, request_frame, reply_frame}
+use Rattle.sftp_model.specs.Numbers.{MAX_BODY_LEN}
+use Rattle.sftp_model.specs.Frames.{request_body, reply_body, request_frame, reply_frame}
 use Rattle.sftp_model.specs.ReplyReadings.{reply_at}
 use Rattle.sftp_history.specs.declared.event.Owner.{Owner}
 use Rattle.sftp_history.specs.declared.event.Event.TheVariants.{Submit, Send, Take}
@@ -148,7 +149,7 @@ unsent_is (entry.Event (Submit by id r) ∷ past) =
     ∙ (ap (λ (w : List ℕ). w ++ (request_frame r id ++ [])) (unsent_is past) ∙ sym (flat_map-append string (unsent_bodies past) (request_body r id ∷ [])))
 unsent_is (_ ∷ past) = unsent_is past
 
-short_more : (bs : List (List ℕ)) (b : List ℕ) → AllShort bs → (0 < length b) × (length b ≤ body_limit) → AllShort (bs ++ b ∷ [])
+short_more : (bs : List (List ℕ)) (b : List ℕ) → AllShort bs → (0 < length b) × (length b ≤ MAX_BODY_LEN) → AllShort (bs ++ b ∷ [])
 short_more [] b p q = (q.0, q.1, tt)
 short_more (x ∷ bs) b p q = (p.0, p.1, short_more bs b p.2 q)
 
@@ -215,7 +216,7 @@ one_reply i j q r e = let pairs : (i, q) ≡ (j, r) = cc e in pair_is i j q r pa
 
 -- the frame that was got is the first that is owed
 pub take_row : (d : Desk) (past : List Entry) (ws : List (Asked × Reply)) (body rest : List ℕ) (id : ℕ) (r : Reply) → IsGood d → IsSound (tells_of d) past
-    → IsRow (due d past) (takes past) ws (sent past) → spelled ws ≡ string body ++ rest → length body ≤ body_limit → reply_at body ≡ Ok (Some id, r)
+    → IsRow (due d past) (takes past) ws (sent past) → spelled ws ≡ string body ++ rest → length body ≤ MAX_BODY_LEN → reply_at body ≡ Ok (Some id, r)
     → ((a : Asked) × ((due d past (takes past) ≡ Some (a, r)) × (a.id ≡ id))) × ((vs : List (Asked × Reply)) × (IsRow (due d past) (takes past + 1) vs (sent past) × (rest ≡ spelled vs)))
 take_row d past [] body rest id r g s row e short reads = absurd (no_frame body rest (sym e))
 take_row d past (w ∷ ws) body rest id r g s row e short reads =

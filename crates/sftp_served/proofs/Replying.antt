@@ -15,8 +15,8 @@ use Rattle.sftp_model.specs.declared.request.Request.TheVariants as request
 use Rattle.sftp_model.specs.Answers.{expected_of, may_answer}
 use Rattle.sftp_model.specs.FileMachine.{Machine, IsAfterHello, apply, capped, status}
 use Rattle.sftp_model.specs.Fits.{FitsRequest, FitsLimits}
-use Rattle.sftp_model.specs.Frames.{body_limit, no_attributes, request_body, request_id, reply_body, reply_id, reply_frame, limits_content}
-use Rattle.sftp_model.specs.Lengths.{greatest_len}
+use Rattle.sftp_model.specs.Numbers.{MAX_BODY_LEN, MAX_TRANSFER_LEN}
+use Rattle.sftp_model.specs.Frames.{no_attributes, request_body, request_id, reply_body, reply_id, reply_frame, limits_content}
 use Rattle.sftp_model.specs.ReplyReadings.{reply_at}
 use Rattle.sftp_model.specs.RequestReadings.{request_at}
 use Rattle.sftp_model.proofs.MachineLaws.{machine_allowed}
@@ -74,7 +74,7 @@ call_id : (r : Request) (id : ℕ) → FitsCall r → request_id r id ≡ Some i
 call_id (request.Init version) id f = absurd f
 call_id r id f = refl
 
-capped_le : (cap n : ℕ) → n ≤ greatest_len → nat_le (capped cap n) greatest_len ≡ true
+capped_le : (cap n : ℕ) → n ≤ MAX_TRANSFER_LEN → nat_le (capped cap n) MAX_TRANSFER_LEN ≡ true
 capped_le cap n h = elim (eqb_tells cap 0) [ inl t ↦ rw t.0 (grind (arith, nat_tests)) | inr t ↦ rw t.0 (grind (arith, nat_tests)) ]
 
 call_within : (r : Request) (choice : Choice) → FitsCall r → gives_within r choice ≡ true
@@ -159,19 +159,19 @@ pub step_fits : (d : Desk) (tells : Bool) (by : Owner) (id : ℕ) (r : Request) 
 step_fits d tells by id r g lt f =
     by_owner (λ w. step d (request_body w id) ≡ (reply_frame (reply_to d w) id, next_desk d w)) tells by r f (λ c. step_call d id r g lt c) (λ t. step_query d id g lt)
 
-call_short : (r : Request) (id : ℕ) → FitsCall r → (0 < length (request_body r id)) × (length (request_body r id) ≤ body_limit)
+call_short : (r : Request) (id : ℕ) → FitsCall r → (0 < length (request_body r id)) × (length (request_body r id) ≤ MAX_BODY_LEN)
 unfolding request_body
 call_short (request.OpenFile path flags attrs) id f = rw (f.2) (let l : length (request_body (request.OpenFile path flags no_attributes) id) ≡ length path + 17 = simp lengths (omega arith) in (omega (arith, l), omega (arith, l, f.0)))
 call_short (request.Read handle offset len) id f = let l : length (request_body (request.Read handle offset len) id) ≡ length handle + 21 = simp lengths (omega arith) in (omega (arith, l), omega (arith, l, f.0))
 call_short (request.Close handle) id f = let l : length (request_body (request.Close handle) id) ≡ length handle + 9 = simp lengths (omega arith) in (omega (arith, l), omega (arith, l, f))
 call_short other id f = absurd f
 
-query_short : (id : ℕ) → (0 < length (request_body request.LimitsQuery id)) × (length (request_body request.LimitsQuery id) ≤ body_limit)
+query_short : (id : ℕ) → (0 < length (request_body request.LimitsQuery id)) × (length (request_body request.LimitsQuery id) ≤ MAX_BODY_LEN)
 unfolding request_body
 query_short id = let l : length (request_body request.LimitsQuery id) ≡ 27 = simp lengths refl in (omega (arith, l), omega (arith, l))
 
-pub request_short : (tells : Bool) (by : Owner) (r : Request) (id : ℕ) → FitsBy tells by r → (0 < length (request_body r id)) × (length (request_body r id) ≤ body_limit)
-request_short tells by r id f = by_owner (λ w. (0 < length (request_body w id)) × (length (request_body w id) ≤ body_limit)) tells by r f (λ c. call_short r id c) (λ t. query_short id)
+pub request_short : (tells : Bool) (by : Owner) (r : Request) (id : ℕ) → FitsBy tells by r → (0 < length (request_body r id)) × (length (request_body r id) ≤ MAX_BODY_LEN)
+request_short tells by r id f = by_owner (λ w. (0 < length (request_body w id)) × (length (request_body w id) ≤ MAX_BODY_LEN)) tells by r f (λ c. call_short r id c) (λ t. query_short id)
 
 -- ---- what is said
 
@@ -179,7 +179,7 @@ request_short tells by r id f = by_owner (λ w. (0 < length (request_body w id))
 pub record Says (a : Asked) (r : Reply) : Type 0 where
   pub reads : reply_at (reply_body r a.id) ≡ Ok (Some a.id, r)
   pub some : 0 < length (reply_body r a.id)
-  pub short : length (reply_body r a.id) ≤ body_limit
+  pub short : length (reply_body r a.id) ≤ MAX_BODY_LEN
   pub may : may_answer a.request r ≡ true
   pub goes : refuses_limits (expected_of a.request) r ≡ None
 
@@ -218,7 +218,7 @@ says_call d by id r g lt f =
       goes = call_goes r x f;
     })
 
-limits_text : (limits : Limits) → length (limits_content limits) ≤ body_limit
+limits_text : (limits : Limits) → length (limits_content limits) ≤ MAX_BODY_LEN
 unfolding limits_content
 limits_text limits = let l : length (limits_content limits) ≡ 32 = simp lengths refl in omega (arith, l)
 
@@ -254,7 +254,7 @@ step_hello d fresh still =
     step_on d (request_body (request.Init 3) 0) None (request.Init 3) still (request_back (request.Init 3) 0 (lit< tt) (lit< tt))
     ∙ ap (λ (b : Bool). if b then (let p : List ℕ × Desk = ([], over_at d) in p) else (reply_frame (version_reply d.granting.config) 0, greeted_at d)) fresh
 
-pub hello_short : (0 < length (request_body (request.Init 3) 0)) × (length (request_body (request.Init 3) 0) ≤ body_limit)
+pub hello_short : (0 < length (request_body (request.Init 3) 0)) × (length (request_body (request.Init 3) 0) ≤ MAX_BODY_LEN)
 unfolding request_body
 hello_short = (let l : length (request_body (request.Init 3) 0) ≡ 5 = simp lengths refl in omega (arith, l), let l : length (request_body (request.Init 3) 0) ≡ 5 = simp lengths refl in omega (arith, l))
 

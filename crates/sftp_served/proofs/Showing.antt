@@ -8,7 +8,8 @@ use Rattle.ssh_encoding.specs.Writing.{string}
 use Rattle.sftp_model.specs.declared.frame_error.FrameError.{FrameError}
 use Rattle.sftp_model.specs.declared.reply.Reply.{Reply}
 use Rattle.sftp_model.specs.declared.request.Request.TheVariants as request
-use Rattle.sftp_model.specs.Frames.{body_limit, request_body, reply_body, reply_frame}
+use Rattle.sftp_model.specs.Numbers.{MAX_BODY_LEN}
+use Rattle.sftp_model.specs.Frames.{request_body, reply_body, reply_frame}
 use Rattle.sftp_model.specs.ReplyReadings.{reply_at}
 use Rattle.sftp_core.specs.declared.errors.TakeError.{TakeError}
 use Rattle.sftp_link.specs.declared.piece.Piece.{Piece}
@@ -210,7 +211,7 @@ pub record Ready (wrong : Result (Option ℕ × Reply) FrameError → Option Tak
   pub rest : List ℕ
   pub framed : output ≡ string body ++ rest
   pub some : 0 < length body
-  pub short : length body ≤ body_limit
+  pub short : length body ≤ MAX_BODY_LEN
   pub fine : wrong (reply_at body) ≡ None
 
 all_full : (past : List Entry) (n : ℕ) → ((p : ℕ) → p < n → is_none (answer past p) ≡ false) → unanswered_below past n ≡ 0

@@ -16,7 +16,7 @@ use Rattle.sftp_model.specs.declared.request.Request.TheVariants as request
 use Rattle.sftp_model.specs.Answers.{is_end_of_file}
 use Rattle.sftp_model.specs.Fits.{FitsHandle, FitsLong, FitsSet, GrantsFit}
 use Rattle.sftp_model.specs.Frames.{no_attributes}
-use Rattle.sftp_model.specs.Lengths.{greatest_len}
+use Rattle.sftp_model.specs.Numbers.{MAX_TRANSFER_LEN}
 use Rattle.sftp_model.specs.declared.slot.Facts.{Facts}
 use Rattle.sftp_model.specs.declared.slot.FileAt.{FileAt}
 use Rattle.sftp_model.specs.declared.slot.Move.{Move}
@@ -49,7 +49,7 @@ use Rattle.sftp_history.specs.Shown.{Shows, IsFrameOf}
 -- a request of a call, or a CLOSE, which fits a frame
 abbrev pub FitsCall : Request → Type 0
 FitsCall (request.OpenFile path flags attrs) = (length path ≤ 1048558) × FitsSet flags.0 × (attrs ≡ no_attributes)
-FitsCall (request.Read handle offset len) = FitsHandle handle × FitsLong offset × (len ≤ greatest_len)
+FitsCall (request.Read handle offset len) = FitsHandle handle × FitsLong offset × (len ≤ MAX_TRANSFER_LEN)
 FitsCall (request.Close handle) = FitsHandle handle
 FitsCall other = ⊥
 
@@ -110,7 +110,7 @@ offset_fits offset len e = grind (arith, nat_tests)
 ask_within : FileAt → ℕ → Site → Answers → Move
 ask_within file len site answers = if overflows file.offset len then refuses kind.OffsetOverflow site else Ask (request.Read (handle_of (answers file.grant)) file.offset len)
 
-ask_asks : (file : FileAt) (len : ℕ) (site : Site) (answers : Answers) → GrantsFit answers → len ≤ greatest_len → Asks [] (ask_read file len site answers)
+ask_asks : (file : FileAt) (len : ℕ) (site : Site) (answers : Answers) → GrantsFit answers → len ≤ MAX_TRANSFER_LEN → Asks [] (ask_read file len site answers)
 unfolding ask_within
 ask_asks file len site answers h k =
     if_asks [] (not file.readable) (refuses kind.NotReadable site) (ask_within file len site answers) (λ e. record { within = tt })
@@ -121,7 +121,7 @@ was_asks : (places : List ℕ) (slot : ℕ) (file : FileAt) (site : Site) (r : R
 was_asks places slot file site (reply.Content bytes) = record { within = tt }
 was_asks places slot file site r = if_asks places (is_end_of_file r) (Done outcome.End site) (refused r site) (λ e. record { within = tt }) (λ e. refused_asks places r site)
 
-read_asks : (slot n : ℕ) (site : Site) (facts : Facts) (places : List ℕ) (answers : Answers) (file : FileAt) → GrantsFit answers → facts.read_len ≤ greatest_len → Asks places (read_file_next slot n site facts places answers file)
+read_asks : (slot n : ℕ) (site : Site) (facts : Facts) (places : List ℕ) (answers : Answers) (file : FileAt) → GrantsFit answers → facts.read_len ≤ MAX_TRANSFER_LEN → Asks places (read_file_next slot n site facts places answers file)
 read_asks slot n site facts [] answers file h k =
     if_asks [] (n == 0) (Done outcome.End site) (ask_read file (min n facts.read_len) site answers) (λ e. record { within = tt }) (λ e. ask_asks file (min n facts.read_len) site answers h (omega (arith, k)))
 read_asks slot n site facts (place ∷ later) answers file h k = once_asks (place ∷ later) place (answers place) (was_read slot file site) (was_asks (place ∷ later) slot file site)
@@ -164,19 +164,19 @@ flags_fit o =
     let m = making_le o.create_new (o.create && o.truncate) o.create in
     omega (arith, r, w, a, m)
 
-call_asks : (c : Call) (site : Site) (facts : Facts) (places : List ℕ) (answers : Answers) → GrantsFit answers → facts.read_len ≤ greatest_len → Asks places (next c site facts places answers)
+call_asks : (c : Call) (site : Site) (facts : Facts) (places : List ℕ) (answers : Answers) → GrantsFit answers → facts.read_len ≤ MAX_TRANSFER_LEN → Asks places (next c site facts places answers)
 call_asks (call.OpenFile slot flags path) site facts places answers h k = open_asks slot (flags_of flags) path site facts places answers (flags_fit flags)
 call_asks (call.Read slot n) site facts places answers h k = on_file_asks places (slot_at site slot) site (read_file_next slot n site facts places answers) (λ file. read_asks slot n site facts places answers file h k)
 call_asks (call.Close slot) site facts places answers h k = close_asks slot site places answers (slot_at site slot) h
 
-move_asks : (c : Option Call) (site : Site) (facts : Facts) (places : List ℕ) (answers : Answers) (r : Request) → GrantsFit answers → facts.read_len ≤ greatest_len
+move_asks : (c : Option Call) (site : Site) (facts : Facts) (places : List ℕ) (answers : Answers) (r : Request) → GrantsFit answers → facts.read_len ≤ MAX_TRANSFER_LEN
     → move_at c site facts places answers ≡ Some (Ask r) → (places ≡ []) × FitsCall r
 move_asks None site facts places answers r h k e = absurd cc
 move_asks (Some c) site facts places answers r h k e =
     let is : next c site facts places answers ≡ Ask r = cc in subst (AskedIn places) is (call_asks c site facts places answers h k).within
 
 -- a request that a call asks is its only one, and fits
-pub asks_once : (s : Setting) (past : List Entry) (lane : ℕ) (r : Request) → GrantsFit (answer past) → s.facts.read_len ≤ greatest_len → move_of s past lane ≡ Some (Ask r) → (own past lane (ended past lane) ≡ []) × FitsCall r
+pub asks_once : (s : Setting) (past : List Entry) (lane : ℕ) (r : Request) → GrantsFit (answer past) → s.facts.read_len ≤ MAX_TRANSFER_LEN → move_of s past lane ≡ Some (Ask r) → (own past lane (ended past lane) ≡ []) × FitsCall r
 asks_once s past lane r h k e = move_asks (current s past lane) (site_of s past lane) s.facts (own past lane (ended past lane)) (answer past) r h k e
 
 -- ---- handles that came
@@ -230,7 +230,7 @@ shows_takes hello (_ ∷ past) first log sh = shows_takes hello past first log s
 
 -- ---- each entry
 
-may_fits : (s : Setting) (tells : Bool) (past : List Entry) (by : Owner) (id : ℕ) (r : Request) → (s.limits ≡ true → tells ≡ true) → GrantsFit (answer past) → s.facts.read_len ≤ greatest_len
+may_fits : (s : Setting) (tells : Bool) (past : List Entry) (by : Owner) (id : ℕ) (r : Request) → (s.limits ≡ true → tells ≡ true) → GrantsFit (answer past) → s.facts.read_len ≤ MAX_TRANSFER_LEN
     → MayCome s past (entry.Event (Submit by id r)) → FitsBy tells by r
 may_fits s tells past (owner.Call lane call) id r t h k may = (asks_once s past lane r h k may.1).1
 may_fits s tells past owner.Setup id r t h k may = (may.2, t may.0)
@@ -242,7 +242,7 @@ close_fits tells past grant id by r h must =
     let asked_is : r ≡ request.Close (handle_of (answer past grant)) = cc (must.1.1) in
     subst (λ (o : Owner). FitsBy tells o r) (sym is) (handle_of (answer past grant), asked_is, h grant)
 
-fits_next : (s : Setting) (tells : Bool) (past : List Entry) (by : Owner) (id : ℕ) (r : Request) (c g : Option ℕ) → (s.limits ≡ true → tells ≡ true) → GrantsFit (answer past) → s.facts.read_len ≤ greatest_len
+fits_next : (s : Setting) (tells : Bool) (past : List Entry) (by : Owner) (id : ℕ) (r : Request) (c g : Option ℕ) → (s.limits ≡ true → tells ≡ true) → GrantsFit (answer past) → s.facts.read_len ≤ MAX_TRANSFER_LEN
     → MatchOption c (MatchOption g (MayCome s past (entry.Event (Submit by id r))) (λ grant. MustClose past grant (entry.Event (Submit by id r)))) (λ lane. entry.Event (Submit by id r) ≡ cancelled_end past lane)
     → FitsBy tells by r
 fits_next s tells past by id r (Some lane) g t h k next = absurd cc
@@ -250,7 +250,7 @@ fits_next s tells past by id r None (Some grant) t h k next = close_fits tells p
 fits_next s tells past by id r None None t h k next = may_fits s tells past by id r t h k next
 
 -- each request of a run so far fits
-pub sound : (s : Setting) (tells : Bool) (past : List Entry) → (s.limits ≡ true → tells ≡ true) → s.facts.read_len ≤ greatest_len → IsJournal s past → TakesFit past → IsSound tells past
+pub sound : (s : Setting) (tells : Bool) (past : List Entry) → (s.limits ≡ true → tells ≡ true) → s.facts.read_len ≤ MAX_TRANSFER_LEN → IsJournal s past → TakesFit past → IsSound tells past
 sound s tells [] t k j f = tt
 sound s tells (entry.Event (Submit by id r) ∷ past) t k j f =
     ((submit_free s past by id r j.0).0, fits_next s tells past by id r (last_cancel past) (orphan s past) t (grants_fit past f) k j.0, sound s tells past t k j.1 f)

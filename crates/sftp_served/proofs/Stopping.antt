@@ -7,7 +7,8 @@ use Rattle.sftp_model.specs.declared.error.Error.TheVariants as error
 use Rattle.sftp_model.specs.declared.flags.Extensions.{Extensions}
 use Rattle.sftp_model.specs.declared.frame_error.FrameError.{FrameError}
 use Rattle.sftp_model.specs.declared.reply.Reply.{Reply}
-use Rattle.sftp_model.specs.Lengths.{greatest_len, session_len}
+use Rattle.sftp_model.specs.Numbers.{MAX_TRANSFER_LEN}
+use Rattle.sftp_model.specs.Lengths.{session_len}
 use Rattle.sftp_model.specs.ReplyReadings.{reply_at}
 use Rattle.sftp_core.specs.Info.{offers_limits}
 use Rattle.sftp_core.specs.declared.errors.TakeError.{TakeError}
@@ -41,7 +42,7 @@ later_journal s [] l = tt
 later_journal s (e ∷ past) (inl same) = absurd cc
 later_journal s (e ∷ past) (inr l) = (l.0, later_journal s past l.1)
 
-pub len_within : (most : Option ℕ) (len : ℕ) → session_len most len ≤ greatest_len
+pub len_within : (most : Option ℕ) (len : ℕ) → session_len most len ≤ MAX_TRANSFER_LEN
 len_within None len = omega arith
 len_within (Some most) len = omega arith
 
