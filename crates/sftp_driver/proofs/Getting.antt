@@ -1,5 +1,5 @@
 -- What is sent and got over several calls.
-use Rattle.std.proofs.Common.{◌≡◌, ◌<◌, ◌≤◌, ◌+◌, ◌-◌, ℕ, Bool, true, false, List, [], ◌∷◌, ◌++◌, take, drop, length, length-append, Option, Some, None, refl, ap, sym, ◌∙◌, subst, append_assoc, arith}
+use Rattle.std.proofs.Common.{◌≡◌, ◌<◌, ◌≤◌, ◌+◌, ◌-◌, ℕ, Bool, true, false, List, [], ◌∷◌, ◌++◌, take, drop, length, length-append, Option, Some, None, refl, ap, sym, ◌∙◌, subst, append_assoc, arith, inl, inr}
 use Rattle.std.specs.Prelude.{nat_lt, Ok}
 use Rattle.std.proofs.lemmas.Bool.Decides.{nat_tests}
 use Rattle.std.proofs.lemmas.List.{append-nil, take-append-le, take-append-drop}
@@ -12,8 +12,8 @@ use Rattle.sftp_link.specs.declared.piece.Piece.TheVariants.{Sent, Got}
 use Rattle.sftp_link.specs.Log.{AllSent, AllGot, SentOn, GotOn}
 use Rattle.sftp_link.specs.Told.{Told, SentLess, GotLess, GotAll, Fills}
 use Rattle.sftp_model.specs.Pieces.{joined}
-use Rattle.sftp_wire.specs.FrameReader.{Received, nothing, need_of, need_where, fault_of, fault_where, fault_with, missing, told_len}
-use Rattle.sftp_driver.specs.Reading.{Pulled, PullFails, ReadFails}
+use Rattle.sftp_wire.specs.FrameReader.{Received, Pushed, nothing, need_of, need_where, fault_of, fault_of_len, fault_where, fault_with, missing, told_len}
+use Rattle.sftp_driver.specs.Reading.{Pulled, PullFails, ReadFails, IsFramePrefix, IsFramePart, IsOfOneFrame, IsBadLength}
 
 all_got_both : (late early : List Piece) (a b : List ℕ) → AllGot early a → AllGot late b → AllGot (late ++ early) (a ++ b)
 all_got_both [] early a b e l = subst (λ (w : List ℕ). AllGot early w) (sym (ap (λ (w : List ℕ). a ++ w) l ∙ append-nil a)) e
@@ -82,29 +82,90 @@ still_missing bytes front lt =
           omega (arith, n, before, after, same, lt, l)
     ] refl
 
--- the end came within a part
-pub part_ended : (r : Received) (room : List ℕ) (x y : List Piece) → r.refused ≡ None → length room ≡ need_of r → length r.bytes + need_of r ≤ 1048579 → GotLess room x y → PullFails error.LinkEnded r x y
-part_ended r room x y none fits bound less =
+-- a length is as wrong as it was, once it is there
+fault_stays : (bytes more : List ℕ) → 4 ≤ length bytes → fault_of (bytes ++ more) ≡ fault_of bytes
+fault_stays bytes more le =
+    let n = length-append bytes more in
+    let f : nat_lt (length bytes) 4 ≡ false = grind (arith, nat_tests) in
+    let g : nat_lt (length (bytes ++ more)) 4 ≡ false = grind (arith, nat_tests, n) in
+    let same : told_len (bytes ++ more) ≡ told_len bytes = ap (from_be_bytes w32) (take-append-le 4 bytes more le) in
+    rw f (rw g (ap (λ (len : ℕ). fault_of_len (Some len)) same))
+
+-- fewer than four bytes are no wrong length
+unfaulted_short : (bytes : List ℕ) → length bytes < 4 → fault_of bytes ≡ None
+unfaulted_short bytes lt = let t : nat_lt (length bytes) 4 ≡ true = grind (arith, nat_tests) in rw t refl
+
+-- fewer bytes than were missing leave no wrong length
+still_unfaulted : (bytes more : List ℕ) → fault_of bytes ≡ None → length more < missing bytes → fault_of (bytes ++ more) ≡ None
+still_unfaulted bytes more none lt =
+    elim (nat_lt (length bytes) 4) as (λ b. nat_lt (length bytes) 4 ≡ b → fault_of (bytes ++ more) ≡ None) [
+      | true ↦ λ t.
+          let l = short bytes t in
+          let before = missing_short bytes l in
+          let n = length-append bytes more in
+          unfaulted_short (bytes ++ more) (omega (arith, n, before, lt, l))
+      | false ↦ λ f. fault_stays bytes more (long bytes f) ∙ none
+    ] refl
+
+-- it ended or failed within a part
+pub part_came : (r : Received) (room : List ℕ) (x y : List Piece) → r.refused ≡ None → fault_of r.bytes ≡ None → length room ≡ need_of r → GotLess room x y
+    → (bytes : List ℕ) × (IsFramePart (r.bytes ++ bytes) × GotOn x y bytes)
+part_came r room x y none unfaulted fits less =
     let need = need_is r none in
     let cut = length-append less.0 less.1 in
     let whole : length room ≡ length (less.0 ++ less.1) = ap length less.2 in
-    let all = length-append r.bytes less.0 in
-    (less.0, ((still_missing r.bytes less.0 (omega (arith, need, cut, whole, fits, less.3)), omega (arith, cut, whole, fits, all, bound)), less.4))
+    let fewer : length less.0 < missing r.bytes = omega (arith, need, cut, whole, fits, less.3) in
+    (less.0, ((still_missing r.bytes less.0 fewer, still_unfaulted r.bytes less.0 unfaulted fewer), less.4))
 
--- it failed within a part
-pub part_failed : (r : Received) (room : List ℕ) (x y : List Piece) → length room ≡ need_of r → length r.bytes + need_of r ≤ 1048579 → GotLess room x y
-    → (bytes : List ℕ) × ((length (r.bytes ++ bytes) ≤ 1048579) × GotOn x y bytes)
-part_failed r room x y fits bound less =
-    let cut = length-append less.0 less.1 in
-    let whole : length room ≡ length (less.0 ++ less.1) = ap length less.2 in
-    let all = length-append r.bytes less.0 in
-    (less.0, (omega (arith, cut, whole, fits, all, bound), less.4))
+-- a part of a frame is within it
+part_within : (bytes : List ℕ) → IsFramePart bytes → IsFramePrefix bytes
+part_within bytes p = record { unfaulted = p.1; within = λ le. (let m = missing_long bytes le in let s = p.0 in omega (arith, m, s)) }
 
-pub part_within : (r : Received) (room : List ℕ) → length room ≡ need_of r → length r.bytes + need_of r ≤ 1048579 → length (r.bytes ++ room) ≤ 1048579
-part_within r room fits bound = let all = length-append r.bytes room in omega (arith, fits, all, bound)
+-- there was no memory within a part
+pub part_starved : (r : Received) (room : List ℕ) (x y : List Piece) → r.refused ≡ None → fault_of r.bytes ≡ None → length room ≡ need_of r → GotLess room x y → PullFails error.OutOfMemory r x y
+part_starved r room x y none unfaulted fits less = let w = part_came r room x y none unfaulted fits less in (w.0, (inl (part_within (r.bytes ++ w.0) w.1.0), w.1.1))
 
-pub fault_is : (r : Received) (room : List ℕ) (kind : FormatKind) → r.refused ≡ None → fault_with r room ≡ Some kind → fault_of (r.bytes ++ room) ≡ Some kind
-fault_is r room kind none is = sym (ap (λ (k : Option FormatKind). fault_where k (r.bytes ++ room)) none) ∙ is
+-- a frame's length, and bytes up to its end
+within_more : (bytes room : List ℕ) → 4 ≤ length bytes → length bytes ≤ 4 + told_len bytes → length room ≡ missing bytes → length (bytes ++ room) ≤ 4 + told_len (bytes ++ room)
+within_more bytes room l within fits =
+    let before = missing_long bytes l in
+    let n = length-append bytes room in
+    let same : told_len (bytes ++ room) ≡ told_len bytes = ap (from_be_bytes w32) (take-append-le 4 bytes room l) in
+    omega (arith, before, n, same, within, fits)
+
+-- all that was asked for came: the four bytes of a length, or a whole frame
+part_whole : (bytes room : List ℕ) → IsFramePrefix bytes → length room ≡ missing bytes → IsOfOneFrame (bytes ++ room)
+part_whole bytes room prefix fits =
+    elim (nat_lt (length bytes) 4) as (λ b. nat_lt (length bytes) 4 ≡ b → IsOfOneFrame (bytes ++ room)) [
+      | true ↦ λ t. (let n = length-append bytes room in let l = short bytes t in let before = missing_short bytes l in inr (omega (arith, n, fits, before, l)))
+      | false ↦ λ f. (let l = long bytes f in inl (record { unfaulted = fault_stays bytes room l ∙ prefix.unfaulted; within = λ le. within_more bytes room l (prefix.within l) fits }))
+    ] refl
+
+pub part_got : (r : Received) (room : List ℕ) → r.refused ≡ None → IsFramePrefix r.bytes → length room ≡ need_of r → IsOfOneFrame (r.bytes ++ room)
+part_got r room none prefix fits = part_whole r.bytes room prefix (fits ∙ need_is r none)
+
+-- and where it is no wrong length, it is of a frame
+of_frame : (bytes : List ℕ) → fault_of bytes ≡ None → IsOfOneFrame bytes → IsFramePrefix bytes
+of_frame bytes unfaulted (inl prefix) = prefix
+of_frame bytes unfaulted (inr four) = record { unfaulted = unfaulted; within = λ le. omega (arith, four) }
+
+pub part_grown : (r new : Received) (room : List ℕ) → r.refused ≡ None → IsFramePrefix r.bytes → length room ≡ need_of r → Pushed r room new → IsFramePrefix new.bytes
+part_grown r new room none prefix fits pushed =
+    let unfaulted : fault_of (r.bytes ++ room) ≡ None = sym (ap (λ (k : Option FormatKind). fault_where k (r.bytes ++ room)) none) ∙ pushed.0 in
+    subst (λ (w : Received). IsFramePrefix w.bytes) (sym pushed.1) (of_frame (r.bytes ++ room) unfaulted (part_got r room none prefix fits))
+
+-- a wrong length is four bytes
+bad_four : (bytes room : List ℕ) (kind : FormatKind) → IsFramePrefix bytes → length room ≡ missing bytes → fault_of (bytes ++ room) ≡ Some kind → length (bytes ++ room) ≡ 4
+bad_four bytes room kind prefix fits bad = by_case (part_whole bytes room prefix fits)
+  where
+    by_case : IsOfOneFrame (bytes ++ room) → length (bytes ++ room) ≡ 4
+    by_case (inl whole) = (let u = whole.unfaulted in absurd cc)
+    by_case (inr four) = four
+
+pub part_bad : (r : Received) (room : List ℕ) (kind : FormatKind) → r.refused ≡ None → IsFramePrefix r.bytes → length room ≡ need_of r → fault_with r room ≡ Some kind → IsBadLength kind (r.bytes ++ room)
+part_bad r room kind none prefix fits is =
+    let bad : fault_of (r.bytes ++ room) ≡ Some kind = sym (ap (λ (k : Option FormatKind). fault_where k (r.bytes ++ room)) none) ∙ is in
+    (bad, bad_four r.bytes room kind prefix (fits ∙ need_is r none) bad)
 
 -- what a new reader has was got
 pub first_part : (old new : Received) (x y : List Piece) → old ≡ nothing → Pulled old new x y → GotOn x y new.bytes

@@ -2,7 +2,6 @@
 use Rattle.std.proofs.Common.{◌≡◌, ◌<◌, ◌≤◌, ℕ, Bool, true, false, List, [], ◌∷◌, length, Option, Some, None, refl, ap, sym, ◌∙◌, subst, arith, inl, inr}
 use Rattle.std.specs.Prelude.{Err, MatchBool}
 use Rattle.ssh_encoding.specs.Writing.{string}
-use Rattle.sftp_wire.proofs.Lengths.{length-string}
 use Rattle.sftp_model.specs.declared.error.Error.{Error}
 use Rattle.sftp_model.specs.declared.error.Error.TheVariants as error
 use Rattle.sftp_model.specs.declared.reply.Reply.{Reply}
@@ -30,7 +29,7 @@ use Rattle.sftp_driver.specs.declared.session.Stepped.{Stepped}
 use Rattle.sftp_driver.specs.Session.{Begins, Given, IsFixed, IsLater, IsOpened, IsSoFar, StepsTo, Cancels, Takes, Tells}
 use Rattle.sftp_driver.specs.Causes.{EndCause}
 use Rattle.sftp_driver.specs.Refusals.{refuses, refuses_hello, error_of}
-use Rattle.sftp_driver.specs.Reading.{ReadFails}
+use Rattle.sftp_driver.specs.Reading.{IsFramePrefix, ReadFails}
 use Rattle.sftp_driver.specs.Logs.{Keeps, Showing, Stops, StopsAs, Ends, Behind, SentPart, HelloStops, BehindHello}
 use Rattle.sftp_driver.proofs.Journals.{later_self, later_on}
 use Rattle.sftp_driver.proofs.Settled.{still_fixed}
@@ -127,9 +126,9 @@ stops_sent s ended e past bytes x y behind same told = sent_here (IsLater s past
 
 read_behind : (ended : Bool) (e : Error) (past : List Entry) (mid after : List Piece) → 0 < awaited past → EndCause {T = Unit {0}} ended (Err e) → ReadFails e mid after → Behind ended e past mid after
 read_behind ended error.OutOfMemory past mid after some end fails = inr (some, fails)
-read_behind ended error.LinkFault past mid after some end fails = inr (some, fails)
+read_behind ended error.LinkFault past mid after some end fails = inr (some, (fails.0, (fails.1.0.0, fails.1.0.1, fails.1.1)))
 read_behind ended error.LinkEnded past mid after some end fails = (end, some, (fails.0, (fails.1.0.0, fails.1.0.1, fails.1.1)))
-read_behind ended other past mid after some end fails = (some, inl (fails.1.0.1.0, (fails.1.0.1.1.0, (fails.0, (fails.1.0.1.1.1, fails.1.0.0, fails.1.1)))))
+read_behind ended other past mid after some end fails = (some, inl (fails.1.0.0, (fails.1.0.1.0, (fails.0, (fails.1.0.1.1.0, fails.1.0.1.1.1, fails.1.1)))))
 
 pub unread_here : (such : List Entry → Type 0) (ended : Bool) (e : Error) (past : List Entry) (x y : Option (List Piece)) → such past → 0 < awaited past → EndCause {T = Unit {0}} ended (Err e) → Told (ReadFails e) x y → Told (StopsAs such ended e past) x y
 unread_here such ended e past x y is some end told =
@@ -140,9 +139,9 @@ stops_unread s ended e past x y some end told = unread_here (IsLater s past) end
 
 read_hello : (ended : Bool) (e : Error) (mid after : List Piece) → EndCause {T = Unit {0}} ended (Err e) → ReadFails e mid after → BehindHello ended e mid after
 read_hello ended error.OutOfMemory mid after end fails = fails
-read_hello ended error.LinkFault mid after end fails = fails
+read_hello ended error.LinkFault mid after end fails = (fails.0, (fails.1.0.0, fails.1.0.1, fails.1.1))
 read_hello ended error.LinkEnded mid after end fails = (end, (fails.0, (fails.1.0.0, fails.1.0.1, fails.1.1)))
-read_hello ended other mid after end fails = inl (fails.1.0.1.0, (fails.1.0.1.1.0, (fails.0, (fails.1.0.1.1.1, fails.1.0.0, fails.1.1))))
+read_hello ended other mid after end fails = inl (fails.1.0.0, (fails.1.0.1.0, (fails.0, (fails.1.0.1.1.0, fails.1.0.1.1.1, fails.1.1))))
 
 pub hello_unread : (ended : Bool) (e : Error) (bytes : List ℕ) (x y z : Option (List Piece)) → bytes ≡ hello_frame → Told (SentAll bytes) x y → EndCause {T = Unit {0}} ended (Err e) → Told (ReadFails e) y z → Told (HelloStops ended e) x z
 hello_unread ended e bytes x y z same sent end told =
@@ -150,43 +149,40 @@ hello_unread ended e bytes x y z same sent end told =
 
 -- ---- a frame came that is refused
 
-frame_within : (body bytes : List ℕ) → bytes ≡ string body → length body ≤ 1048575 → length bytes ≤ 1048579
-frame_within body bytes framed short = let n = length-string body in let same = ap length framed in omega (arith, n, same, short)
-
-refused_behind : (ended : Bool) (t : TakeError) (past : List Entry) (body bytes : List ℕ) (mid after : List Piece) → 0 < awaited past → bytes ≡ string body → length body ≤ 1048575
+refused_behind : (ended : Bool) (t : TakeError) (past : List Entry) (body bytes : List ℕ) (mid after : List Piece) → 0 < awaited past → IsFramePrefix bytes → bytes ≡ string body → length body ≤ 1048575
     → IsFirst t (refuses past (reply_at body)) → GotOn mid after bytes → Behind ended (error_of t) past mid after
-refused_behind ended take.OutOfMemory past body bytes mid after some framed short why got = inr (some, (bytes, (frame_within body bytes framed short, got)))
-refused_behind ended (take.Format kind) past body bytes mid after some framed short why got = (some, inr (body, (short, subst (λ (w : List ℕ). GotOn mid after w) framed got, (take.Format kind, (why, refl)))))
-refused_behind ended (take.HandleTooLong len) past body bytes mid after some framed short why got = (some, inr (body, (short, subst (λ (w : List ℕ). GotOn mid after w) framed got, (take.HandleTooLong len, (why, refl)))))
-refused_behind ended (take.InvalidResponseId id) past body bytes mid after some framed short why got = (some, inr (body, (short, subst (λ (w : List ℕ). GotOn mid after w) framed got, (take.InvalidResponseId id, (why, refl)))))
-refused_behind ended (take.InvalidResponse id) past body bytes mid after some framed short why got = (some, inr (body, (short, subst (λ (w : List ℕ). GotOn mid after w) framed got, (take.InvalidResponse id, (why, refl)))))
-refused_behind ended (take.LimitsRefused code message language) past body bytes mid after some framed short why got = (some, inr (body, (short, subst (λ (w : List ℕ). GotOn mid after w) framed got, (take.LimitsRefused code message language, (why, refl)))))
-refused_behind ended (take.Protocol version) past body bytes mid after some framed short why got = (some, inr (body, (short, subst (λ (w : List ℕ). GotOn mid after w) framed got, (take.Protocol version, (why, refl)))))
+refused_behind ended take.OutOfMemory past body bytes mid after some prefix framed short why got = inr (some, (bytes, (inl prefix, got)))
+refused_behind ended (take.Format kind) past body bytes mid after some prefix framed short why got = (some, inr (body, (short, subst (λ (w : List ℕ). GotOn mid after w) framed got, (take.Format kind, (why, refl)))))
+refused_behind ended (take.HandleTooLong len) past body bytes mid after some prefix framed short why got = (some, inr (body, (short, subst (λ (w : List ℕ). GotOn mid after w) framed got, (take.HandleTooLong len, (why, refl)))))
+refused_behind ended (take.InvalidResponseId id) past body bytes mid after some prefix framed short why got = (some, inr (body, (short, subst (λ (w : List ℕ). GotOn mid after w) framed got, (take.InvalidResponseId id, (why, refl)))))
+refused_behind ended (take.InvalidResponse id) past body bytes mid after some prefix framed short why got = (some, inr (body, (short, subst (λ (w : List ℕ). GotOn mid after w) framed got, (take.InvalidResponse id, (why, refl)))))
+refused_behind ended (take.LimitsRefused code message language) past body bytes mid after some prefix framed short why got = (some, inr (body, (short, subst (λ (w : List ℕ). GotOn mid after w) framed got, (take.LimitsRefused code message language, (why, refl)))))
+refused_behind ended (take.Protocol version) past body bytes mid after some prefix framed short why got = (some, inr (body, (short, subst (λ (w : List ℕ). GotOn mid after w) framed got, (take.Protocol version, (why, refl)))))
 
-pub refused_here : (such : List Entry → Type 0) (ended : Bool) (t : TakeError) (past : List Entry) (body bytes : List ℕ) (x y : Option (List Piece)) → such past → 0 < awaited past → bytes ≡ string body
+pub refused_here : (such : List Entry → Type 0) (ended : Bool) (t : TakeError) (past : List Entry) (body bytes : List ℕ) (x y : Option (List Piece)) → such past → 0 < awaited past → IsFramePrefix bytes → bytes ≡ string body
     → length body ≤ 1048575 → IsFirst t (refuses past (reply_at body)) → Told (GotAll bytes) x y → Told (StopsAs such ended (error_of t) past) x y
-refused_here such ended t past body bytes x y is some framed short why told =
-    told_as _ _ x y told (λ p q got hello first shown. (past, (p, (is, shown, refused_behind ended t past body bytes p q some framed short why got))))
+refused_here such ended t past body bytes x y is some prefix framed short why told =
+    told_as _ _ x y told (λ p q got hello first shown. (past, (p, (is, shown, refused_behind ended t past body bytes p q some prefix framed short why got))))
 
-pub stops_refused : (s : Setting) (ended : Bool) (t : TakeError) (past : List Entry) (body bytes : List ℕ) (x y : Option (List Piece)) → 0 < awaited past → bytes ≡ string body → length body ≤ 1048575
+pub stops_refused : (s : Setting) (ended : Bool) (t : TakeError) (past : List Entry) (body bytes : List ℕ) (x y : Option (List Piece)) → 0 < awaited past → IsFramePrefix bytes → bytes ≡ string body → length body ≤ 1048575
     → IsFirst t (refuses past (reply_at body)) → Told (GotAll bytes) x y → Told (Stops s ended (error_of t) past) x y
-stops_refused s ended t past body bytes x y some framed short why told =
-    refused_here (IsLater s past) ended t past body bytes x y (later_self s past) some framed short why told
+stops_refused s ended t past body bytes x y some prefix framed short why told =
+    refused_here (IsLater s past) ended t past body bytes x y (later_self s past) some prefix framed short why told
 
-refused_hello : (ended : Bool) (t : TakeError) (body bytes : List ℕ) (mid after : List Piece) → bytes ≡ string body → length body ≤ 1048575
+refused_hello : (ended : Bool) (t : TakeError) (body bytes : List ℕ) (mid after : List Piece) → IsFramePrefix bytes → bytes ≡ string body → length body ≤ 1048575
     → IsFirst t (refuses_hello (reply_at body)) → GotOn mid after bytes → BehindHello ended (error_of t) mid after
-refused_hello ended take.OutOfMemory body bytes mid after framed short why got = (bytes, (frame_within body bytes framed short, got))
-refused_hello ended (take.Format kind) body bytes mid after framed short why got = inr (body, (short, subst (λ (w : List ℕ). GotOn mid after w) framed got, (take.Format kind, (why, refl))))
-refused_hello ended (take.HandleTooLong len) body bytes mid after framed short why got = inr (body, (short, subst (λ (w : List ℕ). GotOn mid after w) framed got, (take.HandleTooLong len, (why, refl))))
-refused_hello ended (take.InvalidResponseId id) body bytes mid after framed short why got = inr (body, (short, subst (λ (w : List ℕ). GotOn mid after w) framed got, (take.InvalidResponseId id, (why, refl))))
-refused_hello ended (take.InvalidResponse id) body bytes mid after framed short why got = inr (body, (short, subst (λ (w : List ℕ). GotOn mid after w) framed got, (take.InvalidResponse id, (why, refl))))
-refused_hello ended (take.LimitsRefused code message language) body bytes mid after framed short why got = inr (body, (short, subst (λ (w : List ℕ). GotOn mid after w) framed got, (take.LimitsRefused code message language, (why, refl))))
-refused_hello ended (take.Protocol version) body bytes mid after framed short why got = inr (body, (short, subst (λ (w : List ℕ). GotOn mid after w) framed got, (take.Protocol version, (why, refl))))
+refused_hello ended take.OutOfMemory body bytes mid after prefix framed short why got = (bytes, (inl prefix, got))
+refused_hello ended (take.Format kind) body bytes mid after prefix framed short why got = inr (body, (short, subst (λ (w : List ℕ). GotOn mid after w) framed got, (take.Format kind, (why, refl))))
+refused_hello ended (take.HandleTooLong len) body bytes mid after prefix framed short why got = inr (body, (short, subst (λ (w : List ℕ). GotOn mid after w) framed got, (take.HandleTooLong len, (why, refl))))
+refused_hello ended (take.InvalidResponseId id) body bytes mid after prefix framed short why got = inr (body, (short, subst (λ (w : List ℕ). GotOn mid after w) framed got, (take.InvalidResponseId id, (why, refl))))
+refused_hello ended (take.InvalidResponse id) body bytes mid after prefix framed short why got = inr (body, (short, subst (λ (w : List ℕ). GotOn mid after w) framed got, (take.InvalidResponse id, (why, refl))))
+refused_hello ended (take.LimitsRefused code message language) body bytes mid after prefix framed short why got = inr (body, (short, subst (λ (w : List ℕ). GotOn mid after w) framed got, (take.LimitsRefused code message language, (why, refl))))
+refused_hello ended (take.Protocol version) body bytes mid after prefix framed short why got = inr (body, (short, subst (λ (w : List ℕ). GotOn mid after w) framed got, (take.Protocol version, (why, refl))))
 
-pub hello_refused : (ended : Bool) (t : TakeError) (sent body bytes : List ℕ) (x y z : Option (List Piece)) → sent ≡ hello_frame → Told (SentAll sent) x y → bytes ≡ string body → length body ≤ 1048575
+pub hello_refused : (ended : Bool) (t : TakeError) (sent body bytes : List ℕ) (x y z : Option (List Piece)) → sent ≡ hello_frame → Told (SentAll sent) x y → IsFramePrefix bytes → bytes ≡ string body → length body ≤ 1048575
     → IsFirst t (refuses_hello (reply_at body)) → Told (GotAll bytes) y z → Told (HelloStops ended (error_of t)) x z
-hello_refused ended t sent body bytes x y z same told framed short why got =
-    told_on _ _ _ x y z told got (λ p q r s g. inr (q, (subst (λ (w : List ℕ). SentOn p q w) same s, refused_hello ended t body bytes q r framed short why g)))
+hello_refused ended t sent body bytes x y z same told prefix framed short why got =
+    told_on _ _ _ x y z told got (λ p q r s g. inr (q, (subst (λ (w : List ℕ). SentOn p q w) same s, refused_hello ended t body bytes q r prefix framed short why g)))
 
 -- ---- the opening
 

@@ -19,6 +19,7 @@ use Rattle.sftp_history.specs.Calls.{Setting}
 use Rattle.sftp_history.specs.Shown.{Shows, hello_frame}
 use Rattle.sftp_history.specs.Settings.{greeting, setting_of}
 use Rattle.sftp_model.specs.declared.flags.Extensions.{Extensions}
+use Rattle.sftp_driver.specs.Reading.{IsOfOneFrame}
 use Rattle.sftp_driver.specs.Session.{Given, IsLater}
 use Rattle.sftp_driver.specs.Refusals.{refuses, refuses_hello, error_of}
 
@@ -37,17 +38,17 @@ Showing (Some hello) past before after = Shows hello past before after
 abbrev pub SentPart : List ℕ → List Piece → List Piece → Type 0
 SentPart bytes before now = (now ≡ before) ⊎ SentLess bytes before now
 
--- bytes of one frame were got
+-- the first bytes of a frame were got, or all of them, or the four bytes of a length, and no byte past that
 abbrev pub GotBytes : List Piece → List Piece → Type 0
-GotBytes before now = (bytes : List ℕ) × ((length bytes ≤ 1048579) × GotOn before now bytes)
+GotBytes before now = (bytes : List ℕ) × (IsOfOneFrame bytes × GotOn before now bytes)
 
--- less than a frame was got
+-- the first bytes of a frame were got, and not all of them
 abbrev pub GotPart : List Piece → List Piece → Type 0
-GotPart before now = (bytes : List ℕ) × ((0 < missing bytes) × (length bytes ≤ 1048579) × GotOn before now bytes)
+GotPart before now = (bytes : List ℕ) × ((0 < missing bytes) × (fault_of bytes ≡ None) × GotOn before now bytes)
 
--- a length was got which no frame may have
+-- the four bytes of a length were got which no frame may have, and no byte past them
 abbrev pub GotBadLength : FormatKind → List Piece → List Piece → Type 0
-GotBadLength kind before now = (bytes : List ℕ) × ((fault_of bytes ≡ Some kind) × (length bytes ≤ 1048579) × GotOn before now bytes)
+GotBadLength kind before now = (bytes : List ℕ) × ((fault_of bytes ≡ Some kind) × (length bytes ≡ 4) × GotOn before now bytes)
 
 -- one frame was got, and by what it reads as it is refused with this error
 abbrev pub GotRefused : (Result (Option ℕ × Reply) FrameError → Option TakeError) → Error → List Piece → List Piece → Type 0
@@ -64,7 +65,7 @@ GotUnusable first e before now = ((kind : FormatKind) × ((e ≡ error.FormatErr
 -- frames, or what came where the reply to a sent request was awaited.
 abbrev pub Behind : Bool → Error → List Entry → List Piece → List Piece → Type 0
 Behind ended error.OutOfMemory past mid after = SentPart (unsent_bytes past) mid after ⊎ ((0 < awaited past) × GotBytes mid after)
-Behind ended error.LinkFault past mid after = SentPart (unsent_bytes past) mid after ⊎ ((0 < awaited past) × GotBytes mid after)
+Behind ended error.LinkFault past mid after = SentPart (unsent_bytes past) mid after ⊎ ((0 < awaited past) × GotPart mid after)
 Behind ended error.LinkEnded past mid after = (ended ≡ true) × (0 < awaited past) × GotPart mid after
 Behind ended other past mid after = (0 < awaited past) × GotUnusable (refuses past) other mid after
 
@@ -81,7 +82,7 @@ Stops s ended e past before after = StopsAs (IsLater s past) ended e past before
 -- the hello was sent, and then came what can't be used, or less than a frame, or it failed within a frame
 abbrev pub BehindHello : Bool → Error → List Piece → List Piece → Type 0
 BehindHello ended error.OutOfMemory mid after = GotBytes mid after
-BehindHello ended error.LinkFault mid after = GotBytes mid after
+BehindHello ended error.LinkFault mid after = GotPart mid after
 BehindHello ended error.LinkEnded mid after = (ended ≡ true) × GotPart mid after
 BehindHello ended other mid after = GotUnusable refuses_hello other mid after
 

@@ -3,7 +3,7 @@ ghost use Rattle.std.specs.Prelude.{◌≡◌, ◌<◌, ◌^◌, ◌-◌, IfErr,
 ghost use Rattle.sftp_link.specs.Told.{Told};
 ghost use Rattle.sftp_history.specs.Runs.{IsRun};
 ghost use Rattle.sftp_driver.specs.Session.{IsFixed, at_rest};
-ghost use Rattle.sftp_driver.specs.Causes.{Cause, EndCause};
+ghost use Rattle.sftp_driver.specs.Causes.{Cause, EndCause, IsRunError};
 ghost use Rattle.sftp_driver.specs.Logs.{Ends, Showing};
 
 use crate::opening::open;
@@ -22,7 +22,7 @@ use std::alloc::Global;
 /// the journal. `LinkFault` comes only where the link's count of faults rose, `LinkEnded` only where its last call
 /// found the end, and each other error but `OutOfMemory` is the first thing that is wrong with the frame that came
 /// last. After an error the log shows VERSION and a journal that is a run so far of the lanes, or the hello, and then
-/// nothing, a front of the next frames to be sent, or bytes of one frame that wasn't taken.
+/// nothing, a prefix of the next frames to be sent, or bytes of one frame that wasn't taken, and none past it.
 pub fn run_session<X: RunsLanes, L: Link>(
     alloc: Global,
     session: &mut X,
@@ -38,6 +38,7 @@ pub fn run_session<X: RunsLanes, L: Link>(
     ensures stops { IfErr result (λ e. Told (Ends (X.given session.old) (L.LinkState.ended link.new) e) (L.LinkState.log link.old) (L.LinkState.log link.new)) }
     ensures cause { Cause (L.LinkState.faults link.old) (L.LinkState.faults link.new) result }
     ensures end { EndCause (L.LinkState.ended link.new) result }
+    ensures only { IfErr result IsRunError }
     ensures service { L.LinkState.service link.new ≡ L.LinkState.service link.old }
 {
     match open(alloc, session, link) {

@@ -1,11 +1,11 @@
 // What goes over a link: the pieces of a chunk, and one frame.
-ghost use Rattle.std.specs.Prelude.{◌≡◌, ◌<◌, ◌≤◌, ◌+◌, ◌^◌, ◌-◌, length, None, IfOk, IfErr, OnOk};
+ghost use Rattle.std.specs.Prelude.{◌≡◌, ◌<◌, ◌^◌, ◌-◌, length, None, IfOk, IfErr, OnOk};
 ghost use Rattle.sftp_model.specs.Pieces.{joined};
 ghost use Rattle.sftp_link.specs.Told.{Told, SendsAll, GotAll};
 ghost use Rattle.sftp_link.specs.Causes.{Cause as DeviceCause};
 ghost use Rattle.sftp_wire.specs.FrameReader.{need_of};
-ghost use Rattle.sftp_driver.specs.Causes.{Cause, EndCause};
-ghost use Rattle.sftp_driver.specs.Reading.{Pulled, PullFails, Grown, IsWhole, ReadFails};
+ghost use Rattle.sftp_driver.specs.Causes.{Cause, EndCause, IsRunError};
+ghost use Rattle.sftp_driver.specs.Reading.{Pulled, PullFails, Grown, IsFramePrefix, IsWhole, ReadFails};
 ghost use Rattle.sftp_driver.specs.Refusals.{error_of};
 
 use bytes::Bytes;
@@ -17,7 +17,8 @@ use std::alloc::Global;
 
 /// What a refused frame is to a run.
 pub(crate) fn refused(e: TakeError) -> Error
-    ensures { result ≡ error_of e }
+    ensures error { result ≡ error_of e }
+    ensures only { IsRunError result }
 {
     match e {
         TakeError::OutOfMemory => Error::OutOfMemory,
@@ -59,13 +60,15 @@ fn take_part<L: LinkIn>(
 ) -> Result<(), Error>
     requires unrefused { reader.old.refused ≡ None }
     requires fits { length room.old ≡ need_of reader.old }
-    requires bounded { length reader.old.bytes + need_of reader.old ≤ 1048579 }
+    requires prefix { IsFramePrefix reader.old.bytes }
     requires count { L.LinkState.faults link.old < 2 ^ 64 - 1 }
     ensures ok { OnOk result (Told (Pulled reader.old reader.new) (L.LinkState.log link.old) (L.LinkState.log link.new)) }
     ensures grown { OnOk result (Grown reader.old room.new reader.new) }
+    ensures prefix { OnOk result (IsFramePrefix reader.new.bytes) }
     ensures stops { IfErr result (λ e. Told (PullFails e reader.old) (L.LinkState.log link.old) (L.LinkState.log link.new)) }
     ensures cause { Cause (L.LinkState.faults link.old) (L.LinkState.faults link.new) result }
     ensures end { EndCause (L.LinkState.ended link.new) result }
+    ensures only { IfErr result IsRunError }
     ensures service { L.LinkState.service link.new ≡ L.LinkState.service link.old }
 {
     match recv_exact(link, room) {
@@ -90,6 +93,7 @@ pub(crate) fn read_frame<L: LinkIn>(alloc: Global, link: &mut L) -> Result<Frame
     ensures stops { IfErr result (λ e. Told (ReadFails e) (L.LinkState.log link.old) (L.LinkState.log link.new)) }
     ensures cause { Cause (L.LinkState.faults link.old) (L.LinkState.faults link.new) result }
     ensures end { EndCause (L.LinkState.ended link.new) result }
+    ensures only { IfErr result IsRunError }
     ensures service { L.LinkState.service link.new ≡ L.LinkState.service link.old }
 {
     let mut reader = FrameReader::new(alloc);

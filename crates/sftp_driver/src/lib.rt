@@ -12,3 +12,6 @@ mod turns;
 pub use driver::run_session;
 pub use no_lanes::NoLanes;
 pub use session::{Phase, RunsLanes, Stepped};
+pub use sftp_core::TakeError;
+pub use sftp_model::Error;
+pub use ssh_encoding::OutOfMemory;

@@ -3,7 +3,7 @@ ghost use Rattle.std.specs.Prelude.{◌≡◌, ◌<◌, ◌^◌, ◌-◌, [], fa
 ghost use Rattle.sftp_link.specs.Told.{Told};
 ghost use Rattle.sftp_history.specs.Runs.{Opens};
 ghost use Rattle.sftp_driver.specs.Session.{Begins, IsFixed, IsLater, IsOpened, IsSoFar, Welcomed, at_rest};
-ghost use Rattle.sftp_driver.specs.Causes.{Cause, EndCause};
+ghost use Rattle.sftp_driver.specs.Causes.{Cause, EndCause, IsRunError};
 ghost use Rattle.sftp_driver.specs.Logs.{Ends, HelloStops, Keeps, Showing, StopsAs};
 
 use crate::exchange::{read_frame, refused, send_pieces};
@@ -26,6 +26,7 @@ fn greet<X: RunsLanes, L: Link>(alloc: Global, session: &mut X, link: &mut L) ->
     ensures given { X.given session.new ≡ X.given session.old }
     ensures cause { Cause (L.LinkState.faults link.old) (L.LinkState.faults link.new) result }
     ensures end { EndCause (L.LinkState.ended link.new) result }
+    ensures only { IfErr result IsRunError }
     ensures service { L.LinkState.service link.new ≡ L.LinkState.service link.old }
 {
     let chunk = match session.greet() {
@@ -70,6 +71,7 @@ fn ask_limits<X: RunsLanes, L: Link>(
     ensures given { X.given session.new ≡ X.given session.old }
     ensures cause { Cause (L.LinkState.faults link.old) (L.LinkState.faults link.new) result }
     ensures end { EndCause (L.LinkState.ended link.new) result }
+    ensures only { IfErr result IsRunError }
     ensures service { L.LinkState.service link.new ≡ L.LinkState.service link.old }
 {
     let chunk = match session.query() {
@@ -110,6 +112,7 @@ pub(crate) fn open<X: RunsLanes, L: Link>(
     ensures stops { IfErr result (λ e. Told (Ends (X.given session.old) (L.LinkState.ended link.new) e) (L.LinkState.log link.old) (L.LinkState.log link.new)) }
     ensures cause { Cause (L.LinkState.faults link.old) (L.LinkState.faults link.new) result }
     ensures end { EndCause (L.LinkState.ended link.new) result }
+    ensures only { IfErr result IsRunError }
     ensures service { L.LinkState.service link.new ≡ L.LinkState.service link.old }
 {
     match greet(alloc, session, link) {

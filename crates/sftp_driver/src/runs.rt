@@ -5,7 +5,7 @@ ghost use Rattle.sftp_history.specs.Calls.{current};
 ghost use Rattle.sftp_history.specs.Readings.{unanswered, was_let_go};
 ghost use Rattle.sftp_history.specs.Runs.{TurnsTo, RoundsTo, EndsTo, LetGoTo, LetsGoTo, DrainsTo, round_of};
 ghost use Rattle.sftp_driver.specs.Session.{GoesOn, IsLater, drain_of};
-ghost use Rattle.sftp_driver.specs.Causes.{Cause, EndCause};
+ghost use Rattle.sftp_driver.specs.Causes.{Cause, EndCause, IsRunError};
 ghost use Rattle.sftp_driver.specs.Logs.{Keeps, Stops};
 
 use crate::session::{Phase, RunsLanes};
@@ -33,6 +33,7 @@ pub(crate) fn run_turns<X: RunsLanes, L: Link>(
     ensures same { X.setting session.new ≡ X.setting session.old }
     ensures cause { Cause (L.LinkState.faults link.old) (L.LinkState.faults link.new) result }
     ensures end { EndCause (L.LinkState.ended link.new) result }
+    ensures only { IfErr result IsRunError }
     ensures service { L.LinkState.service link.new ≡ L.LinkState.service link.old }
 {
     for turn in schedule {
@@ -63,6 +64,7 @@ fn one_round<X: RunsLanes, L: Link>(
     ensures same { X.setting session.new ≡ X.setting session.old }
     ensures cause { Cause (L.LinkState.faults link.old) (L.LinkState.faults link.new) result }
     ensures end { EndCause (L.LinkState.ended link.new) result }
+    ensures only { IfErr result IsRunError }
     ensures service { L.LinkState.service link.new ≡ L.LinkState.service link.old }
 {
     match step_turn(session, link, lane) {
@@ -98,6 +100,7 @@ fn end_lane<X: RunsLanes, L: Link>(
     ensures same { X.setting session.new ≡ X.setting session.old }
     ensures cause { Cause (L.LinkState.faults link.old) (L.LinkState.faults link.new) result }
     ensures end { EndCause (L.LinkState.ended link.new) result }
+    ensures only { IfErr result IsRunError }
     ensures service { L.LinkState.service link.new ≡ L.LinkState.service link.old }
 {
     while !session.is_done(lane) {
@@ -127,6 +130,7 @@ pub(crate) fn end_lanes<X: RunsLanes, L: Link>(
     ensures same { X.setting session.new ≡ X.setting session.old }
     ensures cause { Cause (L.LinkState.faults link.old) (L.LinkState.faults link.new) result }
     ensures end { EndCause (L.LinkState.ended link.new) result }
+    ensures only { IfErr result IsRunError }
     ensures service { L.LinkState.service link.new ≡ L.LinkState.service link.old }
 {
     for lane in 0..session.lane_count() {
@@ -156,6 +160,7 @@ fn let_go_one<X: RunsLanes, L: Link>(session: &mut X, link: &mut L, lane: u32) -
     ensures same { X.setting session.new ≡ X.setting session.old }
     ensures cause { Cause (L.LinkState.faults link.old) (L.LinkState.faults link.new) result }
     ensures end { EndCause (L.LinkState.ended link.new) result }
+    ensures only { IfErr result IsRunError }
     ensures service { L.LinkState.service link.new ≡ L.LinkState.service link.old }
 {
     match session.let_go(lane) {
@@ -185,6 +190,7 @@ pub(crate) fn let_go_lanes<X: RunsLanes, L: Link>(
     ensures same { X.setting session.new ≡ X.setting session.old }
     ensures cause { Cause (L.LinkState.faults link.old) (L.LinkState.faults link.new) result }
     ensures end { EndCause (L.LinkState.ended link.new) result }
+    ensures only { IfErr result IsRunError }
     ensures service { L.LinkState.service link.new ≡ L.LinkState.service link.old }
 {
     for lane in 0..session.lane_count() {
@@ -214,6 +220,7 @@ fn one_drain<X: RunsLanes, L: Link>(
     ensures same { X.setting session.new ≡ X.setting session.old }
     ensures cause { Cause (L.LinkState.faults link.old) (L.LinkState.faults link.new) result }
     ensures end { EndCause (L.LinkState.ended link.new) result }
+    ensures only { IfErr result IsRunError }
     ensures service { L.LinkState.service link.new ≡ L.LinkState.service link.old }
 {
     match flush_turn(session, link) {
@@ -244,6 +251,7 @@ pub(crate) fn drain<X: RunsLanes, L: Link>(
     ensures same { X.setting session.new ≡ X.setting session.old }
     ensures cause { Cause (L.LinkState.faults link.old) (L.LinkState.faults link.new) result }
     ensures end { EndCause (L.LinkState.ended link.new) result }
+    ensures only { IfErr result IsRunError }
     ensures service { L.LinkState.service link.new ≡ L.LinkState.service link.old }
 {
     while session.unanswered() > 0 {

@@ -6,7 +6,7 @@ ghost use Rattle.sftp_history.specs.Calls.{current};
 ghost use Rattle.sftp_history.specs.Readings.{awaited, unanswered};
 ghost use Rattle.sftp_history.specs.Turns.{TurnTo, SendsTo};
 ghost use Rattle.sftp_driver.specs.Session.{Flushed, GoesOn, LessBy, Progresses};
-ghost use Rattle.sftp_driver.specs.Causes.{Cause, EndCause};
+ghost use Rattle.sftp_driver.specs.Causes.{Cause, EndCause, IsRunError};
 ghost use Rattle.sftp_driver.specs.Logs.{Keeps, Stops};
 
 use crate::exchange::{read_frame, refused, send_pieces};
@@ -30,6 +30,7 @@ pub(crate) fn flush<X: RunsLanes, L: Link>(session: &mut X, link: &mut L) -> Res
     ensures same { X.setting session.new ≡ X.setting session.old }
     ensures cause { Cause (L.LinkState.faults link.old) (L.LinkState.faults link.new) result }
     ensures end { EndCause (L.LinkState.ended link.new) result }
+    ensures only { IfErr result IsRunError }
     ensures service { L.LinkState.service link.new ≡ L.LinkState.service link.old }
 {
     let chunk = match session.hand_out() {
@@ -62,6 +63,7 @@ pub(crate) fn settle<X: RunsLanes, L: Link>(session: &mut X, link: &mut L) -> Re
     ensures same { X.setting session.new ≡ X.setting session.old }
     ensures cause { Cause (L.LinkState.faults link.old) (L.LinkState.faults link.new) result }
     ensures end { EndCause (L.LinkState.ended link.new) result }
+    ensures only { IfErr result IsRunError }
     ensures service { L.LinkState.service link.new ≡ L.LinkState.service link.old }
 {
     if !session.wants_flush() {
@@ -91,6 +93,7 @@ pub(crate) fn step_turn<X: RunsLanes, L: Link>(
     ensures same { X.setting session.new ≡ X.setting session.old }
     ensures cause { Cause (L.LinkState.faults link.old) (L.LinkState.faults link.new) result }
     ensures end { EndCause (L.LinkState.ended link.new) result }
+    ensures only { IfErr result IsRunError }
     ensures service { L.LinkState.service link.new ≡ L.LinkState.service link.old }
 {
     let stepped = match session.step(lane) {
@@ -121,6 +124,7 @@ pub(crate) fn flush_turn<X: RunsLanes, L: Link>(session: &mut X, link: &mut L) -
     ensures same { X.setting session.new ≡ X.setting session.old }
     ensures cause { Cause (L.LinkState.faults link.old) (L.LinkState.faults link.new) result }
     ensures end { EndCause (L.LinkState.ended link.new) result }
+    ensures only { IfErr result IsRunError }
     ensures service { L.LinkState.service link.new ≡ L.LinkState.service link.old }
 {
     match flush(session, link) {
@@ -147,6 +151,7 @@ pub(crate) fn take_turn<X: RunsLanes, L: Link>(
     ensures same { X.setting session.new ≡ X.setting session.old }
     ensures cause { Cause (L.LinkState.faults link.old) (L.LinkState.faults link.new) result }
     ensures end { EndCause (L.LinkState.ended link.new) result }
+    ensures only { IfErr result IsRunError }
     ensures service { L.LinkState.service link.new ≡ L.LinkState.service link.old }
 {
     if session.awaited() == 0 {
@@ -185,6 +190,7 @@ pub(crate) fn cancel_turn<X: RunsLanes, L: Link>(
     ensures same { X.setting session.new ≡ X.setting session.old }
     ensures cause { Cause (L.LinkState.faults link.old) (L.LinkState.faults link.new) result }
     ensures end { EndCause (L.LinkState.ended link.new) result }
+    ensures only { IfErr result IsRunError }
     ensures service { L.LinkState.service link.new ≡ L.LinkState.service link.old }
 {
     match session.cancel(lane) {
@@ -215,6 +221,7 @@ pub(crate) fn one_turn<X: RunsLanes, L: Link>(
     ensures same { X.setting session.new ≡ X.setting session.old }
     ensures cause { Cause (L.LinkState.faults link.old) (L.LinkState.faults link.new) result }
     ensures end { EndCause (L.LinkState.ended link.new) result }
+    ensures only { IfErr result IsRunError }
     ensures service { L.LinkState.service link.new ≡ L.LinkState.service link.old }
 {
     match turn {

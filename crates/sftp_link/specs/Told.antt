@@ -81,9 +81,9 @@ abbrev pub WritesAll : {T : Type 0} → List ℕ → Option (List ℕ) → Optio
 WritesAll bytes before now (Ok x) = Told (Went bytes) before now
 WritesAll bytes before now (Err e) = Told (WentLess bytes) before now
 
--- all that was left, or as many bytes of it as the limit
+-- all that was left, or as many bytes of it as the limit, and never more
 abbrev pub ReadUpTo : ℕ → List ℕ → List ℕ → List ℕ → Type 0
-ReadUpTo limit bytes before now = (before ≡ bytes ++ now) × (length bytes < limit → now ≡ [])
+ReadUpTo limit bytes before now = (before ≡ bytes ++ now) × (length bytes < limit → now ≡ []) × (length bytes ≤ limit)
 
 -- no more bytes than the limit are gone
 abbrev pub ReadSome : ℕ → List ℕ → List ℕ → Type 0

@@ -30,9 +30,12 @@ fn call<R: Net + Drop>(
     Ok((filled, room))
 }
 
+// A path of 100 bytes; a socket's may have 107.
+const PATH: &str = "a-socket-whose-path-has-one-hundred-bytes-which-is-near-the-most-that-the-path-of-a-socket-may-have-";
+
 #[test]
 fn calls_a_listening_socket(rt: HostRuntime) -> Result<(), Fail> {
-    let path = "link.sock";
+    let path = PATH;
     let _ = fs::remove_file(&rt, path);
     let listener = UnixListener::bind(&rt, path)?;
     let (rt, listener) = (&rt, &listener);

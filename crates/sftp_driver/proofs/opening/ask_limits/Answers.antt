@@ -29,6 +29,6 @@ returns-in-Ok-take_limits-clause-log g c =
 
 pub returns-clause-stops : goal.returns-clause-stops
 returns-clause-stops g c =
-    rw c.refused.ensures
+    rw c.refused.ensures.error
     (stops_behind (IsSoFar (g.X.RunsLanes.given c.args.session.now) (g.X.RunsLanes.version c.args.session.now) (g.X.RunsLanes.setting c.args.session.now)) (IsSoFar (g.X.RunsLanes.given c.args.session.now) (g.X.RunsLanes.version c.args.session.now) (g.X.RunsLanes.setting c.args.session.now)) (g.L.LinkState.ended c.read_frame.new.link) (error_of c.in-Err-take_limits.e) (g.X.RunsLanes.stage c.args.session.now).past (g.X.RunsLanes.stage c.query.new.self).past (g.L.LinkState.log c.args.link.now) (g.L.LinkState.log c.send_pieces.new.link) (g.L.LinkState.log c.read_frame.new.link) (λ now is. is) (keeps_sent (g.X.RunsLanes.stage c.args.session.now).past (g.X.RunsLanes.stage c.query.new.self).past _ (g.L.LinkState.log c.args.link.now) (g.L.LinkState.log c.send_pieces.new.link) c.in-Ok.ensures.event (rw c.pieces.ensures c.in-Ok.ensures.ok) c.in-Ok-send_pieces.ensures.log)
-    (refused_here (IsSoFar (g.X.RunsLanes.given c.args.session.now) (g.X.RunsLanes.version c.args.session.now) (g.X.RunsLanes.setting c.args.session.now)) (g.L.LinkState.ended c.read_frame.new.link) c.in-Err-take_limits.e (g.X.RunsLanes.stage c.query.new.self).past c.in-Some.body.now c.in-Ok-read_frame.reader.bytes (g.L.LinkState.log c.send_pieces.new.link) (g.L.LinkState.log c.read_frame.new.link) (query_so_far (g.X.RunsLanes.given c.args.session.now) (g.X.RunsLanes.version c.args.session.now) (g.X.RunsLanes.setting c.args.session.now) (g.X.RunsLanes.stage c.args.session.now).past (g.X.RunsLanes.stage c.query.new.self).past c.requires.so_far c.in-Ok.ensures.event (rw c.in-Ok.ensures.same at c.in-Ok.ensures.later)) (asked_awaits (g.X.RunsLanes.phase c.args.session.now) (g.X.RunsLanes.stage c.args.session.now).past (g.X.RunsLanes.stage c.query.new.self).past c.requires.begins c.in-Ok.ensures.event) c.in-Some.ensures.spelled.0 c.in-Some.ensures.spelled.1 (rw c.give_back.ensures.stage at c.in-Err-take_limits.ensures.refused) c.in-Ok-read_frame.ensures.log))
+    (refused_here (IsSoFar (g.X.RunsLanes.given c.args.session.now) (g.X.RunsLanes.version c.args.session.now) (g.X.RunsLanes.setting c.args.session.now)) (g.L.LinkState.ended c.read_frame.new.link) c.in-Err-take_limits.e (g.X.RunsLanes.stage c.query.new.self).past c.in-Some.body.now c.in-Ok-read_frame.reader.bytes (g.L.LinkState.log c.send_pieces.new.link) (g.L.LinkState.log c.read_frame.new.link) (query_so_far (g.X.RunsLanes.given c.args.session.now) (g.X.RunsLanes.version c.args.session.now) (g.X.RunsLanes.setting c.args.session.now) (g.X.RunsLanes.stage c.args.session.now).past (g.X.RunsLanes.stage c.query.new.self).past c.requires.so_far c.in-Ok.ensures.event (rw c.in-Ok.ensures.same at c.in-Ok.ensures.later)) (asked_awaits (g.X.RunsLanes.phase c.args.session.now) (g.X.RunsLanes.stage c.args.session.now).past (g.X.RunsLanes.stage c.query.new.self).past c.requires.begins c.in-Ok.ensures.event) c.in-Ok-read_frame.ensures.whole.prefix c.in-Some.ensures.spelled.0 c.in-Some.ensures.spelled.1 (rw c.give_back.ensures.stage at c.in-Err-take_limits.ensures.refused) c.in-Ok-read_frame.ensures.log))

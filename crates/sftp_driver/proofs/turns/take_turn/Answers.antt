@@ -26,4 +26,4 @@ returns-in-Ok-take-clause-stops g c =
 
 pub returns-clause-stops : goal.returns-clause-stops
 returns-clause-stops g c =
-    rw c.refused.ensures (stops_refused (g.X.RunsLanes.setting c.args.session.now) (g.L.LinkState.ended c.read_frame.new.link) c.in-Err-take.e (g.X.RunsLanes.stage c.args.session.now).past c.in-Some.body.now c.in-Ok.reader.bytes (g.L.LinkState.log c.args.link.now) (g.L.LinkState.log c.read_frame.new.link) (some_awaited c.awaited.result (awaited (g.X.RunsLanes.stage c.args.session.now).past) c.awaited.ensures c.if-awaited-eq0.false) c.in-Some.ensures.spelled.0 c.in-Some.ensures.spelled.1 c.in-Err-take.ensures.refused c.in-Ok.ensures.log)
+    rw c.refused.ensures.error (stops_refused (g.X.RunsLanes.setting c.args.session.now) (g.L.LinkState.ended c.read_frame.new.link) c.in-Err-take.e (g.X.RunsLanes.stage c.args.session.now).past c.in-Some.body.now c.in-Ok.reader.bytes (g.L.LinkState.log c.args.link.now) (g.L.LinkState.log c.read_frame.new.link) (some_awaited c.awaited.result (awaited (g.X.RunsLanes.stage c.args.session.now).past) c.awaited.ensures c.if-awaited-eq0.false) c.in-Ok.ensures.whole.prefix c.in-Some.ensures.spelled.0 c.in-Some.ensures.spelled.1 c.in-Err-take.ensures.refused c.in-Ok.ensures.log)
