@@ -2,6 +2,7 @@
 use Rattle.std.specs.Prelude.{ℕ, ◌≤◌, ◌==◌, Bool, Option, Some, None}
 use Rattle.std.specs.Int.RustNames.{bit_and}
 use Rattle.sftp_model.specs.Lengths.{session_lengths}
+use Rattle.sftp_model.specs.Numbers.{MAX_TRANSFER_LEN}
 use Rattle.sftp_model.specs.declared.config.Limits.{Limits}
 use Rattle.sftp_model.specs.declared.flags.Extensions.{Extensions}
 use Rattle.sftp_core.specs.declared.options.SftpOptions.{SftpOptions}
@@ -28,10 +29,10 @@ info_of Greeting = None
 info_of (Asking extensions) = None
 info_of (Open info) = Some info
 
--- both lengths are from 1 to 1048275 bytes
+-- both lengths are at least one byte, and at most what one READ or WRITE may move
 pub record HasLengths (info : Info) : Type 0 where
-  pub read : (1 ≤ info.read_len) × (info.read_len ≤ 1048275)
-  pub write : (1 ≤ info.write_len) × (info.write_len ≤ 1048275)
+  pub read : (1 ≤ info.read_len) × (info.read_len ≤ MAX_TRANSFER_LEN)
+  pub write : (1 ≤ info.write_len) × (info.write_len ≤ MAX_TRANSFER_LEN)
 
 -- an open session has such lengths
 abbrev pub IsRanged : Phase → Type 0
@@ -45,11 +46,15 @@ hello_of Greeting = 1
 hello_of (Asking extensions) = 0
 hello_of (Open info) = 0
 
+-- the most ids that are in use at one time
+abbrev pub MAX_IDS : ℕ
+MAX_IDS = 2147483648
+
 -- the most ids that may be in use
 abbrev pub most_ids : Phase → ℕ
 most_ids Greeting = 0
-most_ids (Asking extensions) = 2147483648
-most_ids (Open info) = 2147483648
+most_ids (Asking extensions) = MAX_IDS
+most_ids (Open info) = MAX_IDS
 
 -- whether the server offers the query for limits
 abbrev pub offers_limits : Extensions → Bool

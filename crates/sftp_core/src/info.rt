@@ -1,8 +1,12 @@
 ghost use Rattle.std.specs.Prelude.{◌≡◌, ◌≤◌};
+ghost use Rattle.sftp_model.specs.Numbers.{MAX_TRANSFER_LEN};
 ghost use Rattle.sftp_core.specs.Info.{lengths_of, info_with, HasLengths};
 
 use crate::options::SftpOptions;
 use sftp_model::{Extensions, Limits, session_lengths};
+
+/// The most ids that are in use at one time: a request may be submitted where fewer are kept.
+pub const MAX_IDS: u32 = 2_147_483_648;
 
 /// What a session knows of its server once the greeting is over.
 #[derive(Clone, Copy, Debug, PartialEq, Eq)]
@@ -19,8 +23,8 @@ pub struct Info {
 /// advertise, 32768 where they say nothing, and at most what the options say (OpenSSH's PROTOCOL, section 4.8).
 pub fn lengths(limits: Option<Limits>, options: &SftpOptions) -> (u32, u32)
     ensures value { result ≡ lengths_of limits options.now }
-    ensures read_range { (1 ≤ result.0) × (result.0 ≤ 1048275) }
-    ensures write_range { (1 ≤ result.1) × (result.1 ≤ 1048275) }
+    ensures read_range { (1 ≤ result.0) × (result.0 ≤ MAX_TRANSFER_LEN) }
+    ensures write_range { (1 ≤ result.1) × (result.1 ≤ MAX_TRANSFER_LEN) }
 {
     session_lengths(limits, options.max_read_len, options.max_write_len)
 }

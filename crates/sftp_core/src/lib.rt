@@ -16,7 +16,7 @@ mod tokens;
 pub use chunk::Chunk;
 pub use ended::Ended;
 pub use errors::{SubmitError, TakeError};
-pub use info::{Info, lengths};
+pub use info::{Info, MAX_IDS, lengths};
 pub use laws::{one_request_an_id, options_only_lower, takes_what_may_answer};
 pub use options::SftpOptions;
 pub use phase::Phase;

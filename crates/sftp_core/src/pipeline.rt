@@ -4,7 +4,7 @@ ghost use Rattle.std.specs.Option.{option_map};
 ghost use Rattle.sftp_model.specs.Answers.{expected_of};
 ghost use Rattle.sftp_core.specs.Core.{fresh, queued_of, awaited_of, unanswered_of, kept_of, failed_with};
 ghost use Rattle.sftp_core.specs.Frames.{IsShort};
-ghost use Rattle.sftp_core.specs.Info.{info_of, HasLengths};
+ghost use Rattle.sftp_core.specs.Info.{MAX_IDS, info_of, HasLengths};
 ghost use Rattle.sftp_core.specs.Table.{count, is_owing};
 ghost use Rattle.sftp_core.specs.declared.place.Place.TheVariants.{Waiting};
 
@@ -163,7 +163,7 @@ fn put_last(
     wanted: bool,
 ) -> Result<(), OutOfMemory>
     requires free { fin.get table.old id ≡ None }
-    requires few { fin.len table.old < 2147483648 }
+    requires few { fin.len table.old < MAX_IDS }
     ensures queued { OnOk result (queue.new.items ≡ queue.old.items ++ (id, request) ∷ []) }
     ensures len { OnOk result (vec_len queue.new ≡ vec_len queue.old + 1) }
     ensures kept { OnOk result (table.new ≡ fin.insert table.old id (Waiting (expected_of request) false wanted)) }

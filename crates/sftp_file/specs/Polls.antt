@@ -5,6 +5,7 @@ use Rattle.sftp_model.specs.declared.error.Error.TheVariants as error
 use Rattle.sftp_model.specs.declared.error.Fault.{Fault}
 use Rattle.sftp_model.specs.declared.reply.Reply.{Reply}
 use Rattle.sftp_model.specs.declared.reply.Reply.TheVariants as reply
+use Rattle.sftp_model.specs.Numbers.{SSH_FX_OK, SSH_FX_EOF}
 use Rattle.sftp_core.specs.Core.{Core, at, after_poll, reply_in}
 use Rattle.sftp_file.specs.declared.poll.Poll.{Poll}
 use Rattle.sftp_file.specs.declared.poll.Poll.TheVariants as poll
@@ -61,7 +62,7 @@ pub record IsReadOf (f : FileValue) (call : Reading) : Type 0 where
 -- the bytes of a DATA; a STATUS 1 is the end and any other a refusal
 abbrev pub read_answer : Reply → Result (Option (List ℕ)) Error
 read_answer (reply.Content bytes) = Ok (Some bytes)
-read_answer (reply.Status code message language) = if code == 1 then Ok None else Err (error.SftpError code message language)
+read_answer (reply.Status code message language) = if code == SSH_FX_EOF then Ok None else Err (error.SftpError code message language)
 read_answer other = Err (error.InvalidResponse None)
 
 -- the file stands behind the bytes of a DATA
@@ -109,7 +110,7 @@ polled_open core o (Asked ticket) = answered (open_answer o ticket) (reply_in (a
 
 -- a STATUS 0 is the end, and any other a refusal
 abbrev pub close_answer : Reply → Result (Unit {0}) Error
-close_answer (reply.Status code message language) = if code == 0 then Ok tt else Err (error.SftpError code message language)
+close_answer (reply.Status code message language) = if code == SSH_FX_OK then Ok tt else Err (error.SftpError code message language)
 close_answer other = Err (error.InvalidResponse None)
 
 -- what a call that let a file go awaits: the reply to the CLOSE, where one was asked

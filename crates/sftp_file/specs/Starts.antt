@@ -13,7 +13,7 @@ use Rattle.sftp_model.specs.declared.slot.Move.TheVariants.{Ask, Done}
 use Rattle.sftp_model.specs.declared.slot.Site.{Site}
 use Rattle.sftp_core.specs.declared.info.Info.{Info}
 use Rattle.sftp_core.specs.Core.{Core, at, queued_last}
-use Rattle.sftp_core.specs.Info.{info_of}
+use Rattle.sftp_core.specs.Info.{MAX_IDS, info_of}
 use Rattle.sftp_file.specs.declared.stage.Stage.{Stage}
 use Rattle.sftp_file.specs.declared.stage.Stage.TheVariants.{Ended, Ready, Asked}
 
@@ -70,4 +70,4 @@ ClosesBy Ended handle site move = ⊥
 -- a request may be submitted
 pub record IsReady (core : Core) : Type 0 where
   pub open_now : IsSome (info_of core.phase)
-  pub few : fin.len core.table < 2147483648
+  pub few : fin.len core.table < MAX_IDS

@@ -17,6 +17,7 @@ ghost use Rattle.sftp_file.specs.Stages.{IsAwaited, IsHeld, KeepsGrants, cancell
 use crate::poll::Poll;
 use crate::stage::Stage;
 use sftp_core::{Core, Ended, Polled};
+use sftp_model::numbers::SSH_FX_OK;
 use sftp_model::{Error, Reply};
 use std::marker::Model;
 
@@ -108,7 +109,10 @@ fn closed(reply: Reply) -> Result<(), Error>
     ensures { result ≡ close_answer reply }
 {
     match reply {
-        Reply::Status { code: 0, .. } => Ok(()),
+        Reply::Status {
+            code: SSH_FX_OK,
+            ..
+        } => Ok(()),
         Reply::Status {
             code,
             message,

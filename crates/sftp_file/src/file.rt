@@ -9,7 +9,7 @@ ghost use Rattle.sftp_model.specs.Plans.{Answers, read_next, close_next};
 ghost use Rattle.sftp_model.specs.declared.slot.Slot.TheVariants as slots;
 ghost use Rattle.sftp_model.specs.Slots.{with_slot, has_grant};
 ghost use Rattle.sftp_core.specs.Core.{at, users_of, IsGrant, retained, released, release_gives, is_long};
-ghost use Rattle.sftp_core.specs.Info.{info_of};
+ghost use Rattle.sftp_core.specs.Info.{MAX_IDS, info_of};
 ghost use Rattle.sftp_file.specs.Files.{IsInSlot};
 ghost use Rattle.sftp_file.specs.Polls.{Reading, IsReadOf, closing};
 ghost use Rattle.sftp_file.specs.Stages.{IsAwaited, Keeps};
@@ -94,7 +94,7 @@ impl File {
     /// before. The file stays as it is until the reply is polled.
     pub fn start_read(&mut self, core: &mut Core, n: u32) -> Result<ReadCall, Error>
         requires ready { IsSome (info_of core.old.phase) }
-        requires few { fin.len core.old.table < 2147483648 }
+        requires few { fin.len core.old.table < MAX_IDS }
         ensures starts { (slot place : ℕ) (site : Site) (facts : Facts) (answers : Answers)
             → IsInSlot self.old slot place site answers → facts.read_len ≡ read_len_of core.old
             → Started outcome.End core.old (staged (λ (call : Reading). call.stage) result) site

@@ -7,7 +7,7 @@ ghost use Rattle.sftp_model.specs.declared.slot.Site.{Site};
 ghost use Rattle.sftp_model.specs.Plans.{Answers, open_request, open_next};
 ghost use Rattle.sftp_core.specs.Core.{is_long};
 ghost use Rattle.sftp_model.specs.Readings.{has_bit};
-ghost use Rattle.sftp_core.specs.Info.{info_of};
+ghost use Rattle.sftp_core.specs.Info.{MAX_IDS, info_of};
 ghost use Rattle.sftp_file.specs.OpenOptions.{nothing_chosen, flags_of};
 ghost use Rattle.sftp_file.specs.Polls.{Opening};
 ghost use Rattle.sftp_file.specs.Stages.{IsAsked, Keeps};
@@ -17,13 +17,16 @@ use crate::open_call::OpenCall;
 use crate::stage::Stage;
 use bitflags::Flags;
 use sftp_core::Core;
+use sftp_model::numbers::{
+    SSH_FXF_APPEND, SSH_FXF_CREAT, SSH_FXF_EXCL, SSH_FXF_READ, SSH_FXF_TRUNC, SSH_FXF_WRITE,
+};
 use sftp_model::{Error, FileAttrs, IoKind, OpenFlags, RemotePath, Request};
 use ssh_encoding::OutOfMemory;
 use std::alloc::Global;
 
 /// The most bytes of a path whose OPEN fits a frame. The body of an OPEN without attributes has 17 bytes more, and
 /// the body of a frame at most 1048575 (draft-ietf-secsh-filexfer-02, sections 3 and 6.3).
-const PATH_LIMIT: usize = 1048558;
+const MAX_PATH_LEN: usize = 1048558;
 
 /// How a file is to be opened. Each setter answers the options that it changed, so that calls are chained.
 #[derive(Clone, Copy, Debug, PartialEq, Eq)]
@@ -110,15 +113,19 @@ impl OpenOptions {
     pub fn flags(&self) -> OpenFlags
         ensures { result ≡ flags_of self.now }
     {
-        let read = if self.read { 1 } else { 0 };
-        let write = if self.write || self.append { 2 } else { 0 };
-        let append = if self.append { 4 } else { 0 };
+        let read = if self.read { SSH_FXF_READ } else { 0 };
+        let write = if self.write || self.append {
+            SSH_FXF_WRITE
+        } else {
+            0
+        };
+        let append = if self.append { SSH_FXF_APPEND } else { 0 };
         let made = if self.create_new {
-            8 + 32
+            SSH_FXF_CREAT + SSH_FXF_EXCL
         } else if self.create && self.truncate {
-            8 + 16
+            SSH_FXF_CREAT + SSH_FXF_TRUNC
         } else if self.create {
-            8
+            SSH_FXF_CREAT
         } else {
             0
         };
@@ -133,7 +140,7 @@ impl OpenOptions {
     /// come in place of any answer. Refused, nothing was submitted, and the core is as before.
     pub fn start_open(&self, alloc: Global, core: &mut Core, path: &[u8]) -> Result<OpenCall, Error>
         requires ready { IsSome (info_of core.old.phase) }
-        requires few { fin.len core.old.table < 2147483648 }
+        requires few { fin.len core.old.table < MAX_IDS }
         ensures starts { (slot : ℕ) (site : Site) (facts : Facts) (answers : Answers)
             → Started outcome.Opened core.old (staged (λ (call : Opening). call.stage) result) site
             (open_next slot (flags_of self.now) path.now site facts [] answers) core.new }
@@ -142,7 +149,7 @@ impl OpenOptions {
         ensures readable { IfOk result (λ call. call.readable ≡ has_bit (flags_of self.now).0 1) }
         ensures writable { IfOk result (λ call. call.writable ≡ has_bit (flags_of self.now).0 2) }
     {
-        if path.len() > PATH_LIMIT {
+        if path.len() > MAX_PATH_LEN {
             return Err(Error::IOError(IoKind::PathTooLong));
         }
         let request = match self.open_request(alloc, path) {

@@ -18,6 +18,7 @@ use crate::poll::Poll;
 use crate::stage::Stage;
 use bytes::Bytes;
 use sftp_core::{Core, Ended, Polled};
+use sftp_model::numbers::SSH_FX_EOF;
 use sftp_model::{Error, Reply};
 use std::marker::Model;
 
@@ -140,7 +141,10 @@ impl File {
                 self.offset += bytes.len() as u64;
                 Ok(Some(bytes))
             }
-            Reply::Status { code: 1, .. } => Ok(None),
+            Reply::Status {
+                code: SSH_FX_EOF,
+                ..
+            } => Ok(None),
             Reply::Status {
                 code,
                 message,

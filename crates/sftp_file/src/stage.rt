@@ -5,7 +5,7 @@ ghost use Rattle.sftp_model.specs.declared.outcome.Outcome.{Outcome};
 ghost use Rattle.sftp_model.specs.declared.slot.Move.TheVariants.{Ask};
 ghost use Rattle.sftp_model.specs.declared.slot.Site.{Site};
 ghost use Rattle.sftp_core.specs.Core.{is_call, is_long};
-ghost use Rattle.sftp_core.specs.Info.{info_of};
+ghost use Rattle.sftp_core.specs.Info.{MAX_IDS, info_of};
 ghost use Rattle.sftp_file.specs.Stages.{Keeps, KeepsGrants, IsAsked, IsHeld, cancelled, ticket_of, is_ended};
 ghost use Rattle.sftp_file.specs.Starts.{Started};
 
@@ -29,7 +29,7 @@ impl Stage {
     /// the core is as before then.
     pub(crate) fn ask(core: &mut Core, request: Request) -> Result<Stage, Error>
         requires ready { IsSome (info_of core.old.phase) }
-        requires few { fin.len core.old.table < 2147483648 }
+        requires few { fin.len core.old.table < MAX_IDS }
         requires call { IsTrue (is_call request) }
         requires short { is_long request ≡ false }
         ensures starts { (at_once : Outcome) (site : Site)

@@ -264,9 +264,9 @@ read_lines n d [] = Ok d.script
 read_lines n d (line ∷ lines) = go_on n (read_line d line) (λ more. read_lines (n + 1) more lines)
 
 -- the most bytes of a script
-abbrev pub script_limit : ℕ
-script_limit = 16777216
+abbrev pub MAX_SCRIPT_LEN : ℕ
+MAX_SCRIPT_LEN = 16777216
 
 -- the script that bytes read as, or the number of the first line that is refused, counted from 1, and why
 abbrev pub script_of : List ℕ → Result Script (ℕ × Reason)
-script_of bytes = if nat_lt script_limit (length bytes) then Err (0, reason.Size) else read_lines 1 (record { script = empty_script; named = [] }) (lines_of bytes)
+script_of bytes = if nat_lt MAX_SCRIPT_LEN (length bytes) then Err (0, reason.Size) else read_lines 1 (record { script = empty_script; named = [] }) (lines_of bytes)

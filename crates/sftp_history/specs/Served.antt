@@ -10,6 +10,7 @@ use Rattle.sftp_model.specs.declared.reply.Reply.{Reply}
 use Rattle.sftp_model.specs.declared.reply.Reply.TheVariants as reply
 use Rattle.sftp_model.specs.FileMachine.{Machine, apply, at_key, status}
 use Rattle.sftp_model.specs.Frames.{limits_content}
+use Rattle.sftp_model.specs.Numbers.{MAX_HANDLE_LEN, SSH_FX_OP_UNSUPPORTED}
 use Rattle.sftp_history.specs.declared.event.Owner.{Owner}
 use Rattle.sftp_history.specs.declared.event.Owner.TheVariants as owner
 use Rattle.sftp_history.specs.declared.event.Event.TheVariants.{Submit, Send, Take}
@@ -47,7 +48,7 @@ first_choice (c ∷ choices) = c
 
 -- a handle that may be granted: a short one that is not open
 abbrev pub MayGrant : Machine → List ℕ → Type 0
-MayGrant m handle = (length handle ≤ 256) × (at_key m.handles handle ≡ None)
+MayGrant m handle = (length handle ≤ MAX_HANDLE_LEN) × (at_key m.handles handle ≡ None)
 
 -- a reply, where it was taken, is this one
 abbrev pub IsReply : Option Reply → Reply → Type 0
@@ -68,7 +69,7 @@ ServesAll config past m choices (r ∷ requests) now =
 
 -- the reply to the query for limits (OpenSSH's PROTOCOL, section 4.8)
 abbrev pub limits_reply : Option Limits → Reply
-limits_reply None = status 8
+limits_reply None = status SSH_FX_OP_UNSUPPORTED
 limits_reply (Some limits) = reply.Extended (limits_content limits)
 
 -- a reply, where its request is one of the opening

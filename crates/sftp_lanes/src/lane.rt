@@ -26,7 +26,7 @@ ghost use Rattle.sftp_lanes.specs.Tied.{LaneTied, CoreTied};
 ghost use Rattle.sftp_lanes.specs.Moves.{Moves, MayAdvance, IsOpen, OpenBegins, IsSteadyCore, file_in, HasAt, HasUsers, ReadBegins, CloseBegins, MayLetGo, IsOver, MayPollOpen, MayPollRead, MayPollClose, OpenPolls, ReadPolls, ClosePolls, close_outcome};
 
 use bytes::Bytes;
-use sftp_core::Core;
+use sftp_core::{Core, MAX_IDS};
 use sftp_file::{CloseCall, File, OpenCall, OpenOptions, Poll, ReadCall};
 use sftp_history::Call;
 use sftp_model::{Error, FileAttrs, Outcome, RemotePath, Request};
@@ -34,9 +34,6 @@ use sftp_values::ByteText;
 use ssh_encoding::OutOfMemory;
 use std::alloc::Global;
 use std::mem;
-
-// The most ids that a core may have in use.
-const MOST_IDS: u32 = 2_147_483_648;
 
 /// What the current call of a lane awaits.
 pub enum Running {
@@ -160,7 +157,7 @@ impl LaneState {
             site (open_next slot (flags_of flags) path.now site facts [] answers) m) }
         ensures steady { IsSteadyCore core.old core.new }
     {
-        if core.kept() >= MOST_IDS {
+        if core.kept() >= MAX_IDS {
             return Err(OutOfMemory);
         }
         let copy = RemotePath::new(Vec::from_slice(alloc, path)?);
@@ -202,7 +199,7 @@ impl LaneState {
             (read_next slot n site facts [] answers) m) }
         ensures steady { IsSteadyCore core.old core.new }
     {
-        if core.kept() >= MOST_IDS {
+        if core.kept() >= MAX_IDS {
             return Err(OutOfMemory);
         }
         let Some(info) = core.info() else {

@@ -20,7 +20,7 @@ use Rattle.sftp_model.specs.Numbers.{MAX_BODY_LEN, MAX_TRANSFER_LEN}
 use Rattle.sftp_model.specs.Frames.{extension_pair, extension_pairs, extension_table, limits_content, reply_body}
 use Rattle.sftp_history.specs.Served.{limits_reply}
 use Rattle.sftp_map_server.specs.Serving.{told_bits, version_reply}
-use Rattle.sftp_map_server.specs.Granting.{Granting, all_handles, gives_within, handle_of, next, served}
+use Rattle.sftp_map_server.specs.Granting.{Granting, MAX_HANDLES, gives_within, handle_of, next, served}
 
 -- what the machine may say
 abbrev pub IsShort : Reply → Type 0
@@ -65,7 +65,7 @@ answered_short m config (request.Close h) choice n w = close_short m h (at_key m
 answered_short m config other choice n w = said 8 (lit< tt)
 
 served_by : (P : Reply → Type 0) (g : Granting) (x : Reply × Machine) → P x.0 → P (status 4) → P (served g x).0
-served_by P g x h f = if_reply P (is_handle x.0) _ _ (λ e. if_reply P (g.grants == all_handles) _ _ (λ e. f) (λ e. h)) (λ e. h)
+served_by P g x h f = if_reply P (is_handle x.0) _ _ (λ e. if_reply P (g.grants == MAX_HANDLES) _ _ (λ e. f) (λ e. h)) (λ e. h)
 
 pub next_short : (g : Granting) (r : Request) (choice : Choice) → gives_within r choice ≡ true → choice.refuse < 2 ^ 32 → Short (next g r choice).0
 next_short g r choice w c =

@@ -9,7 +9,7 @@ use Rattle.sftp_model.specs.declared.reply.Reply.{Reply}
 use Rattle.sftp_model.specs.declared.machine.Held.{Held}
 use Rattle.sftp_model.specs.Answers.{is_handle}
 use Rattle.sftp_model.specs.FileMachine.{Machine, apply, at_key, after_open, after_close, capped, open_to_read, status}
-use Rattle.sftp_model.specs.Numbers.{MAX_TRANSFER_LEN}
+use Rattle.sftp_model.specs.Numbers.{MAX_TRANSFER_LEN, SSH_FX_FAILURE}
 
 -- the machine, what it offers, and how many handles it granted
 pub record Granting : Type 0 where
@@ -22,8 +22,8 @@ abbrev pub handle_of : ℕ → List ℕ
 handle_of n = to_be_bytes w32 n
 
 -- as many handles as there are numbers of four bytes
-abbrev pub all_handles : ℕ
-all_handles = 4294967296
+abbrev pub MAX_HANDLES : ℕ
+MAX_HANDLES = 4294967296
 
 -- ---- the first state
 
@@ -42,7 +42,7 @@ machine_of files = record { names = numbered 0 files; files = map (λ file. file
 abbrev pub served : Granting → Reply × Machine → Reply × Granting
 served g x =
     if is_handle x.0 then
-    (if g.grants == all_handles then (status 4, g) else (x.0, record { machine = x.1; config = g.config; grants = g.grants + 1 }))
+    (if g.grants == MAX_HANDLES then (status SSH_FX_FAILURE, g) else (x.0, record { machine = x.1; config = g.config; grants = g.grants + 1 }))
     else (x.0, record { machine = x.1; config = g.config; grants = g.grants })
 
 -- the reply to a request, and what is left: as the definition says, where the handle is the next number
@@ -87,4 +87,4 @@ IsBelow n handle = (k : ℕ) × (k < n) × (handle ≡ handle_of k)
 -- each open handle was granted
 pub record IsGranting (g : Granting) : Type 0 where
   pub handles : All (λ pair. IsBelow g.grants pair.0) g.machine.handles
-  pub count : g.grants ≤ all_handles
+  pub count : g.grants ≤ MAX_HANDLES

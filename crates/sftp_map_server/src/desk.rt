@@ -10,15 +10,13 @@ ghost use Rattle.sftp_map_server.specs.Serving.{desks_of, version_reply, is_hell
 
 use crate::machine::{Machine, capped};
 use bitflags::Flags;
+use sftp_model::numbers::{MAX_TRANSFER_LEN, SSH_FX_OP_UNSUPPORTED};
 use sftp_model::{Choice, Extensions, FrameError, Limits, Reply, Request, ServerConfig};
 use sftp_values::{ByteText, Items};
 use sftp_wire::{read_request, write_reply};
 use ssh_encoding::OutOfMemory;
 use std::alloc::Global;
 use std::marker::Model;
-
-// The most bytes of a DATA.
-const GREATEST_LEN: u32 = 1_048_275;
 
 /// A machine, its choices, and where the link stands.
 #[derive(Drop)]
@@ -67,7 +65,7 @@ pub fn gives_within(request: &Request, choice: Choice) -> bool
     ensures { result ≡ gives_within_by request.now choice }
 {
     match request {
-        Request::Read { len, .. } => capped(choice.cap, *len) <= GREATEST_LEN,
+        Request::Read { len, .. } => capped(choice.cap, *len) <= MAX_TRANSFER_LEN,
         _ => true,
     }
 }
@@ -209,7 +207,7 @@ impl Desk {
     {
         match self.machine.config().limits {
             Some(limits) => told_limits(self.alloc, limits),
-            None => Ok(self.machine.status(8)),
+            None => Ok(self.machine.status(SSH_FX_OP_UNSUPPORTED)),
         }
     }
 

@@ -4,7 +4,7 @@ ghost use Rattle.std.specs.Option.{option_map};
 ghost use Rattle.sftp_model.specs.FileMachine.{at_key, without_key, after_read, capped as capped_by, status as status_of, IsAfterHello};
 ghost use Rattle.sftp_model.specs.Answers.{MayAnswer};
 ghost use Rattle.sftp_model.specs.Fits.{FitsReply};
-ghost use Rattle.sftp_map_server.specs.Granting.{Granting, IsGranting, machine_of, next, next_open, next_close, granted, with_handles, handle_of as bytes_of_handle, all_handles, gives_within};
+ghost use Rattle.sftp_map_server.specs.Granting.{Granting, IsGranting, machine_of, next, next_open, next_close, granted, with_handles, handle_of as bytes_of_handle, MAX_HANDLES, gives_within};
 ghost use Rattle.sftp_map_server.specs.Order.{file_at};
 ghost use Rattle.sftp_history.specs.Texts.{sorted};
 ghost use Rattle.sftp_map_server.specs.Serving.{fresh};
@@ -12,6 +12,10 @@ ghost use Rattle.sftp_map_server.specs.Serving.{fresh};
 use crate::names::{contents_of, file_of, names_of, sorted_copies};
 use bitflags::Flags;
 use bytes::Bytes;
+use sftp_model::numbers::{
+    SSH_FX_EOF, SSH_FX_FAILURE, SSH_FX_NO_SUCH_FILE, SSH_FX_OK, SSH_FX_OP_UNSUPPORTED,
+    SSH_FX_PERMISSION_DENIED,
+};
 use sftp_model::{Choice, Handle, Held, Reply, Request, ServerConfig, machine_answers};
 use sftp_values::ByteText;
 use ssh_encoding::OutOfMemory;
@@ -19,7 +23,7 @@ use std::alloc::Global;
 use std::marker::Model;
 
 // As many handles as there are numbers of four bytes.
-const ALL_HANDLES: u64 = 4_294_967_296;
+const MAX_HANDLES: u64 = 4_294_967_296;
 
 /// Files in memory, which requests open, read and close. Its handles are the numbers 0, 1, 2 and so
 /// on in the order of grants, each as four bytes, the most significant first.
@@ -153,7 +157,7 @@ impl Machine {
                 if flags.bits() == 1 {
                     Ok(self.open_reply(path.as_bytes()))
                 } else {
-                    Ok(self.status(8))
+                    Ok(self.status(SSH_FX_OP_UNSUPPORTED))
                 }
             }
             Request::Read {
@@ -165,7 +169,7 @@ impl Machine {
                 self.read(choice.cap, *offset, *len, held)
             }
             Request::Close { handle } => Ok(self.close_reply(handle.as_bytes())),
-            _ => Ok(self.status(8)),
+            _ => Ok(self.status(SSH_FX_OP_UNSUPPORTED)),
         }
     }
 
@@ -199,9 +203,9 @@ impl Machine {
         ensures { result ≡ (next_open self.now name.now).0 }
     {
         if file_of(&self.names, name).is_none() {
-            self.status(2)
-        } else if self.grants == ALL_HANDLES {
-            self.status(4)
+            self.status(SSH_FX_NO_SUCH_FILE)
+        } else if self.grants == MAX_HANDLES {
+            self.status(SSH_FX_FAILURE)
         } else {
             Reply::Handle(handle_of(self.grants as u32))
         }
@@ -216,7 +220,7 @@ impl Machine {
         let Some(file) = file_of(&self.names, name) else {
             return Ok(());
         };
-        if self.grants == ALL_HANDLES {
+        if self.grants == MAX_HANDLES {
             return Ok(());
         }
         self.grant(file)
@@ -224,7 +228,7 @@ impl Machine {
 
     // Grants the next handle.
     fn grant(&mut self, file: u32) -> Result<(), OutOfMemory>
-        requires { self.old.grants < all_handles }
+        requires { self.old.grants < MAX_HANDLES }
         ensures left { OnOk result (self.new ≡ granted self.old file) }
         ensures kept { OnErr result (self.new ≡ self.old) }
     {
@@ -251,19 +255,19 @@ impl Machine {
         ensures { IfOk result (λ r. r ≡ (after_read self.now.machine cap offset len held).0) }
     {
         let Some(held) = held else {
-            return Ok(self.status(4));
+            return Ok(self.status(SSH_FX_FAILURE));
         };
         if !held.readable {
-            return Ok(self.status(3));
+            return Ok(self.status(SSH_FX_PERMISSION_DENIED));
         }
         if len == 0 {
-            return Ok(self.status(4));
+            return Ok(self.status(SSH_FX_FAILURE));
         }
         let Some(bytes) = self.files.get(held.file as usize) else {
-            return Ok(self.status(1));
+            return Ok(self.status(SSH_FX_EOF));
         };
         if bytes.len() as u64 <= offset {
-            return Ok(self.status(1));
+            return Ok(self.status(SSH_FX_EOF));
         }
         Ok(Reply::Content(part_of(bytes, cap, offset as usize, len)?))
     }
@@ -273,9 +277,9 @@ impl Machine {
         ensures { result ≡ (next_close self.now handle.now).0 }
     {
         if held_of(&self.handles, handle).is_some() {
-            self.status(0)
+            self.status(SSH_FX_OK)
         } else {
-            self.status(4)
+            self.status(SSH_FX_FAILURE)
         }
     }
 

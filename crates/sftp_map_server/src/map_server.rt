@@ -13,14 +13,12 @@ ghost use Rattle.ssh_encoding.specs.Writing.{string};
 use crate::desk::Desk;
 use crate::machine::Machine;
 use sftp_link::{DeviceError, Link, LinkIn, LinkOut, LinkState, Piece};
+use sftp_model::numbers::MAX_BODY_LEN;
 use sftp_model::{Choice, ServerConfig};
 use sftp_values::{ByteText, Items};
 use ssh_encoding::OutOfMemory;
 use std::alloc::Global;
 use std::marker::Model;
-
-// The greatest length of a body.
-const BODY_LIMIT: u32 = 1_048_575;
 
 /// A server of files in memory, as a link without faults. It answers each frame as soon as it has
 /// come whole, in order; its handles are those of a [`Machine`].
@@ -77,7 +75,7 @@ fn is_bad(input: &[u8]) -> bool
         return false;
     }
     let len = told_len(input);
-    len == 0 || len > BODY_LIMIT
+    len == 0 || len > MAX_BODY_LEN
 }
 
 /// The body of a frame of which just all has come.

@@ -11,7 +11,7 @@ use sftp_history::{Reason, Script};
 use std::alloc::Global;
 
 /// The most bytes of a script.
-const SCRIPT_LIMIT: usize = 16777216;
+const MAX_SCRIPT_LEN: usize = 16777216;
 
 /// Reads a script. Refused with the number of the first line that is no line of a script, counted from 1, and why;
 /// one of more than 16777216 bytes is refused at line 0. `OutOfMemory` may come in place of any answer.
@@ -19,7 +19,7 @@ pub fn read_script(alloc: Global, text: &[u8]) -> Result<Script, ScriptError>
     ensures ok { IfOk result (λ script. script_of text.now ≡ Ok script) }
     ensures refused { IfErr result (λ e. RefusesScript (script_of text.now) e) }
 {
-    if text.len() > SCRIPT_LIMIT {
+    if text.len() > MAX_SCRIPT_LEN {
         return Err(ScriptError::Line {
             line: 0,
             reason: Reason::Size,

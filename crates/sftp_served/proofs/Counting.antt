@@ -26,7 +26,7 @@ use Rattle.sftp_history.proofs.CallLaws.{next_submit}
 use Rattle.sftp_history.specs.Lanes.{weight, lane_weight, weight_limit, is_within, are_ok}
 use Rattle.sftp_history.specs.Runs.{TurnsTo, RoundsTo, EndsTo, LetsGoTo, DrainsTo, Opens, round_of, IsRun}
 use Rattle.sftp_history.specs.Turns.{Stage, TurnTo, MovesBy, RulesTo, ClosesTo, is_full, is_begun, begun_but}
-use Rattle.sftp_map_server.specs.Granting.{all_handles}
+use Rattle.sftp_map_server.specs.Granting.{MAX_HANDLES}
 use Rattle.sftp_served.proofs.Sound.{TakesFit, grants_fit, asks_once}
 use Rattle.sftp_served.proofs.Replying.{both_of, is_less}
 use Rattle.sftp_served.proofs.Serving.{called}
@@ -268,7 +268,7 @@ sum_weighs f k (lane ∷ lanes) h =
     omega (arith, here, zero_is, one, more, both)
 
 -- of lanes that a session can be given
-pub run_calls : (s : Setting) (turns : List Turn) (past : List Entry) → IsRun s turns past → IsJournal s past → TakesFit past → s.facts.read_len ≤ MAX_TRANSFER_LEN → are_ok s.lanes ≡ true → called past < all_handles
+pub run_calls : (s : Setting) (turns : List Turn) (past : List Entry) → IsRun s turns past → IsJournal s past → TakesFit past → s.facts.read_len ≤ MAX_TRANSFER_LEN → are_ok s.lanes ≡ true → called past < MAX_HANDLES
 run_calls s turns past run j f m ok =
     let p = run_plain s turns past run in
     let sum = called_sum s past p j in

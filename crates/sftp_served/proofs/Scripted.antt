@@ -12,7 +12,7 @@ use Rattle.sftp_history.specs.declared.reason.Reason.TheVariants as reason
 use Rattle.sftp_history.specs.declared.script.Script.{Script}
 use Rattle.sftp_history.specs.declared.turn.Turn.{Turn}
 use Rattle.sftp_history.specs.Lines.{lines_of, words_of, is_comment, number_in, bytes_in}
-use Rattle.sftp_history.specs.Scripts.{Draft, empty_script, no_word, one_word, two_words, four_words, unless_said, greatest_u32, greatest_u64, is_file, refusal_in, option_in, option_line, extension_in, with_extension, ext_line, limits_line, cut_line, server_line, file_line, choice_line, pick_line, in_lane, lane_turn, line_by, line_of, read_line, go_on, read_lines, script_limit, script_of}
+use Rattle.sftp_history.specs.Scripts.{Draft, empty_script, no_word, one_word, two_words, four_words, unless_said, greatest_u32, greatest_u64, is_file, refusal_in, option_in, option_line, extension_in, with_extension, ext_line, limits_line, cut_line, server_line, file_line, choice_line, pick_line, in_lane, lane_turn, line_by, line_of, read_line, go_on, read_lines, MAX_SCRIPT_LEN, script_of}
 use Rattle.sftp_served.proofs.Replying.{lt_or_is, both_of, is_less}
 
 -- what was read names known extensions, or it is refused
@@ -153,5 +153,5 @@ by_size script false r h e = h e
 
 pub script_known : (bytes : List ℕ) (script : Script) → script_of bytes ≡ Ok script → script.server.extensions.0 < 64
 script_known bytes script e =
-    let few = by_size script (nat_lt script_limit (length bytes)) (read_lines 1 (record { script = empty_script; named = [] }) (lines_of bytes)) (λ is. lines_known script 1 (record { script = empty_script; named = [] }) (lines_of bytes) (omega arith) is) e in
+    let few = by_size script (nat_lt MAX_SCRIPT_LEN (length bytes)) (read_lines 1 (record { script = empty_script; named = [] }) (lines_of bytes)) (λ is. lines_known script 1 (record { script = empty_script; named = [] }) (lines_of bytes) (omega arith) is) e in
     omega (arith, few)

@@ -23,7 +23,7 @@ use Rattle.sftp_history.specs.declared.entry.Entry.{Entry}
 use Rattle.sftp_history.specs.declared.entry.Entry.TheVariants as entry
 use Rattle.sftp_history.specs.Readings.{Asked, asked, asked_at, answer}
 use Rattle.sftp_history.specs.Served.{requests_of, requests_sent, first_choice, MayGrant, IsReply, ServesAll, limits_reply, where_by_setup, reply_to_query, Serves}
-use Rattle.sftp_map_server.specs.Granting.{Granting, handle_of, all_handles, next, served}
+use Rattle.sftp_map_server.specs.Granting.{Granting, handle_of, MAX_HANDLES, next, served}
 use Rattle.sftp_map_server.specs.Serving.{Desk, is_query}
 use Rattle.sftp_served.proofs.Sound.{FitsCall, FitsBy, IsSound}
 use Rattle.sftp_served.proofs.Replying.{reply_to, next_desk, next_config, call_query}
@@ -34,12 +34,12 @@ use Rattle.sftp_served.proofs.Showing.{AnswersBy}
 
 -- no handle that may still be granted is open
 abbrev NewFrom : ℕ → Machine → Type 0
-NewFrom n m = (k : ℕ) → n ≤ k → k < all_handles → at_key m.handles (handle_of k) ≡ None
+NewFrom n m = (k : ℕ) → n ≤ k → k < MAX_HANDLES → at_key m.handles (handle_of k) ≡ None
 
-number_one : (n k : ℕ) → n < all_handles → k < all_handles → handle_of n ≡ handle_of k → n ≡ k
+number_one : (n k : ℕ) → n < MAX_HANDLES → k < MAX_HANDLES → handle_of n ≡ handle_of k → n ≡ k
 number_one n k a b e = sym (from_be_bytes-to_be_bytes_4 n a) ∙ (ap (from_be_bytes w32) e ∙ from_be_bytes-to_be_bytes_4 k b)
 
-other_handle : (n k : ℕ) → n < k → k < all_handles → bytes_eq (handle_of n) (handle_of k) ≡ false
+other_handle : (n k : ℕ) → n < k → k < MAX_HANDLES → bytes_eq (handle_of n) (handle_of k) ≡ false
 other_handle n k a b =
     false_from_ne_true (bytes_eq (handle_of n) (handle_of k)) (λ t. let e = number_one n k (omega (arith, a, b)) b ((bytes_eq-Decides (handle_of n) (handle_of k)).0 t) in omega (arith, e, a))
 
@@ -108,8 +108,8 @@ record Follows (g : Granting) (x : Reply × Machine) (after : Reply × Granting)
   machine : after.1.machine ≡ x.1
   grants : after.1.grants ≡ (if is_handle x.0 then g.grants + 1 else g.grants)
 
-follows : (g : Granting) (x : Reply × Machine) → g.grants < all_handles → Follows g x (served g x)
-follows g x lt = by_test (is_handle x.0) (g.grants == all_handles) refl (ne_eqb g.grants all_handles (λ e. omega (arith, e, lt)))
+follows : (g : Granting) (x : Reply × Machine) → g.grants < MAX_HANDLES → Follows g x (served g x)
+follows g x lt = by_test (is_handle x.0) (g.grants == MAX_HANDLES) refl (ne_eqb g.grants MAX_HANDLES (λ e. omega (arith, e, lt)))
   where
     by_test : (a b : Bool) → is_handle x.0 ≡ a → b ≡ false
         → Follows g x (if a then (if b then (status 4, g) else (x.0, record { machine = x.1; config = g.config; grants = g.grants + 1 })) else (x.0, record { machine = x.1; config = g.config; grants = g.grants }))
@@ -168,7 +168,7 @@ parts : (at : Desk) (r : Request) → is_query r ≡ false → (reply_to at r �
 unfolding reply_to next_desk
 parts at r e = rw e (refl, refl)
 
-moves : (at : Desk) (r : Request) → is_query r ≡ false → at.granting.grants < all_handles → Moves at r
+moves : (at : Desk) (r : Request) → is_query r ≡ false → at.granting.grants < MAX_HANDLES → Moves at r
 moves at r e lt =
     let f : Follows at.granting (done_at at r) (next at.granting r (first_choice at.choices)) = follows at.granting (done_at at r) lt in
     let is = parts at r e in
@@ -179,11 +179,11 @@ moves at r e lt =
       choices = ap (λ (w : Desk). w.choices) is.1;
     }
 
-ran_more : (d : Desk) (full : List Entry) (rs : List (ℕ × Request)) (at : Desk) (n more place : ℕ) (a : Asked) (r : Request) → Ran d full rs at n → is_query r ≡ false → n < all_handles
+ran_more : (d : Desk) (full : List Entry) (rs : List (ℕ × Request)) (at : Desk) (n more place : ℕ) (a : Asked) (r : Request) → Ran d full rs at n → is_query r ≡ false → n < MAX_HANDLES
     → AnswersBy (answer full place) (Some (a, reply_to at r)) → (if is_handle (done_at at r).0 then at.granting.grants + 1 else at.granting.grants) ≤ more → (next_desk at r).granting.config ≡ at.granting.config
     → Ran d full (rs ++ (place, r) ∷ []) (next_desk at r) more
 ran_more d full rs at n more place a r ran query lt by few config =
-    let less : at.granting.grants < all_handles = let f = ran.few in omega (arith, f, lt) in
+    let less : at.granting.grants < MAX_HANDLES = let f = ran.few in omega (arith, f, lt) in
     let m = moves at r query less in
     let handle : List ℕ = handle_of at.granting.grants in
     let same : done_at at r ≡ apply at.granting.machine d.granting.config r (first_choice at.choices) handle = ap (λ (w : ServerConfig). apply at.granting.machine w r (first_choice at.choices) handle) ran.config in
@@ -214,13 +214,13 @@ stays at = refl
 after_query : (at : Desk) (r : Request) → r ≡ request.LimitsQuery → next_desk at r ≡ at
 after_query at r e = ap (next_desk at) e ∙ stays at
 
-fewer : (q : List Entry) (by : Owner) (id : ℕ) (r : Request) → called (entry.Event (Submit by id r) ∷ q) < all_handles → called q < all_handles
+fewer : (q : List Entry) (by : Owner) (id : ℕ) (r : Request) → called (entry.Event (Submit by id r) ∷ q) < MAX_HANDLES → called q < MAX_HANDLES
 fewer q owner.Setup id r lt = lt
 fewer q owner.Close id r lt = lt
-fewer q (owner.Call lane call) id r lt = let l : called q + 1 < all_handles = lt in omega (arith, l)
+fewer q (owner.Call lane call) id r lt = let l : called q + 1 < MAX_HANDLES = lt in omega (arith, l)
 
 -- all that was submitted
-ran_all : (d : Desk) (full q : List Entry) → d.granting.grants ≡ 0 → d.granting.machine.handles ≡ [] → IsSound (tells_of d) q → ((p : ℕ) → p < asked q → AnswersBy (answer full p) (due d q p)) → called q < all_handles
+ran_all : (d : Desk) (full q : List Entry) → d.granting.grants ≡ 0 → d.granting.machine.handles ≡ [] → IsSound (tells_of d) q → ((p : ℕ) → p < asked q → AnswersBy (answer full p) (due d q p)) → called q < MAX_HANDLES
     → Ran d full (requests_of q) (desk_of d q) (called q)
 ran_all d full [] none closed s by few =
     record { serves = refl; left = refl; new = λ k le lt. ap (λ (w : List (List ℕ × Held)). at_key w (handle_of k)) closed; few = omega (arith, none); config = refl }
@@ -229,7 +229,7 @@ ran_all d full (entry.Event (Submit by id r) ∷ q) none closed s by_place few =
     (subst (AnswersBy (answer full (asked q))) (due_new d q by id r) (by_place (asked q) (omega arith))) few
   where
     by_case : (by : Owner) → FitsBy (tells_of d) by r → Ran d full (requests_of q) (desk_of d q) (called q)
-        → AnswersBy (answer full (asked q)) (Some (record { by = by; id = id; request = r }, reply_to (desk_of d q) r)) → called (entry.Event (Submit by id r) ∷ q) < all_handles
+        → AnswersBy (answer full (asked q)) (Some (record { by = by; id = id; request = r }, reply_to (desk_of d q) r)) → called (entry.Event (Submit by id r) ∷ q) < MAX_HANDLES
         → Ran d full (requests_of (entry.Event (Submit by id r) ∷ q)) (next_desk (desk_of d q) r) (called (entry.Event (Submit by id r) ∷ q))
     by_case owner.Setup f ran by lt =
         subst (λ (w : List (ℕ × Request)). Ran d full w (next_desk (desk_of d q) r) (called q)) (sym (append-nil (requests_of q)))
@@ -240,13 +240,13 @@ ran_all d full (entry.Event (Submit by id r) ∷ q) none closed s by_place few =
         (ap (λ (w : Request). is_handle (done_at (desk_of d q) w).0) f.1 ∙ close_none (desk_of d q).granting.machine (desk_of d q).granting.config f.0 (handle_of (desk_of d q).granting.grants) (first_choice (desk_of d q).choices)) ran.few)
         (next_config (desk_of d q) r)
     by_case (owner.Call lane call) f ran by lt =
-        let l : called q + 1 < all_handles = lt in
+        let l : called q + 1 < MAX_HANDLES = lt in
         ran_more d full (requests_of q) (desk_of d q) (called q) (called q + 1) (asked q) _ r ran (call_query r f) (omega (arith, l)) by
         (one_more (is_handle (done_at (desk_of d q) r).0) (desk_of d q).granting.grants (called q) ran.few) (next_config (desk_of d q) r)
 ran_all d full (_ ∷ q) none closed s by few = ran_all d full q none closed s by few
 
 -- and so all that was sent
-ran_sent : (d : Desk) (full q : List Entry) → d.granting.grants ≡ 0 → d.granting.machine.handles ≡ [] → IsSound (tells_of d) q → ((p : ℕ) → p < asked q → AnswersBy (answer full p) (due d q p)) → called q < all_handles
+ran_sent : (d : Desk) (full q : List Entry) → d.granting.grants ≡ 0 → d.granting.machine.handles ≡ [] → IsSound (tells_of d) q → ((p : ℕ) → p < asked q → AnswersBy (answer full p) (due d q p)) → called q < MAX_HANDLES
     → ServesAll d.granting.config full d.granting.machine d.choices (requests_sent q) (desk_sent d q).granting.machine
 ran_sent d full [] none closed s by few = refl
 ran_sent d full (entry.Event Send ∷ q) none closed s by few = (ran_all d full q none closed s by few).serves
@@ -289,6 +289,6 @@ tells_by d past (Some a) e s by = by_case a.by refl
     by_case (owner.Call lane call) is = tt
 
 -- a journal whose replies came as they were due is served
-pub serves_by : (d : Desk) (past : List Entry) → d.granting.grants ≡ 0 → d.granting.machine.handles ≡ [] → IsSound (tells_of d) past → ((p : ℕ) → AnswersBy (answer past p) (due d past p)) → called past < all_handles
+pub serves_by : (d : Desk) (past : List Entry) → d.granting.grants ≡ 0 → d.granting.machine.handles ≡ [] → IsSound (tells_of d) past → ((p : ℕ) → AnswersBy (answer past p) (due d past p)) → called past < MAX_HANDLES
     → Serves d.granting.config d.choices d.granting.machine past (desk_sent d past).granting.machine
 serves_by d past none closed s by few = (ran_sent d past past none closed s (λ p lt. by p) few, tells_by d past (asked_at past 0) refl s (by 0))

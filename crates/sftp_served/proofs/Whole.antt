@@ -23,7 +23,7 @@ use Rattle.sftp_history.specs.Runs.{IsRun}
 use Rattle.sftp_history.specs.Served.{Serves}
 use Rattle.sftp_history.specs.Settings.{greeting, setting_of}
 use Rattle.sftp_history.specs.Shown.{Shows}
-use Rattle.sftp_map_server.specs.Granting.{all_handles}
+use Rattle.sftp_map_server.specs.Granting.{MAX_HANDLES}
 use Rattle.sftp_map_server.specs.Serving.{Desk, Serving, IsServing, version_reply}
 use Rattle.sftp_served.specs.Unopened.{IsUnopened}
 use Rattle.sftp_served.proofs.Counting.{run_calls}
@@ -53,7 +53,7 @@ stops_for_memory given server e new serving ends why =
 
 -- a journal that the log shows is served, where calls submitted fewer requests than there are handles
 pub journal_is_served : (lanes : List Lane) (options : SftpOptions) (extensions : Extensions) (past : List Entry) (server : Serving) → IsUnopened server.first → IsServing server.first server.now server.log server.ended
-    → IsJournal (setting_of lanes options extensions past) past → called past < all_handles → Shows (greeting extensions) past [] server.log
+    → IsJournal (setting_of lanes options extensions past) past → called past < MAX_HANDLES → Shows (greeting extensions) past [] server.log
     → Serves server.first.granting.config server.first.choices server.first.granting.machine past server.now.desk.granting.machine
 journal_is_served lanes options extensions past server new serving j few shows =
     let first = first_is server.first new in

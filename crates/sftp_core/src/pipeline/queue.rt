@@ -4,7 +4,7 @@ ghost use Rattle.std.specs.FinMap as fin;
 ghost use Rattle.sftp_model.specs.Pieces.{joined};
 ghost use Rattle.sftp_core.specs.Core.{at, queued_last, is_call, submit_refusal, IsSubmitError, handed_out};
 ghost use Rattle.sftp_core.specs.Frames.{frames_of, AreFilled};
-ghost use Rattle.sftp_core.specs.Info.{info_of};
+ghost use Rattle.sftp_core.specs.Info.{MAX_IDS, info_of};
 
 use super::{Core, put_last};
 use crate::chunk::Chunk;
@@ -20,7 +20,7 @@ impl Core {
     /// room for its CLOSE as well. A kept fault is answered before `TooLong`; refused, the core is as before.
     pub fn submit(&mut self, request: &Request) -> Result<Ticket, SubmitError>
         requires ready { IsSome (info_of self.old.phase) }
-        requires few { fin.len self.old.table < 2147483648 }
+        requires few { fin.len self.old.table < MAX_IDS }
         requires call { IsTrue (is_call request.now) }
         ensures ok { IfOk result (λ ticket. (at self.old ticket ≡ None)
             × (self.new ≡ queued_last self.old ticket request.now true)) }
