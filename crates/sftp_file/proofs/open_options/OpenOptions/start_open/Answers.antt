@@ -4,8 +4,8 @@ use Rattle.sftp_file.specs.OpenOptions.{flags_of}
 use Rattle.sftp_file.proofs.StartLaws.{long_open, short_open}
 use Rattle.sftp_file.proofs.open_options.OpenOptions.start_open.Goals as goal
 
-pub returns-then-path-gt-PATH_LIMIT-clause-starts : goal.returns-then-path-gt-PATH_LIMIT-clause-starts
-returns-then-path-gt-PATH_LIMIT-clause-starts c = λ slot site facts answers.
+pub returns-then-path-gt-MAX_PATH_LEN-clause-starts : goal.returns-then-path-gt-MAX_PATH_LEN-clause-starts
+returns-then-path-gt-MAX_PATH_LEN-clause-starts c = λ slot site facts answers.
     let long : nat_lt 1048558 (length c.args.path.now) ≡ true = search rules in
     (long_open slot (flags_of c.args.self.now) c.args.path.now site facts answers long, refl)
 
