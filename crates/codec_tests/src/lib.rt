@@ -1,4 +1,5 @@
-//! Tests of the libraries by their public calls. The data types, the frames and the metadata: vectors of the standards both ways, refusals, and texts.
+//! Tests of the codecs by their public calls: vectors of the standards both ways, one refusal of each kind, and the
+//! texts of errors.
 #![tactic(auto)]
 
 #[cfg(test)]

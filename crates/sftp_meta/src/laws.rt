@@ -1,4 +1,4 @@
-// Laws of the definitions. The functions do nothing: what they ensure holds of all values.
+//! Laws of the definitions. The functions do nothing: what they ensure holds of all values.
 ghost use Rattle.std.specs.Prelude.{◌≡◌, ◌≢◌, ℕ, ◌<◌, ◌^◌, Bool};
 ghost use Rattle.std.specs.Int.RustNames.{bit_and};
 ghost use Rattle.sftp_meta.specs.Permissions.{has_bit, with_bit, permission_bits, is_readonly, with_readonly};

@@ -1,4 +1,4 @@
--- Fields that were written are read back, and what stands behind them is left.
+-- Fields that were written are read back, and what stands after them is left.
 use Rattle.std.proofs.Common.{ℕ, ◌≡◌, ◌+◌, Bool, false, List, [], ◌++◌, length, take, drop, Option, Some, None, Result, Ok, IfSome, is_some, refl, sym, ap, ◌∙◌, append_assoc, arith, ltb, lit<}
 use Rattle.std.specs.Int.{Width, w32, w64, byte_len, from_be_bytes}
 use Rattle.std.proofs.lemmas.Bool.{le-ltb}
@@ -16,7 +16,7 @@ use Rattle.sftp_model.specs.Readings.{field, uint32_at, uint64_at, text_at, two_
 pub record ReadsBack {A : Type 0} (reading : List ℕ → Result (A × List ℕ) FrameError) (text : List ℕ) (v : A) : Type 0 where
   pub back : (rest : List ℕ) → reading (text ++ rest) ≡ Ok (v, rest)
 
--- with nothing behind it
+-- with nothing after it
 pub whole_back : {A : Type 0} (reading : List ℕ → Result (A × List ℕ) FrameError) (text : List ℕ) (v : A) → ReadsBack reading text v → reading text ≡ Ok (v, [])
 whole_back reading text v b = ap reading (sym (append-nil text)) ∙ b.back []
 

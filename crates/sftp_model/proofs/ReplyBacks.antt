@@ -17,7 +17,7 @@ use Rattle.sftp_model.specs.Readings.{with_id, with_short_handles, extensions_at
 use Rattle.sftp_model.specs.ReplyReadings.{version_at, status_at, handle_at, content_at, entry_at, entries_at, names_at, attrs_at, extended_at, reply_fields_at, handles_of_reply, reply_at, limits_at}
 use Rattle.sftp_model.proofs.FieldBacks.{ReadsBack, whole_back, number_back, long_back, text_back, attributes_back}
 
--- the fields of a reply behind its type byte and id
+-- the fields of a reply after its type byte and id
 with_id_back : (fields : List ℕ → Result (Reply × List ℕ) FrameError) (kind id : ℕ) (text : List ℕ) (r : Reply) → FitsNumber id
     → ((bytes : List ℕ) → reply_fields_at kind bytes ≡ with_id fields bytes) → fields text ≡ Ok (r, [])
     → with_short_handles (handles_of_reply r) (let read : Option ℕ × Reply = (Some id, r) in read) ≡ Ok (Some id, r)

@@ -14,7 +14,7 @@ use Rattle.sftp_model.specs.Readings.{with_id, with_short_handles, uint32_at}
 use Rattle.sftp_model.specs.RequestReadings.{init_at, open_at, read_at, write_at, one_text_at, two_texts_at, text_and_attributes_at, copy_data_at, extension_fields_at, extended_request_at, request_fields_at, handles_of_request, request_at}
 use Rattle.sftp_model.proofs.FieldBacks.{ReadsBack, whole_back, number_back, long_back, text_back, attributes_back}
 
--- the fields of a request behind its type byte and id
+-- the fields of a request after its type byte and id
 with_id_back : (fields : List ℕ → Result (Request × List ℕ) FrameError) (kind id : ℕ) (text : List ℕ) (r : Request) → FitsNumber id
     → ((bytes : List ℕ) → request_fields_at kind bytes ≡ with_id fields bytes) → ReadsBack fields text r
     → with_short_handles (handles_of_request r) (let read : Option ℕ × Request = (Some id, r) in read) ≡ Ok (Some id, r)
@@ -22,7 +22,7 @@ with_id_back : (fields : List ℕ → Result (Request × List ℕ) FrameError) (
 unfolding request_at byte_at
 with_id_back fields kind id text r h is read short = rw (is (uint32 id ++ text), (number_back id h).back text, whole_back fields text r read) short
 
--- behind the name of an extension
+-- after the name of an extension
 extended_back : (name : List ℕ) (fields : List ℕ → Result (Request × List ℕ) FrameError) (text : List ℕ) (r : Request) → FitsText name
     → ((bytes : List ℕ) → extension_fields_at name bytes ≡ fields bytes) → ReadsBack fields text r → ReadsBack extended_request_at (string name ++ text) r
 unfolding extended_request_at

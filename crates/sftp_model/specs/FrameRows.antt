@@ -70,7 +70,7 @@ pub names_frame : reply_frame (reply.Names (record { filename = 120 ∷ []; long
 unfolding reply_body string uint32 attributes
 names_frame = refl
 
--- all bytes of the reply stand behind the id, without a length of their own
+-- all bytes of the reply stand after the id, without a length of their own
 pub extended_frame : reply_frame (reply.Extended (1 ∷ 2 ∷ [])) 3 ≡ hex (codes "00000007c9000000030102")
 unfolding reply_body string uint32
 extended_frame = refl

@@ -65,7 +65,7 @@ pub handle_of_257 : reply_at (hex (codes "660000000100000101") ++ replicate 257 
 unfolding reply_at byte_at reply_fields_at handle_at prefix_at
 handle_of_257 = refl
 
--- a byte behind it is found first
+-- a byte after it is found first
 pub handle_of_257_and_more : reply_at (hex (codes "660000000100000101") ++ replicate 258 7) ≡ Err (Format (TrailingData 1))
 unfolding reply_at byte_at reply_fields_at handle_at prefix_at
 handle_of_257_and_more = refl
@@ -126,7 +126,7 @@ pub names_cut_short : reply_at (hex (codes "6800000003" ++ codes "00000001000000
 unfolding reply_at byte_at reply_fields_at names_at entry_at attributes_at prefix_at
 names_cut_short = refl
 
--- a count with one entry too few behind it
+-- a count with one entry too few after it
 pub names_of_one_more : reply_at (hex (codes "6800000003" ++ codes "0000000200000001780000000000000000")) ≡ Err (Format Length)
 unfolding reply_at byte_at reply_fields_at names_at entry_at attributes_at prefix_at
 names_of_one_more = refl

@@ -18,7 +18,9 @@ pub struct Limits {
 /// the set says.
 #[derive(Clone, Copy, Debug, PartialEq, Eq)]
 pub struct ServerConfig {
+    /// The extensions that it advertises.
     pub extensions: Extensions,
+    /// What it answers to the query for limits.
     pub limits: Option<Limits>,
     /// The most bytes that one send or receive moves; 0 is no limit.
     pub cut: u32,

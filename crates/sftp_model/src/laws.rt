@@ -1,4 +1,4 @@
-// Laws of the definitions. The functions do nothing: what they ensure holds of all values.
+//! Laws of the definitions. The functions do nothing: what they ensure holds of all values.
 ghost use Rattle.std.specs.Prelude.{◌≡◌, ◌≢◌, ℕ, List, ◌∷◌};
 ghost use Rattle.sftp_model.specs.Answers.{MayAnswer};
 ghost use Rattle.sftp_model.specs.FileMachine.{Machine, apply, KeepsWhereRefused, IsAfterHello};

@@ -9,7 +9,9 @@ use sftp_values::{ByteText, Items};
 pub struct FileAt {
     /// The place of the OPEN that a HANDLE answered.
     pub grant: u32,
+    /// Whether it was opened to read.
     pub readable: bool,
+    /// Whether it was opened to write.
     pub writable: bool,
     /// In bytes.
     pub offset: u64,

@@ -46,7 +46,7 @@ pub joined_is : (pieces : List (List ℕ)) → joined pieces ≡ flat_map (λ (p
 joined_is [] = refl
 joined_is (p ∷ pieces) = ap (λ (l : List ℕ). p ++ l) (joined_is pieces)
 
--- the piece at a place behind those before it
+-- the piece at a place after those before it
 pub joined_step : (pieces : List (List ℕ)) (i : ℕ) (piece : List ℕ) → i < length pieces → piece ≡ get_or pieces i piece → joined (take (i + 1) pieces) ≡ joined (take i pieces) ++ piece
 joined_step pieces i piece h e =
     joined_is (take (i + 1) pieces) ∙ flat_map_step (λ (p : List ℕ). p) pieces i piece h e ∙ ap (λ (l : List ℕ). l ++ piece) (sym (joined_is (take i pieces)))

@@ -20,7 +20,7 @@ skips_at : (p : Result (List ℕ × List ℕ) (Error × List ℕ)) (n : ℕ) (re
 skips_at (Ok p) n rest h = let same : p.1 ≡ rest = ap (λ (q : ℕ × List ℕ). q.1) (ok_is (length p.0, p.1) (n, rest) h) in rw same refl
 skips_at (Err e) n rest h = absurd cc
 
--- its length was read, and the reader stands behind it
+-- its length was read, and the reader stands after it
 pub skips : (bytes rest : List ℕ) (n : ℕ) → string_len_at bytes ≡ Ok (n, rest) → passed (text_at bytes) ≡ Ok (tt, rest)
 unfolding string_len_at
 skips bytes rest n h = skips_at (prefix_at bytes) n rest h

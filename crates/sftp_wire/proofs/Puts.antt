@@ -1,4 +1,4 @@
--- What is written behind what was there.
+-- What is written after what was there.
 use Rattle.std.proofs.Common.{◌≡◌, ◌<◌, ◌^◌, arith, ℕ, List, [], ◌++◌, length, take, refl, ap, sym, ◌∙◌, append_assoc, append-nil, Result, Ok, Err, Option}
 use Rattle.std.specs.Prelude.{OnOk}
 use Rattle.ssh_encoding.specs.declared.error.Error.{Error}

@@ -1,4 +1,4 @@
-// Fields after the bytes of a vector. A refusal may leave a prefix of a field there.
+//! Fields after the bytes of a vector. A refusal may leave a prefix of a field there.
 ghost use Rattle.std.specs.Prelude.{◌≡◌, ◌<◌, ◌^◌, ◌++◌, [], ◌∷◌, length, OnOk, OnErr};
 ghost use Rattle.std.specs.List.{flat_map};
 ghost use Rattle.ssh_encoding.specs.Writing.{uint32, uint64, string};

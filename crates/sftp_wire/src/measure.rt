@@ -1,4 +1,4 @@
-// How many bytes are written. A sum that passes the greatest `usize` stays there.
+//! How many bytes are written. A sum that passes the greatest `usize` stays there.
 ghost use Rattle.std.specs.Prelude.{◌≡◌, ℕ, length};
 ghost use Rattle.std.specs.List.{flat_map};
 ghost use Rattle.ssh_encoding.specs.Writing.{string};

@@ -1,5 +1,5 @@
-// The fields of an EXTENDED after its name (OpenSSH's PROTOCOL, section 4; `copy-data` is of
-// draft-ietf-secsh-filexfer-extensions-00, section 7).
+//! The fields of an EXTENDED after its name (OpenSSH's PROTOCOL, section 4; `copy-data` is of
+//! draft-ietf-secsh-filexfer-extensions-00, section 7).
 ghost use Rattle.std.specs.Prelude.{Some};
 ghost use Rattle.sftp_model.specs.declared.request.Request.TheVariants as request;
 ghost use Rattle.sftp_model.specs.RequestReadings.{two_texts_at, one_text_at, copy_data_at, extension_fields_at, handles_of_request};

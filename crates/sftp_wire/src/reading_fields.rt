@@ -1,4 +1,4 @@
-// Fields of a body, one after another (draft-ietf-secsh-filexfer-02, sections 3 and 5). A count takes no memory.
+//! Fields of a body, one after another (draft-ietf-secsh-filexfer-02, sections 3 and 5). A count takes no memory.
 ghost use Rattle.std.specs.Prelude.{◌≡◌, ◌==◌, ◌≤◌, true, false, length, nat_lt, OnOk, IfOk, IfErr};
 ghost use Rattle.sftp_model.specs.declared.frame_error.FrameError.TheVariants as errors;
 ghost use Rattle.sftp_model.specs.declared.frame_error.FormatKind.TheVariants as kinds;

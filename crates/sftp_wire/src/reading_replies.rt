@@ -1,4 +1,4 @@
-// Replies (draft-ietf-secsh-filexfer-02, sections 4 and 7).
+//! Replies (draft-ietf-secsh-filexfer-02, sections 4 and 7).
 ghost use Rattle.std.specs.Prelude.{◌≡◌, ◌++◌, [], ◌∷◌, OnOk, IfOk, IfErr};
 ghost use Rattle.ssh_encoding.specs.declared.error.Error.TheVariants as encoding;
 ghost use Rattle.sftp_model.specs.Readings.{with_id, without_id, pair_bit as bit_of_pair, named_bit as bit_of_name, extensions_at};

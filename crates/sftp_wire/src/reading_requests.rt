@@ -1,4 +1,4 @@
-// Requests (draft-ietf-secsh-filexfer-02, sections 4 and 6).
+//! Requests (draft-ietf-secsh-filexfer-02, sections 4 and 6).
 ghost use Rattle.std.specs.Prelude.{◌≡◌, Some, IfOk, IfErr};
 ghost use Rattle.ssh_encoding.specs.declared.error.Error.TheVariants as encoding;
 ghost use Rattle.sftp_model.specs.declared.request.Request.TheVariants as request;

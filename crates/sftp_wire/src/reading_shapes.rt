@@ -1,4 +1,4 @@
-// The fields that several requests share, to the end of the body (draft-ietf-secsh-filexfer-02, section 6).
+//! The fields that several requests share, to the end of the body (draft-ietf-secsh-filexfer-02, section 6).
 ghost use Rattle.std.specs.Prelude.{◌≡◌, [], ◌∷◌, ℕ, List, Option};
 ghost use Rattle.sftp_model.specs.declared.file_attrs.FileAttrs.{FileAttrs as AttributesSeen};
 ghost use Rattle.sftp_model.specs.declared.request.Request.{Request as RequestSeen};

@@ -6,7 +6,7 @@ use Rattle.ssh_encoding.specs.declared.error.Error.{Error}
 use Rattle.ssh_encoding.specs.Reading.{Reads, ReadsTo, ReadsPrefixed, inside, prefix_at, string_within}
 
 module _ {F S T A : Type 0} (g : Once F (MutBor S × Unit {0}) (Result T Error × (MutBor S × Unit {0}))) (left : S → List ℕ) (gives : Error → Error → Type 0) (f : F) (seen : T → A) (memory : Error → Type 0) (reading : List ℕ → Result (A × List ℕ) Error) where
-  -- a closure that reads what stands behind a length
+  -- a closure that reads what stands after a length
   pub reads_prefixed : (old : List ℕ) (result : Result T Error) (new : List ℕ) (prefix : Result (List ℕ × List ℕ) (Error × List ℕ))
       → ((d e : Error) → gives d e → e ≡ d)
       → ((inner after : S) → FnOnceReturnsAtMut g f inner result after → Reads seen memory (left after) result (reading (left inner)))
@@ -19,7 +19,7 @@ module _ {F S T A : Type 0} (g : Once F (MutBor S × Unit {0}) (Result T Error �
   reads_prefixed old (Ok v) new (Err r) same calls h = absurd h.0
   reads_prefixed old (Err e) new (Err r) same calls h = inr (ap Err (sym (same r.0 e h.0)))
 
--- a string that fits was read behind its length
+-- a string that fits was read after its length
 pub reads_within : {T : Type 0} (seen : T → List ℕ) (old mid new inner : List ℕ) (most : ℕ) (r : Result T Error)
     → prefix_at old ≡ Ok (inner, drop (length inner) mid) → inner ≡ take (length inner) mid → length inner ≤ length mid → length inner ≤ most
     → IfOk r (λ v. (seen v ≡ take (length inner) mid) × (new ≡ drop (length inner) mid)) → IfErr r (λ e. length mid < length inner)

@@ -1,4 +1,4 @@
-// Lists of strings: a string that holds strings to its end.
+//! Lists of strings: a string that holds strings to its end.
 ghost use Rattle.std.specs.Prelude.{◌≡◌, ◌++◌, ◌≤◌, ℕ, List, length, None, OnOk, IfErr};
 ghost use Rattle.std.specs.List.{flat_map};
 ghost use Rattle.ssh_encoding.specs.Writing.{Writes, Counts, IsPart, string, prefixed_refusal};

@@ -1,4 +1,4 @@
-// Strings: a length and that many bytes.
+//! Strings: a length and that many bytes.
 ghost use Rattle.std.specs.Prelude.{◌≡◌, ◌+◌, ℕ, List, length, refl};
 ghost use Rattle.std.specs.String.{string_bytes};
 ghost use Rattle.ssh_encoding.specs.Writing.{Writes, Counts, string, string_refusal};

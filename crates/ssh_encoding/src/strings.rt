@@ -1,4 +1,4 @@
-// Strings: a length and that many bytes.
+//! Strings: a length and that many bytes.
 ghost use Rattle.std.specs.Prelude.{◌≡◌, ℕ, List};
 ghost use Rattle.std.specs.Str.{is_utf8};
 ghost use Rattle.std.specs.String.{string_bytes};

@@ -7,7 +7,8 @@ use std::test::Fail;
 
 /// Whether a list of one string is written as the string `a` and its length.
 fn is_a<T: Rfc4251String + Drop>(alloc: Global, item: T) -> std::result::Result<bool, Fail> {
-    let list = vec![in alloc; item]?;
+    let mut list = Vec::new(alloc);
+    list.push(item)?;
     let bytes = b"\0\0\0\x05\0\0\0\x01a";
     Ok(is_written(alloc, &list, bytes)? && is_written(alloc, &list.as_slice(), bytes)?)
 }

@@ -75,7 +75,10 @@ fn strings(rt: HostRuntime) -> std::result::Result<(), Fail> {
 }
 
 /// The refusal of a value that bytes don't spell.
-pub(crate) fn refusal<T: Decode<Error = Error> + Drop>(alloc: Global, bytes: &[u8]) -> Option<Error> {
+pub(crate) fn refusal<T: Decode<Error = Error> + Drop>(
+    alloc: Global,
+    bytes: &[u8],
+) -> Option<Error> {
     let mut reader = bytes;
     T::decode(alloc, &mut reader).err()
 }
