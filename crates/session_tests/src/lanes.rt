@@ -1,103 +1,111 @@
-// A session over a scripted link. The bytes are laid out by draft-ietf-secsh-filexfer-02, sections 3 and 4.
-ghost use Rattle.std.specs.Prelude.{◌≡◌, IfOk};
-
+// A session over a scripted link. The bytes are laid out by draft-ietf-secsh-filexfer-02, sections 3 to 7.
 use sftp_core::{Fault, SftpOptions};
 use sftp_driver::RunsLanes;
 use sftp_lanes::*;
 use sftp_link::{Scripted, ScriptedLink};
-use sftp_model::Error;
 use sftp_values::ByteText;
-use std::alloc::Global;
+use std::alloc::{AllocError, Global};
 use std::test::Fail;
 
 const VERSION: &[u8] = b"\x00\x00\x00\x05\x02\x00\x00\x00\x03";
 
-/// A link that answers the hello with VERSION 3.
-fn link(alloc: Global) -> Result<ScriptedLink, Fail>
-    ensures { IfOk result (λ l. l.calls.faults ≡ 0) }
-{
+fn push_reply(
+    alloc: Global,
+    items: &mut Vec<Scripted>,
+    request: u32,
+    kind: u8,
+    fields: &[u8],
+) -> Result<(), AllocError> {
+    items.push(Scripted::To {
+        request,
+        flip: 0,
+        kind,
+        fields: ByteText::new(Vec::from_slice(alloc, fields)?),
+    })?;
+    Ok(())
+}
+
+/// A server that says VERSION 3, grants a handle, gives two bytes, and closes the handle.
+fn serving(alloc: Global) -> Result<Vec<Scripted>, AllocError> {
     let mut items = Vec::new(alloc);
     items.push(Scripted::Raw(ByteText::new(Vec::from_slice(alloc, VERSION)?)))?;
-    Ok(ScriptedLink::new(alloc, items, Vec::new(alloc), 0))
+    push_reply(alloc, &mut items, 1, 102, b"\x00\x00\x00\x01h")?;
+    push_reply(alloc, &mut items, 2, 103, b"\x00\x00\x00\x02hi")?;
+    push_reply(alloc, &mut items, 3, 101, &[0; 12])?;
+    Ok(items)
 }
 
-/// How many events a run without lanes reports.
-fn events(alloc: Global) -> Result<Result<usize, Error>, Fail> {
-    let mut link = link(alloc)?;
-    match run_lanes(alloc, &mut link, &[], &[], &SftpOptions::new()) {
-        Ok(report) => Ok(Ok(report.trace.as_slice().len())),
-        Err(error) => Ok(Err(error)),
+/// The text of what the lanes of a script did over such a server.
+fn trace(alloc: Global, script: &[u8]) -> Result<Vec<u8>, Fail> {
+    let script = read_script(alloc, script)?;
+    let mut link = ScriptedLink::new(alloc, serving(alloc)?, Vec::new(alloc), 0);
+    let lanes = script.lanes.as_slice();
+    if !lanes_ok(lanes) {
+        return Ok(Vec::new(alloc));
     }
+    let report = run_lanes(
+        alloc,
+        &mut link,
+        lanes,
+        script.turns.as_slice(),
+        &script.options,
+    )?;
+    let mut text = Vec::new(alloc);
+    write_text(alloc, &report, &mut text)?;
+    Ok(text)
 }
 
 #[test]
-fn runs(rt: HostRuntime) -> Result<(), Fail> {
-    assert!(rt; events(rt.alloc())? == Ok(0));
+fn a_lane_opens_reads_and_closes(rt: HostRuntime) -> Result<(), Fail> {
+    let text = trace(rt.alloc(), b"lane\nopen 0 r 61\nread 0 5\nclose 0\n")?;
+    let want = b"> open 00000001610000000100000000
+< handle 0000000168
+> read 0000000168000000000000000000000005
+< data 000000026869
+> close 0000000168
+< status 000000000000000000000000
+lane 0 call 0 opened
+lane 0 call 1 read 6869
+lane 0 call 2 done
+";
+    assert_eq!(rt; text.as_slice(), want.as_slice());
     Ok(())
 }
 
-/// What a session without lanes tells before it is open: its entries, its outcomes, and whether it was let go, has a
-/// fault or knows its server. It is dropped then.
-fn told(alloc: Global) -> Result<(usize, usize, bool, bool, bool), Fail> {
-    let session = Session::new(alloc, &[], &SftpOptions::new())?;
-    let outcomes = match session.outcomes(0) {
-        Ok(outcomes) => outcomes.as_slice().len(),
-        Err(_) => 9,
-    };
-    Ok((
-        session.journal().len(),
-        outcomes,
-        session.was_let_go(0),
-        session.fault().is_some(),
-        session.info().is_some(),
-    ))
-}
-
-#[test]
-fn a_new_session_tells_nothing(rt: HostRuntime) -> Result<(), Fail> {
-    assert!(rt; told(rt.alloc())? == (0, 0, false, false, false));
-    Ok(())
-}
-
-/// What a session tells that fails twice before VERSION: how many entries it has, and its fault.
-fn failed_twice(
-    alloc: Global,
-    first: Fault,
-    second: Fault,
-) -> Result<(usize, Option<Fault>), Fail> {
-    let mut session = Session::new(alloc, &[], &SftpOptions::new())?;
-    session.fail(first);
-    session.fail(second);
-    Ok((session.journal().len(), session.fault()))
-}
-
-#[test]
-fn the_first_fault_stays(rt: HostRuntime) -> Result<(), Fail> {
-    assert!(rt; failed_twice(rt.alloc(), Fault::Link, Fault::Ended)? == (1, Some(Fault::Link)));
-    Ok(())
-}
-
-/// What a session tells that was sent the body of VERSION and failed then: how many entries it has, and its fault.
-fn failed(alloc: Global, body: &[u8], fault: Fault) -> Result<(usize, Option<Fault>), Fail> {
+/// What a session tells that is sent a body where VERSION is due, and fails then: whether the server is known, how many
+/// entries there are, and the fault.
+fn told(alloc: Global, body: &[u8]) -> Result<(bool, usize, Option<Fault>), Fail> {
     let mut session = Session::new(alloc, &[], &SftpOptions::new())?;
     if let Ok(chunk) = session.greet() {
         session.give_back(chunk);
         let _taken = session.take_version(body).is_ok();
     }
-    session.fail(fault);
-    Ok((session.journal().len(), session.fault()))
+    let known = session.info().is_some();
+    session.fail(Fault::Link);
+    Ok((known, session.journal().len(), session.fault()))
 }
 
+/// The server is known once VERSION was taken, and the first fault stays.
 #[test]
-fn an_open_session_fails(rt: HostRuntime) -> Result<(), Fail> {
-    let told = failed(rt.alloc(), b"\x02\x00\x00\x00\x03", Fault::Link)?;
-    assert!(rt; told == (1, Some(Fault::Link)));
+fn sessions(rt: HostRuntime) -> Result<(), Fail> {
+    let known = told(rt.alloc(), b"\x02\x00\x00\x00\x03")?;
+    assert!(rt; known == (true, 1, Some(Fault::Link)));
+    let refused = told(rt.alloc(), b"\x02\x00\x00\x00\x04")?;
+    assert!(rt; refused == (false, 1, Some(Fault::Protocol { version: 4 })));
     Ok(())
 }
 
+/// How many outcomes a session tells that did nothing, whether it let a lane go, and whether it reports a VERSION.
+fn reported(alloc: Global) -> Result<(usize, bool, bool), Fail> {
+    let session = Session::new(alloc, &[], &SftpOptions::new())?;
+    let count = session.outcomes(0)?.as_slice().len();
+    let was_let_go = session.was_let_go(0);
+    let report = session.into_report()?;
+    Ok((count, was_let_go, report.hello.is_some()))
+}
+
 #[test]
-fn a_refused_version_is_an_entry(rt: HostRuntime) -> Result<(), Fail> {
-    let told = failed(rt.alloc(), b"\x02\x00\x00\x00\x04", Fault::Link)?;
-    assert!(rt; told == (1, Some(Fault::Protocol { version: 4 })));
+fn a_new_session_reports_nothing(rt: HostRuntime) -> Result<(), Fail> {
+    assert!(rt; reported(rt.alloc())? == (0, false, false));
     Ok(())
 }

@@ -94,19 +94,11 @@ fn read(fails: u32) -> [Result<usize, DeviceError>; 3] {
 // Each error comes at the call that met it, and the next call is answered.
 #[test]
 fn an_error_comes_once(rt: HostRuntime) {
-    for (fails, first, second) in [
-        (0, FAILED, Ok(4)),
-        (1, Ok(4), FAILED),
-        (9, Ok(4), Ok(4)),
-    ] {
+    for (fails, first, second) in [(0, FAILED, Ok(4)), (1, Ok(4), FAILED), (9, Ok(4), Ok(4))] {
         assert_eq!(rt; received(fails), [first, second, Ok(4)]);
         assert_eq!(rt; read(fails), [first, second, Ok(4)]);
     }
-    for (fails, first, second) in [
-        (0, FAILED, Ok(2)),
-        (1, Ok(2), FAILED),
-        (9, Ok(2), Ok(2)),
-    ] {
+    for (fails, first, second) in [(0, FAILED, Ok(2)), (1, Ok(2), FAILED), (9, Ok(2), Ok(2))] {
         assert_eq!(rt; sent(fails), [first, second, Ok(1)]);
     }
 }

@@ -31,7 +31,8 @@ fn call<R: Net + Drop>(
 }
 
 // A path of 100 bytes; a socket's may have 107.
-const PATH: &str = "a-socket-whose-path-has-one-hundred-bytes-which-is-near-the-most-that-the-path-of-a-socket-may-have-";
+const PATH: &str =
+    "a-socket-whose-path-has-one-hundred-bytes-which-is-near-the-most-that-the-path-of-a-socket-may-have-";
 
 #[test]
 fn calls_a_listening_socket(rt: HostRuntime) -> Result<(), Fail> {
