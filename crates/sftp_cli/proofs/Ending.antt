@@ -7,12 +7,12 @@ use Rattle.sftp_history.specs.declared.reason.Reason.TheVariants as reason
 use Rattle.sftp_history.specs.declared.script.Script.{Script}
 use Rattle.sftp_history.specs.Lines.{lines_of}
 use Rattle.sftp_history.specs.Scripts.{script_of, script_limit, read_lines, empty_script}
-use Rattle.sftp_link.specs.Told.{Told, Went, ReadUpTo}
+use Rattle.sftp_link.specs.Told.{Told, Same, Went, ReadUpTo}
 use Rattle.sftp_cli.specs.declared.failure.Failure.{Failure}
 use Rattle.sftp_cli.specs.declared.failure.Failure.TheVariants.{SourceFailed, SinkFailed, OutOfMemory, DialFailed}
 use Rattle.sftp_cli.specs.Dialled.{LastLink, IsShown, IsStopped, RunsOver, Undialled}
 use Rattle.sftp_cli.specs.Printed.{IsAnswer, IsPrinted, RunsInMemory}
-use Rattle.sftp_cli.specs.Ended.{read_limit, GaveAll, Ran, Refused, Answered, Stopped, code, IsStatus, Unfinished, HasCause, EndsFor, Completes, IsWhole, IsWholeOrStopped, SourceCause, SinkCause, DialCause}
+use Rattle.sftp_cli.specs.Ended.{read_limit, GaveAll, IsScript, IsRead, Ran, Refused, Answered, Stopped, code, IsStatus, Unfinished, EndsInMemory, EndsOverLink, DialsLast, IsUndialled, HasCause, EndsFor, Completes, IsWhole, IsLinkStatus, SourceCause, SinkCause, DialCause}
 use Rattle.sftp_cli.specs.Words.{is_script, is_unix, takes_script}
 
 -- ---- what was read is what there was
@@ -65,6 +65,31 @@ gave_all : (bytes : List ℕ) (script : Script) (left left_now : Option (List �
 gave_all bytes script None left_now e t = tt
 gave_all bytes script (Some had) None e t = t
 gave_all bytes script (Some had) (Some now) e t = all_left bytes had now t (script_short bytes script e)
+
+-- a source that gave a script was read to its end
+is_read : (bytes : List ℕ) (left left_now : Option (List ℕ)) → IsScript bytes → Told (ReadUpTo read_limit bytes) left left_now → IsRead left left_now
+is_read bytes left left_now s t = record { bytes = bytes; gave = gave_all bytes s.0 left left_now s.1 t; reads = s }
+
+-- ---- what comes behind the script
+
+nothing_new : (written : Option (List ℕ)) → Told Same written written
+nothing_new None = tt
+nothing_new (Some bytes) = refl
+
+-- the dial is untouched, or the source was read to its end
+pub dials_last : {Untouched : Type 0} (bytes : List ℕ) (left left_now : Option (List ℕ)) → Untouched ⊎ IsScript bytes → Told (ReadUpTo read_limit bytes) left left_now → DialsLast Untouched left left_now
+dials_last bytes left left_now (inl same) t = inl same
+dials_last bytes left left_now (inr s) t = inr (is_read bytes left left_now s t)
+
+-- a dial fails behind a script that was read, and before anything is written
+pub dial_stops : (right : Script → ℕ → List ℕ → Type 0) (why : Failure) (bytes : List ℕ) (left left_now written : Option (List ℕ)) → (why ≡ SourceFailed → ⊥) × (why ≡ SinkFailed → ⊥) → (why ≡ DialFailed → IsScript bytes)
+    → Told (ReadUpTo read_limit bytes) left left_now → Stopped right why left left_now written written
+dial_stops right SourceFailed bytes left left_now written only s t = absurd (only.0 refl)
+dial_stops right SinkFailed bytes left left_now written only s t = absurd (only.1 refl)
+dial_stops right DialFailed bytes left left_now written only s t = (is_read bytes left left_now (s refl) t, nothing_new written)
+dial_stops right OutOfMemory bytes left left_now written only s t = inl (nothing_new written)
+
+pub ruleset behind_the_script = (dials_last, dial_stops)
 
 -- ---- a whole answer
 
@@ -129,6 +154,9 @@ big_code SinkFailed = omega arith
 big_code OutOfMemory = omega arith
 big_code DialFailed = omega arith
 
+no_code : (why : Failure) (status : ℕ) → status ≡ code why → status < 3 → ⊥
+no_code why status is small = let big : 2 < code why = big_code why in omega (arith, small, big, is)
+
 -- each failure has its own status
 one_code : (a b : Failure) → code a ≡ code b → a ≡ b
 one_code SourceFailed SourceFailed e = refl
@@ -161,12 +189,30 @@ failure_unfinished right why status left left_now written written_now stopped is
     subst (λ (w : Failure). Stopped right w left left_now written written_now) (one_code why other (sym is ∙ same)) stopped
 
 -- without a fault there was no memory
-pub failure_completes : (ends : ℕ → Type 0) (why : Failure) (status : ℕ) (left : Option (List ℕ)) (source source_now sink sink_now dial dial_now : ℕ) → SourceCause {T = ℕ} (Err why) source source_now
-    → SinkCause {T = ℕ} (Err why) sink sink_now → DialCause {T = ℕ} (Err why) dial dial_now → status ≡ code why → source_now ≡ source → sink_now ≡ sink → dial_now ≡ dial → Completes ends status left
-failure_completes ends SourceFailed status left source source_now sink sink_now dial dial_now s k d is same also too had told = absurd (omega (arith, s, same))
-failure_completes ends SinkFailed status left source source_now sink sink_now dial dial_now s k d is same also too had told = absurd (omega (arith, k, also))
-failure_completes ends DialFailed status left source source_now sink sink_now dial dial_now s k d is same also too had told = absurd (omega (arith, d, too))
-failure_completes ends OutOfMemory status left source source_now sink sink_now dial dial_now s k d is same also too had told = inr is
+pub memory_stops : (why : Failure) (status : ℕ) (left : Option (List ℕ)) (source source_now sink sink_now : ℕ) → SourceCause {T = ℕ} (Err why) source source_now → SinkCause {T = ℕ} (Err why) sink sink_now
+    → DialCause {T = ℕ} (Err why) 0 0 → status ≡ code why → source_now ≡ source → sink_now ≡ sink → Completes IsWhole status left
+memory_stops SourceFailed status left source source_now sink sink_now s k d is same also had told = absurd (omega (arith, s, same))
+memory_stops SinkFailed status left source source_now sink sink_now s k d is same also had told = absurd (omega (arith, k, also))
+memory_stops DialFailed status left source source_now sink sink_now s k d is same also had told = absurd (omega (arith, d))
+memory_stops OutOfMemory status left source source_now sink sink_now s k d is same also had told = inr is
+
+told_all : (bytes had : List ℕ) (left_now : Option (List ℕ)) → Told (GaveAll bytes) (Some had) left_now → had ≡ bytes
+told_all bytes had None t = absurd t
+told_all bytes had (Some now) t = t.0
+
+-- what a source had that was read to its end is a script
+had_script : (had : List ℕ) (left left_now : Option (List ℕ)) (status : ℕ) → IsRead left left_now → left ≡ Some had → status ≡ 6 → EndsFor IsLinkStatus (script_of had) status
+had_script had left left_now status r told is =
+    let gave : Told (GaveAll r.bytes) (Some had) left_now = subst (λ (l : Option (List ℕ)). Told (GaveAll r.bytes) l left_now) told r.gave in
+    subst (λ x. EndsFor IsLinkStatus x status) (sym (ap script_of (told_all r.bytes had left_now gave) ∙ r.reads.1)) (inr (inr is))
+
+-- without a fault there was no memory, or what there was is a script and there was no link
+pub link_stops : (right : Script → ℕ → List ℕ → Type 0) (why : Failure) (status : ℕ) (left left_now written written_now : Option (List ℕ)) (source source_now sink sink_now : ℕ) → Stopped right why left left_now written written_now
+    → SourceCause {T = ℕ} (Err why) source source_now → SinkCause {T = ℕ} (Err why) sink sink_now → status ≡ code why → source_now ≡ source → sink_now ≡ sink → Completes IsLinkStatus status left
+link_stops right SourceFailed status left left_now written written_now source source_now sink sink_now stopped s k is same also had told = absurd (omega (arith, s, same))
+link_stops right SinkFailed status left left_now written written_now source source_now sink sink_now stopped s k is same also had told = absurd (omega (arith, k, also))
+link_stops right DialFailed status left left_now written written_now source source_now sink sink_now stopped s k is same also had told = inl (had_script had left left_now status stopped.0 told is)
+link_stops right OutOfMemory status left left_now written written_now source source_now sink sink_now stopped s k is same also had told = inr is
 
 -- ---- causes
 
@@ -211,7 +257,7 @@ small_status (suc zero) lt = inr (inl refl)
 small_status (suc (suc zero)) lt = inl (inr (inl refl))
 small_status (suc (suc (suc n))) lt = absurd (omega (arith, lt))
 
-pub ruleset endings = (failure_unfinished, failure_completes, no_cause, source_cause, sink_cause, dial_cause)
+pub ruleset endings = (no_cause, source_cause, sink_cause, dial_cause)
 
 -- ---- over a server in memory
 
@@ -221,7 +267,7 @@ memory_small script status text a = let zero : status ≡ 0 = a.0 in omega (arit
 pub memory_ran : (status : ℕ) (left left_now written written_now : Option (List ℕ)) → Answered RunsInMemory status left left_now written written_now → status ≡ 0 → Ran IsPrinted left left_now written written_now
 memory_ran status left left_now written written_now a is = answer_ran RunsInMemory IsPrinted 0 status left left_now written written_now (λ script n text r e. r.1) (omega arith) a is
 
-pub memory_refused : (status : ℕ) (left left_now written written_now : Option (List ℕ)) → Answered RunsInMemory status left left_now written written_now → status ≡ 2 → Refused left left_now written written_now
+memory_refused : (status : ℕ) (left left_now written written_now : Option (List ℕ)) → Answered RunsInMemory status left left_now written written_now → status ≡ 2 → Refused left left_now written written_now
 memory_refused status left left_now written written_now a is = answer_refused RunsInMemory status left left_now written written_now memory_small a is
 
 pub memory_small_status : (status : ℕ) (left left_now written written_now : Option (List ℕ)) → Answered RunsInMemory status left left_now written written_now → status < 3
@@ -230,8 +276,16 @@ memory_small_status status left left_now written written_now a = answer_small Ru
 pub memory_completes : (status : ℕ) (left left_now written written_now : Option (List ℕ)) → Answered RunsInMemory status left left_now written written_now → Completes IsWhole status left
 memory_completes status left left_now written written_now a = answer_completes RunsInMemory IsWhole status left left_now written written_now (λ script text r. r.0) a
 
-pub memory_finished : (status : ℕ) (left left_now written written_now : Option (List ℕ)) → Answered RunsInMemory status left left_now written written_now → Unfinished RunsInMemory status left left_now written written_now
+memory_finished : (status : ℕ) (left left_now written written_now : Option (List ℕ)) → Answered RunsInMemory status left left_now written written_now → Unfinished RunsInMemory status left left_now written written_now
 memory_finished status left left_now written written_now a = answer_finished RunsInMemory status left left_now written written_now memory_small a
+
+pub memory_ends : (status : ℕ) (left left_now written written_now : Option (List ℕ)) → Answered RunsInMemory status left left_now written written_now → EndsInMemory status left left_now written written_now
+memory_ends status left left_now written written_now a =
+    record { refused = memory_refused status left left_now written written_now a; unfinished = memory_finished status left left_now written written_now a }
+
+pub memory_failure : (why : Failure) (status : ℕ) (left left_now written written_now : Option (List ℕ)) → Stopped RunsInMemory why left left_now written written_now → status ≡ code why → EndsInMemory status left left_now written written_now
+memory_failure why status left left_now written written_now stopped is =
+    record { refused = λ two. absurd (no_code why status is (omega (arith, two))); unfinished = failure_unfinished RunsInMemory why status left left_now written written_now stopped is }
 
 memory_status_by : (r : Result Script (ℕ × Reason)) (status : ℕ) (text : List ℕ) → IsAnswer RunsInMemory r status text → IsStatus status
 memory_status_by (Ok script) status text a = inl a.0
@@ -240,7 +294,7 @@ memory_status_by (Err why) status text a = inr (inl a.0)
 pub memory_status : (status : ℕ) (left left_now written written_now : Option (List ℕ)) → Answered RunsInMemory status left left_now written written_now → IsStatus status
 memory_status status left left_now written written_now a = memory_status_by (script_of a.bytes) status a.text a.answer
 
-pub ruleset in_memory = (memory_ran, memory_refused, memory_small_status, memory_completes, memory_finished, memory_status, undialled_status)
+pub ruleset in_memory = (memory_ran, memory_ends, memory_failure, memory_small_status, memory_completes, memory_stops, memory_status, undialled_status)
 
 -- ---- over a link
 
@@ -256,48 +310,85 @@ stopped_by : (last : LastLink) → Picks (RunsOver last) 1 (λ script text. IsSt
 stopped_by last script status text (inl a) is = absurd (let bad : 0 ≡ 1 = sym a.0 ∙ is in cc bad)
 stopped_by last script status text (inr a) is = a.1
 
-pub link_ran : (last : LastLink) (status : ℕ) (left left_now written written_now : Option (List ℕ)) → Answered (RunsOver last) status left left_now written written_now → status ≡ 0
+link_ran : (last : LastLink) (status : ℕ) (left left_now written written_now : Option (List ℕ)) → Answered (RunsOver last) status left left_now written written_now → status ≡ 0
     → Ran (λ script text. IsShown last script text) left left_now written written_now
 link_ran last status left left_now written written_now a is = answer_ran (RunsOver last) (λ script text. IsShown last script text) 0 status left left_now written written_now (shown_by last) (omega arith) a is
 
-pub link_stopped : (last : LastLink) (status : ℕ) (left left_now written written_now : Option (List ℕ)) → Answered (RunsOver last) status left left_now written written_now → status ≡ 1
+link_stopped : (last : LastLink) (status : ℕ) (left left_now written written_now : Option (List ℕ)) → Answered (RunsOver last) status left left_now written written_now → status ≡ 1
     → Ran (λ script text. IsStopped last script text) left left_now written written_now
 link_stopped last status left left_now written written_now a is = answer_ran (RunsOver last) (λ script text. IsStopped last script text) 1 status left left_now written written_now (stopped_by last) (omega arith) a is
 
-pub link_refused : (last : LastLink) (status : ℕ) (left left_now written written_now : Option (List ℕ)) → Answered (RunsOver last) status left left_now written written_now → status ≡ 2 → Refused left left_now written written_now
+link_refused : (last : LastLink) (status : ℕ) (left left_now written written_now : Option (List ℕ)) → Answered (RunsOver last) status left left_now written written_now → status ≡ 2 → Refused left left_now written written_now
 link_refused last status left left_now written written_now a is = answer_refused (RunsOver last) status left left_now written written_now (link_small last) a is
 
 pub link_small_status : (last : LastLink) (status : ℕ) (left left_now written written_now : Option (List ℕ)) → Answered (RunsOver last) status left left_now written written_now → status < 3
 link_small_status last status left left_now written written_now a = answer_small (RunsOver last) status left left_now written written_now (link_small last) a
 
-whole_or_stopped : (last : LastLink) (script : Script) (status : ℕ) (text : List ℕ) → RunsOver last script status text → IsWholeOrStopped status
-whole_or_stopped last script status text (inl a) = inl a.0
-whole_or_stopped last script status text (inr a) = inr a.0
+link_status : (last : LastLink) (script : Script) (status : ℕ) (text : List ℕ) → RunsOver last script status text → IsLinkStatus status
+link_status last script status text (inl a) = inl a.0
+link_status last script status text (inr a) = inr (inl a.0)
 
-pub link_completes : (last : LastLink) (status : ℕ) (left left_now written written_now : Option (List ℕ)) → Answered (RunsOver last) status left left_now written written_now → Completes IsWholeOrStopped status left
+pub link_completes : (last : LastLink) (status : ℕ) (left left_now written written_now : Option (List ℕ)) → Answered (RunsOver last) status left left_now written written_now → Completes IsLinkStatus status left
 link_completes last status left left_now written written_now a =
-    answer_completes (RunsOver last) IsWholeOrStopped status left left_now written written_now (λ script text r. whole_or_stopped last script status text r) a
+    answer_completes (RunsOver last) IsLinkStatus status left left_now written written_now (λ script text r. link_status last script status text r) a
 
-pub link_finished : (last : LastLink) (status : ℕ) (left left_now written written_now : Option (List ℕ)) → Answered (RunsOver last) status left left_now written written_now → Unfinished (RunsOver last) status left left_now written written_now
+link_finished : (last : LastLink) (status : ℕ) (left left_now written written_now : Option (List ℕ)) → Answered (RunsOver last) status left left_now written written_now → Unfinished (RunsOver last) status left left_now written written_now
 link_finished last status left left_now written written_now a = answer_finished (RunsOver last) status left left_now written written_now (link_small last) a
 
--- with the status of a refused script, and with that of a source or a dial that failed, nothing was put back
-pub answer_undialled : (status : ℕ) (before now : LastLink) → status < 3 → (status ≡ 2 → now ≡ before) → (status ≡ 2) ⊎ (status ≡ 3) ⊎ (status ≡ 6) → now ≡ before
-answer_undialled status before now small h (inl is) = h is
-answer_undialled status before now small h (inr (inl is)) = absurd (omega (arith, small, is))
-answer_undialled status before now small h (inr (inr is)) = absurd (omega (arith, small, is))
+pub link_ends : (last : LastLink) (status : ℕ) (left left_now written written_now : Option (List ℕ)) → Answered (RunsOver last) status left left_now written written_now → EndsOverLink last status left left_now written written_now
+link_ends last status left left_now written written_now a =
+    record {
+      ran = link_ran last status left left_now written written_now a;
+      stopped = link_stopped last status left left_now written written_now a;
+      refused = link_refused last status left left_now written written_now a;
+      unfinished = link_finished last status left left_now written written_now a;
+    }
 
-pub failure_undialled : (why : Failure) (status : ℕ) (before now : LastLink) → Undialled why before now → status ≡ code why → (status ≡ 2) ⊎ (status ≡ 3) ⊎ (status ≡ 6) → now ≡ before
-failure_undialled SourceFailed status before now h is which = h
-failure_undialled DialFailed status before now h is which = h
-failure_undialled SinkFailed status before now h is (inl e) = absurd (let bad : 4 ≡ 2 = sym is ∙ e in cc bad)
-failure_undialled SinkFailed status before now h is (inr (inl e)) = absurd (let bad : 4 ≡ 3 = sym is ∙ e in cc bad)
-failure_undialled SinkFailed status before now h is (inr (inr e)) = absurd (let bad : 4 ≡ 6 = sym is ∙ e in cc bad)
-failure_undialled OutOfMemory status before now h is (inl e) = absurd (let bad : 5 ≡ 2 = sym is ∙ e in cc bad)
-failure_undialled OutOfMemory status before now h is (inr (inl e)) = absurd (let bad : 5 ≡ 3 = sym is ∙ e in cc bad)
-failure_undialled OutOfMemory status before now h is (inr (inr e)) = absurd (let bad : 5 ≡ 6 = sym is ∙ e in cc bad)
+pub link_failure : (last : LastLink) (why : Failure) (status : ℕ) (left left_now written written_now : Option (List ℕ)) → Stopped (RunsOver last) why left left_now written written_now → status ≡ code why
+    → EndsOverLink last status left left_now written written_now
+link_failure last why status left left_now written written_now stopped is =
+    record {
+      ran = λ zero. absurd (no_code why status is (omega (arith, zero)));
+      stopped = λ one. absurd (no_code why status is (omega (arith, one)));
+      refused = λ two. absurd (no_code why status is (omega (arith, two)));
+      unfinished = failure_unfinished (RunsOver last) why status left left_now written written_now stopped is;
+    }
 
-pub ruleset over_link = (link_ran, link_stopped, link_refused, link_small_status, link_completes, link_finished, answer_undialled, failure_undialled, failure_status, small_status)
+-- of a whole answer, what holds of the dial: it is untouched where the script was refused
+pub answer_undialled : {Untouched Unlinked : Type 0} (status : ℕ) → status < 3 → (status ≡ 2 → Untouched) → IsUndialled status Untouched Unlinked
+answer_undialled status small h = (
+  (λ which. elim which [
+    | inl two ↦ h two
+    | inr three ↦ absurd (omega (arith, small, three))
+  ]),
+  λ six. absurd (omega (arith, small, six)),
+)
+
+pub failure_undialled : {Untouched Unlinked : Type 0} (why : Failure) (status : ℕ) → Undialled why Untouched Unlinked → status ≡ code why → IsUndialled status Untouched Unlinked
+failure_undialled SourceFailed status h is = ((λ which. h), λ six. absurd (let bad : 3 ≡ 6 = sym is ∙ six in cc bad))
+failure_undialled DialFailed status h is = (
+  (λ which. elim which [
+    | inl two ↦ absurd (let bad : 6 ≡ 2 = sym is ∙ two in cc bad)
+    | inr three ↦ absurd (let bad : 6 ≡ 3 = sym is ∙ three in cc bad)
+  ]),
+  λ six. h,
+)
+failure_undialled SinkFailed status h is = (
+  (λ which. elim which [
+    | inl two ↦ absurd (let bad : 4 ≡ 2 = sym is ∙ two in cc bad)
+    | inr three ↦ absurd (let bad : 4 ≡ 3 = sym is ∙ three in cc bad)
+  ]),
+  λ six. absurd (let bad : 4 ≡ 6 = sym is ∙ six in cc bad),
+)
+failure_undialled OutOfMemory status h is = (
+  (λ which. elim which [
+    | inl two ↦ absurd (let bad : 5 ≡ 2 = sym is ∙ two in cc bad)
+    | inr three ↦ absurd (let bad : 5 ≡ 3 = sym is ∙ three in cc bad)
+  ]),
+  λ six. absurd (let bad : 5 ≡ 6 = sym is ∙ six in cc bad),
+)
+
+pub ruleset over_link = (link_ends, link_failure, link_small_status, link_completes, link_stops, answer_undialled, failure_undialled, failure_status, small_status)
 
 -- ---- the words
 

@@ -83,9 +83,9 @@ pub record IsStopped (last : LastLink) (script : Script) (text : List ℕ) : Typ
 abbrev pub RunsOver : LastLink → Script → ℕ → List ℕ → Type 0
 RunsOver last script status text = ((status ≡ 0) × IsShown last script text) ⊎ ((status ≡ 1) × IsStopped last script text)
 
--- where the source or the dial failed no link was put back
-abbrev pub Undialled : Failure → LastLink → LastLink → Type 0
-Undialled SourceFailed before now = now ≡ before
-Undialled DialFailed before now = now ≡ before
-Undialled SinkFailed before now = Unit {0}
-Undialled OutOfMemory before now = Unit {0}
+-- Of a failure, what holds of the dial: where the source failed it is untouched, and where it failed itself no link was put back.
+abbrev pub Undialled : Failure → Type 0 → Type 0 → Type 0
+Undialled SourceFailed untouched unlinked = untouched
+Undialled DialFailed untouched unlinked = unlinked
+Undialled SinkFailed untouched unlinked = Unit {0}
+Undialled OutOfMemory untouched unlinked = Unit {0}

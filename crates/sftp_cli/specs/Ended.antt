@@ -7,7 +7,8 @@ use Rattle.sftp_history.specs.Scripts.{script_of}
 use Rattle.sftp_link.specs.Told.{Told, Same, Went, WentLess, ReadUpTo}
 use Rattle.sftp_cli.specs.declared.failure.Failure.{Failure}
 use Rattle.sftp_cli.specs.declared.failure.Failure.TheVariants.{SourceFailed, SinkFailed, OutOfMemory, DialFailed}
-use Rattle.sftp_cli.specs.Printed.{IsAnswer, refusal_line}
+use Rattle.sftp_cli.specs.Dialled.{LastLink, IsShown, IsStopped, RunsOver}
+use Rattle.sftp_cli.specs.Printed.{IsAnswer, RunsInMemory, refusal_line}
 
 -- one byte more than a script may have
 abbrev pub read_limit : ℕ
@@ -16,6 +17,16 @@ read_limit = 16777217
 -- the bytes are all that was left, and none is left now
 abbrev pub GaveAll : List ℕ → List ℕ → List ℕ → Type 0
 GaveAll bytes before now = (before ≡ bytes) × (now ≡ [])
+
+-- the bytes read as a script
+abbrev pub IsScript : List ℕ → Type 0
+IsScript bytes = (script : Script) × (script_of bytes ≡ Ok script)
+
+-- the source was read to its end, and what it gave is a script
+pub record IsRead (left left_now : Option (List ℕ)) : Type 0 where
+  pub bytes : List ℕ
+  pub gave : Told (GaveAll bytes) left left_now
+  pub reads : IsScript bytes
 
 -- The script was run: the bytes that the source gave, which are all that it had, read as a script, and a text was written
 -- that is right for it.
@@ -55,11 +66,11 @@ pub record Cut (right : Script → ℕ → List ℕ → Type 0) (left left_now w
   pub answer : IsAnswer right (script_of bytes) status text
   pub wrote : Told (WentLess text) written written_now
 
--- where the source or the dial failed nothing was written, where the sink failed a front of the answer; where there was no
--- memory either
+-- Where the source failed nothing was written. Where the dial failed all was read and is a script, and nothing was written.
+-- Where the sink failed a front of the answer was written; where there was no memory either.
 abbrev pub Stopped : (Script → ℕ → List ℕ → Type 0) → Failure → Option (List ℕ) → Option (List ℕ) → Option (List ℕ) → Option (List ℕ) → Type 0
 Stopped right SourceFailed left left_now written written_now = Told Same written written_now
-Stopped right DialFailed left left_now written written_now = Told Same written written_now
+Stopped right DialFailed left left_now written written_now = IsRead left left_now × Told Same written written_now
 Stopped right SinkFailed left left_now written written_now = Cut right left left_now written written_now
 Stopped right OutOfMemory left left_now written written_now = Told Same written written_now ⊎ Cut right left left_now written written_now
 
@@ -78,6 +89,27 @@ IsStatus status = (status ≡ 0) ⊎ (status ≡ 2) ⊎ (status ≡ 3) ⊎ (stat
 abbrev pub Unfinished : (Script → ℕ → List ℕ → Type 0) → ℕ → Option (List ℕ) → Option (List ℕ) → Option (List ℕ) → Option (List ℕ) → Type 0
 Unfinished right status left left_now written written_now = (why : Failure) → status ≡ code why → Stopped right why left left_now written written_now
 
+-- how the program ends with a script over a server in memory, where it isn't run whole
+pub record EndsInMemory (status : ℕ) (left left_now written written_now : Option (List ℕ)) : Type 0 where
+  pub refused : status ≡ 2 → Refused left left_now written written_now
+  pub unfinished : Unfinished RunsInMemory status left left_now written written_now
+
+-- how the program ends with a script over a link
+pub record EndsOverLink (last : LastLink) (status : ℕ) (left left_now written written_now : Option (List ℕ)) : Type 0 where
+  pub ran : status ≡ 0 → Ran (λ script text. IsShown last script text) left left_now written written_now
+  pub stopped : status ≡ 1 → Ran (λ script text. IsStopped last script text) left left_now written written_now
+  pub refused : status ≡ 2 → Refused left left_now written written_now
+  pub unfinished : Unfinished (RunsOver last) status left left_now written written_now
+
+-- The dial comes behind the script: it is untouched, or the source was read to its end and gave a script.
+abbrev pub DialsLast : Type 0 → Option (List ℕ) → Option (List ℕ) → Type 0
+DialsLast untouched left left_now = untouched ⊎ IsRead left left_now
+
+-- By the status, what holds of the dial: it is untouched where the script was refused or the source failed, and no link was
+-- put back where it failed itself.
+abbrev pub IsUndialled : ℕ → Type 0 → Type 0 → Type 0
+IsUndialled status untouched unlinked = ((status ≡ 2) ⊎ (status ≡ 3) → untouched) × (status ≡ 6 → unlinked)
+
 -- a count of faults rose where the status is this one, and else is as before
 abbrev pub HasCause : ℕ → ℕ → ℕ → ℕ → Type 0
 HasCause n status before now = ((status ≡ n) × (before < now)) ⊎ ((status ≡ n → ⊥) × (now ≡ before))
@@ -95,9 +127,9 @@ Completes ends status left = (had : List ℕ) → left ≡ Some had → EndsFor 
 abbrev pub IsWhole : ℕ → Type 0
 IsWhole status = status ≡ 0
 
--- a run over a link ends whole, or with an error that stopped it
-abbrev pub IsWholeOrStopped : ℕ → Type 0
-IsWholeOrStopped status = (status ≡ 0) ⊎ (status ≡ 1)
+-- over a link a run ends whole, or with an error that stopped it, or there was no link
+abbrev pub IsLinkStatus : ℕ → Type 0
+IsLinkStatus status = (status ≡ 0) ⊎ (status ≡ 1) ⊎ (status ≡ 6)
 
 -- a count of faults rose where this is the failure, and else is as before
 abbrev pub SourceCause : {T : Type 0} → Result T Failure → ℕ → ℕ → Type 0

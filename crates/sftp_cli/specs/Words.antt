@@ -1,8 +1,35 @@
 -- What the program writes and answers for the words of its command line.
-use Rattle.std.specs.Prelude.{◌≡◌, ◌⊎◌, ℕ, Bool, false, ◌||◌, List, [], ◌∷◌, Option, codes, if◌then◌else◌}
+use Rattle.std.specs.Prelude.{◌≡◌, ◌⊎◌, ℕ, Bool, false, ◌||◌, List, [], ◌∷◌, ◌++◌, Option, codes, if◌then◌else◌}
 use Rattle.std.specs.Str.{bytes_eq}
-use Rattle.sftp_cli.specs.declared.answer.TheConstants.{HELP, VERSION, FAULTY}
 use Rattle.sftp_link.specs.Told.{Told, Went, WentLess}
+
+-- ---- texts
+
+-- what `--help` writes
+unfoldable pub help_text : List ℕ
+help_text =
+    codes "Usage: sftp_cli script | unix PATH | --help | --version\n"
+    ++ codes "\n"
+    ++ codes "  script       runs the script on standard input over a server of its files in memory\n"
+    ++ codes "  unix PATH    runs it over the SFTP server that listens on the Unix socket PATH\n"
+    ++ codes "  --help       writes this text\n"
+    ++ codes "  --version    writes the version\n"
+    ++ codes "\n"
+    ++ codes "The frames that were sent and taken, the outcomes of the calls and, with script, the\n"
+    ++ codes "files that are left are written to standard output. The status is 0 where all was done,\n"
+    ++ codes "1 where the session failed, 2 for a script or words that can't be used, 3 where the\n"
+    ++ codes "input failed, 4 where the output failed, 5 where memory ran out, and 6 where nothing\n"
+    ++ codes "answers at PATH.\n"
+
+-- what `--version` writes
+unfoldable pub version_text : List ℕ
+version_text = codes "tilfrjon 0.1.0\n"
+
+-- what a faulty command line writes
+unfoldable pub faulty_text : List ℕ
+faulty_text = codes "line 0 words\n"
+
+-- ---- words
 
 -- the one word `script`
 abbrev pub is_script : List (List ℕ) → Bool
@@ -28,9 +55,9 @@ status_of (word ∷ []) = if bytes_eq word (codes "--help") then 0 else if bytes
 status_of (word ∷ another ∷ words) = 2
 
 abbrev pub text_of : List (List ℕ) → List ℕ
-text_of [] = FAULTY.now
-text_of (word ∷ []) = if bytes_eq word (codes "--help") then HELP.now else if bytes_eq word (codes "--version") then VERSION.now else FAULTY.now
-text_of (word ∷ another ∷ words) = FAULTY.now
+text_of [] = faulty_text
+text_of (word ∷ []) = if bytes_eq word (codes "--help") then help_text else if bytes_eq word (codes "--version") then version_text else faulty_text
+text_of (word ∷ another ∷ words) = faulty_text
 
 -- the whole text was written and the status is its own, or a front of it and the status says why
 abbrev pub Writes : ℕ → ℕ → List ℕ → Option (List ℕ) → Option (List ℕ) → Type 0

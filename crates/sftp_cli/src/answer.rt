@@ -1,9 +1,13 @@
 ghost use Rattle.std.specs.Prelude.{◌≡◌, map, is_some};
 ghost use Rattle.std.specs.String.{string_bytes};
-ghost use Rattle.sftp_cli.specs.Words.{is_script, is_unix, status_of, text_of};
+ghost use Rattle.sftp_cli.specs.Words.{faulty_text, help_text, is_script, is_unix, status_of, text_of, version_text};
 
 /// What `--help` writes.
-pub(crate) const HELP: &str = "\
+#[tactic(auto, unfolding(crate::specs::Words::help_text))]
+fn help_text() -> &'static str
+    ensures { result.now ≡ help_text }
+{
+    "\
 Usage: sftp_cli script | unix PATH | --help | --version
 
   script       runs the script on standard input over a server of its files in memory
@@ -16,13 +20,24 @@ files that are left are written to standard output. The status is 0 where all wa
 1 where the session failed, 2 for a script or words that can't be used, 3 where the
 input failed, 4 where the output failed, 5 where memory ran out, and 6 where nothing
 answers at PATH.
-";
+"
+}
 
 /// What `--version` writes.
-pub(crate) const VERSION: &str = "tilfrjon 0.1.0\n";
+#[tactic(auto, unfolding(crate::specs::Words::version_text))]
+fn version_text() -> &'static str
+    ensures { result.now ≡ version_text }
+{
+    "tilfrjon 0.1.0\n"
+}
 
 /// What a faulty command line writes.
-pub(crate) const FAULTY: &str = "line 0 words\n";
+#[tactic(auto, unfolding(crate::specs::Words::faulty_text))]
+fn faulty_text() -> &'static str
+    ensures { result.now ≡ faulty_text }
+{
+    "line 0 words\n"
+}
 
 /// A text to write, and the status to end with.
 #[derive(Clone, Copy)]
@@ -66,18 +81,18 @@ pub(crate) fn answer_to(words: &[String]) -> Answer
         if word.as_str() == "--help" {
             return Answer {
                 status: 0,
-                text: HELP,
+                text: help_text(),
             };
         }
         if word.as_str() == "--version" {
             return Answer {
                 status: 0,
-                text: VERSION,
+                text: version_text(),
             };
         }
     }
     Answer {
         status: 2,
-        text: FAULTY,
+        text: faulty_text(),
     }
 }

@@ -62,8 +62,8 @@ pub(crate) fn reply_dialled<D: Dial>(
     requires dial { D.faults dial.old < 2 ^ 64 - 1 }
     ensures ok { IfOk result (λ reply. RunsOver (last_link (D.last dial.new) (D.last_faults dial.new) (D.last_ended dial.new)) script.now reply.status reply.text.items) }
     ensures cause { DialCause result (D.faults dial.old) (D.faults dial.new) }
-    ensures undialled { IfErr result (λ e. Undialled e (last_link (D.last dial.old) (D.last_faults dial.old) (D.last_ended dial.old))
-        (last_link (D.last dial.new) (D.last_faults dial.new) (D.last_ended dial.new))) }
+    ensures undialled { IfErr result (λ e. Undialled e (dial.new ≡ dial.old)
+        (last_link (D.last dial.new) (D.last_faults dial.new) (D.last_ended dial.new) ≡ last_link (D.last dial.old) (D.last_faults dial.old) (D.last_ended dial.old))) }
     ensures only { IfErr result (λ e. (e ≡ failure.SourceFailed → ⊥) × (e ≡ failure.SinkFailed → ⊥)) }
 {
     let link = match dial.dial(path) {

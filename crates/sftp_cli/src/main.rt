@@ -16,21 +16,18 @@ use sftp_link::{ReadSource, UnixDial, WriteSink};
 use std::env;
 use std::process::ExitCode;
 
-/// The status of a command line that can't be read.
-const FAULTY_WORDS: u8 = 2;
-
 fn main(rt: HostRuntime) -> ExitCode {
+    let mut words = Vec::new(rt.alloc());
+    // arguments that can't be read are no words, and no words are refused
+    if let Ok(args) = env::args(&rt) {
+        for word in args.skip(1) {
+            if words.push(word).is_err() {
+                return ExitCode::from(failure::OUT_OF_MEMORY);
+            }
+        }
+    }
     let mut source = ReadSource::new(rt.stdin());
     let mut sink = WriteSink::new(rt.stdout());
     let mut dial = UnixDial::new(&rt);
-    let mut words = Vec::new(rt.alloc());
-    let Ok(args) = env::args(&rt) else {
-        return ExitCode::from(FAULTY_WORDS);
-    };
-    for word in args.skip(1) {
-        if words.push(word).is_err() {
-            return ExitCode::from(failure::OUT_OF_MEMORY);
-        }
-    }
     ExitCode::from(run(rt.alloc(), &words, &mut source, &mut sink, &mut dial))
 }

@@ -1,9 +1,9 @@
 ghost use Rattle.std.specs.Prelude.{◌≡◌, ◌<◌, ◌⊎◌, ◌-◌, ◌^◌, true, false, map};
 ghost use Rattle.std.specs.String.{string_bytes};
 ghost use Rattle.sftp_cli.specs.Words.{Writes, is_script, is_unix, takes_script, status_of, text_of};
-ghost use Rattle.sftp_cli.specs.Dialled.{IsShown, IsStopped, RunsOver, last_link};
-ghost use Rattle.sftp_cli.specs.Printed.{IsPrinted, RunsInMemory};
-ghost use Rattle.sftp_cli.specs.Ended.{Ran, Refused, Unfinished, Completes, HasCause, IsStatus, IsWhole, IsWholeOrStopped};
+ghost use Rattle.sftp_cli.specs.Dialled.{last_link};
+ghost use Rattle.sftp_cli.specs.Printed.{IsPrinted};
+ghost use Rattle.sftp_cli.specs.Ended.{Ran, EndsInMemory, EndsOverLink, DialsLast, IsUndialled, Completes, HasCause, IsStatus, IsWhole, IsLinkStatus};
 
 use crate::answer::{Answer, answer_to, is_script, unix_path};
 use crate::script::{run_script, run_unix, write_whole};
@@ -16,8 +16,7 @@ fn end_script<S: Source, K: Sink>(alloc: Global, source: &mut S, sink: &mut K) -
     requires source { S.faults source.old < 2 ^ 64 - 1 }
     requires sink { K.faults sink.old < 2 ^ 64 - 1 }
     ensures headline { result ≡ 0 → Ran IsPrinted (S.left source.old) (S.left source.new) (K.written sink.old) (K.written sink.new) }
-    ensures refused { result ≡ 2 → Refused (S.left source.old) (S.left source.new) (K.written sink.old) (K.written sink.new) }
-    ensures unfinished { Unfinished RunsInMemory result (S.left source.old) (S.left source.new) (K.written sink.old) (K.written sink.new) }
+    ensures ends { EndsInMemory result (S.left source.old) (S.left source.new) (K.written sink.old) (K.written sink.new) }
     ensures complete { S.faults source.new ≡ S.faults source.old → K.faults sink.new ≡ K.faults sink.old → Completes IsWhole result (S.left source.old) }
     ensures causes { HasCause 3 result (S.faults source.old) (S.faults source.new) × HasCause 4 result (K.faults sink.old) (K.faults sink.new) }
     ensures status { IsStatus result }
@@ -40,17 +39,12 @@ fn end_unix<S: Source, K: Sink, D: Dial>(
     requires source { S.faults source.old < 2 ^ 64 - 1 }
     requires sink { K.faults sink.old < 2 ^ 64 - 1 }
     requires dial { D.faults dial.old < 2 ^ 64 - 1 }
-    ensures ran { result ≡ 0 → Ran (λ script text. IsShown (last_link (D.last dial.new) (D.last_faults dial.new) (D.last_ended dial.new)) script text)
-        (S.left source.old) (S.left source.new) (K.written sink.old) (K.written sink.new) }
-    ensures error { result ≡ 1 → Ran (λ script text. IsStopped (last_link (D.last dial.new) (D.last_faults dial.new) (D.last_ended dial.new)) script text)
-        (S.left source.old) (S.left source.new) (K.written sink.old) (K.written sink.new) }
-    ensures refused { result ≡ 2 → Refused (S.left source.old) (S.left source.new) (K.written sink.old) (K.written sink.new) }
-    ensures unfinished { Unfinished (RunsOver (last_link (D.last dial.new) (D.last_faults dial.new) (D.last_ended dial.new)))
+    ensures ends { EndsOverLink (last_link (D.last dial.new) (D.last_faults dial.new) (D.last_ended dial.new))
         result (S.left source.old) (S.left source.new) (K.written sink.old) (K.written sink.new) }
-    ensures undialled { (result ≡ 2) ⊎ (result ≡ 3) ⊎ (result ≡ 6) → last_link (D.last dial.new) (D.last_faults dial.new) (D.last_ended dial.new)
-        ≡ last_link (D.last dial.old) (D.last_faults dial.old) (D.last_ended dial.old) }
-    ensures complete { S.faults source.new ≡ S.faults source.old → K.faults sink.new ≡ K.faults sink.old → D.faults dial.new ≡ D.faults dial.old
-        → Completes IsWholeOrStopped result (S.left source.old) }
+    ensures order { DialsLast (dial.new ≡ dial.old) (S.left source.old) (S.left source.new) }
+    ensures undialled { IsUndialled result (dial.new ≡ dial.old)
+        (last_link (D.last dial.new) (D.last_faults dial.new) (D.last_ended dial.new) ≡ last_link (D.last dial.old) (D.last_faults dial.old) (D.last_ended dial.old)) }
+    ensures complete { S.faults source.new ≡ S.faults source.old → K.faults sink.new ≡ K.faults sink.old → Completes IsLinkStatus result (S.left source.old) }
     ensures causes { HasCause 3 result (S.faults source.old) (S.faults source.new) × HasCause 4 result (K.faults sink.old) (K.faults sink.new)
         × HasCause 6 result (D.faults dial.old) (D.faults dial.new) }
     ensures status { IsStatus result ⊎ (result ≡ 1) ⊎ (result ≡ 6) }
@@ -97,29 +91,21 @@ pub fn run<S: Source, K: Sink, D: Dial>(
     requires dial { D.faults dial.old < 2 ^ 64 - 1 }
     ensures headline { is_script (map string_bytes words.now) ≡ true → result ≡ 0
         → Ran IsPrinted (S.left source.old) (S.left source.new) (K.written sink.old) (K.written sink.new) }
-    ensures over_link { is_unix (map string_bytes words.now) ≡ true → result ≡ 0
-        → Ran (λ script text. IsShown (last_link (D.last dial.new) (D.last_faults dial.new) (D.last_ended dial.new)) script text)
-        (S.left source.old) (S.left source.new) (K.written sink.old) (K.written sink.new) }
-    ensures error { result ≡ 1 → Ran (λ script text. IsStopped (last_link (D.last dial.new) (D.last_faults dial.new) (D.last_ended dial.new)) script text)
-        (S.left source.old) (S.left source.new) (K.written sink.old) (K.written sink.new) }
-    ensures refused { takes_script (map string_bytes words.now) ≡ true → result ≡ 2
-        → Refused (S.left source.old) (S.left source.new) (K.written sink.old) (K.written sink.new) }
-    ensures unfinished { is_script (map string_bytes words.now) ≡ true
-        → Unfinished RunsInMemory result (S.left source.old) (S.left source.new) (K.written sink.old) (K.written sink.new) }
-    ensures unfinished_over_link { is_unix (map string_bytes words.now) ≡ true
-        → Unfinished (RunsOver (last_link (D.last dial.new) (D.last_faults dial.new) (D.last_ended dial.new)))
+    ensures in_memory { is_script (map string_bytes words.now) ≡ true → (dial.new ≡ dial.old)
+        × EndsInMemory result (S.left source.old) (S.left source.new) (K.written sink.old) (K.written sink.new) }
+    ensures over_link { is_unix (map string_bytes words.now) ≡ true
+        → EndsOverLink (last_link (D.last dial.new) (D.last_faults dial.new) (D.last_ended dial.new))
         result (S.left source.old) (S.left source.new) (K.written sink.old) (K.written sink.new) }
-    ensures complete { is_script (map string_bytes words.now) ≡ true → S.faults source.new ≡ S.faults source.old
-        → K.faults sink.new ≡ K.faults sink.old → Completes IsWhole result (S.left source.old) }
-    ensures complete_over_link { is_unix (map string_bytes words.now) ≡ true → S.faults source.new ≡ S.faults source.old
-        → K.faults sink.new ≡ K.faults sink.old → D.faults dial.new ≡ D.faults dial.old
-        → Completes IsWholeOrStopped result (S.left source.old) }
-    ensures undialled { (is_unix (map string_bytes words.now) ≡ false) ⊎ (result ≡ 2) ⊎ (result ≡ 3) ⊎ (result ≡ 6)
-        → last_link (D.last dial.new) (D.last_faults dial.new) (D.last_ended dial.new)
-        ≡ last_link (D.last dial.old) (D.last_faults dial.old) (D.last_ended dial.old) }
-    ensures others { takes_script (map string_bytes words.now) ≡ false
-        → Writes result (status_of (map string_bytes words.now)) (text_of (map string_bytes words.now)) (K.written sink.old) (K.written sink.new) }
-    ensures untouched { takes_script (map string_bytes words.now) ≡ false → S.left source.new ≡ S.left source.old }
+    ensures order { is_unix (map string_bytes words.now) ≡ true → DialsLast (dial.new ≡ dial.old) (S.left source.old) (S.left source.new)
+        × IsUndialled result (dial.new ≡ dial.old)
+        (last_link (D.last dial.new) (D.last_faults dial.new) (D.last_ended dial.new) ≡ last_link (D.last dial.old) (D.last_faults dial.old) (D.last_ended dial.old)) }
+    ensures complete { S.faults source.new ≡ S.faults source.old → K.faults sink.new ≡ K.faults sink.old
+        → (is_script (map string_bytes words.now) ≡ true → Completes IsWhole result (S.left source.old))
+        × (is_unix (map string_bytes words.now) ≡ true → Completes IsLinkStatus result (S.left source.old)) }
+    ensures others { takes_script (map string_bytes words.now) ≡ false → (source.new ≡ source.old) × (dial.new ≡ dial.old)
+        × Writes result (status_of (map string_bytes words.now)) (text_of (map string_bytes words.now)) (K.written sink.old) (K.written sink.new) }
+
+    // which statuses there are, and what a status of a failure says
     ensures causes { HasCause 3 result (S.faults source.old) (S.faults source.new)
         × HasCause 4 result (K.faults sink.old) (K.faults sink.new) × HasCause 6 result (D.faults dial.old) (D.faults dial.new) }
     ensures status { IsStatus result ⊎ ((is_unix (map string_bytes words.now) ≡ true) × ((result ≡ 1) ⊎ (result ≡ 6))) }

@@ -1,5 +1,5 @@
 // The bytes of a script are read, run or refused, and the answer is written.
-ghost use Rattle.std.specs.Prelude.{◌≡◌, ◌<◌, ◌-◌, ◌^◌, true, length, IfOk, IfErr, List, ℕ, Ok};
+ghost use Rattle.std.specs.Prelude.{◌≡◌, ◌<◌, ◌⊎◌, ◌-◌, ◌^◌, true, length, IfOk, IfErr, List, ℕ, Ok};
 ghost use Rattle.sftp_link.specs.Told.{Told, ReadUpTo, Went, WentLess};
 ghost use Rattle.sftp_history.specs.Lanes.{are_ok};
 ghost use Rattle.sftp_history.specs.Scripts.{script_of};
@@ -7,7 +7,7 @@ ghost use Rattle.sftp_history.specs.declared.script.Script.{Script};
 ghost use Rattle.sftp_cli.specs.declared.failure.Failure.TheVariants as failure;
 ghost use Rattle.sftp_cli.specs.Dialled.{RunsOver, Undialled, last_link};
 ghost use Rattle.sftp_cli.specs.Printed.{IsAnswer, RunsInMemory, refusal_line};
-ghost use Rattle.sftp_cli.specs.Ended.{Answered, Stopped, SourceCause, SinkCause, DialCause, read_limit};
+ghost use Rattle.sftp_cli.specs.Ended.{Answered, Stopped, IsScript, DialsLast, SourceCause, SinkCause, DialCause, read_limit};
 
 use crate::dialled::reply_dialled;
 use crate::failure::Failure;
@@ -94,11 +94,12 @@ fn reply_at<D: Dial>(
     requires { D.faults dial.old < 2 ^ 64 - 1 }
     ensures ok { IfOk result (λ reply. IsAnswer (RunsOver (last_link (D.last dial.new) (D.last_faults dial.new) (D.last_ended dial.new)))
         (script_of bytes.now) reply.status reply.text.items) }
-    ensures refused { IfOk result (λ reply. reply.status ≡ 2 → last_link (D.last dial.new) (D.last_faults dial.new) (D.last_ended dial.new)
-        ≡ last_link (D.last dial.old) (D.last_faults dial.old) (D.last_ended dial.old)) }
+    ensures refused { IfOk result (λ reply. reply.status ≡ 2 → dial.new ≡ dial.old) }
+    ensures order { (dial.new ≡ dial.old) ⊎ IsScript bytes.now }
+    ensures dialled { IfErr result (λ e. e ≡ failure.DialFailed → IsScript bytes.now) }
     ensures cause { DialCause result (D.faults dial.old) (D.faults dial.new) }
-    ensures undialled { IfErr result (λ e. Undialled e (last_link (D.last dial.old) (D.last_faults dial.old) (D.last_ended dial.old))
-        (last_link (D.last dial.new) (D.last_faults dial.new) (D.last_ended dial.new))) }
+    ensures undialled { IfErr result (λ e. Undialled e (dial.new ≡ dial.old)
+        (last_link (D.last dial.new) (D.last_faults dial.new) (D.last_ended dial.new) ≡ last_link (D.last dial.old) (D.last_faults dial.old) (D.last_ended dial.old))) }
     ensures only { IfErr result (λ e. (e ≡ failure.SourceFailed → ⊥) × (e ≡ failure.SinkFailed → ⊥)) }
 {
     match read_script(alloc, bytes) {
@@ -151,6 +152,7 @@ pub(crate) fn run_script<S: Source, K: Sink>(
 
 /// Reads a script, runs it over a link to the server at a path and writes the text or the line of the error that stopped it, or
 /// writes why the script is refused. Answers the status.
+#[tactic(auto, using(crate::proofs::Ending::behind_the_script))]
 pub(crate) fn run_unix<S: Source, K: Sink, D: Dial>(
     alloc: Global,
     path: &str,
@@ -165,10 +167,10 @@ pub(crate) fn run_unix<S: Source, K: Sink, D: Dial>(
         status (S.left source.old) (S.left source.new) (K.written sink.old) (K.written sink.new)) }
     ensures stopped { IfErr result (λ e. Stopped (RunsOver (last_link (D.last dial.new) (D.last_faults dial.new) (D.last_ended dial.new)))
         e (S.left source.old) (S.left source.new) (K.written sink.old) (K.written sink.new)) }
-    ensures refused { IfOk result (λ status. status ≡ 2 → last_link (D.last dial.new) (D.last_faults dial.new) (D.last_ended dial.new)
-        ≡ last_link (D.last dial.old) (D.last_faults dial.old) (D.last_ended dial.old)) }
-    ensures undialled { IfErr result (λ e. Undialled e (last_link (D.last dial.old) (D.last_faults dial.old) (D.last_ended dial.old))
-        (last_link (D.last dial.new) (D.last_faults dial.new) (D.last_ended dial.new))) }
+    ensures refused { IfOk result (λ status. status ≡ 2 → dial.new ≡ dial.old) }
+    ensures order { DialsLast (dial.new ≡ dial.old) (S.left source.old) (S.left source.new) }
+    ensures undialled { IfErr result (λ e. Undialled e (dial.new ≡ dial.old)
+        (last_link (D.last dial.new) (D.last_faults dial.new) (D.last_ended dial.new) ≡ last_link (D.last dial.old) (D.last_faults dial.old) (D.last_ended dial.old))) }
     ensures source { SourceCause result (S.faults source.old) (S.faults source.new) }
     ensures sink { SinkCause result (K.faults sink.old) (K.faults sink.new) }
     ensures dial { DialCause result (D.faults dial.old) (D.faults dial.new) }

@@ -45,9 +45,3 @@ fn runs_over_a_socket(rt: HostRuntime) -> Result<(), Fail> {
     assert_eq!(rt; ended?, (0, 0));
     Ok(())
 }
-
-#[test]
-fn nobody_listens(rt: HostRuntime) -> Result<(), Fail> {
-    assert_eq!(rt; call(&rt, rt.alloc(), "nobody.sock")?, (6, 0));
-    Ok(())
-}

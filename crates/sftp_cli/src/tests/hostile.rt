@@ -1,0 +1,224 @@
+// Servers that say what they may not, as one table, and handles of the greatest length.
+use super::links::{HANDLE, Item, LIMITED, OK, Row, VERSION, check_rows};
+use std::test::Fail;
+
+const OPEN: &str = "lane\nopen 0 r 61\n";
+
+const READ: &str = "lane\nopen 0 r 61\nread 0 1\n";
+
+/// STATUS 0 without a text, and a byte more.
+const OK_AND_MORE: &[u8] = &[0; 13];
+
+/// STATUS 4 without a text.
+const FAILURE: &[u8] = &[0, 0, 0, 4, 0, 0, 0, 0, 0, 0, 0, 0];
+
+const FORMAT: &str = "error FormatError\n";
+
+const RESPONSE: &str = "error InvalidResponse\n";
+
+const ENDED: &str = "error LinkEnded\n";
+
+const TOO_LONG_TEXT: &str = "error HandleTooLong\n";
+
+/// A handle of 256 bytes, which is the longest.
+const LONGEST: &[u8] = b"\x00\x00\x01\x00\
+    aaaaaaaaaaaaaaaaaaaaaaaaaaaaaaaaaaaaaaaaaaaaaaaaaaaaaaaaaaaaaaaa\
+    aaaaaaaaaaaaaaaaaaaaaaaaaaaaaaaaaaaaaaaaaaaaaaaaaaaaaaaaaaaaaaaa\
+    aaaaaaaaaaaaaaaaaaaaaaaaaaaaaaaaaaaaaaaaaaaaaaaaaaaaaaaaaaaaaaaa\
+    aaaaaaaaaaaaaaaaaaaaaaaaaaaaaaaaaaaaaaaaaaaaaaaaaaaaaaaaaaaaaaaa";
+
+/// A handle of 257 bytes.
+const TOO_LONG: &[u8] = b"\x00\x00\x01\x01a\
+    aaaaaaaaaaaaaaaaaaaaaaaaaaaaaaaaaaaaaaaaaaaaaaaaaaaaaaaaaaaaaaaa\
+    aaaaaaaaaaaaaaaaaaaaaaaaaaaaaaaaaaaaaaaaaaaaaaaaaaaaaaaaaaaaaaaa\
+    aaaaaaaaaaaaaaaaaaaaaaaaaaaaaaaaaaaaaaaaaaaaaaaaaaaaaaaaaaaaaaaa\
+    aaaaaaaaaaaaaaaaaaaaaaaaaaaaaaaaaaaaaaaaaaaaaaaaaaaaaaaaaaaaaaaa";
+
+/// What is printed where the longest handle is closed.
+const LONGEST_TEXT: &str = "> open 00000001610000000100000000
+< handle 00000100\
+    6161616161616161616161616161616161616161616161616161616161616161\
+    6161616161616161616161616161616161616161616161616161616161616161\
+    6161616161616161616161616161616161616161616161616161616161616161\
+    6161616161616161616161616161616161616161616161616161616161616161\
+    6161616161616161616161616161616161616161616161616161616161616161\
+    6161616161616161616161616161616161616161616161616161616161616161\
+    6161616161616161616161616161616161616161616161616161616161616161\
+    6161616161616161616161616161616161616161616161616161616161616161
+> close 00000100\
+    6161616161616161616161616161616161616161616161616161616161616161\
+    6161616161616161616161616161616161616161616161616161616161616161\
+    6161616161616161616161616161616161616161616161616161616161616161\
+    6161616161616161616161616161616161616161616161616161616161616161\
+    6161616161616161616161616161616161616161616161616161616161616161\
+    6161616161616161616161616161616161616161616161616161616161616161\
+    6161616161616161616161616161616161616161616161616161616161616161\
+    6161616161616161616161616161616161616161616161616161616161616161
+< status 000000000000000000000000
+lane 0 call 0 opened
+";
+
+/// What comes behind VERSION, and the error that stops the run.
+const HOSTILE: &[Row] = &[
+    (
+        "lane\n",
+        &[Item::Raw(b"\x00\x00\x00\x05\x02\x00\x00\x00\x02")],
+        &[],
+        0,
+        1,
+        "error UnsupportedSftpProtocol\n",
+    ),
+    (
+        OPEN,
+        &[VERSION, Item::Raw(b"\x00\x10\x00\x00")],
+        &[],
+        0,
+        1,
+        FORMAT,
+    ),
+    (
+        OPEN,
+        &[VERSION, Item::Raw(b"\x00\x00\x00\x00")],
+        &[],
+        0,
+        1,
+        FORMAT,
+    ),
+    (
+        OPEN,
+        &[VERSION, Item::To(1, 1, 101, OK)],
+        &[],
+        0,
+        1,
+        "error InvalidResponseId\n",
+    ),
+    (
+        OPEN,
+        &[VERSION, Item::To(1, 0, 101, OK)],
+        &[],
+        0,
+        1,
+        RESPONSE,
+    ),
+    (OPEN, &[VERSION, VERSION], &[], 0, 1, RESPONSE),
+    (OPEN, &[VERSION, Item::To(1, 0, 99, b"")], &[], 0, 1, FORMAT),
+    (
+        OPEN,
+        &[VERSION, Item::To(1, 0, 102, b"\x00\x10\x00\x00")],
+        &[],
+        0,
+        1,
+        FORMAT,
+    ),
+    (
+        OPEN,
+        &[VERSION, Item::To(1, 0, 101, OK_AND_MORE)],
+        &[],
+        0,
+        1,
+        FORMAT,
+    ),
+    (
+        OPEN,
+        &[VERSION, Item::To(1, 0, 102, TOO_LONG)],
+        &[],
+        0,
+        1,
+        TOO_LONG_TEXT,
+    ),
+    (
+        OPEN,
+        &[VERSION, Item::To(1, 1, 102, TOO_LONG)],
+        &[],
+        0,
+        1,
+        TOO_LONG_TEXT,
+    ),
+    (
+        READ,
+        &[
+            VERSION,
+            Item::To(1, 0, 102, HANDLE),
+            Item::To(2, 0, 103, b"\x00\x00\x00\x02\x01\x02"),
+        ],
+        &[],
+        0,
+        1,
+        RESPONSE,
+    ),
+    (
+        READ,
+        &[
+            VERSION,
+            Item::To(1, 0, 102, HANDLE),
+            Item::To(2, 0, 103, b"\x00\x00\x00\x00"),
+        ],
+        &[],
+        0,
+        1,
+        RESPONSE,
+    ),
+    (
+        READ,
+        &[
+            VERSION,
+            Item::To(1, 0, 102, HANDLE),
+            Item::To(2, 0, 101, OK),
+        ],
+        &[],
+        0,
+        1,
+        RESPONSE,
+    ),
+    (OPEN, &[Item::Raw(b"\x00\x00\x00")], &[], 0, 1, ENDED),
+    (OPEN, &[], &[], 0, 1, ENDED),
+    (OPEN, &[VERSION], &[2], 0, 1, "error LinkFault\n"),
+    (
+        "lane\n",
+        &[LIMITED, Item::To(1, 0, 201, &[0; 31])],
+        &[],
+        0,
+        1,
+        FORMAT,
+    ),
+    (
+        "lane\n",
+        &[LIMITED, Item::To(1, 0, 201, &[0; 33])],
+        &[],
+        0,
+        1,
+        FORMAT,
+    ),
+    (
+        "lane\n",
+        &[LIMITED, Item::To(1, 0, 101, FAILURE)],
+        &[],
+        0,
+        1,
+        "error SftpError\n",
+    ),
+];
+
+#[test]
+fn hostile_servers(rt: HostRuntime) -> Result<(), Fail> {
+    check_rows(&rt, rt.alloc(), HOSTILE)
+}
+
+/// The longest handle, in one piece and in single bytes.
+const LONGEST_REPLIES: &[Item] = &[
+    VERSION,
+    Item::To(1, 0, 102, LONGEST),
+    Item::To(2, 0, 101, OK),
+];
+
+#[test]
+fn the_longest_handle(rt: HostRuntime) -> Result<(), Fail> {
+    check_rows(
+        &rt,
+        rt.alloc(),
+        &[
+            (OPEN, LONGEST_REPLIES, &[], 0, 0, LONGEST_TEXT),
+            (OPEN, LONGEST_REPLIES, &[], 1, 0, LONGEST_TEXT),
+        ],
+    )
+}
