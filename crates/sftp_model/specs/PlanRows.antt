@@ -21,7 +21,7 @@ abbrev to_read : OpenFlags
 to_read = record { 0 = SSH_FXF_READ }
 
 abbrev facts : Facts
-facts = record { extensions = record { 0 = 0 }; read_len = 32768; write_len = 32768; write_limit = 655360 }
+facts = record { extensions = record { 0 = 0 }; read_len = 32768; write_len = 32768; write_limit = 655360; read_window = 1 }
 
 abbrev handle : List ℕ
 handle = 0 ∷ 0 ∷ 0 ∷ 0 ∷ []

@@ -8,7 +8,7 @@ use sftp_values::{ByteText, Items};
 #[derive(Clone, Copy, Debug, PartialEq, Eq)]
 pub struct FileAt {
     /// The place of the OPEN that a HANDLE answered.
-    pub grant: u32,
+    pub grant: u64,
     /// Whether it was opened to read.
     pub readable: bool,
     /// Whether it was opened to write.
@@ -25,9 +25,9 @@ pub struct Buffer {
     /// The buffered bytes, from the file's offset on.
     pub bytes: ByteText,
     /// The writes whose status wasn't taken: the place of each and its bytes, the oldest first.
-    pub deferred: Items<(u32, u32)>,
+    pub deferred: Items<(u64, u32)>,
     /// The place of the READ under way.
-    pub reading: Option<u32>,
+    pub reading: Option<u64>,
 }
 
 /// What a lane holds under one number.
@@ -58,6 +58,8 @@ pub struct Facts {
     pub write_len: u32,
     /// The most bytes of a buffered file's deferred writes.
     pub write_limit: u64,
+    /// The most READs of a whole read that are under way at once, at least 1.
+    pub read_window: u32,
 }
 
 /// The next move of a call.
@@ -66,7 +68,7 @@ pub enum Move {
     /// This request is submitted.
     Ask(Request),
     /// The reply to the request at this place is awaited.
-    Wait(u32),
+    Wait(u64),
     /// The call ends with this outcome and leaves this.
     Done(Outcome, Site),
 }

@@ -1,0 +1,13 @@
+//! The plans of all calls of a lane: what each does next, by what the lane held at its start, by its own requests
+//! and by the replies so far. The definitions stand in `specs/`, beside worked examples of each.
+#![tactic(auto)]
+
+mod laws;
+mod rows;
+
+pub use laws::{
+    calls_make_so_many_requests, cancelled_calls_leave_held_grants, ends_leave_held_grants,
+    moves_are_good, plans_by_places_agree, plans_wait_for_missing_replies, requests_fit_frames,
+    requests_may_be_asked, unbounded_reads_keep_within_range,
+};
+pub use rows::calls_as_worked_out;
