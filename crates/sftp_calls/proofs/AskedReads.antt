@@ -5,7 +5,7 @@ use Rattle.std.proofs.Math.Nat.{suc-mul}
 use Rattle.std.proofs.lemmas.List.{length-append}
 use Rattle.sftp_model.specs.declared.error.IoKind.TheVariants as kind
 use Rattle.sftp_model.specs.declared.outcome.Outcome.{Outcome}
-use Rattle.sftp_model.specs.Lengths.{greatest_len}
+use Rattle.sftp_model.specs.Numbers.{MAX_TRANSFER_LEN}
 use Rattle.sftp_model.specs.declared.reply.Reply.{Reply}
 use Rattle.sftp_model.specs.declared.reply.Reply.TheVariants as reply
 use Rattle.sftp_model.specs.declared.request.Request.{Request}
@@ -137,7 +137,7 @@ grown zero m r le = omega arith
 grown (suc n) zero r le = absurd (omega (arith, le))
 grown (suc n) (suc m) r le = omega (arith, suc-mul n r, suc-mul m r, grown n m r (omega (arith, le)))
 
-below_range : (n r top : ℕ) → top ≤ n * r + r → n < 2 ^ 43 → r ≤ greatest_len → top < 2 ^ 64
+below_range : (n r top : ℕ) → top ≤ n * r + r → n < 2 ^ 43 → r ≤ MAX_TRANSFER_LEN → top < 2 ^ 64
 below_range n r top le few short =
     let far : suc n * r ≤ 8796093022208 * r = grown (suc n) 8796093022208 r (omega (arith, few)) in
     omega (arith, le, far, suc-mul n r, short)
@@ -148,7 +148,7 @@ by_ask P (Ask r) waits ends asks = asks r refl
 by_ask P (Wait place) waits ends asks = waits place
 by_ask P (Done o site) waits ends asks = ends o site
 
-pub whole_range : (path : List ℕ) (bound : Option ℕ) (site : Site) (facts : Facts) (past : Own) (answers : Answers) → 1 ≤ facts.read_len → facts.read_len ≤ greatest_len
+pub whole_range : (path : List ℕ) (bound : Option ℕ) (site : Site) (facts : Facts) (past : Own) (answers : Answers) → 1 ≤ facts.read_len → facts.read_len ≤ MAX_TRANSFER_LEN
     → ((made n : ℕ) → bound ≡ Some n → made < n + facts.read_window → made < 2 ^ 43) → (bound ≡ None → length past < 2 ^ 43) → AreAsked (fs_read_next path bound site facts) past answers → MayBeAnswered past answers
     → ReadsWithin facts (fs_read_next path bound site facts (oldest_first past) answers)
 whole_range path bound site facts [] answers one short small free asked may =

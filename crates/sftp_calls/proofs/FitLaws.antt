@@ -6,8 +6,8 @@ use Rattle.ssh_encoding.specs.Writing.{uint32, string}
 use Rattle.sftp_model.specs.declared.request.Request.{Request}
 use Rattle.sftp_model.specs.declared.request.Request.TheVariants as request
 use Rattle.sftp_model.specs.Fits.{FitsHandle, FitsAttributes, FitsRequest, AsksWithinReply}
-use Rattle.sftp_model.specs.Frames.{body_limit, no_attributes, attributes, request_body, of_type, extended, posix_rename_name, hardlink_name, expand_path_name}
-use Rattle.sftp_model.specs.Lengths.{greatest_len}
+use Rattle.sftp_model.specs.Numbers.{MAX_BODY_LEN, MAX_TRANSFER_LEN}
+use Rattle.sftp_model.specs.Frames.{no_attributes, attributes, request_body, of_type, extended, posix_rename_name, hardlink_name, expand_path_name}
 use Rattle.sftp_model.specs.declared.slot.Facts.{Facts}
 use Rattle.sftp_model.specs.declared.slot.Move.TheVariants.{Ask}
 use Rattle.sftp_model.specs.declared.slot.Site.{Site}
@@ -35,7 +35,7 @@ second_in a b = omega (arith, length-append (string a) (string b), in_text b)
 in_extended : (name : List ℕ) (id : ℕ) (fields : List ℕ) → length fields ≤ length (extended name id fields)
 in_extended name id fields = omega (arith, length-append (string name) fields, in_type 200 id (string name ++ fields))
 
-short : (r : Request) → is_too_long r ≡ false → length (request_body r 0) ≤ body_limit
+short : (r : Request) → is_too_long r ≡ false → length (request_body r 0) ≤ MAX_BODY_LEN
 short r e = ltb-false _ _ e
 
 -- ---- paths
@@ -67,8 +67,8 @@ one_extended name path n le = omega (arith, le, in_extended name 0 (string path)
 pub record FitsSituation (s : Situation) : Type 0 where
   pub grants : (place : ℕ) → FitsHandle (handle_of (s.answers place))
   pub closed : (handle : List ℕ) → s.closes handle → FitsHandle handle
-  pub read_len : s.facts.read_len ≤ greatest_len
-  pub write_len : s.facts.write_len ≤ greatest_len
+  pub read_len : s.facts.read_len ≤ MAX_TRANSFER_LEN
+  pub write_len : s.facts.write_len ≤ MAX_TRANSFER_LEN
 
 handle_fits : (s : Situation) (handle : List ℕ) → FitsSituation s → IsHeldHandle s handle → FitsHandle handle
 handle_fits s handle f h = subst FitsHandle (sym h.bears) (f.grants h.grant)
@@ -81,8 +81,8 @@ unfolding request_body
 ask_fits s (request.Init version) f g = absurd g
 ask_fits s request.LimitsQuery f g = absurd g
 ask_fits s (request.Close handle) f g = f.closed handle g
-ask_fits s (request.OpenFile path flags attrs) f g = (open_path path (uint32 flags.0) (attributes attrs) body_limit (short (request.OpenFile path flags attrs) g.3), g.1, subst FitsAttributes (sym g.2) none_fit)
-ask_fits s (request.Opendir path) f g = one_path 11 path body_limit (short (request.Opendir path) g.1)
+ask_fits s (request.OpenFile path flags attrs) f g = (open_path path (uint32 flags.0) (attributes attrs) MAX_BODY_LEN (short (request.OpenFile path flags attrs) g.3), g.1, subst FitsAttributes (sym g.2) none_fit)
+ask_fits s (request.Opendir path) f g = one_path 11 path MAX_BODY_LEN (short (request.Opendir path) g.1)
 ask_fits s (request.Read handle offset len) f g = (handle_fits s handle f g.0, omega (arith, g.1), omega (arith, g.2, f.read_len))
 ask_fits s (request.Write handle offset content) f g = (handle_fits s handle f g.0, omega (arith, g.1), omega (arith, g.2, f.write_len))
 ask_fits s (request.Fstat handle) f g = handle_fits s handle f g
@@ -90,19 +90,19 @@ ask_fits s (request.Fsync handle) f g = handle_fits s handle f g
 ask_fits s (request.Readdir handle) f g = handle_fits s handle f g
 ask_fits s (request.Fsetstat handle attrs) f g = (handle_fits s handle f g.0, g.1)
 ask_fits s (request.CopyData from from_offset len to to_offset) f g = (handle_fits s from f g.0, omega (arith, g.2), omega (arith, g.2), handle_fits s to f g.1, omega (arith, g.3))
-ask_fits s (request.Setstat path attrs) f g = (first_path 9 path (attributes attrs) body_limit (short (request.Setstat path attrs) g.1), g.0)
-ask_fits s (request.Mkdir path attrs) f g = (first_path 14 path (attributes attrs) body_limit (short (request.Mkdir path attrs) g.1), subst FitsAttributes (sym g.0) none_fit)
-ask_fits s (request.Lstat path) f g = one_path 7 path body_limit (short (request.Lstat path) g)
-ask_fits s (request.Remove path) f g = one_path 13 path body_limit (short (request.Remove path) g)
-ask_fits s (request.Rmdir path) f g = one_path 15 path body_limit (short (request.Rmdir path) g)
-ask_fits s (request.Realpath path) f g = one_path 16 path body_limit (short (request.Realpath path) g)
-ask_fits s (request.Stat path) f g = one_path 17 path body_limit (short (request.Stat path) g)
-ask_fits s (request.Readlink path) f g = one_path 19 path body_limit (short (request.Readlink path) g)
-ask_fits s (request.Rename old to) f g = (first_path 18 old (string to) body_limit (short (request.Rename old to) g), second_path 18 old to body_limit (short (request.Rename old to) g))
-ask_fits s (request.Symlink src dst) f g = (first_path 20 src (string dst) body_limit (short (request.Symlink src dst) g), second_path 20 src dst body_limit (short (request.Symlink src dst) g))
-ask_fits s (request.PosixRename old to) f g = (first_extended posix_rename_name old to body_limit (short (request.PosixRename old to) g), second_extended posix_rename_name old to body_limit (short (request.PosixRename old to) g))
-ask_fits s (request.Hardlink old to) f g = (first_extended hardlink_name old to body_limit (short (request.Hardlink old to) g), second_extended hardlink_name old to body_limit (short (request.Hardlink old to) g))
-ask_fits s (request.ExpandPath path) f g = one_extended expand_path_name path body_limit (short (request.ExpandPath path) g)
+ask_fits s (request.Setstat path attrs) f g = (first_path 9 path (attributes attrs) MAX_BODY_LEN (short (request.Setstat path attrs) g.1), g.0)
+ask_fits s (request.Mkdir path attrs) f g = (first_path 14 path (attributes attrs) MAX_BODY_LEN (short (request.Mkdir path attrs) g.1), subst FitsAttributes (sym g.0) none_fit)
+ask_fits s (request.Lstat path) f g = one_path 7 path MAX_BODY_LEN (short (request.Lstat path) g)
+ask_fits s (request.Remove path) f g = one_path 13 path MAX_BODY_LEN (short (request.Remove path) g)
+ask_fits s (request.Rmdir path) f g = one_path 15 path MAX_BODY_LEN (short (request.Rmdir path) g)
+ask_fits s (request.Realpath path) f g = one_path 16 path MAX_BODY_LEN (short (request.Realpath path) g)
+ask_fits s (request.Stat path) f g = one_path 17 path MAX_BODY_LEN (short (request.Stat path) g)
+ask_fits s (request.Readlink path) f g = one_path 19 path MAX_BODY_LEN (short (request.Readlink path) g)
+ask_fits s (request.Rename old to) f g = (first_path 18 old (string to) MAX_BODY_LEN (short (request.Rename old to) g), second_path 18 old to MAX_BODY_LEN (short (request.Rename old to) g))
+ask_fits s (request.Symlink src dst) f g = (first_path 20 src (string dst) MAX_BODY_LEN (short (request.Symlink src dst) g), second_path 20 src dst MAX_BODY_LEN (short (request.Symlink src dst) g))
+ask_fits s (request.PosixRename old to) f g = (first_extended posix_rename_name old to MAX_BODY_LEN (short (request.PosixRename old to) g), second_extended posix_rename_name old to MAX_BODY_LEN (short (request.PosixRename old to) g))
+ask_fits s (request.Hardlink old to) f g = (first_extended hardlink_name old to MAX_BODY_LEN (short (request.Hardlink old to) g), second_extended hardlink_name old to MAX_BODY_LEN (short (request.Hardlink old to) g))
+ask_fits s (request.ExpandPath path) f g = one_extended expand_path_name path MAX_BODY_LEN (short (request.ExpandPath path) g)
 
 pub ask_within_reply : (s : Situation) (r : Request) → FitsSituation s → IsGoodAsk s r → AsksWithinReply r
 ask_within_reply s (request.Read handle offset len) f g = omega (arith, g.2, f.read_len)

@@ -8,7 +8,7 @@ use Rattle.sftp_model.specs.declared.slot.Move.{Move}
 use Rattle.sftp_model.specs.declared.slot.Move.TheVariants.{Ask, Wait, Done}
 use Rattle.sftp_model.specs.Fits.{FitsAttributes, FitsHandle, FitsLong, FitsNumber, FitsSet}
 use Rattle.sftp_model.specs.Frames.{no_attributes}
-use Rattle.sftp_model.specs.Lengths.{greatest_len}
+use Rattle.sftp_model.specs.Numbers.{MAX_TRANSFER_LEN}
 use Rattle.sftp_model.specs.declared.slot.Site.{Site}
 use Rattle.sftp_model.specs.declared.slot.Slot.TheVariants.{Empty}
 use Rattle.sftp_model.specs.Slots.{slot_at, with_slot, grant_of, has_grant}
@@ -122,8 +122,8 @@ WithinRange other site facts own answers = Unit {0}
 
 -- the lengths, the limit and the window of a session
 pub record FitsFacts (facts : Facts) : Type 0 where
-  pub read_len : (1 ≤ facts.read_len) × (facts.read_len ≤ greatest_len)
-  pub write_len : (1 ≤ facts.write_len) × (facts.write_len ≤ greatest_len)
+  pub read_len : (1 ≤ facts.read_len) × (facts.read_len ≤ MAX_TRANSFER_LEN)
+  pub write_len : (1 ≤ facts.write_len) × (facts.write_len ≤ MAX_TRANSFER_LEN)
   pub write_limit : 1 ≤ facts.write_limit
   pub read_window : (1 ≤ facts.read_window) × (facts.read_window ≤ 64)
 

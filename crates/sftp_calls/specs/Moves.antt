@@ -13,7 +13,8 @@ use Rattle.sftp_model.specs.declared.error.IoKind.TheVariants as kind
 use Rattle.sftp_model.specs.declared.slot.Facts.{Facts}
 use Rattle.sftp_model.specs.declared.slot.Move.{Move}
 use Rattle.sftp_model.specs.declared.slot.Move.TheVariants.{Ask, Wait, Done}
-use Rattle.sftp_model.specs.Frames.{request_body, body_limit}
+use Rattle.sftp_model.specs.Numbers.{MAX_BODY_LEN}
+use Rattle.sftp_model.specs.Frames.{request_body}
 use Rattle.sftp_model.specs.Readings.{has_bit}
 use Rattle.sftp_model.specs.Answers.{is_end_of_file}
 use Rattle.sftp_model.specs.declared.slot.FileAt.{FileAt}
@@ -70,7 +71,7 @@ by_reply first go (asked ∷ later) answers = once_answered asked.0 (answers ask
 
 -- whether the body of a request passes the greatest length
 abbrev pub is_too_long : Request → Bool
-is_too_long r = nat_lt body_limit (length (request_body r 0))
+is_too_long r = nat_lt MAX_BODY_LEN (length (request_body r 0))
 
 -- a request of one path or two, where it fits a frame
 abbrev pub ask_path : Request → Site → Move

@@ -6,7 +6,7 @@ use Rattle.sftp_history.specs.declared.reason.Reason.{Reason}
 use Rattle.sftp_history.specs.declared.reason.Reason.TheVariants as reason
 use Rattle.sftp_history.specs.declared.script.Script.{Script}
 use Rattle.sftp_history.specs.Lines.{lines_of}
-use Rattle.sftp_history.specs.Scripts.{script_of, script_limit, read_lines, empty_script}
+use Rattle.sftp_history.specs.Scripts.{script_of, MAX_SCRIPT_LEN, read_lines, empty_script}
 use Rattle.sftp_link.specs.Told.{Told, Same, Went, ReadUpTo}
 use Rattle.sftp_cli.specs.declared.failure.Failure.{Failure}
 use Rattle.sftp_cli.specs.declared.failure.Failure.TheVariants.{SourceFailed, SinkFailed, OutOfMemory, DialFailed}
@@ -31,13 +31,13 @@ is_less : (m n : ℕ) → nat_lt m n ≡ true → m < n
 is_less m n e = grind (arith, nat_tests)
 
 -- bytes that are too many are refused for their size
-of_size : (bytes : List ℕ) → script_limit < length bytes → script_of bytes ≡ Err (0, reason.Size)
-of_size bytes h = rw (too_long script_limit (length bytes) h) refl
+of_size : (bytes : List ℕ) → MAX_SCRIPT_LEN < length bytes → script_of bytes ≡ Err (0, reason.Size)
+of_size bytes h = rw (too_long MAX_SCRIPT_LEN (length bytes) h) refl
 
 -- a script is not so long as the limit
 script_short : (bytes : List ℕ) (script : Script) → script_of bytes ≡ Ok script → length bytes < read_limit
 script_short bytes script e =
-    let le = at_most script_limit (length bytes) (not_long (nat_lt script_limit (length bytes)) (read_lines 1 (record { script = empty_script; named = [] }) (lines_of bytes)) script e) in
+    let le = at_most MAX_SCRIPT_LEN (length bytes) (not_long (nat_lt MAX_SCRIPT_LEN (length bytes)) (read_lines 1 (record { script = empty_script; named = [] }) (lines_of bytes)) script e) in
     omega (arith, le)
 
 -- all that was left

@@ -16,7 +16,7 @@ use Rattle.sftp_history.specs.declared.script.Script.{Script}
 use Rattle.sftp_history.specs.declared.turn.Turn.{Turn}
 use Rattle.sftp_history.specs.Lanes.{is_slot, is_within, weight, lane_weight, weight_limit, are_ok}
 use Rattle.sftp_history.specs.Lines.{with_front, lines_of, words_of, is_comment, number_of, within, number_in, bytes_in, flags_in}
-use Rattle.sftp_history.specs.Scripts.{Draft, empty_script, no_word, one_word, two_words, three_words, four_words, unless_said, greatest_u32, greatest_u64, is_file, refusal_in, option_in, option_line, extension_in, with_extension, ext_line, limits_line, cut_line, server_line, file_line, choice_line, pick_line, with_lane, call_at_end, slot_in, open_call, read_call, close_call, in_lane, lane_turn, line_by, line_of, read_line, go_on, read_lines, script_limit, script_of}
+use Rattle.sftp_history.specs.Scripts.{Draft, empty_script, no_word, one_word, two_words, three_words, four_words, unless_said, greatest_u32, greatest_u64, is_file, refusal_in, option_in, option_line, extension_in, with_extension, ext_line, limits_line, cut_line, server_line, file_line, choice_line, pick_line, with_lane, call_at_end, slot_in, open_call, read_call, close_call, in_lane, lane_turn, line_by, line_of, read_line, go_on, read_lines, MAX_SCRIPT_LEN, script_of}
 
 -- each call of a lane is within its ranges
 abbrev lane_ok : Lane → Bool
@@ -290,11 +290,11 @@ by_size script n false r h e = h refl e
 at_most : (m n : ℕ) → nat_lt m n ≡ false → n ≤ m
 at_most m n e = grind (arith, nat_tests)
 
-script_within : (bytes : List ℕ) (script : Script) → script_of bytes ≡ Ok script → Within script_limit script.files script.lanes
+script_within : (bytes : List ℕ) (script : Script) → script_of bytes ≡ Ok script → Within MAX_SCRIPT_LEN script.files script.lanes
 script_within bytes script e =
-    by_size script script_limit (nat_lt script_limit (length bytes)) (read_lines 1 (record { script = empty_script; named = [] }) (lines_of bytes))
-    (λ short is. lines_fine script script_limit 0 1 (record { script = empty_script; named = [] }) (lines_of bytes)
-    (let few = few_lines bytes in let most = at_most script_limit (length bytes) short in omega (arith, few, most))
+    by_size script MAX_SCRIPT_LEN (nat_lt MAX_SCRIPT_LEN (length bytes)) (read_lines 1 (record { script = empty_script; named = [] }) (lines_of bytes))
+    (λ short is. lines_fine script MAX_SCRIPT_LEN 0 1 (record { script = empty_script; named = [] }) (lines_of bytes)
+    (let few = few_lines bytes in let most = at_most MAX_SCRIPT_LEN (length bytes) short in omega (arith, few, most))
     (record { few = omega arith; ok = refl; count = omega arith }) is) e
 
 less : (n m : ℕ) → n < m → nat_lt n m ≡ true

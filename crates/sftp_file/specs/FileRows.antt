@@ -107,7 +107,7 @@ abbrev replies : List Reply → Answers
 replies taken place = slice_get taken place
 
 abbrev facts : Facts
-facts = record { extensions = record { 0 = 0 }; read_len = 32768; write_len = 32768; write_limit = 655360 }
+facts = record { extensions = record { 0 = 0 }; read_len = 32768; write_len = 32768; write_limit = 655360; read_window = 1 }
 
 abbrev with_file : FileValue → Site
 with_file f = with_slot fresh_site 0 (slots.File (file_at 0 f))

@@ -24,7 +24,7 @@ abbrev pub setting_with : List (List Call) → Setting
 setting_with lanes =
     record {
       lanes = map (λ calls. record { calls = calls }) lanes;
-      facts = record { extensions = record { 0 = 0 }; read_len = 32768; write_len = 32768; write_limit = 655360 };
+      facts = record { extensions = record { 0 = 0 }; read_len = 32768; write_len = 32768; write_limit = 655360; read_window = 1 };
       limits = false;
       max_pending = 100;
     }

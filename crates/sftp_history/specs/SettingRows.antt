@@ -17,7 +17,7 @@ abbrev set_by : Bool → ℕ → ℕ → ℕ → Setting
 set_by limits set read write =
     record {
       lanes = [];
-      facts = record { extensions = extensions set; read_len = read; write_len = write; write_limit = 655360 };
+      facts = record { extensions = extensions set; read_len = read; write_len = write; write_limit = 655360; read_window = 1 };
       limits = limits;
       max_pending = 100;
     }

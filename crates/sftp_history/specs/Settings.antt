@@ -27,6 +27,7 @@ facts_of options extensions limits =
       read_len = (session_lengths limits options.max_read_len options.max_write_len).0;
       write_len = (session_lengths limits options.max_read_len options.max_write_len).1;
       write_limit = options.tokio_compat_file_write_limit;
+      read_window = 1;
     }
 
 abbrev pub read_limits : Result Limits FrameError → Option Limits

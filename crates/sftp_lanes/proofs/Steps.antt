@@ -113,7 +113,7 @@ started_none at_once old new (Asking t) site move e h = absurd cc
 
 -- facts, and a site that has a file
 abbrev pub facts_of : ℕ → Facts
-facts_of read_len = record { extensions = record { 0 = 0 }; read_len = read_len; write_len = 0; write_limit = 0 }
+facts_of read_len = record { extensions = record { 0 = 0 }; read_len = read_len; write_len = 0; write_limit = 0; read_window = 1 }
 
 abbrev pub site_with : FileValue → Site
 site_with f = record { slots = slots.File (file_at 0 f) ∷ []; directory = [] }

@@ -43,7 +43,7 @@ given_of s = record { lanes = s.lanes; options = s.options }
 abbrev pub facts_by : SftpOptions → Extensions → Option Info → Facts
 facts_by options extensions None = facts_of options extensions None
 facts_by options extensions (Some info) =
-    record { extensions = info.extensions; read_len = info.read_len; write_len = info.write_len; write_limit = options.tokio_compat_file_write_limit }
+    record { extensions = info.extensions; read_len = info.read_len; write_len = info.write_len; write_limit = options.tokio_compat_file_write_limit; read_window = 1 }
 
 abbrev pub setting_by : List Lane → SftpOptions → Option Reply → Option Info → Setting
 setting_by lanes options version info =
