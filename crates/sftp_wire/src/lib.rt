@@ -6,6 +6,7 @@
 mod body;
 mod fields;
 mod frame_reader;
+mod head;
 mod measure;
 mod names;
 mod reading_extensions;
@@ -16,6 +17,7 @@ mod reading_shapes;
 mod write;
 
 pub use frame_reader::FrameReader;
+pub use head::write_request_head;
 pub use reading_replies::{read_limits, read_reply};
 pub use reading_requests::read_request;
 pub use sftp_model::{
