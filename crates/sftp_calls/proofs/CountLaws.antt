@@ -48,7 +48,7 @@ once_at_most first go (asked ∷ later) answers goes = answered_in (AsksBelow (s
 
 -- ---- read_all: a request for each byte at most
 
-on_data : (P : Move → Type 0) (r : Reply) (site : Site) (ended : Move) (go : List ℕ → Move) → ((o : Outcome) → P (Done o site)) → P ended → ((bytes : List ℕ) → r ≡ reply.Content bytes → P (go bytes)) → P (on_content r site ended go)
+pub on_data : (P : Move → Type 0) (r : Reply) (site : Site) (ended : Move) (go : List ℕ → Move) → ((o : Outcome) → P (Done o site)) → P ended → ((bytes : List ℕ) → r ≡ reply.Content bytes → P (go bytes)) → P (on_content r site ended go)
 on_data P (reply.Content bytes) site ended go ends e goes = goes bytes refl
 on_data P (reply.Status code message language) site ended go ends e goes = either P (code == 1) ended (refused (reply.Status code message language) site) (λ x. e) (λ x. ends _)
 on_data P r site ended go ends e goes = ends _
@@ -84,7 +84,7 @@ write_all_within slot bytes site facts own answers some =
 
 -- ---- after an OPEN: one more
 
-on_granted : (P : Move → Type 0) (r : Reply) (site : Site) (go : List ℕ → Move) → ((o : Outcome) → P (Done o site)) → ((handle : List ℕ) → P (go handle)) → P (on_handle r site go)
+pub on_granted : (P : Move → Type 0) (r : Reply) (site : Site) (go : List ℕ → Move) → ((o : Outcome) → P (Done o site)) → ((handle : List ℕ) → P (go handle)) → P (on_handle r site go)
 on_granted P (reply.Handle handle) site go ends goes = goes handle
 on_granted P (reply.Status code message language) site go ends goes = ends _
 on_granted P r site go ends goes = ends _
@@ -98,7 +98,7 @@ opened_within most first site go (asked ∷ later) answers goes =
 
 -- ---- list: as many requests as the bound
 
-on_entries : (P : Move → Type 0) (r : Reply) (site : Site) (ended : Move) (go : List NameEntry → Move) → ((o : Outcome) → P (Done o site)) → P ended → ((entries : List NameEntry) → P (go entries)) → P (on_names r site ended go)
+pub on_entries : (P : Move → Type 0) (r : Reply) (site : Site) (ended : Move) (go : List NameEntry → Move) → ((o : Outcome) → P (Done o site)) → P ended → ((entries : List NameEntry) → P (go entries)) → P (on_names r site ended go)
 on_entries P (reply.Names []) site ended go ends e goes = e
 on_entries P (reply.Names (entry ∷ entries)) site ended go ends e goes = goes (entry ∷ entries)
 on_entries P (reply.Status code message language) site ended go ends e goes = either P (code == 1) ended (refused (reply.Status code message language) site) (λ x. e) (λ x. ends _)

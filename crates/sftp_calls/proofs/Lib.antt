@@ -26,3 +26,8 @@ pub mod OpenSteps
 pub mod AskedReads
 pub mod AskedLaws
 pub mod CallRows
+pub mod LimitLaws
+pub mod LimitWrites
+pub mod LimitCalls
+pub mod LimitBuffers
+pub mod LimitEnds

@@ -1,5 +1,4 @@
--- States of plans drawn at random, each with the move or the site that an independent model of the same
--- sentences gives.
+-- States of plans drawn at random, each with the move or the site that an independent model gives.
 use Rattle.std.specs.Prelude.{◌≡◌, true, false, [], ◌∷◌, Some, None, pos, negsuc, refl}
 use Rattle.std.specs.declared.io.traits.SeekFrom.TheVariants.{Start, End, Current}
 use Rattle.ssh_encoding.specs.Writing.{uint32, uint64, string}

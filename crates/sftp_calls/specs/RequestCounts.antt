@@ -2,7 +2,7 @@
 use Rattle.std.specs.Prelude.{ℕ, suc, ◌≡◌, ◌<◌, ◌≤◌, ◌+◌, List, [], ◌∷◌, length}
 use Rattle.sftp_model.specs.declared.slot.Facts.{Facts}
 use Rattle.sftp_model.specs.declared.slot.Move.{Move}
-use Rattle.sftp_model.specs.declared.slot.Move.TheVariants.{Ask}
+use Rattle.sftp_model.specs.declared.slot.Move.TheVariants.{Ask, Done}
 use Rattle.sftp_model.specs.declared.slot.FileAt.{FileAt}
 use Rattle.sftp_model.specs.declared.slot.Buffer.{Buffer}
 use Rattle.sftp_model.specs.declared.slot.Site.{Site}
@@ -52,3 +52,8 @@ pub record IsWithinLimit (facts : Facts) (buffer : Buffer) : Type 0 where
 -- and so it is in each slot
 abbrev pub BuffersWithin : Facts → Site → Type 0
 BuffersWithin facts site = (slot : ℕ) (file : FileAt) (buffer : Buffer) → slot_at site slot ≡ Buffered file buffer → IsWithinLimit facts buffer
+
+-- a call that ends leaves its buffers so
+abbrev pub LeavesWithin : Facts → Move → Type 0
+LeavesWithin facts (Done ended after) = BuffersWithin facts after
+LeavesWithin facts other = Unit {0}

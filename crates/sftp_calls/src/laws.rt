@@ -1,7 +1,7 @@
 // Laws of the plans. The functions do nothing: what they ensure holds of all values. A call so far is one whose own
-// requests are those that its plan asked, and whose replies may answer them. Where a law has a second clause, that
-// one holds of any own requests; of a whole read it then is a premise that the READ that is asked is within the range
-// of offsets and the session's read length.
+// requests are those that its plan asked, and whose replies may answer them. A clause `ranged` holds of any own
+// requests; of a whole read it then is a premise that the READ that is asked is within the range of offsets and the
+// session's read length.
 ghost use Rattle.std.specs.Prelude.{◌≡◌, ◌<◌, ◌^◌, ℕ, List, None, length};
 ghost use Rattle.sftp_model.specs.Fits.{FitsRequest, AsksWithinReply};
 ghost use Rattle.sftp_model.specs.Plans as by_places;
@@ -18,7 +18,7 @@ ghost use Rattle.sftp_calls.specs.WindowPlans.{fs_read_next};
 ghost use Rattle.sftp_calls.specs.CallPlans.{Call, next, cancelled};
 ghost use Rattle.sftp_calls.specs.GoodMoves.{IsGood, IsGoodAsk, HoldsWithin, HoldsNoMore, FitsCall, FitsFacts, HandlesFit, ReadsWithin, WithinRange, situation};
 ghost use Rattle.sftp_calls.specs.OwnRequests.{oldest_first, AreAsked, MayBeAnswered, IsCallSoFar};
-ghost use Rattle.sftp_calls.specs.RequestCounts.{AsksBelow, BuffersWithin, work};
+ghost use Rattle.sftp_calls.specs.RequestCounts.{AsksBelow, BuffersWithin, LeavesWithin, work};
 
 /// Each move of a call is good.
 pub fn moves_are_good()
@@ -76,6 +76,17 @@ pub fn calls_make_so_many_requests()
     ensures { (c : Call) (site : Site) (facts : Facts) (past : Own) (answers : Answers) → FitsCall c
         → FitsFacts facts → BuffersWithin facts site → IsCallSoFar c site facts past answers
         → AsksBelow (length past) (work c facts) (next c site facts (oldest_first past) answers) }
+{}
+
+/// A call that ends, and one that is cancelled, leaves no more bytes of deferred writes than the limit allows, where
+/// it began so.
+pub fn buffers_keep_their_limit()
+    ensures ended { (c : Call) (site : Site) (facts : Facts) (past : Own) (answers : Answers) → FitsFacts facts
+        → BuffersWithin facts site → IsCallSoFar c site facts past answers
+        → LeavesWithin facts (next c site facts (oldest_first past) answers) }
+    ensures cancelled { (c : Call) (site : Site) (facts : Facts) (past : Own) (answers : Answers) → FitsFacts facts
+        → BuffersWithin facts site → IsCallSoFar c site facts past answers
+        → BuffersWithin facts (cancelled c site facts (oldest_first past) answers) }
 {}
 
 /// A whole read without a bound, too, asks READs within the range of offsets and the session's read length, as long
