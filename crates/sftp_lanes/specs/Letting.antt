@@ -1,5 +1,5 @@
 -- What holds while the files of a lane are let go, slot after slot.
-use Rattle.std.specs.Prelude.{slice_index_or, length, drop, ◌≤◌, slice_get, ◌-◌, ◌≡◌, ◌<◌, ℕ, true, false, List, [], ◌∷◌, Option, Some, None, ◌==◌, zero, suc}
+use Rattle.std.specs.Prelude.{slice_index_or, length, drop, ◌≤◌, slice_get, ◌-◌, ◌≡◌, ◌<◌, ℕ, true, false, List, [], ◌∷◌, Option, Some, None, ◌==◌, ◌||◌, zero, suc}
 use Rattle.std.specs.List.{list_any}
 use Rattle.sftp_core.specs.Core.{Core, at}
 use Rattle.sftp_history.specs.declared.entry.Entry.{Entry}

@@ -40,6 +40,10 @@ closes_of core None past = past
 closes_of core (Some f) past =
     if users_of (at core f.grant.id) == 1 then entry.Event (Submit owner.Close f.grant.id (request.Close f.grant.handle)) ∷ past else past
 
+-- what a lane holds once its call has ended
+abbrev pub one_more : LaneState → LaneState
+one_more state = record state { ended = state.ended + 1 }
+
 -- what is noted of a lane's step, whose call has this number
 abbrev pub noted : Contents → ℕ → ℕ → LaneState → Moved → Contents
 noted c lane n state moved.Waits = record c { begun = begun_with c.begun lane }
@@ -69,7 +73,3 @@ abbrev pub freed_of : Moved → Option FileValue
 freed_of moved.Waits = None
 freed_of (moved.Asked id r) = None
 freed_of (moved.Ended o freed) = freed
-
--- what a lane holds once its call has ended
-abbrev pub one_more : LaneState → LaneState
-one_more state = record state { ended = state.ended + 1 }
