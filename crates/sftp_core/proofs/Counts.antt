@@ -1,6 +1,7 @@
 -- How many places of each kind there are, after each change.
 use Rattle.std.proofs.Common.{◌≡◌, ℕ, suc, ◌+◌, ◌-◌, ◌≤◌, Bool, true, false, cond, List, [], ◌∷◌, map, length, refl, sym, ap, ◌∙◌, arith, Some}
 use Rattle.std.specs.Prelude.{sum_by}
+use Rattle.std.specs.Ordering.{nat_cmp}
 use Rattle.std.specs.Cmp.{nat_cmp_total}
 use Rattle.std.specs.FinMap as fin
 use Rattle.std.proofs.lemmas.List.Sums.{sum_by-cons, count_by-le-length}
@@ -113,3 +114,6 @@ count_owing_sent t =
 
 pub len_sent : (t : Places) → fin.len (all_sent t) ≡ fin.len t
 len_sent t = fin.len-entries (all_sent t) ∙ ap length (entries_sent t) ∙ length_sent (fin.entries t) ∙ sym (fin.len-entries t)
+
+pub count-empty : (p : Place → Bool) → count p fin.empty ≡ 0
+count-empty p = let few = count_len p fin.empty in let none = fin.len-empty nat_cmp Place in omega (arith, few, none)

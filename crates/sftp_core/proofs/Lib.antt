@@ -1,5 +1,7 @@
 pub mod Tables
-pub mod Gaps
+pub mod Slots
+pub mod Marks
+pub mod Cuts
 pub mod Counts
 pub mod Tallies
 pub mod Sounds

@@ -20,10 +20,11 @@ use Rattle.sftp_core.specs.Core.{MayFree}
 use Rattle.sftp_wire.specs.Body.{Measures}
 use Rattle.std.specs.Prelude.{IsSome, is_some}
 use Rattle.sftp_core.specs.Frames.{IsShort}
-use Rattle.sftp_core.specs.Table.{Places, count, tally, is_waiting, is_sent, is_unsent, is_owing, all_sent, sent_place, IsAllowed}
+use Rattle.sftp_core.specs.Table.{Places, count, tally, is_waiting, is_sent, is_unsent, is_owing, all_sent, sent_place, IsAllowed, is_unsent_at, stands, marked_all}
 use Rattle.sftp_core.proofs.Sent.{get_sent}
 use Rattle.sftp_core.specs.Sound.{IsSound, hello_queued}
 use Rattle.sftp_core.proofs.Tables.{count-insert_new, count-insert_old, count-remove}
+use Rattle.sftp_core.proofs.Marks.{listed-insert, listed-remove, listed-sent, not_before, is_last, marks_all}
 use Rattle.sftp_core.proofs.Counts.{len_more, len_same, len_less, len_sent, count_len, unsent_waiting, waiting_split, count_unsent_sent, count_owing_sent}
 
 -- ---- allowed answers
@@ -91,19 +92,21 @@ most_open (Open info) h = refl
 
 -- another in the place of what stood there
 pub sound-replace : (h : Bool) (p : Phase) (qs qs' : List (ℕ × Request)) (q r q' r' : ℕ) (t : Places) (id : ℕ) (v w : Place) → IsSound h p qs q r t → Some w ≡ fin.get t id
-    → q' + tally is_unsent w ≡ q + tally is_unsent v → q' + tally is_owing v ≤ q + tally is_owing w → r ≤ r' → All IsShort qs' → IsAllowed (Some v) → IsSound h p qs' q' r' (fin.insert t id v)
-sound-replace h p qs qs' q r q' r' t id v w s some eq eo room short one =
+    → q' + tally is_unsent w ≡ q + tally is_unsent v → q' + tally is_owing v ≤ q + tally is_owing w → r ≤ r' → All IsShort qs' → IsAllowed (Some v)
+    → ((k : ℕ) → stands k qs' ≡ false → stands k qs ≡ false) → (stands id qs' ≡ false → is_unsent v ≡ false) → IsSound h p qs' q' r' (fin.insert t id v)
+sound-replace h p qs qs' q r q' r' t id v w s some eq eo room short one less here =
     let x = count-insert_old is_unsent t id v w (sym some) in
     let z = count-insert_old is_owing t id v w (sym some) in
     let l = len_same t id v w (sym some) in
     let su = s.unsent in let so = s.reserved in
-    record { unsent = omega (arith, x, su, eq); reserved = omega (arith, z, so, eo, room); few = rw l s.few; allowed = allowed-insert t id v s.allowed one; short = short; range = s.range }
+    record { unsent = omega (arith, x, su, eq); listed = listed-insert qs qs' t id v s.listed less here; reserved = omega (arith, z, so, eo, room); few = rw l s.few; allowed = allowed-insert t id v s.allowed one; short = short; range = s.range }
 
 -- of the same kinds
 pub sound-same : (h : Bool) (p : Phase) (qs : List (ℕ × Request)) (q r : ℕ) (t : Places) (id : ℕ) (v w : Place) → IsSound h p qs q r t → Some w ≡ fin.get t id
     → is_unsent v ≡ is_unsent w → is_owing v ≡ is_owing w → IsAllowed (Some v) → IsSound h p qs q r (fin.insert t id v)
 sound-same h p qs q r t id v w s some eq eo one =
-    sound-replace h p qs qs q r q r t id v w s some (ap (λ b. q + cond b 1 0) (sym eq)) (rw eo (omega arith)) (omega arith) s.short one
+    sound-replace h p qs qs q r q r t id v w s some (ap (λ b. q + cond b 1 0) (sym eq)) (rw eo (omega arith)) (omega arith) s.short one (λ k out. out)
+    (λ out. eq ∙ ap is_unsent_at some ∙ s.listed id out)
 
 -- nothing in the place of what is not queued
 pub sound-gone : (h : Bool) (p : Phase) (qs : List (ℕ × Request)) (q r : ℕ) (t : Places) (id : ℕ) (w : Place) → IsSound h p qs q r t → Some w ≡ fin.get t id → is_unsent w ≡ false → IsSound h p qs q r (fin.remove t id)
@@ -113,7 +116,7 @@ sound-gone h p qs q r t id w s some eq =
     let l = len_less t id in
     let no : tally is_unsent w ≡ 0 = rw eq refl in
     let su = s.unsent in let so = s.reserved in let sf = s.few in
-    record { unsent = omega (arith, x, su, no); reserved = omega (arith, z, so); few = omega (arith, l, sf); allowed = allowed-remove t id s.allowed; short = s.short; range = s.range }
+    record { unsent = omega (arith, x, su, no); listed = listed-remove qs t id s.listed; reserved = omega (arith, z, so); few = omega (arith, l, sf); allowed = allowed-remove t id s.allowed; short = s.short; range = s.range }
 
 pub sound-freed : (h : Bool) (p : Phase) (qs : List (ℕ × Request)) (q r : ℕ) (t : Places) (id : ℕ) → IsSound h p qs q r t → MayFree (fin.get t id) → IsSound h p qs q r (fin.remove t id)
 sound-freed h p qs q r t id s may = by_place (fin.get t id) refl may
@@ -135,6 +138,7 @@ pub sound-close : (h : Bool) (p : Phase) (qs qs' : List (ℕ × Request)) (q r q
 sound-close h p qs qs' q r q' r' t id handle wanted w s some owes unsent small is eq room =
     sound-replace h p qs qs' q r q' r' t id (Waiting (expected_of (request.Close handle)) false wanted) w s some (rw unsent (omega (arith, eq))) (rw owes (omega (arith, eq))) room
     (rw is (short-last qs (id, request.Close handle) s.short (short-close handle id small))) tt
+    (λ k out. not_before k id (request.Close handle) qs qs' is out) (λ out. is_last id (request.Close handle) qs qs' is out)
 
 -- a new request stands last in the queue
 pub sound-last : (h : Bool) (p p' : Phase) (qs qs' : List (ℕ × Request)) (q r q' r' : ℕ) (t t' : Places) (id : ℕ) (asked : Request) (wanted : Bool) → IsSound h p qs q r t → fin.get t id ≡ None
@@ -147,6 +151,7 @@ sound-last h p p' qs qs' q r q' r' t t' id asked wanted s none few range one is 
     let su = s.unsent in
     record {
       unsent = rw put (omega (arith, u, su, eq));
+      listed = rw put (listed-insert qs qs' t id v s.listed (λ k out. not_before k id asked qs qs' is out) (λ out. is_last id asked qs qs' is out));
       reserved = room;
       few = rw put (omega (arith, l, few));
       allowed = rw put (allowed-insert t id v s.allowed tt);
@@ -158,17 +163,19 @@ sound-last h p p' qs qs' q r q' r' t t' id asked wanted s none few range one is 
 pub sound-later : (h : Bool) (p p' : Phase) (qs : List (ℕ × Request)) (q r r' : ℕ) (t : Places) → IsSound h p qs q r t → most_ids p ≤ most_ids p' → IsRanged p' → r ≤ r' → IsSound h p' qs q r' t
 sound-later h p p' qs q r r' t s most range room =
     let so = s.reserved in let sf = s.few in
-    record { unsent = s.unsent; reserved = omega (arith, so, room); few = omega (arith, sf, most); allowed = s.allowed; short = s.short; range = range }
+    record { unsent = s.unsent; listed = s.listed; reserved = omega (arith, so, room); few = omega (arith, sf, most); allowed = s.allowed; short = s.short; range = range }
 
 -- the queue is emptied and keeps its room
-pub sound-sent : (h : Bool) (p : Phase) (qs qs' : List (ℕ × Request)) (q r q' r' : ℕ) (t t' : Places) → IsSound h p qs q r t → qs' ≡ [] → q' ≡ 0 → r' ≡ r → t' ≡ all_sent t → IsSound true p qs' q' r' t'
-sound-sent h p qs qs' q r q' r' t t' s is none room sent =
+pub sound-sent : (h : Bool) (p : Phase) (qs qs' : List (ℕ × Request)) (q r q' r' : ℕ) (t t' : Places) → IsSound h p qs q r t → qs' ≡ [] → q' ≡ 0 → r' ≡ r → t' ≡ marked_all t qs → IsSound true p qs' q' r' t'
+sound-sent h p qs qs' q r q' r' t t' s is none room marks =
+    let sent : t' ≡ all_sent t = marks ∙ marks_all qs t s.listed in
     let x = count_unsent_sent t in
     let z = count_owing_sent t in
     let l = len_sent t in
     let sf = s.few in let so = s.reserved in
     record {
       unsent = rw (none, sent, x) refl;
+      listed = rw sent (listed-sent qs' t);
       reserved = rw (none, sent, room) (omega (arith, z, so));
       few = rw (sent, l) sf;
       allowed = rw sent (allowed-sent t s.allowed);
@@ -183,6 +190,7 @@ sound-fresh qs q r t e is one room =
     let x = count_len is_unsent t in let y = count_len is_owing t in
     record {
       unsent = omega (arith, x, l, one);
+      listed = λ id out. rw (e, fin.get-empty nat_cmp id) refl;
       reserved = omega (arith, y, l, one, room);
       few = omega (arith, l);
       allowed = λ id. rw (e, fin.get-empty nat_cmp id) tt;

@@ -19,16 +19,20 @@ use Rattle.sftp_core.specs.declared.tokens.Polled.TheVariants as polled
 use Rattle.sftp_core.specs.declared.place.Place.{Place}
 use Rattle.sftp_core.specs.declared.place.Place.TheVariants.{Waiting, Answered, Granted}
 use Rattle.sftp_core.specs.Grant.{GrantValue}
+use Rattle.sftp_model.specs.Pieces.{joined}
+use Rattle.sftp_wire.specs.Heads.{request_head}
+use Rattle.sftp_core.specs.Pieces.{whole, filled_of}
 use Rattle.sftp_core.specs.Info.{hello_of}
 use Rattle.sftp_core.specs.Table.{Places, count, all_sent, is_waiting, is_sent, is_owing, is_unsent, brings}
 
--- the options, whether the hello was handed out, how far the greeting has come, the queue in order, what is kept
--- under each id, and the fault
+-- the options, whether the hello was handed out, how far the greeting has come, the queue in order, the pieces of its
+-- frames in order, what is kept under each id, and the fault
 pub record Core : Type 0 where
   pub options : SftpOptions
   pub hello_sent : Bool
   pub phase : Phase
   pub queue : List (ℕ × Request)
+  pub pieces : List (List ℕ)
   pub table : Places
   pub fault : Option Fault
 
@@ -47,12 +51,25 @@ without core id = record core { table = fin.remove core.table id }
 -- a request stands last in the queue and is kept under its id
 abbrev pub queued_last : Core → ℕ → Request → Bool → Core
 queued_last core id asked wanted =
-    record core { queue = core.queue ++ (id, asked) ∷ []; table = fin.insert core.table id (Waiting (expected_of asked) false wanted) }
+    record core { queue = core.queue ++ (id, asked) ∷ []; pieces = core.pieces ++ whole id asked; table = fin.insert core.table id (Waiting (expected_of asked) false wanted) }
+
+-- the WRITE of these parts, joined
+abbrev pub write_of : List ℕ → ℕ → List (List ℕ) → Request
+write_of handle offset parts = request.Write handle offset (joined parts)
+
+-- it stands last in the queue, cut as it was handed in, and is kept under its id
+abbrev pub queued_parts : Core → ℕ → List ℕ → ℕ → List (List ℕ) → Core
+queued_parts core id handle offset parts =
+    record core {
+      queue = core.queue ++ (id, write_of handle offset parts) ∷ [];
+      pieces = core.pieces ++ request_head (write_of handle offset parts) id ∷ filled_of parts;
+      table = fin.insert core.table id (Waiting (expected_of (write_of handle offset parts)) false true);
+    }
 
 -- a core whose queue holds the hello alone
 abbrev pub fresh : SftpOptions → Core
 fresh options =
-    record { options = options; hello_sent = false; phase = Greeting; queue = (0, request.Init 3) ∷ []; table = fin.empty; fault = None }
+    record { options = options; hello_sent = false; phase = Greeting; queue = (0, request.Init 3) ∷ []; pieces = whole 0 (request.Init 3); table = fin.empty; fault = None }
 
 -- ---- what is told in numbers
 
@@ -147,7 +164,7 @@ IsSubmitError (submit.Failed fault) refusal = refusal ≡ Some (submit.Failed fa
 
 -- nothing is queued, and each request counts as sent
 abbrev pub handed_out : Core → Core
-handed_out core = record core { hello_sent = true; queue = []; table = all_sent core.table }
+handed_out core = record core { hello_sent = true; queue = []; pieces = []; table = all_sent core.table }
 
 -- ---- poll
 

@@ -1,6 +1,7 @@
 pub mod Options
 pub mod Info
 pub mod Frames
+pub mod Pieces
 pub mod Table
 pub mod Grant
 pub mod Core

@@ -10,6 +10,7 @@ mod options;
 mod phase;
 mod pipeline;
 mod place;
+mod queued;
 mod table;
 mod tokens;
 

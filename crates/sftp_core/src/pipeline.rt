@@ -1,9 +1,10 @@
-ghost use Rattle.std.specs.Prelude.{◌≡◌, ◌+◌, ◌<◌, ◌≤◌, ◌∷◌, ◌++◌, [], slice_get, None, Some, false, IfOk, IfSome, OnOk, OnErr, vec_len, vec_capacity};
+ghost use Rattle.std.specs.Prelude.{◌≡◌, ◌+◌, ◌<◌, ◌≤◌, ◌∷◌, ◌++◌, [], map, slice_get, None, Some, false, IfOk, IfSome, OnOk, OnErr, vec_len, vec_capacity};
 ghost use Rattle.std.specs.FinMap as fin;
 ghost use Rattle.std.specs.Option.{option_map};
 ghost use Rattle.sftp_model.specs.Answers.{expected_of};
 ghost use Rattle.sftp_core.specs.Core.{fresh, queued_of, awaited_of, unanswered_of, kept_of, failed_with};
-ghost use Rattle.sftp_core.specs.Frames.{IsShort};
+ghost use Rattle.sftp_wire.specs.Heads.{request_head};
+ghost use Rattle.sftp_core.specs.Pieces.{asked_of, pieces_of, IsCut};
 ghost use Rattle.sftp_core.specs.Info.{MAX_IDS, info_of, HasLengths};
 ghost use Rattle.sftp_core.specs.Table.{count, is_owing};
 ghost use Rattle.sftp_core.specs.declared.place.Place.TheVariants.{Waiting};
@@ -13,12 +14,15 @@ use crate::info::Info;
 use crate::options::SftpOptions;
 use crate::phase::Phase;
 use crate::place::Place;
+use crate::queued::Queued;
 use crate::table::Table;
+use bytes::Bytes;
 use sftp_model::{Expected, Fault, Request};
 use ssh_encoding::OutOfMemory;
 use std::alloc::Global;
 use std::marker::Model;
 
+mod parts;
 mod queue;
 mod replies;
 #[cfg(test)]
@@ -27,21 +31,22 @@ mod tickets;
 
 /// The protocol of one session without its link: it numbers requests, queues their frames, and hands each reply to
 /// the one request with its id (draft-ietf-secsh-filexfer-02, sections 3 to 7). A contract sees what stands under
-/// each id, the queue, the kept fault and how far the greeting has come.
+/// each id, the queue and the pieces of its frames, the kept fault and how far the greeting has come.
 #[derive(Drop)]
 pub struct Core {
     alloc: Global,
     options: SftpOptions,
     hello_sent: bool,
     phase: Phase,
-    queue: Vec<(u32, Request)>,
+    queue: Vec<Queued>,
     table: Table,
     fault: Option<Fault>,
-    room: Vec<u8>,
+    list: Vec<Bytes>,
 }
 
 impl Model for Core {
-    ghost use Rattle.std.specs.Prelude.{vec_len, vec_capacity};
+    ghost use Rattle.std.specs.Prelude.{vec_len, vec_capacity, map};
+    ghost use Rattle.sftp_core.specs.Pieces.{asked_of, pieces_of};
     ghost use Rattle.std.specs.Coded.{codes};
     ghost use Rattle.sftp_core.specs.contracts.table.Table as of_table;
     ghost use Rattle.sftp_core.specs.Core.{Core};
@@ -55,22 +60,23 @@ impl Model for Core {
       options = c.options;
       hello_sent = c.hello_sent;
       phase = c.phase;
-      queue = c.queue.items;
+      queue = map asked_of c.queue.items;
+      pieces = pieces_of c.queue.items;
       table = c.table;
       fault = c.fault;
     } };
 
-    ghost invariant = { λ c. IsSound c.hello_sent c.phase c.queue.items (vec_len c.queue) (vec_capacity c.queue) c.table };
+    ghost invariant = { λ c. IsSound c.hello_sent c.phase (map asked_of c.queue.items) (vec_len c.queue) (vec_capacity c.queue) c.table };
 }
 
 impl Core {
-    /// A core whose queue holds the hello alone, with room for as many requests as the options say. Refused only
+    /// A core whose queue holds the hello alone, with capacity for as many requests as the options say. Refused only
     /// for want of memory.
     pub fn new(alloc: Global, options: &SftpOptions) -> Result<Core, OutOfMemory>
         ensures { IfOk result (λ core. core ≡ fresh options.now) }
     {
         let mut queue = Vec::with_capacity(alloc, options.requests_buffer_size.max(1))?;
-        push_reserved(&mut queue, 0, Request::Init { version: 3 });
+        push_reserved(&mut queue, 0, Request::Init { version: 3 }, Vec::new(alloc));
         Ok(Core {
             alloc,
             options: *options,
@@ -79,7 +85,7 @@ impl Core {
             queue,
             table: Table::new(alloc),
             fault: None,
-            room: Vec::new(alloc),
+            list: Vec::new(alloc),
         })
     }
 
@@ -121,7 +127,7 @@ impl Core {
         ensures { option_map (λ p. (p.0, p.1.now)) result ≡ slice_get self.now.queue k }
     {
         match self.queue.get(k as usize) {
-            Some((id, request)) => Some((*id, request)),
+            Some(queued) => Some((queued.id(), queued.request())),
             None => None,
         }
     }
@@ -153,21 +159,25 @@ impl Core {
     }
 }
 
-/// Puts a request last into the queue and under its id, which is free. Room for each CLOSE that may come is there
-/// then. Refused for want of memory, nothing changed but the queue's room.
+/// Puts a request last into the queue, with the pieces of its content, and under a free id, which is 0 where none is in
+/// use. The queue has capacity for each CLOSE that may come then. Refused for want of memory, nothing changed but that
+/// capacity.
 fn put_last(
-    queue: &mut Vec<(u32, Request)>,
+    queue: &mut Vec<Queued>,
     table: &mut Table,
-    id: u32,
     request: Request,
+    parts: Vec<Bytes>,
     wanted: bool,
-) -> Result<(), OutOfMemory>
-    requires free { fin.get table.old id ≡ None }
+) -> Result<u32, OutOfMemory>
     requires few { fin.len table.old < MAX_IDS }
-    ensures queued { OnOk result (queue.new.items ≡ queue.old.items ++ (id, request) ∷ []) }
+    requires cut { IsCut request parts.items }
+    ensures free { IfOk result (λ id. fin.get table.old id ≡ None) }
+    ensures first { IfOk result (λ id. fin.len table.old ≡ 0 → id ≡ 0) }
+    ensures queued { IfOk result (λ id. map asked_of queue.new.items ≡ map asked_of queue.old.items ++ (id, request) ∷ []) }
+    ensures pieces { IfOk result (λ id. pieces_of queue.new.items ≡ pieces_of queue.old.items ++ request_head request id ∷ parts.items) }
     ensures len { OnOk result (vec_len queue.new ≡ vec_len queue.old + 1) }
-    ensures kept { OnOk result (table.new ≡ fin.insert table.old id (Waiting (expected_of request) false wanted)) }
-    ensures room { OnOk result (vec_len queue.new + count is_owing table.new ≤ vec_capacity queue.new) }
+    ensures kept { IfOk result (λ id. table.new ≡ fin.insert table.old id (Waiting (expected_of request) false wanted)) }
+    ensures capacity { OnOk result (vec_len queue.new + count is_owing table.new ≤ vec_capacity queue.new) }
     ensures grows { vec_capacity queue.old ≤ vec_capacity queue.new }
     ensures err { OnErr result ((queue.new.items ≡ queue.old.items) × (table.new ≡ table.old)) }
     ensures err_len { OnErr result (vec_len queue.new ≡ vec_len queue.old) }
@@ -177,20 +187,22 @@ fn put_last(
         sent: false,
         wanted,
     };
-    let room = table.owing() + place.owing() + 1;
-    queue.reserve(room)?;
-    table.insert(id, place)?;
-    push_reserved(queue, id, request);
-    Ok(())
+    let more = table.owing() + place.owing() + 1;
+    queue.reserve(more)?;
+    let id = table.insert(place)?;
+    push_reserved(queue, id, request, parts);
+    Ok(id)
 }
 
-/// Pushes into room that is there.
-fn push_reserved(queue: &mut Vec<(u32, Request)>, id: u32, request: Request)
-    requires { vec_len queue.old < vec_capacity queue.old }
-    ensures items { queue.new.items ≡ queue.old.items ++ (id, request) ∷ [] }
+/// Pushes into capacity that is there.
+fn push_reserved(queue: &mut Vec<Queued>, id: u32, request: Request, parts: Vec<Bytes>)
+    requires capacity { vec_len queue.old < vec_capacity queue.old }
+    requires cut { IsCut request parts.items }
+    ensures items { map asked_of queue.new.items ≡ map asked_of queue.old.items ++ (id, request) ∷ [] }
+    ensures pieces { pieces_of queue.new.items ≡ pieces_of queue.old.items ++ request_head request id ∷ parts.items }
     ensures len { vec_len queue.new ≡ vec_len queue.old + 1 }
-    ensures room { vec_capacity queue.old ≤ vec_capacity queue.new }
+    ensures grows { vec_capacity queue.old ≤ vec_capacity queue.new }
 {
-    let pushed: Result<_, _> = queue.push((id, request));
+    let pushed: Result<_, _> = queue.push(Queued::new(id, request, parts));
     pushed.unwrap();
 }

@@ -235,7 +235,7 @@ limits_in_core options extensions id r t =
     ap (λ (p : Option Place). opened (take_leaves core id r p) extensions (limits_in r)) here
     ∙ ap (λ (h : Option (List ℕ)). opened (dropped core id h) extensions (limits_in r)) t.goes.bare
     ∙ ap (λ (k : ℕ). opened (without core k) extensions (limits_in r)) t.zero
-    ∙ ap (λ (m : Places). record { options = options; hello_sent = true; phase = core_phase.Open (info_with extensions (limits_in r) options); queue = []; table = m; fault = None }) (limits_gone options extensions)
+    ∙ ap (λ (m : Places). record { options = options; hello_sent = true; phase = core_phase.Open (info_with extensions (limits_in r) options); queue = []; pieces = []; table = m; fault = None }) (limits_gone options extensions)
 
 limits_came : (options : SftpOptions) (extensions : Extensions) (read : Read) (told : Taken) (new : Core) → take_refusal (handed_out (asked_core options extensions)) (Ok read) ≡ None
     → told ≡ taken_as (handed_out (asked_core options extensions)) read → new ≡ taken (handed_out (asked_core options extensions)) read → LimitsCame options extensions (Ok read) told new
@@ -319,7 +319,7 @@ pub opened_idle : (options : SftpOptions) (extensions : Extensions) (new : Core)
     → new ≡ idle_core options (info_with extensions None options)
 opened_idle options extensions new leaves none =
     leaves ∙ ap (λ (b : Bool). if b then asked_core options extensions else opened (handed_out (fresh options)) extensions None) none
-    ∙ ap (λ (m : Places). record { options = options; hello_sent = true; phase = core_phase.Open (info_with extensions None options); queue = []; table = m; fault = None }) none_sent
+    ∙ ap (λ (m : Places). record { options = options; hello_sent = true; phase = core_phase.Open (info_with extensions None options); queue = []; pieces = []; table = m; fault = None }) none_sent
 
 pub asked_is : (options : SftpOptions) (extensions : Extensions) (new : Core) → new ≡ greeted (handed_out (fresh options)) extensions → offers_limits extensions ≡ true → new ≡ asked_core options extensions
 asked_is options extensions new leaves some =

@@ -1,8 +1,8 @@
 -- What is sent and got over several calls.
-use Rattle.std.proofs.Common.{◌≡◌, ◌<◌, ◌≤◌, ◌+◌, ◌-◌, ℕ, Bool, true, false, List, [], ◌∷◌, ◌++◌, take, drop, length, length-append, Option, Some, None, refl, ap, sym, ◌∙◌, subst, append_assoc, arith, inl, inr}
+use Rattle.std.proofs.Common.{◌≡◌, ◌<◌, ◌≤◌, ◌+◌, ◌-◌, ℕ, Bool, true, false, List, [], ◌∷◌, ◌++◌, length, length-append, Option, Some, None, refl, ap, sym, ◌∙◌, subst, append_assoc, arith, inl, inr}
 use Rattle.std.specs.Prelude.{nat_lt, Ok}
 use Rattle.std.proofs.lemmas.Bool.Decides.{nat_tests}
-use Rattle.std.proofs.lemmas.List.{append-nil, take-append-le, take-append-drop}
+use Rattle.std.proofs.lemmas.List.{append-nil, take-append-le}
 use Rattle.std.specs.Int.{w32, from_be_bytes}
 use Rattle.sftp_model.specs.declared.error.Error.{Error}
 use Rattle.sftp_model.specs.declared.error.Error.TheVariants as error
@@ -10,8 +10,7 @@ use Rattle.sftp_model.specs.declared.frame_error.FormatKind.{FormatKind}
 use Rattle.sftp_link.specs.declared.piece.Piece.{Piece}
 use Rattle.sftp_link.specs.declared.piece.Piece.TheVariants.{Sent, Got}
 use Rattle.sftp_link.specs.Log.{AllSent, AllGot, SentOn, GotOn}
-use Rattle.sftp_link.specs.Told.{Told, SentLess, GotLess, GotAll, Fills}
-use Rattle.sftp_model.specs.Pieces.{joined}
+use Rattle.sftp_link.specs.Told.{Told, GotLess, GotAll, Fills}
 use Rattle.sftp_wire.specs.FrameReader.{Received, Pushed, nothing, need_of, need_where, fault_of, fault_of_len, fault_where, fault_with, missing, told_len}
 use Rattle.sftp_driver.specs.Reading.{Pulled, PullFails, ReadFails, IsFramePrefix, IsFramePart, IsOfOneFrame, IsBadLength}
 
@@ -179,35 +178,3 @@ less_of room x y false is f = f
 pub all_of : (room : List ℕ) (x y : Option (List Piece)) (full : Bool) → full ≡ true → Fills room x y (Ok full) → Told (GotAll room) x y
 all_of room x y true is f = f
 all_of room x y false is f = absurd cc
-
--- ---- pieces that are sent
-
-joined_more : (pieces : List (List ℕ)) (piece : List ℕ) → joined (pieces ++ piece ∷ []) ≡ joined pieces ++ piece
-joined_more [] piece = append-nil piece
-joined_more (p ∷ pieces) piece = ap (λ (w : List ℕ). p ++ w) (joined_more pieces piece) ∙ sym (append_assoc p (joined pieces) piece)
-
-joined_both : (a b : List (List ℕ)) → joined (a ++ b) ≡ joined a ++ joined b
-joined_both [] b = refl
-joined_both (p ∷ a) b = ap (λ (w : List ℕ). p ++ w) (joined_both a b) ∙ sym (append_assoc p (joined a) (joined b))
-
--- the first pieces were sent, and then the next
-pub sent_next : (pieces : List (List ℕ)) (i : ℕ) (piece : List ℕ) (x y z : List Piece) → take (i + 1) pieces ≡ take i pieces ++ piece ∷ []
-    → SentOn x y (joined (take i pieces)) → SentOn y z piece → SentOn x z (joined (take (i + 1) pieces))
-sent_next pieces i piece x y z cut s t =
-    subst (λ (w : List ℕ). SentOn x z w) (sym (ap joined cut ∙ joined_more (take i pieces) piece)) (sent_both x y z (joined (take i pieces)) piece s t)
-
--- the first pieces were sent, and then less than the next
-pub sent_less : (pieces : List (List ℕ)) (i : ℕ) (piece : List ℕ) (x y z : List Piece) → take (i + 1) pieces ≡ take i pieces ++ piece ∷ []
-    → SentOn x y (joined (take i pieces)) → SentLess piece y z → SentLess (joined pieces) x z
-sent_less pieces i piece x y z cut s less =
-    let begun = joined (take i pieces) in
-    let later = joined (drop (i + 1) pieces) in
-    let whole : joined pieces ≡ (begun ++ piece) ++ later =
-    ap joined (sym (take-append-drop (i + 1) pieces)) ∙ joined_both (take (i + 1) pieces) (drop (i + 1) pieces)
-    ∙ ap (λ (w : List ℕ). w ++ later) (ap joined cut ∙ joined_more (take i pieces) piece) in
-    let split : (begun ++ piece) ++ later ≡ (begun ++ less.0) ++ (less.1 ++ later) =
-    ap (λ (w : List ℕ). (begun ++ w) ++ later) less.2 ∙ regroup begun less.0 less.1 later in
-    (begun ++ less.0, less.1 ++ later, whole ∙ split, (let n = length-append less.1 later in omega (arith, n, less.3)), sent_both x y z begun less.0 s less.4)
-  where
-    regroup : (a b c d : List ℕ) → (a ++ (b ++ c)) ++ d ≡ (a ++ b) ++ (c ++ d)
-    regroup a b c d = simp append_assoc

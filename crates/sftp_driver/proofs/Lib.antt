@@ -1,4 +1,5 @@
 pub mod Getting
+pub mod Gathered
 pub mod Journals
 pub mod Stopping
 pub mod Rounds

@@ -1,4 +1,5 @@
 pub mod Session
+pub mod Gathering
 pub mod NoLanes
 pub mod Refusals
 pub mod Causes

@@ -57,7 +57,7 @@ IsIdle past = (past ≡ []) ⊎ ((r : Reply) × (past ≡ entry.Event (Take 0 r)
 
 -- a core without a request under way
 abbrev pub idle_core : SftpOptions → Info → Core
-idle_core options info = record { options = options; hello_sent = true; phase = core_phase.Open info; queue = []; table = fin.empty; fault = None }
+idle_core options info = record { options = options; hello_sent = true; phase = core_phase.Open info; queue = []; pieces = []; table = fin.empty; fault = None }
 
 pub record IsOpen (options : SftpOptions) (core : Core) (past : List Entry) : Type 0 where
   pub info : Info

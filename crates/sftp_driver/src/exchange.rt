@@ -8,6 +8,7 @@ ghost use Rattle.sftp_driver.specs.Causes.{Cause, EndCause, IsRunError};
 ghost use Rattle.sftp_driver.specs.Reading.{Pulled, PullFails, Grown, IsFramePrefix, IsWhole, ReadFails};
 ghost use Rattle.sftp_driver.specs.Refusals.{error_of};
 
+use crate::gather::send_gathered;
 use bytes::Bytes;
 use sftp_core::TakeError;
 use sftp_link::{DeviceError, LinkIn, LinkOut, recv_exact, send_all};
@@ -39,17 +40,18 @@ pub(crate) fn refused(e: TakeError) -> Error
     }
 }
 
-/// Sends pieces in their order. After an error a front of them was sent, and not all.
+/// Sends pieces in their order, small neighbours gathered into one send. After an error a prefix of their bytes was
+/// sent, and not all.
 pub(crate) fn send_pieces<L: LinkOut>(link: &mut L, pieces: &[Bytes]) -> Result<(), DeviceError>
     requires { L.LinkState.faults link.old < 2 ^ 64 - 1 }
     ensures log { SendsAll (joined pieces.now) (L.LinkState.log link.old) (L.LinkState.log link.new) result }
     ensures cause { DeviceCause (L.LinkState.faults link.old) (L.LinkState.faults link.new) result }
     ensures service { L.LinkState.service link.new ≡ L.LinkState.service link.old }
 {
-    for piece in pieces {
-        send_all(link, piece)?;
+    match pieces {
+        [piece] => send_all(link, piece),
+        _ => send_gathered(link, pieces),
     }
-    Ok(())
 }
 
 /// Takes the part of a frame that its reader needs next, and no byte past it.

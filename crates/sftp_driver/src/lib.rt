@@ -3,6 +3,7 @@
 
 mod driver;
 mod exchange;
+mod gather;
 mod no_lanes;
 mod opening;
 mod runs;

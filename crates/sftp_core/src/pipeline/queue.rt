@@ -1,14 +1,18 @@
 // What goes out: requests into the queue, and the frames of the queue.
-ghost use Rattle.std.specs.Prelude.{◌≡◌, ◌<◌, None, true, IsTrue, IsSome, IfOk, IfErr, OnOk, OnErr};
+ghost use Rattle.std.specs.Prelude.{◌≡◌, ◌<◌, map, None, true, IsTrue, IsSome, IfOk, IfErr, OnOk, OnErr};
 ghost use Rattle.std.specs.FinMap as fin;
 ghost use Rattle.sftp_model.specs.Pieces.{joined};
 ghost use Rattle.sftp_core.specs.Core.{at, queued_last, is_call, submit_refusal, IsSubmitError, handed_out};
 ghost use Rattle.sftp_core.specs.Frames.{frames_of, AreFilled};
 ghost use Rattle.sftp_core.specs.Info.{MAX_IDS, info_of};
+ghost use Rattle.sftp_core.specs.Table.{marked_all};
+ghost use Rattle.sftp_core.specs.Pieces.{asked_of};
 
 use super::{Core, put_last};
 use crate::chunk::Chunk;
 use crate::errors::SubmitError;
+use crate::queued::{Queued, parts_of};
+use crate::table::Table;
 use crate::tokens::Ticket;
 use sftp_model::{Request, TryCopy};
 use sftp_wire::request_len;
@@ -35,33 +39,49 @@ impl Core {
             return Err(SubmitError::TooLong);
         }
         let copy = request.try_copy(self.alloc)?;
-        let id = self.table.free_id();
-        put_last(&mut self.queue, &mut self.table, id, copy, true)?;
+        let parts = parts_of(self.alloc, request)?;
+        let id = put_last(&mut self.queue, &mut self.table, copy, parts, true)?;
         Ok(Ticket { id })
     }
 
-    /// The frames of all queued requests in order, as pieces of which none is empty. Nothing is queued then, and
-    /// each request counts as sent. Refused for want of memory, the core is as before.
+    /// The frames of all queued requests in order, as pieces of which none is empty: of each its head, and then the
+    /// pieces of its content as they were handed in. Nothing is queued then, and each request counts as sent. Refused
+    /// for want of memory, the core is as before.
     pub fn hand_out(&mut self) -> Result<Chunk, OutOfMemory>
         ensures ok { IfOk result (λ chunk. joined chunk ≡ frames_of self.old.queue) }
+        ensures pieces { IfOk result (λ chunk. chunk ≡ self.old.pieces) }
         ensures filled { IfOk result (λ chunk. AreFilled chunk) }
         ensures after { OnOk result (self.new ≡ handed_out self.old) }
         ensures err { OnErr result (self.new ≡ self.old) }
     {
-        let room = mem::replace(&mut self.room, Vec::new(self.alloc));
-        let chunk = Chunk::of_queue(self.alloc, self.queue.as_slice(), room)?;
+        let list = mem::replace(&mut self.list, Vec::new(self.alloc));
+        let chunk = Chunk::of_queue(self.alloc, self.queue.as_slice(), list)?;
+        mark_all(&mut self.table, self.queue.as_slice());
         self.queue.clear();
-        self.table.mark_sent();
         self.hello_sent = true;
         Ok(chunk)
     }
 
-    /// Takes a chunk back, and keeps its room for the next one. It changes nothing else.
+    /// Takes a chunk back, and keeps its list for the next one. It changes nothing else.
     pub fn give_back(&mut self, chunk: Chunk)
         ensures { self.new ≡ self.old }
     {
-        if let Some(room) = chunk.into_room() {
-            self.room = room;
+        self.list = chunk.into_list();
+    }
+}
+
+/// Makes each request of a queue one that was handed out.
+fn mark_all(table: &mut Table, queue: &[Queued])
+    ensures { table.new ≡ marked_all table.old (map asked_of queue.now) }
+{
+    let mut rest = queue;
+    loop {
+        match rest {
+            [] => return,
+            [queued, later @ ..] => {
+                table.mark_sent(queued.id());
+                rest = later;
+            }
         }
     }
 }

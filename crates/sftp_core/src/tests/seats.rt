@@ -3,6 +3,7 @@ ghost use Rattle.std.specs.Prelude.{◌≡◌};
 ghost use Rattle.sftp_core.specs.Core.{is_call};
 
 use crate::*;
+use bytes::Bytes;
 use sftp_model::{FileAttrs, Handle, OpenFlags, RemotePath, Reply, Request};
 use std::alloc::Global;
 use std::test::Fail;
@@ -75,6 +76,23 @@ pub(crate) fn submit(core: &mut Core, request: &Request) -> Result<u32, SubmitEr
         return Err(SubmitError::OutOfMemory);
     }
     match core.submit(request) {
+        Ok(ticket) => {
+            let Ticket { id } = ticket;
+            Ok(id)
+        }
+        Err(e) => Err(e),
+    }
+}
+
+/// The id of a submitted WRITE of these parts to the handle `a`, at the offset 0.
+pub(crate) fn submit_parts(core: &mut Core, parts: &[Bytes]) -> Result<u32, SubmitError> {
+    let Some(handle) = Handle::new(b"a") else {
+        return Err(SubmitError::OutOfMemory);
+    };
+    if core.info().is_none() || core.kept() > 100 {
+        return Err(SubmitError::OutOfMemory);
+    }
+    match core.submit_parts(&handle, 0, parts) {
         Ok(ticket) => {
             let Ticket { id } = ticket;
             Ok(id)
@@ -190,12 +208,37 @@ pub(crate) fn sends(core: &mut Core, bytes: &[u8]) -> bool {
     }
 }
 
-fn is_chunk(chunk: &Chunk, bytes: &[u8]) -> bool {
-    match chunk.pieces() {
-        [] => bytes.is_empty(),
-        [piece] => piece.as_slice() == bytes,
-        _ => false,
+/// Hands out what is queued: whether it is a head and these two pieces.
+pub(crate) fn sends_cut(core: &mut Core, head: &[u8], first: &[u8], second: &[u8]) -> bool {
+    match core.hand_out() {
+        Ok(chunk) => {
+            let same = match chunk.pieces() {
+                [a, b, c] => a.as_slice() == head
+                    && b.as_slice() == first
+                    && c.as_slice() == second,
+                _ => false,
+            };
+            core.give_back(chunk);
+            same
+        }
+        Err(_) => false,
     }
+}
+
+/// Whether the pieces are these bytes, joined.
+fn is_chunk(chunk: &Chunk, bytes: &[u8]) -> bool {
+    let mut rest = bytes;
+    for piece in chunk.pieces() {
+        if rest.len() < piece.len() {
+            return false;
+        }
+        let (prefix, later) = rest.split_at(piece.len());
+        if prefix != piece.as_slice() {
+            return false;
+        }
+        rest = later;
+    }
+    rest.is_empty()
 }
 
 /// Takes a body, where no fault is kept.

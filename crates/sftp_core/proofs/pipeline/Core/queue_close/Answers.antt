@@ -1,9 +1,12 @@
+use Rattle.std.proofs.Common.{refl}
+use Rattle.sftp_model.specs.declared.request.Request.TheVariants as request
+use Rattle.sftp_core.proofs.Cuts.{cut-none}
 use Rattle.sftp_core.proofs.Sounds.{sound-close, room_for_close}
 use Rattle.sftp_core.proofs.Places.{owed}
 use Rattle.sftp_core.proofs.pipeline.Core.queue_close.Goals as goal
 
-pub push_reserved-requires : goal.push_reserved-requires
-push_reserved-requires c =
+pub push_reserved-requires-clause-capacity : goal.push_reserved-requires-clause-capacity
+push_reserved-requires-clause-capacity c =
     let owing = owed _ _ c.replace.ensures.was (rw (← c.self.view_is) at c.requires) in
     room_for_close _ _ _ _ _ _ _ _ c.self.invariant c.replace.ensures.was owing.0
 
@@ -11,4 +14,7 @@ pub invariant_of-self : goal.invariant_of-self
 invariant_of-self c =
     let owing = owed _ _ c.replace.ensures.was (rw (← c.self.view_is) at c.requires) in
     rw c.replace.ensures.now
-    (sound-close _ _ _ _ _ _ _ _ _ _ _ _ _ c.self.invariant c.replace.ensures.was owing.0 owing.1 c.as_bytes-short.ensures.fits c.push_reserved.ensures.items c.push_reserved.ensures.len c.push_reserved.ensures.room)
+    (sound-close _ _ _ _ _ _ _ _ _ _ _ _ _ c.self.invariant c.replace.ensures.was owing.0 owing.1 c.as_bytes-short.ensures.fits c.push_reserved.ensures.items c.push_reserved.ensures.len c.push_reserved.ensures.grows)
+
+pub push_reserved-requires-clause-cut : goal.push_reserved-requires-clause-cut
+push_reserved-requires-clause-cut c = cut-none (request.Close c.args.handle) _ refl c.new.ensures.items

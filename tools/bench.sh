@@ -1,0 +1,147 @@
+#!/bin/sh
+# Measures how the time and the memory of a run grow with the requests in flight, and how long many small files take over
+# OpenSSH's server beside `sftp -b`. It prints tables, is no part of the gate, and takes half an hour or more.
+#
+#     tools/bench.sh [FIRST] [LAST]     requests in flight, doubled from FIRST to LAST: from 5000 to 40000
+#
+# A ratio of 2 at a doubling is linear. Each call of the core takes constant time; the session above it still walks its
+# lanes and its journal, so a ratio over 2 is of the session. `sftp` waits for each reply, so it is measured at FIRST alone
+# where replies are late. BENCH_LIMIT is the most seconds that one run may take: 1200. Memory below that of python3 itself,
+# some 15 MiB, shows as that.
+set -u
+cd "$(dirname "$0")/.." || exit 1
+if ! command -v python3 >/dev/null; then
+    echo "bench: python3 is missing, nothing was measured"
+    exit 0
+fi
+# each lane holds a handle of the server
+ulimit -n "$(ulimit -H -n)" 2>/dev/null
+exec python3 - "$PWD/crates/sftp_cli/out/sftp_cli" "${1:-5000}" "${2:-40000}" <<'END'
+import os, queue, resource, shutil, socket, subprocess, sys, tempfile, threading, time
+
+PROGRAM, FIRST, LAST = sys.argv[1], int(sys.argv[2]), int(sys.argv[3])
+SERVER = "/usr/lib/openssh/sftp-server"
+LIMIT = float(os.environ.get("BENCH_LIMIT", "1200"))
+DELAY = 0.010
+folder = tempfile.TemporaryDirectory()
+SIZES = [FIRST]
+while SIZES[-1] * 2 <= LAST:
+    SIZES.append(SIZES[-1] * 2)
+
+
+def digits(text):
+    return text.encode().hex()
+
+
+def script(paths, files=""):
+    """A lane for each path: all OPENs are in flight at once, then all READs, then all CLOSEs."""
+    lanes = range(len(paths))
+    lines = ["option max_pending_requests 65535"]
+    lines += [files] if files else []
+    for path in paths:
+        lines += ["lane", "open 0 r " + digits(path), "read 0 5", "close 0"]
+    for call in range(3):
+        # the step that asks, and later the step that ends the call
+        lines += [f"step {lane}" for lane in lanes] + ["flush"] + ["take"] * len(paths)
+        lines += [f"step {lane}" for lane in lanes]
+    return "\n".join(lines) + "\n"
+
+
+def measure(command, text):
+    """The seconds, and the greatest memory in MiB, of a command that reads this text; None where it failed."""
+    path = os.path.join(folder.name, "input")
+    with open(path, "w") as f:
+        f.write(text)
+    with open(path) as source:
+        start = time.monotonic()
+        child = subprocess.Popen(command, stdin=source, stdout=subprocess.DEVNULL, stderr=subprocess.DEVNULL)
+        timer = threading.Timer(LIMIT, child.kill)
+        timer.start()
+        _, status, usage = os.wait4(child.pid, 0)
+        seconds = time.monotonic() - start
+        timer.cancel()
+    child.returncode = status
+    return (seconds, usage.ru_maxrss / 1024) if status == 0 else None
+
+
+def later(read, write, close):
+    """Passes bytes on, each DELAY after it came."""
+    waiting = queue.Queue()
+
+    def send():
+        while True:
+            due, data = waiting.get()
+            time.sleep(max(0, due - time.monotonic()))
+            if not data:
+                return close()
+            write(data)
+
+    threading.Thread(target=send, daemon=True).start()
+    while True:
+        try:
+            data = read(65536)
+        except OSError:
+            data = b""
+        waiting.put((time.monotonic() + DELAY, data))
+        if not data:
+            return
+
+
+def serve(path, late):
+    """Listens at a path: a server for each connection, late or not."""
+    listener = socket.socket(socket.AF_UNIX)
+    listener.bind(path)
+    listener.listen()
+
+    def each():
+        while True:
+            link, _ = listener.accept()
+            if not late:
+                subprocess.Popen([SERVER], stdin=link, stdout=link, stderr=subprocess.DEVNULL)
+                link.close()
+                continue
+            server = subprocess.Popen([SERVER], stdin=subprocess.PIPE, stdout=subprocess.PIPE, stderr=subprocess.DEVNULL, bufsize=0)
+            put = lambda data, pipe=server.stdin.fileno(): os.write(pipe, data)
+            get = lambda most, pipe=server.stdout.fileno(): os.read(pipe, most)
+            shut = lambda link=link: link.close()
+            threading.Thread(target=later, args=(link.recv, put, server.stdin.close), daemon=True).start()
+            threading.Thread(target=later, args=(get, link.sendall, shut), daemon=True).start()
+
+    threading.Thread(target=each, daemon=True).start()
+
+
+def row(words, result, before):
+    told = "failed, or over the limit" if result is None else f"{result[0]:10.2f} s {result[1]:9.1f} MiB"
+    if result and before:
+        told += f"   x {result[0] / before[0]:.2f} time, x {result[1] / before[1]:.2f} memory"
+    print(f"{words:32} {told}", flush=True)
+    return result
+
+
+if not os.access(PROGRAM, os.X_OK):
+    sys.exit(f"bench: {PROGRAM} is missing: run 'rt ci' first, or 'rt run' in crates/sftp_cli")
+print("over the server in memory")
+before = None
+for n in SIZES:
+    before = row(f"{n} lanes", measure([PROGRAM, "script"], script(["a"] * n, "file 61 68656c6c6f")), before)
+
+missing = [tool for tool in (SERVER, "sftp", "socat") if not shutil.which(tool)]
+if missing:
+    sys.exit(f"bench: no comparison with sftp, missing: {' '.join(missing)}")
+names = [os.path.join(folder.name, str(k)) for k in range(SIZES[-1])]
+for name in names:
+    with open(name, "w") as f:
+        f.write("hello")
+for late in (False, True):
+    print("over OpenSSH's server" + (", each way 10 ms late" if late else ""))
+    path = os.path.join(folder.name, "late" if late else "socket")
+    serve(path, late)
+    before = None
+    for n in SIZES:
+        before = row(f"{n} files", measure([PROGRAM, "unix", path], script(names[:n])), before)
+    before = None
+    for n in SIZES[:1] if late else SIZES:
+        batch = "".join(f"get {name} /dev/null\n" for name in names[:n])
+        through = f"socat - UNIX-CONNECT:{path}"
+        before = row(f"{n} files, sftp -b", measure(["sftp", "-q", "-b", "-", "-D", through], batch), before)
+END
