@@ -74,21 +74,26 @@ fn strings(rt: HostRuntime) -> std::result::Result<(), Fail> {
     Ok(())
 }
 
-/// The refusal of a value that bytes don't spell.
-pub(crate) fn refusal<T: Decode<Error = Error> + Drop>(
+/// Whether bytes are refused so as a value.
+pub(crate) fn is_refused<T: Decode<Error = Error> + Drop>(
     alloc: Global,
     bytes: &[u8],
-) -> Option<Error> {
+    refusal: &Error,
+) -> std::result::Result<bool, Fail> {
     let mut reader = bytes;
-    T::decode(alloc, &mut reader).err()
+    match T::decode(alloc, &mut reader) {
+        Ok(_) => Ok(false),
+        Err(Error::OutOfMemory) => Err(OutOfMemory.into()),
+        Err(e) => Ok(e == *refusal),
+    }
 }
 
 #[test]
 fn refusals(rt: HostRuntime) -> std::result::Result<(), Fail> {
     let alloc = rt.alloc();
-    assert!(rt; refusal::<u32>(alloc, b"\0\0\0") == Some(Error::Length));
-    assert!(rt; refusal::<Vec<u8>>(alloc, b"\0\x10\0\0") == Some(Error::Overflow));
-    assert!(rt; refusal::<String>(alloc, b"\0\0\0\x01\xff") == Some(Error::CharacterEncoding));
-    assert!(rt; refusal::<Mpint>(alloc, b"\0\0\0\x01\0") == Some(Error::MpintEncoding));
+    assert!(rt; is_refused::<u32>(alloc, b"\0\0\0", &Error::Length)?);
+    assert!(rt; is_refused::<Vec<u8>>(alloc, b"\0\x10\0\0", &Error::Overflow)?);
+    assert!(rt; is_refused::<String>(alloc, b"\0\0\0\x01\xff", &Error::CharacterEncoding)?);
+    assert!(rt; is_refused::<Mpint>(alloc, b"\0\0\0\x01\0", &Error::MpintEncoding)?);
     Ok(())
 }

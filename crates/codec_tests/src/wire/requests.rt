@@ -128,6 +128,26 @@ fn write(rt: HostRuntime) -> Result<(), Fail> {
     Ok(())
 }
 
+/// Whether the head of the frame is its bytes before the content.
+fn begins(alloc: Global, request: &Request, head: &[u8]) -> Result<bool, Fail> {
+    let mut out = Vec::new(alloc);
+    match request_len(request) {
+        Some(_) => write_request_head(request, 7, &mut out)?,
+        None => return Err("the request is too long".into()),
+    }
+    Ok(out.as_slice() == head)
+}
+
+/// The frame of a WRITE without its 5 bytes of content.
+#[test]
+fn head_of_write(rt: HostRuntime) -> Result<(), Fail> {
+    let body = FRAMES[4].get(4..).ok_or("no length")?;
+    let head = FRAMES[4].get(..29).ok_or("no content")?;
+    let (_id, request) = read_request(rt.alloc(), body)?;
+    assert!(rt; begins(rt.alloc(), &request, head)?);
+    Ok(())
+}
+
 /// The first path of a SYMLINK is the target.
 #[test]
 fn symlink(rt: HostRuntime) -> Result<(), Fail> {
