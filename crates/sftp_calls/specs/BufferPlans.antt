@@ -1,6 +1,7 @@
 -- The calls on a buffered file.
 use Rattle.std.specs.Prelude.{ℕ, ◌+◌, ◌-◌, ◌==◌, Bool, false, not, min, max, List, [], ◌∷◌, ◌++◌, length, take, drop, Option, Some, None, nat_lt, if◌then◌else◌}
 use Rattle.std.specs.declared.io.traits.SeekFrom.{SeekFrom}
+use Rattle.sftp_model.specs.Numbers.{SSH_FX_OK}
 use Rattle.sftp_model.specs.declared.request.Request.{Request}
 use Rattle.sftp_model.specs.declared.request.Request.TheVariants as request
 use Rattle.sftp_model.specs.declared.reply.Reply.{Reply}
@@ -177,7 +178,7 @@ buf_flush_next slot site facts own answers =
 
 -- whether a reply is a STATUS 0
 abbrev pub is_good : Option Reply → Bool
-is_good (Some (reply.Status code message language)) = code == 0
+is_good (Some (reply.Status code message language)) = code == SSH_FX_OK
 is_good other = false
 
 -- the writes from the first whose STATUS 0 wasn't taken on

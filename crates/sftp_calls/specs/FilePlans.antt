@@ -2,6 +2,7 @@
 use Rattle.std.specs.Prelude.{ℕ, ◌+◌, ◌-◌, ◌==◌, not, List, [], ◌∷◌, Some, None, pos, negsuc, nat_le, if◌then◌else◌}
 use Rattle.std.specs.declared.io.traits.SeekFrom.{SeekFrom}
 use Rattle.std.specs.declared.io.traits.SeekFrom.TheVariants.{Start, End, Current}
+use Rattle.sftp_model.specs.Numbers.{SSH_FXF_READ, SSH_FXF_WRITE}
 use Rattle.sftp_model.specs.declared.file_attrs.FileAttrs.{FileAttrs}
 use Rattle.sftp_model.specs.declared.flags.OpenFlags.{OpenFlags}
 use Rattle.sftp_model.specs.declared.request.Request.{Request}
@@ -29,7 +30,7 @@ open_request flags path = request.OpenFile path flags no_attributes
 
 -- a file that was opened: it may be read and written by its flags, and stands at its start
 abbrev pub opened_file : OpenFlags → ℕ → FileAt
-opened_file flags place = record { grant = place; readable = has_bit flags.0 1; writable = has_bit flags.0 2; offset = 0 }
+opened_file flags place = record { grant = place; readable = has_bit flags.0 SSH_FXF_READ; writable = has_bit flags.0 SSH_FXF_WRITE; offset = 0 }
 
 abbrev pub opened : ℕ → OpenFlags → Site → ℕ → Reply → Move
 opened slot flags site place r = on_handle r site (λ handle. Done outcome.Opened (with_slot site slot (File (opened_file flags place))))

@@ -13,7 +13,7 @@ use Rattle.sftp_model.specs.declared.error.IoKind.TheVariants as kind
 use Rattle.sftp_model.specs.declared.slot.Facts.{Facts}
 use Rattle.sftp_model.specs.declared.slot.Move.{Move}
 use Rattle.sftp_model.specs.declared.slot.Move.TheVariants.{Ask, Wait, Done}
-use Rattle.sftp_model.specs.Numbers.{MAX_BODY_LEN}
+use Rattle.sftp_model.specs.Numbers.{MAX_BODY_LEN, SSH_FX_OK}
 use Rattle.sftp_model.specs.Frames.{request_body}
 use Rattle.sftp_model.specs.Readings.{has_bit}
 use Rattle.sftp_model.specs.Answers.{is_end_of_file}
@@ -104,7 +104,7 @@ ask_write file bytes site answers =
 
 -- a STATUS 0 lets the call go on; anything else refuses
 abbrev pub on_status : Reply → Site → Move → Move
-on_status (reply.Status code message language) site go = if code == 0 then go else refused (reply.Status code message language) site
+on_status (reply.Status code message language) site go = if code == SSH_FX_OK then go else refused (reply.Status code message language) site
 on_status other site go = refused other site
 
 -- a STATUS 0 ends the call well

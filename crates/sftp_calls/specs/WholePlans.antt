@@ -1,5 +1,6 @@
 -- The calls that open a path, work on it and end: whole writes and listings. No slot holds what they open.
 use Rattle.std.specs.Prelude.{ℕ, ◌+◌, ◌-◌, ◌==◌, List, [], ◌∷◌, ◌++◌, if◌then◌else◌}
+use Rattle.sftp_model.specs.Numbers.{SSH_FXF_WRITE, SSH_FXF_CREAT, SSH_FXF_TRUNC}
 use Rattle.sftp_model.specs.declared.flags.OpenFlags.{OpenFlags}
 use Rattle.sftp_model.specs.declared.request.Request.TheVariants as request
 use Rattle.sftp_model.specs.declared.reply.Reply.{Reply}
@@ -25,7 +26,7 @@ once_opened first site go (asked ∷ later) answers = once_answered asked.0 (ans
 
 -- WRITE, CREAT and TRUNC
 abbrev pub to_replace : OpenFlags
-to_replace = record { 0 = 2 + 8 + 16 }
+to_replace = record { 0 = SSH_FXF_WRITE + SSH_FXF_CREAT + SSH_FXF_TRUNC }
 
 -- no slot holds the file
 abbrev pub nowhere : Keeping

@@ -2,6 +2,7 @@
 -- its offset and the length asked.
 use Rattle.std.specs.Prelude.{ℕ, ◌+◌, ◌-◌, ◌==◌, Bool, true, false, not, ◌&&◌, min, max, List, [], ◌∷◌, ◌++◌, length, map, filter, filter_map, flat_map, find, Option, Some, None, is_some, unwrap_or, nat_lt, nat_le, if◌then◌else◌}
 use Rattle.std.specs.List.{list_any}
+use Rattle.sftp_model.specs.Numbers.{SSH_FXF_READ}
 use Rattle.sftp_model.specs.declared.flags.OpenFlags.{OpenFlags}
 use Rattle.sftp_model.specs.declared.request.Request.{Request}
 use Rattle.sftp_model.specs.declared.request.Request.TheVariants as request
@@ -170,7 +171,7 @@ window_next handle bound reads replies waiting site facts =
 -- ---- fs_read: opened to read; the bound is on the READs that a DATA answered, and may be none
 
 abbrev pub to_read : OpenFlags
-to_read = record { 0 = 1 }
+to_read = record { 0 = SSH_FXF_READ }
 
 abbrev pub fs_read_next : List ℕ → Option ℕ → Site → Facts → Plan
 fs_read_next path bound site facts =
