@@ -1,9 +1,16 @@
+<<<<<<< HEAD
 // Links that fail at any call, or end behind any byte, and what the dial holds then.
 use super::links::{REPLIES, REPLIES_TEXT, dial, over};
 use super::{HELLO, ran_over};
 use sftp_link::{MemoryDial, Piece, Scripted, ScriptedLink};
 use sftp_values::ByteText;
 use std::alloc::Global;
+=======
+// Links that fail at any call, or end behind any byte.
+use super::HELLO;
+use super::links::{Item, REPLIES, REPLIES_TEXT, over};
+use std::alloc::{AllocError, Global};
+>>>>>>> 31e5bee23735ae30bf7d398971d4108a14dc377f
 use std::test::Fail;
 
 const FAULT: &str = "error LinkFault\n";
@@ -12,6 +19,7 @@ const ENDED: &str = "error LinkEnded\n";
 
 /// How many runs there are before the first whose link doesn't fail, where the link fails at call 0, 1 and so on; None where
 /// one of them isn't `error LinkFault`, or the last isn't whole.
+<<<<<<< HEAD
 fn failed_runs(alloc: Global, cut: u32) -> Result<Option<u32>, Fail> {
     for k in 0..200u32 {
         let (status, text) = over(alloc, HELLO, REPLIES, &[k], cut)?;
@@ -23,6 +31,14 @@ fn failed_runs(alloc: Global, cut: u32) -> Result<Option<u32>, Fail> {
             });
         }
         if text.as_str() != FAULT {
+=======
+fn failed_runs(alloc: Global, cut: u32) -> Result<Option<u32>, AllocError> {
+    for k in 0..200u32 {
+        if over(alloc, HELLO, REPLIES, &[k], cut, 0, REPLIES_TEXT)? {
+            return Ok(Some(k));
+        }
+        if !over(alloc, HELLO, REPLIES, &[k], cut, 1, FAULT)? {
+>>>>>>> 31e5bee23735ae30bf7d398971d4108a14dc377f
             return Ok(None);
         }
     }
@@ -37,6 +53,7 @@ fn each_call_fails(rt: HostRuntime) -> Result<(), Fail> {
     Ok(())
 }
 
+<<<<<<< HEAD
 /// The bytes that the server says in a whole run.
 fn said(alloc: Global) -> Result<Vec<u8>, Fail> {
     let mut dial = dial(alloc, REPLIES, &[], 0)?;
@@ -97,5 +114,31 @@ fn a_sink_fails(rt: HostRuntime) -> Result<(), Fail> {
     let mut dial = dial(rt.alloc(), REPLIES, &[], 0)?;
     let (status, text) = ran_over(rt.alloc(), &["unix", "p"], HELLO, &[], &[0], &mut dial)?;
     assert!(rt; status == 4 && text.is_empty());
+=======
+/// Whether a link is told as ended that ends behind these replies and any number of bytes of a frame but all.
+fn all_end(alloc: Global, replies: &[Item], frame: &'static [u8]) -> Result<bool, AllocError> {
+    for n in 0..frame.len() {
+        let mut items = Vec::from_slice(alloc, replies)?;
+        items.push(Item::Raw(&frame[..n]))?;
+        if !over(alloc, HELLO, &items, &[], 0, 1, ENDED)? {
+            return Ok(false);
+        }
+    }
+    Ok(true)
+}
+
+/// Where each frame ends too early: no id of these is looked at, since none of them comes whole.
+#[test]
+fn each_end(rt: HostRuntime) -> Result<(), Fail> {
+    let version = b"\x00\x00\x00\x05\x02\x00\x00\x00\x03";
+    let handle = b"\x00\x00\x00\x0a\x66\x00\x00\x00\x00\x00\x00\x00\x01a";
+    let content = b"\x00\x00\x00\x0e\x67\x00\x00\x00\x00\x00\x00\x00\x05hello";
+    let status =
+        b"\x00\x00\x00\x11\x65\x00\x00\x00\x00\x00\x00\x00\x00\x00\x00\x00\x00\x00\x00\x00\x00";
+    assert!(rt; all_end(rt.alloc(), &[], version)?);
+    assert!(rt; all_end(rt.alloc(), &REPLIES[..1], handle)?);
+    assert!(rt; all_end(rt.alloc(), &REPLIES[..2], content)?);
+    assert!(rt; all_end(rt.alloc(), &REPLIES[..3], status)?);
+>>>>>>> 31e5bee23735ae30bf7d398971d4108a14dc377f
     Ok(())
 }
