@@ -6,11 +6,7 @@ use Rattle.sftp_history.specs.declared.reason.Reason.{Reason}
 use Rattle.sftp_history.specs.declared.reason.Reason.TheVariants as reason
 use Rattle.sftp_history.specs.declared.script.Script.{Script}
 use Rattle.sftp_history.specs.Lines.{lines_of}
-<<<<<<< HEAD
 use Rattle.sftp_history.specs.Scripts.{script_of, MAX_SCRIPT_LEN, read_lines, empty_script}
-=======
-use Rattle.sftp_history.specs.Scripts.{script_of, script_limit, read_lines, empty_script}
->>>>>>> 31e5bee23735ae30bf7d398971d4108a14dc377f
 use Rattle.sftp_link.specs.Told.{Told, Same, Went, ReadUpTo}
 use Rattle.sftp_cli.specs.declared.failure.Failure.{Failure}
 use Rattle.sftp_cli.specs.declared.failure.Failure.TheVariants.{SourceFailed, SinkFailed, OutOfMemory, DialFailed}

@@ -10,44 +10,12 @@ use crate::refusal::reason_word;
 use crate::run;
 use sftp_history::Reason;
 use sftp_link::{MemoryDial, MemorySink, MemorySource};
-<<<<<<< HEAD
-use std::alloc::Global;
-=======
 use std::alloc::{AllocError, Global};
->>>>>>> 31e5bee23735ae30bf7d398971d4108a14dc377f
 use std::test::Fail;
 
 /// A file is opened, read and closed.
 const HELLO: &str = "file 61 68656c6c6f\nlane\nopen 0 r 61\nread 0 5\nclose 0\n";
 
-<<<<<<< HEAD
-/// The status for words and a script over a dial, and what was written, where the reads and the writes with these numbers
-/// fail.
-fn ran_over(
-    alloc: Global,
-    words: &[&str],
-    script: &str,
-    reads: &[u32],
-    writes: &[u32],
-    dial: &mut MemoryDial,
-) -> Result<(u8, String), Fail>
-    requires { dial.old.faults < 2 ^ 64 - 1 }
-{
-    let mut owned = Vec::new(alloc);
-    for word in words {
-        owned.push(String::from_str(alloc, *word)?)?;
-    }
-    let mut source = MemorySource::new(
-        Vec::from_slice(alloc, script.as_bytes())?,
-        Vec::from_slice(alloc, reads)?,
-    );
-    let mut sink = MemorySink::new(alloc, Vec::from_slice(alloc, writes)?);
-    let status = run(alloc, &owned, &mut source, &mut sink, dial);
-    Ok((
-        status,
-        String::from_utf8(Vec::from_slice(alloc, sink.bytes())?)?,
-    ))
-=======
 /// Words, a script, the numbers of the reads and the writes that fail, and the status and the text that are wanted.
 #[derive(Clone, Copy)]
 struct Run<'a> {
@@ -73,7 +41,6 @@ fn ends_so(alloc: Global, wanted: &Run, dial: &mut MemoryDial) -> Result<bool, A
     let mut sink = MemorySink::new(alloc, Vec::from_slice(alloc, wanted.writes)?);
     let status = run(alloc, &words, &mut source, &mut sink, dial);
     Ok(status == wanted.status && sink.bytes() == wanted.text.as_bytes())
->>>>>>> 31e5bee23735ae30bf7d398971d4108a14dc377f
 }
 
 /// Words, a script, the numbers of the reads and the writes that fail, and the status.
@@ -100,11 +67,6 @@ const FAILING: &[Row] = &[
 fn failing(rt: HostRuntime) -> Result<(), Fail> {
     for (words, script, reads, writes, status) in FAILING {
         let mut dial = MemoryDial::new(None);
-<<<<<<< HEAD
-        let (got, text) = ran_over(rt.alloc(), *words, *script, *reads, *writes, &mut dial)?;
-        assert_eq!(rt; got, *status);
-        assert!(rt; text.is_empty());
-=======
         let wanted = Run {
             words: *words,
             script: *script,
@@ -114,7 +76,6 @@ fn failing(rt: HostRuntime) -> Result<(), Fail> {
             text: "",
         };
         assert!(rt; ends_so(rt.alloc(), &wanted, &mut dial)?);
->>>>>>> 31e5bee23735ae30bf7d398971d4108a14dc377f
     }
     Ok(())
 }

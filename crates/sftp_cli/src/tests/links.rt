@@ -2,11 +2,7 @@
 // draft-ietf-secsh-filexfer-02, sections 3 to 7.
 ghost use Rattle.std.specs.Prelude.{◌≡◌, IfOk};
 
-<<<<<<< HEAD
-use super::ran_over;
-=======
 use super::{Run, ends_so};
->>>>>>> 31e5bee23735ae30bf7d398971d4108a14dc377f
 use sftp_link::{MemoryDial, Scripted, ScriptedLink};
 use sftp_values::ByteText;
 use std::alloc::{AllocError, Global};
@@ -56,16 +52,7 @@ lane 0 call 2 done
 ";
 
 /// A dial whose link says these items, fails at the calls with these numbers, and moves at most so many bytes a call.
-<<<<<<< HEAD
-pub(super) fn dial(
-    alloc: Global,
-    items: &[Item],
-    fails: &[u32],
-    cut: u32,
-) -> Result<MemoryDial, Fail>
-=======
 fn dial(alloc: Global, items: &[Item], fails: &[u32], cut: u32) -> Result<MemoryDial, AllocError>
->>>>>>> 31e5bee23735ae30bf7d398971d4108a14dc377f
     ensures { IfOk result (λ d. d.faults ≡ 0) }
 {
     let mut said = Vec::new(alloc);
@@ -84,11 +71,7 @@ fn dial(alloc: Global, items: &[Item], fails: &[u32], cut: u32) -> Result<Memory
     Ok(MemoryDial::new(Some(ScriptedLink::new(alloc, said, fails, cut))))
 }
 
-<<<<<<< HEAD
-/// The status and the text of a script over such a link.
-=======
 /// Whether a script over such a link ends with this status and writes this text.
->>>>>>> 31e5bee23735ae30bf7d398971d4108a14dc377f
 pub(super) fn over(
     alloc: Global,
     script: &str,
@@ -123,13 +106,7 @@ pub(super) type Row = (
 /// Each row's script has its status and text.
 pub(super) fn check_rows(rt: &impl Abort, alloc: Global, rows: &[Row]) -> Result<(), Fail> {
     for (script, items, fails, cut, status, text) in rows {
-<<<<<<< HEAD
-        let (got, written) = over(alloc, *script, *items, *fails, *cut)?;
-        assert_eq!(rt; written.as_str(), *text);
-        assert_eq!(rt; got, *status);
-=======
         assert!(rt; over(alloc, *script, *items, *fails, *cut, *status, *text)?);
->>>>>>> 31e5bee23735ae30bf7d398971d4108a14dc377f
     }
     Ok(())
 }
