@@ -1,7 +1,8 @@
 -- Worked examples of what a core makes of replies and tickets, and beside each what nearly is one.
-use Rattle.std.specs.Prelude.{◌≡◌, refl, true, false, ℕ, [], ◌∷◌, None, Some, Ok, Err}
+use Rattle.std.specs.Prelude.{◌≡◌, refl, true, false, ℕ, [], ◌∷◌, ◌++◌, codes, None, Some, Ok, Err}
 use Rattle.sftp_model.specs.Frames.{request_body}
-use Rattle.ssh_encoding.specs.Writing.{uint32, string}
+use Rattle.sftp_model.specs.Hex.{hex}
+use Rattle.ssh_encoding.specs.Writing.{uint32, uint64, string}
 use Rattle.sftp_model.specs.declared.answers.Expected.TheVariants as expected
 use Rattle.sftp_model.specs.declared.error.Fault.TheVariants as fault
 use Rattle.sftp_model.specs.declared.flags.Extensions.{Extensions}
@@ -13,7 +14,7 @@ use Rattle.sftp_core.specs.declared.tokens.Polled.TheVariants as polled
 use Rattle.sftp_core.specs.Options.{default_options}
 use Rattle.sftp_core.specs.Info.{lengths_of, offers_limits}
 use Rattle.sftp_core.specs.Frames.{frames_of}
-use Rattle.sftp_core.specs.Core.{fresh, poll_gives, release_gives, refusal_of, is_ticket}
+use Rattle.sftp_core.specs.Core.{fresh, handed_out, queued_parts, poll_gives, release_gives, refusal_of, is_ticket}
 use Rattle.sftp_core.specs.Take.{wrong_version, wrong_at, wrong_limits, or_else, fault_of}
 
 abbrev with_bits : ℕ → Extensions
@@ -23,6 +24,11 @@ with_bits bits = record { 0 = bits }
 pub hello_first : frames_of (fresh default_options).queue ≡ 0 ∷ 0 ∷ 0 ∷ 5 ∷ 1 ∷ 0 ∷ 0 ∷ 0 ∷ 3 ∷ []
 unfolding request_body uint32 string
 hello_first = refl
+
+-- the head of a WRITE is a piece, and so is each part that isn't empty
+pub write_pieces : (queued_parts (handed_out (fresh default_options)) 5 (97 ∷ []) 0 ((1 ∷ []) ∷ [] ∷ (2 ∷ 3 ∷ []) ∷ [])).pieces ≡ hex (codes "0000001906000000050000000161" ++ codes "000000000000000000000003") ∷ (1 ∷ []) ∷ (2 ∷ 3 ∷ []) ∷ []
+unfolding request_body uint32 uint64 string
+write_pieces = refl
 
 -- version 3 alone, and nothing but VERSION
 pub version_three : wrong_version (reply.Version 3 (with_bits 0)) ≡ None

@@ -2,5 +2,6 @@
 mod calls;
 mod frames;
 mod hostile;
+mod ids;
 mod seats;
 mod sizes;

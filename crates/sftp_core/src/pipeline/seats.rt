@@ -19,6 +19,11 @@ impl Core {
         }
     }
 
+    /// Whether something is kept under an id.
+    pub(crate) fn is_used(&self, id: u32) -> bool {
+        self.table.get(id).is_some()
+    }
+
     /// The grant with an id.
     pub(crate) fn grant_of(&self, id: u32) -> Option<Grant>
         ensures { IfSome result (λ grant. IsGrant self.now grant) }
