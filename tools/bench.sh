@@ -1,6 +1,6 @@
 #!/bin/sh
-# Measures how the time and the memory of a run grow with the requests in flight, and how long many small files take over
-# OpenSSH's server beside `sftp -b`. It prints tables, is no part of the gate, and takes half an hour or more.
+# Measures how the time and the memory of the core alone, and of a run, grow with the requests in flight, and how long many small
+# files take over OpenSSH's server beside `sftp -b`. It prints tables, is no part of the gate, and takes half an hour or more.
 #
 #     tools/bench.sh [FIRST] [LAST]     requests in flight, doubled from FIRST to LAST: from 5000 to 40000
 #
@@ -16,10 +16,11 @@ if ! command -v python3 >/dev/null; then
 fi
 # each lane holds a handle of the server
 ulimit -n "$(ulimit -H -n)" 2>/dev/null
-exec python3 - "$PWD/crates/sftp_cli/out/sftp_cli" "${1:-5000}" "${2:-40000}" <<'END'
+exec python3 - "$PWD/crates" "${1:-5000}" "${2:-40000}" <<'END'
 import os, queue, resource, shutil, socket, subprocess, sys, tempfile, threading, time
 
-PROGRAM, FIRST, LAST = sys.argv[1], int(sys.argv[2]), int(sys.argv[3])
+CRATES, FIRST, LAST = sys.argv[1], int(sys.argv[2]), int(sys.argv[3])
+PROGRAM, LOAD = CRATES + "/sftp_cli/out/sftp_cli", CRATES + "/core_load/out/core_load"
 SERVER = "/usr/lib/openssh/sftp-server"
 LIMIT = float(os.environ.get("BENCH_LIMIT", "1200"))
 DELAY = 0.010
@@ -118,8 +119,13 @@ def row(words, result, before):
     return result
 
 
-if not os.access(PROGRAM, os.X_OK):
-    sys.exit(f"bench: {PROGRAM} is missing: run 'rt ci' first, or 'rt run' in crates/sftp_cli")
+for program in (LOAD, PROGRAM):
+    if not os.access(program, os.X_OK):
+        sys.exit(f"bench: {program} is missing: run 'rt ci' first")
+print("the core alone")
+before = None
+for n in SIZES:
+    before = row(f"{n} requests", measure([LOAD, str(n)], ""), before)
 print("over the server in memory")
 before = None
 for n in SIZES:
