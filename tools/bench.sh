@@ -65,6 +65,12 @@ def measure(command, text):
     return (seconds, usage.ru_maxrss / 1024) if status == 0 else None
 
 
+def best(command, text):
+    """The quickest of nine runs, since a short one varies."""
+    runs = [measure(command, text) for _ in range(9)]
+    return min(runs) if all(runs) else None
+
+
 def later(read, write, close):
     """Passes bytes on, each DELAY after it came."""
     waiting = queue.Queue()
@@ -125,7 +131,7 @@ for program in (LOAD, PROGRAM):
 print("the core alone")
 before = None
 for n in SIZES:
-    before = row(f"{n} requests", measure([LOAD, str(n)], ""), before)
+    before = row(f"{n} requests", best([LOAD, str(n)], ""), before)
 print("over the server in memory")
 before = None
 for n in SIZES:
