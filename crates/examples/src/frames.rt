@@ -1,6 +1,7 @@
 // A request goes through bytes, as a client writes it and a server reads it.
-ghost use Rattle.std.specs.Prelude.{◌≡◌, IfOk};
+ghost use Rattle.std.specs.Prelude.{◌≡◌, IfOk, IsOkUnless};
 ghost use Rattle.sftp_model.specs.Fits.{FitsRequest};
+ghost use Rattle.sftp_model.specs.declared.frame_error.FrameError.TheVariants as errors;
 
 use sftp_model::{FrameError, Request};
 use sftp_wire::{Message, frames_read_back, read_request, write_body};
@@ -9,7 +10,8 @@ use std::alloc::Global;
 /// The request that a server reads where a client wrote this one, without the length of its frame.
 pub fn through_bytes(alloc: Global, request: &Request, id: u32) -> Result<Request, FrameError>
     requires { FitsRequest request.now }
-    ensures { IfOk result (λ read. read ≡ request.now) }
+    ensures ok { IfOk result (λ read. read ≡ request.now) }
+    ensures only { IsOkUnless result errors.OutOfMemory }
 {
     frames_read_back();
     let mut body = Vec::new(alloc);
