@@ -1,4 +1,4 @@
-ghost use Rattle.std.specs.Prelude.{◌≡◌, List};
+ghost use Rattle.std.specs.Prelude.{◌≡◌, ◌<◌, List, Some, length, slice_get, slice_set};
 ghost use Rattle.std.proofs.Common.{rules};
 ghost use Rattle.std.specs.Cmp.Lexicographic.{pointwise};
 ghost use Rattle.std.specs.Cmp.Rules.{comparing};
@@ -32,11 +32,30 @@ impl<T> Items<T> {
         self.items.as_slice()
     }
 
+    /// Puts a value in the place of the one at `index`, and gives that back.
+    pub fn replace(&mut self, index: usize, item: T) -> T
+        requires { index < length self.old }
+        ensures answer { slice_get self.old index ≡ Some result }
+        ensures after { self.new ≡ slice_set self.old index item }
+    {
+        std::mem::replace(&mut self.items[index], item)
+    }
+
     /// The vector, given back without taking memory.
     pub fn into_vec(self) -> Vec<T>
         ensures { result.items ≡ self }
     {
         self.items
+    }
+}
+
+impl<T: Drop> Items<T> {
+    /// Puts a value in the place of the one at `index`, which is let go.
+    pub fn set(&mut self, index: usize, item: T)
+        requires { index < length self.old }
+        ensures { self.new ≡ slice_set self.old index item }
+    {
+        self.items[index] = item;
     }
 }
 
