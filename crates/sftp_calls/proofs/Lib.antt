@@ -11,7 +11,6 @@ pub mod FitLaws
 pub mod CountLaws
 pub mod BufferCounts
 pub mod CallCounts
-pub mod SameLaws
 pub mod Among
 pub mod Spans
 pub mod SpanLaws

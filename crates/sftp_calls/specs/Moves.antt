@@ -1,7 +1,7 @@
 -- What the plans of all calls share. What a call does next is a function of what its lane held at the call's
 -- start, of the call's own requests so far and of the replies taken so far, and of nothing else. A place is the
 -- number of a request among all that were submitted.
-use Rattle.std.specs.Prelude.{ℕ, ◌+◌, ◌==◌, ◌^◌, Bool, not, List, [], ◌∷◌, length, map, Option, Some, None, nat_lt, nat_le, if◌then◌else◌}
+use Rattle.std.specs.Prelude.{ℕ, ◌+◌, ◌==◌, ◌^◌, Bool, not, List, [], ◌∷◌, length, Option, Some, None, nat_lt, nat_le, if◌then◌else◌}
 use Rattle.sftp_model.specs.declared.request.Request.{Request}
 use Rattle.sftp_model.specs.declared.request.Request.TheVariants as request
 use Rattle.sftp_model.specs.declared.reply.Reply.{Reply}
@@ -30,10 +30,6 @@ Answers = ℕ → Option Reply
 -- a call's own requests so far, the oldest first: the place of each, and what was asked there
 abbrev pub Own : Type 0
 Own = List (ℕ × Request)
-
--- the places alone
-abbrev pub places : Own → List ℕ
-places own = map (λ asked. asked.0) own
 
 -- what a call does next, by its own requests and the replies
 abbrev pub Plan : Type 0

@@ -4,16 +4,12 @@
 // session's read length.
 ghost use Rattle.std.specs.Prelude.{◌≡◌, ◌<◌, ◌^◌, ℕ, List, None, length};
 ghost use Rattle.sftp_model.specs.Fits.{FitsRequest, AsksWithinReply};
-ghost use Rattle.sftp_model.specs.Plans as by_places;
-ghost use Rattle.sftp_model.specs.declared.flags.OpenFlags.{OpenFlags};
 ghost use Rattle.sftp_model.specs.declared.outcome.Outcome.{Outcome};
 ghost use Rattle.sftp_model.specs.declared.request.Request.{Request};
 ghost use Rattle.sftp_model.specs.declared.slot.Facts.{Facts};
 ghost use Rattle.sftp_model.specs.declared.slot.Move.TheVariants.{Ask, Wait, Done};
 ghost use Rattle.sftp_model.specs.declared.slot.Site.{Site};
-ghost use Rattle.sftp_calls.specs.Moves.{Answers, Own, places};
-ghost use Rattle.sftp_calls.specs.FilePlans.{open_next, close_next};
-ghost use Rattle.sftp_calls.specs.TransferPlans.{read_next};
+ghost use Rattle.sftp_calls.specs.Moves.{Answers, Own};
 ghost use Rattle.sftp_calls.specs.WindowPlans.{fs_read_next};
 ghost use Rattle.sftp_calls.specs.CallPlans.{Call, next, cancelled};
 ghost use Rattle.sftp_calls.specs.GoodMoves.{IsGood, IsGoodAsk, HoldsWithin, HoldsNoMore, FitsCall, FitsFacts, HandlesFit, ReadsWithin, WithinRange, situation};
@@ -96,15 +92,4 @@ pub fn unbounded_reads_keep_within_range()
         → AreAsked (fs_read_next path None site facts) past answers → MayBeAnswered past answers
         → length past < 2 ^ 43
         → ReadsWithin facts (fs_read_next path None site facts (oldest_first past) answers) }
-{}
-
-/// The plans of `open`, `read` and `close` are those over the places of their requests alone.
-pub fn plans_by_places_agree()
-    ensures of_open { (slot : ℕ) (flags : OpenFlags) (path : List ℕ) (site : Site) (facts : Facts) (own : Own)
-        (answers : Answers) → by_places.open_next slot flags path site facts (places own) answers
-        ≡ open_next slot flags path site facts own answers }
-    ensures of_read { (slot n : ℕ) (site : Site) (facts : Facts) (own : Own) (answers : Answers)
-        → by_places.read_next slot n site facts (places own) answers ≡ read_next slot n site facts own answers }
-    ensures of_close { (slot : ℕ) (site : Site) (facts : Facts) (own : Own) (answers : Answers)
-        → by_places.close_next slot site facts (places own) answers ≡ close_next slot site facts own answers }
 {}

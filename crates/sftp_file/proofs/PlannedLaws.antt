@@ -8,9 +8,12 @@ use Rattle.sftp_model.specs.declared.flags.OpenFlags.{OpenFlags}
 use Rattle.sftp_model.specs.declared.outcome.Outcome.TheVariants as outcome
 use Rattle.sftp_model.specs.declared.reply.Reply.{Reply}
 use Rattle.sftp_model.specs.declared.reply.Reply.TheVariants as reply
+use Rattle.sftp_model.specs.declared.request.Request.{Request}
 use Rattle.sftp_model.specs.declared.slot.Facts.{Facts}
 use Rattle.sftp_model.specs.declared.slot.Move.TheVariants.{Done}
-use Rattle.sftp_model.specs.Plans.{Answers, once_answered, opened, open_next, was_read, read_next, done_by, close_next}
+use Rattle.sftp_calls.specs.Moves.{Answers, once_answered, done_by}
+use Rattle.sftp_calls.specs.FilePlans.{opened, open_next, close_next}
+use Rattle.sftp_calls.specs.TransferPlans.{was_read, read_next}
 use Rattle.sftp_model.specs.Readings.{has_bit}
 use Rattle.sftp_model.specs.declared.slot.FileAt.{FileAt}
 use Rattle.sftp_model.specs.declared.slot.Slot.{Slot}
@@ -57,20 +60,20 @@ read_by kept slot place asked site f (Some (reply.Names names)) same = other_end
 read_by kept slot place asked site f (Some (reply.Attrs attrs)) same = other_ends slot place site f same
 read_by kept slot place asked site f (Some (reply.Extended content)) same = other_ends slot place site f same
 
-planned_read_at : (core : Core) (ticket slot place asked n : ℕ) (site : Site) (facts : Facts) (answers : Answers) (f : FileValue)
-    → slot_at site slot ≡ slots.File (file_at place f) → answers asked ≡ reply_in (at core ticket)
-    → Planned core.fault asked (read_ended slot place site (file_behind f (reply_in (at core ticket)))) (answered read_answer (reply_in (at core ticket)) core.fault)
+planned_read_at : (core : Core) (ticket slot place n : ℕ) (asked : ℕ × Request) (site : Site) (facts : Facts) (answers : Answers) (f : FileValue)
+    → slot_at site slot ≡ slots.File (file_at place f) → answers asked.0 ≡ reply_in (at core ticket)
+    → Planned core.fault asked.0 (read_ended slot place site (file_behind f (reply_in (at core ticket)))) (answered read_answer (reply_in (at core ticket)) core.fault)
     (read_next slot n site facts (asked ∷ []) answers)
-planned_read_at core ticket slot place asked n site facts answers f held is =
-    rw (held, is) (read_by core.fault slot place asked site f (reply_in (at core ticket)) (same_site site slot (slots.File (file_at place f)) held))
+planned_read_at core ticket slot place n asked site facts answers f held is =
+    rw (held, is) (read_by core.fault slot place asked.0 site f (reply_in (at core ticket)) (same_site site slot (slots.File (file_at place f)) held))
 
 pub planned_read : (core : Core) (stage : Stage) (f after : FileValue) (result : Poll (Result (Option (List ℕ)) Error))
     → result ≡ polled_answer None read_answer core stage → after ≡ polled_file core stage f
-    → (slot place asked n ticket : ℕ) (site : Site) (facts : Facts) (answers : Answers)
-    → slot_at site slot ≡ slots.File (file_at place f) → stage ≡ Asked ticket → answers asked ≡ reply_in (at core ticket)
-    → Planned core.fault asked (read_ended slot place site after) result (read_next slot n site facts (asked ∷ []) answers)
-planned_read core stage f after result answer file slot place asked n ticket site facts answers held awaits is =
-    rw (answer, file, awaits) (planned_read_at core ticket slot place asked n site facts answers f held is)
+    → (slot place n ticket : ℕ) (asked : ℕ × Request) (site : Site) (facts : Facts) (answers : Answers)
+    → slot_at site slot ≡ slots.File (file_at place f) → stage ≡ Asked ticket → answers asked.0 ≡ reply_in (at core ticket)
+    → Planned core.fault asked.0 (read_ended slot place site after) result (read_next slot n site facts (asked ∷ []) answers)
+planned_read core stage f after result answer file slot place n ticket asked site facts answers held awaits is =
+    rw (answer, file, awaits) (planned_read_at core ticket slot place n asked site facts answers f held is)
 
 -- ---- open
 
@@ -87,12 +90,12 @@ open_by kept slot ticket asked flags site o (Some (reply.Names names)) reads wri
 open_by kept slot ticket asked flags site o (Some (reply.Attrs attrs)) reads writes = refl
 open_by kept slot ticket asked flags site o (Some (reply.Extended content)) reads writes = refl
 
-pub planned_open : (core : Core) (ticket slot asked : ℕ) (flags : OpenFlags) (path : List ℕ) (site : Site) (facts : Facts) (answers : Answers) (o : Opening)
-    → o.readable ≡ has_bit flags.0 1 → o.writable ≡ has_bit flags.0 2 → answers asked ≡ reply_in (at core ticket)
-    → Planned core.fault asked (open_ended slot asked site) (answered (open_answer o ticket) (reply_in (at core ticket)) core.fault)
+pub planned_open : (core : Core) (ticket slot : ℕ) (asked : ℕ × Request) (flags : OpenFlags) (path : List ℕ) (site : Site) (facts : Facts) (answers : Answers) (o : Opening)
+    → o.readable ≡ has_bit flags.0 1 → o.writable ≡ has_bit flags.0 2 → answers asked.0 ≡ reply_in (at core ticket)
+    → Planned core.fault asked.0 (open_ended slot asked.0 site) (answered (open_answer o ticket) (reply_in (at core ticket)) core.fault)
     (open_next slot flags path site facts (asked ∷ []) answers)
 planned_open core ticket slot asked flags path site facts answers o reads writes is =
-    rw is (open_by core.fault slot ticket asked flags site o (reply_in (at core ticket)) reads writes)
+    rw is (open_by core.fault slot ticket asked.0 flags site o (reply_in (at core ticket)) reads writes)
 
 -- ---- close
 
@@ -114,14 +117,14 @@ close_by kept slot asked site (Some (reply.Names names)) = refl
 close_by kept slot asked site (Some (reply.Attrs attrs)) = refl
 close_by kept slot asked site (Some (reply.Extended content)) = refl
 
-planned_close_at : (core : Core) (ticket slot asked : ℕ) (held : FileAt) (site : Site) (facts : Facts) (answers : Answers)
-    → slot_at site slot ≡ slots.File held → answers asked ≡ reply_in (at core ticket)
-    → Planned core.fault asked (close_ended slot site) (answered close_answer (reply_in (at core ticket)) core.fault) (close_next slot site facts (asked ∷ []) answers)
-planned_close_at core ticket slot asked held site facts answers e is = rw (e, is) (close_by core.fault slot asked site (reply_in (at core ticket)))
+planned_close_at : (core : Core) (ticket slot : ℕ) (asked : ℕ × Request) (held : FileAt) (site : Site) (facts : Facts) (answers : Answers)
+    → slot_at site slot ≡ slots.File held → answers asked.0 ≡ reply_in (at core ticket)
+    → Planned core.fault asked.0 (close_ended slot site) (answered close_answer (reply_in (at core ticket)) core.fault) (close_next slot site facts (asked ∷ []) answers)
+planned_close_at core ticket slot asked held site facts answers e is = rw (e, is) (close_by core.fault slot asked.0 site (reply_in (at core ticket)))
 
 pub planned_close : (core : Core) (stage : Stage) (result : Poll (Result (Unit {0}) Error)) → result ≡ polled_answer tt close_answer core stage
-    → (slot asked ticket : ℕ) (held : FileAt) (site : Site) (facts : Facts) (answers : Answers)
-    → slot_at site slot ≡ slots.File held → stage ≡ Asked ticket → answers asked ≡ reply_in (at core ticket)
-    → Planned core.fault asked (close_ended slot site) result (close_next slot site facts (asked ∷ []) answers)
-planned_close core stage result answer slot asked ticket held site facts answers e awaits is =
+    → (slot ticket : ℕ) (asked : ℕ × Request) (held : FileAt) (site : Site) (facts : Facts) (answers : Answers)
+    → slot_at site slot ≡ slots.File held → stage ≡ Asked ticket → answers asked.0 ≡ reply_in (at core ticket)
+    → Planned core.fault asked.0 (close_ended slot site) result (close_next slot site facts (asked ∷ []) answers)
+planned_close core stage result answer slot ticket asked held site facts answers e awaits is =
     rw (answer, awaits) (planned_close_at core ticket slot asked held site facts answers e is)

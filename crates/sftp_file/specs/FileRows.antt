@@ -6,10 +6,14 @@ use Rattle.sftp_model.specs.declared.flags.OpenFlags.{OpenFlags}
 use Rattle.sftp_model.specs.declared.outcome.Outcome.TheVariants as outcome
 use Rattle.sftp_model.specs.declared.reply.Reply.{Reply}
 use Rattle.sftp_model.specs.declared.reply.Reply.TheVariants as reply
+use Rattle.sftp_model.specs.declared.request.Request.{Request}
+use Rattle.sftp_model.specs.declared.request.Request.TheVariants as request
 use Rattle.sftp_model.specs.declared.slot.Facts.{Facts}
 use Rattle.sftp_model.specs.declared.slot.Site.{Site}
 use Rattle.sftp_model.specs.declared.slot.Slot.TheVariants as slots
-use Rattle.sftp_model.specs.Plans.{Answers, read_next, close_next}
+use Rattle.sftp_calls.specs.Moves.{Answers}
+use Rattle.sftp_calls.specs.FilePlans.{close_next}
+use Rattle.sftp_calls.specs.TransferPlans.{read_next}
 use Rattle.sftp_model.specs.Slots.{fresh_site, with_slot}
 use Rattle.sftp_core.specs.Core.{Core}
 use Rattle.sftp_file.specs.declared.poll.Poll.TheVariants as poll
@@ -109,6 +113,9 @@ replies taken place = slice_get taken place
 abbrev facts : Facts
 facts = record { extensions = record { 0 = 0 }; read_len = 32768; write_len = 32768; write_limit = 655360; read_window = 1 }
 
+abbrev asked : ℕ × Request
+asked = (1, request.Read (codes "h") 0 8)
+
 abbrev with_file : FileValue → Site
 with_file f = with_slot fresh_site 0 (slots.File (file_at 0 f))
 
@@ -116,19 +123,19 @@ abbrev after : List Reply → Answers
 after taken = replies (reply.Handle (codes "h") ∷ taken)
 
 pub read_planned : Planned None 1 (read_ended 0 0 (with_file file) (further file 2)) (answered read_answer (Some data_of_two) None)
-    (read_next 0 8 (with_file file) facts (1 ∷ []) (after (data_of_two ∷ [])))
+    (read_next 0 8 (with_file file) facts (asked ∷ []) (after (data_of_two ∷ [])))
 read_planned = refl
 
-pub read_waits : Planned None 1 (read_ended 0 0 (with_file file) file) poll.Pending (read_next 0 8 (with_file file) facts (1 ∷ []) (after []))
+pub read_waits : Planned None 1 (read_ended 0 0 (with_file file) file) poll.Pending (read_next 0 8 (with_file file) facts (asked ∷ []) (after []))
 read_waits = (refl, refl)
 
 -- a kept fault ends the call, and the plan's reply is awaited on
 pub read_fails : Planned (Some fault.Link) 1 (read_ended 0 0 (with_file file) file) (answered read_answer None (Some fault.Link))
-    (read_next 0 8 (with_file file) facts (1 ∷ []) (after []))
+    (read_next 0 8 (with_file file) facts (asked ∷ []) (after []))
 read_fails = (refl, refl)
 
 pub close_planned : Planned None 1 (close_ended 0 (with_file file)) (answered close_answer (Some (status 4)) None)
-    (close_next 0 (with_file file) facts (1 ∷ []) (after (status 4 ∷ [])))
+    (close_next 0 (with_file file) facts ((1, request.Close (codes "h")) ∷ []) (after (status 4 ∷ [])))
 close_planned = refl
 
 -- for no bytes nothing is asked

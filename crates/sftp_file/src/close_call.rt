@@ -1,11 +1,13 @@
 ghost use Rattle.std.specs.Prelude.{◌≡◌, ℕ, [], ◌∷◌, true};
 ghost use Rattle.sftp_model.specs.declared.answers.Expected.TheVariants as expected;
+ghost use Rattle.sftp_model.specs.declared.request.Request.{Request};
 ghost use Rattle.sftp_model.specs.declared.slot.Facts.{Facts};
 ghost use Rattle.sftp_model.specs.declared.slot.FileAt.{FileAt};
 ghost use Rattle.sftp_model.specs.declared.slot.Site.{Site};
 ghost use Rattle.sftp_model.specs.declared.slot.Slot.TheVariants as slots;
 ghost use Rattle.sftp_model.specs.Answers.{is_status};
-ghost use Rattle.sftp_model.specs.Plans.{Answers, close_next};
+ghost use Rattle.sftp_calls.specs.Moves.{Answers};
+ghost use Rattle.sftp_calls.specs.FilePlans.{close_next};
 ghost use Rattle.sftp_model.specs.Slots.{slot_at};
 ghost use Rattle.sftp_core.specs.Core.{at, reply_in};
 ghost use Rattle.sftp_file.specs.declared.stage.Stage.TheVariants.{Asked};
@@ -51,10 +53,10 @@ impl CloseCall {
         ensures pending { OnPending result ((self.new ≡ self.old) × (core.new ≡ core.old)) }
         ensures held { IsHeld core.new self.new }
         ensures grants { KeepsGrants core.old core.new }
-        ensures planned { (slot asked ticket : ℕ) (held : FileAt) (site : Site) (facts : Facts) (answers : Answers)
+        ensures planned { (slot ticket : ℕ) (asked : ℕ × Request) (held : FileAt) (site : Site) (facts : Facts) (answers : Answers)
             → slot_at site slot ≡ slots.File held → self.old ≡ Asked ticket
-            → answers asked ≡ reply_in (at core.old ticket)
-            → Planned core.old.fault asked (close_ended slot site) result
+            → answers asked.0 ≡ reply_in (at core.old ticket)
+            → Planned core.old.fault asked.0 (close_ended slot site) result
             (close_next slot site facts (asked ∷ []) answers) }
     {
         match self.stage.take() {

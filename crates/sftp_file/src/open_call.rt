@@ -1,10 +1,12 @@
 ghost use Rattle.std.specs.Prelude.{◌≡◌, ℕ, List, [], ◌∷◌, true, IfOk};
 ghost use Rattle.sftp_model.specs.declared.answers.Expected.TheVariants as expected;
 ghost use Rattle.sftp_model.specs.declared.flags.OpenFlags.{OpenFlags};
+ghost use Rattle.sftp_model.specs.declared.request.Request.{Request};
 ghost use Rattle.sftp_model.specs.declared.slot.Facts.{Facts};
 ghost use Rattle.sftp_model.specs.declared.slot.Site.{Site};
 ghost use Rattle.sftp_model.specs.Answers.{is_status};
-ghost use Rattle.sftp_model.specs.Plans.{Answers, open_next};
+ghost use Rattle.sftp_calls.specs.Moves.{Answers};
+ghost use Rattle.sftp_calls.specs.FilePlans.{open_next};
 ghost use Rattle.sftp_model.specs.Readings.{has_bit};
 ghost use Rattle.sftp_core.specs.Core.{at, reply_in};
 ghost use Rattle.sftp_file.specs.declared.stage.Stage.TheVariants.{Asked};
@@ -56,11 +58,11 @@ impl OpenCall {
         ensures held { IsHeld core.new self.new.stage }
         ensures grants { KeepsGrants core.old core.new }
         ensures granted { IfReady result (λ value. IfOk value (λ f. IsFirstUser core.new f.grant)) }
-        ensures planned { (slot asked ticket : ℕ) (flags : OpenFlags) (path : List ℕ) (site : Site) (facts : Facts)
+        ensures planned { (slot ticket : ℕ) (asked : ℕ × Request) (flags : OpenFlags) (path : List ℕ) (site : Site) (facts : Facts)
             (answers : Answers)
             → self.old.readable ≡ has_bit flags.0 1 → self.old.writable ≡ has_bit flags.0 2
-            → self.old.stage ≡ Asked ticket → answers asked ≡ reply_in (at core.old ticket)
-            → Planned core.old.fault asked (open_ended slot asked site) result
+            → self.old.stage ≡ Asked ticket → answers asked.0 ≡ reply_in (at core.old ticket)
+            → Planned core.old.fault asked.0 (open_ended slot asked.0 site) result
             (open_next slot flags path site facts (asked ∷ []) answers) }
     {
         match self.stage.take() {

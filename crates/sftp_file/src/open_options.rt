@@ -4,7 +4,8 @@ ghost use Rattle.sftp_model.specs.declared.answers.Expected.TheVariants as expec
 ghost use Rattle.sftp_model.specs.declared.outcome.Outcome.TheVariants as outcome;
 ghost use Rattle.sftp_model.specs.declared.slot.Facts.{Facts};
 ghost use Rattle.sftp_model.specs.declared.slot.Site.{Site};
-ghost use Rattle.sftp_model.specs.Plans.{Answers, open_request, open_next};
+ghost use Rattle.sftp_calls.specs.Moves.{Answers};
+ghost use Rattle.sftp_calls.specs.FilePlans.{open_request, open_next};
 ghost use Rattle.sftp_core.specs.Core.{is_long};
 ghost use Rattle.sftp_model.specs.Readings.{has_bit};
 ghost use Rattle.sftp_core.specs.Info.{MAX_IDS, info_of};

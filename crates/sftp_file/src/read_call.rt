@@ -1,9 +1,11 @@
 ghost use Rattle.std.specs.Prelude.{◌≡◌, ◌+◌, ◌<◌, ◌^◌, ℕ, [], ◌∷◌, None};
 ghost use Rattle.sftp_model.specs.declared.answers.Expected.TheVariants as expected;
+ghost use Rattle.sftp_model.specs.declared.request.Request.{Request};
 ghost use Rattle.sftp_model.specs.declared.slot.Facts.{Facts};
 ghost use Rattle.sftp_model.specs.declared.slot.Site.{Site};
 ghost use Rattle.sftp_model.specs.declared.slot.Slot.TheVariants as slots;
-ghost use Rattle.sftp_model.specs.Plans.{Answers, read_next};
+ghost use Rattle.sftp_calls.specs.Moves.{Answers};
+ghost use Rattle.sftp_calls.specs.TransferPlans.{read_next};
 ghost use Rattle.sftp_model.specs.Slots.{slot_at};
 ghost use Rattle.sftp_core.specs.Core.{at, reply_in};
 ghost use Rattle.sftp_file.specs.declared.stage.Stage.TheVariants.{Asked};
@@ -67,10 +69,10 @@ impl ReadCall {
         ensures pending { OnPending result ((self.new ≡ self.old) × (core.new ≡ core.old)) }
         ensures held { IsHeld core.new self.new.stage }
         ensures grants { KeepsGrants core.old core.new }
-        ensures planned { (slot place asked n ticket : ℕ) (site : Site) (facts : Facts) (answers : Answers)
+        ensures planned { (slot place n ticket : ℕ) (asked : ℕ × Request) (site : Site) (facts : Facts) (answers : Answers)
             → slot_at site slot ≡ slots.File (file_at place file.old) → self.old.stage ≡ Asked ticket
-            → answers asked ≡ reply_in (at core.old ticket)
-            → Planned core.old.fault asked (read_ended slot place site file.new) result
+            → answers asked.0 ≡ reply_in (at core.old ticket)
+            → Planned core.old.fault asked.0 (read_ended slot place site file.new) result
             (read_next slot n site facts (asked ∷ []) answers) }
     {
         match self.stage.take() {

@@ -6,7 +6,8 @@ use Rattle.sftp_model.specs.Slots.{fresh_site, with_slot}
 use Rattle.sftp_model.specs.declared.slot.Facts.{Facts}
 use Rattle.sftp_model.specs.declared.slot.Move.{Move}
 use Rattle.sftp_model.specs.declared.slot.Move.TheVariants.{Ask, Wait, Done}
-use Rattle.sftp_model.specs.Plans.{Answers, open_next, read_next, close_next, cancelled_open, cancelled_read, cancelled_close, left_by}
+use Rattle.sftp_calls.specs.Moves.{Answers, Own, Plan}
+use Rattle.sftp_calls.specs.CallPlans as plan
 use Rattle.sftp_file.specs.OpenOptions.{flags_of}
 use Rattle.sftp_history.specs.declared.call.Call.{Call}
 use Rattle.sftp_history.specs.declared.call.Call.TheVariants as call
@@ -26,22 +27,24 @@ pub record Setting : Type 0 where
 
 -- ---- plans
 
+-- a call as its plan has it
+abbrev pub planned : Call → plan.Call
+planned (call.OpenFile slot flags path) = plan.OpenFile slot (flags_of flags) path
+planned (call.Read slot n) = plan.Read slot n
+planned (call.Close slot) = plan.Close slot
+
 -- the next move of a call
-abbrev pub next : Call → Site → Facts → List ℕ → Answers → Move
-next (call.OpenFile slot flags path) site facts places answers = open_next slot (flags_of flags) path site facts places answers
-next (call.Read slot n) site facts places answers = read_next slot n site facts places answers
-next (call.Close slot) site facts places answers = close_next slot site facts places answers
+abbrev pub next : Call → Site → Facts → Plan
+next c site facts = plan.next (planned c) site facts
 
 -- what a cancelled call leaves
-abbrev pub cancelled : Call → Site → Facts → List ℕ → Answers → Site
-cancelled (call.OpenFile slot flags path) site facts places answers = cancelled_open slot (flags_of flags) path site facts places answers
-cancelled (call.Read slot n) site facts places answers = cancelled_read slot n site facts places answers
-cancelled (call.Close slot) site facts places answers = cancelled_close slot site facts places answers
+abbrev pub cancelled : Call → Site → Facts → Own → Answers → Site
+cancelled c site facts own answers = plan.cancelled (planned c) site facts own answers
 
 -- what a `close` holds once it has asked: its slot is given up
-abbrev pub given_up : Call → List ℕ → Site → Site
-given_up (call.Close slot) (place ∷ later) site = with_slot site slot Empty
-given_up other places site = site
+abbrev pub given_up : Call → Own → Site → Site
+given_up (call.Close slot) (asked ∷ later) site = with_slot site slot Empty
+given_up other own site = site
 
 -- ---- the calls of a lane
 
@@ -70,11 +73,16 @@ current s past lane = call_at s past lane (ended past lane)
 
 -- ---- what a lane holds
 
+-- what a move leaves of a site
+abbrev pub left_by : Move → Site → Site
+left_by (Done ended after) site = after
+left_by other site = site
+
 -- what the end of a call leaves: behind its Cancel what the cancelled call leaves, else what its plan leaves
-abbrev pub site_left : Option Call → Option ℕ → Site → Facts → List ℕ → Answers → Site
-site_left None cancel site facts places answers = site
-site_left (Some c) None site facts places answers = left_by (next c site facts places answers) site
-site_left (Some c) (Some lane) site facts places answers = cancelled c site facts places answers
+abbrev pub site_left : Option Call → Option ℕ → Site → Facts → Own → Answers → Site
+site_left None cancel site facts own answers = site
+site_left (Some c) None site facts own answers = left_by (next c site facts own answers) site
+site_left (Some c) (Some lane) site facts own answers = cancelled c site facts own answers
 
 -- what a lane holds between its calls: what its last call left, and nothing in its slots once it was let go
 abbrev pub site_of : Setting → List Entry → ℕ → Site
@@ -85,9 +93,9 @@ site_of s (entry.LetGo l ∷ past) lane = if l == lane then record { slots = fre
 site_of s (_ ∷ past) lane = site_of s past lane
 
 -- what a lane holds within a call that may not be there
-abbrev pub held_by : Option Call → List ℕ → Site → Site
-held_by None places site = site
-held_by (Some c) places site = given_up c places site
+abbrev pub held_by : Option Call → Own → Site → Site
+held_by None own site = site
+held_by (Some c) own site = given_up c own site
 
 -- what a lane holds now, within a call too
 abbrev pub held_site : Setting → List Entry → ℕ → Site
@@ -96,9 +104,9 @@ held_site s past lane = held_by (current s past lane) (own past lane (ended past
 -- ---- moves
 
 -- the next move of a call that may not be there
-abbrev pub move_at : Option Call → Site → Facts → List ℕ → Answers → Option Move
-move_at None site facts places answers = None
-move_at (Some c) site facts places answers = Some (next c site facts places answers)
+abbrev pub move_at : Option Call → Site → Facts → Own → Answers → Option Move
+move_at None site facts own answers = None
+move_at (Some c) site facts own answers = Some (next c site facts own answers)
 
 -- the next move of a lane; nothing where it has no call left
 abbrev pub move_of : Setting → List Entry → ℕ → Option Move

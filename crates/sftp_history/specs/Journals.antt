@@ -10,7 +10,7 @@ use Rattle.sftp_model.specs.declared.reply.Reply.{Reply}
 use Rattle.sftp_model.specs.declared.reply.Reply.TheVariants as reply
 use Rattle.sftp_model.specs.Answers.{expected_of, may_answer}
 use Rattle.sftp_model.specs.declared.slot.Move.TheVariants.{Ask, Done}
-use Rattle.sftp_model.specs.Plans.{handle_of}
+use Rattle.sftp_calls.specs.Moves.{Own, handle_of}
 use Rattle.sftp_model.specs.ReplyReadings.{limits_at}
 use Rattle.sftp_history.specs.declared.event.Owner.TheVariants as owner
 use Rattle.sftp_history.specs.declared.event.Event.TheVariants.{Submit, Send, Take, Cancel, End}
@@ -80,15 +80,15 @@ opened s past = is_opened s.limits (answer past 0)
 
 -- ---- cancels
 
--- there is a place
-abbrev pub is_some_place : List ℕ → Bool
-is_some_place [] = false
-is_some_place (place ∷ places) = true
+-- there is a request
+abbrev pub is_some_asked : Own → Bool
+is_some_asked [] = false
+is_some_asked (asked ∷ later) = true
 
 -- The lane's call has submitted a request, or waits for one of an earlier call here, or did so since it became
 -- the lane's call.
 abbrev pub may_cancel : Setting → List Entry → ℕ → Bool
-may_cancel s past lane = is_some_place (own past lane (ended past lane)) || has_waited s past lane
+may_cancel s past lane = is_some_asked (own past lane (ended past lane)) || has_waited s past lane
 
 -- ---- what may come next
 

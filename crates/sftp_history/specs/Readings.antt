@@ -6,6 +6,7 @@ use Rattle.sftp_model.specs.declared.request.Request.{Request}
 use Rattle.sftp_model.specs.declared.outcome.Outcome.{Outcome}
 use Rattle.sftp_model.specs.declared.reply.Reply.{Reply}
 use Rattle.sftp_model.specs.Frames.{request_frame}
+use Rattle.sftp_calls.specs.Moves.{Own}
 use Rattle.sftp_history.specs.declared.event.Owner.{Owner}
 use Rattle.sftp_history.specs.declared.event.Owner.TheVariants as owner
 use Rattle.sftp_history.specs.declared.event.Event.{Event}
@@ -113,10 +114,10 @@ is_by (owner.Call l c) lane call = (l == lane) && (c == call)
 is_by owner.Setup lane call = false
 is_by owner.Close lane call = false
 
--- the places of a call's requests, the oldest first
-abbrev pub own : List Entry → ℕ → ℕ → List ℕ
+-- a call's own requests, the oldest first: the place of each, and what was asked there
+abbrev pub own : List Entry → ℕ → ℕ → Own
 own [] lane call = []
-own (entry.Event (Submit by id r) ∷ past) lane call = if is_by by lane call then own past lane call ++ asked past ∷ [] else own past lane call
+own (entry.Event (Submit by id r) ∷ past) lane call = if is_by by lane call then own past lane call ++ (asked past, r) ∷ [] else own past lane call
 own (_ ∷ past) lane call = own past lane call
 
 -- ---- what stands in a journal

@@ -7,7 +7,7 @@ use Rattle.sftp_model.specs.declared.request.Request.{Request}
 use Rattle.sftp_model.specs.declared.request.Request.TheVariants as request
 use Rattle.sftp_model.specs.declared.reply.Reply.{Reply}
 use Rattle.sftp_model.specs.declared.reply.Reply.TheVariants as reply
-use Rattle.sftp_model.specs.Plans.{open_request}
+use Rattle.sftp_calls.specs.FilePlans.{open_request}
 use Rattle.sftp_history.specs.declared.call.Call.{Call}
 use Rattle.sftp_history.specs.declared.event.Owner.TheVariants as owner
 use Rattle.sftp_history.specs.declared.event.Event.TheVariants.{Submit, Send, Take, Cancel, End}

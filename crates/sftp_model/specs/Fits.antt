@@ -10,7 +10,6 @@ use Rattle.sftp_model.specs.declared.reply.Reply.{Reply}
 use Rattle.sftp_model.specs.declared.reply.Reply.TheVariants as reply
 use Rattle.sftp_model.specs.Numbers.{MAX_BODY_LEN, MAX_HANDLE_LEN, MAX_TRANSFER_LEN}
 use Rattle.sftp_model.specs.Frames.{limits_content, request_body, reply_body, request_id, reply_id}
-use Rattle.sftp_model.specs.Plans.{Answers, handle_of, Move, Ask}
 use Rattle.sftp_model.specs.ReplyReadings.{reply_at, limits_at}
 use Rattle.sftp_model.specs.RequestReadings.{request_at}
 
@@ -100,16 +99,7 @@ RequestReadsBack r id = request_at (request_body r id) ≡ Ok (request_id r id, 
 abbrev pub ReplyReadsBack : Reply → ℕ → Type 0
 ReplyReadsBack r id = reply_at (reply_body r id) ≡ Ok (reply_id r id, r)
 
--- ---- laws of plans and of the file machine
-
--- a request that a move asks fits a frame
-abbrev pub AsksWithinFrame : Move → Type 0
-AsksWithinFrame (Ask r) = FitsRequest r
-AsksWithinFrame other = Unit {0}
-
--- the handles that were granted are within their bound
-abbrev pub GrantsFit : Answers → Type 0
-GrantsFit answers = (place : ℕ) → FitsHandle (handle_of (answers place))
+-- ---- a law of the file machine
 
 -- a READ asks for no more than one DATA can bring
 abbrev pub AsksWithinReply : Request → Type 0

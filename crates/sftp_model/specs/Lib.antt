@@ -10,7 +10,6 @@ pub mod RequestReadings
 pub mod Answers
 pub mod Lengths
 pub mod Slots
-pub mod Plans
 pub mod FileMachine
 pub mod Fits
 pub mod Hex
@@ -19,7 +18,6 @@ pub mod ReplyRows
 pub mod RequestRows
 pub mod AnswerRows
 pub mod MachineRows
-pub mod PlanRows
 pub mod SameFields
 pub mod SameRequest
 pub mod SameErrors

@@ -32,10 +32,7 @@ pub use file_attrs::FileAttrs;
 pub use flags::{Extensions, OpenFlags};
 pub use frame_error::{FormatKind, FrameError};
 pub use handle::Handle;
-pub use laws::{
-    cancelled_calls_leave, frames_read_back, machine_answers, machine_fits, plans_fit,
-    plans_wait_for_missing,
-};
+pub use laws::{frames_read_back, machine_answers, machine_fits};
 pub use lengths::session_lengths;
 pub use machine::Held;
 pub use outcome::Outcome;
