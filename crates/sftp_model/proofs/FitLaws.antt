@@ -1,23 +1,14 @@
 -- What the file machine answers fits a frame.
-use Rattle.std.proofs.Common.{ℕ, ◌≡◌, ◌==◌, ◌^◌, ◌<◌, ◌≤◌, Bool, true, false, not, List, [], ◌∷◌, ◌++◌, length, take, drop, min, Option, Some, None, nat_le, if◌then◌else◌, refl, arith, lit<, lit≤}
-use Rattle.std.proofs.lemmas.Bool.{ltb-false}
-use Rattle.std.proofs.lemmas.Bool.Decides.{nat_tests}
-use Rattle.std.proofs.lemmas.List.{length-append, length-take}
-use Rattle.ssh_encoding.specs.Writing.{uint32, string}
+use Rattle.std.proofs.Common.{ℕ, ◌==◌, ◌≤◌, Bool, true, false, not, List, length, take, drop, Option, Some, None, nat_le, if◌then◌else◌, arith, lit<, lit≤}
+use Rattle.std.proofs.lemmas.List.{length-take}
 use Rattle.sftp_model.specs.declared.config.Choice.{Choice}
 use Rattle.sftp_model.specs.declared.config.ServerConfig.{ServerConfig}
-use Rattle.sftp_model.specs.declared.error.IoKind.TheVariants as kind
-use Rattle.sftp_model.specs.declared.flags.OpenFlags.{OpenFlags}
-use Rattle.sftp_model.specs.declared.outcome.Outcome.TheVariants as outcome
 use Rattle.sftp_model.specs.declared.reply.Reply.{Reply}
-use Rattle.sftp_model.specs.declared.reply.Reply.TheVariants as reply
 use Rattle.sftp_model.specs.declared.request.Request.{Request}
 use Rattle.sftp_model.specs.declared.request.Request.TheVariants as request
 use Rattle.sftp_model.specs.FileMachine.{Machine, Held, at_key, status, bytes_of_file, capped, after_open, after_read, after_close, answered, apply}
 use Rattle.sftp_model.specs.Fits.{FitsNumber, FitsHandle, FitsReply, AsksWithinReply}
 use Rattle.sftp_model.specs.Numbers.{MAX_BODY_LEN, MAX_TRANSFER_LEN}
-use Rattle.sftp_model.specs.Frames.{no_attributes, attributes, request_body}
-use Rattle.sftp_model.specs.Answers.{is_end_of_file}
 use Rattle.sftp_model.proofs.MachineLaws.{content, has_bytes, has_read, capped_below}
 
 -- ---- the file machine
