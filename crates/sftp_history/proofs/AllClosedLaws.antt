@@ -8,8 +8,8 @@ use Rattle.sftp_model.specs.declared.request.Request.{Request}
 use Rattle.sftp_model.specs.declared.request.Request.TheVariants as request
 use Rattle.sftp_model.specs.declared.reply.Reply.{Reply}
 use Rattle.sftp_model.specs.declared.reply.Reply.TheVariants as reply
-use Rattle.sftp_model.specs.Plans.{handle_of}
 use Rattle.sftp_model.specs.Slots.{has_grant}
+use Rattle.sftp_calls.specs.Moves.{handle_of}
 use Rattle.sftp_history.specs.declared.call.Call.{Call}
 use Rattle.sftp_history.specs.declared.event.Owner.{Owner}
 use Rattle.sftp_history.specs.declared.event.Owner.TheVariants as owner
@@ -27,9 +27,10 @@ use Rattle.sftp_history.proofs.ClosedLaws.{IsClosing, closing, gone_loose, close
 use Rattle.sftp_history.specs.Closes.{with_granted, granted_handles, closed_handles, times, AreClosed, closes_of}
 use Rattle.sftp_history.proofs.CountLaws.{count_same, count_one, count_some}
 use Rattle.sftp_history.proofs.GrantLaws.{any_where}
-use Rattle.sftp_history.proofs.HolderLaws.{may_of, got_more, held_less, ending}
+use Rattle.sftp_history.proofs.HolderLaws.{may_of, got_more, ending}
 use Rattle.sftp_history.proofs.LetGoLaws.{settled_each, granted_below}
 use Rattle.sftp_history.proofs.OverLaws.{runs_are_journals, runs_are_over, runs_settle}
+use Rattle.sftp_history.proofs.PlannedLaws.{held_less}
 use Rattle.sftp_history.proofs.RequestLaws.{sent_asked, answer_beyond, answer_new, answer_other}
 
 -- ---- lanes that were let go
@@ -75,7 +76,7 @@ called_by s past owner.Setup id r lane call next e = absurd cc
 called_by s past owner.Close id r lane call next e = absurd cc
 
 -- what asked for something is a call of its lane
-asker_called : (s : Setting) (past : List Entry) (lane call g : ℕ) → IsJournal s past → is_asked_by (asked_at past g) lane call ≡ true → call_at s past lane call ≢ None
+pub asker_called : (s : Setting) (past : List Entry) (lane call g : ℕ) → IsJournal s past → is_asked_by (asked_at past g) lane call ≡ true → call_at s past lane call ≢ None
 asker_called s [] lane call g j e = absurd cc
 asker_called s (entry.Event (Submit by id r) ∷ past) lane call g j e =
     elim (eqb_tells g (asked past)) [ inl t ↦ called_by s past by id r lane call j.0 (rw t.0 at e) | inr t ↦ asker_called s past lane call g j.1 (rw t.0 at e) ]

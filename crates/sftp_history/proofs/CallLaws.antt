@@ -11,7 +11,7 @@ use Rattle.sftp_model.specs.declared.slot.Facts.{Facts}
 use Rattle.sftp_model.specs.declared.slot.Move.{Move}
 use Rattle.sftp_model.specs.declared.slot.Move.TheVariants.{Done}
 use Rattle.sftp_model.specs.declared.slot.Site.{Site}
-use Rattle.sftp_model.specs.Plans.{Answers, left_by}
+use Rattle.sftp_calls.specs.Moves.{Answers, Own}
 use Rattle.sftp_history.specs.declared.call.Call.{Call}
 use Rattle.sftp_history.specs.declared.event.Owner.{Owner}
 use Rattle.sftp_history.specs.declared.event.Owner.TheVariants as owner
@@ -19,7 +19,7 @@ use Rattle.sftp_history.specs.declared.event.Event.TheVariants.{Submit, Take, Ca
 use Rattle.sftp_history.specs.declared.entry.Entry.{Entry}
 use Rattle.sftp_history.specs.declared.entry.Entry.TheVariants as entry
 use Rattle.sftp_history.specs.Readings.{asked, asked_at, answer, own, is_by, ended, last_cancel}
-use Rattle.sftp_history.specs.Calls.{Setting, next, added, calls_of, lane_calls, call_at, current, site_of, site_left, move_at, move_of}
+use Rattle.sftp_history.specs.Calls.{Setting, next, added, calls_of, lane_calls, call_at, current, left_by, site_of, site_left, move_at, move_of}
 use Rattle.sftp_history.specs.Grants.{orphan, is_asked_by}
 use Rattle.sftp_history.specs.Journals.{IsJournal, IsNext, MayCome, MustClose, cancelled_end}
 
@@ -67,8 +67,8 @@ next_take s past id r h =
 
 -- ---- a call's requests
 
--- the call's own request joins its places
-pub own_submit : (past : List Entry) (lane call id : ℕ) (r : Request) → own (entry.Event (Submit (owner.Call lane call) id r) ∷ past) lane call ≡ own past lane call ++ asked past ∷ []
+-- the call's own request joins those before it
+pub own_submit : (past : List Entry) (lane call id : ℕ) (r : Request) → own (entry.Event (Submit (owner.Call lane call) id r) ∷ past) lane call ≡ own past lane call ++ (asked past, r) ∷ []
 own_submit past lane call id r = rw (eq-eqb lane lane refl, eq-eqb call call refl) refl
 
 -- another's request does not
@@ -96,7 +96,7 @@ own_fresh s (entry.Event (End l c o) ∷ past) lane call j lt =
     ]
 own_fresh s (_ ∷ past) lane call j lt = own_fresh s past lane call j.1 lt
 
-any_more : (p : ℕ → Bool) (xs ys : List ℕ) → list_any p (xs ++ ys) ≡ (list_any p xs || list_any p ys)
+any_more : (p : ℕ × Request → Bool) (xs ys : Own) → list_any p (xs ++ ys) ≡ (list_any p xs || list_any p ys)
 any_more p [] ys = refl
 any_more p (x ∷ xs) ys = ap (λ (b : Bool). p x || b) (any_more p xs ys) ∙ or_assoc (p x) (list_any p xs) (list_any p ys)
   where
@@ -112,18 +112,22 @@ or_left : (a b : Bool) → a ≡ true → (a || b) ≡ true
 or_left true b e = refl
 or_left false b e = cc
 
+-- a request at the place is one of these
+abbrev pub has_place : Own → ℕ → Bool
+has_place own place = list_any (λ (a : ℕ × Request). a.0 == place) own
+
 -- the asker of a place has it among its own
-pub asker_owns : (past : List Entry) (lane call place : ℕ) → is_asked_by (asked_at past place) lane call ≡ true → list_any (λ p. p == place) (own past lane call) ≡ true
+pub asker_owns : (past : List Entry) (lane call place : ℕ) → is_asked_by (asked_at past place) lane call ≡ true → has_place (own past lane call) place ≡ true
 asker_owns [] lane call place e = cc
 asker_owns (entry.Event (Submit by i r) ∷ past) lane call place e =
     elim (eqb_tells place (asked past)) [
       | inl t ↦ (let mine : is_by by lane call ≡ true = rw t.0 at e in
-          rw mine (any_more (λ p. p == place) (own past lane call) (asked past ∷ []) ∙ or_right (list_any (λ p. p == place) (own past lane call)) _ (or_left (asked past == place) false (eq-eqb (asked past) place (sym t.1)))))
+          rw mine (any_more (λ a. a.0 == place) (own past lane call) ((asked past, r) ∷ []) ∙ or_right (has_place (own past lane call) place) _ (or_left (asked past == place) false (eq-eqb (asked past) place (sym t.1)))))
       | inr t ↦ by_owner (is_by by lane call) (asker_owns past lane call place (rw t.0 at e))
     ]
   where
-    by_owner : (b : Bool) → list_any (λ p. p == place) (own past lane call) ≡ true → list_any (λ p. p == place) (if b then own past lane call ++ asked past ∷ [] else own past lane call) ≡ true
-    by_owner true h = any_more (λ p. p == place) (own past lane call) (asked past ∷ []) ∙ or_left _ _ h
+    by_owner : (b : Bool) → has_place (own past lane call) place ≡ true → has_place (if b then own past lane call ++ (asked past, r) ∷ [] else own past lane call) place ≡ true
+    by_owner true h = any_more (λ a. a.0 == place) (own past lane call) ((asked past, r) ∷ []) ∙ or_left _ _ h
     by_owner false h = h
 asker_owns (_ ∷ past) lane call place e = asker_owns past lane call place e
 
@@ -153,11 +157,11 @@ site_end s past lane call o = rw (eq-eqb lane lane refl) refl
 pub site_other : (s : Setting) (past : List Entry) (l call lane : ℕ) (o : Outcome) → l ≢ lane → site_of s (entry.Event (End l call o) ∷ past) lane ≡ site_of s past lane
 site_other s past l call lane o ne = rw (ne_eqb l lane ne) refl
 
-left_done : (c : Option Call) (n : Option ℕ) (at site : Site) (facts : Facts) (places : List ℕ) (answers : Answers) (o : Outcome) → n ≡ None → move_at c at facts places answers ≡ Some (Done o site) → site_left c n at facts places answers ≡ site
-left_done None n at site facts places answers o none e = absurd cc
-left_done (Some c) (Some l) at site facts places answers o none e = absurd cc
-left_done (Some c) None at site facts places answers o none e =
-    let is : next c at facts places answers ≡ Done o site = cc e in ap (λ (m : Move). left_by m at) is
+left_done : (c : Option Call) (n : Option ℕ) (at site : Site) (facts : Facts) (own : Own) (answers : Answers) (o : Outcome) → n ≡ None → move_at c at facts own answers ≡ Some (Done o site) → site_left c n at facts own answers ≡ site
+left_done None n at site facts own answers o none e = absurd cc
+left_done (Some c) (Some l) at site facts own answers o none e = absurd cc
+left_done (Some c) None at site facts own answers o none e =
+    let is : next c at facts own answers ≡ Done o site = cc e in ap (λ (m : Move). left_by m at) is
 
 -- an end by the plan leaves what the plan leaves
 pub end_site : (s : Setting) (past : List Entry) (lane : ℕ) (o : Outcome) (site : Site) → last_cancel past ≡ None → move_of s past lane ≡ Some (Done o site) → site_of s (entry.Event (End lane (ended past lane) o) ∷ past) lane ≡ site

@@ -1,6 +1,6 @@
 -- A grant has one CLOSE at most, and where it has one, nothing holds it any more.
-use Rattle.std.proofs.Common.{◌≡◌, ◌≢◌, ◌<◌, ◌≤◌, ℕ, zero, suc, ◌+◌, ◌==◌, Bool, true, false, List, [], ◌∷◌, ◌++◌, Option, Some, None, refl, ap, sym, ◌∙◌, subst, arith, if◌then◌else◌, inl, inr}
-use Rattle.std.specs.Prelude.{◌||◌, ◌&&◌, not, length, slice_index_or, MatchOption}
+use Rattle.std.proofs.Common.{◌≡◌, ◌≢◌, ◌<◌, ◌≤◌, ℕ, ◌+◌, ◌==◌, Bool, true, false, List, [], ◌∷◌, ◌++◌, Option, Some, None, refl, ap, sym, ◌∙◌, subst, arith, if◌then◌else◌, inl, inr}
+use Rattle.std.specs.Prelude.{◌||◌, ◌&&◌, not, length, MatchOption}
 use Rattle.std.specs.List.{list_any, count_by}
 use Rattle.std.proofs.lemmas.Bool.{eq-eqb, or_cases, or_parts, or_left, or_right, both_ways, false_from_ne_true, cases_lt}
 use Rattle.std.proofs.lemmas.Bool.Decides.{eqb_tells}
@@ -11,8 +11,10 @@ use Rattle.sftp_model.specs.declared.request.Request.TheVariants as request
 use Rattle.sftp_model.specs.declared.slot.Site.{Site}
 use Rattle.sftp_model.specs.declared.slot.Slot.{Slot}
 use Rattle.sftp_model.specs.declared.slot.Slot.TheVariants.{Empty, File, Buffered}
-use Rattle.sftp_model.specs.Plans.{handle_of}
-use Rattle.sftp_model.specs.Slots.{grant_of, slot_has, has_grant}
+use Rattle.sftp_model.specs.Slots.{slot_has, has_grant}
+use Rattle.sftp_calls.specs.Moves.{Own, handle_of}
+use Rattle.sftp_calls.specs.GoodMoves.{Closes}
+use Rattle.sftp_calls.proofs.SlotLaws.{slot_held}
 use Rattle.sftp_history.specs.declared.event.Owner.{Owner}
 use Rattle.sftp_history.specs.declared.event.Owner.TheVariants as owner
 use Rattle.sftp_history.specs.declared.event.Event.TheVariants.{Submit}
@@ -25,9 +27,9 @@ use Rattle.sftp_history.specs.Journals.{IsJournal, MayCome, MustClose, cancelled
 use Rattle.sftp_history.proofs.CallLaws.{next_submit, own_submit}
 use Rattle.sftp_history.specs.Closes.{closes_of}
 use Rattle.sftp_history.proofs.GrantLaws.{first_passes, any_passes, any_where}
-use Rattle.sftp_history.proofs.HolderLaws.{IsOwned, may_of, held_less, grant_stays, slots_owned, held_only, holds_back}
+use Rattle.sftp_history.proofs.HolderLaws.{IsOwned, may_of, grant_stays, slots_owned, held_only, holds_back}
 use Rattle.sftp_history.proofs.LetGoLaws.{granted_below}
-use Rattle.sftp_history.proofs.PlanLaws.{AsksClose, asks_close}
+use Rattle.sftp_history.proofs.PlannedLaws.{AsksClose, held_less, asks_close}
 use Rattle.sftp_history.proofs.RequestLaws.{asked_other}
 
 -- ---- grants that nothing holds
@@ -134,16 +136,6 @@ lane_there s past lane j some =
       | inr le ↦ absurd (some (rw (slice_get_past s.lanes lane le, added_none s past lane j le) refl))
     ]
 
-slot_stands : (slots : List Slot) (k g : ℕ) → grant_of (slice_index_or slots k Empty) ≡ Some g → list_any (slot_has g) slots ≡ true
-slot_stands [] k g e = absurd cc
-slot_stands (slot ∷ slots) zero g e = or_left (slot_has g slot) (list_any (slot_has g) slots) (here slot e)
-  where
-    here : (x : Slot) → grant_of x ≡ Some g → slot_has g x ≡ true
-    here Empty h = absurd cc
-    here (File file) h = eq-eqb file.grant g cc
-    here (Buffered file buffer) h = eq-eqb file.grant g cc
-slot_stands (slot ∷ slots) (suc k) g e = or_right (slot_has g slot) (list_any (slot_has g) slots) (slot_stands slots k g e)
-
 call_closing : (s : Setting) (past : List Entry) (lane c id : ℕ) (handle : List ℕ) → IsJournal s (entry.Event (Submit (owner.Call lane c) id (request.Close handle)) ∷ past)
     → ((g : ℕ) → is_one_of (closed s past) g ≡ true → IsLoose s past g) → IsClosing s past (owner.Call lane c) id handle
 call_closing s past lane c id handle j gone =
@@ -152,21 +144,24 @@ call_closing s past lane c id handle j gone =
     let n : ℕ = ended past lane in
     let site : Site = site_of s past lane in
     let a : AsksClose (current s past lane) site (own past lane n) (answer past) handle = asks_close (current s past lane) site s.facts (own past lane n) (answer past) handle may.1 in
-    let g : ℕ = a.grant in
-    let o : IsOwned past lane g = slots_owned s past lane g j.1 (slot_stands site.slots a.slot g a.stood) in
+    let w : Closes a.0 site (own past lane n) (answer past) handle = a.1.1 in
+    let g : ℕ = w.grant in
+    let stood : has_grant site g ≡ true = slot_held site.slots a.0 g w.stood in
+    let o : IsOwned past lane g = slots_owned s past lane g j.1 stood in
     let held : has_grant (held_site s past lane) g ≡ true =
-    ap (λ places. has_grant (held_by (current s past lane) places site) g) a.fresh ∙ ap (λ x. has_grant (held_by x [] site) g) a.is ∙ slot_stands site.slots a.slot g a.stood in
-    let there : lane < length s.lanes = lane_there s past lane j.1 (λ none. cc (a.is, none)) in
-    let places : own now lane n ≡ asked past ∷ [] =
-    ap (λ (k : ℕ). own (entry.Event (Submit (owner.Call lane k) id (request.Close handle)) ∷ past) lane n) may.0 ∙ own_submit past lane n id (request.Close handle) ∙ ap (λ (x : List ℕ). x ++ asked past ∷ []) a.fresh in
+    ap (λ (x : Own). has_grant (held_by (current s past lane) x site) g) w.fresh ∙ ap (λ x. has_grant (held_by x [] site) g) a.1.0 ∙ stood in
+    let there : lane < length s.lanes = lane_there s past lane j.1 (λ none. cc (a.1.0, none)) in
+    let asks : ℕ × Request = (asked past, request.Close handle) in
+    let first : own now lane n ≡ asks ∷ [] =
+    ap (λ (k : ℕ). own (entry.Event (Submit (owner.Call lane k) id (request.Close handle)) ∷ past) lane n) may.0 ∙ own_submit past lane n id (request.Close handle) ∙ ap (λ (x : Own). x ++ asks ∷ []) w.fresh in
     record {
       grant = g;
-      is = ap (λ (k : ℕ). closed_by (call_at s past lane k) site) may.0 ∙ ap (λ x. closed_by x site) a.is ∙ a.stood;
+      is = ap (λ (k : ℕ). closed_by (call_at s past lane k) site) may.0 ∙ ap (λ x. closed_by x site) a.1.0 ∙ w.stood;
       unclosed = false_from_ne_true (is_one_of (closed s past) g)
           (λ h. both_ways (is_held s past g) (gone g h).1 (any_passes (holds s past g) (length s.lanes) lane there (or_left (has_grant (held_site s past lane) g) _ held)));
-      bears = a.bears;
+      bears = sym w.bears;
       loose = left_loose s now lane g j (o.0, (o.1.0, (o.1.1.0, ap (λ x. is_asked_by x lane o.1.0) (asked_other past (owner.Call lane c) id g (request.Close handle) (granted_below past g o.0)) ∙ o.1.1.1)))
-          (λ h. both_ways _ a.last (sym (ap (λ x. has_grant (held_by (current s past lane) x site) g) places ∙ ap (λ x. has_grant (held_by x (asked past ∷ []) site) g) a.is) ∙ h));
+          (λ h. both_ways _ w.last (sym (ap (λ (x : Own). has_grant (held_by (current s past lane) x site) g) first ∙ ap (λ x. has_grant (held_by x (asks ∷ []) site) g) a.1.0) ∙ h));
     }
 
 pub closing : (s : Setting) (past : List Entry) (by : Owner) (id : ℕ) (handle : List ℕ) → IsJournal s (entry.Event (Submit by id (request.Close handle)) ∷ past)

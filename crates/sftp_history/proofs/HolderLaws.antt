@@ -1,73 +1,34 @@
 -- What holds a grant held it before: a lane's slots have only what a call of this lane asked for.
 use Rattle.std.proofs.Common.{append_assoc, ◌≡◌, ◌≢◌, ◌<◌, ◌==◌, ℕ, ◌+◌, zero, suc, Bool, true, false, List, [], ◌∷◌, ◌++◌, Option, Some, None, refl, ap, sym, ◌∙◌, subst, arith, if◌then◌else◌, inl, inr}
-use Rattle.std.specs.Prelude.{◌||◌, ◌⊎◌, slice_get, slice_set, slice_index_or, MatchOption}
-use Rattle.std.specs.List.{list_any}
+use Rattle.std.specs.Prelude.{◌||◌, ◌⊎◌, slice_get, MatchOption}
 use Rattle.std.proofs.lemmas.Bool.{eq-eqb, eqb-true, and_parts, or_cases, or_left, or_right, both_ways}
 use Rattle.std.proofs.lemmas.Bool.Decides.{eqb_tells}
 use Rattle.std.proofs.lemmas.List.Folds.{list_any-append}
 use Rattle.sftp_model.specs.declared.outcome.Outcome.{Outcome}
+use Rattle.sftp_model.specs.declared.request.Request.{Request}
 use Rattle.sftp_model.specs.declared.slot.Facts.{Facts}
 use Rattle.sftp_model.specs.declared.slot.Move.{Move}
 use Rattle.sftp_model.specs.declared.slot.Move.TheVariants.{Done}
 use Rattle.sftp_model.specs.declared.slot.Site.{Site}
-use Rattle.sftp_model.specs.declared.slot.Slot.{Slot}
-use Rattle.sftp_model.specs.declared.slot.Slot.TheVariants.{Empty, File}
-use Rattle.sftp_model.specs.Plans.{Answers, opened_file, left_by}
-use Rattle.sftp_model.specs.Slots.{fresh_site, slot_at, with_slot, slot_has, has_grant, moved}
-use Rattle.sftp_file.specs.OpenOptions.{flags_of}
+use Rattle.sftp_model.specs.Slots.{fresh_site, has_grant}
+use Rattle.sftp_calls.specs.Moves.{Answers, Own}
+use Rattle.sftp_calls.specs.GoodMoves.{IsBrought}
 use Rattle.sftp_history.specs.declared.call.Call.{Call}
-use Rattle.sftp_history.specs.declared.call.Call.TheVariants as call
 use Rattle.sftp_history.specs.declared.event.Owner.{Owner}
 use Rattle.sftp_history.specs.declared.event.Owner.TheVariants as owner
 use Rattle.sftp_history.specs.declared.event.Event.TheVariants.{Submit, Take, Cancel, End}
 use Rattle.sftp_history.specs.declared.entry.Entry.{Entry}
 use Rattle.sftp_history.specs.declared.entry.Entry.TheVariants as entry
 use Rattle.sftp_history.specs.Readings.{Asked, asked, asked_at, answer, is_by, own, ended, last_cancel}
-use Rattle.sftp_history.specs.Calls.{Setting, next, cancelled, added, calls_of, call_at, current, site_of, site_left, held_by, held_site, move_at, move_of}
+use Rattle.sftp_history.specs.Calls.{Setting, next, added, calls_of, call_at, current, left_by, site_of, site_left, held_by, held_site, move_at, move_of}
 use Rattle.sftp_history.specs.Grants.{is_granted, is_grant, is_asked_by, is_unended_asker, holds, orphan}
 use Rattle.sftp_history.specs.Journals.{IsJournal, IsNext, MayCome, MustClose, cancelled_end}
-use Rattle.sftp_history.proofs.CallLaws.{next_by, next_take, asker_owns, own_fresh, ended_end, site_end}
+use Rattle.sftp_history.proofs.CallLaws.{next_by, next_take, has_place, asker_owns, own_fresh, ended_end, site_end}
 use Rattle.sftp_history.proofs.LetGoLaws.{granted_below}
-use Rattle.sftp_history.proofs.PlanLaws.{open_moves, read_moves, close_moves}
+use Rattle.sftp_history.proofs.PlannedLaws.{held_less, held_more, done_has, cancelled_has}
 use Rattle.sftp_history.proofs.RequestLaws.{asked_beyond, asked_other, answer_other}
 
--- ---- slots
-
--- where what is set has the grant as what it replaces has, nothing changes
-set_alike : (g : ℕ) (slots : List Slot) (k : ℕ) (new : Slot) → slot_has g new ≡ slot_has g (slice_index_or slots k Empty) → list_any (slot_has g) (slice_set slots k new) ≡ list_any (slot_has g) slots
-set_alike g [] k new e = refl
-set_alike g (slot ∷ slots) zero new e = ap (λ b. b || list_any (slot_has g) slots) e
-set_alike g (slot ∷ slots) (suc k) new e = ap (λ b. slot_has g slot || b) (set_alike g slots k new e)
-
--- a grant of the slots stood in them, or is that of what is set
-set_has : (g : ℕ) (slots : List Slot) (k : ℕ) (new : Slot) → list_any (slot_has g) (slice_set slots k new) ≡ true → (slot_has g new ≡ true) ⊎ (list_any (slot_has g) slots ≡ true)
-set_has g [] k new e = inr e
-set_has g (slot ∷ slots) zero new e = elim (or_cases (slot_has g new) (list_any (slot_has g) slots) e) [ inl h ↦ inl h | inr h ↦ inr (or_right (slot_has g slot) _ h) ]
-set_has g (slot ∷ slots) (suc k) new e =
-    elim (or_cases (slot_has g slot) (list_any (slot_has g) (slice_set slots k new)) e) [
-      | inl h ↦ inr (or_left (slot_has g slot) _ h)
-      | inr h ↦ elim (set_has g slots k new h) [ inl is ↦ inl is | inr was ↦ inr (or_right (slot_has g slot) _ was) ]
-    ]
-
-empty_less : (g : ℕ) (site : Site) (k : ℕ) → has_grant (with_slot site k Empty) g ≡ true → has_grant site g ≡ true
-empty_less g site k e = elim (set_has g site.slots k Empty e) [ inl is ↦ absurd cc | inr was ↦ was ]
-
--- within a call a lane holds no other grant
-pub held_less : (c : Option Call) (places : List ℕ) (site : Site) (g : ℕ) → has_grant (held_by c places site) g ≡ true → has_grant site g ≡ true
-held_less None places site g e = e
-held_less (Some (call.OpenFile slot flags path)) places site g e = e
-held_less (Some (call.Read slot n)) places site g e = e
-held_less (Some (call.Close slot)) [] site g e = e
-held_less (Some (call.Close slot)) (p ∷ places) site g e = empty_less g site slot e
-
--- nor with one request more
-held_more : (c : Option Call) (b : Bool) (places : List ℕ) (p : ℕ) (site : Site) (g : ℕ) → has_grant (held_by c (if b then places ++ p ∷ [] else places) site) g ≡ true → has_grant (held_by c places site) g ≡ true
-held_more c false places p site g e = e
-held_more None true places p site g e = e
-held_more (Some (call.OpenFile slot flags path)) true places p site g e = e
-held_more (Some (call.Read slot n)) true places p site g e = e
-held_more (Some (call.Close slot)) true [] p site g e = empty_less g site slot e
-held_more (Some (call.Close slot)) true (q ∷ places) p site g e = e
+-- ---- what stands within a call
 
 pub got_more : (xs ys : List Call) (n : ℕ) → (slice_get (xs ++ ys) n ≡ slice_get xs n) ⊎ (slice_get xs n ≡ None)
 got_more [] ys n = inr refl
@@ -75,76 +36,34 @@ got_more (x ∷ xs) ys zero = inl refl
 got_more (x ∷ xs) ys (suc n) = got_more xs ys n
 
 -- nor with one call more
-held_added : (xs ys : List Call) (c : Call) (b : Bool) (n : ℕ) (places : List ℕ) (site : Site) (g : ℕ)
-    → has_grant (held_by (slice_get (xs ++ (if b then ys ++ c ∷ [] else ys)) n) places site) g ≡ true → has_grant (held_by (slice_get (xs ++ ys) n) places site) g ≡ true
-held_added xs ys c false n places site g e = e
-held_added xs ys c true n places site g e =
+held_added : (xs ys : List Call) (c : Call) (b : Bool) (n : ℕ) (own : Own) (site : Site) (g : ℕ)
+    → has_grant (held_by (slice_get (xs ++ (if b then ys ++ c ∷ [] else ys)) n) own site) g ≡ true → has_grant (held_by (slice_get (xs ++ ys) n) own site) g ≡ true
+held_added xs ys c false n own site g e = e
+held_added xs ys c true n own site g e =
     elim (got_more (xs ++ ys) (c ∷ []) n) [
-      | inl same ↦ subst (λ (x : Option Call). has_grant (held_by x places site) g ≡ true) (ap (λ calls. slice_get calls n) (sym (append_assoc xs ys (c ∷ []))) ∙ same) e
-      | inr none ↦ rw none (held_less (slice_get (xs ++ (ys ++ c ∷ [])) n) places site g e)
+      | inl same ↦ subst (λ (x : Option Call). has_grant (held_by x own site) g ≡ true) (ap (λ calls. slice_get calls n) (sym (append_assoc xs ys (c ∷ []))) ∙ same) e
+      | inr none ↦ rw none (held_less (slice_get (xs ++ (ys ++ c ∷ [])) n) own site g e)
     ]
 
 -- nor where it was let go
-held_let_go : (c : Option Call) (places : List ℕ) (site : Site) (b : Bool) (g : ℕ)
-    → has_grant (held_by c places (if b then record { slots = fresh_site.slots; directory = site.directory } else site)) g ≡ true → has_grant (held_by c places site) g ≡ true
-held_let_go c places site false g e = e
-held_let_go c places site true g e = absurd (let none : has_grant fresh_site g ≡ true = held_less c places (record { slots = fresh_site.slots; directory = site.directory }) g e in cc)
+held_let_go : (c : Option Call) (own : Own) (site : Site) (b : Bool) (g : ℕ)
+    → has_grant (held_by c own (if b then record { slots = fresh_site.slots; directory = site.directory } else site)) g ≡ true → has_grant (held_by c own site) g ≡ true
+held_let_go c own site false g e = e
+held_let_go c own site true g e = absurd (let none : has_grant fresh_site g ≡ true = held_less c own (record { slots = fresh_site.slots; directory = site.directory }) g e in cc)
 
 -- ---- what the end of a call leaves
-
--- the first of these requests brought the grant
-abbrev IsBrought : List ℕ → Answers → ℕ → Type 0
-IsBrought places answers g = (later : List ℕ) × ((places ≡ g ∷ later) × (is_granted (answers g) ≡ true))
-
-cancelled_has : (c : Call) (site : Site) (facts : Facts) (places : List ℕ) (answers : Answers) (g : ℕ) → has_grant (cancelled c site facts places answers) g ≡ true → has_grant (held_by (Some c) places site) g ≡ true
-cancelled_has (call.OpenFile slot flags path) site facts places answers g e = e
-cancelled_has (call.Read slot n) site facts places answers g e = e
-cancelled_has (call.Close slot) site facts [] answers g e = e
-cancelled_has (call.Close slot) site facts (p ∷ places) answers g e = e
-
-emptied_held : (slot : ℕ) (places : List ℕ) (site : Site) (g : ℕ) → has_grant (with_slot site slot Empty) g ≡ true → has_grant (held_by (Some (call.Close slot)) places site) g ≡ true
-emptied_held slot [] site g e = empty_less g site slot e
-emptied_held slot (p ∷ places) site g e = e
-
-unused_held : (slot : ℕ) (places : List ℕ) (site : Site) (g : ℕ) → slot_at site slot ≡ Empty → has_grant site g ≡ true → has_grant (held_by (Some (call.Close slot)) places site) g ≡ true
-unused_held slot [] site g is e = e
-unused_held slot (p ∷ places) site g is e = set_alike g site.slots slot Empty (ap (slot_has g) (sym is)) ∙ e
-
--- a grant that a call leaves was held within the call, or the call's first request brought it
-abbrev LeavesHeld : Call → Site → List ℕ → Answers → ℕ → Move → Type 0
-LeavesHeld c site places answers g m = (o : Outcome) (left : Site) → m ≡ Done o left → has_grant left g ≡ true → (has_grant (held_by (Some c) places site) g ≡ true) ⊎ IsBrought places answers g
-
-done_has : (c : Call) (site : Site) (facts : Facts) (places : List ℕ) (answers : Answers) (g : ℕ) → LeavesHeld c site places answers g (next c site facts places answers)
-done_has (call.OpenFile slot flags path) site facts places answers g =
-    open_moves (LeavesHeld (call.OpenFile slot flags path) site places answers g) slot (flags_of flags) path site facts places answers
-    (λ x o left e h. inl (let same : site ≡ left = cc in ap (λ y. has_grant y g) same ∙ h)) (λ o left e h. absurd cc) (λ p o left e h. absurd cc)
-    (λ p later handle at got o left e h.
-    let is : with_slot site slot (File (opened_file (flags_of flags) p)) ≡ left = cc in
-    elim (set_has g site.slots slot (File (opened_file (flags_of flags) p)) (ap (λ y. has_grant y g) is ∙ h)) [
-      | inl new ↦ (let same : p ≡ g = eqb-true p g new in inr (later, (at ∙ ap (λ (n : ℕ). n ∷ later) same, ap (λ (n : ℕ). is_granted (answers n)) (sym same) ∙ ap is_granted got)))
-      | inr was ↦ inl was
-    ])
-done_has (call.Read slot n) site facts places answers g =
-    read_moves (LeavesHeld (call.Read slot n) site places answers g) (slot_at site slot) slot n site facts places answers
-    (λ x o left e h. inl (let same : site ≡ left = cc in ap (λ y. has_grant y g) same ∙ h)) (λ handle offset len o left e h. absurd cc) (λ p o left e h. absurd cc)
-    (λ file x len at o left e h. inl (let is : with_slot site slot (moved file len) ≡ left = cc in sym (set_alike g site.slots slot (moved file len) (ap (slot_has g) (sym at))) ∙ ap (λ y. has_grant y g) is ∙ h))
-done_has (call.Close slot) site facts places answers g =
-    close_moves (LeavesHeld (call.Close slot) site places answers g) (slot_at site slot) slot site places answers
-    (λ at o left e h. inl (let same : site ≡ left = cc in unused_held slot places site g at (ap (λ y. has_grant y g) same ∙ h)))
-    (λ x o left e h. inl (let is : with_slot site slot Empty ≡ left = cc in emptied_held slot places site g (ap (λ y. has_grant y g) is ∙ h)))
-    (λ p o left e h. absurd cc) (λ grant stood fresh last o left e h. absurd cc)
 
 -- the move ends the call, unless the call is cancelled
 abbrev Ends : Option ℕ → Option Move → Type 0
 Ends cancel m = MatchOption cancel ((o : Outcome) × ((left : Site) × (m ≡ Some (Done o left)))) (λ lane. Unit {0})
 
-left_has : (c : Option Call) (cancel : Option ℕ) (site : Site) (facts : Facts) (places : List ℕ) (answers : Answers) (g : ℕ) → Ends cancel (move_at c site facts places answers)
-    → has_grant (site_left c cancel site facts places answers) g ≡ true → (has_grant (held_by c places site) g ≡ true) ⊎ IsBrought places answers g
-left_has None cancel site facts places answers g ends h = inl h
-left_has (Some c) (Some lane) site facts places answers g ends h = inl (cancelled_has c site facts places answers g h)
-left_has (Some c) None site facts places answers g ends h =
-    let is : next c site facts places answers ≡ Done ends.0 ends.1.0 = cc (ends.1.1) in
-    done_has c site facts places answers g ends.0 ends.1.0 is (ap (λ m. has_grant (left_by m site) g) (sym is) ∙ h)
+left_has : (c : Option Call) (cancel : Option ℕ) (site : Site) (facts : Facts) (own : Own) (answers : Answers) (g : ℕ) → Ends cancel (move_at c site facts own answers)
+    → has_grant (site_left c cancel site facts own answers) g ≡ true → (has_grant (held_by c own site) g ≡ true) ⊎ IsBrought own answers g
+left_has None cancel site facts own answers g ends h = inl h
+left_has (Some c) (Some lane) site facts own answers g ends h = inl (cancelled_has c site facts own answers g h)
+left_has (Some c) None site facts own answers g ends h =
+    let is : next c site facts own answers ≡ Done ends.0 ends.1.0 = cc (ends.1.1) in
+    done_has c site facts own answers g ends.0 ends.1.0 is (ap (λ m. has_grant (left_by m site) g) (sym is) ∙ h)
 
 -- ---- ends
 
@@ -212,33 +131,33 @@ asked_one (Some a) l m c d e f = by_owner a.by e f
     by_owner owner.Setup first second = absurd cc
     by_owner owner.Close first second = absurd cc
 
-new_by : (past : List Entry) (places : List ℕ) (lane call place : ℕ) (b : Bool) → place ≡ asked past → (list_any (λ p. p == place) places ≡ true → is_asked_by (asked_at past place) lane call ≡ true)
-    → list_any (λ p. p == place) (if b then places ++ asked past ∷ [] else places) ≡ true → b ≡ true
-new_by past places lane call place true same old h = refl
-new_by past places lane call place false same old h =
+new_by : (past : List Entry) (before : Own) (lane call place : ℕ) (r : Request) (b : Bool) → place ≡ asked past → (has_place before place ≡ true → is_asked_by (asked_at past place) lane call ≡ true)
+    → has_place (if b then before ++ (asked past, r) ∷ [] else before) place ≡ true → b ≡ true
+new_by past before lane call place r true same old h = refl
+new_by past before lane call place r false same old h =
     let none : asked_at past place ≡ None = asked_beyond past place (omega arith) in absurd (let clash : false ≡ true = rw none at (old h) in cc)
 
-old_by : (places : List ℕ) (n place : ℕ) (b : Bool) → n ≢ place → list_any (λ p. p == place) (if b then places ++ n ∷ [] else places) ≡ true → list_any (λ p. p == place) places ≡ true
-old_by places n place false ne h = h
-old_by places n place true ne h =
-    elim (or_cases (list_any (λ p. p == place) places) ((n == place) || false) (sym (list_any-append (λ p. p == place) places (n ∷ [])) ∙ h)) [
+old_by : (before : Own) (n place : ℕ) (r : Request) (b : Bool) → n ≢ place → has_place (if b then before ++ (n, r) ∷ [] else before) place ≡ true → has_place before place ≡ true
+old_by before n place r false ne h = h
+old_by before n place r true ne h =
+    elim (or_cases (has_place before place) ((n == place) || false) (sym (list_any-append (λ (a : ℕ × Request). a.0 == place) before ((n, r) ∷ [])) ∙ h)) [
       | inl old ↦ old
       | inr new ↦ elim (or_cases (n == place) false new) [ inl is ↦ absurd (ne (eqb-true n place is)) | inr no_way ↦ absurd cc ]
     ]
 
 -- a call asked for what is among its own
-own_asked : (past : List Entry) (lane call place : ℕ) → list_any (λ p. p == place) (own past lane call) ≡ true → is_asked_by (asked_at past place) lane call ≡ true
+pub own_asked : (past : List Entry) (lane call place : ℕ) → has_place (own past lane call) place ≡ true → is_asked_by (asked_at past place) lane call ≡ true
 own_asked [] lane call place e = absurd cc
 own_asked (entry.Event (Submit by i r) ∷ past) lane call place e =
     elim (eqb_tells place (asked past)) [
-      | inl t ↦ rw t.0 (new_by past (own past lane call) lane call place (is_by by lane call) t.1 (own_asked past lane call place) e)
-      | inr t ↦ rw t.0 (own_asked past lane call place (old_by (own past lane call) (asked past) place (is_by by lane call) (λ same. t.1 (sym same)) e))
+      | inl t ↦ rw t.0 (new_by past (own past lane call) lane call place r (is_by by lane call) t.1 (own_asked past lane call place) e)
+      | inr t ↦ rw t.0 (own_asked past lane call place (old_by (own past lane call) (asked past) place r (is_by by lane call) (λ same. t.1 (sym same)) e))
     ]
 own_asked (_ ∷ past) lane call place e = own_asked past lane call place e
 
-first_asked : (past : List Entry) (lane call place : ℕ) (later : List ℕ) → own past lane call ≡ place ∷ later → is_asked_by (asked_at past place) lane call ≡ true
-first_asked past lane call place later e =
-    own_asked past lane call place (ap (list_any (λ p. p == place)) e ∙ or_left (place == place) _ (eq-eqb place place refl))
+first_asked : (past : List Entry) (lane call place : ℕ) → IsBrought (own past lane call) (answer past) place → is_asked_by (asked_at past place) lane call ≡ true
+first_asked past lane call place b =
+    own_asked past lane call place (ap (λ (o : Own). has_place o place) b.first ∙ or_left (place == place) _ (eq-eqb place place refl))
 
 -- ---- grants
 
@@ -271,7 +190,7 @@ slots_owned s (entry.Event (End l c o) ∷ past) lane g j h =
           elim (ended_has s past l c o g j left) [
             | inl held ↦ (let old = slots_owned s past l g j.1 (held_less (current s past l) (own past l (ended past l)) (site_of s past l) g held) in
                 let before : old.1.0 < ended past l = old.1.1.0 in (old.0, (old.1.0, (omega arith, old.1.1.1))))
-            | inr new ↦ (new.1.1, (ended past l, (omega arith, first_asked past l (ended past l) g new.0 new.1.0)))
+            | inr new ↦ (ap is_granted new.came, (ended past l, (omega arith, first_asked past l (ended past l) g new)))
           ]) h
       | inr t ↦ rw t.0 (slots_owned s past lane g j.1 (rw t.0 at h))
     ]
@@ -301,9 +220,9 @@ end_back s past lane call o g j h =
     elim (or_cases (has_grant (held_site s now lane) g) (is_unended_asker now lane g) h) [
       | inl has ↦ elim (ended_has s past lane call o g j (held_less (current s now lane) (own now lane (ended now lane)) (site_of s now lane) g has)) [
         | inl held ↦ or_left (has_grant (held_site s past lane) g) (is_unended_asker past lane g) held
-        | inr new ↦ or_right (has_grant (held_site s past lane) g) (is_unended_asker past lane g) (first_asked past lane (ended past lane) g new.0 new.1.0)
+        | inr new ↦ or_right (has_grant (held_site s past lane) g) (is_unended_asker past lane g) (first_asked past lane (ended past lane) g new)
       ]
-      | inr asks ↦ absurd (let mine : list_any (λ p. p == g) (own past lane (ended past lane + 1)) ≡ true = asker_owns past lane (ended past lane + 1) g (ap (λ n. is_asked_by (asked_at past g) lane n) (sym (ended_end past lane call o)) ∙ asks) in
+      | inr asks ↦ absurd (let mine : has_place (own past lane (ended past lane + 1)) g ≡ true = asker_owns past lane (ended past lane + 1) g (ap (λ n. is_asked_by (asked_at past g) lane n) (sym (ended_end past lane call o)) ∙ asks) in
           let none : own past lane (ended past lane + 1) ≡ [] = own_fresh s past lane (ended past lane + 1) j.1 (omega arith) in
           let clash : false ≡ true = rw none at mine in cc)
     ]
@@ -313,7 +232,7 @@ pub holds_back : (s : Setting) (past : List Entry) (e : Entry) (g w : ℕ) → I
 holds_back s past (entry.Event (Submit by id r)) g w j granted h =
     let now : List Entry = entry.Event (Submit by id r) ∷ past in
     either_on (has_grant (held_site s now w) g) (is_unended_asker past w g) (has_grant (held_site s past w) g)
-    (held_more (current s past w) (is_by by w (ended past w)) (own past w (ended past w)) (asked past) (site_of s past w) g)
+    (held_more (current s past w) (is_by by w (ended past w)) (own past w (ended past w)) (asked past, r) (site_of s past w) g)
     (ap (λ a. has_grant (held_site s now w) g || is_asked_by a w (ended past w)) (sym (asked_other past by id g r (granted_below past g granted))) ∙ h)
 holds_back s past (entry.Event (End l c o)) g w j granted h =
     elim (eqb_tells l w) [

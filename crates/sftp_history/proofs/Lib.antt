@@ -10,7 +10,8 @@ pub mod JournalLaws
 pub mod LetGoLaws
 pub mod LimitsLaws
 pub mod OverLaws
-pub mod PlanLaws
+pub mod PlannedLaws
+pub mod CallsSoFar
 pub mod RequestLaws
 pub mod RunLaws
 pub mod TextLaws

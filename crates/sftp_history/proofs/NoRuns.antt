@@ -1,7 +1,6 @@
 -- Journals that are no whole run.
-use Rattle.std.specs.Prelude.{ℕ, ◌≡◌, ◌∷◌, List, true, false}
+use Rattle.std.specs.Prelude.{◌≡◌, ◌∷◌, List, true, false}
 use Rattle.std.proofs.Common.{arith}
-use Rattle.sftp_history.specs.declared.entry.Entry.{Entry}
 use Rattle.sftp_history.specs.declared.turn.Turn.{Turn}
 use Rattle.sftp_history.specs.Runs.{IsRun}
 use Rattle.sftp_history.specs.RowWords.{close, handle}

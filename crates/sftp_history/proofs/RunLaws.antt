@@ -10,6 +10,7 @@ use Rattle.sftp_model.specs.declared.request.Request.{Request}
 use Rattle.sftp_model.specs.declared.reply.Reply.{Reply}
 use Rattle.sftp_model.specs.declared.slot.Move.{Move}
 use Rattle.sftp_model.specs.declared.slot.Move.TheVariants.{Ask, Wait, Done}
+use Rattle.sftp_calls.specs.Moves.{Own}
 use Rattle.sftp_history.specs.declared.call.Call.{Call}
 use Rattle.sftp_history.specs.declared.turn.Turn.{Turn}
 use Rattle.sftp_history.specs.declared.turn.Turn.TheVariants as turn
@@ -17,10 +18,10 @@ use Rattle.sftp_history.specs.declared.event.Owner.TheVariants as owner
 use Rattle.sftp_history.specs.declared.event.Event.TheVariants.{Submit, Send, Take, Cancel, End}
 use Rattle.sftp_history.specs.declared.entry.Entry.{Entry}
 use Rattle.sftp_history.specs.declared.entry.Entry.TheVariants as entry
-use Rattle.sftp_history.specs.Readings.{asked, sent, answer, bearer, is_at, is_by, own, ended, last_cancel, was_kept, awaited}
+use Rattle.sftp_history.specs.Readings.{asked, sent, answer, bearer, is_at, is_by, own, ended, was_kept, awaited}
 use Rattle.sftp_history.specs.Calls.{Setting, current, move_of, is_wait, has_waited}
-use Rattle.sftp_history.specs.Grants.{letting_go, orphan_at, orphan, closed, IsSettled}
-use Rattle.sftp_history.specs.Journals.{IsJournal, IsNext, MayTake, IsFree, close_of, is_opened, opened, is_some_place, may_cancel, cancelled_end}
+use Rattle.sftp_history.specs.Grants.{letting_go, orphan_at, closed, IsSettled}
+use Rattle.sftp_history.specs.Journals.{IsJournal, IsNext, MayTake, IsFree, close_of, is_opened, opened, is_some_asked, may_cancel, cancelled_end}
 use Rattle.sftp_history.specs.Turns.{Stage, TurnTo, MovesBy, RulesTo, ClosesTo, SendsTo, is_full, is_begun, begun_with, begun_but}
 use Rattle.sftp_history.proofs.CallLaws.{may_next, due_next, cancelled_next, own_submit}
 use Rattle.sftp_history.proofs.LetGoLaws.{closes_leave}
@@ -39,15 +40,15 @@ wait_more true w h e = refl
 wait_more false true h e = refl
 wait_more false false h e = e
 
-place_more : (b : Bool) (places : List ℕ) (place : ℕ) (w h : Bool) → (is_some_place places || h) ≡ true
-    → (is_some_place (if b then places ++ place ∷ [] else places) || (w || h)) ≡ true
-place_more false places place w h e = wait_more (is_some_place places) w h e
-place_more true [] place w h e = refl
-place_more true (p ∷ places) place w h e = refl
+asked_more : (b : Bool) (before : Own) (new : ℕ × Request) (w h : Bool) → (is_some_asked before || h) ≡ true
+    → (is_some_asked (if b then before ++ new ∷ [] else before) || (w || h)) ≡ true
+asked_more false before new w h e = wait_more (is_some_asked before) w h e
+asked_more true [] new w h e = refl
+asked_more true (a ∷ before) new w h e = refl
 
-some_more : (places : List ℕ) (place : ℕ) (h : Bool) → (is_some_place (places ++ place ∷ []) || h) ≡ true
-some_more [] place h = refl
-some_more (p ∷ places) place h = refl
+some_more : (before : Own) (new : ℕ × Request) (h : Bool) → (is_some_asked (before ++ new ∷ []) || h) ≡ true
+some_more [] new h = refl
+some_more (a ∷ before) new h = refl
 
 or_true : (a b : Bool) → b ≡ true → (a || b) ≡ true
 or_true true b e = refl
@@ -65,7 +66,7 @@ waits_now s (e ∷ past) lane place w = left_true (is_wait (move_of s (e ∷ pas
 
 -- an end of another lane changes nothing of it
 end_cancels : (s : Setting) (past : List Entry) (l call lane : ℕ) (o : Outcome) → l ≢ lane → may_cancel s past lane ≡ true → may_cancel s (entry.Event (End l call o) ∷ past) lane ≡ true
-end_cancels s past l call lane o ne e = rw (ne_eqb l lane ne) (wait_more (is_some_place (own past lane (ended past lane))) _ (has_waited s past lane) e)
+end_cancels s past l call lane o ne e = rw (ne_eqb l lane ne) (wait_more (is_some_asked (own past lane (ended past lane))) _ (has_waited s past lane) e)
 
 -- ---- entries
 
@@ -89,7 +90,7 @@ good_plain s past begun (entry.Event (Submit by id r)) g next p =
       calm = refl;
       ready = g.ready;
       unkept = g.unkept;
-      cancels = λ lane h. place_more (is_by by lane (ended past lane)) (own past lane (ended past lane)) (asked past) _ (has_waited s past lane) (g.cancels lane h);
+      cancels = λ lane h. asked_more (is_by by lane (ended past lane)) (own past lane (ended past lane)) (asked past, r) _ (has_waited s past lane) (g.cancels lane h);
     }
 good_plain s past begun (entry.Event Send) g next p =
     record {
@@ -97,7 +98,7 @@ good_plain s past begun (entry.Event Send) g next p =
       calm = refl;
       ready = g.ready;
       unkept = g.unkept;
-      cancels = λ lane h. wait_more (is_some_place (own past lane (ended past lane))) _ (has_waited s past lane) (g.cancels lane h);
+      cancels = λ lane h. wait_more (is_some_asked (own past lane (ended past lane))) _ (has_waited s past lane) (g.cancels lane h);
     }
 good_plain s past begun (entry.Event (Take id r)) g next p =
     record {
@@ -105,7 +106,7 @@ good_plain s past begun (entry.Event (Take id r)) g next p =
       calm = refl;
       ready = still_opened s.limits (is_at (bearer past id) 0) r (answer past 0) g.ready;
       unkept = g.unkept;
-      cancels = λ lane h. wait_more (is_some_place (own past lane (ended past lane))) _ (has_waited s past lane) (g.cancels lane h);
+      cancels = λ lane h. wait_more (is_some_asked (own past lane (ended past lane))) _ (has_waited s past lane) (g.cancels lane h);
     }
 good_plain s past begun (entry.LetGo lane) g next p =
     record {
@@ -113,7 +114,7 @@ good_plain s past begun (entry.LetGo lane) g next p =
       calm = refl;
       ready = g.ready;
       unkept = g.unkept;
-      cancels = λ lane h. wait_more (is_some_place (own past lane (ended past lane))) _ (has_waited s past lane) (g.cancels lane h);
+      cancels = λ lane h. wait_more (is_some_asked (own past lane (ended past lane))) _ (has_waited s past lane) (g.cancels lane h);
     }
 good_plain s past begun (entry.Event (Cancel lane)) g next p = absurd p
 good_plain s past begun (entry.Event (End lane call o)) g next p = absurd p
@@ -203,7 +204,7 @@ submit_good s past begun lane id r g h move free =
       unkept = good.unkept;
       cancels = λ l b. begun_more lane l begun (may_cancel s (e ∷ past) l ≡ true)
           (λ same. subst (λ (k : ℕ). may_cancel s (e ∷ past) k ≡ true) same
-          (ap (λ (places : List ℕ). is_some_place places || has_waited s (e ∷ past) lane) (own_submit past lane (ended past lane) id r) ∙ some_more (own past lane (ended past lane)) (asked past) (has_waited s (e ∷ past) lane)))
+          (ap (λ (requests : Own). is_some_asked requests || has_waited s (e ∷ past) lane) (own_submit past lane (ended past lane) id r) ∙ some_more (own past lane (ended past lane)) (asked past, r) (has_waited s (e ∷ past) lane)))
           (λ old. good.cancels l old) b;
     }
 
@@ -229,7 +230,7 @@ moves_good s lane before now (Some (Wait place)) move g e =
         ready = g.good.ready;
         unkept = g.good.unkept;
         cancels = λ l b. begun_more lane l before.begun (may_cancel s before.past l ≡ true)
-            (λ same. subst (λ (k : ℕ). may_cancel s before.past k ≡ true) same (or_true (is_some_place (own before.past lane (ended before.past lane))) (has_waited s before.past lane) (waits_now s before.past lane place move)))
+            (λ same. subst (λ (k : ℕ). may_cancel s before.past k ≡ true) same (or_true (is_some_asked (own before.past lane (ended before.past lane))) (has_waited s before.past lane) (waits_now s before.past lane place move)))
             (λ old. g.good.cancels l old) b;
       };
       still = g.still;
@@ -279,7 +280,7 @@ cancel_by s lane before now true is g to =
     let may : IsNext s before.past c = may_next s before.past c g.good.calm g.still.settled (some_call (current s before.past lane) both.0, g.good.cancels lane both.1, g.good.ready) in
     stage_good s now (begun_but before.begun lane) to.0 (rules_good s (cancelled_end (c ∷ before.past) lane ∷ c ∷ before.past) now.past (begun_but before.begun lane)
     (end_good s (c ∷ before.past) before.begun lane outcome.Cancelled (may, g.good.run) g.good.ready g.good.unkept
-    (λ l b. wait_more (is_some_place (own before.past l (ended before.past l))) _ (has_waited s before.past l) (g.good.cancels l b)) (cancelled_next s before.past lane)) refl to.1)
+    (λ l b. wait_more (is_some_asked (own before.past l (ended before.past l))) _ (has_waited s before.past l) (g.good.cancels l b)) (cancelled_next s before.past lane)) refl to.1)
 
 pub turn_good : (s : Setting) (t : Turn) (before now : Stage) → GoodStage s before → TurnTo s t before now → GoodStage s now
 turn_good s (turn.Step lane) before now g to = moves_good s lane before now (move_of s before.past lane) refl g to

@@ -1,5 +1,5 @@
 -- The calls of a session's lanes: what each does next and what it leaves, by the session's journal.
-use Rattle.std.specs.Prelude.{ℕ, ◌==◌, Bool, true, false, ◌||◌, List, [], ◌∷◌, ◌++◌, Option, Some, None, if◌then◌else◌, slice_get}
+use Rattle.std.specs.Prelude.{◌≡◌, ℕ, ◌==◌, Bool, true, false, ◌||◌, List, [], ◌∷◌, ◌++◌, Option, Some, None, if◌then◌else◌, slice_get}
 use Rattle.sftp_model.specs.declared.slot.Site.{Site}
 use Rattle.sftp_model.specs.declared.slot.Slot.TheVariants.{Empty}
 use Rattle.sftp_model.specs.Slots.{fresh_site, with_slot}
@@ -8,6 +8,7 @@ use Rattle.sftp_model.specs.declared.slot.Move.{Move}
 use Rattle.sftp_model.specs.declared.slot.Move.TheVariants.{Ask, Wait, Done}
 use Rattle.sftp_calls.specs.Moves.{Answers, Own, Plan}
 use Rattle.sftp_calls.specs.CallPlans as plan
+use Rattle.sftp_calls.specs.OwnRequests.{oldest_first, IsCallSoFar}
 use Rattle.sftp_file.specs.OpenOptions.{flags_of}
 use Rattle.sftp_history.specs.declared.call.Call.{Call}
 use Rattle.sftp_history.specs.declared.call.Call.TheVariants as call
@@ -118,6 +119,13 @@ is_wait (Some (Wait place)) = true
 is_wait (Some (Ask r)) = false
 is_wait (Some (Done o site)) = false
 is_wait None = false
+
+-- A lane's call goes by its plan: each of its requests is what the plan asked by the replies that had come by then,
+-- and each reply to one may answer it.
+pub record GoesByPlan (s : Setting) (past : List Entry) (lane : ℕ) (c : Call) : Type 0 where
+  pub requests : Own
+  pub are : oldest_first requests ≡ own past lane (ended past lane)
+  pub so_far : IsCallSoFar (planned c) (site_of s past lane) s.facts requests (answer past)
 
 -- The lane's call waits for a reply here, or did so at an earlier place since it became the lane's call.
 abbrev pub has_waited : Setting → List Entry → ℕ → Bool

@@ -1,5 +1,5 @@
 -- Worked whole runs.
-use Rattle.std.specs.Prelude.{ℕ, ◌-◌, ◌≡◌, ◌∷◌, List, [], codes, drop, true, false, refl}
+use Rattle.std.specs.Prelude.{ℕ, ◌-◌, ◌≡◌, ◌∷◌, List, [], codes, drop, refl}
 use Rattle.std.proofs.Common.{arith, inl, inr}
 use Rattle.ssh_encoding.specs.Writing.{uint32, string}
 use Rattle.sftp_model.specs.declared.outcome.Outcome.TheVariants as outcome
@@ -11,9 +11,8 @@ use Rattle.sftp_history.specs.declared.turn.Turn.TheVariants as turn
 use Rattle.sftp_history.specs.Turns.{Stage}
 use Rattle.sftp_history.specs.Runs.{IsRun, TurnsTo, DrainsTo, round_of, at_first}
 use Rattle.sftp_history.specs.RowWords.{setting_with, submit, send, take, end, cancel, close, open_of, ok, granted, handle}
-use Rattle.sftp_history.specs.JournalRows.{s, was_closed, over}
+use Rattle.sftp_history.specs.JournalRows.{s, over}
 use Rattle.sftp_history.specs.LaneRows.{opens}
-use Rattle.sftp_history.specs.declared.turn.Turn.{Turn}
 use Rattle.sftp_history.specs.Readings.{outcomes_below}
 
 -- ---- no calls

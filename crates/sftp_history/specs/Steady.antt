@@ -4,7 +4,7 @@ use Rattle.std.specs.List.{list_any}
 use Rattle.sftp_history.specs.declared.entry.Entry.{Entry}
 use Rattle.sftp_history.specs.Readings.{last_cancel, was_kept}
 use Rattle.sftp_history.specs.Calls.{Setting}
-use Rattle.sftp_history.specs.Grants.{orphan, closed, IsSettled}
+use Rattle.sftp_history.specs.Grants.{orphan, IsSettled}
 use Rattle.sftp_history.specs.Journals.{IsJournal, opened, may_cancel}
 
 -- a run so far whose lanes that were begun may be cancelled

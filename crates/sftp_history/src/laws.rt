@@ -1,11 +1,12 @@
 // Laws of the definitions. The functions do nothing: what they ensure holds of all values.
 ghost use Rattle.std.specs.Prelude.{◌≡◌, ◌≢◌, ◌<◌, ◌≤◌, ℕ, true, false, List, [], ◌∷◌, Some, None};
 ghost use Rattle.sftp_model.specs.declared.reply.Reply.{Reply};
+ghost use Rattle.sftp_history.specs.declared.call.Call.{Call};
 ghost use Rattle.sftp_history.specs.declared.entry.Entry.{Entry};
 ghost use Rattle.sftp_history.specs.declared.entry.Entry.TheVariants as entry;
 ghost use Rattle.sftp_history.specs.declared.event.Event.TheVariants.{Take};
 ghost use Rattle.sftp_history.specs.Readings.{Asked, answer, asked_at, bearer};
-ghost use Rattle.sftp_history.specs.Calls.{Setting, current};
+ghost use Rattle.sftp_history.specs.Calls.{Setting, current, GoesByPlan};
 ghost use Rattle.sftp_history.specs.Ids.{id_state, Reads};
 ghost use Rattle.sftp_history.specs.Journals.{IsJournal, IsOver, MayTake};
 ghost use Rattle.sftp_history.specs.Grants.{IsSettled};
@@ -36,6 +37,13 @@ pub fn ids_name_requests()
 /// What the recursion over a journal says of an id is what the journal's readings say.
 pub fn ids_are_read()
     ensures { (past : List Entry) (id : ℕ) → Reads past id (id_state past id) }
+{}
+
+/// In a run so far the current call of a lane goes by its plan: each of its requests was what the plan asked, when
+/// no reply to it had come, by replies that are still there, and each reply to one may answer it.
+pub fn calls_go_by_their_plans()
+    ensures { (s : Setting) (past : List Entry) (lane : ℕ) (c : Call) → IsJournal s past
+        → current s past lane ≡ Some c → GoesByPlan s past lane c }
 {}
 
 /// A whole run is a run so far, and behind it each lane was let go, nothing is to be closed and nothing is
