@@ -9,7 +9,9 @@ use Rattle.sftp_model.specs.Frames.{request_body, attributes}
 use Rattle.sftp_history.specs.declared.call.Call.TheVariants as call
 use Rattle.sftp_history.specs.declared.entry.Entry.{Entry}
 use Rattle.sftp_history.specs.declared.entry.Entry.TheVariants as entry
-use Rattle.sftp_history.specs.Calls.{Setting}
+use Rattle.sftp_calls.specs.OwnRequests.{IsCallSoFar}
+use Rattle.sftp_history.specs.Readings.{answer, own}
+use Rattle.sftp_history.specs.Calls.{Setting, planned, site_of, GoesByPlan}
 use Rattle.sftp_history.specs.Grants.{closed}
 use Rattle.sftp_history.specs.Journals.{IsJournal, IsNext, IsOver}
 use Rattle.sftp_history.specs.RowWords.{to_read, setting_with, submit, send, take, end, close, open_of, ok, handle, granted}
@@ -74,6 +76,23 @@ was_read_is = (
     ),
   ),
 )
+
+-- a call's requests, each with its place; its plan asked them
+pub own_of_read : own was_read 0 1 ≡ (1, request.Read (handle 7) 0 5) ∷ []
+own_of_read = refl
+
+pub own_of_other_lane : own was_read 1 1 ≡ []
+own_of_other_lane = refl
+
+pub read_goes : GoesByPlan s (submit 0 1 1 (request.Read (handle 7) 0 5) ∷ opened) 0 (call.Read 0 5)
+read_goes = record {
+  requests = (1, request.Read (handle 7) 0 5) ∷ [];
+  are = refl;
+  so_far = record { asked = (answer opened, tt, refl, refl, λ place r got. got); answered = (tt, tt) };
+}
+
+pub read_of_more : IsCallSoFar (planned (call.Read 0 5)) (site_of s opened 0) s.facts ((1, request.Read (handle 7) 0 6) ∷ []) (answer opened) → ⊥
+read_of_more = λ c. let e = c.asked.2 in absurd cc
 
 abbrev pub asked_close : List Entry
 asked_close =
