@@ -1,0 +1,13 @@
+pub mod PairLaws
+pub mod NameLaws
+pub mod PutLaws
+pub mod ChangeLaws
+pub mod LossLaws
+pub mod WellFormedLaws
+pub mod GrantingLaws
+pub mod OpenLaws
+pub mod StatusLaws
+pub mod AnswerLaws
+pub mod FitLaws
+pub mod ReplyLaws
+pub mod ReplyFits

@@ -1,0 +1,17 @@
+pub mod Limits
+pub mod Components
+pub mod FileTree
+pub mod HandleRequests
+pub mod NameRequests
+pub mod TreeAnswers
+pub mod Refusals
+pub mod Pairs
+pub mod Changes
+pub mod FitTrees
+pub mod RowWords
+pub mod ComponentRows
+pub mod OpenRows
+pub mod HandleRows
+pub mod NameRows
+pub mod RenameRows
+pub mod SessionRows

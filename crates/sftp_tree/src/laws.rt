@@ -1,0 +1,79 @@
+//! Laws of the definitions. The functions do nothing: what they ensure holds of all values.
+ghost use Rattle.std.specs.Prelude.{◌≡◌, ◌≢◌, ◌<◌, ◌≤◌, ◌⊎◌, ℕ, List, None, Some, false, length};
+ghost use Rattle.sftp_model.specs.Answers.{MayAnswer, is_handle};
+ghost use Rattle.sftp_model.specs.FileMachine.{IsAfterHello};
+ghost use Rattle.sftp_model.specs.Fits.{FitsHandle, FitsNumber, FitsReply};
+ghost use Rattle.sftp_model.specs.Frames.{reply_body};
+ghost use Rattle.sftp_model.specs.Numbers.{MAX_BODY_LEN};
+ghost use Rattle.sftp_model.specs.declared.config.Choice.{Choice};
+ghost use Rattle.sftp_model.specs.declared.config.ServerConfig.{ServerConfig};
+ghost use Rattle.sftp_model.specs.declared.request.Request.{Request};
+ghost use Rattle.sftp_tree.specs.Changes.{Asks, IsWellFormed, Leaves, Opens};
+ghost use Rattle.sftp_tree.specs.Components.{Name};
+ghost use Rattle.sftp_tree.specs.FileTree.{FileTree, node_at, opened_at};
+ghost use Rattle.sftp_tree.specs.FitTrees.{GivesWithin, IsFit};
+ghost use Rattle.sftp_tree.specs.HandleRequests.{capped};
+ghost use Rattle.sftp_tree.specs.Refusals.{KeepsWhereRefused};
+ghost use Rattle.sftp_tree.specs.TreeAnswers.{apply};
+ghost use Rattle.sftp_tree.specs.declared.node.Node.TheVariants as node;
+
+/// The reply to any request but the hello may answer it, and a request that is refused changes nothing.
+pub fn replies_may_answer()
+    ensures allowed { (tree : FileTree) (config : ServerConfig) (r : Request) (choice : Choice)
+        (handle : List ℕ) → IsAfterHello r → MayAnswer r (apply tree config r choice handle).0 }
+    ensures keeps { (tree : FileTree) (config : ServerConfig) (r : Request) (choice : Choice)
+        (handle : List ℕ) → KeepsWhereRefused tree (apply tree config r choice handle).0
+        (apply tree config r choice handle).1 }
+{}
+
+/// Each request leaves what one of the changes leaves to which it may lead, and it is answered by a HANDLE, the
+/// one that was to be granted, exactly where that change grants one.
+pub fn answers_leave_changes()
+    ensures { (tree : FileTree) (config : ServerConfig) (r : Request) (choice : Choice)
+        (handle : List ℕ) → Leaves tree r handle (apply tree config r choice handle) }
+{}
+
+/// Where each file has a number that one name has at most, this stays so.
+pub fn trees_stay_well_formed()
+    ensures { (tree : FileTree) (config : ServerConfig) (r : Request) (choice : Choice)
+        (handle : List ℕ) → IsWellFormed tree → IsWellFormed (apply tree config r choice handle).1 }
+{}
+
+/// Where files and names are within their bounds, this stays so.
+pub fn trees_stay_fit()
+    ensures { (tree : FileTree) (config : ServerConfig) (r : Request) (choice : Choice)
+        (handle : List ℕ) → IsFit tree → IsFit (apply tree config r choice handle).1 }
+{}
+
+/// The reply fits a frame, and its body is within the bound, where the tree is within its bounds and the handle,
+/// the choice and a READ's length fit.
+pub fn replies_fit_frames()
+    ensures fits { (tree : FileTree) (config : ServerConfig) (r : Request) (choice : Choice)
+        (handle : List ℕ) → IsFit tree → FitsHandle handle → FitsNumber choice.refuse
+        → GivesWithin choice.cap r → FitsReply (apply tree config r choice handle).0 }
+    ensures within { (tree : FileTree) (config : ServerConfig) (r : Request) (choice : Choice)
+        (handle : List ℕ) (id : ℕ) → IsFit tree → FitsHandle handle → FitsNumber choice.refuse
+        → GivesWithin choice.cap r
+        → length (reply_body (apply tree config r choice handle).0 id) ≤ MAX_BODY_LEN }
+{}
+
+/// A handle that is not open is open after a request only where the request was granted it.
+pub fn handles_open_where_granted()
+    ensures { (tree : FileTree) (config : ServerConfig) (r : Request) (choice : Choice)
+        (handle key : List ℕ) → opened_at tree key ≡ None
+        → (handle ≢ key) ⊎ (is_handle (apply tree config r choice handle).0 ≡ false)
+        → opened_at (apply tree config r choice handle).1 key ≡ None }
+{}
+
+/// A request that is no OPEN of a name opens its file by no further handle.
+pub fn files_open_by_opens()
+    ensures { (tree : FileTree) (config : ServerConfig) (r : Request) (choice : Choice)
+        (handle : List ℕ) (name : Name) (file : ℕ) (h : List ℕ) → IsWellFormed tree
+        → (Asks r name → ⊥) → node_at tree name ≡ Some (node.File file)
+        → Opens (apply tree config r choice handle).1 h file → Opens tree h file }
+{}
+
+/// A choice can make a DATA and a NAME of any length that its row of the definition lets it have.
+pub fn replies_of_any_length()
+    ensures { (cap most : ℕ) → 0 < cap → cap ≤ most → capped cap most ≡ cap }
+{}

@@ -1,0 +1,16 @@
+//! Files and directories in memory, as an SFTP version 3 server answers requests on them
+//! (draft-ietf-secsh-filexfer-02, sections 6 and 7): what each request is answered and what it leaves. The
+//! definitions stand in `specs/`, beside worked examples; this crate has no code but two enums.
+#![tactic(auto)]
+
+mod laws;
+pub mod limits;
+mod node;
+mod opened;
+
+pub use laws::{
+    answers_leave_changes, files_open_by_opens, handles_open_where_granted, replies_fit_frames,
+    replies_may_answer, replies_of_any_length, trees_stay_fit, trees_stay_well_formed,
+};
+pub use node::Node;
+pub use opened::{Held, Opened};
