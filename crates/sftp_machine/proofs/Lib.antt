@@ -1,0 +1,6 @@
+pub mod WalkLaws
+pub mod OrderLaws
+pub mod PathLaws
+pub mod KeptLaws
+pub mod CommitLaws
+pub mod ReplyLaws

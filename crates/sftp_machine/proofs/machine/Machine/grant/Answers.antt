@@ -1,0 +1,10 @@
+use Rattle.std.proofs.Common.{rules, ◌≡◌, [], ◌∷◌, ◌++◌, ap, arith}
+use Rattle.sftp_machine.specs.MachineState.{MachineState, numbered_handle}
+use Rattle.sftp_machine.proofs.KeptLaws.{below_push}
+use Rattle.sftp_machine.proofs.machine.Machine.grant.Goals as goal
+
+pub invariant_of-self-2 : goal.invariant_of-self-2
+invariant_of-self-2 c =
+    let count = ap (λ (w : MachineState). w.grants) c.self.view_is in
+    let pushed : c.push.new.self.items ≡ c.self.inside.handles.items ++ (numbered_handle c.self.inside.grants, c.args.opened) ∷ [] = search rules in
+    rw pushed (record { handles = below_push c.self.inside.grants c.self.inside.handles.items c.args.opened c.self.invariant.handles; count = omega (arith, count, c.requires) })

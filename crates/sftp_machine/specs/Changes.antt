@@ -1,0 +1,58 @@
+-- What a request changes, and what an answer is made of.
+use Rattle.std.specs.Prelude.{◌≡◌, ◌<◌, ◌+◌, ◌^◌, ℕ, Bool, true, false, List, [], ◌∷◌, if◌then◌else◌, length, drop}
+use Rattle.sftp_model.specs.declared.reply.Reply.{Reply}
+use Rattle.std.specs.Str.{bytes_eq}
+use Rattle.sftp_tree.specs.declared.node.Node.TheVariants as node
+use Rattle.sftp_tree.specs.declared.opened.Opened.{Opened}
+use Rattle.sftp_tree.specs.declared.opened.Opened.TheVariants as opened
+use Rattle.sftp_model.specs.Answers.{is_handle}
+use Rattle.sftp_tree.specs.HandleRequests.{Answer}
+use Rattle.sftp_tree.specs.FileTree.{FileTree, bytes_of, put, resized, with_bytes, with_name, with_file, without_name, with_renamed, with_handle, without_handle, after_loss}
+use Rattle.sftp_machine.specs.declared.change.Change.{Change}
+use Rattle.sftp_machine.specs.declared.change.Change.TheVariants as change
+
+-- what is open without its first entries
+abbrev pub without_first : ℕ → Opened → Opened
+without_first n (opened.File held) = opened.File held
+without_first n (opened.Directory entries) = opened.Directory (drop n entries)
+
+-- what is open by a handle without its first entries
+abbrev pub given_pairs : List (List ℕ × Opened) → List ℕ → ℕ → List (List ℕ × Opened)
+given_pairs [] handle n = []
+given_pairs (pair ∷ pairs) handle n = if bytes_eq pair.0 handle then (pair.0, without_first n pair.1) ∷ pairs else pair ∷ given_pairs pairs handle n
+
+-- the tree after a change; `handle` is the granted one
+abbrev pub changed : FileTree → List ℕ → Change → FileTree
+changed tree handle change.Unchanged = tree
+changed tree handle (change.Written file offset piece) = with_bytes tree file (put (bytes_of tree file) offset piece)
+changed tree handle (change.Resized file size) = with_bytes tree file (resized size (bytes_of tree file))
+changed tree handle (change.Granted o) = with_handle tree handle o
+changed tree handle (change.Truncated file o) = with_handle (with_bytes tree file []) handle o
+changed tree handle (change.Created name o) = with_handle (with_file tree name) handle o
+changed tree handle (change.ClosedDirectory h) = without_handle tree h
+changed tree handle (change.ClosedFile h file) = after_loss (without_handle tree h) file
+changed tree handle (change.Listed h n) = record tree { handles = given_pairs tree.handles h n }
+changed tree handle (change.MadeDirectory name) = with_name tree name node.Directory
+changed tree handle (change.RemovedDirectory name) = without_name tree name
+changed tree handle (change.RemovedFile name file) = after_loss (without_name tree name) file
+changed tree handle (change.Renamed old to) = with_renamed tree old to
+changed tree handle (change.Replaced old to gone) = after_loss (with_renamed (without_name tree to) old to) gone
+
+-- the change grants the handle
+abbrev pub is_grant : Change → Bool
+is_grant (change.Granted o) = true
+is_grant (change.Truncated file o) = true
+is_grant (change.Created name o) = true
+is_grant other = false
+
+-- a piece ends within what a number can say
+abbrev pub FitsChange : Change → Type 0
+FitsChange (change.Written file offset piece) = offset + length piece < 2 ^ 63
+FitsChange other = Unit {0}
+
+-- a reply with a change makes the answer: the same reply, and what the change leaves
+pub record Leads (tree : FileTree) (handle : List ℕ) (said : Reply × Change) (x : Answer) : Type 0 where
+  pub reply : said.0 ≡ x.0
+  pub left : changed tree handle said.1 ≡ x.1
+  pub grants : is_grant said.1 ≡ is_handle x.0
+  pub fits : FitsChange said.1

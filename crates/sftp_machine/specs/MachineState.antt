@@ -1,0 +1,77 @@
+-- A server of files and directories in memory, which grants the numbers 0, 1, 2 and so on as its handles.
+use Rattle.std.specs.Prelude.{◌≡◌, ◌<◌, ◌≤◌, ℕ, ◌+◌, ◌==◌, List, [], ◌∷◌, if◌then◌else◌}
+use Rattle.std.specs.Int.{w32, to_be_bytes}
+use Rattle.sftp_model.specs.declared.config.Choice.{Choice}
+use Rattle.sftp_model.specs.declared.config.ServerConfig.{ServerConfig}
+use Rattle.sftp_model.specs.declared.request.Request.{Request}
+use Rattle.sftp_model.specs.declared.reply.Reply.{Reply}
+use Rattle.sftp_model.specs.Answers.{is_handle}
+use Rattle.sftp_model.specs.Numbers.{SSH_FX_FAILURE}
+use Rattle.sftp_tree.specs.HandleRequests.{Answer, status}
+use Rattle.sftp_tree.specs.declared.opened.Opened.{Opened}
+use Rattle.sftp_tree.specs.FileTree.{FileTree}
+use Rattle.sftp_tree.specs.TreeAnswers.{apply}
+use Rattle.sftp_machine.specs.Changes.{Leads, changed, is_grant}
+use Rattle.sftp_machine.specs.declared.change.Change.{Change}
+
+-- files and directories, what the server offers, and how many handles it granted
+pub record MachineState : Type 0 where
+  pub tree : FileTree
+  pub config : ServerConfig
+  pub grants : ℕ
+
+-- the handle of a number: four bytes, the most significant first
+abbrev pub numbered_handle : ℕ → List ℕ
+numbered_handle n = to_be_bytes w32 n
+
+-- as many handles as there are numbers of four bytes
+abbrev pub MAX_HANDLES : ℕ
+MAX_HANDLES = 4294967296
+
+-- ---- what a request leaves
+
+-- another tree, with what the server offers and how many handles it granted
+abbrev pub with_tree : MachineState → FileTree → MachineState
+with_tree state tree = record { tree = tree; config = state.config; grants = state.grants }
+
+-- the same with one handle more
+abbrev pub with_grant : MachineState → FileTree → MachineState
+with_grant state tree = record { tree = tree; config = state.config; grants = state.grants + 1 }
+
+-- what an answer leaves. A HANDLE is counted; where all numbers were granted, it is refused
+abbrev pub counted : MachineState → Answer → Reply × MachineState
+counted state x =
+    if is_handle x.0 then (if state.grants == MAX_HANDLES then (status SSH_FX_FAILURE, state) else (x.0, with_grant state x.1))
+    else (x.0, with_tree state x.1)
+
+-- the reply to a request, and what is left: as the definition says, where the handle is the next number
+abbrev pub answer : MachineState → Request → Choice → Reply × MachineState
+answer state r choice = counted state (apply state.tree state.config r choice (numbered_handle state.grants))
+
+-- what a change leaves
+abbrev pub committed : MachineState → Change → MachineState
+committed state c = record {
+  tree = changed state.tree (numbered_handle state.grants) c;
+  config = state.config;
+  grants = if is_grant c then state.grants + 1 else state.grants;
+}
+
+-- a reply with a change is that answer
+abbrev pub Makes : MachineState → Reply × Change → Answer → Type 0
+Makes state said x = Leads state.tree (numbered_handle state.grants) said x
+
+-- ---- handles
+
+-- the handle is one of the first n numbers
+abbrev pub IsBelow : ℕ → List ℕ → Type 0
+IsBelow n handle = (k : ℕ) × (k < n) × (handle ≡ numbered_handle k)
+
+-- each of these handles is one of the first n numbers
+abbrev pub AllBelow : ℕ → List (List ℕ × Opened) → Type 0
+AllBelow n [] = Unit {0}
+AllBelow n (pair ∷ pairs) = IsBelow n pair.0 × AllBelow n pairs
+
+-- each open handle was granted
+pub record IsValid (state : MachineState) : Type 0 where
+  pub handles : AllBelow state.grants state.tree.handles
+  pub count : state.grants ≤ MAX_HANDLES

@@ -1,0 +1,209 @@
+// The answer to a request.
+ghost use Rattle.std.specs.Prelude.{◌≡◌, ◌<◌, ◌==◌, ◌^◌, ◌+◌, ℕ, [], None, Some, true, false, IfOk, OnOk, OnErr};
+ghost use Rattle.sftp_model.specs.declared.reply.Reply.TheVariants as reply;
+ghost use Rattle.sftp_model.specs.declared.request.Request.TheVariants as request;
+ghost use Rattle.sftp_tree.specs.Components.{components as components_by};
+ghost use Rattle.sftp_model.specs.Answers.{MayAnswer};
+ghost use Rattle.sftp_tree.specs.FitTrees.{IsFit};
+ghost use Rattle.sftp_model.specs.Fits.{FitsReply};
+ghost use Rattle.sftp_tree.specs.FitTrees.{GivesWithin};
+ghost use Rattle.sftp_model.specs.FileMachine.{IsAfterHello};
+ghost use Rattle.sftp_model.specs.Readings.{has_bit};
+ghost use Rattle.sftp_tree.specs.TreeAnswers.{apply as apply_by, answered as answered_by, limits_reply};
+ghost use Rattle.sftp_machine.specs.Changes.{is_grant};
+ghost use Rattle.sftp_machine.specs.MachineState.{MachineState, Makes, answer as answer_by, numbered_handle as bytes_of_handle};
+
+use crate::change::Change;
+use crate::machine::Machine;
+use crate::tree_name::walk;
+use bitflags::Flags;
+use sftp_model::numbers::{SSH_FX_FAILURE, SSH_FX_OK, SSH_FX_OP_UNSUPPORTED};
+use sftp_model::{Choice, Extensions, Limits, RemotePath, Reply, Request};
+use sftp_values::ByteText;
+use ssh_encoding::OutOfMemory;
+use std::alloc::Global;
+
+// As many handles as there are numbers of four bytes.
+const MAX_HANDLES: u64 = 4_294_967_296;
+
+impl Machine {
+    /// Answers a request, which isn't the hello: the reply of the definition and what it leaves, where the
+    /// handle that an OPEN or an OPENDIR is granted is the next number. Once all 4294967296 were granted,
+    /// such a request is refused with a STATUS of FAILURE and changes nothing. Refused only for want of memory, all
+    /// is as before.
+    #[tactic(auto, using(crate::proofs::CommitLaws::refused, crate::proofs::CommitLaws::granted))]
+    pub fn apply(&mut self, request: &Request, choice: Choice) -> Result<Reply, OutOfMemory>
+        requires after_hello { IsAfterHello request.now }
+        ensures reply { IfOk result (λ r. r ≡ (answer_by self.old request.now choice).0) }
+        ensures left { OnOk result (self.new ≡ (answer_by self.old request.now choice).1) }
+        ensures kept { OnErr result (self.new ≡ self.old) }
+        ensures answers { IfOk result (λ r. MayAnswer request.now r) }
+        ensures fits { IfOk result (λ r. IsFit self.old.tree → GivesWithin choice.cap request.now → FitsReply r) }
+    {
+        let (reply, change) = self.answer(request, choice)?;
+        if self.grants == MAX_HANDLES && grants(&change) {
+            return Ok(self.status(SSH_FX_FAILURE));
+        }
+        self.commit(change)?;
+        Ok(reply)
+    }
+
+    /// The reply to a request, with the change that it makes.
+    pub(crate) fn answer(
+        &self,
+        request: &Request,
+        choice: Choice,
+    ) -> Result<(Reply, Change), OutOfMemory>
+        ensures { IfOk result (λ r. Makes self.now r (apply_by self.now.tree self.now.config
+            request.now choice (bytes_of_handle self.now.grants))) }
+    {
+        if choice.refuse != SSH_FX_OK {
+            return Ok(self.refused(choice.refuse));
+        }
+        self.answered(request, choice.cap)
+    }
+
+    // To a request that isn't refused.
+    fn answered(&self, request: &Request, cap: u32) -> Result<(Reply, Change), OutOfMemory>
+        ensures { IfOk result (λ r. Makes self.now r (answered_by self.now.tree self.now.config
+            request.now cap (bytes_of_handle self.now.grants))) }
+    {
+        match request {
+            Request::OpenFile { path, flags, .. } => self.open(flags.bits(), self.name(path)?),
+            Request::Close { handle } => Ok(self.close(handle)),
+            Request::Read {
+                handle,
+                offset,
+                len,
+            } => self.read(cap, *offset, *len, self.held_at(handle.as_bytes())),
+            Request::Write {
+                handle,
+                offset,
+                content,
+            } => self.write(*offset, content, self.held_at(handle.as_bytes())),
+            Request::Stat { path } => Ok(self.stat(self.node_at(&self.name(path)?))),
+            Request::Lstat { path } => Ok(self.stat(self.node_at(&self.name(path)?))),
+            Request::Fstat { handle } => Ok(self.fstat(handle.as_bytes())),
+            Request::Setstat { path, attrs } => {
+                Ok(self.setstat(*attrs, self.node_at(&self.name(path)?)))
+            }
+            Request::Fsetstat { handle, attrs } => {
+                Ok(self.fsetstat(*attrs, self.held_at(handle.as_bytes())))
+            }
+            Request::Remove { path } => self.remove(self.name(path)?),
+            Request::Mkdir { path, .. } => self.mkdir(self.name(path)?),
+            Request::Rmdir { path } => self.rmdir(self.name(path)?),
+            Request::Opendir { path } => self.opendir(&self.name(path)?),
+            Request::Readdir { handle } => self.readdir(cap, handle),
+            Request::Realpath { path } => self.realpath(self.name(path)?),
+            Request::Rename { old, to } => self.rename(self.name(old)?, self.name(to)?),
+            Request::PosixRename { old, to } => self.posix_rename_at(old, to),
+            Request::Fsync { handle } => Ok(self.fsync_at(handle.as_bytes())),
+            Request::ExpandPath { path } => self.expand(path),
+            Request::CopyData {
+                from,
+                from_offset,
+                len,
+                to,
+                to_offset,
+            } => {
+                if !self.offers(Extensions::COPY_DATA) {
+                    return Ok(self.refused(SSH_FX_OP_UNSUPPORTED));
+                }
+                let (from, to) = (self.held_at(from.as_bytes()), self.held_at(to.as_bytes()));
+                self.copy(*from_offset, *len, *to_offset, from, to)
+            }
+            Request::LimitsQuery => self.limits(),
+            Request::Init { .. } => Ok(self.refused(SSH_FX_OP_UNSUPPORTED)),
+            Request::Readlink { .. } => Ok(self.refused(SSH_FX_OP_UNSUPPORTED)),
+            Request::Symlink { .. } => Ok(self.refused(SSH_FX_OP_UNSUPPORTED)),
+            Request::Hardlink { .. } => Ok(self.refused(SSH_FX_OP_UNSUPPORTED)),
+        }
+    }
+
+    // The name that a path denotes.
+    fn name(&self, path: &RemotePath) -> Result<Vec<ByteText>, OutOfMemory>
+        ensures { IfOk result (λ name. name.items ≡ components_by path.now) }
+    {
+        walk(self.alloc, path.as_bytes())
+    }
+
+    // Whether it offers an extension.
+    fn offers(&self, extension: Extensions) -> bool
+        ensures { result ≡ has_bit self.now.config.extensions.0 extension.0 }
+    {
+        self.config.extensions.bits() & extension.bits() != 0
+    }
+
+    // `posix-rename@openssh.com`, where it is offered.
+    fn posix_rename_at(
+        &self,
+        old: &RemotePath,
+        to: &RemotePath,
+    ) -> Result<(Reply, Change), OutOfMemory>
+        ensures { IfOk result (λ r. Makes self.now r (answered_by self.now.tree self.now.config
+            (request.PosixRename old.now to.now) 0 (bytes_of_handle self.now.grants))) }
+    {
+        if !self.offers(Extensions::POSIX_RENAME) {
+            return Ok(self.refused(SSH_FX_OP_UNSUPPORTED));
+        }
+        self.posix_rename(self.name(old)?, self.name(to)?)
+    }
+
+    // `fsync@openssh.com`, where it is offered.
+    fn fsync_at(&self, handle: &[u8]) -> (Reply, Change)
+        ensures { Makes self.now result (answered_by self.now.tree self.now.config
+            (request.Fsync handle.now) 0 (bytes_of_handle self.now.grants)) }
+    {
+        if !self.offers(Extensions::FSYNC) {
+            return self.refused(SSH_FX_OP_UNSUPPORTED);
+        }
+        self.fsync(self.held_at(handle))
+    }
+
+    // `expand-path@openssh.com`, where it is offered.
+    fn expand(&self, path: &RemotePath) -> Result<(Reply, Change), OutOfMemory>
+        ensures { IfOk result (λ r. Makes self.now r (answered_by self.now.tree self.now.config
+            (request.ExpandPath path.now) 0 (bytes_of_handle self.now.grants))) }
+    {
+        if !self.offers(Extensions::EXPAND_PATH) {
+            return Ok(self.refused(SSH_FX_OP_UNSUPPORTED));
+        }
+        self.realpath(self.name(path)?)
+    }
+
+    // The query for limits.
+    fn limits(&self) -> Result<(Reply, Change), OutOfMemory>
+        ensures { IfOk result (λ r. Makes self.now r
+            (limits_reply self.now.config.limits, self.now.tree)) }
+    {
+        let Some(limits) = self.config.limits else {
+            return Ok(self.refused(SSH_FX_OP_UNSUPPORTED));
+        };
+        Ok((told_limits(self.alloc, limits)?, Change::Unchanged))
+    }
+}
+
+/// The limits in an answer.
+#[tactic(auto, unfolding(sftp_model::specs::Frames::limits_content, ssh_encoding::specs::Writing::uint64))]
+fn told_limits(alloc: Global, limits: Limits) -> Result<Reply, OutOfMemory>
+    ensures { IfOk result (λ r. r ≡ limits_reply (Some limits)) }
+{
+    let mut content = Vec::from_slice(alloc, &limits.packet_len.to_be_bytes())?;
+    content.extend_from_slice(&limits.read_len.to_be_bytes())?;
+    content.extend_from_slice(&limits.write_len.to_be_bytes())?;
+    content.extend_from_slice(&limits.open_handles.to_be_bytes())?;
+    Ok(Reply::Extended(ByteText::new(content)))
+}
+
+/// Whether a change grants the handle.
+fn grants(change: &Change) -> bool
+    ensures { result ≡ is_grant change.now }
+{
+    match change {
+        Change::Granted(_) => true,
+        Change::Truncated(_, _) => true,
+        Change::Created(_, _) => true,
+        _ => false,
+    }
+}

@@ -1,0 +1,71 @@
+// How many names have a file, and how many a directory.
+ghost use Rattle.std.specs.Prelude.{◌≡◌, length, filter};
+ghost use Rattle.sftp_machine.specs.Listing.{has_file, has_directory, is_file as is_file_by};
+
+use crate::machine::Machine;
+use crate::tree_name::TreeName;
+use sftp_model::ServerConfig;
+use sftp_tree::Node;
+
+impl Machine {
+    /// How many names have a file.
+    pub fn file_count(&self) -> u64
+        ensures { result ≡ length (filter has_file self.now.tree.names) }
+    {
+        count_files(&self.names)
+    }
+
+    /// How many names have a directory; the root has no name.
+    pub fn dir_count(&self) -> u64
+        ensures { result ≡ length (filter has_directory self.now.tree.names) }
+    {
+        count_directories(&self.names)
+    }
+
+    /// How many handles were granted.
+    pub fn grant_count(&self) -> u64
+        ensures { result ≡ self.now.grants }
+    {
+        self.grants
+    }
+
+    /// What it offers.
+    pub fn config(&self) -> ServerConfig
+        ensures { result ≡ self.now.config }
+    {
+        self.config
+    }
+}
+
+fn count_files(pairs: &[(TreeName, Node)]) -> u64
+    ensures { result ≡ length (filter has_file pairs.now) }
+{
+    let mut count = 0u64;
+    for pair in pairs {
+        if is_file(pair.1) {
+            count += 1;
+        }
+    }
+    count
+}
+
+fn count_directories(pairs: &[(TreeName, Node)]) -> u64
+    ensures { result ≡ length (filter has_directory pairs.now) }
+{
+    let mut count = 0u64;
+    for pair in pairs {
+        if !is_file(pair.1) {
+            count += 1;
+        }
+    }
+    count
+}
+
+fn is_file(node: Node) -> bool
+    ensures { result ≡ is_file_by node }
+{
+    match node {
+        Node::Directory => false,
+        Node::File(_) => true,
+    }
+}

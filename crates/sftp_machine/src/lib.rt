@@ -1,0 +1,23 @@
+//! Files and directories in memory, as an SFTP version 3 server answers its requests
+//! (draft-ietf-secsh-filexfer-02, sections 6 and 7). What each is answered and leaves is defined in `sftp_tree`.
+#![tactic(auto)]
+
+mod answer;
+mod change;
+mod commit;
+mod counts;
+mod file_bytes;
+mod first_tree;
+mod handle_requests;
+mod lookups;
+mod machine;
+mod name_requests;
+mod outbox;
+mod tree_name;
+
+pub use machine::Machine;
+pub use outbox::Outbox;
+pub use tree_name::{TreeName, components};
+
+#[cfg(test)]
+mod tests;
