@@ -4,3 +4,5 @@ pub mod PathLaws
 pub mod KeptLaws
 pub mod CommitLaws
 pub mod ReplyLaws
+pub mod FirstLaws
+pub mod HandleLaws

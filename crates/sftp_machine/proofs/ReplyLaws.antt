@@ -1,21 +1,74 @@
--- The machine's reply may answer the request, and fits a frame.
-use Rattle.std.proofs.Common.{◌<◌, ◌^◌, arith}
+-- What a server replies may answer the request and fits a frame, and its tree stays within its bounds.
+use Rattle.std.specs.Prelude.{Result, Ok, Err, IfOk, OnOk, OnErr}
+use Rattle.std.proofs.Common.{subst, sym, ◌≡◌, ◌==◌, ◌<◌, ◌≤◌, ◌^◌, Bool, true, false, [], if◌then◌else◌, arith, lit<, refl}
 use Rattle.sftp_model.specs.declared.config.Choice.{Choice}
+use Rattle.sftp_model.specs.declared.reply.Reply.{Reply}
 use Rattle.sftp_model.specs.declared.request.Request.{Request}
-use Rattle.sftp_model.specs.Answers.{MayAnswer}
+use Rattle.sftp_model.specs.Answers.{MayAnswer, is_handle}
 use Rattle.sftp_model.specs.FileMachine.{IsAfterHello}
-use Rattle.sftp_tree.specs.FitTrees.{IsFit}
 use Rattle.sftp_model.specs.Fits.{FitsReply}
+use Rattle.sftp_model.specs.Numbers.{SSH_FX_FAILURE}
+use Rattle.sftp_tree.specs.FileTree.{FileTree}
+use Rattle.sftp_tree.specs.FitTrees.{GivesWithin, IsFit}
+use Rattle.sftp_tree.specs.HandleRequests.{Answer, status}
+use Rattle.sftp_tree.specs.TreeAnswers.{apply}
+use Rattle.sftp_tree.proofs.AnswerLaws.{tree_answers}
+use Rattle.sftp_tree.proofs.FitLaws.{fit_after}
 use Rattle.sftp_tree.proofs.ReplyFits.{says_fit}
 use Rattle.sftp_tree.proofs.ReplyLaws.{tree_replies}
-use Rattle.sftp_tree.specs.FitTrees.{GivesWithin}
-use Rattle.sftp_tree.proofs.AnswerLaws.{tree_answers}
-use Rattle.sftp_tree.specs.TreeAnswers.{apply}
-use Rattle.sftp_machine.specs.MachineState.{MachineState, numbered_handle}
+use Rattle.sftp_tree.proofs.StatusLaws.{status_allowed}
+use Rattle.sftp_machine.specs.MachineState.{MachineState, answer, counted, with_grant, with_tree, numbered_handle, MAX_HANDLES}
 
-pub reply_answers : (state : MachineState) (r : Request) (choice : Choice) → IsAfterHello r → MayAnswer r (apply state.tree state.config r choice (numbered_handle state.grants)).0
-reply_answers state r choice h = (tree_answers state.tree state.config r choice (numbered_handle state.grants) h).allowed
+-- the answer of the definition, with the next number
+abbrev defined : MachineState → Request → Choice → Answer
+defined state r choice = apply state.tree state.config r choice (numbered_handle state.grants)
 
-pub reply_fits : (state : MachineState) (r : Request) (choice : Choice) → IsFit state.tree → choice.refuse < 2 ^ 32 → GivesWithin choice.cap r → FitsReply (apply state.tree state.config r choice (numbered_handle state.grants)).0
+abbrev by_flags : MachineState → Answer → Bool → Bool → Reply × MachineState
+by_flags state x grant full =
+    if grant then (if full then (status SSH_FX_FAILURE, state) else (x.0, with_grant state x.1)) else (x.0, with_tree state x.1)
+
+-- what holds of the tree before and after holds of what is left
+fit_by : (state : MachineState) (x : Answer) (grant full : Bool) → IsFit state.tree → IsFit x.1 → IsFit (by_flags state x grant full).1.tree
+fit_by state x true true before after = before
+fit_by state x true false before after = after
+fit_by state x false full before after = after
+
+pub fit_left : (state : MachineState) (r : Request) (choice : Choice) → IsFit state.tree → IsFit (answer state r choice).1.tree
+fit_left state r choice fit =
+    let x : Answer = defined state r choice in
+    fit_by state x (is_handle x.0) (state.grants == MAX_HANDLES) fit (fit_after state.tree state.config r choice (numbered_handle state.grants) fit)
+
+answers_by : (state : MachineState) (r : Request) (x : Answer) (grant full : Bool) → MayAnswer r (status SSH_FX_FAILURE) → MayAnswer r x.0 → MayAnswer r (by_flags state x grant full).0
+answers_by state r x true true refused said = refused
+answers_by state r x true false refused said = said
+answers_by state r x false full refused said = said
+
+pub reply_answers : (state : MachineState) (r : Request) (choice : Choice) → IsAfterHello r → MayAnswer r (answer state r choice).0
+reply_answers state r choice h =
+    let x : Answer = defined state r choice in
+    answers_by state r x (is_handle x.0) (state.grants == MAX_HANDLES) (status_allowed r SSH_FX_FAILURE h refl) (tree_answers state.tree state.config r choice (numbered_handle state.grants) h).allowed
+
+fits_by : (state : MachineState) (x : Answer) (grant full : Bool) → FitsReply (status SSH_FX_FAILURE) → FitsReply x.0 → FitsReply (by_flags state x grant full).0
+fits_by state x true true refused said = refused
+fits_by state x true false refused said = said
+fits_by state x false full refused said = said
+
+pub reply_fits : (state : MachineState) (r : Request) (choice : Choice) → IsFit state.tree → choice.refuse < 2 ^ 32 → GivesWithin choice.cap r → FitsReply (answer state r choice).0
 reply_fits state r choice fit code within =
-    says_fit (apply state.tree state.config r choice (numbered_handle state.grants)).0 (tree_replies state.tree state.config r choice (numbered_handle state.grants) fit (omega arith) code within).said
+    let x : Answer = defined state r choice in
+    fits_by state x (is_handle x.0) (state.grants == MAX_HANDLES) (lit< tt, omega arith, omega arith)
+    (says_fit x.0 (tree_replies state.tree state.config r choice (numbered_handle state.grants) fit (omega arith) code within).said)
+
+-- whichever way an answer ends
+pub fit_where : {E : Type 0} (state : MachineState) (r : Request) (choice : Choice) (result : Result Reply E) (after : MachineState) → IsFit state.tree → OnOk result (after ≡ (answer state r choice).1) → OnErr result (after ≡ state) → IsFit after.tree
+fit_where state r choice (Ok said) after fit left kept = subst (λ (w : MachineState). IsFit w.tree) (sym left) (fit_left state r choice fit)
+fit_where state r choice (Err e) after fit left kept = subst (λ (w : MachineState). IsFit w.tree) (sym kept) fit
+
+pub answers_where : {E : Type 0} (state : MachineState) (r : Request) (choice : Choice) (result : Result Reply E) → IsAfterHello r → IfOk result (λ said. said ≡ (answer state r choice).0) → IfOk result (λ said. MayAnswer r said)
+answers_where state r choice (Ok said) h is = subst (λ (w : Reply). MayAnswer r w) (sym is) (reply_answers state r choice h)
+answers_where state r choice (Err e) h is = tt
+
+pub fits_where : {E : Type 0} (state : MachineState) (r : Request) (choice : Choice) (result : Result Reply E) → IsFit state.tree → choice.refuse < 2 ^ 32 → IfOk result (λ said. said ≡ (answer state r choice).0)
+    → IfOk result (λ said. GivesWithin choice.cap r → FitsReply said)
+fits_where state r choice (Ok said) fit code is = λ within. subst (λ (w : Reply). FitsReply w) (sym is) (reply_fits state r choice fit code within)
+fits_where state r choice (Err e) fit code is = tt

@@ -3,10 +3,6 @@ ghost use Rattle.std.specs.Prelude.{◌≡◌, ◌<◌, ◌==◌, ◌^◌, ◌+�
 ghost use Rattle.sftp_model.specs.declared.reply.Reply.TheVariants as reply;
 ghost use Rattle.sftp_model.specs.declared.request.Request.TheVariants as request;
 ghost use Rattle.sftp_tree.specs.Components.{components as components_by};
-ghost use Rattle.sftp_model.specs.Answers.{MayAnswer};
-ghost use Rattle.sftp_tree.specs.FitTrees.{IsFit};
-ghost use Rattle.sftp_model.specs.Fits.{FitsReply};
-ghost use Rattle.sftp_tree.specs.FitTrees.{GivesWithin};
 ghost use Rattle.sftp_model.specs.FileMachine.{IsAfterHello};
 ghost use Rattle.sftp_model.specs.Readings.{has_bit};
 ghost use Rattle.sftp_tree.specs.TreeAnswers.{apply as apply_by, answered as answered_by, limits_reply};
@@ -14,7 +10,7 @@ ghost use Rattle.sftp_machine.specs.Changes.{is_grant};
 ghost use Rattle.sftp_machine.specs.MachineState.{MachineState, Makes, answer as answer_by, numbered_handle as bytes_of_handle};
 
 use crate::change::Change;
-use crate::machine::Machine;
+use crate::store::Store;
 use crate::tree_name::walk;
 use bitflags::Flags;
 use sftp_model::numbers::{SSH_FX_FAILURE, SSH_FX_OK, SSH_FX_OP_UNSUPPORTED};
@@ -26,19 +22,16 @@ use std::alloc::Global;
 // As many handles as there are numbers of four bytes.
 const MAX_HANDLES: u64 = 4_294_967_296;
 
-impl Machine {
-    /// Answers a request, which isn't the hello: the reply of the definition and what it leaves, where the
-    /// handle that an OPEN or an OPENDIR is granted is the next number. Once all 4294967296 were granted,
-    /// such a request is refused with a STATUS of FAILURE and changes nothing. Refused only for want of memory, all
-    /// is as before.
+impl Store {
+    /// Answers a request, which isn't the hello, by the definition: the reply, and what is left. A HANDLE is of the next
+    /// number; where none is left, a STATUS of FAILURE comes in its place and nothing changes. An Err comes only for
+    /// want of memory, and all is as before.
     #[tactic(auto, using(crate::proofs::CommitLaws::refused, crate::proofs::CommitLaws::granted))]
-    pub fn apply(&mut self, request: &Request, choice: Choice) -> Result<Reply, OutOfMemory>
+    pub(crate) fn apply(&mut self, request: &Request, choice: Choice) -> Result<Reply, OutOfMemory>
         requires after_hello { IsAfterHello request.now }
         ensures reply { IfOk result (λ r. r ≡ (answer_by self.old request.now choice).0) }
         ensures left { OnOk result (self.new ≡ (answer_by self.old request.now choice).1) }
         ensures kept { OnErr result (self.new ≡ self.old) }
-        ensures answers { IfOk result (λ r. MayAnswer request.now r) }
-        ensures fits { IfOk result (λ r. IsFit self.old.tree → GivesWithin choice.cap request.now → FitsReply r) }
     {
         let (reply, change) = self.answer(request, choice)?;
         if self.grants == MAX_HANDLES && grants(&change) {

@@ -11,7 +11,7 @@ ghost use Rattle.sftp_machine.specs.declared.change.Change.TheVariants as change
 use crate::change::Change;
 use crate::file_bytes::FileBytes;
 use crate::lookups::{handle_index, is_held, is_named, is_within, name_index};
-use crate::machine::{Machine, numbered_handle};
+use crate::store::{Store, numbered_handle};
 use crate::tree_name::TreeName;
 use sftp_model::{Handle, TryCopy};
 use sftp_tree::{Node, Opened};
@@ -19,7 +19,7 @@ use sftp_values::{ByteText, Items};
 use ssh_encoding::OutOfMemory;
 use std::alloc::Global;
 
-impl Machine {
+impl Store {
     /// Makes a change. Refused for want of memory, all is as before.
     pub(crate) fn commit(&mut self, change: Change) -> Result<(), OutOfMemory>
         requires room { is_grant change ≡ true → self.old.grants < MAX_HANDLES }

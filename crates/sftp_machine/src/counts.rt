@@ -1,5 +1,6 @@
 // How many names have a file, and how many a directory.
 ghost use Rattle.std.specs.Prelude.{◌≡◌, length, filter};
+ghost use Rattle.sftp_machine.specs.MachineState.{IsValid};
 ghost use Rattle.sftp_machine.specs.Listing.{has_file, has_directory, is_file as is_file_by};
 
 use crate::machine::Machine;
@@ -12,28 +13,29 @@ impl Machine {
     pub fn file_count(&self) -> u64
         ensures { result ≡ length (filter has_file self.now.tree.names) }
     {
-        count_files(&self.names)
+        count_files(&self.store.names)
     }
 
     /// How many names have a directory; the root has no name.
     pub fn dir_count(&self) -> u64
         ensures { result ≡ length (filter has_directory self.now.tree.names) }
     {
-        count_directories(&self.names)
+        count_directories(&self.store.names)
     }
 
-    /// How many handles were granted.
+    /// How many handles were granted. Each open handle is a number below it.
     pub fn grant_count(&self) -> u64
-        ensures { result ≡ self.now.grants }
+        ensures count { result ≡ self.now.grants }
+        ensures valid { IsValid self.now }
     {
-        self.grants
+        self.store.grant_count()
     }
 
     /// What it offers.
     pub fn config(&self) -> ServerConfig
         ensures { result ≡ self.now.config }
     {
-        self.config
+        self.store.config
     }
 }
 

@@ -35,7 +35,7 @@ impl FileBytes {
         self.bytes.as_slice()
     }
 
-    /// It is cut to a size, or filled up with zeros. Refused for want of memory, it refused.
+    /// It is cut to a size, or filled up with zeros. An Err comes only for want of memory, and it stays.
     pub fn resize(&mut self, size: usize) -> Result<(), OutOfMemory>
         ensures ok { OnOk result (self.new ≡ resized size self.old) }
         ensures err { OnErr result (self.new ≡ self.old) }
@@ -44,7 +44,7 @@ impl FileBytes {
         Ok(())
     }
 
-    /// A piece is written at an offset; zeros fill a gap. Refused for want of memory, it refused.
+    /// A piece is written at an offset; zeros fill a gap. An Err comes only for want of memory, and it stays.
     pub fn put(&mut self, offset: usize, piece: &[u8]) -> Result<(), OutOfMemory>
         requires { offset + length piece.now < 2 ^ 63 }
         ensures ok { OnOk result (self.new ≡ put_by self.old offset piece.now) }

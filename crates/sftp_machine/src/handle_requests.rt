@@ -10,7 +10,7 @@ ghost use Rattle.sftp_machine.specs.MachineState.{MachineState, Makes, numbered_
 
 use crate::change::Change;
 use crate::lookups::{is_long, whole};
-use crate::machine::Machine;
+use crate::store::Store;
 use crate::tree_name::TreeName;
 use bytes::Bytes;
 use sftp_model::numbers::{
@@ -22,7 +22,7 @@ use sftp_tree::{Held, Node, Opened};
 use sftp_values::ByteText;
 use ssh_encoding::OutOfMemory;
 
-impl Machine {
+impl Store {
     /// OPEN.
     pub(crate) fn open(
         &self,

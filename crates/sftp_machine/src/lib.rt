@@ -9,12 +9,16 @@ mod counts;
 mod file_bytes;
 mod first_tree;
 mod handle_requests;
+mod laws;
 mod lookups;
 mod machine;
 mod name_requests;
 mod outbox;
+mod store;
 mod tree_name;
 
+pub use first_tree::may_begin;
+pub use laws::grants_are_new;
 pub use machine::Machine;
 pub use outbox::Outbox;
 pub use tree_name::{TreeName, components};

@@ -1,176 +1,81 @@
-ghost use Rattle.std.specs.Prelude.{◌≡◌, ◌<◌, ◌≤◌, ◌^◌, ℕ, [], None, Some, true, false, length, take, drop, IfOk, OnOk, OnErr, MatchOption, ◌+◌, ◌-◌, ◌||◌, max, min, nat_lt};
-ghost use Rattle.std.specs.Option.{option_copied};
-ghost use Rattle.sftp_model.specs.Numbers.{SSH_FX_OK};
-ghost use Rattle.sftp_model.specs.declared.reply.Reply.TheVariants as reply;
-ghost use Rattle.sftp_tree.specs.declared.node.Node.TheVariants as node;
-ghost use Rattle.sftp_tree.specs.Components.{parent_of};
-ghost use Rattle.sftp_tree.specs.Limits.{MAX_FILE_LEN, MAX_TOTAL_LEN};
-ghost use Rattle.sftp_tree.specs.HandleRequests.{refuses as refuses_by, done as done_by};
-ghost use Rattle.sftp_tree.specs.FileTree.{node_at as node_by, opened_at as opened_by, file_of, entries_of, bytes_of as bytes_by, attributes_of as attributes_by, is_directory as is_directory_by, is_over as is_over_by};
-ghost use Rattle.sftp_machine.specs.MachineState.{MachineState, IsValid, Makes, committed, MAX_HANDLES, numbered_handle as bytes_of_handle};
-ghost use Rattle.sftp_machine.specs.declared.change.Change.TheVariants as change;
+ghost use Rattle.std.specs.Prelude.{◌≡◌, [], true, IfOk, OnOk, OnErr};
+ghost use Rattle.sftp_model.specs.Answers.{MayAnswer};
+ghost use Rattle.sftp_model.specs.FileMachine.{IsAfterHello};
+ghost use Rattle.sftp_model.specs.Fits.{FitsReply};
+ghost use Rattle.sftp_tree.specs.FitTrees.{GivesWithin};
+ghost use Rattle.sftp_machine.specs.FirstTree.{first_tree, may_begin};
+ghost use Rattle.sftp_machine.specs.MachineState.{IsValid, answer as answer_by};
 
-use crate::change::Change;
-use crate::file_bytes::FileBytes;
-use crate::lookups::{all_bytes, is_directory, node_of, opened_of};
-use crate::tree_name::TreeName;
-use sftp_model::numbers::SSH_FX_OK;
-use sftp_model::{FileAttrs, Handle, Reply, ServerConfig};
-use sftp_tree::limits::{DIRECTORY_PERMISSIONS, MAX_FILE_LEN, MAX_TOTAL_LEN};
-use sftp_tree::{Held, Node, Opened};
+use crate::store::Store;
+use sftp_model::{Choice, Reply, Request, ServerConfig};
 use sftp_values::ByteText;
+use ssh_encoding::OutOfMemory;
 use std::alloc::Global;
 use std::marker::Model;
 
-/// Files and directories in memory. Its handles are the numbers 0, 1, 2 and so on in the order of
-/// grants, each as four bytes, the most significant first.
+/// A server of files and directories in memory, without a link. Its handles are the numbers 0, 1, 2 and so on in
+/// the order of grants, each as four bytes, the most significant first. A contract sees the tree of its files and
+/// directories, what it offers and how many handles it granted.
 #[derive(Drop)]
 pub struct Machine {
-    pub(crate) alloc: Global,
-    pub(crate) names: Vec<(TreeName, Node)>,
-    pub(crate) files: Vec<FileBytes>,
-    pub(crate) handles: Vec<(Handle, Opened)>,
-    pub(crate) config: ServerConfig,
-    pub(crate) grants: u64,
+    pub(crate) store: Store,
 }
 
 impl Model for Machine {
-    ghost use Rattle.sftp_machine.specs.MachineState.{MachineState, IsValid};
+    ghost use Rattle.sftp_tree.specs.FitTrees.{IsFit};
+    ghost use Rattle.sftp_machine.specs.MachineState.{MachineState};
 
     ghost Value = { MachineState };
 
-    ghost view = { λ m. record {
-      tree = record { names = m.names.items; files = m.files.items; handles = m.handles.items };
-      config = m.config;
-      grants = m.grants;
-    } };
+    ghost view = { λ m. m.store };
 
-    ghost invariant = { λ m. IsValid (record {
-      tree = record { names = m.names.items; files = m.files.items; handles = m.handles.items };
-      config = m.config;
-      grants = m.grants;
-    }) };
+    // files and names are within their bounds
+    ghost invariant = { λ m. IsFit m.store.tree };
 }
 
 impl Machine {
-    /// What a name has.
-    pub(crate) fn node_at(&self, name: &[ByteText]) -> Option<Node>
-        ensures { result ≡ node_by self.now.tree name.now }
+    /// A server with these files, each a path and its bytes, numbered in their order. `may_begin` tells whether it may
+    /// begin with them. Refused only for want of memory; nothing is left of it then.
+    pub fn new(
+        alloc: Global,
+        files: &[(ByteText, ByteText)],
+        config: ServerConfig,
+    ) -> Result<Machine, OutOfMemory>
+        requires { may_begin files.now [] ≡ true }
+        ensures { IfOk result (λ m. m ≡ record { tree = first_tree files.now []; config = config; grants = 0 }) }
     {
-        match name {
-            [] => Some(Node::Directory),
-            _ => node_of(&self.names, name),
-        }
+        Machine::new_tree(alloc, files, &[], config)
     }
 
-    /// What a handle has.
-    pub(crate) fn opened_at(&self, handle: &[u8]) -> Option<&Opened>
-        ensures { option_copied result ≡ opened_by self.now.tree handle.now }
+    /// The same with these directories too, each a path. The directories that a path passes through are not made:
+    /// they are to be among `dirs`.
+    #[tactic(auto, using(crate::proofs::FirstLaws::first_fits))]
+    pub fn new_tree(
+        alloc: Global,
+        files: &[(ByteText, ByteText)],
+        dirs: &[ByteText],
+        config: ServerConfig,
+    ) -> Result<Machine, OutOfMemory>
+        requires { may_begin files.now dirs.now ≡ true }
+        ensures { IfOk result (λ m. m ≡ record { tree = first_tree files.now dirs.now; config = config; grants = 0 }) }
     {
-        opened_of(&self.handles, handle)
+        let store = Store::new(alloc, files, dirs, config)?;
+        Ok(Machine { store })
     }
 
-    /// The file that is open by a handle.
-    pub(crate) fn held_at(&self, handle: &[u8]) -> Option<Held>
-        ensures { result ≡ file_of (opened_by self.now.tree handle.now) }
+    /// Answers a request, which isn't the hello, by the definition: the reply, and what is left, where the handle that
+    /// an OPEN or an OPENDIR is granted is the next number. Once all 4294967296 were granted, such a request is refused
+    /// with a STATUS of FAILURE and changes nothing. An Err comes only for want of memory, and all is as before.
+    pub fn apply(&mut self, request: &Request, choice: Choice) -> Result<Reply, OutOfMemory>
+        requires after_hello { IsAfterHello request.now }
+        ensures reply { IfOk result (λ r. r ≡ (answer_by self.old request.now choice).0) }
+        ensures left { OnOk result (self.new ≡ (answer_by self.old request.now choice).1) }
+        ensures kept { OnErr result (self.new ≡ self.old) }
+
+        // What follows from these: the reply may answer the request, and it fits a frame.
+        ensures answers { IfOk result (λ r. MayAnswer request.now r) }
+        ensures fits { IfOk result (λ r. GivesWithin choice.cap request.now → FitsReply r) }
     {
-        match self.opened_at(handle) {
-            Some(Opened::File(held)) => Some(*held),
-            _ => None,
-        }
-    }
-
-    /// The bytes of a file.
-    pub(crate) fn bytes_of(&self, file: u64) -> &[u8]
-        ensures { result.now ≡ bytes_by self.now.tree file }
-    {
-        match self.files.get(file as usize) {
-            Some(bytes) => bytes.as_slice(),
-            None => &[],
-        }
-    }
-
-    /// The attributes that are told.
-    pub(crate) fn attributes_of(&self, node: Node) -> FileAttrs
-        ensures { result ≡ attributes_by self.now.tree node }
-    {
-        match node {
-            Node::Directory => FileAttrs {
-                size: None,
-                id: None,
-                permissions: Some(DIRECTORY_PERMISSIONS),
-                time: None,
-            },
-            Node::File(file) => FileAttrs {
-                size: Some(self.bytes_of(file).len() as u64),
-                id: None,
-                permissions: None,
-                time: None,
-            },
-        }
-    }
-
-    /// Whether a file may not have this size.
-    pub(crate) fn is_over(&self, file: u64, size: u64) -> bool
-        ensures { result ≡ is_over_by self.now.tree file size }
-    {
-        let before = self.bytes_of(file).len() as u64;
-        is_past(size, before, all_bytes(&self.files))
-    }
-
-    /// Whether a name's parent is a directory.
-    pub(crate) fn has_parent(&self, name: &[ByteText]) -> bool
-        ensures { result ≡ is_directory_by (node_by self.now.tree (parent_of name.now)) }
-    {
-        is_directory(self.node_at(&name[..name.len().saturating_sub(1)]))
-    }
-
-    /// A STATUS with an empty message and language.
-    pub(crate) fn status(&self, code: u32) -> Reply
-        ensures { result ≡ reply.Status code [] [] }
-    {
-        Reply::Status {
-            code,
-            message: ByteText::new(Vec::new(self.alloc)),
-            language: ByteText::new(Vec::new(self.alloc)),
-        }
-    }
-
-    /// A STATUS that changes nothing.
-    pub(crate) fn refused(&self, code: u32) -> (Reply, Change)
-        ensures { Makes self.now result (refuses_by self.now.tree code) }
-    {
-        (self.status(code), Change::Unchanged)
-    }
-
-    /// A STATUS 0 with a change.
-    pub(crate) fn done(&self, change: Change) -> (Reply, Change)
-        ensures { result ≡ (reply.Status SSH_FX_OK [] [], change) }
-    {
-        (self.status(SSH_FX_OK), change)
-    }
-
-    /// The next handle, with the change that grants it.
-    pub(crate) fn grants(&self, change: Change) -> (Reply, Change)
-        ensures { result ≡ (reply.Handle (bytes_of_handle self.now.grants), change) }
-    {
-        (Reply::Handle(numbered_handle(self.grants)), change)
-    }
-}
-
-/// Whether a size passes a limit, where the file had another one and all had these bytes.
-fn is_past(size: u64, before: u64, all: u64) -> bool
-    ensures { result ≡ (nat_lt MAX_FILE_LEN size || nat_lt MAX_TOTAL_LEN (min (all - before + size) (2 ^ 64 - 1))) }
-{
-    size > MAX_FILE_LEN || all.saturating_sub(before).saturating_add(size) > MAX_TOTAL_LEN
-}
-
-/// The handle of a number, which is taken modulo the count of numbers of four bytes.
-pub(crate) fn numbered_handle(number: u64) -> Handle
-    ensures { result ≡ bytes_of_handle number }
-{
-    match Handle::new(&number.to_be_bytes()[4..]) {
-        Some(handle) => handle,
-        None => unreachable!(),
+        self.store.apply(request, choice)
     }
 }

@@ -16,7 +16,7 @@ ghost use Rattle.sftp_machine.specs.MachineState.{MachineState, Makes, numbered_
 use crate::change::Change;
 use crate::handle_requests::capped;
 use crate::lookups::{has_child, is_before, is_child, is_long, is_within};
-use crate::machine::Machine;
+use crate::store::Store;
 use crate::tree_name::TreeName;
 use sftp_model::numbers::{SSH_FX_EOF, SSH_FX_FAILURE, SSH_FX_NO_SUCH_FILE};
 use sftp_model::{FileAttrs, Handle, NameEntry, RemotePath, Reply, TryCopy};
@@ -26,7 +26,7 @@ use sftp_values::{ByteText, Items};
 use ssh_encoding::OutOfMemory;
 use std::alloc::Global;
 
-impl Machine {
+impl Store {
     /// STAT and LSTAT.
     pub(crate) fn stat(&self, node: Option<Node>) -> (Reply, Change)
         ensures { Makes self.now result (after_stat self.now.tree node) }

@@ -1,15 +1,14 @@
-use Rattle.std.proofs.Common.{rules, ◌<◌, ◌^◌, sym, subst}
-use Rattle.sftp_model.specs.declared.reply.Reply.{Reply}
-use Rattle.sftp_model.specs.Answers.{MayAnswer}
-use Rattle.sftp_model.specs.Fits.{FitsReply}
-use Rattle.sftp_machine.proofs.ReplyLaws.{reply_answers, reply_fits}
+use Rattle.std.proofs.Common.{rules, ◌<◌, ◌^◌}
+use Rattle.sftp_machine.proofs.ReplyLaws.{answers_where, fits_where, fit_where}
 use Rattle.sftp_machine.proofs.machine.Machine.apply.Goals as goal
 
+pub invariant_of-self : goal.invariant_of-self
+invariant_of-self c = fit_where c.self.inside.store c.args.request.now c.args.choice c.apply.result c.apply.new.self c.self.invariant c.apply.ensures.left c.apply.ensures.kept
+
 pub returns-clause-answers : goal.returns-clause-answers
-returns-clause-answers c =
-    subst (λ (r : Reply). MayAnswer c.args.request.now r) (sym c.in_ok-reply.ensures.reply) (reply_answers c.args.self.now c.args.request.now c.args.choice c.requires.after_hello)
+returns-clause-answers c = answers_where c.self.inside.store c.args.request.now c.args.choice c.apply.result c.requires.after_hello c.apply.ensures.reply
 
 pub returns-clause-fits : goal.returns-clause-fits
 returns-clause-fits c =
     let code : c.args.choice.refuse < 2 ^ 32 = search rules in
-    λ fit within. subst (λ (r : Reply). FitsReply r) (sym c.in_ok-reply.ensures.reply) (reply_fits c.args.self.now c.args.request.now c.args.choice fit code within)
+    fits_where c.self.inside.store c.args.request.now c.args.choice c.apply.result c.self.invariant code c.apply.ensures.reply

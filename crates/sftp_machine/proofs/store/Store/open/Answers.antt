@@ -1,7 +1,7 @@
 use Rattle.std.proofs.Common.{rules, ◌≡◌, Some}
 use Rattle.sftp_tree.specs.declared.node.Node.TheVariants as node
 use Rattle.sftp_tree.specs.FileTree.{node_at}
-use Rattle.sftp_machine.proofs.machine.Machine.open.Goals as goal
+use Rattle.sftp_machine.proofs.store.Store.open.Goals as goal
 
 pub returns-in-Some-File : goal.returns-in-Some-File
 returns-in-Some-File c =

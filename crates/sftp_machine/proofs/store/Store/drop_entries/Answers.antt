@@ -1,7 +1,7 @@
 use Rattle.std.proofs.Common.{rules, ◌≡◌}
 use Rattle.sftp_machine.specs.Changes.{given_pairs}
 use Rattle.sftp_machine.proofs.KeptLaws.{below_given}
-use Rattle.sftp_machine.proofs.machine.Machine.drop_entries.Goals as goal
+use Rattle.sftp_machine.proofs.store.Store.drop_entries.Goals as goal
 
 pub invariant_of-self : goal.invariant_of-self
 invariant_of-self c =

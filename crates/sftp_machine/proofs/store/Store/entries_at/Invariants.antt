@@ -3,7 +3,7 @@ use Rattle.std.specs.Prelude.{map, filter}
 use Rattle.sftp_tree.specs.declared.node.Node.{Node}
 use Rattle.sftp_tree.specs.Components.{Name, is_child}
 use Rattle.sftp_tree.specs.NameRequests.{in_order, entry_of}
-use Rattle.sftp_machine.proofs.machine.Machine.entries_at.Given as goal
+use Rattle.sftp_machine.proofs.store.Store.entries_at.Given as goal
 
 -- the entries of the names that were passed
 abbrev pub invariant-loop-left : goal.invariant-loop-left

@@ -1,7 +1,7 @@
 use Rattle.std.proofs.Common.{rules, ◌≡◌, [], ◌∷◌, ◌++◌, ap, arith}
 use Rattle.sftp_machine.specs.MachineState.{MachineState, numbered_handle}
 use Rattle.sftp_machine.proofs.KeptLaws.{below_push}
-use Rattle.sftp_machine.proofs.machine.Machine.grant.Goals as goal
+use Rattle.sftp_machine.proofs.store.Store.grant.Goals as goal
 
 pub invariant_of-self-2 : goal.invariant_of-self-2
 invariant_of-self-2 c =

@@ -2,7 +2,7 @@ use Rattle.std.proofs.Common.{rules, ◌≡◌}
 use Rattle.std.specs.Str.{bytes_eq}
 use Rattle.sftp_tree.specs.FileTree.{without}
 use Rattle.sftp_machine.proofs.KeptLaws.{below_without}
-use Rattle.sftp_machine.proofs.machine.Machine.forget_handle.Goals as goal
+use Rattle.sftp_machine.proofs.store.Store.forget_handle.Goals as goal
 
 pub invariant_of-self : goal.invariant_of-self
 invariant_of-self c =

@@ -1,7 +1,7 @@
 use Rattle.std.proofs.Common.{rules, ◌<◌, ◌≤◌, ◌∷◌, length}
 use Rattle.sftp_tree.specs.Components.{written}
 use Rattle.sftp_machine.proofs.PathLaws.{path_over, path_within}
-use Rattle.sftp_machine.proofs.machine.Machine.realpath.Goals as goal
+use Rattle.sftp_machine.proofs.store.Store.realpath.Goals as goal
 
 pub returns-then-as_bytes-gt-MAX_PATH_LEN : goal.returns-then-as_bytes-gt-MAX_PATH_LEN
 returns-then-as_bytes-gt-MAX_PATH_LEN c =

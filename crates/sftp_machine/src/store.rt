@@ -1,0 +1,183 @@
+ghost use Rattle.std.specs.Prelude.{◌≡◌, ◌<◌, ◌≤◌, ◌^◌, ℕ, [], None, Some, true, false, length, take, drop, IfOk, OnOk, OnErr, MatchOption, ◌+◌, ◌-◌, ◌||◌, max, min, nat_lt};
+ghost use Rattle.std.specs.Option.{option_copied};
+ghost use Rattle.sftp_model.specs.Numbers.{SSH_FX_OK};
+ghost use Rattle.sftp_model.specs.declared.reply.Reply.TheVariants as reply;
+ghost use Rattle.sftp_tree.specs.declared.node.Node.TheVariants as node;
+ghost use Rattle.sftp_tree.specs.Components.{parent_of};
+ghost use Rattle.sftp_tree.specs.Limits.{MAX_FILE_LEN, MAX_TOTAL_LEN};
+ghost use Rattle.sftp_tree.specs.HandleRequests.{refuses as refuses_by, done as done_by};
+ghost use Rattle.sftp_tree.specs.FileTree.{node_at as node_by, opened_at as opened_by, file_of, entries_of, bytes_of as bytes_by, attributes_of as attributes_by, is_directory as is_directory_by, is_over as is_over_by};
+ghost use Rattle.sftp_machine.specs.MachineState.{MachineState, IsValid, Makes, committed, MAX_HANDLES, numbered_handle as bytes_of_handle};
+ghost use Rattle.sftp_machine.specs.declared.change.Change.TheVariants as change;
+
+use crate::change::Change;
+use crate::file_bytes::FileBytes;
+use crate::lookups::{all_bytes, is_directory, node_of, opened_of};
+use crate::tree_name::TreeName;
+use sftp_model::numbers::SSH_FX_OK;
+use sftp_model::{FileAttrs, Handle, Reply, ServerConfig};
+use sftp_tree::limits::{DIRECTORY_PERMISSIONS, MAX_FILE_LEN, MAX_TOTAL_LEN};
+use sftp_tree::{Held, Node, Opened};
+use sftp_values::ByteText;
+use std::alloc::Global;
+use std::marker::Model;
+
+/// Files and directories in memory, with what is open, whatever the sizes of files and names.
+#[derive(Drop)]
+pub struct Store {
+    pub(crate) alloc: Global,
+    pub(crate) names: Vec<(TreeName, Node)>,
+    pub(crate) files: Vec<FileBytes>,
+    pub(crate) handles: Vec<(Handle, Opened)>,
+    pub(crate) config: ServerConfig,
+    pub(crate) grants: u64,
+}
+
+impl Model for Store {
+    ghost use Rattle.sftp_machine.specs.MachineState.{MachineState, IsValid};
+
+    ghost Value = { MachineState };
+
+    ghost view = { λ m. record {
+      tree = record { names = m.names.items; files = m.files.items; handles = m.handles.items };
+      config = m.config;
+      grants = m.grants;
+    } };
+
+    ghost invariant = { λ m. IsValid (record {
+      tree = record { names = m.names.items; files = m.files.items; handles = m.handles.items };
+      config = m.config;
+      grants = m.grants;
+    }) };
+}
+
+impl Store {
+    /// How many handles were granted.
+    pub(crate) fn grant_count(&self) -> u64
+        ensures count { result ≡ self.now.grants }
+        ensures valid { IsValid self.now }
+    {
+        self.grants
+    }
+
+    /// What a name has.
+    pub(crate) fn node_at(&self, name: &[ByteText]) -> Option<Node>
+        ensures { result ≡ node_by self.now.tree name.now }
+    {
+        match name {
+            [] => Some(Node::Directory),
+            _ => node_of(&self.names, name),
+        }
+    }
+
+    /// What a handle has.
+    pub(crate) fn opened_at(&self, handle: &[u8]) -> Option<&Opened>
+        ensures { option_copied result ≡ opened_by self.now.tree handle.now }
+    {
+        opened_of(&self.handles, handle)
+    }
+
+    /// The file that is open by a handle.
+    pub(crate) fn held_at(&self, handle: &[u8]) -> Option<Held>
+        ensures { result ≡ file_of (opened_by self.now.tree handle.now) }
+    {
+        match self.opened_at(handle) {
+            Some(Opened::File(held)) => Some(*held),
+            _ => None,
+        }
+    }
+
+    /// The bytes of a file.
+    pub(crate) fn bytes_of(&self, file: u64) -> &[u8]
+        ensures { result.now ≡ bytes_by self.now.tree file }
+    {
+        match self.files.get(file as usize) {
+            Some(bytes) => bytes.as_slice(),
+            None => &[],
+        }
+    }
+
+    /// The attributes that are told.
+    pub(crate) fn attributes_of(&self, node: Node) -> FileAttrs
+        ensures { result ≡ attributes_by self.now.tree node }
+    {
+        match node {
+            Node::Directory => FileAttrs {
+                size: None,
+                id: None,
+                permissions: Some(DIRECTORY_PERMISSIONS),
+                time: None,
+            },
+            Node::File(file) => FileAttrs {
+                size: Some(self.bytes_of(file).len() as u64),
+                id: None,
+                permissions: None,
+                time: None,
+            },
+        }
+    }
+
+    /// Whether a file may not have this size.
+    pub(crate) fn is_over(&self, file: u64, size: u64) -> bool
+        ensures { result ≡ is_over_by self.now.tree file size }
+    {
+        let before = self.bytes_of(file).len() as u64;
+        is_past(size, before, all_bytes(&self.files))
+    }
+
+    /// Whether a name's parent is a directory.
+    pub(crate) fn has_parent(&self, name: &[ByteText]) -> bool
+        ensures { result ≡ is_directory_by (node_by self.now.tree (parent_of name.now)) }
+    {
+        is_directory(self.node_at(&name[..name.len().saturating_sub(1)]))
+    }
+
+    /// A STATUS with an empty message and language.
+    pub(crate) fn status(&self, code: u32) -> Reply
+        ensures { result ≡ reply.Status code [] [] }
+    {
+        Reply::Status {
+            code,
+            message: ByteText::new(Vec::new(self.alloc)),
+            language: ByteText::new(Vec::new(self.alloc)),
+        }
+    }
+
+    /// A STATUS that changes nothing.
+    pub(crate) fn refused(&self, code: u32) -> (Reply, Change)
+        ensures { Makes self.now result (refuses_by self.now.tree code) }
+    {
+        (self.status(code), Change::Unchanged)
+    }
+
+    /// A STATUS 0 with a change.
+    pub(crate) fn done(&self, change: Change) -> (Reply, Change)
+        ensures { result ≡ (reply.Status SSH_FX_OK [] [], change) }
+    {
+        (self.status(SSH_FX_OK), change)
+    }
+
+    /// The next handle, with the change that grants it.
+    pub(crate) fn grants(&self, change: Change) -> (Reply, Change)
+        ensures { result ≡ (reply.Handle (bytes_of_handle self.now.grants), change) }
+    {
+        (Reply::Handle(numbered_handle(self.grants)), change)
+    }
+}
+
+/// Whether a size passes a limit, where the file had another one and all had these bytes.
+fn is_past(size: u64, before: u64, all: u64) -> bool
+    ensures { result ≡ (nat_lt MAX_FILE_LEN size || nat_lt MAX_TOTAL_LEN (min (all - before + size) (2 ^ 64 - 1))) }
+{
+    size > MAX_FILE_LEN || all.saturating_sub(before).saturating_add(size) > MAX_TOTAL_LEN
+}
+
+/// The handle of a number, which is taken modulo the count of numbers of four bytes.
+pub(crate) fn numbered_handle(number: u64) -> Handle
+    ensures { result ≡ bytes_of_handle number }
+{
+    match Handle::new(&number.to_be_bytes()[4..]) {
+        Some(handle) => handle,
+        None => unreachable!(),
+    }
+}
