@@ -6,3 +6,5 @@ pub mod CommitLaws
 pub mod ReplyLaws
 pub mod FirstLaws
 pub mod HandleLaws
+pub mod SortLaws
+pub mod NameChangeLaws

@@ -1,8 +1,8 @@
 -- Names as paths from the root, and how long a NAME with one path is.
-use Rattle.std.proofs.Common.{◌≡◌, ℕ, ◌+◌, ◌<◌, ◌≤◌, true, false, List, [], ◌∷◌, ◌++◌, length, refl, ap, arith}
+use Rattle.std.proofs.Common.{◌≡◌, ℕ, ◌+◌, ◌<◌, ◌≤◌, true, false, List, [], ◌∷◌, ◌++◌, length, take, drop, suc, ◌-◌, refl, ap, ◌∙◌, arith}
 use Rattle.std.specs.Prelude.{nat_lt, flat_map}
 use Rattle.std.proofs.lemmas.Bool.{lt-ltb, le-ltb}
-use Rattle.std.proofs.lemmas.List.{length-append, append-nil}
+use Rattle.std.proofs.lemmas.List.{length-append, append-nil, take_all}
 use Rattle.ssh_encoding.specs.Writing.{uint32, string}
 use Rattle.sftp_tree.specs.Components.{Name, written}
 use Rattle.sftp_model.specs.Numbers.{MAX_BODY_LEN}
@@ -18,6 +18,18 @@ slashed_all part (next ∷ parts) = ap (λ l. let m : List ℕ = 47 ∷ part ++ 
 pub slashed_name : (name : Name) → (name ≡ [] → ⊥) → flat_map slashed name ≡ 47 ∷ written name
 slashed_name [] h = absurd (h refl)
 slashed_name (part ∷ parts) h = slashed_all part parts
+
+-- a name without the first slash
+pub written_none : (name : Name) (text : List ℕ) → text ≡ flat_map slashed name → length text < 1 → [] ≡ written name
+written_none [] text e h = refl
+written_none (part ∷ parts) text e h = absurd (let l : length text ≡ suc (length (written (part ∷ parts))) = ap length (e ∙ slashed_all part parts) in omega (arith, h, l))
+
+pub written_rest : (name : Name) (text : List ℕ) → text ≡ flat_map slashed name → take (length text - 1) (drop 1 text) ≡ written name
+written_rest [] text e = rw e refl
+written_rest (part ∷ parts) text e = rw (e ∙ slashed_all part parts) (take_whole (written (part ∷ parts)))
+  where
+    take_whole : (xs : List ℕ) → take (length (47 ∷ xs) - 1) xs ≡ xs
+    take_whole xs = take_all (length (47 ∷ xs) - 1) xs (omega arith)
 
 len_path : (name : Name) → length (reply_body (path_reply name) 0) ≡ 22 + length (written name)
 unfolding reply_body attributes uint32 string

@@ -1,6 +1,6 @@
 -- What a server replies may answer the request and fits a frame, and its tree stays within its bounds.
-use Rattle.std.specs.Prelude.{Result, Ok, Err, IfOk, OnOk, OnErr}
-use Rattle.std.proofs.Common.{subst, sym, ◌≡◌, ◌==◌, ◌<◌, ◌≤◌, ◌^◌, Bool, true, false, [], if◌then◌else◌, arith, lit<, refl}
+use Rattle.std.specs.Prelude.{Result, Ok, Err, IfOk}
+use Rattle.std.proofs.Common.{subst, sym, ◌≡◌, ◌==◌, ◌<◌, ◌^◌, Bool, true, false, if◌then◌else◌, arith, lit<, refl}
 use Rattle.sftp_model.specs.declared.config.Choice.{Choice}
 use Rattle.sftp_model.specs.declared.reply.Reply.{Reply}
 use Rattle.sftp_model.specs.declared.request.Request.{Request}
@@ -17,7 +17,8 @@ use Rattle.sftp_tree.proofs.FitLaws.{fit_after}
 use Rattle.sftp_tree.proofs.ReplyFits.{says_fit}
 use Rattle.sftp_tree.proofs.ReplyLaws.{tree_replies}
 use Rattle.sftp_tree.proofs.StatusLaws.{status_allowed}
-use Rattle.sftp_machine.specs.MachineState.{MachineState, answer, counted, with_grant, with_tree, numbered_handle, MAX_HANDLES}
+use Rattle.sftp_machine.specs.declared.change.Change.{Change}
+use Rattle.sftp_machine.specs.MachineState.{Makes, committed, MachineState, answer, with_grant, with_tree, numbered_handle, MAX_HANDLES}
 
 -- the answer of the definition, with the next number
 abbrev defined : MachineState → Request → Choice → Answer
@@ -60,10 +61,6 @@ reply_fits state r choice fit code within =
     (says_fit x.0 (tree_replies state.tree state.config r choice (numbered_handle state.grants) fit (omega arith) code within).said)
 
 -- whichever way an answer ends
-pub fit_where : {E : Type 0} (state : MachineState) (r : Request) (choice : Choice) (result : Result Reply E) (after : MachineState) → IsFit state.tree → OnOk result (after ≡ (answer state r choice).1) → OnErr result (after ≡ state) → IsFit after.tree
-fit_where state r choice (Ok said) after fit left kept = subst (λ (w : MachineState). IsFit w.tree) (sym left) (fit_left state r choice fit)
-fit_where state r choice (Err e) after fit left kept = subst (λ (w : MachineState). IsFit w.tree) (sym kept) fit
-
 pub answers_where : {E : Type 0} (state : MachineState) (r : Request) (choice : Choice) (result : Result Reply E) → IsAfterHello r → IfOk result (λ said. said ≡ (answer state r choice).0) → IfOk result (λ said. MayAnswer r said)
 answers_where state r choice (Ok said) h is = subst (λ (w : Reply). MayAnswer r w) (sym is) (reply_answers state r choice h)
 answers_where state r choice (Err e) h is = tt
@@ -72,3 +69,7 @@ pub fits_where : {E : Type 0} (state : MachineState) (r : Request) (choice : Cho
     → IfOk result (λ said. GivesWithin choice.cap r → FitsReply said)
 fits_where state r choice (Ok said) fit code is = λ within. subst (λ (w : Reply). FitsReply w) (sym is) (reply_fits state r choice fit code within)
 fits_where state r choice (Err e) fit code is = tt
+
+-- the change of an answer leaves a tree within its bounds
+pub fit_committed : (state : MachineState) (r : Request) (choice : Choice) (said : Reply × Change) → IsFit state.tree → Makes state said (defined state r choice) → IsFit (committed state said.1).tree
+fit_committed state r choice said fit makes = subst (λ (w : FileTree). IsFit w) (sym makes.left) (fit_after state.tree state.config r choice (numbered_handle state.grants) fit)

@@ -4,3 +4,5 @@ pub mod MachineState
 pub mod FirstTree
 pub mod WaitingFrames
 pub mod Listing
+pub mod Places
+pub mod NameChanges

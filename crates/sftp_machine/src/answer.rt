@@ -3,44 +3,23 @@ ghost use Rattle.std.specs.Prelude.{◌≡◌, ◌<◌, ◌==◌, ◌^◌, ◌+�
 ghost use Rattle.sftp_model.specs.declared.reply.Reply.TheVariants as reply;
 ghost use Rattle.sftp_model.specs.declared.request.Request.TheVariants as request;
 ghost use Rattle.sftp_tree.specs.Components.{components as components_by};
-ghost use Rattle.sftp_model.specs.FileMachine.{IsAfterHello};
 ghost use Rattle.sftp_model.specs.Readings.{has_bit};
 ghost use Rattle.sftp_tree.specs.TreeAnswers.{apply as apply_by, answered as answered_by, limits_reply};
 ghost use Rattle.sftp_machine.specs.Changes.{is_grant};
-ghost use Rattle.sftp_machine.specs.MachineState.{MachineState, Makes, answer as answer_by, numbered_handle as bytes_of_handle};
+ghost use Rattle.sftp_machine.specs.NameChanges.{changes_names as changes_names_by};
+ghost use Rattle.sftp_machine.specs.MachineState.{MachineState, Makes, numbered_handle as bytes_of_handle};
 
 use crate::change::Change;
 use crate::store::Store;
 use crate::tree_name::walk;
 use bitflags::Flags;
-use sftp_model::numbers::{SSH_FX_FAILURE, SSH_FX_OK, SSH_FX_OP_UNSUPPORTED};
+use sftp_model::numbers::{SSH_FX_OK, SSH_FX_OP_UNSUPPORTED};
 use sftp_model::{Choice, Extensions, Limits, RemotePath, Reply, Request};
 use sftp_values::ByteText;
 use ssh_encoding::OutOfMemory;
 use std::alloc::Global;
 
-// As many handles as there are numbers of four bytes.
-const MAX_HANDLES: u64 = 4_294_967_296;
-
 impl Store {
-    /// Answers a request, which isn't the hello, by the definition: the reply, and what is left. A HANDLE is of the next
-    /// number; where none is left, a STATUS of FAILURE comes in its place and nothing changes. An Err comes only for
-    /// want of memory, and all is as before.
-    #[tactic(auto, using(crate::proofs::CommitLaws::refused, crate::proofs::CommitLaws::granted))]
-    pub(crate) fn apply(&mut self, request: &Request, choice: Choice) -> Result<Reply, OutOfMemory>
-        requires after_hello { IsAfterHello request.now }
-        ensures reply { IfOk result (λ r. r ≡ (answer_by self.old request.now choice).0) }
-        ensures left { OnOk result (self.new ≡ (answer_by self.old request.now choice).1) }
-        ensures kept { OnErr result (self.new ≡ self.old) }
-    {
-        let (reply, change) = self.answer(request, choice)?;
-        if self.grants == MAX_HANDLES && grants(&change) {
-            return Ok(self.status(SSH_FX_FAILURE));
-        }
-        self.commit(change)?;
-        Ok(reply)
-    }
-
     /// The reply to a request, with the change that it makes.
     pub(crate) fn answer(
         &self,
@@ -190,13 +169,28 @@ fn told_limits(alloc: Global, limits: Limits) -> Result<Reply, OutOfMemory>
 }
 
 /// Whether a change grants the handle.
-fn grants(change: &Change) -> bool
+pub(crate) fn grants(change: &Change) -> bool
     ensures { result ≡ is_grant change.now }
 {
     match change {
         Change::Granted(_) => true,
         Change::Truncated(_, _) => true,
         Change::Created(_, _) => true,
+        _ => false,
+    }
+}
+
+/// Whether a change makes a name, takes one away or moves one.
+pub(crate) fn changes_names(change: &Change) -> bool
+    ensures { result ≡ changes_names_by change.now }
+{
+    match change {
+        Change::Created(_, _) => true,
+        Change::MadeDirectory(_) => true,
+        Change::RemovedDirectory(_) => true,
+        Change::RemovedFile(_, _) => true,
+        Change::Renamed(_, _) => true,
+        Change::Replaced(_, _, _) => true,
         _ => false,
     }
 }

@@ -1,9 +1,10 @@
 // How many names have a file, and how many a directory.
 ghost use Rattle.std.specs.Prelude.{◌≡◌, length, filter};
 ghost use Rattle.sftp_machine.specs.MachineState.{IsValid};
-ghost use Rattle.sftp_machine.specs.Listing.{has_file, has_directory, is_file as is_file_by};
+ghost use Rattle.sftp_machine.specs.Listing.{has_file, has_directory};
 
 use crate::machine::Machine;
+use crate::order::is_file;
 use crate::tree_name::TreeName;
 use sftp_model::ServerConfig;
 use sftp_tree::Node;
@@ -61,13 +62,4 @@ fn count_directories(pairs: &[(TreeName, Node)]) -> u64
         }
     }
     count
-}
-
-fn is_file(node: Node) -> bool
-    ensures { result ≡ is_file_by node }
-{
-    match node {
-        Node::Directory => false,
-        Node::File(_) => true,
-    }
 }

@@ -1,12 +1,17 @@
-ghost use Rattle.std.specs.Prelude.{◌≡◌, [], true, IfOk, OnOk, OnErr};
+ghost use Rattle.std.specs.Prelude.{◌≡◌, ◌<◌, ◌≤◌, ◌+◌, [], true, length, IfOk, OnOk, OnErr};
 ghost use Rattle.sftp_model.specs.Answers.{MayAnswer};
 ghost use Rattle.sftp_model.specs.FileMachine.{IsAfterHello};
 ghost use Rattle.sftp_model.specs.Fits.{FitsReply};
-ghost use Rattle.sftp_tree.specs.FitTrees.{GivesWithin};
+ghost use Rattle.sftp_tree.specs.FitTrees.{GivesWithin, IsFit};
 ghost use Rattle.sftp_machine.specs.FirstTree.{first_tree, may_begin};
-ghost use Rattle.sftp_machine.specs.MachineState.{IsValid, answer as answer_by};
+ghost use Rattle.sftp_machine.specs.Changes.{FitsChange, is_grant};
+ghost use Rattle.sftp_machine.specs.MachineState.{MAX_HANDLES, answer as answer_by, committed};
 
+use crate::answer::{changes_names, grants};
+use crate::change::Change;
+use crate::order::sort_places;
 use crate::store::Store;
+use sftp_model::numbers::SSH_FX_FAILURE;
 use sftp_model::{Choice, Reply, Request, ServerConfig};
 use sftp_values::ByteText;
 use ssh_encoding::OutOfMemory;
@@ -19,18 +24,21 @@ use std::marker::Model;
 #[derive(Drop)]
 pub struct Machine {
     pub(crate) store: Store,
+    // The places of the names, in the order of the written names.
+    pub(crate) order: Vec<usize>,
 }
 
 impl Model for Machine {
     ghost use Rattle.sftp_tree.specs.FitTrees.{IsFit};
+    ghost use Rattle.sftp_machine.specs.Listing.{AreInOrder};
     ghost use Rattle.sftp_machine.specs.MachineState.{MachineState};
 
     ghost Value = { MachineState };
 
     ghost view = { λ m. m.store };
 
-    // files and names are within their bounds
-    ghost invariant = { λ m. IsFit m.store.tree };
+    // files and names are within their bounds, and the places are in order
+    ghost invariant = { λ m. (IsFit m.store.tree) × AreInOrder m.store.tree.names m.order.items };
 }
 
 impl Machine {
@@ -60,7 +68,9 @@ impl Machine {
         ensures { IfOk result (λ m. m ≡ record { tree = first_tree files.now dirs.now; config = config; grants = 0 }) }
     {
         let store = Store::new(alloc, files, dirs, config)?;
-        Ok(Machine { store })
+        let mut order = Vec::with_capacity(alloc, store.names().len())?;
+        sort_places(&mut order, store.names());
+        Ok(Machine { store, order })
     }
 
     /// Answers a request, which isn't the hello, by the definition: the reply, and what is left, where the handle that
@@ -76,6 +86,40 @@ impl Machine {
         ensures answers { IfOk result (λ r. MayAnswer request.now r) }
         ensures fits { IfOk result (λ r. GivesWithin choice.cap request.now → FitsReply r) }
     {
-        self.store.apply(request, choice)
+        self.serve(request, choice)
+    }
+
+    // The same, by the definition alone.
+    #[tactic(auto, using(crate::proofs::CommitLaws::refused, crate::proofs::CommitLaws::granted, crate::proofs::ReplyLaws::fit_committed))]
+    fn serve(&mut self, request: &Request, choice: Choice) -> Result<Reply, OutOfMemory>
+        ensures reply { IfOk result (λ r. r ≡ (answer_by self.old request.now choice).0) }
+        ensures left { OnOk result (self.new ≡ (answer_by self.old request.now choice).1) }
+        ensures kept { OnErr result (self.new ≡ self.old) }
+        ensures fit { IsFit self.old.tree }
+    {
+        let (reply, change) = self.store.answer(request, choice)?;
+        if self.store.is_full() && grants(&change) {
+            return Ok(self.store.status(SSH_FX_FAILURE));
+        }
+        self.commit(change)?;
+        Ok(reply)
+    }
+
+    // Makes a change, and puts the names in order. An Err comes only for want of memory, and all is as before.
+    #[tactic(auto, using(crate::proofs::NameChangeLaws::names_stay, crate::proofs::NameChangeLaws::names_grow))]
+    fn commit(&mut self, change: Change) -> Result<(), OutOfMemory>
+        requires room { is_grant change ≡ true → self.old.grants < MAX_HANDLES }
+        requires fits { FitsChange change }
+        requires within { IsFit (committed self.old change).tree }
+        ensures left { OnOk result (self.new ≡ committed self.old change) }
+        ensures kept { OnErr result (self.new ≡ self.old) }
+    {
+        if !changes_names(&change) {
+            return self.store.commit(change);
+        }
+        self.order.reserve(self.store.names().len() + 1)?;
+        self.store.commit(change)?;
+        sort_places(&mut self.order, self.store.names());
+        Ok(())
     }
 }

@@ -1,4 +1,4 @@
-ghost use Rattle.std.specs.Prelude.{◌≡◌, ◌<◌, ◌≤◌, ◌^◌, ℕ, [], None, Some, true, false, length, take, drop, IfOk, OnOk, OnErr, MatchOption, ◌+◌, ◌-◌, ◌||◌, max, min, nat_lt};
+ghost use Rattle.std.specs.Prelude.{◌≡◌, ◌==◌, ◌<◌, ◌≤◌, ◌^◌, ℕ, [], None, Some, true, false, length, take, drop, IfOk, OnOk, OnErr, MatchOption, ◌+◌, ◌-◌, ◌||◌, max, min, nat_lt};
 ghost use Rattle.std.specs.Option.{option_copied};
 ghost use Rattle.sftp_model.specs.Numbers.{SSH_FX_OK};
 ghost use Rattle.sftp_model.specs.declared.reply.Reply.TheVariants as reply;
@@ -7,6 +7,7 @@ ghost use Rattle.sftp_tree.specs.Components.{parent_of};
 ghost use Rattle.sftp_tree.specs.Limits.{MAX_FILE_LEN, MAX_TOTAL_LEN};
 ghost use Rattle.sftp_tree.specs.HandleRequests.{refuses as refuses_by, done as done_by};
 ghost use Rattle.sftp_tree.specs.FileTree.{node_at as node_by, opened_at as opened_by, file_of, entries_of, bytes_of as bytes_by, attributes_of as attributes_by, is_directory as is_directory_by, is_over as is_over_by};
+ghost use Rattle.sftp_machine.specs.Listing.{node_bytes as node_bytes_by};
 ghost use Rattle.sftp_machine.specs.MachineState.{MachineState, IsValid, Makes, committed, MAX_HANDLES, numbered_handle as bytes_of_handle};
 ghost use Rattle.sftp_machine.specs.declared.change.Change.TheVariants as change;
 
@@ -21,6 +22,9 @@ use sftp_tree::{Held, Node, Opened};
 use sftp_values::ByteText;
 use std::alloc::Global;
 use std::marker::Model;
+
+// As many handles as there are numbers of four bytes.
+const MAX_HANDLES: u64 = 4_294_967_296;
 
 /// Files and directories in memory, with what is open, whatever the sizes of files and names.
 #[derive(Drop)]
@@ -58,6 +62,31 @@ impl Store {
         ensures valid { IsValid self.now }
     {
         self.grants
+    }
+
+    /// Whether all handles were granted.
+    pub(crate) fn is_full(&self) -> bool
+        ensures full { result ≡ (self.now.grants == MAX_HANDLES) }
+        ensures count { self.now.grants ≤ MAX_HANDLES }
+    {
+        self.grants == MAX_HANDLES
+    }
+
+    /// The names with what they have.
+    pub(crate) fn names(&self) -> &[(TreeName, Node)]
+        ensures { result.now ≡ self.now.tree.names }
+    {
+        &self.names
+    }
+
+    /// The bytes of what a name has; a directory has none.
+    pub(crate) fn node_bytes(&self, node: Node) -> &[u8]
+        ensures { result.now ≡ node_bytes_by self.now.tree node }
+    {
+        match node {
+            Node::Directory => &[],
+            Node::File(file) => self.bytes_of(file),
+        }
     }
 
     /// What a name has.

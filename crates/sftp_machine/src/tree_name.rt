@@ -1,7 +1,7 @@
 // Names of files and directories.
 ghost use Rattle.std.specs.Prelude.{◌≡◌, List, ℕ, IfOk, OnOk, drop};
 ghost use Rattle.std.specs.List.{flat_map};
-ghost use Rattle.sftp_tree.specs.Components.{components as components_by, entered, Name};
+ghost use Rattle.sftp_tree.specs.Components.{components as components_by, entered, Name, written as written_by};
 ghost use Rattle.sftp_machine.specs.Names.{slashed};
 
 use sftp_model::TryCopy;
@@ -44,6 +44,16 @@ impl TreeName {
         ensures { result.now ≡ self.now }
     {
         self.parts.as_slice()
+    }
+
+    /// Its components with a slash between each two; nothing for the root.
+    pub fn written(&self) -> &[u8]
+        ensures { result.now ≡ written_by self.now }
+    {
+        match self.text.as_slice() {
+            [] => &[],
+            [_, rest @ ..] => rest,
+        }
     }
 
     /// Each component with a slash before it.
