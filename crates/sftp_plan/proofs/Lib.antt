@@ -1,0 +1,3 @@
+mod Fewer
+mod Going
+mod Keeping

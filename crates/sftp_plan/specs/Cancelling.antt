@@ -1,0 +1,42 @@
+-- What a cancelled call leaves, by where its machine has come.
+use Rattle.std.specs.Prelude.{ℕ, ◌≡◌, List, ◌∷◌, Option, Some, None}
+use Rattle.sftp_model.specs.declared.reply.Reply.{Reply}
+use Rattle.sftp_model.specs.declared.slot.Facts.{Facts}
+use Rattle.sftp_model.specs.declared.slot.Site.{Site}
+use Rattle.sftp_calls.specs.Moves.{Answers, Own}
+use Rattle.sftp_calls.specs.CallPlans.{Call, cancelled}
+use Rattle.sftp_plan.specs.declared.next.Running.{Running}
+use Rattle.sftp_plan.specs.declared.next.Running.TheVariants as running
+use Rattle.sftp_plan.specs.declared.next.Next.{Next}
+use Rattle.sftp_plan.specs.declared.next.Next.TheVariants as step
+use Rattle.sftp_plan.specs.Machines.{bytes_of, filled}
+
+-- what a cancelled call leaves, by its own requests and the replies
+abbrev pub Leaving : Type 0
+Leaving = Own → Answers → Site
+
+-- what a call leaves that is cancelled after these further requests
+abbrev pub left_behind : Running → List ℕ → Site → Facts → Leaving
+left_behind (running.Ending place ends) bytes site facts later answers = site
+left_behind (running.Opening place slot flags) bytes site facts later answers = site
+left_behind (running.Reading place slot file len) bytes site facts later answers = site
+left_behind (running.Copying place from to source target len) bytes site facts later answers = site
+
+-- what a call leaves that is cancelled after the reply that it awaited
+abbrev pub left_after : Running → List ℕ → Site → Facts → Option Reply → Leaving
+left_after running bytes site facts r later answers = left_behind running bytes site facts later answers
+
+-- what a cancelled call leaves where a machine has come so far
+abbrev pub Leaves : Leaving → ℕ → List ℕ → Site → Facts → Next → Type 0
+Leaves leaving place bytes site facts (step.Ask a r) = (answers : Answers) (later : Own) → leaving ((place, filled a answers) ∷ later) answers ≡ left_behind r bytes site facts later answers
+Leaves leaving place bytes site facts (step.Wait r) = (answers : Answers) (later : Own) → leaving later answers ≡ left_behind r bytes site facts later answers
+Leaves leaving place bytes site facts (step.Done o) = Unit {0}
+
+-- of what begins a call
+abbrev pub BeginsLeaving : Call → ℕ → Site → Site → Facts → Next → Type 0
+BeginsLeaving c place old new facts n = Leaves (cancelled c old facts) place (bytes_of c) new facts n
+
+-- a machine that waits for the replies to its own requests alone
+abbrev pub NeverWaits : Next → Type 0
+NeverWaits (step.Wait r) = ⊥
+NeverWaits other = Unit {0}

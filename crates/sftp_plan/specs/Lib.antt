@@ -1,0 +1,4 @@
+pub mod Machines
+pub mod Cancelling
+pub mod Sound
+pub mod Pending

@@ -1,0 +1,131 @@
+-- What a machine does, by the plan of its call.
+use Rattle.std.specs.Prelude.{ℕ, ◌≡◌, ◌==◌, List, [], ◌∷◌, Option, Some, None, Result, Ok, Err, if◌then◌else◌}
+use Rattle.sftp_model.specs.declared.request.Request.{Request}
+use Rattle.sftp_model.specs.declared.request.Request.TheVariants as request
+use Rattle.sftp_model.specs.declared.reply.Reply.{Reply}
+use Rattle.sftp_model.specs.declared.reply.Reply.TheVariants as reply
+use Rattle.sftp_model.specs.declared.outcome.Outcome.{Outcome}
+use Rattle.sftp_model.specs.declared.outcome.Outcome.TheVariants as outcome
+use Rattle.sftp_model.specs.declared.error.Error.TheVariants as error
+use Rattle.sftp_model.specs.declared.error.IoKind.{IoKind}
+use Rattle.sftp_model.specs.declared.slot.Facts.{Facts}
+use Rattle.sftp_model.specs.declared.slot.Site.{Site}
+use Rattle.sftp_model.specs.declared.slot.Move.{Move}
+use Rattle.sftp_model.specs.declared.slot.Move.TheVariants.{Ask, Wait, Done}
+use Rattle.sftp_model.specs.Numbers.{SSH_FX_OK}
+use Rattle.sftp_calls.specs.Moves.{Answers, Own, Plan, once_answered, handle_of, done_by, told_by, on_status, refuses}
+use Rattle.sftp_calls.specs.PathPlans.{named_by}
+use Rattle.sftp_calls.specs.FilePlans.{opened, copied}
+use Rattle.sftp_calls.specs.TransferPlans.{was_read, joined_parts}
+use Rattle.sftp_calls.specs.CallPlans as call
+use Rattle.sftp_calls.specs.CallPlans.{Call, next}
+use Rattle.sftp_plan.specs.declared.next.Asked.{Asked}
+use Rattle.sftp_plan.specs.declared.next.Asked.TheVariants as asked
+use Rattle.sftp_plan.specs.declared.next.EndsBy.{EndsBy}
+use Rattle.sftp_plan.specs.declared.next.EndsBy.TheVariants as by
+use Rattle.sftp_plan.specs.declared.next.Running.{Running}
+use Rattle.sftp_plan.specs.declared.next.Running.TheVariants as running
+use Rattle.sftp_plan.specs.declared.next.Next.{Next}
+use Rattle.sftp_plan.specs.declared.next.Next.TheVariants as step
+
+-- ---- requests
+
+-- the request, with the handles that its grants brought
+abbrev pub filled : Asked → Answers → Request
+filled (asked.Plain r) answers = r
+filled (asked.Close grant) answers = request.Close (handle_of (answers grant))
+filled (asked.Read grant offset len) answers = request.Read (handle_of (answers grant)) offset len
+filled (asked.Write grant offset content) answers = request.Write (handle_of (answers grant)) offset content
+filled (asked.Fstat grant) answers = request.Fstat (handle_of (answers grant))
+filled (asked.Fsetstat grant attrs) answers = request.Fsetstat (handle_of (answers grant)) attrs
+filled (asked.Fsync grant) answers = request.Fsync (handle_of (answers grant))
+filled (asked.CopyData from from_offset len to to_offset) answers =
+    request.CopyData (handle_of (answers from)) from_offset len (handle_of (answers to)) to_offset
+
+-- ---- what is left of a plan
+
+-- the place of the request whose reply a call awaits
+abbrev pub awaited : Running → Site → Option ℕ
+awaited (running.Ending place ends) site = Some place
+awaited (running.Opening place slot flags) site = Some place
+awaited (running.Reading place slot file len) site = Some place
+awaited (running.Copying place from to source target len) site = Some place
+
+-- what a reply makes of a call that it ends
+abbrev pub ended_by : EndsBy → Site → Reply → Move
+ended_by by.Status site = done_by site
+ended_by by.Attributes site = told_by site
+ended_by by.FirstName site = named_by site
+
+-- a call that awaits a reply and has none
+abbrev pub with_reply : Site → Option Reply → (Reply → Move) → Move
+with_reply site None go = Done outcome.NoFile site
+with_reply site (Some r) go = go r
+
+-- How a call goes on after the reply that it awaited, if it awaited one; `bytes` are those that the call carries.
+abbrev pub after : Running → List ℕ → Site → Facts → Option Reply → Plan
+after (running.Ending place ends) bytes site facts r later answers = with_reply site r (ended_by ends site)
+after (running.Opening place slot flags) bytes site facts r later answers = with_reply site r (opened slot flags site place)
+after (running.Reading place slot file len) bytes site facts r later answers = with_reply site r (was_read slot file site)
+after (running.Copying place from to source target len) bytes site facts r later answers =
+    with_reply site r (λ y. on_status y site (Done outcome.Done (copied from to source target len site)))
+
+-- where a reply is awaited and missing
+abbrev pub waits : Option ℕ → Site → Move
+waits None site = Done outcome.NoFile site
+waits (Some place) site = Wait place
+
+-- what a call does while the reply that it awaits is missing
+abbrev pub idle : Running → List ℕ → Site → Facts → Plan
+idle running bytes site facts later answers = waits (awaited running site) site
+
+-- by the reply that is awaited, if one is
+abbrev pub once : Option ℕ → Answers → (Option Reply → Move) → Move
+once None answers go = go None
+once (Some place) answers go = once_answered place (answers place) (λ r. go (Some r))
+
+-- what is left of the plan of a call that was begun
+abbrev pub residual : Running → List ℕ → Site → Facts → Plan
+residual running bytes site facts later answers = once (awaited running site) answers (λ r. after running bytes site facts r later answers)
+
+-- ---- what a machine does
+
+-- What a machine answers goes by a plan: the request that it asks bears this place.
+abbrev pub Goes : Plan → ℕ → List ℕ → Site → Facts → Next → Type 0
+Goes plan place bytes site facts (step.Ask a r) =
+    (answers : Answers) → (plan [] answers ≡ Ask (filled a answers)) × ((later : Own) → plan ((place, filled a answers) ∷ later) answers ≡ residual r bytes site facts later answers)
+Goes plan place bytes site facts (step.Wait r) = (answers : Answers) → (later : Own) → plan later answers ≡ residual r bytes site facts later answers
+Goes plan place bytes site facts (step.Done o) = (answers : Answers) → plan [] answers ≡ Done o site
+
+-- the bytes that a call carries
+abbrev pub bytes_of : Call → List ℕ
+bytes_of (call.Write slot bytes) = bytes
+bytes_of (call.WriteAll slot bytes) = bytes
+bytes_of (call.WriteParts slot parts) = joined_parts parts
+bytes_of (call.BufWrite slot bytes) = bytes
+bytes_of (call.BufWriteAll slot bytes) = bytes
+bytes_of (call.FsWrite path bytes) = bytes
+bytes_of other = []
+
+-- What begins a call goes by its plan. The site was the first one, and is the second.
+abbrev pub Begins : Call → ℕ → Site → Site → Facts → Next → Type 0
+Begins c place old new facts n = Goes (next c old facts) place (bytes_of c) new facts n
+
+-- ---- seeks
+
+-- a seek that leads to an offset, or is refused
+abbrev pub by_seek : Result ℕ IoKind → Site → (ℕ → Move) → Move
+by_seek (Ok offset) site go = go offset
+by_seek (Err why) site go = refuses why site
+
+-- ---- refusals
+
+-- the outcome of a reply that refuses
+abbrev pub refusal_of : Reply → Outcome
+refusal_of (reply.Status code message language) = outcome.Refused (error.SftpError code message language)
+refusal_of other = outcome.Refused (error.InvalidResponse None)
+
+-- nothing where a STATUS 0 lets the call go on, and else the outcome of the refusal
+abbrev pub failure_of : Reply → Option Outcome
+failure_of (reply.Status code message language) = if code == SSH_FX_OK then None else Some (outcome.Refused (error.SftpError code message language))
+failure_of other = Some (outcome.Refused (error.InvalidResponse None))

@@ -1,0 +1,70 @@
+-- Which replies a lane awaits, and how often: the one to its call's own request, and those that its slots wait for.
+use Rattle.std.specs.Prelude.{ℕ, ◌≤◌, ◌+◌, ◌-◌, ◌==◌, List, [], ◌∷◌, Option, Some, None, if◌then◌else◌}
+use Rattle.sftp_model.specs.declared.reply.Reply.{Reply}
+use Rattle.sftp_model.specs.declared.slot.Site.{Site}
+use Rattle.sftp_model.specs.declared.slot.Slot.{Slot}
+use Rattle.sftp_model.specs.declared.slot.Slot.TheVariants.{Empty, File, Buffered}
+use Rattle.sftp_plan.specs.declared.next.Running.{Running}
+use Rattle.sftp_plan.specs.declared.next.Running.TheVariants as running
+use Rattle.sftp_plan.specs.declared.next.Next.{Next}
+use Rattle.sftp_plan.specs.declared.next.Next.TheVariants as step
+use Rattle.sftp_plan.specs.Machines.{awaited}
+
+-- 1 where the places are one
+abbrev pub one : ℕ → ℕ → ℕ
+one p q = if p == q then 1 else 0
+
+-- 1 where there is a place and it is this one
+abbrev pub maybe : Option ℕ → ℕ → ℕ
+maybe None q = 0
+maybe (Some p) q = one p q
+
+-- one more where the place is this one
+abbrev pub with_one : Option ℕ → ℕ → ℕ → ℕ
+with_one None q n = n
+with_one (Some p) q n = one p q + n
+
+-- how often a place stands among deferred writes
+abbrev pub writes_times : ℕ → List (ℕ × ℕ) → ℕ
+writes_times q [] = 0
+writes_times q (write ∷ writes) = one write.0 q + writes_times q writes
+
+-- how often a slot awaits the reply to a place
+abbrev pub slot_times : ℕ → Slot → ℕ
+slot_times q (Buffered file buffer) = maybe buffer.reading q + writes_times q buffer.deferred
+slot_times q other = 0
+
+abbrev pub slots_times : ℕ → List Slot → ℕ
+slots_times q [] = 0
+slots_times q (slot ∷ slots) = slot_times q slot + slots_times q slots
+
+-- the call's own request that is awaited
+abbrev pub own_place : Option Running → Option ℕ
+own_place (Some (running.Ending place ends)) = Some place
+own_place (Some (running.Opening place slot flags)) = Some place
+own_place (Some (running.Reading place slot file len)) = Some place
+own_place (Some (running.Copying place from to source target len)) = Some place
+own_place None = None
+
+-- how often the reply to a place is awaited
+abbrev pub pends : ℕ → Option Running → Site → ℕ
+pends q r site = with_one (own_place r) q (slots_times q site.slots)
+
+-- where no call runs
+abbrev pub pends_idle : Site → ℕ → ℕ
+pends_idle site q = pends q None site
+
+-- after the reply that a call awaited
+abbrev pub pends_after : Running → Site → Option Reply → ℕ → ℕ
+pends_after r site None q = pends q (Some r) site
+pends_after r site (Some y) q = pends q (Some r) site - maybe (awaited r site) q
+
+-- What is awaited after a machine's answer, where so much was before it: one more where it asks.
+abbrev pub Pends : (ℕ → ℕ) → ℕ → Site → Next → Type 0
+Pends before place site (step.Ask a r) = (q : ℕ) → pends q (Some r) site ≤ before q + one place q
+Pends before place site (step.Wait r) = (q : ℕ) → pends q (Some r) site ≤ before q
+Pends before place site (step.Done o) = (q : ℕ) → pends q None site ≤ before q
+
+-- no reply is awaited more often
+pub record Fewer (old new : Site) : Type 0 where
+  pub each : (q : ℕ) → slots_times q new.slots ≤ slots_times q old.slots

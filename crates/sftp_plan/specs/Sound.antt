@@ -1,0 +1,63 @@
+-- What is known of a call that was begun, so that it can go on.
+use Rattle.std.specs.Prelude.{ℕ, ◌≡◌, ◌<◌, ◌≤◌, ◌+◌, ◌-◌, ◌^◌, List, length, Option, Some, None}
+use Rattle.sftp_model.specs.declared.reply.Reply.{Reply}
+use Rattle.sftp_model.specs.declared.reply.Reply.TheVariants as reply
+use Rattle.sftp_model.specs.declared.slot.Facts.{Facts}
+use Rattle.sftp_model.specs.declared.slot.FileAt.{FileAt}
+use Rattle.sftp_model.specs.declared.slot.Site.{Site}
+use Rattle.sftp_model.specs.declared.slot.Slot.{Slot}
+use Rattle.sftp_model.specs.declared.slot.Slot.TheVariants.{Empty, File, Buffered}
+use Rattle.sftp_model.specs.Slots.{slot_at}
+use Rattle.sftp_calls.specs.BufferPlans.{pending}
+use Rattle.sftp_plan.specs.declared.next.Running.{Running}
+use Rattle.sftp_plan.specs.declared.next.Running.TheVariants as running
+use Rattle.sftp_plan.specs.declared.next.Next.{Next}
+use Rattle.sftp_plan.specs.declared.next.Next.TheVariants as step
+
+-- ---- of the site
+
+-- what a buffered file has deferred is within the limit, and its bytes end at the greatest offset at last
+abbrev pub IsWithin : Facts → Slot → Type 0
+IsWithin facts (Buffered file buffer) = (pending buffer.deferred ≤ facts.write_limit) × (length buffer.bytes ≤ (2 ^ 64 - 1) - file.offset)
+IsWithin facts other = Unit {0}
+
+abbrev pub AreWithin : Facts → Site → Type 0
+AreWithin facts site = (k : ℕ) → IsWithin facts (slot_at site k)
+
+-- as many slots, each within its bounds where all were
+pub record Keeps (facts : Facts) (old new : Site) : Type 0 where
+  pub count : length new.slots ≡ length old.slots
+  pub limit : AreWithin facts old → AreWithin facts new
+
+-- ---- of the call
+
+-- the file can be moved so far
+abbrev pub CanMove : FileAt → ℕ → Type 0
+CanMove file len = file.offset + len < 2 ^ 64
+
+-- the file can be moved by the bytes of a DATA
+abbrev pub HasRoom : FileAt → Reply → Type 0
+HasRoom file (reply.Content bytes) = CanMove file (length bytes)
+HasRoom file other = Unit {0}
+
+-- what is known of a begun call
+abbrev pub Sound : Running → List ℕ → Site → Facts → Type 0
+Sound (running.Ending place ends) bytes site facts = Unit {0}
+Sound (running.Opening place slot flags) bytes site facts = slot < length site.slots
+Sound (running.Reading place slot file len) bytes site facts = (slot < length site.slots) × CanMove file len
+Sound (running.Copying place from to source target len) bytes site facts =
+    (from < length site.slots) × (to < length site.slots) × CanMove source len × CanMove target len
+
+-- and of the reply that it awaits: a DATA has at most the bytes that were asked
+abbrev pub Fits : Running → Option Reply → Type 0
+Fits (running.Reading place slot file len) (Some (reply.Content bytes)) = length bytes ≤ len
+Fits other r = Unit {0}
+
+abbrev pub IsSound : List ℕ → Site → Facts → Next → Type 0
+IsSound bytes site facts (step.Ask a r) = Sound r bytes site facts
+IsSound bytes site facts (step.Wait r) = Sound r bytes site facts
+IsSound bytes site facts (step.Done o) = Unit {0}
+
+-- the site is kept, and the call can go on from it
+abbrev pub Sounds : List ℕ → Facts → Site → Site → Next → Type 0
+Sounds bytes facts old new n = Keeps facts old new × IsSound bytes new facts n

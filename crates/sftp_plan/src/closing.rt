@@ -1,0 +1,47 @@
+//! `close`: the slot is emptied, and the last slot of a file sends its CLOSE.
+ghost use Rattle.std.specs.Prelude.{[], ◌<◌, length, Some, None};
+ghost use Rattle.sftp_calls.specs.CallPlans as call;
+ghost use Rattle.sftp_calls.specs.FilePlans.{close_grant_next};
+ghost use Rattle.sftp_plan.specs.Machines.{Begins, Goes};
+ghost use Rattle.sftp_plan.specs.Cancelling.{BeginsLeaving, Leaves, NeverWaits};
+ghost use Rattle.sftp_plan.specs.Sound.{Sounds};
+ghost use Rattle.sftp_plan.specs.Pending.{Pends, pends_idle};
+
+use crate::next::{Asked, EndsBy, Next, Running};
+use crate::site::{holds_grant, set_slot, slot_of};
+use sftp_model::{Facts, Outcome, Site, Slot};
+
+/// Closes the file in a slot, which is emptied at once.
+pub fn begin_close(slot: u8, place: u64, site: &mut Site, facts: &Facts) -> Next
+    requires { slot < length site.old.slots }
+    ensures goes { Begins (call.Close slot) place site.old site.new facts.now result }
+    ensures left { BeginsLeaving (call.Close slot) place site.old site.new facts.now result }
+    ensures sound { Sounds [] facts.now site.old site.new result }
+    ensures pends { Pends (pends_idle site.old) place site.new result }
+{
+    let grant = match slot_of(site, slot) {
+        Slot::Empty => return Next::Done(Outcome::NoFile),
+        Slot::File(file) => file.grant,
+        Slot::Buffered(file, _) => file.grant,
+    };
+    set_slot(site, slot, Slot::Empty);
+    close_grant(grant, place, site, facts)
+}
+
+/// Closes what no slot has any more.
+fn close_grant(grant: u64, place: u64, site: &Site, facts: &Facts) -> Next
+    ensures asks { NeverWaits result }
+    ensures goes { Goes (close_grant_next grant site.now) place [] site.now facts.now result }
+    ensures left { Leaves (λ own answers. site.now) place [] site.now facts.now result }
+    ensures sound { Sounds [] facts.now site.now site.now result }
+    ensures pends { Pends (pends_idle site.now) place site.now result }
+{
+    if holds_grant(site, grant) {
+        return Next::Done(Outcome::Done);
+    }
+    let running = Running::Ending {
+        place,
+        by: EndsBy::Status,
+    };
+    Next::Ask(Asked::Close { grant }, running)
+}

@@ -1,0 +1,71 @@
+//! Whatever the call: how a call that was begun goes on.
+ghost use Rattle.std.specs.Prelude.{◌≡◌, Some, None, IfOk, OnErr};
+ghost use Rattle.sftp_plan.specs.Machines.{Goes, after, awaited};
+ghost use Rattle.sftp_plan.specs.Cancelling.{Leaves, left_after};
+ghost use Rattle.sftp_plan.specs.Sound.{AreWithin, Fits, Sound, Sounds};
+ghost use Rattle.sftp_plan.specs.Pending.{Pends, pends_after};
+
+use crate::file_calls::copy_replied;
+use crate::next::{Next, Running};
+use crate::opening::open_replied;
+use crate::reading::read_replied;
+use crate::single::ending_told;
+use sftp_model::{Facts, Outcome, Reply, Site};
+use ssh_encoding::OutOfMemory;
+use std::alloc::Global;
+
+impl Running {
+    /// The place of the request whose reply is awaited.
+    pub fn awaited(&self, _site: &Site) -> Option<u64>
+        ensures { result ≡ awaited self.now _site.now }
+    {
+        match self {
+            Running::Ending { place, .. } => Some(*place),
+            Running::Opening { place, .. } => Some(*place),
+            Running::Reading { place, .. } => Some(*place),
+            Running::Copying { place, .. } => Some(*place),
+        }
+    }
+}
+
+/// A call goes on after the reply that it awaited, if it awaited one. `bytes` are those that the call carries, and
+/// what is asked next bears the place. Refused only for want of memory; the site is as it was then.
+pub fn go_on(
+    alloc: Global,
+    running: Running,
+    reply: Option<Reply>,
+    bytes: &[u8],
+    place: u64,
+    site: &mut Site,
+    facts: &Facts,
+) -> Result<Next, OutOfMemory>
+    requires sound { Sound running bytes.now site.old facts.now }
+    requires within { AreWithin facts.now site.old }
+    requires fits { Fits running reply }
+    ensures goes { IfOk result (Goes (after running bytes.now site.old facts.now reply) place bytes.now site.new facts.now) }
+    ensures left { IfOk result (Leaves (left_after running bytes.now site.old facts.now reply) place bytes.now site.new facts.now) }
+    ensures sound { IfOk result (Sounds bytes.now facts.now site.old site.new) }
+    ensures pends { IfOk result (Pends (pends_after running site.old reply) place site.new) }
+    ensures err { OnErr result (site.new ≡ site.old) }
+{
+    let Some(reply) = reply else {
+        return Ok(Next::Done(Outcome::NoFile));
+    };
+    match running {
+        Running::Ending { by, .. } => Ok(Next::Done(ending_told(alloc, by, reply)?)),
+        Running::Opening { place, slot, flags } => {
+            Ok(Next::Done(open_replied(place, slot, flags, reply, site)))
+        }
+        Running::Reading { slot, file, .. } => {
+            Ok(Next::Done(read_replied(alloc, slot, file, reply, site)?))
+        }
+        Running::Copying {
+            from,
+            to,
+            source,
+            target,
+            len,
+            ..
+        } => Ok(Next::Done(copy_replied(from, to, source, target, len, reply, site))),
+    }
+}

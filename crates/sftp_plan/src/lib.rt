@@ -1,0 +1,27 @@
+//! The plans of calls as machines over plain values: what a call asks first, and how it goes on with each reply.
+//! Nothing here sends or receives: the lane that runs a call submits what is asked and hands in each reply.
+#![tactic(auto)]
+
+mod closing;
+mod file_calls;
+mod going_on;
+mod local_calls;
+mod next;
+mod opening;
+mod path_calls;
+mod reading;
+mod replies;
+mod single;
+pub mod site;
+
+pub use closing::begin_close;
+pub use file_calls::{begin_copy, begin_meta, begin_set_len, begin_set_perm, begin_sync};
+pub use going_on::go_on;
+pub use local_calls::{begin_buffer, begin_clone, begin_cwd, begin_seek, begin_unbuffer, sought};
+pub use next::{Asked, EndsBy, Next, Running};
+pub use opening::{begin_open, opened_file};
+pub use path_calls::{
+    begin_canonicalize, begin_hard_link, begin_lstat, begin_mkdir, begin_read_link, begin_remove,
+    begin_rename, begin_rmdir, begin_set_stat, begin_stat, begin_symlink,
+};
+pub use reading::begin_read;

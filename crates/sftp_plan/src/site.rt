@@ -1,0 +1,47 @@
+//! What a lane holds, slot by slot.
+ghost use Rattle.std.specs.Prelude.{◌≡◌, ◌<◌, length};
+ghost use Rattle.std.specs.List.{list_any};
+ghost use Rattle.sftp_model.specs.Slots.{slot_at, with_slot, has_grant, slot_has};
+
+use sftp_model::{Site, Slot};
+
+/// What a slot holds.
+pub fn slot_of(site: &Site, slot: u8) -> &Slot
+    requires { slot < length site.now.slots }
+    ensures { result.now ≡ slot_at site.now slot }
+{
+    &site.slots.as_slice()[slot as usize]
+}
+
+/// Puts something into a slot.
+pub fn set_slot(site: &mut Site, slot: u8, held: Slot)
+    requires { slot < length site.old.slots }
+    ensures { site.new ≡ with_slot site.old slot held }
+{
+    site.slots.set(slot as usize, held);
+}
+
+/// Whether some slot has the grant of this place.
+pub fn holds_grant(site: &Site, grant: u64) -> bool
+    ensures { result ≡ has_grant site.now grant }
+{
+    has_grant(site.slots.as_slice(), grant)
+}
+
+/// Whether a slot has the grant of this place.
+fn slot_has(slot: &Slot, grant: u64) -> bool
+    ensures { result ≡ slot_has grant slot.now }
+{
+    match slot {
+        Slot::Empty => false,
+        Slot::File(file) => file.grant == grant,
+        Slot::Buffered(file, _) => file.grant == grant,
+    }
+}
+
+/// Whether some of these slots has the grant of this place.
+fn has_grant(slots: &[Slot], grant: u64) -> bool
+    ensures { result ≡ list_any (slot_has grant) slots.now }
+{
+    slots.iter().any(|slot| slot_has(slot, grant))
+}
