@@ -1,5 +1,5 @@
 -- What awaits no more replies than before.
-use Rattle.std.proofs.Common.{◌≡◌, ◌<◌, ◌≤◌, ◌+◌, ◌-◌, ℕ, zero, suc, List, [], ◌∷◌, Some, None, Ok, Err, length, refl, ap, sym, subst, arith}
+use Rattle.std.proofs.Common.{◌≡◌, ◌<◌, ◌≤◌, ◌+◌, ◌-◌, ℕ, zero, suc, List, [], ◌∷◌, Option, Some, None, Ok, Err, length, refl, ap, sym, subst, arith}
 use Rattle.std.specs.Prelude.{IfOk, Result, slice_index_or, slice_set}
 use Rattle.ssh_encoding.specs.declared.out_of_memory.OutOfMemory.{OutOfMemory}
 use Rattle.sftp_model.specs.declared.slot.FileAt.{FileAt}
@@ -10,8 +10,9 @@ use Rattle.sftp_model.specs.declared.slot.Slot.TheVariants.{Empty, File, Buffere
 use Rattle.sftp_model.specs.Slots.{slot_at, with_slot}
 use Rattle.sftp_plan.specs.declared.next.Next.{Next}
 use Rattle.sftp_plan.specs.declared.next.Next.TheVariants as step
-use Rattle.sftp_plan.specs.Sound.{Keeps, Sounds}
-use Rattle.sftp_plan.specs.Pending.{Fewer, Pends, one, pends, slot_times, slots_times}
+use Rattle.sftp_plan.specs.Machines.{keep_in}
+use Rattle.sftp_plan.specs.Sound.{IsKept, Keeps, Sounds}
+use Rattle.sftp_plan.specs.Pending.{Fewer, Pends, one, pends, pends_idle, slot_times, slots_times}
 use Rattle.sftp_plan.proofs.Keeping.{set_count}
 
 -- a slot that is set
@@ -64,3 +65,13 @@ taken_off a b = omega arith
 
 pub read_pends : (a b c : ℕ) → b ≤ c → b ≤ (a + c) - a
 read_pends a b c x = omega (arith, x)
+
+pub fewer_kept : (slot : Option ℕ) (file : FileAt) (offset : ℕ) (old new : Site) → IsKept slot file old → new ≡ keep_in slot (record file { offset = offset }) old → Fewer old new
+fewer_kept None file offset old new kept is = subst (λ (s : Site). Fewer old s) (sym is) (fewer_self old)
+fewer_kept (Some slot) file offset old new kept is = fewer_file old new slot (record file { offset = offset }) is kept.0
+
+-- after the reply to a request of its own a call goes on from the site where its file was moved
+pub kept_pends : (slot : Option ℕ) (awaited : ℕ) (file : FileAt) (offset place : ℕ) (old new : Site) (n : Next) → IsKept slot file old → new ≡ keep_in slot (record file { offset = offset }) old → Pends (pends_idle new) place new n
+    → Pends (λ q. (one awaited q + slots_times q old.slots) - one awaited q) place new n
+kept_pends slot awaited file offset place old new n kept is p = pends_less (pends_idle new) (λ q. (one awaited q + slots_times q old.slots) - one awaited q) place new n
+    (λ q. read_pends (one awaited q) (slots_times q new.slots) (slots_times q old.slots) ((fewer_kept slot file offset old new kept is).each q)) p

@@ -1,5 +1,5 @@
 -- What keeps a site as it may be.
-use Rattle.std.proofs.Common.{◌≡◌, ◌≤◌, ap, refl, sym, ◌∙◌, subst, arith, ℕ, zero, suc, List, [], ◌∷◌, length}
+use Rattle.std.proofs.Common.{◌≡◌, ◌<◌, ◌≤◌, Option, Some, None, ap, refl, sym, ◌∙◌, subst, arith, ℕ, zero, suc, List, [], ◌∷◌, length}
 use Rattle.std.specs.Prelude.{slice_set, slice_index_or}
 use Rattle.sftp_model.specs.declared.slot.FileAt.{FileAt}
 use Rattle.sftp_model.specs.declared.slot.Facts.{Facts}
@@ -7,7 +7,9 @@ use Rattle.sftp_model.specs.declared.slot.Site.{Site}
 use Rattle.sftp_model.specs.declared.slot.Slot.{Slot}
 use Rattle.sftp_model.specs.declared.slot.Slot.TheVariants.{Empty, File, Buffered}
 use Rattle.sftp_model.specs.Slots.{slot_at, with_slot}
-use Rattle.sftp_plan.specs.Sound.{IsWithin, Keeps}
+use Rattle.sftp_plan.specs.Machines.{keep_in}
+use Rattle.sftp_plan.specs.Sound.{IsKept, IsWithin, Keeps}
+use Rattle.sftp_plan.proofs.SlotSets.{set_at}
 
 set_length : (slots : List Slot) (k : ℕ) (x : Slot) → length (slice_set slots k x) ≡ length slots
 set_length [] k x = refl
@@ -35,3 +37,13 @@ keeps_set facts site new k x is fits = subst (λ (s : Site). Keeps facts site s)
 
 pub keeps_file : (facts : Facts) (site new : Site) (k : ℕ) (file : FileAt) → new ≡ with_slot site k (File file) → Keeps facts site new
 keeps_file facts site new k file is = keeps_set facts site new k (File file) is tt
+
+-- a file that stands in its slot, or in none, and was moved
+pub keeps_kept : (facts : Facts) (slot : Option ℕ) (file : FileAt) (offset : ℕ) (old new : Site) → new ≡ keep_in slot (record file { offset = offset }) old → Keeps facts old new
+keeps_kept facts None file offset old new is = subst (λ (s : Site). Keeps facts old s) (sym is) (keeps_self facts old)
+keeps_kept facts (Some slot) file offset old new is = keeps_file facts old new slot (record file { offset = offset }) is
+
+pub kept_there : (slot : Option ℕ) (file : FileAt) (offset : ℕ) (old new : Site) → IsKept slot file old → new ≡ keep_in slot (record file { offset = offset }) old → IsKept slot (record file { offset = offset }) new
+kept_there None file offset old new kept is = tt
+kept_there (Some slot) file offset old new kept is = subst (λ (s : Site). IsKept (Some slot) (record file { offset = offset }) s) (sym is)
+    (subst (λ (n : ℕ). slot < n) (sym (set_count old slot (File (record file { offset = offset })))) kept.0, set_at old slot (File (record file { offset = offset })) kept.0)

@@ -1,3 +1,5 @@
 mod Fewer
 mod Going
 mod Keeping
+mod Leaving
+mod SlotSets

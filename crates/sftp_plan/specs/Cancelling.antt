@@ -4,7 +4,9 @@ use Rattle.sftp_model.specs.declared.reply.Reply.{Reply}
 use Rattle.sftp_model.specs.declared.slot.Facts.{Facts}
 use Rattle.sftp_model.specs.declared.slot.Site.{Site}
 use Rattle.sftp_calls.specs.Moves.{Answers, Own}
+use Rattle.sftp_calls.specs.TransferPlans.{cancelled_transfer}
 use Rattle.sftp_calls.specs.CallPlans.{Call, cancelled}
+use Rattle.sftp_plan.specs.declared.next.Asked.TheVariants as asked
 use Rattle.sftp_plan.specs.declared.next.Running.{Running}
 use Rattle.sftp_plan.specs.declared.next.Running.TheVariants as running
 use Rattle.sftp_plan.specs.declared.next.Next.{Next}
@@ -15,11 +17,22 @@ use Rattle.sftp_plan.specs.Machines.{bytes_of, filled}
 abbrev pub Leaving : Type 0
 Leaving = Own → Answers → Site
 
+-- what a transfer leaves whose file stands in a slot or in none
+abbrev pub left_kept : Option ℕ → Site → Facts → Leaving
+left_kept None site facts own answers = site
+left_kept (Some slot) site facts own answers = cancelled_transfer slot site facts own answers
+
 -- what a call leaves that is cancelled after these further requests
 abbrev pub left_behind : Running → List ℕ → Site → Facts → Leaving
 left_behind (running.Ending place ends) bytes site facts later answers = site
 left_behind (running.Opening place slot flags) bytes site facts later answers = site
 left_behind (running.Reading place slot file len) bytes site facts later answers = site
+left_behind (running.Gathering place slot file got left len) bytes site facts later answers = left_kept (Some slot) site facts later answers
+left_behind (running.Sending place slot file len) bytes site facts later answers = site
+left_behind (running.Writing place slot file done) bytes site facts later answers = left_kept slot site facts later answers
+left_behind (running.OpeningToWrite place) bytes site facts later answers = site
+left_behind (running.OpeningDirectory place bound) bytes site facts later answers = site
+left_behind (running.Listing place grant got bound) bytes site facts later answers = site
 left_behind (running.Copying place from to source target len) bytes site facts later answers = site
 
 -- what a call leaves that is cancelled after the reply that it awaited
@@ -35,6 +48,13 @@ Leaves leaving place bytes site facts (step.Done o) = Unit {0}
 -- of what begins a call
 abbrev pub BeginsLeaving : Call → ℕ → Site → Site → Facts → Next → Type 0
 BeginsLeaving c place old new facts n = Leaves (cancelled c old facts) place (bytes_of c) new facts n
+
+-- a machine that asks, if it does, a READ or a WRITE
+abbrev pub AsksOffset : Next → Type 0
+AsksOffset (step.Ask (asked.Read grant offset len) r) = Unit {0}
+AsksOffset (step.Ask (asked.Write grant offset content) r) = Unit {0}
+AsksOffset (step.Done o) = Unit {0}
+AsksOffset other = ⊥
 
 -- a machine that waits for the replies to its own requests alone
 abbrev pub NeverWaits : Next → Type 0

@@ -2,3 +2,4 @@ pub mod Machines
 pub mod Cancelling
 pub mod Sound
 pub mod Pending
+pub mod MachineRows

@@ -1,5 +1,5 @@
 -- What a machine does, by the plan of its call.
-use Rattle.std.specs.Prelude.{ℕ, ◌≡◌, ◌==◌, List, [], ◌∷◌, Option, Some, None, Result, Ok, Err, if◌then◌else◌}
+use Rattle.std.specs.Prelude.{ℕ, ◌≡◌, ◌+◌, ◌-◌, ◌==◌, List, [], ◌∷◌, ◌++◌, drop, length, Option, Some, None, Result, Ok, Err, if◌then◌else◌}
 use Rattle.sftp_model.specs.declared.request.Request.{Request}
 use Rattle.sftp_model.specs.declared.request.Request.TheVariants as request
 use Rattle.sftp_model.specs.declared.reply.Reply.{Reply}
@@ -8,15 +8,20 @@ use Rattle.sftp_model.specs.declared.outcome.Outcome.{Outcome}
 use Rattle.sftp_model.specs.declared.outcome.Outcome.TheVariants as outcome
 use Rattle.sftp_model.specs.declared.error.Error.TheVariants as error
 use Rattle.sftp_model.specs.declared.error.IoKind.{IoKind}
+use Rattle.sftp_model.specs.declared.error.IoKind.TheVariants as kind
 use Rattle.sftp_model.specs.declared.slot.Facts.{Facts}
+use Rattle.sftp_model.specs.declared.slot.FileAt.{FileAt}
+use Rattle.sftp_model.specs.declared.slot.Slot.TheVariants.{File}
+use Rattle.sftp_model.specs.Slots.{with_slot}
 use Rattle.sftp_model.specs.declared.slot.Site.{Site}
 use Rattle.sftp_model.specs.declared.slot.Move.{Move}
 use Rattle.sftp_model.specs.declared.slot.Move.TheVariants.{Ask, Wait, Done}
 use Rattle.sftp_model.specs.Numbers.{SSH_FX_OK}
-use Rattle.sftp_calls.specs.Moves.{Answers, Own, Plan, once_answered, handle_of, done_by, told_by, on_status, refuses}
+use Rattle.sftp_calls.specs.Moves.{Answers, Own, Plan, once_answered, handle_of, done_by, told_by, on_content, on_handle, on_status, further, refuses}
 use Rattle.sftp_calls.specs.PathPlans.{named_by}
-use Rattle.sftp_calls.specs.FilePlans.{opened, copied}
-use Rattle.sftp_calls.specs.TransferPlans.{was_read, joined_parts}
+use Rattle.sftp_calls.specs.FilePlans.{opened, opened_file, copied}
+use Rattle.sftp_calls.specs.TransferPlans.{Keeping, in_slot, joined_parts, missing_next, part_len, rest_next, was_read, was_written}
+use Rattle.sftp_calls.specs.WholePlans.{entries_next, nowhere, on_names, to_replace}
 use Rattle.sftp_calls.specs.CallPlans as call
 use Rattle.sftp_calls.specs.CallPlans.{Call, next}
 use Rattle.sftp_plan.specs.declared.next.Asked.{Asked}
@@ -38,6 +43,7 @@ filled (asked.Read grant offset len) answers = request.Read (handle_of (answers 
 filled (asked.Write grant offset content) answers = request.Write (handle_of (answers grant)) offset content
 filled (asked.Fstat grant) answers = request.Fstat (handle_of (answers grant))
 filled (asked.Fsetstat grant attrs) answers = request.Fsetstat (handle_of (answers grant)) attrs
+filled (asked.Readdir grant) answers = request.Readdir (handle_of (answers grant))
 filled (asked.Fsync grant) answers = request.Fsync (handle_of (answers grant))
 filled (asked.CopyData from from_offset len to to_offset) answers =
     request.CopyData (handle_of (answers from)) from_offset len (handle_of (answers to)) to_offset
@@ -49,6 +55,12 @@ abbrev pub awaited : Running → Site → Option ℕ
 awaited (running.Ending place ends) site = Some place
 awaited (running.Opening place slot flags) site = Some place
 awaited (running.Reading place slot file len) site = Some place
+awaited (running.Gathering place slot file got left len) site = Some place
+awaited (running.Sending place slot file len) site = Some place
+awaited (running.Writing place slot file done) site = Some place
+awaited (running.OpeningToWrite place) site = Some place
+awaited (running.OpeningDirectory place bound) site = Some place
+awaited (running.Listing place grant got bound) site = Some place
 awaited (running.Copying place from to source target len) site = Some place
 
 -- what a reply makes of a call that it ends
@@ -62,11 +74,36 @@ abbrev pub with_reply : Site → Option Reply → (Reply → Move) → Move
 with_reply site None go = Done outcome.NoFile site
 with_reply site (Some r) go = go r
 
+-- where a file that was moved is put: into its slot, or nowhere
+abbrev pub keep_in : Option ℕ → Keeping
+keep_in None = nowhere
+keep_in (Some slot) = in_slot slot
+
+-- a part was written of these bytes
+abbrev pub part_after : Keeping → FileAt → List ℕ → ℕ → Site → Facts → Plan
+part_after keep file bytes len site facts = rest_next keep (further file len) (drop len bytes) (keep (further file len) site) facts
+
+-- a DATA came to a read of all
+abbrev pub content_after : ℕ → FileAt → List ℕ → ℕ → List ℕ → Site → Facts → Plan
+content_after slot file got left bytes site facts =
+    missing_next slot (further file (length bytes)) (got ++ bytes) (left - length bytes) (with_slot site slot (File (further file (length bytes)))) facts
+
 -- How a call goes on after the reply that it awaited, if it awaited one; `bytes` are those that the call carries.
 abbrev pub after : Running → List ℕ → Site → Facts → Option Reply → Plan
 after (running.Ending place ends) bytes site facts r later answers = with_reply site r (ended_by ends site)
 after (running.Opening place slot flags) bytes site facts r later answers = with_reply site r (opened slot flags site place)
 after (running.Reading place slot file len) bytes site facts r later answers = with_reply site r (was_read slot file site)
+after (running.Gathering place slot file got left len) bytes site facts r later answers =
+    with_reply site r (λ y. on_content y site (refuses kind.UnexpectedEof site) (λ content. content_after slot file got left content site facts later answers))
+after (running.Sending place slot file len) bytes site facts r later answers = with_reply site r (was_written slot file len site)
+after (running.Writing place slot file done) bytes site facts r later answers =
+    with_reply site r (λ y. on_status y site (part_after (keep_in slot) file (drop done bytes) (part_len facts (drop done bytes)) site facts later answers))
+after (running.OpeningToWrite place) bytes site facts r later answers =
+    with_reply site r (λ y. on_handle y site (λ handle. rest_next nowhere (opened_file to_replace place) bytes site facts later answers))
+after (running.OpeningDirectory place bound) bytes site facts r later answers =
+    with_reply site r (λ y. on_handle y site (λ handle. entries_next (handle_of (answers place)) [] bound site later answers))
+after (running.Listing place grant got bound) bytes site facts r later answers =
+    with_reply site r (λ y. on_names y site (Done (outcome.Names got) site) (λ entries. entries_next (handle_of (answers grant)) (got ++ entries) (bound - 1) site later answers))
 after (running.Copying place from to source target len) bytes site facts r later answers =
     with_reply site r (λ y. on_status y site (Done outcome.Done (copied from to source target len site)))
 

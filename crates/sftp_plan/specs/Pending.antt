@@ -43,6 +43,12 @@ abbrev pub own_place : Option Running → Option ℕ
 own_place (Some (running.Ending place ends)) = Some place
 own_place (Some (running.Opening place slot flags)) = Some place
 own_place (Some (running.Reading place slot file len)) = Some place
+own_place (Some (running.Gathering place slot file got left len)) = Some place
+own_place (Some (running.Sending place slot file len)) = Some place
+own_place (Some (running.Writing place slot file done)) = Some place
+own_place (Some (running.OpeningToWrite place)) = Some place
+own_place (Some (running.OpeningDirectory place bound)) = Some place
+own_place (Some (running.Listing place grant got bound)) = Some place
 own_place (Some (running.Copying place from to source target len)) = Some place
 own_place None = None
 

@@ -1,5 +1,5 @@
 -- What is known of a call that was begun, so that it can go on.
-use Rattle.std.specs.Prelude.{ℕ, ◌≡◌, ◌<◌, ◌≤◌, ◌+◌, ◌-◌, ◌^◌, List, length, Option, Some, None}
+use Rattle.std.specs.Prelude.{ℕ, ◌≡◌, ◌<◌, ◌≤◌, ◌+◌, ◌-◌, ◌^◌, List, drop, length, Option, Some, None}
 use Rattle.sftp_model.specs.declared.reply.Reply.{Reply}
 use Rattle.sftp_model.specs.declared.reply.Reply.TheVariants as reply
 use Rattle.sftp_model.specs.declared.slot.Facts.{Facts}
@@ -8,6 +8,7 @@ use Rattle.sftp_model.specs.declared.slot.Site.{Site}
 use Rattle.sftp_model.specs.declared.slot.Slot.{Slot}
 use Rattle.sftp_model.specs.declared.slot.Slot.TheVariants.{Empty, File, Buffered}
 use Rattle.sftp_model.specs.Slots.{slot_at}
+use Rattle.sftp_calls.specs.TransferPlans.{part_len}
 use Rattle.sftp_calls.specs.BufferPlans.{pending}
 use Rattle.sftp_plan.specs.declared.next.Running.{Running}
 use Rattle.sftp_plan.specs.declared.next.Running.TheVariants as running
@@ -40,17 +41,35 @@ abbrev pub HasRoom : FileAt → Reply → Type 0
 HasRoom file (reply.Content bytes) = CanMove file (length bytes)
 HasRoom file other = Unit {0}
 
+-- there is such a slot, where one is meant
+abbrev pub HasSlot : Option ℕ → Site → Type 0
+HasSlot None site = Unit {0}
+HasSlot (Some slot) site = slot < length site.slots
+
+-- the file stands in its slot, where it has one
+abbrev pub IsKept : Option ℕ → FileAt → Site → Type 0
+IsKept None file site = Unit {0}
+IsKept (Some slot) file site = (slot < length site.slots) × (slot_at site slot ≡ File file)
+
 -- what is known of a begun call
 abbrev pub Sound : Running → List ℕ → Site → Facts → Type 0
 Sound (running.Ending place ends) bytes site facts = Unit {0}
 Sound (running.Opening place slot flags) bytes site facts = slot < length site.slots
 Sound (running.Reading place slot file len) bytes site facts = (slot < length site.slots) × CanMove file len
+Sound (running.Gathering place slot file got left len) bytes site facts = IsKept (Some slot) file site × CanMove file len
+Sound (running.Sending place slot file len) bytes site facts = (slot < length site.slots) × CanMove file len
+Sound (running.Writing place slot file done) bytes site facts =
+    IsKept slot file site × (done ≤ length bytes) × CanMove file (part_len facts (drop done bytes))
+Sound (running.OpeningToWrite place) bytes site facts = Unit {0}
+Sound (running.OpeningDirectory place bound) bytes site facts = Unit {0}
+Sound (running.Listing place grant got bound) bytes site facts = Unit {0}
 Sound (running.Copying place from to source target len) bytes site facts =
     (from < length site.slots) × (to < length site.slots) × CanMove source len × CanMove target len
 
 -- and of the reply that it awaits: a DATA has at most the bytes that were asked
 abbrev pub Fits : Running → Option Reply → Type 0
 Fits (running.Reading place slot file len) (Some (reply.Content bytes)) = length bytes ≤ len
+Fits (running.Gathering place slot file got left len) (Some (reply.Content bytes)) = length bytes ≤ len
 Fits other r = Unit {0}
 
 abbrev pub IsSound : List ℕ → Site → Facts → Next → Type 0

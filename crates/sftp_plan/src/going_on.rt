@@ -6,10 +6,13 @@ ghost use Rattle.sftp_plan.specs.Sound.{AreWithin, Fits, Sound, Sounds};
 ghost use Rattle.sftp_plan.specs.Pending.{Pends, pends_after};
 
 use crate::file_calls::copy_replied;
+use crate::gathering::content_replied;
 use crate::next::{Next, Running};
 use crate::opening::open_replied;
 use crate::reading::read_replied;
 use crate::single::ending_told;
+use crate::whole::{directory_opened, names_replied, whole_opened};
+use crate::writing::{part_replied, write_replied};
 use sftp_model::{Facts, Outcome, Reply, Site};
 use ssh_encoding::OutOfMemory;
 use std::alloc::Global;
@@ -23,6 +26,12 @@ impl Running {
             Running::Ending { place, .. } => Some(*place),
             Running::Opening { place, .. } => Some(*place),
             Running::Reading { place, .. } => Some(*place),
+            Running::Gathering { place, .. } => Some(*place),
+            Running::Sending { place, .. } => Some(*place),
+            Running::Writing { place, .. } => Some(*place),
+            Running::OpeningToWrite { place } => Some(*place),
+            Running::OpeningDirectory { place, .. } => Some(*place),
+            Running::Listing { place, .. } => Some(*place),
             Running::Copying { place, .. } => Some(*place),
         }
     }
@@ -59,6 +68,43 @@ pub fn go_on(
         Running::Reading { slot, file, .. } => {
             Ok(Next::Done(read_replied(alloc, slot, file, reply, site)?))
         }
+        Running::Gathering {
+            place: awaited,
+            slot,
+            file,
+            got,
+            left,
+            len,
+        } => content_replied(
+            alloc, awaited, slot, file, got, left, len, reply, place, site, facts,
+        ),
+        Running::Sending {
+            slot,
+            file,
+            len,
+            ..
+        } => Ok(Next::Done(write_replied(slot, file, len, reply, site))),
+        Running::Writing {
+            place: awaited,
+            slot,
+            file,
+            done,
+        } => part_replied(
+            alloc, awaited, slot, file, done, reply, bytes, place, site, facts,
+        ),
+        Running::OpeningToWrite { place: grant } => {
+            whole_opened(alloc, grant, reply, bytes, place, site, facts)
+        }
+        Running::OpeningDirectory {
+            place: grant,
+            bound,
+        } => Ok(directory_opened(alloc, grant, bound, reply, place, site, facts)),
+        Running::Listing {
+            place: awaited,
+            grant,
+            got,
+            bound,
+        } => names_replied(awaited, grant, got, bound, reply, place, site, facts),
         Running::Copying {
             from,
             to,

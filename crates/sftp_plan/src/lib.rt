@@ -4,7 +4,9 @@
 
 mod closing;
 mod file_calls;
+mod gathering;
 mod going_on;
+mod laws;
 mod local_calls;
 mod next;
 mod opening;
@@ -13,10 +15,14 @@ mod reading;
 mod replies;
 mod single;
 pub mod site;
+mod whole;
+mod writing;
 
 pub use closing::begin_close;
 pub use file_calls::{begin_copy, begin_meta, begin_set_len, begin_set_perm, begin_sync};
+pub use gathering::{begin_read_all, read_rest};
 pub use going_on::go_on;
+pub use laws::calls_go_on_by_awaited_replies;
 pub use local_calls::{begin_buffer, begin_clone, begin_cwd, begin_seek, begin_unbuffer, sought};
 pub use next::{Asked, EndsBy, Next, Running};
 pub use opening::{begin_open, opened_file};
@@ -25,3 +31,5 @@ pub use path_calls::{
     begin_rename, begin_rmdir, begin_set_stat, begin_stat, begin_symlink,
 };
 pub use reading::begin_read;
+pub use whole::{begin_fs_write, begin_list};
+pub use writing::{begin_write, begin_write_all, begin_write_parts, write_rest};

@@ -1,4 +1,5 @@
-use sftp_model::{Content, FileAt, FileAttrs, OpenFlags, Outcome, Request};
+use sftp_model::{Content, FileAt, FileAttrs, NameEntry, OpenFlags, Outcome, Request};
+use sftp_values::{ByteText, Items};
 
 /// A request whose handles are named by the places of their grants: of the OPENs that brought them.
 #[derive(Debug, Drop)]
@@ -29,6 +30,10 @@ pub enum Asked {
     Fsetstat {
         grant: u64,
         attrs: FileAttrs,
+    },
+    /// READDIR.
+    Readdir {
+        grant: u64,
     },
     /// `fsync@openssh.com`.
     Fsync {
@@ -75,6 +80,45 @@ pub enum Running {
         slot: u8,
         file: FileAt,
         len: u32,
+    },
+    /// A READ of a `read_all` awaits its reply: these bytes were got, and so many are left.
+    Gathering {
+        place: u64,
+        slot: u8,
+        file: FileAt,
+        got: ByteText,
+        left: u64,
+        len: u32,
+    },
+    /// The WRITE of a `write` awaits its reply.
+    Sending {
+        place: u64,
+        slot: u8,
+        file: FileAt,
+        len: u32,
+    },
+    /// The WRITE of a part awaits its reply: of the bytes from `done` on, to a file in a slot or in none.
+    Writing {
+        place: u64,
+        slot: Option<u8>,
+        file: FileAt,
+        done: usize,
+    },
+    /// The OPEN of a whole write awaits its reply.
+    OpeningToWrite {
+        place: u64,
+    },
+    /// An OPENDIR awaits its reply; so many READDIRs may follow.
+    OpeningDirectory {
+        place: u64,
+        bound: u32,
+    },
+    /// A READDIR awaits its reply: these entries were got, and so many READDIRs may be made with this one.
+    Listing {
+        place: u64,
+        grant: u64,
+        got: Items<NameEntry>,
+        bound: u32,
     },
     /// A `copy-data` awaits its reply.
     Copying {

@@ -1,0 +1,23 @@
+-- Slots that are set.
+use Rattle.std.proofs.Common.{◌≡◌, ◌<◌, ap, refl, arith, length, ℕ, zero, suc, List, [], ◌∷◌}
+use Rattle.std.specs.Prelude.{slice_index_or, slice_set}
+use Rattle.sftp_model.specs.declared.slot.Site.{Site}
+use Rattle.sftp_model.specs.declared.slot.Slot.{Slot}
+use Rattle.sftp_model.specs.declared.slot.Slot.TheVariants.{Empty}
+use Rattle.sftp_model.specs.Slots.{slot_at, with_slot}
+
+slots_twice : (slots : List Slot) (k : ℕ) (x y : Slot) → slice_set (slice_set slots k x) k y ≡ slice_set slots k y
+slots_twice [] k x y = refl
+slots_twice (slot ∷ slots) zero x y = refl
+slots_twice (slot ∷ slots) (suc k) x y = ap (λ l. slot ∷ l) (slots_twice slots k x y)
+
+pub set_twice : (site : Site) (k : ℕ) (x y : Slot) → with_slot (with_slot site k x) k y ≡ with_slot site k y
+set_twice site k x y = λ i. record { slots = slots_twice site.slots k x y i; directory = site.directory }
+
+set_index : (slots : List Slot) (k : ℕ) (x : Slot) → k < length slots → slice_index_or (slice_set slots k x) k Empty ≡ x
+set_index [] k x lt = absurd (omega (arith, lt))
+set_index (slot ∷ slots) zero x lt = refl
+set_index (slot ∷ slots) (suc k) x lt = set_index slots k x (omega (arith, lt))
+
+pub set_at : (site : Site) (k : ℕ) (x : Slot) → k < length site.slots → slot_at (with_slot site k x) k ≡ x
+set_at site k x lt = set_index site.slots k x lt

@@ -1,0 +1,30 @@
+use Rattle.std.proofs.Common.{◌≡◌, ◌+◌, ◌-◌, rules, length, Some}
+use Rattle.sftp_model.specs.declared.slot.Slot.TheVariants.{File}
+use Rattle.sftp_model.specs.Slots.{with_slot}
+use Rattle.sftp_calls.specs.Moves.{further}
+use Rattle.sftp_plan.proofs.Going.{content_goes}
+use Rattle.sftp_plan.proofs.Leaving.{leaves_moved}
+use Rattle.sftp_plan.proofs.Fewer.{kept_pends}
+use Rattle.sftp_plan.proofs.Keeping.{keeps_kept, kept_there}
+use Rattle.sftp_plan.proofs.gathering.content_came.Goals as goal
+
+pub returns-clause-goes : goal.returns-clause-goes
+returns-clause-goes c bytes =
+    let less : c.saturating_sub-rest.result ≡ c.args.left - length c.args.content = search rules in
+    content_goes c.args.slot c.args.file c.args.got c.in_ok-all.all c.args.content c.len-count.result c.args.left c.saturating_sub-rest.result c.args.place bytes c.args.site.now c.set_slot.new.site c.args.facts.now c.read_rest-next.result
+    c.len-count.ensures.value (search rules) less c.set_slot.ensures (c.read_rest-next.ensures.goes c.set_slot.new.site bytes)
+
+pub returns-clause-left : goal.returns-clause-left
+returns-clause-left c bytes =
+    leaves_moved (Some c.args.slot) (c.args.file.offset + c.len-count.result) c.args.site.now c.set_slot.new.site c.args.facts.now c.args.file c.args.place bytes c.read_rest-next.result c.requires.kept c.set_slot.ensures c.read_rest-next.ensures.asks
+    (c.read_rest-next.ensures.left c.set_slot.new.site bytes (kept_there (Some c.args.slot) c.args.file (c.args.file.offset + c.len-count.result) c.args.site.now c.set_slot.new.site c.requires.kept c.set_slot.ensures))
+
+pub returns-clause-sound : goal.returns-clause-sound
+returns-clause-sound c bytes = (
+  keeps_kept c.args.facts.now (Some c.args.slot) c.args.file (c.args.file.offset + c.len-count.result) c.args.site.now c.set_slot.new.site c.set_slot.ensures,
+  (c.read_rest-next.ensures.sound c.set_slot.new.site bytes (kept_there (Some c.args.slot) c.args.file (c.args.file.offset + c.len-count.result) c.args.site.now c.set_slot.new.site c.requires.kept c.set_slot.ensures)).1,
+)
+
+pub returns-clause-pends : goal.returns-clause-pends
+returns-clause-pends c =
+    kept_pends (Some c.args.slot) c.args.awaited c.args.file (c.args.file.offset + c.len-count.result) c.args.place c.args.site.now c.set_slot.new.site c.read_rest-next.result c.requires.kept c.set_slot.ensures (c.read_rest-next.ensures.pends c.set_slot.new.site)

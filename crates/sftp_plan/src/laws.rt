@@ -1,0 +1,22 @@
+// Laws of what is left of a plan. The functions do nothing: what they ensure holds of all values.
+ghost use Rattle.std.specs.Prelude.{◌≡◌, ℕ, List, Some, None};
+ghost use Rattle.sftp_model.specs.declared.reply.Reply.{Reply};
+ghost use Rattle.sftp_model.specs.declared.slot.Facts.{Facts};
+ghost use Rattle.sftp_model.specs.declared.slot.Site.{Site};
+ghost use Rattle.sftp_calls.specs.Moves.{Answers, Own};
+ghost use Rattle.sftp_plan.specs.declared.next.Running.{Running};
+ghost use Rattle.sftp_plan.specs.Machines.{after, awaited, idle, residual};
+
+/// A call that was begun goes on by the reply that it awaits: it waits while that is missing, and else goes on after
+/// it; a call that awaits none goes on at once.
+pub fn calls_go_on_by_awaited_replies()
+    ensures missing { (running : Running) (bytes : List ℕ) (site : Site) (facts : Facts) (later : Own)
+        (answers : Answers) (place : ℕ) → awaited running site ≡ Some place → answers place ≡ None
+        → residual running bytes site facts later answers ≡ idle running bytes site facts later answers }
+    ensures came { (running : Running) (bytes : List ℕ) (site : Site) (facts : Facts) (later : Own)
+        (answers : Answers) (place : ℕ) (r : Reply) → awaited running site ≡ Some place → answers place ≡ Some r
+        → residual running bytes site facts later answers ≡ after running bytes site facts (Some r) later answers }
+    ensures none { (running : Running) (bytes : List ℕ) (site : Site) (facts : Facts) (later : Own)
+        (answers : Answers) → awaited running site ≡ None
+        → residual running bytes site facts later answers ≡ after running bytes site facts None later answers }
+{}
