@@ -1,4 +1,4 @@
--- The calls of a run submit fewer requests than there are handles.
+-- The calls of a run ask for fewer handles than there are: each call for one at most.
 use Rattle.std.proofs.Common.{◌≡◌, ◌≢◌, ◌<◌, ◌≤◌, ◌==◌, ℕ, zero, suc, ◌+◌, Bool, true, false, List, [], ◌∷◌, ◌++◌, length, Option, Some, None, refl, ap, sym, ◌∙◌, subst, arith, if◌then◌else◌, inl, inr}
 use Rattle.std.specs.Prelude.{◌&&◌, nat_lt, is_some, slice_get, MatchBool}
 use Rattle.std.specs.List.{sum_by, list_all}
@@ -10,7 +10,7 @@ use Rattle.sftp_model.specs.declared.reply.Reply.{Reply}
 use Rattle.sftp_model.specs.declared.request.Request.{Request}
 use Rattle.sftp_model.specs.declared.slot.Move.{Move}
 use Rattle.sftp_model.specs.declared.slot.Move.TheVariants.{Ask, Wait, Done}
-use Rattle.sftp_model.specs.Numbers.{MAX_TRANSFER_LEN}
+use Rattle.sftp_calls.specs.Moves.{Own}
 use Rattle.sftp_history.specs.declared.call.Call.{Call}
 use Rattle.sftp_history.specs.declared.call.Lane.{Lane}
 use Rattle.sftp_history.specs.declared.turn.Turn.{Turn}
@@ -27,9 +27,9 @@ use Rattle.sftp_history.specs.Lanes.{weight, lane_weight, weight_limit, is_withi
 use Rattle.sftp_history.specs.Runs.{TurnsTo, RoundsTo, EndsTo, LetsGoTo, DrainsTo, Opens, round_of, IsRun}
 use Rattle.sftp_history.specs.Turns.{Stage, TurnTo, MovesBy, RulesTo, ClosesTo, is_full, is_begun, begun_but}
 use Rattle.sftp_map_server.specs.Granting.{MAX_HANDLES}
-use Rattle.sftp_served.proofs.Sound.{TakesFit, grants_fit, asks_once}
+use Rattle.sftp_served.proofs.Sound.{asks_handle, asks_first}
 use Rattle.sftp_served.proofs.Replying.{both_of, is_less}
-use Rattle.sftp_served.proofs.Serving.{called}
+use Rattle.sftp_served.proofs.Serving.{handles_asked, called}
 
 -- ---- a run adds no call
 
@@ -113,50 +113,58 @@ run_plain s turns past (at, (by, is)) =
     (ends_stay s (length s.lanes) at.turned at.ended by.ends
     (turns_stay s turns _ at.turned by.turns (opens_plain s.limits at.opened by.opens)))))
 
--- ---- each call asks once
+-- ---- each call asks for one handle at most
 
--- how many requests the calls of a lane submitted
-abbrev called_by : List Entry → ℕ → ℕ
+-- how many handles the calls of a lane asked for
+abbrev pub called_by : List Entry → ℕ → ℕ
 called_by [] lane = 0
-called_by (entry.Event (Submit (owner.Call l call) id r) ∷ past) lane = if l == lane then called_by past lane + 1 else called_by past lane
+called_by (entry.Event (Submit (owner.Call l call) id r) ∷ past) lane = if l == lane then called_by past lane + handles_asked r else called_by past lane
 called_by (_ ∷ past) lane = called_by past lane
 
--- 1 where something stands in a list
-abbrev some_of : List ℕ → ℕ
+-- 1 where a call has asked for something
+abbrev pub some_of : Own → ℕ
 some_of [] = 0
-some_of (place ∷ places) = 1
+some_of (a ∷ later) = 1
 
-some_le : (places : List ℕ) → some_of places ≤ 1
+some_le : (requests : Own) → some_of requests ≤ 1
 some_le [] = omega arith
-some_le (p ∷ places) = omega arith
+some_le (a ∷ later) = omega arith
 
-asked_none : (s : Setting) (past : List Entry) (lane call id : ℕ) (r : Request) → IsNext s past (entry.Event (Submit (owner.Call lane call) id r)) → TakesFit past → s.facts.read_len ≤ MAX_TRANSFER_LEN → own past lane (ended past lane) ≡ []
-asked_none s past lane call id r next f m = (asks_once s past lane r (grants_fit past f) m (next_submit s past lane call id r next).1).0
+-- a handle is asked for by a call's first request alone
+one_handle : (requests : Own) (a : ℕ × Request) (b : Bool) → (b ≡ true → requests ≡ []) → some_of requests + (if b then 1 else 0) ≤ some_of (requests ++ a ∷ [])
+one_handle [] a true first = omega arith
+one_handle [] a false first = omega arith
+one_handle (x ∷ later) a true first = absurd (let none = first refl in cc)
+one_handle (x ∷ later) a false first = omega arith
+
+asks_one : (s : Setting) (past : List Entry) (lane call id : ℕ) (r : Request) → IsNext s past (entry.Event (Submit (owner.Call lane call) id r))
+    → some_of (own past lane (ended past lane)) + handles_asked r ≤ some_of (own past lane (ended past lane) ++ (asked past, r) ∷ [])
+asks_one s past lane call id r next =
+    one_handle (own past lane (ended past lane)) (asked past, r) (asks_handle r) (asks_first s past lane r (next_submit s past lane call id r next).1)
 
 -- by the calls that ended, and one where the next has asked
-by_ends : (s : Setting) (past : List Entry) (lane : ℕ) → IsJournal s past → TakesFit past → s.facts.read_len ≤ MAX_TRANSFER_LEN → called_by past lane ≤ ended past lane + some_of (own past lane (ended past lane))
-by_ends s [] lane j f m = omega arith
-by_ends s (entry.Event (Submit (owner.Call l call) id r) ∷ past) lane j f m =
-    let old = by_ends s past lane j.1 f m in
+by_ends : (s : Setting) (past : List Entry) (lane : ℕ) → IsJournal s past → called_by past lane ≤ ended past lane + some_of (own past lane (ended past lane))
+by_ends s [] lane j = omega arith
+by_ends s (entry.Event (Submit (owner.Call l call) id r) ∷ past) lane j =
+    let old = by_ends s past lane j.1 in
     elim (eqb_tells l lane) [
       | inl t ↦
           let now : call ≡ ended past l = (next_submit s past l call id r j.0).0 in
           let same : (call == ended past lane) ≡ true = eq-eqb call (ended past lane) (now ∙ ap (ended past) t.1) in
-          let none : own past lane (ended past lane) ≡ [] = subst (λ (k : ℕ). own past k (ended past k) ≡ []) t.1 (asked_none s past l call id r j.0 f m) in
-          let most : called_by past lane ≤ ended past lane + 0 = rw none at old in
-          rw (t.0, same, none) (omega (arith, most))
+          let one : some_of (own past lane (ended past lane)) + handles_asked r ≤ some_of (own past lane (ended past lane) ++ (asked past, r) ∷ []) =
+          subst (λ (k : ℕ). some_of (own past k (ended past k)) + handles_asked r ≤ some_of (own past k (ended past k) ++ (asked past, r) ∷ [])) t.1 (asks_one s past l call id r j.0) in
+          rw (t.0, same) (omega (arith, old, one))
       | inr t ↦ rw t.0 old
     ]
-by_ends s (entry.Event (Submit owner.Setup id r) ∷ past) lane j f m = by_ends s past lane j.1 f m
-by_ends s (entry.Event (Submit owner.Close id r) ∷ past) lane j f m = by_ends s past lane j.1 f m
-by_ends s (entry.Event (Take id r) ∷ past) lane j f m = by_ends s past lane j.1 f.1 m
-by_ends s (entry.Event (End l call o) ∷ past) lane j f m =
-    let old = by_ends s past lane j.1 f m in
+by_ends s (entry.Event (Submit owner.Setup id r) ∷ past) lane j = by_ends s past lane j.1
+by_ends s (entry.Event (Submit owner.Close id r) ∷ past) lane j = by_ends s past lane j.1
+by_ends s (entry.Event (End l call o) ∷ past) lane j =
+    let old = by_ends s past lane j.1 in
     elim (eqb_tells l lane) [
       | inl t ↦ rw t.0 (let one = some_le (own past lane (ended past lane)) in omega (arith, old, one))
       | inr t ↦ rw t.0 old
     ]
-by_ends s (_ ∷ past) lane j f m = by_ends s past lane j.1 f m
+by_ends s (_ ∷ past) lane j = by_ends s past lane j.1
 
 added_none : (past : List Entry) (lane : ℕ) → IsPlain past → added past lane ≡ []
 added_none [] lane p = refl
@@ -181,24 +189,23 @@ asks_below s past lane r p e =
     let c = has_call (current s past lane) (move_of s past lane) r e (λ none. ap (λ (c : Option Call). move_at c (site_of s past lane) s.facts (own past lane (ended past lane)) (answer past)) none) in
     there_below (calls_of (slice_get s.lanes lane)) (ended past lane) c.0 (ap (λ (w : List Call). slice_get w (ended past lane)) (sym (plain_calls s past lane p)) ∙ c.1)
 
-by_calls : (s : Setting) (past : List Entry) (lane : ℕ) → IsPlain past → IsJournal s past → TakesFit past → s.facts.read_len ≤ MAX_TRANSFER_LEN → called_by past lane ≤ length (calls_of (slice_get s.lanes lane))
-by_calls s [] lane p j f m = omega arith
-by_calls s (entry.Event (Submit (owner.Call l call) id r) ∷ past) lane p j f m =
+by_calls : (s : Setting) (past : List Entry) (lane : ℕ) → IsPlain past → IsJournal s past → called_by past lane ≤ length (calls_of (slice_get s.lanes lane))
+by_calls s [] lane p j = omega arith
+by_calls s (entry.Event (Submit (owner.Call l call) id r) ∷ past) lane p j =
     elim (eqb_tells l lane) [
       | inl t ↦
-          let none : own past l (ended past l) ≡ [] = asked_none s past l call id r j.0 f m in
-          let nothing : some_of (own past l (ended past l)) ≡ 0 = ap some_of none in
-          let old = by_ends s past l j.1 f m in
+          let old = by_ends s past l j.1 in
+          let one = asks_one s past l call id r j.0 in
+          let most = some_le (own past l (ended past l) ++ (asked past, r) ∷ []) in
           let below = asks_below s past l r p (next_submit s past l call id r j.0).1 in
-          let most : called_by past l + 1 ≤ length (calls_of (slice_get s.lanes l)) = omega (arith, old, below, nothing) in
-          rw t.0 (subst (λ (k : ℕ). called_by past k + 1 ≤ length (calls_of (slice_get s.lanes k))) t.1 most)
-      | inr t ↦ rw t.0 (by_calls s past lane p j.1 f m)
+          let within : called_by past l + handles_asked r ≤ length (calls_of (slice_get s.lanes l)) = omega (arith, old, one, most, below) in
+          rw t.0 (subst (λ (k : ℕ). called_by past k + handles_asked r ≤ length (calls_of (slice_get s.lanes k))) t.1 within)
+      | inr t ↦ rw t.0 (by_calls s past lane p j.1)
     ]
-by_calls s (entry.Event (Submit owner.Setup id r) ∷ past) lane p j f m = by_calls s past lane p j.1 f m
-by_calls s (entry.Event (Submit owner.Close id r) ∷ past) lane p j f m = by_calls s past lane p j.1 f m
-by_calls s (entry.Event (Take id r) ∷ past) lane p j f m = by_calls s past lane p j.1 f.1 m
-by_calls s (entry.Added l c ∷ past) lane p j f m = absurd p
-by_calls s (_ ∷ past) lane p j f m = by_calls s past lane p j.1 f m
+by_calls s (entry.Event (Submit owner.Setup id r) ∷ past) lane p j = by_calls s past lane p j.1
+by_calls s (entry.Event (Submit owner.Close id r) ∷ past) lane p j = by_calls s past lane p j.1
+by_calls s (entry.Added l c ∷ past) lane p j = absurd p
+by_calls s (_ ∷ past) lane p j = by_calls s past lane p j.1
 
 -- ---- all lanes
 
@@ -212,17 +219,17 @@ sum_same f g k [] same = refl
 sum_same f g k (lane ∷ lanes) same =
     let here = same k (omega arith) in let more = sum_same f g (k + 1) lanes (λ q le. same q (omega (arith, le))) in omega (arith, here, more)
 
-sum_more : (f g : ℕ → ℕ) (k p : ℕ) (lanes : List Lane) → k ≤ p → p < k + length lanes → f p ≡ g p + 1 → ((q : ℕ) → p ≢ q → f q ≡ g q) → sum_from f k lanes ≡ sum_from g k lanes + 1
-sum_more f g k p [] le lt one same = absurd (omega (arith, le, lt))
-sum_more f g k p (lane ∷ lanes) le lt one same =
+sum_more : (f g : ℕ → ℕ) (k p n : ℕ) (lanes : List Lane) → k ≤ p → p < k + length lanes → f p ≡ g p + n → ((q : ℕ) → p ≢ q → f q ≡ g q) → sum_from f k lanes ≡ sum_from g k lanes + n
+sum_more f g k p n [] le lt one same = absurd (omega (arith, le, lt))
+sum_more f g k p n (lane ∷ lanes) le lt one same =
     elim (eqb_tells p k) [
       | inl t ↦
-          let here : f k ≡ g k + 1 = subst (λ (i : ℕ). f i ≡ g i + 1) t.1 one in
+          let here : f k ≡ g k + n = subst (λ (i : ℕ). f i ≡ g i + n) t.1 one in
           let others = sum_same f g (k + 1) lanes (λ q above. same q (λ e. absurd (let is : p ≡ k = t.1 in omega (arith, above, e, is)))) in omega (arith, here, others)
       | inr t ↦
           let ne : p ≢ k = t.1 in
           let here = same k ne in
-          let more = sum_more f g (k + 1) p lanes (omega (arith, le, ne)) (omega (arith, lt)) one same in omega (arith, here, more)
+          let more = sum_more f g (k + 1) p n lanes (omega (arith, le, ne)) (omega (arith, lt)) one same in omega (arith, here, more)
     ]
 
 sum_none : (k : ℕ) (lanes : List Lane) → sum_from (λ q. 0) k lanes ≡ 0
@@ -234,7 +241,7 @@ lane_there [] lane n lt = absurd (omega (arith, lt))
 lane_there (l ∷ lanes) zero n lt = omega arith
 lane_there (l ∷ lanes) (suc lane) n lt = let below = lane_there lanes lane n lt in omega (arith, below)
 
-one_more : (past : List Entry) (l id call : ℕ) (r : Request) → called_by (entry.Event (Submit (owner.Call l call) id r) ∷ past) l ≡ called_by past l + 1
+one_more : (past : List Entry) (l id call : ℕ) (r : Request) → called_by (entry.Event (Submit (owner.Call l call) id r) ∷ past) l ≡ called_by past l + handles_asked r
 one_more past l id call r = rw (eq-eqb l l refl) refl
 
 one_other : (past : List Entry) (l id call : ℕ) (r : Request) (q : ℕ) → l ≢ q → called_by (entry.Event (Submit (owner.Call l call) id r) ∷ past) q ≡ called_by past q
@@ -246,7 +253,7 @@ called_sum s (entry.Event (Submit (owner.Call l call) id r) ∷ past) p j =
     let old = called_sum s past p j.1 in
     let below = asks_below s past l r p (next_submit s past l call id r j.0).1 in
     let there = lane_there s.lanes l (ended past l) below in
-    let more = sum_more (called_by (entry.Event (Submit (owner.Call l call) id r) ∷ past)) (called_by past) 0 l s.lanes (omega arith) (omega (arith, there)) (one_more past l id call r) (one_other past l id call r) in
+    let more = sum_more (called_by (entry.Event (Submit (owner.Call l call) id r) ∷ past)) (called_by past) 0 l (handles_asked r) s.lanes (omega arith) (omega (arith, there)) (one_more past l id call r) (one_other past l id call r) in
     omega (arith, old, more)
 called_sum s (entry.Event (Submit owner.Setup id r) ∷ past) p j = called_sum s past p j.1
 called_sum s (entry.Event (Submit owner.Close id r) ∷ past) p j = called_sum s past p j.1
@@ -268,10 +275,10 @@ sum_weighs f k (lane ∷ lanes) h =
     omega (arith, here, zero_is, one, more, both)
 
 -- of lanes that a session can be given
-pub run_calls : (s : Setting) (turns : List Turn) (past : List Entry) → IsRun s turns past → IsJournal s past → TakesFit past → s.facts.read_len ≤ MAX_TRANSFER_LEN → are_ok s.lanes ≡ true → called past < MAX_HANDLES
-run_calls s turns past run j f m ok =
+pub run_calls : (s : Setting) (turns : List Turn) (past : List Entry) → IsRun s turns past → IsJournal s past → are_ok s.lanes ≡ true → called past < MAX_HANDLES
+run_calls s turns past run j ok =
     let p = run_plain s turns past run in
     let sum = called_sum s past p j in
-    let weighs = sum_weighs (called_by past) 0 s.lanes (λ i. let is : i ≡ 0 + i = omega arith in subst (λ (k : ℕ). called_by past k ≤ length (calls_of (slice_get s.lanes i))) is (by_calls s past i p j f m)) in
+    let weighs = sum_weighs (called_by past) 0 s.lanes (λ i. let is : i ≡ 0 + i = omega arith in subst (λ (k : ℕ). called_by past k ≤ length (calls_of (slice_get s.lanes i))) is (by_calls s past i p j)) in
     let most : sum_by lane_weight s.lanes < weight_limit = is_less _ _ (both_of (list_all (λ lane. list_all is_within lane.calls) s.lanes) _ ok).1 in
     omega (arith, sum, weighs, most)

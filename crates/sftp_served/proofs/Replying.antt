@@ -14,9 +14,9 @@ use Rattle.sftp_model.specs.declared.request.Request.{Request}
 use Rattle.sftp_model.specs.declared.request.Request.TheVariants as request
 use Rattle.sftp_model.specs.Answers.{expected_of, may_answer}
 use Rattle.sftp_model.specs.FileMachine.{Machine, IsAfterHello, apply, capped, status}
-use Rattle.sftp_model.specs.Fits.{FitsRequest, FitsLimits}
+use Rattle.sftp_model.specs.Fits.{FitsLimits}
 use Rattle.sftp_model.specs.Numbers.{MAX_BODY_LEN, MAX_TRANSFER_LEN}
-use Rattle.sftp_model.specs.Frames.{no_attributes, request_body, request_id, reply_body, reply_id, reply_frame, limits_content}
+use Rattle.sftp_model.specs.Frames.{request_body, request_id, reply_body, reply_id, reply_frame, limits_content}
 use Rattle.sftp_model.specs.ReplyReadings.{reply_at}
 use Rattle.sftp_model.specs.RequestReadings.{request_at}
 use Rattle.sftp_model.proofs.MachineLaws.{machine_allowed}
@@ -32,7 +32,7 @@ use Rattle.sftp_history.specs.Served.{first_choice, limits_reply}
 use Rattle.sftp_map_server.specs.Granting.{Granting, gives_within, handle_of, next}
 use Rattle.sftp_map_server.specs.Serving.{Desk, told_bits, version_reply, is_hello, is_query, id_of, over_at, heed, respond, step}
 use Rattle.sftp_map_server.proofs.Short.{IsShort, next_short, next_fits, next_within, next_answers, limits_within}
-use Rattle.sftp_served.proofs.Sound.{FitsCall, FitsBy, by_owner}
+use Rattle.sftp_served.proofs.Sound.{FitsCall, FitsBy, by_owner, body_len}
 
 -- the reply to a request
 unfoldable pub reply_to : Desk → Request → Reply
@@ -59,30 +59,22 @@ pub record IsGood (d : Desk) : Type 0 where
 -- ---- requests
 
 pub call_query : (r : Request) → FitsCall r → is_query r ≡ false
-call_query (request.OpenFile path flags attrs) f = refl
-call_query (request.Read handle offset len) f = refl
-call_query (request.Close handle) f = refl
-call_query other f = absurd f
-
-call_fits : (r : Request) → FitsCall r → FitsRequest r
-call_fits (request.OpenFile path flags attrs) f = (omega (arith, f.0), f.1, rw (f.2) (record { size = tt; id = tt; permissions = tt; time = tt }))
-call_fits (request.Read handle offset len) f = (f.0, f.1, omega (arith, f.2))
-call_fits (request.Close handle) f = f
-call_fits other f = absurd f
+call_query request.LimitsQuery f = absurd f.ordinary
+call_query other f = refl
 
 call_id : (r : Request) (id : ℕ) → FitsCall r → request_id r id ≡ Some id
-call_id (request.Init version) id f = absurd f
+call_id (request.Init version) id f = absurd f.ordinary
 call_id r id f = refl
 
 capped_le : (cap n : ℕ) → n ≤ MAX_TRANSFER_LEN → nat_le (capped cap n) MAX_TRANSFER_LEN ≡ true
 capped_le cap n h = elim (eqb_tells cap 0) [ inl t ↦ rw t.0 (grind (arith, nat_tests)) | inr t ↦ rw t.0 (grind (arith, nat_tests)) ]
 
 call_within : (r : Request) (choice : Choice) → FitsCall r → gives_within r choice ≡ true
-call_within (request.Read handle offset len) choice f = capped_le choice.cap len f.2
+call_within (request.Read handle offset len) choice f = capped_le choice.cap len f.within
 call_within r choice f = refl
 
-call_after : (r : Request) → FitsCall r → (is_hello r ≡ false) × IsAfterHello r
-call_after (request.Init version) f = absurd f
+pub call_after : (r : Request) → FitsCall r → (is_hello r ≡ false) × IsAfterHello r
+call_after (request.Init version) f = absurd f.ordinary
 call_after r f = (refl, tt)
 
 -- ---- the desk
@@ -142,7 +134,7 @@ step_call : (d : Desk) (id : ℕ) (r : Request) → IsGood d → id < 2 ^ 32 →
 unfolding reply_to next_desk
 step_call d id r g lt f =
     let query = call_query r f in
-    let back : request_at (request_body r id) ≡ Ok (Some id, r) = request_back r id (call_fits r f) lt ∙ ap (λ (i : Option ℕ). Ok (i, r)) (call_id r id f) in
+    let back : request_at (request_body r id) ≡ Ok (Some id, r) = request_back r id f.fits lt ∙ ap (λ (i : Option ℕ). Ok (i, r)) (call_id r id f) in
     let n = next d.granting r (first_choice d.choices) in
     let after : Desk = record { granting = n.1; choices = drop 1 d.choices; greeted = d.greeted; over = d.over } in
     let is : (reply_frame n.0 id, after) ≡ (reply_frame (reply_to d r) id, next_desk d r) = rw query refl in
@@ -159,12 +151,13 @@ pub step_fits : (d : Desk) (tells : Bool) (by : Owner) (id : ℕ) (r : Request) 
 step_fits d tells by id r g lt f =
     by_owner (λ w. step d (request_body w id) ≡ (reply_frame (reply_to d w) id, next_desk d w)) tells by r f (λ c. step_call d id r g lt c) (λ t. step_query d id g lt)
 
-call_short : (r : Request) (id : ℕ) → FitsCall r → (0 < length (request_body r id)) × (length (request_body r id) ≤ MAX_BODY_LEN)
+body_there : (r : Request) (id : ℕ) → 0 < length (request_body r id)
 unfolding request_body
-call_short (request.OpenFile path flags attrs) id f = rw (f.2) (let l : length (request_body (request.OpenFile path flags no_attributes) id) ≡ length path + 17 = simp lengths (omega arith) in (omega (arith, l), omega (arith, l, f.0)))
-call_short (request.Read handle offset len) id f = let l : length (request_body (request.Read handle offset len) id) ≡ length handle + 21 = simp lengths (omega arith) in (omega (arith, l), omega (arith, l, f.0))
-call_short (request.Close handle) id f = let l : length (request_body (request.Close handle) id) ≡ length handle + 9 = simp lengths (omega arith) in (omega (arith, l), omega (arith, l, f))
-call_short other id f = absurd f
+body_there (request.Init version) id = omega arith
+body_there r id = omega arith
+
+call_short : (r : Request) (id : ℕ) → FitsCall r → (0 < length (request_body r id)) × (length (request_body r id) ≤ MAX_BODY_LEN)
+call_short r id f = (body_there r id, omega (arith, body_len r id f.ordinary, f.short))
 
 query_short : (id : ℕ) → (0 < length (request_body request.LimitsQuery id)) × (length (request_body request.LimitsQuery id) ≤ MAX_BODY_LEN)
 unfolding request_body
@@ -198,10 +191,8 @@ short_id (reply.Version version extensions) id h = absurd h
 short_id r id h = refl
 
 call_goes : (r : Request) (x : Reply) → FitsCall r → refuses_limits (expected_of r) x ≡ None
-call_goes (request.OpenFile path flags attrs) x f = refl
-call_goes (request.Read handle offset len) x f = refl
-call_goes (request.Close handle) x f = refl
-call_goes other x f = absurd f
+call_goes request.LimitsQuery x f = absurd f.ordinary
+call_goes r x f = refl
 
 says_call : (d : Desk) (by : Owner) (id : ℕ) (r : Request) → IsGood d → id < 2 ^ 32 → FitsCall r → Says (record { by = by; id = id; request = r }) (reply_to d r)
 unfolding reply_to

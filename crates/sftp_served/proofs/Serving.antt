@@ -12,10 +12,12 @@ use Rattle.sftp_model.specs.declared.config.Choice.{Choice}
 use Rattle.sftp_model.specs.declared.config.ServerConfig.{ServerConfig}
 use Rattle.sftp_model.specs.declared.machine.Held.{Held}
 use Rattle.sftp_model.specs.declared.reply.Reply.{Reply}
+use Rattle.sftp_model.specs.declared.reply.Reply.TheVariants as reply
 use Rattle.sftp_model.specs.declared.request.Request.{Request}
 use Rattle.sftp_model.specs.declared.request.Request.TheVariants as request
-use Rattle.sftp_model.specs.Answers.{is_handle}
-use Rattle.sftp_model.specs.FileMachine.{Machine, apply, answered, at_key, without_key, after_open, after_read, after_close, bytes_of_file, open_to_read, status}
+use Rattle.sftp_model.specs.Answers.{is_handle, may_answer}
+use Rattle.sftp_model.specs.FileMachine.{Machine, IsAfterHello, apply, answered, at_key, without_key, after_open, after_read, after_close, bytes_of_file, open_to_read, status}
+use Rattle.sftp_model.proofs.MachineLaws.{machine_allowed}
 use Rattle.sftp_history.specs.declared.event.Owner.{Owner}
 use Rattle.sftp_history.specs.declared.event.Owner.TheVariants as owner
 use Rattle.sftp_history.specs.declared.event.Event.TheVariants.{Submit, Send}
@@ -25,8 +27,8 @@ use Rattle.sftp_history.specs.Readings.{Asked, asked, asked_at, answer}
 use Rattle.sftp_history.specs.Served.{requests_of, requests_sent, first_choice, MayGrant, IsReply, ServesAll, limits_reply, where_by_setup, reply_to_query, Serves}
 use Rattle.sftp_map_server.specs.Granting.{Granting, handle_of, MAX_HANDLES, next, served}
 use Rattle.sftp_map_server.specs.Serving.{Desk, is_query}
-use Rattle.sftp_served.proofs.Sound.{FitsCall, FitsBy, IsSound}
-use Rattle.sftp_served.proofs.Replying.{reply_to, next_desk, next_config, call_query}
+use Rattle.sftp_served.proofs.Sound.{FitsBy, IsSound, asks_handle}
+use Rattle.sftp_served.proofs.Replying.{reply_to, next_desk, next_config, call_query, call_after}
 use Rattle.sftp_served.proofs.Owing.{desk_of, desk_sent, config_at, tells_of, due, due_old, due_new}
 use Rattle.sftp_served.proofs.Showing.{AnswersBy}
 
@@ -93,14 +95,12 @@ answered_grants m config other cap n h = record { new = h }
 apply_grants : (m : Machine) (config : ServerConfig) (r : Request) (choice : Choice) (n : ℕ) → NewFrom n m → Grants n (apply m config r choice (handle_of n))
 apply_grants m config r choice n h = if_grants n (choice.refuse == 0) _ _ (answered_grants m config r choice.cap n h) (record { new = h })
 
--- a CLOSE is granted nothing
-close_none : (m : Machine) (config : ServerConfig) (handle next_one : List ℕ) (choice : Choice) → is_handle (apply m config (request.Close handle) choice next_one).0 ≡ false
-close_none m config handle next_one choice = by_test (choice.refuse == 0) (at_key m.handles handle)
-  where
-    by_test : (b : Bool) (held : Option Held) → is_handle (if b then after_close m handle held else (status choice.refuse, m)).0 ≡ false
-    by_test true None = refl
-    by_test true (Some held) = refl
-    by_test false held = refl
+-- a request that asks for no handle is granted none
+none_granted : (r : Request) (x : Reply) → asks_handle r ≡ false → may_answer r x ≡ true → is_handle x ≡ false
+none_granted (request.OpenFile path flags attrs) (reply.Handle handle) e may = absurd cc
+none_granted (request.Opendir path) (reply.Handle handle) e may = absurd cc
+none_granted r (reply.Handle handle) e may = absurd cc
+none_granted r x e may = refl
 
 -- while there are handles left, the reply is the machine's
 record Follows (g : Granting) (x : Reply × Machine) (after : Reply × Granting) : Type 0 where
@@ -119,10 +119,14 @@ follows g x lt = by_test (is_handle x.0) (g.grants == MAX_HANDLES) refl (ne_eqb 
 
 -- ---- all requests
 
--- how many requests calls submitted
+-- 1 for a request that asks for a handle
+abbrev pub handles_asked : Request → ℕ
+handles_asked r = if asks_handle r then 1 else 0
+
+-- how many handles calls asked for
 abbrev pub called : List Entry → ℕ
 called [] = 0
-called (entry.Event (Submit (owner.Call lane call) id r) ∷ past) = called past + 1
+called (entry.Event (Submit (owner.Call lane call) id r) ∷ past) = called past + handles_asked r
 called (_ ∷ past) = called past
 
 -- one request more
@@ -199,13 +203,15 @@ ran_more d full rs at n more place a r ran query lt by few config =
       config = config ∙ ran.config;
     }
 
-one_more : (b : Bool) (n m : ℕ) → n ≤ m → (if b then n + 1 else n) ≤ m + 1
-one_more true n m le = omega (arith, le)
-one_more false n m le = omega (arith, le)
-
-none_more : (b : Bool) (n m : ℕ) → b ≡ false → n ≤ m → (if b then n + 1 else n) ≤ m
-none_more true n m e le = absurd cc
-none_more false n m e le = le
+-- the grants grow by what was asked for alone
+few_more : (at : Desk) (r : Request) (n : ℕ) → IsAfterHello r → at.granting.grants ≤ n → (if is_handle (done_at at r).0 then at.granting.grants + 1 else at.granting.grants) ≤ n + handles_asked r
+few_more at r n after le = by_test (asks_handle r) (is_handle (done_at at r).0) (λ e. none_granted r (done_at at r).0 e (machine_allowed at.granting.machine at.granting.config r (first_choice at.choices) (handle_of at.granting.grants) after).allowed)
+  where
+    by_test : (b c : Bool) → (b ≡ false → c ≡ false) → (if c then at.granting.grants + 1 else at.granting.grants) ≤ n + (if b then 1 else 0)
+    by_test true true h = omega (arith, le)
+    by_test true false h = omega (arith, le)
+    by_test false true h = absurd (let no_way = h refl in cc)
+    by_test false false h = omega (arith, le)
 
 stays : (at : Desk) → next_desk at request.LimitsQuery ≡ at
 unfolding next_desk
@@ -217,7 +223,7 @@ after_query at r e = ap (next_desk at) e ∙ stays at
 fewer : (q : List Entry) (by : Owner) (id : ℕ) (r : Request) → called (entry.Event (Submit by id r) ∷ q) < MAX_HANDLES → called q < MAX_HANDLES
 fewer q owner.Setup id r lt = lt
 fewer q owner.Close id r lt = lt
-fewer q (owner.Call lane call) id r lt = let l : called q + 1 < MAX_HANDLES = lt in omega (arith, l)
+fewer q (owner.Call lane call) id r lt = let l : called q + handles_asked r < MAX_HANDLES = lt in omega (arith, l)
 
 -- all that was submitted
 ran_all : (d : Desk) (full q : List Entry) → d.granting.grants ≡ 0 → d.granting.machine.handles ≡ [] → IsSound (tells_of d) q → ((p : ℕ) → p < asked q → AnswersBy (answer full p) (due d q p)) → called q < MAX_HANDLES
@@ -235,14 +241,13 @@ ran_all d full (entry.Event (Submit by id r) ∷ q) none closed s by_place few =
         subst (λ (w : List (ℕ × Request)). Ran d full w (next_desk (desk_of d q) r) (called q)) (sym (append-nil (requests_of q)))
         (subst (λ (w : Desk). Ran d full (requests_of q) w (called q)) (sym (after_query (desk_of d q) r f.0)) ran)
     by_case owner.Close f ran by lt =
-        ran_more d full (requests_of q) (desk_of d q) (called q) (called q) (asked q) _ r ran (call_query r (subst FitsCall (sym f.1) f.2)) lt by
-        (none_more (is_handle (done_at (desk_of d q) r).0) (desk_of d q).granting.grants (called q)
-        (ap (λ (w : Request). is_handle (done_at (desk_of d q) w).0) f.1 ∙ close_none (desk_of d q).granting.machine (desk_of d q).granting.config f.0 (handle_of (desk_of d q).granting.grants) (first_choice (desk_of d q).choices)) ran.few)
-        (next_config (desk_of d q) r)
+        let few : (if is_handle (done_at (desk_of d q) r).0 then (desk_of d q).granting.grants + 1 else (desk_of d q).granting.grants) ≤ called q + handles_asked r =
+        few_more (desk_of d q) r (called q) (subst IsAfterHello (sym f.1) tt) ran.few in
+        let none : handles_asked r ≡ 0 = ap handles_asked f.1 in
+        ran_more d full (requests_of q) (desk_of d q) (called q) (called q) (asked q) _ r ran (ap is_query f.1) lt by (omega (arith, few, none)) (next_config (desk_of d q) r)
     by_case (owner.Call lane call) f ran by lt =
-        let l : called q + 1 < MAX_HANDLES = lt in
-        ran_more d full (requests_of q) (desk_of d q) (called q) (called q + 1) (asked q) _ r ran (call_query r f) (omega (arith, l)) by
-        (one_more (is_handle (done_at (desk_of d q) r).0) (desk_of d q).granting.grants (called q) ran.few) (next_config (desk_of d q) r)
+        ran_more d full (requests_of q) (desk_of d q) (called q) (called q + handles_asked r) (asked q) _ r ran (call_query r f) (fewer q (owner.Call lane call) id r lt) by
+        (few_more (desk_of d q) r (called q) (call_after r f).1 ran.few) (next_config (desk_of d q) r)
 ran_all d full (_ ∷ q) none closed s by few = ran_all d full q none closed s by few
 
 -- and so all that was sent

@@ -1,36 +1,29 @@
 -- Each request of a journal fits a frame.
-use Rattle.std.proofs.Common.{◌≡◌, ◌<◌, ◌≤◌, ◌^◌, ℕ, ◌+◌, ◌==◌, Bool, true, false, not, ◌||◌, ◌&&◌, List, [], ◌∷◌, length, min, Option, Some, None, Result, Ok, Err, if◌then◌else◌, refl, sym, ◌∙◌, subst, arith}
+use Rattle.std.proofs.Common.{◌≡◌, ◌<◌, ◌≤◌, ◌^◌, ℕ, ◌+◌, Bool, true, false, List, [], ◌∷◌, length, Option, Some, None, Result, Ok, Err, if◌then◌else◌, refl, sym, subst, arith}
 use Rattle.std.specs.Prelude.{MatchOption, nat_lt}
 use Rattle.std.proofs.lemmas.Bool.{ltb-false}
-use Rattle.std.proofs.lemmas.Bool.Decides.{nat_tests}
 use Rattle.ssh_encoding.specs.Reading.{◌>>=◌, byte_at}
-use Rattle.sftp_model.specs.declared.error.IoKind.TheVariants as kind
-use Rattle.sftp_model.specs.declared.flags.OpenFlags.{OpenFlags}
+use Rattle.sftp_model.specs.declared.file_attrs.FileAttrs.{FileAttrs}
 use Rattle.sftp_model.specs.declared.frame_error.FrameError.{FrameError}
 use Rattle.sftp_model.specs.declared.frame_error.FrameError.TheVariants as errors
-use Rattle.sftp_model.specs.declared.outcome.Outcome.TheVariants as outcome
 use Rattle.sftp_model.specs.declared.reply.Reply.{Reply}
 use Rattle.sftp_model.specs.declared.reply.Reply.TheVariants as reply
 use Rattle.sftp_model.specs.declared.request.Request.{Request}
 use Rattle.sftp_model.specs.declared.request.Request.TheVariants as request
-use Rattle.sftp_model.specs.Answers.{is_end_of_file}
-use Rattle.sftp_model.specs.Fits.{FitsHandle, FitsLong, FitsSet, GrantsFit}
-use Rattle.sftp_model.specs.Frames.{no_attributes}
-use Rattle.sftp_model.specs.Numbers.{MAX_TRANSFER_LEN}
+use Rattle.sftp_model.specs.Fits.{FitsHandle, FitsRequest, AsksWithinReply}
+use Rattle.sftp_model.specs.Frames.{attributes, bit, request_body}
+use Rattle.sftp_model.specs.Numbers.{MAX_BODY_LEN, MAX_TRANSFER_LEN}
 use Rattle.sftp_model.specs.declared.slot.Facts.{Facts}
-use Rattle.sftp_model.specs.declared.slot.FileAt.{FileAt}
-use Rattle.sftp_model.specs.declared.slot.Move.{Move}
-use Rattle.sftp_model.specs.declared.slot.Move.TheVariants.{Ask, Done}
+use Rattle.sftp_model.specs.declared.slot.Move.TheVariants.{Ask}
 use Rattle.sftp_model.specs.declared.slot.Site.{Site}
-use Rattle.sftp_model.specs.declared.slot.Slot.{Slot}
-use Rattle.sftp_model.specs.declared.slot.Slot.TheVariants.{Empty, File, Buffered}
-use Rattle.sftp_model.specs.Plans.{Answers, once_answered, refused, refuses, handle_of, is_too_long, open_request, opened, open_next, overflows, ask_read, was_read, read_file_next, on_file, done_by, close_grant_next, close_slot_next}
 use Rattle.sftp_model.specs.Readings.{field, whole, with_short_handles}
 use Rattle.sftp_model.specs.ReplyReadings.{reply_at, reply_fields_at, handles_of_reply}
-use Rattle.sftp_model.specs.Slots.{slot_at, with_slot, has_grant}
-use Rattle.sftp_file.specs.declared.open_options.OpenOptions.{OpenOptions}
-use Rattle.sftp_file.specs.OpenOptions.{flags_of}
-use Rattle.sftp_file.proofs.BodyLens.{long_by_path}
+use Rattle.sftp_wire.proofs.Lengths.{lengths, length-attributes}
+use Rattle.sftp_calls.specs.Moves.{Answers, Own, handle_of}
+use Rattle.sftp_calls.specs.CallPlans as plan
+use Rattle.sftp_calls.specs.GoodMoves.{Situation, IsGoodAsk, HandlesFit, WithinRange, closes, situation}
+use Rattle.sftp_calls.proofs.CallLaws.{asks_good}
+use Rattle.sftp_calls.proofs.FitLaws.{FitsSituation, ask_fits, ask_within_reply}
 use Rattle.sftp_link.specs.declared.piece.Piece.{Piece}
 use Rattle.sftp_history.specs.declared.call.Call.{Call}
 use Rattle.sftp_history.specs.declared.call.Call.TheVariants as call
@@ -40,18 +33,32 @@ use Rattle.sftp_history.specs.declared.event.Event.TheVariants.{Submit, Send, Ta
 use Rattle.sftp_history.specs.declared.entry.Entry.{Entry}
 use Rattle.sftp_history.specs.declared.entry.Entry.TheVariants as entry
 use Rattle.sftp_history.specs.Readings.{answer, bearer, is_at, own, ended, last_cancel}
-use Rattle.sftp_history.specs.Calls.{Setting, next, current, site_of, move_at, move_of}
+use Rattle.sftp_history.specs.Calls.{Setting, planned, next, current, site_of, move_at, move_of}
 use Rattle.sftp_history.specs.Grants.{orphan}
 use Rattle.sftp_history.specs.Journals.{IsJournal, MayCome, MustClose, cancelled_end}
 use Rattle.sftp_history.proofs.JournalLaws.{submit_free}
+use Rattle.sftp_history.proofs.PlannedLaws.{planned_fits}
 use Rattle.sftp_history.specs.Shown.{Shows, IsFrameOf}
 
+-- neither the hello nor the query for limits
+abbrev pub IsOrdinary : Request → Type 0
+IsOrdinary (request.Init version) = ⊥
+IsOrdinary request.LimitsQuery = ⊥
+IsOrdinary other = Unit {0}
+
 -- a request of a call, or a CLOSE, which fits a frame
-abbrev pub FitsCall : Request → Type 0
-FitsCall (request.OpenFile path flags attrs) = (length path ≤ 1048558) × FitsSet flags.0 × (attrs ≡ no_attributes)
-FitsCall (request.Read handle offset len) = FitsHandle handle × FitsLong offset × (len ≤ MAX_TRANSFER_LEN)
-FitsCall (request.Close handle) = FitsHandle handle
-FitsCall other = ⊥
+pub record FitsCall (r : Request) : Type 0 where
+  pub ordinary : IsOrdinary r
+  pub fits : FitsRequest r
+  pub within : AsksWithinReply r
+  pub short : length (request_body r 0) ≤ MAX_BODY_LEN
+
+close_short : (handle : List ℕ) → FitsHandle handle → length (request_body (request.Close handle) 0) ≤ MAX_BODY_LEN
+unfolding request_body
+close_short handle f = let l : length (request_body (request.Close handle) 0) ≡ length handle + 9 = simp lengths (omega arith) in omega (arith, l, f)
+
+close_call : (handle : List ℕ) → FitsHandle handle → FitsCall (request.Close handle)
+close_call handle f = record { ordinary = tt; fits = f; within = tt; short = close_short handle f }
 
 -- by its owner: the query for limits is asked only of a server that tells them
 abbrev pub FitsBy : Bool → Owner → Request → Type 0
@@ -67,117 +74,108 @@ IsSound tells (_ ∷ past) = IsSound tells past
 
 pub by_owner : (P : Request → Type 0) (tells : Bool) (by : Owner) (r : Request) → FitsBy tells by r → (FitsCall r → P r) → (tells ≡ true → P request.LimitsQuery) → P r
 by_owner P tells owner.Setup r f p q = subst P (sym f.0) (q f.1)
-by_owner P tells owner.Close r f p q = p (subst FitsCall (sym f.1) f.2)
+by_owner P tells owner.Close r f p q = p (subst FitsCall (sym f.1) (close_call f.0 f.2))
 by_owner P tells (owner.Call lane call) r f p q = p f
 
--- ---- what plans ask
+-- ---- lengths
 
--- a call asks once, and its request fits
-abbrev AskedIn : List ℕ → Move → Type 0
-AskedIn places (Ask r) = (places ≡ []) × FitsCall r
-AskedIn places other = Unit {0}
+-- a request is as long under each id
+pub body_len : (r : Request) (id : ℕ) → IsOrdinary r → length (request_body r id) ≡ length (request_body r 0)
+unfolding request_body
+body_len (request.Init version) id o = absurd o
+body_len request.LimitsQuery id o = absurd o
+body_len other id o = simp lengths refl
 
-record Asks (places : List ℕ) (move : Move) : Type 0 where
-  within : AskedIn places move
+bit_le : {A : Type 0} (n : ℕ) (o : Option A) → bit n o ≤ n
+bit_le n None = omega arith
+bit_le n (Some x) = omega arith
 
-if_asks : (places : List ℕ) (b : Bool) (x y : Move) → (b ≡ true → Asks places x) → (b ≡ false → Asks places y) → Asks places (if b then x else y)
-if_asks places true x y h k = h refl
-if_asks places false x y h k = k refl
+attributes_le : (a : FileAttrs) → length (attributes a) ≤ 32
+attributes_le a = omega (arith, length-attributes a, bit_le 8 a.size, bit_le 8 a.id, bit_le 4 a.permissions, bit_le 8 a.time)
 
-once_asks : (places : List ℕ) (place : ℕ) (r : Option Reply) (go : Reply → Move) → ((x : Reply) → Asks places (go x)) → Asks places (once_answered place r go)
-once_asks places place None go h = record { within = tt }
-once_asks places place (Some x) go h = h x
+good_short : (s : Situation) (r : Request) → FitsSituation s → FitsRequest r → IsGoodAsk s r → length (request_body r 0) ≤ MAX_BODY_LEN
+unfolding request_body
+good_short s (request.Init version) k f g = absurd g
+good_short s request.LimitsQuery k f g = absurd g
+good_short s (request.Close handle) k f g = close_short handle f
+good_short s (request.Read handle offset len) k f g = let l : length (request_body (request.Read handle offset len) 0) ≡ length handle + 21 = simp lengths (omega arith) in omega (arith, l, f.0)
+good_short s (request.Write handle offset content) k f g =
+    let l : length (request_body (request.Write handle offset content) 0) ≡ length handle + length content + 21 = simp lengths (omega arith) in omega (arith, l, f.0, g.2, k.write_len)
+good_short s (request.Fstat handle) k f g = let l : length (request_body (request.Fstat handle) 0) ≡ length handle + 9 = simp lengths (omega arith) in omega (arith, l, f)
+good_short s (request.Fsync handle) k f g = let l : length (request_body (request.Fsync handle) 0) ≡ length handle + 30 = simp lengths (omega arith) in omega (arith, l, f)
+good_short s (request.Readdir handle) k f g = let l : length (request_body (request.Readdir handle) 0) ≡ length handle + 9 = simp lengths (omega arith) in omega (arith, l, f)
+good_short s (request.Fsetstat handle attrs) k f g =
+    let l : length (request_body (request.Fsetstat handle attrs) 0) ≡ length handle + 9 + length (attributes attrs) = simp lengths (omega arith) in omega (arith, l, f.0, attributes_le attrs)
+good_short s (request.CopyData from from_offset len to to_offset) k f g =
+    let l : length (request_body (request.CopyData from from_offset len to to_offset) 0) ≡ length from + length to + 50 = simp lengths (omega arith) in omega (arith, l, f.0, f.3)
+good_short s (request.OpenFile path flags attrs) k f g = ltb-false _ _ g.3
+good_short s (request.Opendir path) k f g = ltb-false _ _ g.1
+good_short s (request.Setstat path attrs) k f g = ltb-false _ _ g.1
+good_short s (request.Mkdir path attrs) k f g = ltb-false _ _ g.1
+good_short s other k f g = ltb-false _ _ g
 
-refused_asks : (places : List ℕ) (r : Reply) (site : Site) → Asks places (refused r site)
-refused_asks places (reply.Status code message language) site = record { within = tt }
-refused_asks places r site = record { within = tt }
+-- ---- what calls ask
 
-opened_asks : (places : List ℕ) (slot : ℕ) (flags : OpenFlags) (site : Site) (place : ℕ) (r : Reply) → Asks places (opened slot flags site place r)
-opened_asks places slot flags site place (reply.Handle handle) = record { within = tt }
-opened_asks places slot flags site place r = refused_asks places r site
+-- the lengths of a session are those that one frame can bring
+abbrev pub LensFit : Facts → Type 0
+LensFit facts = (facts.read_len ≤ MAX_TRANSFER_LEN) × (facts.write_len ≤ MAX_TRANSFER_LEN)
 
-path_fits : (flags : OpenFlags) (path : List ℕ) → is_too_long (open_request flags path) ≡ false → length path ≤ 1048558
-path_fits flags path e = ltb-false _ _ (sym (long_by_path flags path) ∙ e)
+closes_fit : (c : plan.Call) (site : Site) (requests : Own) (answers : Answers) → HandlesFit answers → (handle : List ℕ) → closes c site requests answers handle → FitsHandle handle
+closes_fit (plan.Close slot) site requests answers f handle c = subst FitsHandle (sym c.bears) (f c.grant)
+closes_fit other site requests answers f handle c = absurd c
 
-open_asks : (slot : ℕ) (flags : OpenFlags) (path : List ℕ) (site : Site) (facts : Facts) (places : List ℕ) (answers : Answers) → FitsSet flags.0 → Asks places (open_next slot flags path site facts places answers)
-open_asks slot flags path site facts [] answers h =
-    if_asks [] (is_too_long (open_request flags path)) (refuses kind.PathTooLong site) (Ask (open_request flags path)) (λ e. record { within = tt }) (λ e. record { within = (refl, (path_fits flags path e, h, refl)) })
-open_asks slot flags path site facts (place ∷ later) answers h = once_asks (place ∷ later) place (answers place) (opened slot flags site place) (opened_asks (place ∷ later) slot flags site place)
+situation_fits : (c : plan.Call) (site : Site) (facts : Facts) (requests : Own) (answers : Answers) → LensFit facts → HandlesFit answers → FitsSituation (situation c site facts requests answers)
+situation_fits c site facts requests answers k f = record { grants = f; closed = closes_fit c site requests answers f; read_len = k.0; write_len = k.1 }
 
-offset_fits : (offset len : ℕ) → overflows offset len ≡ false → offset < 2 ^ 64
-offset_fits offset len e = grind (arith, nat_tests)
+good_fits : (s : Situation) (r : Request) → FitsSituation s → IsGoodAsk s r → FitsCall r
+good_fits s r k g = record { ordinary = ordinary r g; fits = ask_fits s r k g; within = ask_within_reply s r k g; short = good_short s r k (ask_fits s r k g) g }
+  where
+    ordinary : (q : Request) → IsGoodAsk s q → IsOrdinary q
+    ordinary (request.Init version) g = absurd g
+    ordinary request.LimitsQuery g = absurd g
+    ordinary other g = tt
 
-ask_within : FileAt → ℕ → Site → Answers → Move
-ask_within file len site answers = if overflows file.offset len then refuses kind.OffsetOverflow site else Ask (request.Read (handle_of (answers file.grant)) file.offset len)
+-- none of today's calls is a whole read, the one call whose range hangs on what it asked before
+within : (c : Call) (site : Site) (facts : Facts) (requests : Own) (answers : Answers) → WithinRange (planned c) site facts requests answers
+within (call.Read slot n) site facts requests answers = tt
+within other site facts requests answers = tt
 
-ask_asks : (file : FileAt) (len : ℕ) (site : Site) (answers : Answers) → GrantsFit answers → len ≤ MAX_TRANSFER_LEN → Asks [] (ask_read file len site answers)
-unfolding ask_within
-ask_asks file len site answers h k =
-    if_asks [] (not file.readable) (refuses kind.NotReadable site) (ask_within file len site answers) (λ e. record { within = tt })
-    (λ e. if_asks [] (overflows file.offset len) (refuses kind.OffsetOverflow site) (Ask (request.Read (handle_of (answers file.grant)) file.offset len)) (λ e. record { within = tt })
-    (λ d. record { within = (refl, (h file.grant, offset_fits file.offset len d, k)) }))
+-- what a lane's call asks may be asked in the situation of some call
+record AsksWell (s : Setting) (past : List Entry) (lane : ℕ) (r : Request) : Type 0 where
+  call : plan.Call
+  good : IsGoodAsk (situation call (site_of s past lane) s.facts (own past lane (ended past lane)) (answer past)) r
 
-was_asks : (places : List ℕ) (slot : ℕ) (file : FileAt) (site : Site) (r : Reply) → Asks places (was_read slot file site r)
-was_asks places slot file site (reply.Content bytes) = record { within = tt }
-was_asks places slot file site r = if_asks places (is_end_of_file r) (Done outcome.End site) (refused r site) (λ e. record { within = tt }) (λ e. refused_asks places r site)
+asks_well : (s : Setting) (past : List Entry) (lane : ℕ) (r : Request) → move_of s past lane ≡ Some (Ask r) → AsksWell s past lane r
+asks_well s past lane r e = by_call (current s past lane) e
+  where
+    by_call : (c : Option Call) → move_at c (site_of s past lane) s.facts (own past lane (ended past lane)) (answer past) ≡ Some (Ask r) → AsksWell s past lane r
+    by_call None e = absurd cc
+    by_call (Some c) e =
+        let is : next c (site_of s past lane) s.facts (own past lane (ended past lane)) (answer past) ≡ Ask r = cc e in
+        record {
+          call = planned c;
+          good = asks_good (planned c) (site_of s past lane) s.facts (own past lane (ended past lane)) (answer past) r (planned_fits c) (within c (site_of s past lane) s.facts (own past lane (ended past lane)) (answer past)) is;
+        }
 
-read_asks : (slot n : ℕ) (site : Site) (facts : Facts) (places : List ℕ) (answers : Answers) (file : FileAt) → GrantsFit answers → facts.read_len ≤ MAX_TRANSFER_LEN → Asks places (read_file_next slot n site facts places answers file)
-read_asks slot n site facts [] answers file h k =
-    if_asks [] (n == 0) (Done outcome.End site) (ask_read file (min n facts.read_len) site answers) (λ e. record { within = tt }) (λ e. ask_asks file (min n facts.read_len) site answers h (omega (arith, k)))
-read_asks slot n site facts (place ∷ later) answers file h k = once_asks (place ∷ later) place (answers place) (was_read slot file site) (was_asks (place ∷ later) slot file site)
+asks_fit : (s : Setting) (past : List Entry) (lane : ℕ) (r : Request) → HandlesFit (answer past) → LensFit s.facts → move_of s past lane ≡ Some (Ask r) → FitsCall r
+asks_fit s past lane r h k e =
+    let a : AsksWell s past lane r = asks_well s past lane r e in
+    good_fits _ r (situation_fits a.call (site_of s past lane) s.facts (own past lane (ended past lane)) (answer past) k h) a.good
 
-on_file_asks : (places : List ℕ) (slot : Slot) (site : Site) (go : FileAt → Move) → ((file : FileAt) → Asks places (go file)) → Asks places (on_file slot site go)
-on_file_asks places Empty site go h = record { within = tt }
-on_file_asks places (File file) site go h = h file
-on_file_asks places (Buffered file buffer) site go h = record { within = tt }
+-- the request asks for a handle
+abbrev pub asks_handle : Request → Bool
+asks_handle (request.OpenFile path flags attrs) = true
+asks_handle (request.Opendir path) = true
+asks_handle other = false
 
-done_asks : (places : List ℕ) (site : Site) (r : Reply) → Asks places (done_by site r)
-done_asks places site (reply.Status code message language) =
-    if_asks places (code == 0) (Done outcome.Done site) (refused (reply.Status code message language) site) (λ e. record { within = tt }) (λ e. record { within = tt })
-done_asks places site r = refused_asks places r site
-
-close_grant_asks : (grant : ℕ) (site : Site) (places : List ℕ) (answers : Answers) → GrantsFit answers → Asks places (close_grant_next grant site places answers)
-close_grant_asks grant site [] answers h =
-    if_asks [] (has_grant site grant) (Done outcome.Done site) (Ask (request.Close (handle_of (answers grant)))) (λ e. record { within = tt }) (λ e. record { within = (refl, h grant) })
-close_grant_asks grant site (place ∷ later) answers h = once_asks (place ∷ later) place (answers place) (done_by site) (done_asks (place ∷ later) site)
-
-close_asks : (slot : ℕ) (site : Site) (places : List ℕ) (answers : Answers) (held : Slot) → GrantsFit answers → Asks places (close_slot_next slot site places answers held)
-close_asks slot site places answers Empty h = record { within = tt }
-close_asks slot site places answers (File file) h = close_grant_asks file.grant (with_slot site slot Empty) places answers h
-close_asks slot site places answers (Buffered file buffer) h = close_grant_asks file.grant (with_slot site slot Empty) places answers h
-
-if_le : (b : Bool) (n : ℕ) → (if b then n else 0) ≤ n
-if_le true n = omega arith
-if_le false n = omega arith
-
-making_le : (a b c : Bool) → (if a then 8 + 32 else if b then 8 + 16 else if c then 8 else 0) ≤ 40
-making_le true b c = omega arith
-making_le false true c = omega arith
-making_le false false true = omega arith
-making_le false false false = omega arith
-
-flags_fit : (o : OpenOptions) → FitsSet (flags_of o).0
-flags_fit o =
-    let r = if_le o.read 1 in
-    let w = if_le (o.write || o.append) 2 in
-    let a = if_le o.append 4 in
-    let m = making_le o.create_new (o.create && o.truncate) o.create in
-    omega (arith, r, w, a, m)
-
-call_asks : (c : Call) (site : Site) (facts : Facts) (places : List ℕ) (answers : Answers) → GrantsFit answers → facts.read_len ≤ MAX_TRANSFER_LEN → Asks places (next c site facts places answers)
-call_asks (call.OpenFile slot flags path) site facts places answers h k = open_asks slot (flags_of flags) path site facts places answers (flags_fit flags)
-call_asks (call.Read slot n) site facts places answers h k = on_file_asks places (slot_at site slot) site (read_file_next slot n site facts places answers) (λ file. read_asks slot n site facts places answers file h k)
-call_asks (call.Close slot) site facts places answers h k = close_asks slot site places answers (slot_at site slot) h
-
-move_asks : (c : Option Call) (site : Site) (facts : Facts) (places : List ℕ) (answers : Answers) (r : Request) → GrantsFit answers → facts.read_len ≤ MAX_TRANSFER_LEN
-    → move_at c site facts places answers ≡ Some (Ask r) → (places ≡ []) × FitsCall r
-move_asks None site facts places answers r h k e = absurd cc
-move_asks (Some c) site facts places answers r h k e =
-    let is : next c site facts places answers ≡ Ask r = cc in subst (AskedIn places) is (call_asks c site facts places answers h k).within
-
--- a request that a call asks is its only one, and fits
-pub asks_once : (s : Setting) (past : List Entry) (lane : ℕ) (r : Request) → GrantsFit (answer past) → s.facts.read_len ≤ MAX_TRANSFER_LEN → move_of s past lane ≡ Some (Ask r) → (own past lane (ended past lane) ≡ []) × FitsCall r
-asks_once s past lane r h k e = move_asks (current s past lane) (site_of s past lane) s.facts (own past lane (ended past lane)) (answer past) r h k e
+-- a call asks for a handle by its first request alone
+pub asks_first : (s : Setting) (past : List Entry) (lane : ℕ) (r : Request) → move_of s past lane ≡ Some (Ask r) → asks_handle r ≡ true → own past lane (ended past lane) ≡ []
+asks_first s past lane r e asks = let a : AsksWell s past lane r = asks_well s past lane r e in first (situation a.call (site_of s past lane) s.facts (own past lane (ended past lane)) (answer past)) r a.good asks
+  where
+    first : (w : Situation) (q : Request) → IsGoodAsk w q → asks_handle q ≡ true → w.own ≡ []
+    first w (request.OpenFile path flags attrs) g e = g.0
+    first w (request.Opendir path) g e = g.0
+    first w other g e = absurd cc
 
 -- ---- handles that came
 
@@ -191,7 +189,7 @@ either_fits : (b : Bool) (r : Reply) (o : Option Reply) → FitsHandle (handle_o
 either_fits true r o h k = h
 either_fits false r o h k = k
 
-pub grants_fit : (past : List Entry) → TakesFit past → GrantsFit (answer past)
+pub grants_fit : (past : List Entry) → TakesFit past → HandlesFit (answer past)
 grants_fit [] t place = omega arith
 grants_fit (entry.Event (Take id r) ∷ past) t place = either_fits (is_at (bearer past id) place) r (answer past place) t.0 (grants_fit past t.1 place)
 grants_fit (_ ∷ past) t place = grants_fit past t place
@@ -230,19 +228,19 @@ shows_takes hello (_ ∷ past) first log sh = shows_takes hello past first log s
 
 -- ---- each entry
 
-may_fits : (s : Setting) (tells : Bool) (past : List Entry) (by : Owner) (id : ℕ) (r : Request) → (s.limits ≡ true → tells ≡ true) → GrantsFit (answer past) → s.facts.read_len ≤ MAX_TRANSFER_LEN
+may_fits : (s : Setting) (tells : Bool) (past : List Entry) (by : Owner) (id : ℕ) (r : Request) → (s.limits ≡ true → tells ≡ true) → HandlesFit (answer past) → LensFit s.facts
     → MayCome s past (entry.Event (Submit by id r)) → FitsBy tells by r
-may_fits s tells past (owner.Call lane call) id r t h k may = (asks_once s past lane r h k may.1).1
+may_fits s tells past (owner.Call lane call) id r t h k may = asks_fit s past lane r h k may.1
 may_fits s tells past owner.Setup id r t h k may = (may.2, t may.0)
 may_fits s tells past owner.Close id r t h k may = absurd may
 
-close_fits : (tells : Bool) (past : List Entry) (grant id : ℕ) (by : Owner) (r : Request) → GrantsFit (answer past) → MustClose past grant (entry.Event (Submit by id r)) → FitsBy tells by r
+close_fits : (tells : Bool) (past : List Entry) (grant id : ℕ) (by : Owner) (r : Request) → HandlesFit (answer past) → MustClose past grant (entry.Event (Submit by id r)) → FitsBy tells by r
 close_fits tells past grant id by r h must =
     let is : by ≡ owner.Close = cc (must.1.1) in
     let asked_is : r ≡ request.Close (handle_of (answer past grant)) = cc (must.1.1) in
     subst (λ (o : Owner). FitsBy tells o r) (sym is) (handle_of (answer past grant), asked_is, h grant)
 
-fits_next : (s : Setting) (tells : Bool) (past : List Entry) (by : Owner) (id : ℕ) (r : Request) (c g : Option ℕ) → (s.limits ≡ true → tells ≡ true) → GrantsFit (answer past) → s.facts.read_len ≤ MAX_TRANSFER_LEN
+fits_next : (s : Setting) (tells : Bool) (past : List Entry) (by : Owner) (id : ℕ) (r : Request) (c g : Option ℕ) → (s.limits ≡ true → tells ≡ true) → HandlesFit (answer past) → LensFit s.facts
     → MatchOption c (MatchOption g (MayCome s past (entry.Event (Submit by id r))) (λ grant. MustClose past grant (entry.Event (Submit by id r)))) (λ lane. entry.Event (Submit by id r) ≡ cancelled_end past lane)
     → FitsBy tells by r
 fits_next s tells past by id r (Some lane) g t h k next = absurd cc
@@ -250,7 +248,7 @@ fits_next s tells past by id r None (Some grant) t h k next = close_fits tells p
 fits_next s tells past by id r None None t h k next = may_fits s tells past by id r t h k next
 
 -- each request of a run so far fits
-pub sound : (s : Setting) (tells : Bool) (past : List Entry) → (s.limits ≡ true → tells ≡ true) → s.facts.read_len ≤ MAX_TRANSFER_LEN → IsJournal s past → TakesFit past → IsSound tells past
+pub sound : (s : Setting) (tells : Bool) (past : List Entry) → (s.limits ≡ true → tells ≡ true) → LensFit s.facts → IsJournal s past → TakesFit past → IsSound tells past
 sound s tells [] t k j f = tt
 sound s tells (entry.Event (Submit by id r) ∷ past) t k j f =
     ((submit_free s past by id r j.0).0, fits_next s tells past by id r (last_cancel past) (orphan s past) t (grants_fit past f) k j.0, sound s tells past t k j.1 f)

@@ -42,7 +42,7 @@ later_journal s [] l = tt
 later_journal s (e ∷ past) (inl same) = absurd cc
 later_journal s (e ∷ past) (inr l) = (l.0, later_journal s past l.1)
 
-pub len_within : (most : Option ℕ) (len : ℕ) → session_len most len ≤ MAX_TRANSFER_LEN
+len_within : (most : Option ℕ) (len : ℕ) → session_len most len ≤ MAX_TRANSFER_LEN
 len_within None len = omega arith
 len_within (Some most) len = omega arith
 
@@ -53,7 +53,7 @@ sound_at lanes options extensions f past log now first j shown served =
     let is = shows_version f (greeting extensions) past log now first shown served in
     let same : extensions ≡ record { 0 = told_bits f.granting.config.extensions.0 f.granting.config.limits } = cc in
     let told = (told_right f.granting.config.extensions.0 f.granting.config.limits first.known).1 in
-    sound (setting_of lanes options extensions past) (tells_of f) past (λ e. sym told ∙ (ap offers_limits (sym same) ∙ e)) (len_within options.max_read_len _) j (shows_takes (greeting extensions) past [] log shown)
+    sound (setting_of lanes options extensions past) (tells_of f) past (λ e. sym told ∙ (ap offers_limits (sym same) ∙ e)) (len_within options.max_read_len _, len_within options.max_write_len _) j (shows_takes (greeting extensions) past [] log shown)
 
 -- ---- what came
 

@@ -30,8 +30,7 @@ use Rattle.sftp_served.proofs.Counting.{run_calls}
 use Rattle.sftp_served.proofs.Replying.{AllCodes, greeted_at}
 use Rattle.sftp_served.proofs.Serving.{called, serves_by}
 use Rattle.sftp_served.proofs.Showing.{IsFirst, shows_owes, shows_version, answers_by}
-use Rattle.sftp_served.proofs.Sound.{shows_takes}
-use Rattle.sftp_served.proofs.Stopping.{only_memory, sound_at, len_within}
+use Rattle.sftp_served.proofs.Stopping.{only_memory, sound_at}
 
 all_codes : (choices : List Choice) → All (λ choice. FitsNumber choice.refuse) choices → AllCodes choices
 all_codes [] h = tt
@@ -82,5 +81,5 @@ run_is_served given version s turns past server new serving ok run fixed shown =
     let shows = shown_by given version s past server.log fixed shown in
     let whole : IsRun is turns past = subst (λ (t : Setting). IsRun t turns past) fixed.1.1 run in
     let j : IsJournal is past = runs_are_journals is turns past whole in
-    let few = run_calls is turns past whole j (shows_takes (greeting fixed.0) past [] server.log shows) (len_within given.options.max_read_len _) ok in
+    let few = run_calls is turns past whole j ok in
     journal_is_served given.lanes given.options fixed.0 past server new serving j few shows
