@@ -21,21 +21,24 @@ use Rattle.sftp_model.specs.ReplyReadings.{reply_at, reply_fields_at, handles_of
 use Rattle.sftp_wire.proofs.Lengths.{lengths, length-attributes}
 use Rattle.sftp_calls.specs.Moves.{Answers, Own, handle_of}
 use Rattle.sftp_calls.specs.CallPlans as plan
-use Rattle.sftp_calls.specs.GoodMoves.{Situation, IsGoodAsk, HandlesFit, WithinRange, closes, situation}
+use Rattle.sftp_calls.specs.GoodMoves as good
+use Rattle.sftp_calls.specs.GoodMoves.{Situation, IsGoodAsk, HandlesFit, ReadsWithin, WithinRange, closes, situation}
+use Rattle.sftp_calls.specs.OwnRequests.{oldest_first, IsCallSoFar}
+use Rattle.sftp_calls.proofs.AskedReads.{whole_range}
 use Rattle.sftp_calls.proofs.CallLaws.{asks_good}
 use Rattle.sftp_calls.proofs.FitLaws.{FitsSituation, ask_fits, ask_within_reply}
 use Rattle.sftp_link.specs.declared.piece.Piece.{Piece}
 use Rattle.sftp_history.specs.declared.call.Call.{Call}
-use Rattle.sftp_history.specs.declared.call.Call.TheVariants as call
 use Rattle.sftp_history.specs.declared.event.Owner.{Owner}
 use Rattle.sftp_history.specs.declared.event.Owner.TheVariants as owner
 use Rattle.sftp_history.specs.declared.event.Event.TheVariants.{Submit, Send, Take}
 use Rattle.sftp_history.specs.declared.entry.Entry.{Entry}
 use Rattle.sftp_history.specs.declared.entry.Entry.TheVariants as entry
 use Rattle.sftp_history.specs.Readings.{answer, bearer, is_at, own, ended, last_cancel}
-use Rattle.sftp_history.specs.Calls.{Setting, planned, next, current, site_of, move_at, move_of}
+use Rattle.sftp_history.specs.Calls.{Setting, planned, next, current, site_of, move_at, move_of, GoesByPlan}
 use Rattle.sftp_history.specs.Grants.{orphan}
 use Rattle.sftp_history.specs.Journals.{IsJournal, MayCome, MustClose, cancelled_end}
+use Rattle.sftp_history.proofs.CallsSoFar.{calls_so_far}
 use Rattle.sftp_history.proofs.JournalLaws.{submit_free}
 use Rattle.sftp_history.proofs.PlannedLaws.{planned_fits}
 use Rattle.sftp_history.specs.Shown.{Shows, IsFrameOf}
@@ -116,16 +119,19 @@ good_short s other k f g = ltb-false _ _ g
 
 -- ---- what calls ask
 
--- the lengths of a session are those that one frame can bring
-abbrev pub LensFit : Facts → Type 0
-LensFit facts = (facts.read_len ≤ MAX_TRANSFER_LEN) × (facts.write_len ≤ MAX_TRANSFER_LEN)
+-- the lengths of a session are those that one frame can bring, and its window is bounded
+pub record LensFit (facts : Facts) : Type 0 where
+  pub some : 1 ≤ facts.read_len
+  pub read_len : facts.read_len ≤ MAX_TRANSFER_LEN
+  pub write_len : facts.write_len ≤ MAX_TRANSFER_LEN
+  pub read_window : facts.read_window ≤ 64
 
 closes_fit : (c : plan.Call) (site : Site) (requests : Own) (answers : Answers) → HandlesFit answers → (handle : List ℕ) → closes c site requests answers handle → FitsHandle handle
 closes_fit (plan.Close slot) site requests answers f handle c = subst FitsHandle (sym c.bears) (f c.grant)
 closes_fit other site requests answers f handle c = absurd c
 
 situation_fits : (c : plan.Call) (site : Site) (facts : Facts) (requests : Own) (answers : Answers) → LensFit facts → HandlesFit answers → FitsSituation (situation c site facts requests answers)
-situation_fits c site facts requests answers k f = record { grants = f; closed = closes_fit c site requests answers f; read_len = k.0; write_len = k.1 }
+situation_fits c site facts requests answers k f = record { grants = f; closed = closes_fit c site requests answers f; read_len = k.read_len; write_len = k.write_len }
 
 good_fits : (s : Situation) (r : Request) → FitsSituation s → IsGoodAsk s r → FitsCall r
 good_fits s r k g = record { ordinary = ordinary r g; fits = ask_fits s r k g; within = ask_within_reply s r k g; short = good_short s r k (ask_fits s r k g) g }
@@ -135,32 +141,47 @@ good_fits s r k g = record { ordinary = ordinary r g; fits = ask_fits s r k g; w
     ordinary request.LimitsQuery g = absurd g
     ordinary other g = tt
 
--- none of today's calls is a whole read, the one call whose range hangs on what it asked before
-within : (c : Call) (site : Site) (facts : Facts) (requests : Own) (answers : Answers) → WithinRange (planned c) site facts requests answers
-within (call.Read slot n) site facts requests answers = tt
-within other site facts requests answers = tt
+-- a call so far asks within the range
+range_so_far : (c : plan.Call) (site : Site) (facts : Facts) (past : Own) (answers : Answers) → good.FitsCall c → LensFit facts → IsCallSoFar c site facts past answers → WithinRange c site facts (oldest_first past) answers
+range_so_far (plan.FsRead path bound) site facts past answers fits k so_far =
+    whole_range path (Some bound) site facts past answers k.some k.read_len small (λ e. absurd cc) so_far.asked so_far.answered
+  where
+    small : (made n : ℕ) → (let b : Option ℕ = Some bound in b) ≡ Some n → made < n + facts.read_window → made < 2 ^ 43
+    small made n same few = let is : bound ≡ n = cc in let under : bound < 2 ^ 32 = fits in omega (arith, is, few, k.read_window, under)
+range_so_far other site facts past answers fits k so_far = tt
+
+-- so does one that asks for anything but a READ
+range_unread : (c : plan.Call) (site : Site) (facts : Facts) (requests : Own) (answers : Answers) (r : Request) → plan.next c site facts requests answers ≡ Ask r → ReadsWithin facts (Ask r) → WithinRange c site facts requests answers
+range_unread (plan.FsRead path bound) site facts requests answers r is h = subst (ReadsWithin facts) (sym is) h
+range_unread other site facts requests answers r is h = tt
 
 -- what a lane's call asks may be asked in the situation of some call
 record AsksWell (s : Setting) (past : List Entry) (lane : ℕ) (r : Request) : Type 0 where
   call : plan.Call
   good : IsGoodAsk (situation call (site_of s past lane) s.facts (own past lane (ended past lane)) (answer past)) r
 
-asks_well : (s : Setting) (past : List Entry) (lane : ℕ) (r : Request) → move_of s past lane ≡ Some (Ask r) → AsksWell s past lane r
-asks_well s past lane r e = by_call (current s past lane) e
+asks_well : (s : Setting) (past : List Entry) (lane : ℕ) (r : Request)
+    → ((c : Call) → current s past lane ≡ Some c → next c (site_of s past lane) s.facts (own past lane (ended past lane)) (answer past) ≡ Ask r → WithinRange (planned c) (site_of s past lane) s.facts (own past lane (ended past lane)) (answer past))
+    → move_of s past lane ≡ Some (Ask r) → AsksWell s past lane r
+asks_well s past lane r within e = by_call (current s past lane) refl e
   where
-    by_call : (c : Option Call) → move_at c (site_of s past lane) s.facts (own past lane (ended past lane)) (answer past) ≡ Some (Ask r) → AsksWell s past lane r
-    by_call None e = absurd cc
-    by_call (Some c) e =
+    by_call : (c : Option Call) → current s past lane ≡ c → move_at c (site_of s past lane) s.facts (own past lane (ended past lane)) (answer past) ≡ Some (Ask r) → AsksWell s past lane r
+    by_call None at e = absurd cc
+    by_call (Some c) at e =
         let is : next c (site_of s past lane) s.facts (own past lane (ended past lane)) (answer past) ≡ Ask r = cc e in
-        record {
-          call = planned c;
-          good = asks_good (planned c) (site_of s past lane) s.facts (own past lane (ended past lane)) (answer past) r (planned_fits c) (within c (site_of s past lane) s.facts (own past lane (ended past lane)) (answer past)) is;
-        }
+        record { call = planned c; good = asks_good (planned c) (site_of s past lane) s.facts (own past lane (ended past lane)) (answer past) r (planned_fits c) (within c at is) is }
 
-asks_fit : (s : Setting) (past : List Entry) (lane : ℕ) (r : Request) → HandlesFit (answer past) → LensFit s.facts → move_of s past lane ≡ Some (Ask r) → FitsCall r
-asks_fit s past lane r h k e =
-    let a : AsksWell s past lane r = asks_well s past lane r e in
+asks_fit : (s : Setting) (past : List Entry) (lane : ℕ) (r : Request) → IsJournal s past → HandlesFit (answer past) → LensFit s.facts → move_of s past lane ≡ Some (Ask r) → FitsCall r
+asks_fit s past lane r j h k e =
+    let a : AsksWell s past lane r = asks_well s past lane r within e in
     good_fits _ r (situation_fits a.call (site_of s past lane) s.facts (own past lane (ended past lane)) (answer past) k h) a.good
+  where
+    within : (c : Call) → current s past lane ≡ Some c → next c (site_of s past lane) s.facts (own past lane (ended past lane)) (answer past) ≡ Ask r
+        → WithinRange (planned c) (site_of s past lane) s.facts (own past lane (ended past lane)) (answer past)
+    within c at is =
+        let g : GoesByPlan s past lane c = calls_so_far s past lane c j at in
+        subst (λ (o : Own). WithinRange (planned c) (site_of s past lane) s.facts o (answer past)) g.are
+        (range_so_far (planned c) (site_of s past lane) s.facts g.requests (answer past) (planned_fits c) k g.so_far)
 
 -- the request asks for a handle
 abbrev pub asks_handle : Request → Bool
@@ -170,8 +191,15 @@ asks_handle other = false
 
 -- a call asks for a handle by its first request alone
 pub asks_first : (s : Setting) (past : List Entry) (lane : ℕ) (r : Request) → move_of s past lane ≡ Some (Ask r) → asks_handle r ≡ true → own past lane (ended past lane) ≡ []
-asks_first s past lane r e asks = let a : AsksWell s past lane r = asks_well s past lane r e in first (situation a.call (site_of s past lane) s.facts (own past lane (ended past lane)) (answer past)) r a.good asks
+asks_first s past lane r e asks =
+    let a : AsksWell s past lane r =
+    asks_well s past lane r (λ c at is. range_unread (planned c) (site_of s past lane) s.facts (own past lane (ended past lane)) (answer past) r is (unread r asks)) e in
+    first (situation a.call (site_of s past lane) s.facts (own past lane (ended past lane)) (answer past)) r a.good asks
   where
+    unread : (q : Request) → asks_handle q ≡ true → ReadsWithin s.facts (Ask q)
+    unread (request.Read handle offset len) e = absurd cc
+    unread other e = tt
+
     first : (w : Situation) (q : Request) → IsGoodAsk w q → asks_handle q ≡ true → w.own ≡ []
     first w (request.OpenFile path flags attrs) g e = g.0
     first w (request.Opendir path) g e = g.0
@@ -228,11 +256,11 @@ shows_takes hello (_ ∷ past) first log sh = shows_takes hello past first log s
 
 -- ---- each entry
 
-may_fits : (s : Setting) (tells : Bool) (past : List Entry) (by : Owner) (id : ℕ) (r : Request) → (s.limits ≡ true → tells ≡ true) → HandlesFit (answer past) → LensFit s.facts
+may_fits : (s : Setting) (tells : Bool) (past : List Entry) (by : Owner) (id : ℕ) (r : Request) → (s.limits ≡ true → tells ≡ true) → IsJournal s past → HandlesFit (answer past) → LensFit s.facts
     → MayCome s past (entry.Event (Submit by id r)) → FitsBy tells by r
-may_fits s tells past (owner.Call lane call) id r t h k may = asks_fit s past lane r h k may.1
-may_fits s tells past owner.Setup id r t h k may = (may.2, t may.0)
-may_fits s tells past owner.Close id r t h k may = absurd may
+may_fits s tells past (owner.Call lane call) id r t j h k may = asks_fit s past lane r j h k may.1
+may_fits s tells past owner.Setup id r t j h k may = (may.2, t may.0)
+may_fits s tells past owner.Close id r t j h k may = absurd may
 
 close_fits : (tells : Bool) (past : List Entry) (grant id : ℕ) (by : Owner) (r : Request) → HandlesFit (answer past) → MustClose past grant (entry.Event (Submit by id r)) → FitsBy tells by r
 close_fits tells past grant id by r h must =
@@ -240,17 +268,17 @@ close_fits tells past grant id by r h must =
     let asked_is : r ≡ request.Close (handle_of (answer past grant)) = cc (must.1.1) in
     subst (λ (o : Owner). FitsBy tells o r) (sym is) (handle_of (answer past grant), asked_is, h grant)
 
-fits_next : (s : Setting) (tells : Bool) (past : List Entry) (by : Owner) (id : ℕ) (r : Request) (c g : Option ℕ) → (s.limits ≡ true → tells ≡ true) → HandlesFit (answer past) → LensFit s.facts
+fits_next : (s : Setting) (tells : Bool) (past : List Entry) (by : Owner) (id : ℕ) (r : Request) (c g : Option ℕ) → (s.limits ≡ true → tells ≡ true) → IsJournal s past → HandlesFit (answer past) → LensFit s.facts
     → MatchOption c (MatchOption g (MayCome s past (entry.Event (Submit by id r))) (λ grant. MustClose past grant (entry.Event (Submit by id r)))) (λ lane. entry.Event (Submit by id r) ≡ cancelled_end past lane)
     → FitsBy tells by r
-fits_next s tells past by id r (Some lane) g t h k next = absurd cc
-fits_next s tells past by id r None (Some grant) t h k next = close_fits tells past grant id by r h next
-fits_next s tells past by id r None None t h k next = may_fits s tells past by id r t h k next
+fits_next s tells past by id r (Some lane) g t j h k due = absurd cc
+fits_next s tells past by id r None (Some grant) t j h k due = close_fits tells past grant id by r h due
+fits_next s tells past by id r None None t j h k due = may_fits s tells past by id r t j h k due
 
 -- each request of a run so far fits
 pub sound : (s : Setting) (tells : Bool) (past : List Entry) → (s.limits ≡ true → tells ≡ true) → LensFit s.facts → IsJournal s past → TakesFit past → IsSound tells past
 sound s tells [] t k j f = tt
 sound s tells (entry.Event (Submit by id r) ∷ past) t k j f =
-    ((submit_free s past by id r j.0).0, fits_next s tells past by id r (last_cancel past) (orphan s past) t (grants_fit past f) k j.0, sound s tells past t k j.1 f)
+    ((submit_free s past by id r j.0).0, fits_next s tells past by id r (last_cancel past) (orphan s past) t j.1 (grants_fit past f) k j.0, sound s tells past t k j.1 f)
 sound s tells (entry.Event (Take id r) ∷ past) t k j f = sound s tells past t k j.1 f.1
 sound s tells (_ ∷ past) t k j f = sound s tells past t k j.1 f

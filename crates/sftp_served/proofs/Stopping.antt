@@ -46,6 +46,10 @@ len_within : (most : Option ℕ) (len : ℕ) → session_len most len ≤ MAX_TR
 len_within None len = omega arith
 len_within (Some most) len = omega arith
 
+len_some : (most : Option ℕ) (len : ℕ) → 1 ≤ session_len most len
+len_some None len = omega arith
+len_some (Some most) len = omega arith
+
 -- each request of a session that the server greeted fits
 pub sound_at : (lanes : List Lane) (options : SftpOptions) (extensions : Extensions) (f : Desk) (past : List Entry) (log : List Piece) (now : Server) → IsFirst f
     → IsJournal (setting_of lanes options extensions past) past → Shows (greeting extensions) past [] log → IsServed (opened f) log now → IsSound (tells_of f) past
@@ -53,7 +57,7 @@ sound_at lanes options extensions f past log now first j shown served =
     let is = shows_version f (greeting extensions) past log now first shown served in
     let same : extensions ≡ record { 0 = told_bits f.granting.config.extensions.0 f.granting.config.limits } = cc in
     let told = (told_right f.granting.config.extensions.0 f.granting.config.limits first.known).1 in
-    sound (setting_of lanes options extensions past) (tells_of f) past (λ e. sym told ∙ (ap offers_limits (sym same) ∙ e)) (len_within options.max_read_len _, len_within options.max_write_len _) j (shows_takes (greeting extensions) past [] log shown)
+    sound (setting_of lanes options extensions past) (tells_of f) past (λ e. sym told ∙ (ap offers_limits (sym same) ∙ e)) (record { some = len_some options.max_read_len _; read_len = len_within options.max_read_len _; write_len = len_within options.max_write_len _; read_window = omega arith }) j (shows_takes (greeting extensions) past [] log shown)
 
 -- ---- what came
 
