@@ -1,3 +1,4 @@
+pub mod Asking
 pub mod Strings
 pub mod Feeding
 pub mod Sound

@@ -32,7 +32,8 @@ use Rattle.sftp_history.specs.Served.{first_choice, limits_reply}
 use Rattle.sftp_map_server.specs.Granting.{Granting, gives_within, handle_of, next}
 use Rattle.sftp_map_server.specs.Serving.{Desk, told_bits, version_reply, is_hello, is_query, id_of, over_at, heed, respond, step}
 use Rattle.sftp_map_server.proofs.Short.{IsShort, next_short, next_fits, next_within, next_answers, limits_within}
-use Rattle.sftp_served.proofs.Sound.{FitsCall, FitsBy, by_owner, body_len}
+use Rattle.sftp_served.proofs.Asking.{FitsCall, body_len}
+use Rattle.sftp_served.proofs.Sound.{FitsBy, by_owner}
 
 -- the reply to a request
 unfoldable pub reply_to : Desk → Request → Reply

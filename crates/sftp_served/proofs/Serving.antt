@@ -27,7 +27,8 @@ use Rattle.sftp_history.specs.Readings.{Asked, asked, asked_at, answer}
 use Rattle.sftp_history.specs.Served.{requests_of, requests_sent, first_choice, MayGrant, IsReply, ServesAll, limits_reply, where_by_setup, reply_to_query, Serves}
 use Rattle.sftp_map_server.specs.Granting.{Granting, handle_of, MAX_HANDLES, next, served}
 use Rattle.sftp_map_server.specs.Serving.{Desk, is_query}
-use Rattle.sftp_served.proofs.Sound.{FitsBy, IsSound, asks_handle}
+use Rattle.sftp_served.proofs.Asking.{asks_handle}
+use Rattle.sftp_served.proofs.Sound.{FitsBy, IsSound}
 use Rattle.sftp_served.proofs.Replying.{reply_to, next_desk, next_config, call_query, call_after}
 use Rattle.sftp_served.proofs.Owing.{desk_of, desk_sent, config_at, tells_of, due, due_old, due_new}
 use Rattle.sftp_served.proofs.Showing.{AnswersBy}
