@@ -97,10 +97,10 @@ tied_ask_close s past lane old new states begun before after id r t here move no
     let within : a.slot < length site.slots = (let lt = a.within in let n = mine.slots in omega (arith, lt, n)) in
     let gone_here : has_grant (with_slot site a.slot slots.Empty) g ≡ false = emptied_last site a.slot g f within i.is one in
     let free : IsFree past id = (small, free_state past id (subst IsFreeState (sym state) tt)) in
-    let site_is : site ≡ site_of s past lane = ap (λ places. held_by (current s past lane) places (site_of s past lane)) none ∙ ap (λ c. held_by c [] (site_of s past lane)) a.call in
-    let owns : own now lane (ended past lane) ≡ asked past ∷ [] = own_now past lane id r none in
+    let site_is : site ≡ site_of s past lane = ap (λ requests. held_by (current s past lane) requests (site_of s past lane)) none ∙ ap (λ c. held_by c [] (site_of s past lane)) a.call in
+    let owns : own now lane (ended past lane) ≡ (asked past, r) ∷ [] = own_now past lane id r none in
     let held_mine : held_site s now lane ≡ with_slot site a.slot slots.Empty =
-    ap (λ places. held_by (current s past lane) places (site_of s past lane)) owns ∙ ap (λ c. held_by c (asked past ∷ []) (site_of s past lane)) a.call ∙ ap (λ x. with_slot x a.slot slots.Empty) (sym site_is) in
+    ap (λ requests. held_by (current s past lane) requests (site_of s past lane)) owns ∙ ap (λ c. held_by c ((asked past, r) ∷ []) (site_of s past lane)) a.call ∙ ap (λ x. with_slot x a.slot slots.Empty) (sym site_is) in
     let closing : is_close r ≡ true = ap is_close a.request in
     let closes_is : closes s past (closed s past) by ≡ Some g =
     ap (λ c. closed_by c (site_of s past lane)) a.call ∙ ap (λ x. grant_of (slot_at x a.slot)) (sym site_is) ∙ ap grant_of i.is in

@@ -80,8 +80,8 @@ held_all s past lane id r mine w =
     ]
 
 -- the lane's own request
-pub own_now : (past : List Entry) (lane id : ℕ) (r : Request) → own past lane (ended past lane) ≡ [] → own (entry.Event (Submit (owner.Call lane (ended past lane)) id r) ∷ past) lane (ended past lane) ≡ asked past ∷ []
-own_now past lane id r none = own_submit past lane (ended past lane) id r ∙ ap (λ places. places ++ asked past ∷ []) none
+pub own_now : (past : List Entry) (lane id : ℕ) (r : Request) → own past lane (ended past lane) ≡ [] → own (entry.Event (Submit (owner.Call lane (ended past lane)) id r) ∷ past) lane (ended past lane) ≡ (asked past, r) ∷ []
+own_now past lane id r none = own_submit past lane (ended past lane) id r ∙ ap (λ requests. requests ++ (asked past, r) ∷ []) none
 
 pub asks_now : (past : List Entry) (lane id : ℕ) (r : Request) → own past lane (ended past lane) ≡ [] → Asks (entry.Event (Submit (owner.Call lane (ended past lane)) id r) ∷ past) lane id r
 asks_now past lane id r none =

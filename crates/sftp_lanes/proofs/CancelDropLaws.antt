@@ -3,7 +3,7 @@ use Rattle.sftp_core.specs.Core.{Core, at, queued_last, abandoned, abandon_leave
 use Rattle.sftp_core.proofs.Elsewhere.{put_here, put_elsewhere, submit_elsewhere}
 use Rattle.sftp_core.specs.Table.{brings}
 use Rattle.sftp_core.specs.declared.place.Place.TheVariants.{Answered, Granted, Waiting}
-use Rattle.sftp_history.proofs.CallLaws.{due_next, asker_owns}
+use Rattle.sftp_history.proofs.CallLaws.{due_next}
 use Rattle.sftp_history.specs.Calls.{Setting, held_site}
 use Rattle.sftp_history.proofs.GrantLaws.{any_none, any_passes}
 use Rattle.sftp_history.specs.Grants.{closed, is_grant, holds, is_asked_by, is_unended_asker, is_granted, is_held, is_one_of, orphan}
@@ -23,7 +23,7 @@ use Rattle.sftp_lanes.specs.Noting.{one_more}
 use Rattle.sftp_lanes.proofs.HeldLaws.{still_of_due, orphan_due, due_own}
 use Rattle.sftp_lanes.specs.Session.{IsLoose, Due, Between, IsTied}
 use Rattle.sftp_lanes.proofs.LaneLaws.{SameLane, same_end}
-use Rattle.sftp_lanes.proofs.OwnLaws.{AskedFor, lane_owned, false_of}
+use Rattle.sftp_lanes.proofs.OwnLaws.{AskedFor, lane_owned, false_of, one_asks}
 use Rattle.sftp_lanes.proofs.ReleaseLaws.{IsDue, must_close, closes_to, close_is, close_closed}
 use Rattle.sftp_lanes.specs.Letting.{Closed}
 use Rattle.sftp_lanes.specs.Tables.{is_live, replied, stand, users_in, users_of, slots_of, Tabled}
@@ -34,7 +34,6 @@ use Rattle.std.proofs.Common.{◌≡◌, ◌≢◌, ◌<◌, ◌+◌, ◌==◌, 
 use Rattle.std.proofs.lemmas.Bool.Decides.{eqb_tells}
 use Rattle.std.proofs.lemmas.Bool.{eq-eqb, ne_eqb}
 use Rattle.std.proofs.lemmas.Option.{slice_get_within, slice_get-get_or}
-use Rattle.std.specs.List.{list_any}
 use Rattle.std.specs.Prelude.{◌&&◌, ◌||◌, slice_set, length}
 use Rattle.sftp_history.specs.declared.entry.Entry.TheVariants as entry
 use Rattle.sftp_history.specs.declared.event.Owner.TheVariants as owner
@@ -43,7 +42,7 @@ use Rattle.sftp_model.specs.declared.reply.Reply.TheVariants as reply
 use Rattle.sftp_model.specs.declared.request.Request.TheVariants as request
 use Rattle.sftp_model.specs.declared.outcome.Outcome.TheVariants as outcome
 use Rattle.sftp_lanes.proofs.EndKindLaws.{live_here, dead_now}
-use Rattle.sftp_lanes.proofs.CancelLaws.{CancelsLane, cancels_call, cancelled_past, cancel_between, cancel_table, brings_in, asked_alone}
+use Rattle.sftp_lanes.proofs.CancelLaws.{CancelsLane, cancels_call, cancelled_past, cancel_between, cancel_table, brings_in}
 
 -- a handle had come to the call
 pub record HandleCame (past : List Entry) (lane : ℕ) (old : Core) (t p : ℕ) (b : Asked) (h : List ℕ) : Type 0 where
@@ -130,7 +129,7 @@ tied_cancel_drop s past old states begun lane before after h x some small =
     ∙ sym (ap (stand (ended now) (slots_of s now) []) came.state
     ∙ ap (λ l. replied l (expected_of b.request) (reply.Handle h) (users_of (slots_of s now) [] b.by place)) (dead_now middle now lane c.done.ends)
     ∙ ap (λ n. Some (Granted h n)) users)))
-    (λ g granted_g ne asks. let same : place ≡ g = asked_alone place g (ap (list_any (λ k. k == g)) (sym u.asks.own) ∙ asker_owns past lane (ended past lane) g asks) in
+    (λ g granted_g ne asks. let same : place ≡ g = one_asks past lane (ended past lane) g place u.request u.asks.own asks in
     let yes_at : is_at (Some place) g ≡ true = eq-eqb place g same in cc)
     loose in
     let orphan_is : orphan s now ≡ Some place = orphan_due s now place refl between.due in

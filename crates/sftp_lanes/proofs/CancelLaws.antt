@@ -6,12 +6,12 @@ use Rattle.sftp_core.specs.declared.place.Place.TheVariants.{Answered, Granted, 
 use Rattle.sftp_core.specs.declared.place.Place.{Place}
 use Rattle.sftp_file.specs.Files.{FileValue}
 use Rattle.sftp_file.specs.declared.stage.Stage.TheVariants.{Asked as Asking}
-use Rattle.sftp_history.proofs.CallLaws.{asker_owns, may_next, site_end, cancelled_next}
+use Rattle.sftp_history.proofs.CallLaws.{may_next, site_end, cancelled_next}
 use Rattle.sftp_history.specs.Calls.{Setting, current, site_of, held_by, held_site, cancelled as cancelled_call, given_up, site_left, has_waited}
 use Rattle.sftp_history.specs.Grants.{is_grant, is_unended_asker, is_granted}
 use Rattle.sftp_history.proofs.IdLaws.{reads}
 use Rattle.sftp_history.specs.Ids.{IdState, Free, Pending, Replied, id_state, Reads}
-use Rattle.sftp_history.specs.Journals.{IsNext, IsJournal, cancelled_end, is_some_place}
+use Rattle.sftp_history.specs.Journals.{IsNext, IsJournal, cancelled_end, is_some_asked}
 use Rattle.sftp_history.specs.Readings.{Asked, ended, own, answer, is_at}
 use Rattle.sftp_history.proofs.RunLaws.{end_good, wait_more}
 use Rattle.sftp_history.specs.Steady.{Good}
@@ -28,6 +28,7 @@ use Rattle.sftp_lanes.specs.Noting.{one_more}
 use Rattle.sftp_lanes.proofs.HeldLaws.{still_of_due}
 use Rattle.sftp_lanes.specs.Session.{LooseAt, Between, IsTied}
 use Rattle.sftp_lanes.proofs.LaneLaws.{SameLane, lane_on, same_end, slot_on}
+use Rattle.sftp_lanes.proofs.OwnLaws.{one_asks}
 use Rattle.sftp_lanes.proofs.StandingLaws.{end_tabled_one}
 use Rattle.sftp_lanes.specs.Tables.{is_live, replied, stand, users_in, users_of, slots_of, Tabled}
 use Rattle.sftp_lanes.proofs.TakeLaws.{plain_gone}
@@ -35,7 +36,6 @@ use Rattle.sftp_lanes.specs.Tied.{Asks, CoreTied, SlotTied, IsBorne, is_running,
 use Rattle.sftp_lanes.specs.declared.lane.LaneState.{LaneState}
 use Rattle.sftp_lanes.specs.declared.lane.Running.{Running}
 use Rattle.std.proofs.Common.{◌≡◌, ◌≢◌, ◌==◌, ℕ, Bool, true, false, List, [], ◌∷◌, Option, Some, None, refl, ap, sym, ◌∙◌, subst, arith}
-use Rattle.std.proofs.lemmas.Bool.Decides.{nat_tests}
 use Rattle.std.specs.List.{list_any}
 use Rattle.std.specs.Prelude.{◌||◌, slice_get, slice_set, slice_index_or, length}
 use Rattle.sftp_history.specs.declared.call.Call.TheVariants as call
@@ -44,8 +44,7 @@ use Rattle.sftp_history.specs.declared.event.Owner.TheVariants as owner
 use Rattle.sftp_lanes.specs.declared.lane.Running.TheVariants as running
 use Rattle.sftp_model.specs.declared.outcome.Outcome.TheVariants as outcome
 use Rattle.sftp_model.specs.declared.slot.Facts.{Facts}
-use Rattle.sftp_model.specs.Plans.{Answers}
-use Rattle.sftp_file.specs.declared.stage.Stage.{Stage}
+use Rattle.sftp_calls.specs.Moves.{Answers}
 use Rattle.sftp_file.specs.declared.stage.Stage.TheVariants as stage
 use Rattle.sftp_history.specs.declared.event.Event.TheVariants.{Cancel}
 use Rattle.sftp_lanes.proofs.EndKindLaws.{live_here, dead_now, same_users, no_handle}
@@ -67,10 +66,10 @@ under_way s past lane files (running.Read o) r run = record { ticket = r.ticket;
 under_way s past lane files (running.Close c) r run = record { ticket = r.ticket; request = _; asks = r.asks; stage = r.is; calls = call.Close r.slot; current = r.call }
 
 -- a cancelled call that has asked leaves what it held
-cancelled_holds : (c : Call) (site : Site) (facts : Facts) (p : ℕ) (answers : Answers) → cancelled_call c site facts (p ∷ []) answers ≡ given_up c (p ∷ []) site
-cancelled_holds (call.OpenFile slot options path) site facts p answers = refl
-cancelled_holds (call.Read slot n) site facts p answers = refl
-cancelled_holds (call.Close slot) site facts p answers = refl
+cancelled_holds : (c : Call) (site : Site) (facts : Facts) (asked : ℕ × Request) (answers : Answers) → cancelled_call c site facts (asked ∷ []) answers ≡ given_up c (asked ∷ []) site
+cancelled_holds (call.OpenFile slot options path) site facts asked answers = refl
+cancelled_holds (call.Read slot n) site facts asked answers = refl
+cancelled_holds (call.Close slot) site facts asked answers = refl
 
 -- ---- the core
 
@@ -140,14 +139,14 @@ cancels_call s past old states begun lane x t any u =
     let site_now : site_of s (cancelled_past past lane) lane ≡ held_site s past lane =
     site_end s middle lane (ended past lane) outcome.Cancelled
     ∙ ap (λ d. site_left d (Some lane) (site_of s past lane) s.facts (own past lane (ended past lane)) (answer past)) u.current
-    ∙ ap (λ places. cancelled_call u.calls (site_of s past lane) s.facts places (answer past)) u.asks.own
-    ∙ cancelled_holds u.calls (site_of s past lane) s.facts u.asks.place (answer past)
-    ∙ sym (ap (λ places. held_by (current s past lane) places (site_of s past lane)) u.asks.own ∙ ap (λ d. held_by d (u.asks.place ∷ []) (site_of s past lane)) u.current) in
+    ∙ ap (λ requests. cancelled_call u.calls (site_of s past lane) s.facts requests (answer past)) u.asks.own
+    ∙ cancelled_holds u.calls (site_of s past lane) s.facts (u.asks.place, u.request) (answer past)
+    ∙ sym (ap (λ requests. held_by (current s past lane) requests (site_of s past lane)) u.asks.own ∙ ap (λ d. held_by d ((u.asks.place, u.request) ∷ []) (site_of s past lane)) u.current) in
     record {
       first = first;
       second = cancelled_next s past lane;
       good = end_good s middle begun lane outcome.Cancelled run g.ready g.unkept
-          (λ l b. wait_more (is_some_place (own past l (ended past l))) _ (has_waited s past l) (g.cancels l b)) (cancelled_next s past lane);
+          (λ l b. wait_more (is_some_asked (own past l (ended past l))) _ (has_waited s past l) (g.cancels l b)) (cancelled_next s past lane);
       done = ended_by s middle lane outcome.Cancelled (held_site s past lane) run site_now;
       steady = record {
         due = record { each = t.rest.due.each; loose = tt };
@@ -157,14 +156,6 @@ cancels_call s past old states begun lane x t any u =
         runs = t.rest.runs;
       };
     }
-
--- of a cancelled call's request, the call that follows asked nothing
-pub asked_alone : (x g : ℕ) → ((x == g) || false) ≡ true → x ≡ g
-asked_alone x g e = by_test (x == g) refl e
-  where
-    by_test : (b : Bool) → (x == g) ≡ b → (b || false) ≡ true → x ≡ g
-    by_test true is h = grind (arith, nat_tests)
-    by_test false is h = absurd cc
 
 -- ---- the session
 
@@ -225,7 +216,7 @@ live_stand s past now b p (Replied q c y) borne live = ap (λ l. replied l (expe
 unanswered_asker : (s : Setting) (past : List Entry) (old : Core) (g lane : ℕ) (x : Running) (u : UnderWay s past lane x) → Tabled s past [] (at old) → brings_in (at old u.ticket) ≡ None → is_grant past g ≡ true
     → is_unended_asker past lane g ≡ true → ⊥
 unanswered_asker s past old g lane x u table none granted asks =
-    let same : u.asks.place ≡ g = asked_alone u.asks.place g (ap (list_any (λ k. k == g)) (sym u.asks.own) ∙ asker_owns past lane (ended past lane) g asks) in
+    let same : u.asks.place ≡ g = one_asks past lane (ended past lane) g u.asks.place u.request u.asks.own asks in
     let here : is_grant past u.asks.place ≡ true = subst (λ (n : ℕ). is_grant past n ≡ true) (sym same) granted in
     by_state (id_state past u.ticket) refl (reads past u.ticket) u.asks.borne here
   where

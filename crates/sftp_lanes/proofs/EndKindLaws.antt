@@ -1,8 +1,7 @@
 -- What the end of a call leaves, by what becomes of the lane's slots.
-use Rattle.std.proofs.Common.{◌≡◌, ◌≢◌, ◌<◌, ◌+◌, ◌==◌, ℕ, Bool, true, false, List, [], ◌∷◌, Option, Some, None, refl, ap, sym, ◌∙◌, subst, arith, inl, inr}
-use Rattle.std.specs.Prelude.{◌||◌, slice_get, slice_set, slice_index_or, length}
-use Rattle.std.specs.List.{list_any}
-use Rattle.std.proofs.lemmas.Bool.Decides.{eqb_tells, nat_tests}
+use Rattle.std.proofs.Common.{◌≡◌, ◌≢◌, ◌<◌, ◌+◌, ℕ, true, false, List, [], ◌∷◌, Option, Some, None, refl, ap, sym, ◌∙◌, subst, arith, inl, inr}
+use Rattle.std.specs.Prelude.{slice_get, slice_set, slice_index_or, length}
+use Rattle.std.proofs.lemmas.Bool.Decides.{eqb_tells}
 use Rattle.std.proofs.lemmas.Bool.{eq-eqb, ne_eqb}
 use Rattle.sftp_model.specs.declared.slot.Site.{Site}
 use Rattle.sftp_model.specs.declared.slot.Slot.{Slot}
@@ -27,9 +26,8 @@ use Rattle.sftp_model.specs.declared.outcome.Outcome.{Outcome}
 use Rattle.sftp_history.specs.declared.event.Event.TheVariants.{End}
 use Rattle.sftp_history.specs.Grants.{is_grant, is_unended_asker, is_granted}
 use Rattle.sftp_history.specs.Turns.{begun_but}
-use Rattle.sftp_history.proofs.CallLaws.{asker_owns}
 use Rattle.sftp_lanes.proofs.AskLaws.{set_count}
-use Rattle.sftp_lanes.proofs.OwnLaws.{false_of}
+use Rattle.sftp_lanes.proofs.OwnLaws.{false_of, none_asks, one_asks}
 use Rattle.sftp_lanes.specs.declared.lane.Running.TheVariants as running
 use Rattle.sftp_model.specs.declared.reply.Reply.{Reply}
 use Rattle.sftp_model.specs.declared.reply.Reply.TheVariants as reply
@@ -120,17 +118,12 @@ plain_work s past lane old new c (inr (t, (y, (p, none)))) = subst (λ (x : Core
 -- of a call that ends plainly, no request was granted
 plain_asker : (s : Setting) (past : List Entry) (lane g : ℕ) (old new : Core) → Tabled s past [] (at old) → IsPlain past lane old new → is_grant past g ≡ true → is_unended_asker past lane g ≡ false
 plain_asker s past lane g old new table (inl u) granted =
-    false_of (is_unended_asker past lane g) (λ h. let at_none : list_any (λ p. p == g) [] ≡ true = ap (list_any (λ p. p == g)) (sym u.own) ∙ asker_owns past lane (ended past lane) g h in cc)
+    false_of (is_unended_asker past lane g) (λ h. none_asks past lane (ended past lane) g u.own h)
 plain_asker s past lane g old new table (inr (t, (y, (p, none)))) granted =
     false_of (is_unended_asker past lane g) (λ h.
-    let at_one : ((p.asks.place == g) || false) ≡ true = ap (list_any (λ k. k == g)) (sym p.asks.own) ∙ asker_owns past lane (ended past lane) g h in
-    let same : p.asks.place ≡ g = alike (p.asks.place == g) refl at_one in
+    let same : p.asks.place ≡ g = one_asks past lane (ended past lane) g p.asks.place p.request p.asks.own h in
     let told : answer past p.asks.place ≡ Some y = (subst (Reads past t) (polled_is s past lane old new t y table p) (reads past t)).1 in
     let nothing : is_grant past g ≡ false = subst (λ (n : ℕ). is_granted (answer past n) ≡ false) same (ap is_granted told ∙ no_handle y none) in cc)
-  where
-    alike : (x : Bool) → (p.asks.place == g) ≡ x → (x || false) ≡ true → p.asks.place ≡ g
-    alike true e h = grind (arith, nat_tests)
-    alike false e h = absurd cc
 
 -- what each end has in common
 pub record EndsHere (s : Setting) (past : List Entry) (lane : ℕ) (old : Core) (states : List LaneState) (begun : List ℕ) (before after : LaneState) (o : Outcome) (left : Site) : Type 0 where

@@ -25,10 +25,10 @@ use Rattle.sftp_history.specs.declared.call.Call.TheVariants as call
 use Rattle.sftp_history.specs.declared.event.Event.TheVariants.{End}
 use Rattle.sftp_history.specs.Grants.{is_grant, holds, is_asked_by, is_unended_asker}
 use Rattle.sftp_history.specs.Turns.{begun_but}
-use Rattle.sftp_history.proofs.CallLaws.{ended_end, end_own, own_fresh, asker_owns}
+use Rattle.sftp_history.proofs.CallLaws.{ended_end, end_own, own_fresh}
 use Rattle.sftp_history.proofs.RunLaws.{but_begun}
 use Rattle.sftp_lanes.proofs.AskLaws.{set_or_other, set_count}
-use Rattle.sftp_lanes.proofs.OwnLaws.{false_of}
+use Rattle.sftp_lanes.proofs.OwnLaws.{false_of, none_asks}
 use Rattle.sftp_lanes.specs.declared.lane.Running.{Running}
 use Rattle.sftp_lanes.specs.declared.lane.Running.TheVariants as running
 use Rattle.sftp_lanes.specs.Noting.{one_more}
@@ -62,10 +62,10 @@ ended_by s past lane o site run site_now =
     record {
       ends = ends;
       owns = owns;
-      held = ap (λ places. held_by (current s now lane) places (site_of s now lane)) owns ∙ held_idle (current s now lane) (site_of s now lane) ∙ site_now;
+      held = ap (λ requests. held_by (current s now lane) requests (site_of s now lane)) owns ∙ held_idle (current s now lane) (site_of s now lane) ∙ site_now;
       asker = λ g. ap (λ n. is_asked_by (asked_at past g) lane n) ends
           ∙ false_of (is_asked_by (asked_at past g) lane (ended past lane + 1))
-          (λ h. let at : list_any (λ p. p == g) [] ≡ true = ap (list_any (λ p. p == g)) (sym (own_fresh s past lane (ended past lane + 1) run (omega arith))) ∙ asker_owns past lane (ended past lane + 1) g h in cc);
+          (λ h. none_asks past lane (ended past lane + 1) g (own_fresh s past lane (ended past lane + 1) run (omega arith)) h);
     }
 
 -- what an end needs of a session

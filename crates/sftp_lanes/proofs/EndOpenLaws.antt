@@ -1,7 +1,6 @@
 -- An open ends with a file, or a close lets one of a file's users go.
-use Rattle.std.proofs.Common.{◌≡◌, ◌≢◌, ◌<◌, ◌+◌, ◌==◌, ℕ, Bool, true, false, List, [], ◌∷◌, Option, Some, None, refl, ap, sym, ◌∙◌, subst, arith}
-use Rattle.std.specs.Prelude.{◌&&◌, ◌||◌, slice_set, slice_index_or, length}
-use Rattle.std.specs.List.{list_any}
+use Rattle.std.proofs.Common.{◌≡◌, ◌≢◌, ◌<◌, ◌+◌, ℕ, true, false, List, [], ◌∷◌, Option, Some, None, refl, ap, sym, ◌∙◌, subst, arith}
+use Rattle.std.specs.Prelude.{◌&&◌, slice_set, slice_index_or, length}
 use Rattle.std.proofs.lemmas.Bool.Decides.{nat_tests}
 use Rattle.std.proofs.lemmas.Bool.{eq-eqb}
 use Rattle.sftp_model.specs.declared.slot.Site.{Site}
@@ -24,8 +23,7 @@ use Rattle.sftp_model.specs.declared.outcome.Outcome.{Outcome}
 use Rattle.sftp_history.specs.declared.event.Event.TheVariants.{End}
 use Rattle.sftp_history.specs.Grants.{is_asked_by, is_unended_asker}
 use Rattle.sftp_history.specs.Turns.{begun_but}
-use Rattle.sftp_history.proofs.CallLaws.{asker_owns}
-use Rattle.sftp_lanes.proofs.OwnLaws.{false_of, AskedFor, slot_owned, lane_owned}
+use Rattle.sftp_lanes.proofs.OwnLaws.{false_of, none_asks, one_asks, AskedFor, slot_owned, lane_owned}
 use Rattle.sftp_model.specs.declared.reply.Reply.{Reply}
 use Rattle.sftp_model.specs.declared.reply.Reply.TheVariants as reply
 use Rattle.sftp_model.specs.declared.slot.Slot.TheVariants as slots
@@ -94,7 +92,7 @@ opens_between s past lane old new states begun before after o out left e k =
     put_between s past lane old new states begun before after o left k.slot (Some k.file) put e k.within k.leaves k.slots
     (place, (refl, record { asked = b; call = ended past lane; by = refl; before = (let n = d.ends in omega (arith, n)); brought = state }))
     (λ g has. subst (λ (n : ℕ). is_unended_asker past lane n ≡ true) (file_is g place k.file has) asks)
-    (λ g granted h. alone place g (ap (list_any (λ q. q == g)) (sym p.asks.own) ∙ asker_owns past lane (ended past lane) g h))
+    (λ g granted h. eq-eqb place g (one_asks past lane (ended past lane) g place p.request p.asks.own h))
     (subst (λ (x : Core). CoreTied s past x) (sym p.core) (polled_work s past old t rest.work))
     (subst (λ (x : Core). Tabled s now (had ∷ []) (at x)) (sym p.core)
     (end_tabled_one s past now lane t place b (had ∷ []) (at old) (at (polled_core old (Asking t))) rest.good.run (λ i. refl) (λ w ne. (other w ne).ends) d.ends p.asks.own p.asks.borne
@@ -106,13 +104,6 @@ opens_between s past lane old new states begun before after o out left e k =
     ∙ sym (ap (stand (ended now) (slots_of s now) (had ∷ [])) state
     ∙ ap (λ live. replied live (expected_of p.request) (reply.Handle h) (users_of (slots_of s now) (had ∷ []) b.by place)) (dead_now past now lane d.ends)
     ∙ ap (λ n. Some (Granted h n)) users)) rest.table))
-  where
-    alone : (x g : ℕ) → ((x == g) || false) ≡ true → (x == g) ≡ true
-    alone x g e = by_test (x == g) e
-      where
-        by_test : (b : Bool) → (b || false) ≡ true → b ≡ true
-        by_test true e = refl
-        by_test false e = absurd cc
 
 pub frees_between : (s : Setting) (past : List Entry) (lane : ℕ) (old new : Core) (states : List LaneState) (begun : List ℕ) (before after : LaneState) (o : Outcome) (out : Option FileValue) (left : Site)
     → EndsHere s past lane old states begun before after o left → (k : SlotFrees s past lane old new before after out left)
@@ -127,7 +118,7 @@ frees_between s past lane old new states begun before after o out left e k =
     let other : (w : ℕ) → lane ≢ w → SameLane s past now w = (λ w ne. same_end s past lane (ended past lane) w o ne) in
     put_between s past lane old new states begun before after o left k.slot None slots.Empty e k.within k.leaves k.slots refl
     (λ g has. absurd (let no_way : false ≡ true = has in cc))
-    (λ g granted h. absurd (let at_none : list_any (λ p. p == g) [] ≡ true = ap (list_any (λ p. p == g)) (sym k.unasked.own) ∙ asker_owns past lane (ended past lane) g h in cc))
+    (λ g granted h. absurd (none_asks past lane (ended past lane) g k.unasked.own h))
     (subst (λ (x : Core). CoreTied s past x) (sym k.unasked.core) rest.work)
     (subst (λ (x : Core). Tabled s now (slot_at site k.slot ∷ []) (at x)) (sym k.unasked.core)
     (end_tabled s past now lane (slot_at site k.slot ∷ []) (at old) rest.good.run (λ i. refl) (λ w ne. (other w ne).ends) d.ends k.unasked.own

@@ -8,6 +8,7 @@ use Rattle.sftp_model.specs.declared.answers.Expected.TheVariants as expected
 use Rattle.sftp_model.specs.declared.flags.OpenFlags.{OpenFlags}
 use Rattle.sftp_model.specs.declared.request.Request.{Request}
 use Rattle.sftp_model.specs.declared.request.Request.TheVariants as request
+use Rattle.sftp_model.specs.declared.outcome.Outcome.TheVariants as outcome
 use Rattle.sftp_model.specs.declared.reply.Reply.{Reply}
 use Rattle.sftp_model.specs.declared.reply.Reply.TheVariants as reply
 use Rattle.sftp_model.specs.declared.slot.Facts.{Facts}
@@ -18,7 +19,9 @@ use Rattle.sftp_model.specs.declared.slot.Site.{Site}
 use Rattle.sftp_model.specs.declared.slot.Slot.{Slot}
 use Rattle.sftp_model.specs.declared.slot.Slot.TheVariants as slots
 use Rattle.sftp_model.specs.Answers.{expected_of}
-use Rattle.sftp_model.specs.Plans.{Answers, open_next, open_request, is_too_long, opened, refused, once_answered, read_next, read_file_next, overflows, was_read, close_next, close_slot_next, close_grant_next, done_by}
+use Rattle.sftp_calls.specs.Moves.{Answers, Own, is_too_long, refused, once_answered, by_reply, ask_path, handle_of, overflows, done_by}
+use Rattle.sftp_calls.specs.FilePlans.{open_next, open_request, opened, first_place, close_next, close_slot_next, close_grant_next}
+use Rattle.sftp_calls.specs.TransferPlans.{read_next, read_first, was_read}
 use Rattle.sftp_model.specs.Slots.{slot_at, has_grant, with_slot}
 use Rattle.sftp_file.specs.OpenOptions.{flags_of}
 use Rattle.sftp_history.specs.declared.call.Call.{Call}
@@ -40,10 +43,10 @@ abbrev pub is_limits : Expected → Bool
 is_limits expected.Limits = true
 is_limits other = false
 
--- the first of a call's requests
-abbrev pub first_of : List ℕ → Option ℕ
+-- the place of a call's first request
+abbrev pub first_of : Own → Option ℕ
 first_of [] = None
-first_of (place ∷ places) = Some place
+first_of (asked ∷ later) = Some asked.0
 
 -- a move doesn't ask for the limits, and waits for no reply but that to the first request
 abbrev pub AsksNoLimits : Option ℕ → Move → Type 0
@@ -77,9 +80,16 @@ either_asks : (first : Option ℕ) (b : Bool) (x y : Move) → AsksNoLimits firs
 either_asks first true x y p q = p
 either_asks first false x y p q = q
 
-open_asks : (slot : ℕ) (flags : OpenFlags) (path : List ℕ) (site : Site) (facts : Facts) (places : List ℕ) (answers : Answers) → AsksNoLimits (first_of places) (open_next slot flags path site facts places answers)
-open_asks slot flags path site facts [] answers = either_asks None (is_too_long (open_request flags path)) _ (Ask (open_request flags path)) tt refl
-open_asks slot flags path site facts (place ∷ later) answers = once_asks place (answers place) (opened slot flags site place) (opened_asks (Some place) slot flags site place)
+-- a call of one request
+replied_asks : (first : Move) (go : Reply → Move) (requests : Own) (answers : Answers) → AsksNoLimits None first → ((place : ℕ) (y : Reply) → AsksNoLimits (Some place) (go y))
+    → AsksNoLimits (first_of requests) (by_reply first go requests answers)
+replied_asks first go [] answers begins goes = begins
+replied_asks first go (asked ∷ later) answers begins goes = once_asks asked.0 (answers asked.0) go (goes asked.0)
+
+open_asks : (slot : ℕ) (flags : OpenFlags) (path : List ℕ) (site : Site) (facts : Facts) (requests : Own) (answers : Answers) → AsksNoLimits (first_of requests) (open_next slot flags path site facts requests answers)
+open_asks slot flags path site facts requests answers =
+    replied_asks (ask_path (open_request flags path) site) (opened slot flags site (first_place requests)) requests answers
+    (either_asks None (is_too_long (open_request flags path)) _ (Ask (open_request flags path)) tt refl) (λ place. opened_asks (Some place) slot flags site (first_place requests))
 
 was_asks : (first : Option ℕ) (slot : ℕ) (file : FileAt) (site : Site) (r : Reply) → AsksNoLimits first (was_read slot file site r)
 was_asks first slot file site (reply.Content bytes) = tt
@@ -90,16 +100,18 @@ was_asks first slot file site (reply.Names names) = tt
 was_asks first slot file site (reply.Attrs attrs) = tt
 was_asks first slot file site (reply.Extended content) = tt
 
-file_asks : (slot n : ℕ) (site : Site) (facts : Facts) (places : List ℕ) (answers : Answers) (file : FileAt) → AsksNoLimits (first_of places) (read_file_next slot n site facts places answers file)
-file_asks slot n site facts [] answers file = either_asks None (n == 0) _ _ tt (either_asks None (not file.readable) _ _ tt (either_asks None (overflows file.offset _) _ _ tt refl))
-file_asks slot n site facts (place ∷ later) answers file = once_asks place (answers place) (was_read slot file site) (was_asks (Some place) slot file site)
+file_asks : (slot n : ℕ) (site : Site) (facts : Facts) (requests : Own) (answers : Answers) (file : FileAt)
+    → AsksNoLimits (first_of requests) (by_reply (read_first file n site facts answers) (was_read slot file site) requests answers)
+file_asks slot n site facts requests answers file =
+    replied_asks (read_first file n site facts answers) (was_read slot file site) requests answers
+    (either_asks None (n == 0) _ _ tt (either_asks None (not file.readable) _ _ tt (either_asks None (overflows file.offset _) _ _ tt refl))) (λ place. was_asks (Some place) slot file site)
 
-read_asks : (slot n : ℕ) (site : Site) (facts : Facts) (places : List ℕ) (answers : Answers) → AsksNoLimits (first_of places) (read_next slot n site facts places answers)
-read_asks slot n site facts places answers = by_slot (slot_at site slot) refl
+read_asks : (slot n : ℕ) (site : Site) (facts : Facts) (requests : Own) (answers : Answers) → AsksNoLimits (first_of requests) (read_next slot n site facts requests answers)
+read_asks slot n site facts requests answers = by_slot (slot_at site slot) refl
   where
-    by_slot : (x : Slot) → slot_at site slot ≡ x → AsksNoLimits (first_of places) (read_next slot n site facts places answers)
+    by_slot : (x : Slot) → slot_at site slot ≡ x → AsksNoLimits (first_of requests) (read_next slot n site facts requests answers)
     by_slot slots.Empty is = rw is tt
-    by_slot (slots.File file) is = rw is (file_asks slot n site facts places answers file)
+    by_slot (slots.File file) is = rw is (file_asks slot n site facts requests answers file)
     by_slot (slots.Buffered file buffer) is = rw is tt
 
 done_asks : (first : Option ℕ) (site : Site) (r : Reply) → AsksNoLimits first (done_by site r)
@@ -111,22 +123,23 @@ done_asks first site (reply.Names names) = tt
 done_asks first site (reply.Attrs attrs) = tt
 done_asks first site (reply.Extended content) = tt
 
-grant_asks : (grant : ℕ) (site : Site) (places : List ℕ) (answers : Answers) → AsksNoLimits (first_of places) (close_grant_next grant site places answers)
-grant_asks grant site [] answers = either_asks None (has_grant site grant) _ _ tt refl
-grant_asks grant site (place ∷ later) answers = once_asks place (answers place) (done_by site) (done_asks (Some place) site)
+grant_asks : (grant : ℕ) (site : Site) (requests : Own) (answers : Answers) → AsksNoLimits (first_of requests) (close_grant_next grant site requests answers)
+grant_asks grant site requests answers =
+    replied_asks (if has_grant site grant then Done outcome.Done site else Ask (request.Close (handle_of (answers grant)))) (done_by site) requests answers
+    (either_asks None (has_grant site grant) _ _ tt refl) (λ place. done_asks (Some place) site)
 
-close_asks : (slot : ℕ) (site : Site) (facts : Facts) (places : List ℕ) (answers : Answers) → AsksNoLimits (first_of places) (close_next slot site facts places answers)
-close_asks slot site facts places answers = by_slot (slot_at site slot)
+close_asks : (slot : ℕ) (site : Site) (facts : Facts) (requests : Own) (answers : Answers) → AsksNoLimits (first_of requests) (close_next slot site facts requests answers)
+close_asks slot site facts requests answers = by_slot (slot_at site slot)
   where
-    by_slot : (x : Slot) → AsksNoLimits (first_of places) (close_slot_next slot site places answers x)
+    by_slot : (x : Slot) → AsksNoLimits (first_of requests) (close_slot_next slot site requests answers x)
     by_slot slots.Empty = tt
-    by_slot (slots.File file) = grant_asks file.grant (with_slot site slot slots.Empty) places answers
-    by_slot (slots.Buffered file buffer) = grant_asks file.grant (with_slot site slot slots.Empty) places answers
+    by_slot (slots.File file) = grant_asks file.grant (with_slot site slot slots.Empty) requests answers
+    by_slot (slots.Buffered file buffer) = grant_asks file.grant (with_slot site slot slots.Empty) requests answers
 
-next_asks : (c : Call) (site : Site) (facts : Facts) (places : List ℕ) (answers : Answers) → AsksNoLimits (first_of places) (next c site facts places answers)
-next_asks (call.OpenFile slot options path) site facts places answers = open_asks slot (flags_of options) path site facts places answers
-next_asks (call.Read slot n) site facts places answers = read_asks slot n site facts places answers
-next_asks (call.Close slot) site facts places answers = close_asks slot site facts places answers
+next_asks : (c : Call) (site : Site) (facts : Facts) (requests : Own) (answers : Answers) → AsksNoLimits (first_of requests) (next c site facts requests answers)
+next_asks (call.OpenFile slot options path) site facts requests answers = open_asks slot (flags_of options) path site facts requests answers
+next_asks (call.Read slot n) site facts requests answers = read_asks slot n site facts requests answers
+next_asks (call.Close slot) site facts requests answers = close_asks slot site facts requests answers
 
 -- no call asks for the limits
 pub move_asks : (s : Setting) (past : List Entry) (lane : ℕ) (r : Request) → move_of s past lane ≡ Some (Ask r) → is_limits (expected_of r) ≡ false
@@ -139,8 +152,8 @@ move_asks s past lane r e = by_call (current s past lane) e
         subst (AsksNoLimits (first_of (own past lane (ended past lane)))) same (next_asks c (site_of s past lane) s.facts (own past lane (ended past lane)) (answer past))
 
 -- a call that has made one request waits for its reply
-pub move_waits : (s : Setting) (past : List Entry) (lane p place : ℕ) → own past lane (ended past lane) ≡ p ∷ [] → move_of s past lane ≡ Some (Wait place) → p ≡ place
-move_waits s past lane p place one e = by_call (current s past lane) e
+pub move_waits : (s : Setting) (past : List Entry) (lane p place : ℕ) (r : Request) → own past lane (ended past lane) ≡ (p, r) ∷ [] → move_of s past lane ≡ Some (Wait place) → p ≡ place
+move_waits s past lane p place r one e = by_call (current s past lane) e
   where
     by_call : (c : Option Call) → move_at c (site_of s past lane) s.facts (own past lane (ended past lane)) (answer past) ≡ Some (Wait place) → p ≡ place
     by_call None h = absurd cc

@@ -19,7 +19,7 @@ use Rattle.sftp_history.proofs.GrantLaws.{any_passes, any_where}
 use Rattle.sftp_history.proofs.LetGoLaws.{settled_each, each_settled, orphan_plain, orphan_one, granted_below, close_leaves, Leaves}
 use Rattle.sftp_history.specs.Steady.{Still}
 use Rattle.sftp_lanes.specs.Tied.{GoneOnly}
-use Rattle.sftp_lanes.specs.Session.{Due, LooseAt, IsLoose}
+use Rattle.sftp_lanes.specs.Session.{Due, LooseAt}
 
 -- ---- tests
 

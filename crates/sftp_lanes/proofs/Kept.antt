@@ -10,7 +10,7 @@ use Rattle.sftp_model.specs.declared.reply.Reply.{Reply}
 use Rattle.sftp_model.specs.declared.reply.Reply.TheVariants as reply
 use Rattle.sftp_model.specs.declared.slot.Site.{Site}
 use Rattle.sftp_model.specs.declared.slot.Slot.TheVariants as slots
-use Rattle.sftp_model.specs.Plans.{handle_of}
+use Rattle.sftp_calls.specs.Moves.{handle_of}
 use Rattle.sftp_model.specs.Slots.{slot_at, slot_has, with_slot, has_grant}
 use Rattle.sftp_core.specs.declared.place.Place.{Place}
 use Rattle.sftp_core.specs.declared.place.Place.TheVariants.{Waiting, Answered, Granted}

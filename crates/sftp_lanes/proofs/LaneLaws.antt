@@ -185,7 +185,7 @@ free_ask s past loose table id t none p a borne live = by_state (id_state past i
 pub same_submit : (s : Setting) (past : List Entry) (lane : ℕ) (by : Owner) (id : ℕ) (r : Request) → is_by by lane (ended past lane) ≡ false → SameLane s past (entry.Event (Submit by id r) ∷ past) lane
 same_submit s past lane by id r other =
     let owns : own (entry.Event (Submit by id r) ∷ past) lane (ended past lane) ≡ own past lane (ended past lane) = own_other past by id r lane (ended past lane) other in
-    record { ends = refl; owns = owns; held = ap (λ places. held_by (current s past lane) places (site_of s past lane)) owns; site = refl; call = refl }
+    record { ends = refl; owns = owns; held = ap (λ requests. held_by (current s past lane) requests (site_of s past lane)) owns; site = refl; call = refl }
 
 pub same_end : (s : Setting) (past : List Entry) (l call lane : ℕ) (o : Outcome) → l ≢ lane → SameLane s past (entry.Event (End l call o) ∷ past) lane
 same_end s past l call lane o ne =

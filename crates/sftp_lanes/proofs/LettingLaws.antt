@@ -15,9 +15,9 @@ use Rattle.sftp_history.specs.declared.entry.Entry.{Entry}
 use Rattle.sftp_history.specs.declared.entry.Entry.TheVariants as entry
 use Rattle.sftp_history.specs.Readings.{Asked, ended, own, is_at, asked_at, was_let_go}
 use Rattle.sftp_history.specs.Calls.{Setting, current, site_of, held_by, held_site}
-use Rattle.sftp_history.specs.Grants.{closed, is_grant, holds, is_unended_asker, is_held, is_one_of, orphan, letting_go, first_let_go, orphan_at}
+use Rattle.sftp_history.specs.Grants.{closed, is_grant, holds, is_unended_asker, is_held, is_one_of, orphan, first_let_go, orphan_at}
 use Rattle.sftp_history.specs.Ids.{Replied, id_state, Reads}
-use Rattle.sftp_history.specs.Journals.{IsNext, IsJournal, close_of}
+use Rattle.sftp_history.specs.Journals.{IsNext, close_of}
 use Rattle.sftp_history.proofs.CallLaws.{may_next, due_next}
 use Rattle.sftp_history.specs.Steady.{Still}
 use Rattle.sftp_lanes.specs.declared.lane.LaneState.{LaneState}
@@ -41,10 +41,9 @@ use Rattle.sftp_lanes.proofs.StandingLaws.{SameUsers, borne_apart, stand_same, u
 use Rattle.sftp_lanes.proofs.Users.{one_if, none_uses, uses_none, slot_uses, set_here, set_there}
 use Rattle.std.proofs.lemmas.Option.{slice_get_within, slice_get-get_or}
 use Rattle.sftp_model.specs.declared.request.Request.TheVariants as request
-use Rattle.sftp_history.specs.Turns.{ClosesTo}
 use Rattle.sftp_lanes.specs.Counted.{let_go}
 use Rattle.sftp_lanes.proofs.ReleaseLaws.{Closing, let_go_closes, Sharing, let_go_shares, IsDue, must_close, close_is, close_closed}
-use Rattle.sftp_lanes.specs.Letting.{Closed, Passed, Letting}
+use Rattle.sftp_lanes.specs.Letting.{Passed, Letting}
 use Rattle.sftp_history.proofs.RunLaws.{good_plain}
 use Rattle.sftp_history.proofs.LetGoLaws.{site_held, let_go_settled}
 use Rattle.sftp_lanes.proofs.PassedLaws.{first_passed, passed_more, passed_on, drop_one, drop_all}

@@ -5,7 +5,7 @@ use Rattle.std.proofs.lemmas.Bool.Decides.{nat_tests}
 use Rattle.sftp_model.specs.declared.answers.Expected.{Expected}
 use Rattle.sftp_model.specs.declared.answers.Expected.TheVariants as expected
 use Rattle.sftp_model.specs.declared.request.Request.TheVariants as request
-use Rattle.sftp_model.specs.Plans.{open_request}
+use Rattle.sftp_calls.specs.FilePlans.{open_request}
 use Rattle.sftp_core.specs.Core.{Core, at}
 use Rattle.sftp_core.specs.Info.{info_of}
 use Rattle.sftp_core.specs.declared.info.Info.{Info}

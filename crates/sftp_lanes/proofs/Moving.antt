@@ -12,7 +12,9 @@ use Rattle.sftp_model.specs.declared.slot.Move.{Move}
 use Rattle.sftp_model.specs.declared.slot.Move.TheVariants.{Done}
 use Rattle.sftp_model.specs.declared.slot.Site.{Site}
 use Rattle.sftp_model.specs.declared.slot.Slot.TheVariants as slots
-use Rattle.sftp_model.specs.Plans.{Answers, open_next, read_next, close_next, open_request}
+use Rattle.sftp_calls.specs.Moves.{Answers, Own}
+use Rattle.sftp_calls.specs.FilePlans.{open_next, close_next, open_request}
+use Rattle.sftp_calls.specs.TransferPlans.{read_next}
 use Rattle.sftp_model.specs.Readings.{has_bit}
 use Rattle.sftp_model.specs.Slots.{slot_at, with_slot}
 use Rattle.sftp_core.specs.Core.{Core, at, reply_in}
@@ -51,13 +53,13 @@ ok_maps (Err e) P Q f h = h
 
 -- ---- what the journal says
 
-pub move_is : (s : Setting) (past : List Entry) (lane : ℕ) (c : Call) (places : List ℕ) → current s past lane ≡ Some c → own past lane (ended past lane) ≡ places
-    → move_of s past lane ≡ Some (next c (site_of s past lane) s.facts places (answer past))
-move_is s past lane c places cur owns = λ i. move_at (cur i) (site_of s past lane) s.facts (owns i) (answer past)
+pub move_is : (s : Setting) (past : List Entry) (lane : ℕ) (c : Call) (requests : Own) → current s past lane ≡ Some c → own past lane (ended past lane) ≡ requests
+    → move_of s past lane ≡ Some (next c (site_of s past lane) s.facts requests (answer past))
+move_is s past lane c requests cur owns = λ i. move_at (cur i) (site_of s past lane) s.facts (owns i) (answer past)
 
-pub held_is : (s : Setting) (past : List Entry) (lane : ℕ) (c : Call) (places : List ℕ) → current s past lane ≡ Some c → own past lane (ended past lane) ≡ places
-    → held_site s past lane ≡ given_up c places (site_of s past lane)
-held_is s past lane c places cur owns = λ i. held_by (cur i) (owns i) (site_of s past lane)
+pub held_is : (s : Setting) (past : List Entry) (lane : ℕ) (c : Call) (requests : Own) → current s past lane ≡ Some c → own past lane (ended past lane) ≡ requests
+    → held_site s past lane ≡ given_up c requests (site_of s past lane)
+held_is s past lane c requests cur owns = λ i. held_by (cur i) (owns i) (site_of s past lane)
 
 idle_owns : (s : Setting) (past : List Entry) (lane : ℕ) (files : List (Option FileValue)) (x : Running) → x ≡ running.Idle → RunTied s past lane files x → own past lane (ended past lane) ≡ []
 idle_owns s past lane files x is r = subst (λ (y : Running). RunTied s past lane files y) is r
@@ -100,7 +102,7 @@ open_fresh s past lane old new before after slot id options path r cur is h =
       no_close = sym (ap is_close is);
       slots = ap (λ (x : LaneState). x.slots.items) h.state;
       runs_now = ap is_running runs;
-      keeps_slots = λ places. ap (λ (c : Option Call). held_by c places (site_of s past lane)) cur;
+      keeps_slots = λ requests. ap (λ (c : Option Call). held_by c requests (site_of s past lane)) cur;
       runs = λ now same asks.
           subst (λ (x : Running). RunTied s now lane after.slots.items x) (sym runs)
           (record {
@@ -143,7 +145,7 @@ read_fresh s past lane old new before after slot n id r cur h =
       no_close = ap is_close h.request;
       slots = files;
       runs_now = ap is_running runs;
-      keeps_slots = λ places. ap (λ (c : Option Call). held_by c places (site_of s past lane)) cur;
+      keeps_slots = λ requests. ap (λ (c : Option Call). held_by c requests (site_of s past lane)) cur;
       runs = λ now same asks.
           subst (λ (x : Running). RunTied s now lane after.slots.items x) (sym runs)
           (record {
@@ -245,25 +247,29 @@ asks_at past lane ticket id r same a =
       borne = subst (λ (k : ℕ). IsBorne (id_state past k) a.place (record { by = owner.Call lane (ended past lane); id = k; request = r })) (sym same) a.borne;
     }
 
-waits : (s : Setting) (past : List Entry) (lane : ℕ) (old new : Core) (before after : LaneState) (c : Call) (place : ℕ) → current s past lane ≡ Some c → own past lane (ended past lane) ≡ place ∷ []
-    → is_running before.running ≡ true → Moves.HasWaited old new before after place (next c (site_of s past lane) s.facts (place ∷ []) (answer past))
+-- the call's one request, as its plan has it
+abbrev asked_of : {past : List Entry} {lane id : ℕ} {r : Request} → Asks past lane id r → ℕ × Request
+asked_of {past} {lane} {id} {r} asks = (asks.place, r)
+
+waits : (s : Setting) (past : List Entry) (lane : ℕ) (old new : Core) (before after : LaneState) (c : Call) (asked : ℕ × Request) → current s past lane ≡ Some c → own past lane (ended past lane) ≡ asked ∷ []
+    → is_running before.running ≡ true → Moves.HasWaited old new before after asked.0 (next c (site_of s past lane) s.facts (asked ∷ []) (answer past))
     → Moves.Moves s past lane old new before after moved.Waits
-waits s past lane old new before after c place cur owns runs h =
-    ((place, move_is s past lane c (place ∷ []) cur owns ∙ ap (λ (m : Move). Some m) h.move), h.core, h.state, runs)
+waits s past lane old new before after c asked cur owns runs h =
+    ((asked.0, move_is s past lane c (asked ∷ []) cur owns ∙ ap (λ (m : Move). Some m) h.move), h.core, h.state, runs)
 
 open_polled_by : (s : Setting) (past : List Entry) (lane : ℕ) (old new : Core) (before after : LaneState) (o : Opening) (m : Moved) (slot : ℕ)
     → before.running ≡ running.Open o → (x : OpenTied s past lane o) → x.slot ≡ slot → slot < 16
     → Moves.OpenPolls old new before after slot x.asks.place x.ticket (site_of s past lane)
-    (open_next slot (flags_of x.options) x.path (site_of s past lane) s.facts (x.asks.place ∷ []) (answer past)) m
+    (open_next slot (flags_of x.options) x.path (site_of s past lane) s.facts (asked_of x.asks ∷ []) (answer past)) m
     → Moves.Moves s past lane old new before after m
 open_polled_by s past lane old new before after o moved.Waits slot is x same few h =
-    waits s past lane old new before after (call.OpenFile slot x.options x.path) x.asks.place (x.call ∙ ap (λ k. Some (call.OpenFile k x.options x.path)) same) x.asks.own (ap is_running is) h
+    waits s past lane old new before after (call.OpenFile slot x.options x.path) (asked_of x.asks) (x.call ∙ ap (λ k. Some (call.OpenFile k x.options x.path)) same) x.asks.own (ap is_running is) h
 open_polled_by s past lane old new before after o (moved.Asked id r) slot is x same few h = absurd h
 open_polled_by s past lane old new before after o (moved.Ended end freed) slot is x same few h =
     let cur : current s past lane ≡ Some (call.OpenFile slot x.options x.path) = x.call ∙ ap (λ k. Some (call.OpenFile k x.options x.path)) same in
-    let held : held_site s past lane ≡ site_of s past lane = held_is s past lane (call.OpenFile slot x.options x.path) (x.asks.place ∷ []) cur x.asks.own in
-    let plan : move_of s past lane ≡ Some (open_next slot (flags_of x.options) x.path (site_of s past lane) s.facts (x.asks.place ∷ []) (answer past)) =
-    move_is s past lane (call.OpenFile slot x.options x.path) (x.asks.place ∷ []) cur x.asks.own in
+    let held : held_site s past lane ≡ site_of s past lane = held_is s past lane (call.OpenFile slot x.options x.path) (asked_of x.asks ∷ []) cur x.asks.own in
+    let plan : move_of s past lane ≡ Some (open_next slot (flags_of x.options) x.path (site_of s past lane) s.facts (asked_of x.asks ∷ []) (answer past)) =
+    move_is s past lane (call.OpenFile slot x.options x.path) (asked_of x.asks ∷ []) cur x.asks.own in
     elim h [
       | inl g ↦ (
         g.polled.ends,
@@ -306,19 +312,19 @@ open_polled_by s past lane old new before after o (moved.Ended end freed) slot i
 read_polled_by : (s : Setting) (past : List Entry) (lane : ℕ) (old new : Core) (before after : LaneState) (o : Reading) (m : Moved) (slot n : ℕ)
     → IsJournal s past → Tabled s past [] (at old) → before.running ≡ running.Read o → (x : ReadTied s past lane before.slots.items o) → current s past lane ≡ Some (call.Read slot n) → Moves.file_in before slot ≡ Some x.file
     → slot < 16 → (place : ℕ) → slot_at (site_of s past lane) slot ≡ slots.File (file_at place x.file)
-    → Moves.ReadPolls old new before after slot place x.asks.place x.ticket x.file (site_of s past lane) (read_next slot n (site_of s past lane) s.facts (x.asks.place ∷ []) (answer past)) m
+    → Moves.ReadPolls old new before after slot place x.asks.place x.ticket x.file (site_of s past lane) (read_next slot n (site_of s past lane) s.facts (asked_of x.asks ∷ []) (answer past)) m
     → Moves.Moves s past lane old new before after m
 read_polled_by s past lane old new before after o moved.Waits slot n run t is x cur in_slot few place was h =
-    waits s past lane old new before after (call.Read slot n) x.asks.place cur x.asks.own (ap is_running is) h
+    waits s past lane old new before after (call.Read slot n) (asked_of x.asks) cur x.asks.own (ap is_running is) h
 read_polled_by s past lane old new before after o (moved.Asked id r) slot n run t is x cur in_slot few place was h = absurd h
 read_polled_by s past lane old new before after o (moved.Ended end freed) slot n run t is x cur in_slot few place was h =
-    let held : held_site s past lane ≡ site_of s past lane = held_is s past lane (call.Read slot n) (x.asks.place ∷ []) cur x.asks.own in
+    let held : held_site s past lane ≡ site_of s past lane = held_is s past lane (call.Read slot n) (asked_of x.asks ∷ []) cur x.asks.own in
     let r : Request = request.Read x.file.grant.handle o.offset o.len in
     let allowed = kept_allowed s past lane x.ticket r old h.y run t x.asks h.polled.answered in (
       h.polled.ends,
       record {
         site = with_slot (site_of s past lane) slot (slots.File (file_at place h.further));
-        move = move_is s past lane (call.Read slot n) (x.asks.place ∷ []) cur x.asks.own ∙ ap (λ (m : Move). Some m) h.move;
+        move = move_is s past lane (call.Read slot n) (asked_of x.asks ∷ []) cur x.asks.own ∙ ap (λ (m : Move). Some m) h.move;
         idle = h.polled.idle;
         how = inr (inl (record {
           slot = slot;
@@ -339,21 +345,21 @@ read_polled_by s past lane old new before after o (moved.Ended end freed) slot n
 
 close_polled_by : (s : Setting) (past : List Entry) (lane : ℕ) (old new : Core) (before after : LaneState) (o : Stage) (m : Moved)
     → IsJournal s past → Tabled s past [] (at old) → before.running ≡ running.Close o → (x : CloseTied s past lane o)
-    → Moves.ClosePolls old new before after x.slot x.asks.place x.ticket (site_of s past lane) (close_next x.slot (site_of s past lane) s.facts (x.asks.place ∷ []) (answer past)) m
+    → Moves.ClosePolls old new before after x.slot x.asks.place x.ticket (site_of s past lane) (close_next x.slot (site_of s past lane) s.facts (asked_of x.asks ∷ []) (answer past)) m
     → Moves.Moves s past lane old new before after m
 close_polled_by s past lane old new before after o moved.Waits run t is x h =
-    waits s past lane old new before after (call.Close x.slot) x.asks.place x.call x.asks.own (ap is_running is) h
+    waits s past lane old new before after (call.Close x.slot) (asked_of x.asks) x.call x.asks.own (ap is_running is) h
 close_polled_by s past lane old new before after o (moved.Asked id r) run t is x h = absurd h
 close_polled_by s past lane old new before after o (moved.Ended end freed) run t is x h =
     let allowed = kept_allowed s past lane x.ticket (request.Close x.handle) old h.y run t x.asks h.polled.answered in (
       h.polled.ends,
       record {
         site = with_slot (site_of s past lane) x.slot slots.Empty;
-        move = move_is s past lane (call.Close x.slot) (x.asks.place ∷ []) x.call x.asks.own ∙ ap (λ (m : Move). Some m) h.move;
+        move = move_is s past lane (call.Close x.slot) (asked_of x.asks ∷ []) x.call x.asks.own ∙ ap (λ (m : Move). Some m) h.move;
         idle = h.polled.idle;
         how = inl (record {
           plain = inr (x.ticket, (h.y, (record { request = request.Close x.handle; asks = x.asks; answered = h.polled.answered; core = h.polled.core }, close_brings x.handle h.y allowed)));
-          leaves = sym (held_is s past lane (call.Close x.slot) (x.asks.place ∷ []) x.call x.asks.own);
+          leaves = sym (held_is s past lane (call.Close x.slot) (asked_of x.asks ∷ []) x.call x.asks.own);
           slots = h.slots;
           none = h.none;
         });
@@ -367,23 +373,23 @@ tied_running s past lane files x y is r = subst (λ (z : Running). RunTied s pas
 
 pub open_polled : (s : Setting) (past : List Entry) (lane : ℕ) (old new : Core) (before after : LaneState) (slot : ℕ) (options : OpenOptions) (path : List ℕ) (m : Moved) (o : Opening)
     → LaneTied s past lane before → Tabled s past [] (at old) → current s past lane ≡ Some (call.OpenFile slot options path) → slot < 16 → before.running ≡ running.Open o
-    → ((o : Opening) (asked ticket : ℕ) (flags : OpenFlags) (path : List ℕ) (site : Site) (facts : Facts) (answers : Answers)
-    → before.running ≡ running.Open o → o.readable ≡ has_bit flags.0 1 → o.writable ≡ has_bit flags.0 2 → o.stage ≡ Asking ticket → answers asked ≡ reply_in (at old ticket)
-    → Moves.OpenPolls old new before after slot asked ticket site (open_next slot flags path site facts (asked ∷ []) answers) m)
+    → ((o : Opening) (ticket : ℕ) (asked : ℕ × Request) (flags : OpenFlags) (path : List ℕ) (site : Site) (facts : Facts) (answers : Answers)
+    → before.running ≡ running.Open o → o.readable ≡ has_bit flags.0 1 → o.writable ≡ has_bit flags.0 2 → o.stage ≡ Asking ticket → answers asked.0 ≡ reply_in (at old ticket)
+    → Moves.OpenPolls old new before after slot asked.0 ticket site (open_next slot flags path site facts (asked ∷ []) answers) m)
     → Moves.Moves s past lane old new before after m
 open_polled s past lane old new before after slot options path m o l t cur few is polls =
     let x : OpenTied s past lane o = tied_running s past lane before.slots.items before.running (running.Open o) is l.runs in
     let both : Some (call.OpenFile x.slot x.options x.path) ≡ Some (call.OpenFile slot options path) = sym x.call ∙ cur in
     let same : x.slot ≡ slot = cc in
     open_polled_by s past lane old new before after o m slot is x same few
-    (polls o x.asks.place x.ticket (flags_of x.options) x.path (site_of s past lane) s.facts (answer past) is x.readable x.writable x.stage
+    (polls o x.ticket (asked_of x.asks) (flags_of x.options) x.path (site_of s past lane) s.facts (answer past) is x.readable x.writable x.stage
     (reply_is s past lane x.ticket (open_request (flags_of x.options) x.path) (at old) t x.asks))
 
 pub read_polled : (s : Setting) (past : List Entry) (lane : ℕ) (old new : Core) (before after : LaneState) (slot n : ℕ) (result : Result Moved OutOfMemory) (r : Reading)
     → IsJournal s past → LaneTied s past lane before → Tabled s past [] (at old) → current s past lane ≡ Some (call.Read slot n) → slot < 16 → before.running ≡ running.Read r
-    → ((r : Reading) (f : FileValue) (place asked n ticket : ℕ) (site : Site) (facts : Facts) (answers : Answers)
-    → before.running ≡ running.Read r → Moves.file_in before slot ≡ Some f → slot_at site slot ≡ slots.File (file_at place f) → r.stage ≡ Asking ticket → answers asked ≡ reply_in (at old ticket)
-    → IfOk result (λ m. Moves.ReadPolls old new before after slot place asked ticket f site (read_next slot n site facts (asked ∷ []) answers) m))
+    → ((r : Reading) (f : FileValue) (place n ticket : ℕ) (asked : ℕ × Request) (site : Site) (facts : Facts) (answers : Answers)
+    → before.running ≡ running.Read r → Moves.file_in before slot ≡ Some f → slot_at site slot ≡ slots.File (file_at place f) → r.stage ≡ Asking ticket → answers asked.0 ≡ reply_in (at old ticket)
+    → IfOk result (λ m. Moves.ReadPolls old new before after slot place asked.0 ticket f site (read_next slot n site facts (asked ∷ []) answers) m))
     → IfOk result (λ m. Moves.Moves s past lane old new before after m)
 read_polled s past lane old new before after slot n result r run l t cur few is polls =
     let x : ReadTied s past lane before.slots.items r = tied_running s past lane before.slots.items before.running (running.Read r) is l.runs in
@@ -391,21 +397,21 @@ read_polled s past lane old new before after slot n result r run l t cur few is 
     let same : x.slot ≡ slot = cc in
     let in_slot : Moves.file_in before slot ≡ Some x.file = ap (Moves.file_in before) (sym same) ∙ x.held in
     let tied : SlotTied past lane (Some x.file) (slot_at (held_site s past lane) slot) = subst (λ (o : Option FileValue). SlotTied past lane o (slot_at (held_site s past lane) slot)) in_slot (l.each slot) in
-    let held : held_site s past lane ≡ site_of s past lane = held_is s past lane (call.Read slot n) (x.asks.place ∷ []) cur x.asks.own in
+    let held : held_site s past lane ≡ site_of s past lane = held_is s past lane (call.Read slot n) (asked_of x.asks ∷ []) cur x.asks.own in
     let was : slot_at (site_of s past lane) slot ≡ slots.File (file_at tied.0 x.file) = ap (λ (y : Site). slot_at y slot) (sym held) ∙ tied.1.0 in
-    ok_maps result (Moves.ReadPolls old new before after slot tied.0 x.asks.place x.ticket x.file (site_of s past lane) (read_next slot n (site_of s past lane) s.facts (x.asks.place ∷ []) (answer past)))
+    ok_maps result (Moves.ReadPolls old new before after slot tied.0 x.asks.place x.ticket x.file (site_of s past lane) (read_next slot n (site_of s past lane) s.facts (asked_of x.asks ∷ []) (answer past)))
     (Moves.Moves s past lane old new before after) (λ m. read_polled_by s past lane old new before after r m slot n run t is x cur in_slot few tied.0 was)
-    (polls r x.file tied.0 x.asks.place n x.ticket (site_of s past lane) s.facts (answer past) is in_slot was x.stage
+    (polls r x.file tied.0 n x.ticket (asked_of x.asks) (site_of s past lane) s.facts (answer past) is in_slot was x.stage
     (reply_is s past lane x.ticket (request.Read x.file.grant.handle r.offset r.len) (at old) t x.asks))
 
 pub close_polled : (s : Setting) (past : List Entry) (lane : ℕ) (old new : Core) (before after : LaneState) (m : Moved) (stage : Stage)
     → IsJournal s past → LaneTied s past lane before → Tabled s past [] (at old) → before.running ≡ running.Close stage
-    → ((stage : Stage) (slot asked ticket : ℕ) (held : FileAt) (site : Site) (facts : Facts) (answers : Answers)
-    → before.running ≡ running.Close stage → slot_at site slot ≡ slots.File held → stage ≡ Asking ticket → answers asked ≡ reply_in (at old ticket)
-    → Moves.ClosePolls old new before after slot asked ticket site (close_next slot site facts (asked ∷ []) answers) m)
+    → ((stage : Stage) (slot ticket : ℕ) (asked : ℕ × Request) (held : FileAt) (site : Site) (facts : Facts) (answers : Answers)
+    → before.running ≡ running.Close stage → slot_at site slot ≡ slots.File held → stage ≡ Asking ticket → answers asked.0 ≡ reply_in (at old ticket)
+    → Moves.ClosePolls old new before after slot asked.0 ticket site (close_next slot site facts (asked ∷ []) answers) m)
     → Moves.Moves s past lane old new before after m
 close_polled s past lane old new before after m stage run l t is polls =
     let x : CloseTied s past lane stage = tied_running s past lane before.slots.items before.running (running.Close stage) is l.runs in
     close_polled_by s past lane old new before after stage m run t is x
-    (polls stage x.slot x.asks.place x.ticket x.file (site_of s past lane) s.facts (answer past) is x.held x.is
+    (polls stage x.slot x.ticket (asked_of x.asks) x.file (site_of s past lane) s.facts (answer past) is x.held x.is
     (reply_is s past lane x.ticket (request.Close x.handle) (at old) t x.asks))

@@ -166,7 +166,7 @@ told s r offered goes =
 
 held_fresh : (s : Setting) (past : List Entry) (lane : ℕ) → IsIdle s past → held_site s past lane ≡ fresh_site
 held_fresh s past lane idle =
-    ap (λ places. held_by (current s past lane) places (site_of s past lane)) (idle.own lane (ended past lane)) ∙ held_idle (current s past lane) (site_of s past lane) ∙ idle.site lane
+    ap (λ requests. held_by (current s past lane) requests (site_of s past lane)) (idle.own lane (ended past lane)) ∙ held_idle (current s past lane) (site_of s past lane) ∙ idle.site lane
 
 lane_fresh : (s : Setting) (past : List Entry) (lane : ℕ) (state : LaneState) → IsIdle s past → IsFreshState state → LaneTied s past lane state
 lane_fresh s past lane state idle f =

@@ -1,10 +1,12 @@
--- A grant that a lane's slots have is one that a call of this lane asked for, and of no other lane.
-use Rattle.std.proofs.Common.{◌≡◌, ◌≢◌, ◌<◌, ◌+◌, ◌==◌, ℕ, Bool, true, false, List, Option, Some, None, refl, ap, sym, ◌∙◌, subst, arith, inl, inr}
-use Rattle.std.specs.Prelude.{◌&&◌, slice_index_or}
+-- What a call asked for, and that a grant that a lane's slots have is one that a call of this lane asked for, and of
+-- no other lane.
+use Rattle.std.proofs.Common.{◌≡◌, ◌≢◌, ◌<◌, ◌+◌, ◌==◌, ℕ, Bool, true, false, List, [], ◌∷◌, Option, Some, None, refl, ap, sym, ◌∙◌, subst, arith, inl, inr}
+use Rattle.std.specs.Prelude.{◌&&◌, ◌||◌, slice_index_or}
 use Rattle.std.proofs.lemmas.Bool.Decides.{eqb_tells, nat_tests}
 use Rattle.std.proofs.lemmas.Bool.{ne_eqb}
 use Rattle.sftp_model.specs.Answers.{expected_of}
 use Rattle.sftp_model.specs.declared.reply.Reply.TheVariants as reply
+use Rattle.sftp_model.specs.declared.request.Request.{Request}
 use Rattle.sftp_model.specs.declared.slot.Slot.{Slot}
 use Rattle.sftp_model.specs.declared.slot.Slot.TheVariants as slots
 use Rattle.sftp_model.specs.Slots.{slot_at, slot_has, has_grant}
@@ -14,15 +16,34 @@ use Rattle.sftp_file.specs.Files.{FileValue, file_at}
 use Rattle.sftp_history.specs.declared.event.Owner.{Owner}
 use Rattle.sftp_history.specs.declared.event.Owner.TheVariants as owner
 use Rattle.sftp_history.specs.declared.entry.Entry.{Entry}
-use Rattle.sftp_history.specs.Readings.{Asked, asked_at, is_by, ended}
+use Rattle.sftp_calls.specs.Moves.{Own}
+use Rattle.sftp_history.specs.Readings.{Asked, asked_at, is_by, ended, own}
 use Rattle.sftp_history.specs.Calls.{Setting, held_site}
 use Rattle.sftp_history.specs.Grants.{is_granted, is_grant, is_asked_by, is_unended_asker}
 use Rattle.sftp_history.specs.Ids.{Replied, id_state, Reads}
+use Rattle.sftp_history.proofs.CallLaws.{has_place, asker_owns}
 use Rattle.sftp_history.proofs.IdLaws.{reads}
 use Rattle.sftp_lanes.specs.declared.lane.LaneState.{LaneState}
 use Rattle.sftp_lanes.specs.Tables.{is_live, users_in, users_of, replied, stand, slots_of, Tabled}
 use Rattle.sftp_lanes.specs.Tied.{IsOwned, SlotTied, LaneTied}
 use Rattle.sftp_lanes.proofs.Users.{used_slot}
+
+-- ---- a call's own requests
+
+-- a call that has made no request asked for nothing
+pub none_asks : (past : List Entry) (lane call place : ℕ) → own past lane call ≡ [] → is_asked_by (asked_at past place) lane call ≡ true → ⊥
+none_asks past lane call place none h =
+    let at_none : has_place [] place ≡ true = ap (λ (requests : Own). has_place requests place) (sym none) ∙ asker_owns past lane call place h in cc
+
+-- one that has made one request asked for that
+pub one_asks : (past : List Entry) (lane call place p : ℕ) (r : Request) → own past lane call ≡ (p, r) ∷ [] → is_asked_by (asked_at past place) lane call ≡ true → p ≡ place
+one_asks past lane call place p r one h = alike (p == place) refl (ap (λ (requests : Own). has_place requests place) (sym one) ∙ asker_owns past lane call place h)
+  where
+    alike : (x : Bool) → (p == place) ≡ x → (x || false) ≡ true → p ≡ place
+    alike true e h = grind (arith, nat_tests)
+    alike false e h = absurd cc
+
+-- ---- grants
 
 -- a call of the lane that has ended asked for what is at this place
 pub record AskedFor (past : List Entry) (lane place : ℕ) : Type 0 where

@@ -30,7 +30,7 @@ use Rattle.sftp_history.proofs.GrantLaws.{any_passes}
 use Rattle.std.proofs.lemmas.Option.{slice_get_within}
 use Rattle.sftp_model.specs.declared.answers.Expected.TheVariants as expected
 use Rattle.sftp_model.specs.declared.request.Request.TheVariants as request
-use Rattle.sftp_model.specs.Plans.{handle_of}
+use Rattle.sftp_calls.specs.Moves.{handle_of}
 use Rattle.sftp_core.proofs.Elsewhere.{put_here, put_elsewhere, submit_elsewhere}
 use Rattle.sftp_history.specs.Journals.{MustClose, close_of}
 use Rattle.sftp_history.specs.Turns.{ClosesTo}

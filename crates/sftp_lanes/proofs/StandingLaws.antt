@@ -1,7 +1,6 @@
 -- What stands under each id as a journal goes on.
 use Rattle.std.proofs.Common.{◌≡◌, ◌≢◌, ◌+◌, ◌==◌, ℕ, Bool, true, false, List, [], ◌∷◌, Option, Some, refl, ap, sym, ◌∙◌, subst, arith, inl, inr}
-use Rattle.std.specs.Prelude.{◌||◌, ◌&&◌}
-use Rattle.std.specs.List.{list_any}
+use Rattle.std.specs.Prelude.{◌&&◌}
 use Rattle.std.specs.Option.{option_map}
 use Rattle.std.proofs.lemmas.Bool.Decides.{eqb_tells, nat_tests}
 use Rattle.sftp_model.specs.Answers.{expected_of}
@@ -25,9 +24,10 @@ use Rattle.sftp_history.specs.Journals.{IsJournal}
 use Rattle.sftp_history.specs.Ids.{IdState, Free, Pending, Replied, id_state, now_sent, now_replied, Reads}
 use Rattle.sftp_history.proofs.IdLaws.{reads}
 use Rattle.sftp_history.proofs.RequestLaws.{bearer_one}
-use Rattle.sftp_history.proofs.CallLaws.{asker_owns, own_fresh}
+use Rattle.sftp_history.proofs.CallLaws.{own_fresh}
 use Rattle.sftp_lanes.specs.Tables.{is_live, users_in, users_of, replied, stand, slots_of, Tabled}
 use Rattle.sftp_lanes.specs.Tied.{IsBorne}
+use Rattle.sftp_lanes.proofs.OwnLaws.{none_asks, one_asks}
 
 -- ---- a hand-out
 
@@ -144,25 +144,20 @@ false_by : (b : Bool) → (b ≡ true → ⊥) → b ≡ false
 false_by true h = absurd (h refl)
 false_by false h = refl
 
-owned_place : (past : List Entry) (i q lane call : ℕ) (a : Asked) → IsBorne (id_state past i) q a → is_by a.by lane call ≡ true → list_any (λ p. p == q) (own past lane call) ≡ true
-owned_place past i q lane call a borne mine =
-    asker_owns past lane call q (ap (λ x. is_asked_by x lane call) (asked_there past i q a borne).1 ∙ mine)
+borne_asked : (past : List Entry) (i q lane call : ℕ) (a : Asked) → IsBorne (id_state past i) q a → is_by a.by lane call ≡ true → is_asked_by (asked_at past q) lane call ≡ true
+borne_asked past i q lane call a borne mine = ap (λ x. is_asked_by x lane call) (asked_there past i q a borne).1 ∙ mine
 
 -- no request is of a call without requests
 pub none_by : (past : List Entry) (i q lane call : ℕ) (a : Asked) → own past lane call ≡ [] → IsBorne (id_state past i) q a → is_by a.by lane call ≡ false
 none_by past i q lane call a none borne =
-    false_by (is_by a.by lane call) (λ h. let at : list_any (λ p. p == q) [] ≡ true = ap (list_any (λ p. p == q)) (sym none) ∙ owned_place past i q lane call a borne h in cc)
+    false_by (is_by a.by lane call) (λ h. none_asks past lane call q none (borne_asked past i q lane call a borne h))
 
 -- and under another id there is none of a call whose one request is borne by an id
-pub none_other : (past : List Entry) (i t p q lane call : ℕ) (a b : Asked) → own past lane call ≡ p ∷ [] → IsBorne (id_state past t) p b → i ≢ t → IsBorne (id_state past i) q a → is_by a.by lane call ≡ false
+pub none_other : (past : List Entry) (i t p q lane call : ℕ) (a b : Asked) → own past lane call ≡ (p, b.request) ∷ [] → IsBorne (id_state past t) p b → i ≢ t → IsBorne (id_state past i) q a → is_by a.by lane call ≡ false
 none_other past i t p q lane call a b one there ne borne =
-    false_by (is_by a.by lane call) (λ h. let at : ((p == q) || false) ≡ true = ap (list_any (λ k. k == q)) (sym one) ∙ owned_place past i q lane call a borne h in
-    let same : p ≡ q = alike (p == q) refl at in
+    false_by (is_by a.by lane call) (λ h.
+    let same : p ≡ q = one_asks past lane call q p b.request one (borne_asked past i q lane call a borne h) in
     ne (bearer_one past i t p ((asked_there past i q a borne).0 ∙ ap (λ (n : ℕ). Some n) (sym same)) (asked_there past t p b there).0))
-  where
-    alike : (x : Bool) → (p == q) ≡ x → (x || false) ≡ true → p ≡ q
-    alike true e h = grind (arith, nat_tests)
-    alike false e h = absurd cc
 
 -- slots and slots that were emptied count alike for what an id's state says
 abbrev pub SameUsers : (ℕ → List Slot) → (ℕ → List Slot) → List Slot → List Slot → IdState → Type 0
@@ -197,7 +192,7 @@ end_tabled s past now lane left table run ids others mine free same t i =
 
 -- or one request, which bears this id
 pub end_tabled_one : (s : Setting) (past now : List Entry) (lane t p : ℕ) (b : Asked) (left : List Slot) (table new : ℕ → Option Place) → IsJournal s past → ((i : ℕ) → id_state now i ≡ id_state past i)
-    → ((w : ℕ) → lane ≢ w → ended now w ≡ ended past w) → ended now lane ≡ ended past lane + 1 → own past lane (ended past lane) ≡ p ∷ [] → IsBorne (id_state past t) p b
+    → ((w : ℕ) → lane ≢ w → ended now w ≡ ended past w) → ended now lane ≡ ended past lane + 1 → own past lane (ended past lane) ≡ (p, b.request) ∷ [] → IsBorne (id_state past t) p b
     → ((i : ℕ) → i ≢ t → SameUsers (slots_of s past) (slots_of s now) [] left (id_state past i))
     → ((i : ℕ) → i ≢ t → new i ≡ table i) → new t ≡ stand (ended now) (slots_of s now) left (id_state past t) → Tabled s past [] table → Tabled s now left new
 end_tabled_one s past now lane t p b left table new run ids others mine one borne same elsewhere here old i =

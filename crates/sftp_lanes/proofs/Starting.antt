@@ -12,7 +12,8 @@ use Rattle.sftp_model.specs.declared.slot.Facts.{Facts}
 use Rattle.sftp_model.specs.declared.slot.Move.{Move}
 use Rattle.sftp_model.specs.declared.slot.Move.TheVariants.{Ask, Wait, Done}
 use Rattle.sftp_model.specs.declared.slot.Site.{Site}
-use Rattle.sftp_model.specs.Plans.{Answers, refuses, is_too_long, open_request, open_next}
+use Rattle.sftp_calls.specs.Moves.{Answers, refuses, is_too_long}
+use Rattle.sftp_calls.specs.FilePlans.{open_request, open_next}
 use Rattle.sftp_core.specs.Core.{Core}
 use Rattle.sftp_file.specs.declared.stage.Stage.{Stage}
 use Rattle.sftp_file.specs.declared.stage.Stage.TheVariants.{Ended, Ready, Asked as Asking}

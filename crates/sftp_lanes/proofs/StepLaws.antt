@@ -12,11 +12,11 @@ use Rattle.sftp_model.specs.Answers.{expected_of, allows}
 use Rattle.sftp_history.specs.declared.event.Event.TheVariants.{Submit, End}
 use Rattle.sftp_history.specs.declared.entry.Entry.{Entry}
 use Rattle.sftp_history.specs.Readings.{asked, ended, own, answer, unanswered}
-use Rattle.sftp_history.specs.Calls.{Setting, current, site_of, held_site, move_of, added, move_at, has_waited, next}
+use Rattle.sftp_history.specs.Calls.{Setting, current, site_of, held_site, move_of, added, move_at, has_waited, next, planned}
 use Rattle.sftp_history.specs.Grants.{closes}
 use Rattle.sftp_history.specs.Ids.{Reads}
 use Rattle.sftp_history.proofs.IdLaws.{reads}
-use Rattle.sftp_history.specs.Journals.{IsNext, may_cancel, is_some_place}
+use Rattle.sftp_history.specs.Journals.{IsNext, may_cancel, is_some_asked}
 use Rattle.sftp_history.specs.Turns.{begun_with, begun_but, ClosesTo}
 use Rattle.sftp_history.proofs.CallLaws.{may_next, end_site}
 use Rattle.sftp_history.proofs.RunLaws.{begun_more, end_good}
@@ -58,13 +58,11 @@ use Rattle.sftp_lanes.proofs.Kept.{kept_allowed, holds_of}
 use Rattle.sftp_lanes.proofs.EndLaws.{ended_by}
 use Rattle.sftp_history.proofs.RequestLaws.{bearer_below}
 use Rattle.sftp_lanes.proofs.FactLaws.{move_waits}
-use Rattle.sftp_model.proofs.PlanLaws.{Waits, open_waits, read_waits, close_waits}
-use Rattle.sftp_model.specs.Plans.{Answers, WaitsForMissing}
-use Rattle.sftp_model.specs.declared.slot.Facts.{Facts}
-use Rattle.sftp_file.specs.OpenOptions.{flags_of}
+use Rattle.sftp_calls.proofs.CallLaws.{waits_missing as plan_waits}
+use Rattle.sftp_calls.specs.Moves.{Own}
+use Rattle.sftp_history.proofs.PlannedLaws.{planned_fits}
 use Rattle.sftp_history.specs.declared.event.Owner.TheVariants as owner
 use Rattle.sftp_history.specs.declared.entry.Entry.TheVariants as entry
-use Rattle.sftp_history.specs.declared.call.Call.TheVariants as call
 use Rattle.sftp_lanes.specs.declared.lane.Running.TheVariants as running
 use Rattle.sftp_model.specs.declared.reply.Reply.TheVariants as reply
 use Rattle.sftp_model.specs.declared.request.Request.TheVariants as request
@@ -80,11 +78,14 @@ pub record AtCall (s : Setting) (c : Contents) (lane : ℕ) (calls : Lane) (befo
   pub here : slice_get c.states lane ≡ Some before
   pub call_is : slice_get calls.calls before.ended ≡ Some current_call
 
+none_or_one : (requests : Own) (asked : ℕ × Request) → requests ≡ [] → requests ≡ asked ∷ [] → ⊥
+none_or_one requests asked none one = let clash : [] ≡ asked ∷ [] = sym none ∙ one in cc
+
 pub runs_idle : (s : Setting) (past : List Entry) (lane : ℕ) (files : List (Option FileValue)) (x : Running) → RunTied s past lane files x → own past lane (ended past lane) ≡ [] → x ≡ running.Idle
 runs_idle s past lane files running.Idle r none = refl
-runs_idle s past lane files (running.Open o) r none = absurd (let clash : [] ≡ r.asks.place ∷ [] = sym none ∙ r.asks.own in cc)
-runs_idle s past lane files (running.Read o) r none = absurd (let clash : [] ≡ r.asks.place ∷ [] = sym none ∙ r.asks.own in cc)
-runs_idle s past lane files (running.Close o) r none = absurd (let clash : [] ≡ r.asks.place ∷ [] = sym none ∙ r.asks.own in cc)
+runs_idle s past lane files (running.Open o) r none = absurd (none_or_one (own past lane (ended past lane)) _ none r.asks.own)
+runs_idle s past lane files (running.Read o) r none = absurd (none_or_one (own past lane (ended past lane)) _ none r.asks.own)
+runs_idle s past lane files (running.Close o) r none = absurd (none_or_one (own past lane (ended past lane)) _ none r.asks.own)
 
 below_get : {A : Type 0} (xs : List A) (k : ℕ) (x : A) → slice_get xs k ≡ Some x → k < length xs
 below_get xs k x is = slice_get_within xs k x is
@@ -114,22 +115,17 @@ waits_place s past lane files (running.Close o) r run = (r.ticket, (_, r.asks))
 asked_cancels : (s : Setting) (c : Contents) (lane : ℕ) (before : LaneState) → Works s c → slice_get c.states lane ≡ Some before → is_running before.running ≡ true → may_cancel s c.past lane ≡ true
 asked_cancels s c lane before w here run =
     let a = waits_place s c.past lane before.slots.items before.running (w.tied.rest.each lane before here).runs run in
-    ap (λ places. is_some_place places || has_waited s c.past lane) a.1.1.own
-
-next_waits : (d : Call) (site : Site) (facts : Facts) (places : List ℕ) (answers : Answers) → Waits answers (next d site facts places answers)
-next_waits (call.OpenFile slot options path) site facts places answers = open_waits slot (flags_of options) path site facts places answers
-next_waits (call.Read slot n) site facts places answers = read_waits slot n site facts places answers
-next_waits (call.Close slot) site facts places answers = close_waits slot site facts places answers
+    ap (λ requests. is_some_asked requests || has_waited s c.past lane) a.1.1.own
 
 -- the reply that a call waits for was not taken
-waits_missing : (s : Setting) (past : List Entry) (lane p place : ℕ) → own past lane (ended past lane) ≡ p ∷ [] → move_of s past lane ≡ Some (Wait place) → answer past p ≡ None
-waits_missing s past lane p place one move = ap (answer past) (move_waits s past lane p place one move) ∙ by_call (current s past lane) move
+waits_missing : (s : Setting) (past : List Entry) (lane p place : ℕ) (r : Request) → own past lane (ended past lane) ≡ (p, r) ∷ [] → move_of s past lane ≡ Some (Wait place) → answer past p ≡ None
+waits_missing s past lane p place r one move = ap (answer past) (move_waits s past lane p place r one move) ∙ by_call (current s past lane) move
   where
     by_call : (d : Option Call) → move_at d (site_of s past lane) s.facts (own past lane (ended past lane)) (answer past) ≡ Some (Wait place) → answer past place ≡ None
     by_call None h = absurd cc
     by_call (Some d) h =
         let same : next d (site_of s past lane) s.facts (own past lane (ended past lane)) (answer past) ≡ Wait place = cc in
-        subst (WaitsForMissing (answer past)) same (next_waits d (site_of s past lane) s.facts (own past lane (ended past lane)) (answer past)).for_missing
+        plan_waits (planned d) (site_of s past lane) s.facts (own past lane (ended past lane)) (answer past) place (planned_fits d) same
 
 -- and waits for a reply
 waits_unanswered : (s : Setting) (c : Contents) (lane place : ℕ) (before : LaneState) → Works s c → slice_get c.states lane ≡ Some before → is_running before.running ≡ true → move_of s c.past lane ≡ Some (Wait place) → 0 < unanswered c.past
@@ -137,7 +133,7 @@ waits_unanswered s c lane place before w here run move =
     let a = waits_place s c.past lane before.slots.items before.running (w.tied.rest.each lane before here).runs run in
     let there = asked_there c.past a.0 a.1.1.place _ a.1.1.borne in
     let below : a.1.1.place < asked c.past = bearer_below c.past a.0 a.1.1.place there.0 in
-    some_unanswered c.past a.1.1.place below (waits_missing s c.past lane a.1.1.place place a.1.1.own move)
+    some_unanswered c.past a.1.1.place below (waits_missing s c.past lane a.1.1.place place a.1.0 a.1.1.own move)
 
 begun_runs : (s : Setting) (c : Contents) (lane : ℕ) (before : LaneState) → Works s c → slice_get c.states lane ≡ Some before → is_running before.running ≡ true → Works s (record c { begun = begun_with c.begun lane })
 begun_runs s c lane before w here run =

@@ -24,7 +24,9 @@ use Rattle.sftp_model.specs.declared.slot.Move.{Move}
 use Rattle.sftp_model.specs.declared.slot.Move.TheVariants.{Ask, Wait, Done}
 use Rattle.sftp_model.specs.declared.slot.Site.{Site}
 use Rattle.sftp_model.specs.declared.slot.Slot.TheVariants as slots
-use Rattle.sftp_model.specs.Plans.{Answers, handle_of, overflows, read_file_next, read_next, on_file, open_next}
+use Rattle.sftp_calls.specs.Moves.{Answers, handle_of, overflows, on_file}
+use Rattle.sftp_calls.specs.FilePlans.{open_next}
+use Rattle.sftp_calls.specs.TransferPlans.{read_first, read_next}
 use Rattle.sftp_model.specs.Slots.{fresh_site}
 use Rattle.sftp_core.specs.declared.place.Place.{Place}
 use Rattle.sftp_core.specs.declared.place.Place.TheVariants.{Waiting, Answered, Granted}
@@ -138,9 +140,9 @@ read_steady f n old new result starts =
     started_steady outcome.End old new (staged (λ (call : Reading). call.stage) result) (site_with f) (read_next 0 n (site_with f) (facts_of (read_len_of old)) [] (answers_of f))
     (starts 0 0 (site_with f) (facts_of (read_len_of old)) (answers_of f) (in_site f) refl)
 
-read_asks_by : (file : FileAt) (n slot : ℕ) (site : Site) (facts : Facts) (answers : Answers) (r : Request) → read_file_next slot n site facts [] answers file ≡ Ask r
+read_asks_by : (file : FileAt) (n : ℕ) (site : Site) (facts : Facts) (answers : Answers) (r : Request) → read_first file n site facts answers ≡ Ask r
     → r ≡ request.Read (handle_of (answers file.grant)) file.offset (min n facts.read_len)
-read_asks_by file n slot site facts answers r e = by_tests (n == 0) file.readable (overflows file.offset (min n facts.read_len)) e
+read_asks_by file n site facts answers r e = by_tests (n == 0) file.readable (overflows file.offset (min n facts.read_len)) e
   where
     by_tests : (a b c : Bool)
         → (if a then Done outcome.End site else if not b then Done (outcome.Refused (error.IOError kind.NotReadable)) site
@@ -155,7 +157,7 @@ read_asks_by file n slot site facts answers r e = by_tests (n == 0) file.readabl
 pub read_asks : (f : FileValue) (n slot place : ℕ) (site : Site) (facts : Facts) (answers : Answers) (r : Request) → IsInSlot f slot place site answers → read_next slot n site facts [] answers ≡ Ask r
     → r ≡ request.Read f.grant.handle f.offset (min n facts.read_len)
 read_asks f n slot place site facts answers r h e =
-    read_asks_by (file_at place f) n slot site facts answers r (sym (ap (λ x. on_file x site (read_file_next slot n site facts [] answers)) h.held) ∙ e)
+    read_asks_by (file_at place f) n site facts answers r (sym (ap (λ x. on_file x site (λ file. read_first file n site facts answers)) h.held) ∙ e)
     ∙ ap (λ handle. request.Read handle f.offset (min n facts.read_len)) h.handle
 
 -- its length is the one that is awaited

@@ -1,12 +1,12 @@
 -- What holds while the files of a lane are let go, slot after slot.
-use Rattle.std.specs.Prelude.{slice_index_or, length, drop, ◌≤◌, slice_get, ◌-◌, ◌≡◌, ◌<◌, ℕ, true, false, List, [], ◌∷◌, Option, Some, None, ◌==◌, ◌||◌, zero, suc}
+use Rattle.std.specs.Prelude.{slice_index_or, length, drop, ◌≤◌, slice_get, ◌≡◌, ◌<◌, ℕ, true, false, List, [], ◌∷◌, Option, Some, None, ◌==◌, ◌||◌, zero, suc}
 use Rattle.std.specs.List.{list_any}
 use Rattle.sftp_core.specs.Core.{Core, at}
 use Rattle.sftp_history.specs.declared.entry.Entry.{Entry}
 use Rattle.sftp_history.specs.declared.entry.Entry.TheVariants as entry
 use Rattle.sftp_history.specs.Readings.{ended, own, is_at}
 use Rattle.sftp_history.specs.Calls.{Setting, site_of, held_site}
-use Rattle.sftp_history.specs.Grants.{closed, holds, is_one_of, letting_go}
+use Rattle.sftp_history.specs.Grants.{closed, is_one_of, letting_go}
 use Rattle.sftp_history.specs.Journals.{IsJournal}
 use Rattle.sftp_lanes.specs.declared.lane.LaneState.{LaneState}
 use Rattle.sftp_lanes.specs.Tied.{SlotTied, CoreTied, LaneTied, is_running, GoneOnly}

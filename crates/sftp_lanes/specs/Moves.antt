@@ -12,7 +12,7 @@ use Rattle.sftp_model.specs.declared.slot.Move.{Move}
 use Rattle.sftp_model.specs.declared.slot.Move.TheVariants.{Ask, Wait, Done}
 use Rattle.sftp_model.specs.declared.slot.Site.{Site}
 use Rattle.sftp_model.specs.declared.slot.Slot.TheVariants as slots
-use Rattle.sftp_model.specs.Plans.{Answers}
+use Rattle.sftp_calls.specs.Moves.{Answers, Own}
 use Rattle.sftp_model.specs.Slots.{slot_at, with_slot}
 use Rattle.sftp_core.specs.Core.{Core, at, queued_last, users_of, reply_in, IsGrant}
 use Rattle.sftp_core.specs.Table.{brings}
@@ -75,7 +75,7 @@ pub record AsksFresh (s : Setting) (past : List Entry) (lane : ℕ) (old new : C
   pub no_close : is_close r ≡ false
   pub slots : after.slots.items ≡ before.slots.items
   pub runs_now : is_running after.running ≡ true
-  pub keeps_slots : (places : List ℕ) → held_by (current s past lane) places (site_of s past lane) ≡ site_of s past lane
+  pub keeps_slots : (requests : Own) → held_by (current s past lane) requests (site_of s past lane) ≡ site_of s past lane
   pub runs : (now : List Entry) → current s now lane ≡ current s past lane → Asks now lane id r → RunTied s now lane after.slots.items after.running
 
 -- The CLOSE of the file in a slot, whose last user it was, under the id of its grant: the slot is emptied.

@@ -17,8 +17,6 @@ use Rattle.sftp_lanes.specs.declared.lane.Moved.{Moved}
 use Rattle.sftp_lanes.specs.declared.lane.Moved.TheVariants as moved
 use Rattle.sftp_lanes.specs.Counted.{let_go}
 use Rattle.sftp_lanes.specs.Working.{Contents}
-use Rattle.sftp_history.specs.Readings.{ended}
-use Rattle.sftp_history.specs.Grants.{holds}
 
 -- the call of a lane by its number, where there is one
 abbrev pub call_by : Option Lane → Option LaneState → Option Call

@@ -6,7 +6,7 @@ use Rattle.sftp_model.specs.declared.reply.Reply.TheVariants as reply
 use Rattle.sftp_model.specs.declared.slot.FileAt.{FileAt}
 use Rattle.sftp_model.specs.declared.slot.Slot.{Slot}
 use Rattle.sftp_model.specs.declared.slot.Slot.TheVariants as slots
-use Rattle.sftp_model.specs.Plans.{open_request}
+use Rattle.sftp_calls.specs.FilePlans.{open_request}
 use Rattle.sftp_model.specs.Readings.{has_bit}
 use Rattle.sftp_model.specs.Slots.{slot_at}
 use Rattle.sftp_core.specs.Core.{Core}
@@ -56,7 +56,7 @@ IsBorne (Replied p b r) place a = (p ≡ place) × (b ≡ a)
 -- the lane's current call has made one request, under this id
 pub record Asks (past : List Entry) (lane id : ℕ) (r : Request) : Type 0 where
   pub place : ℕ
-  pub own : own past lane (ended past lane) ≡ place ∷ []
+  pub own : own past lane (ended past lane) ≡ (place, r) ∷ []
   pub borne : IsBorne (id_state past id) place (record { by = owner.Call lane (ended past lane); id = id; request = r })
 
 -- an open awaits its reply

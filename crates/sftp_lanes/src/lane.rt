@@ -7,12 +7,15 @@ ghost use Rattle.sftp_file.specs.Polls.{Opening, Reading};
 ghost use Rattle.sftp_file.specs.Starts.{read_len_of};
 ghost use Rattle.sftp_file.specs.declared.stage.Stage.{Stage};
 ghost use Rattle.sftp_file.specs.declared.stage.Stage.TheVariants.{Asked};
-ghost use Rattle.sftp_model.specs.Plans.{Answers, open_next, read_next, close_next};
+ghost use Rattle.sftp_calls.specs.FilePlans.{open_next, close_next};
+ghost use Rattle.sftp_calls.specs.Moves.{Answers};
+ghost use Rattle.sftp_calls.specs.TransferPlans.{read_next};
 ghost use Rattle.sftp_model.specs.Readings.{has_bit};
 ghost use Rattle.sftp_model.specs.Slots.{slot_at, with_slot, has_grant};
 ghost use Rattle.sftp_model.specs.declared.error.Error.TheVariants as errors;
 ghost use Rattle.sftp_model.specs.declared.flags.OpenFlags.{OpenFlags};
 ghost use Rattle.sftp_model.specs.declared.outcome.Outcome.TheVariants as outcome;
+ghost use Rattle.sftp_model.specs.declared.request.Request.{Request as RequestValue};
 ghost use Rattle.sftp_model.specs.declared.slot.Facts.{Facts};
 ghost use Rattle.sftp_model.specs.declared.slot.FileAt.{FileAt};
 ghost use Rattle.sftp_model.specs.declared.slot.Site.{Site};
@@ -293,11 +296,11 @@ impl LaneState {
         requires awaited { MayPollOpen core.old self.old.running }
         requires within { slot < length self.old.slots.items }
         requires unfailed { core.old.fault ≡ None }
-        ensures polls { (o : Opening) (asked ticket : ℕ) (flags : OpenFlags) (path : List ℕ) (site : Site)
-            (facts : Facts) (answers : Answers)
+        ensures polls { (o : Opening) (ticket : ℕ) (asked : ℕ × RequestValue) (flags : OpenFlags) (path : List ℕ)
+            (site : Site) (facts : Facts) (answers : Answers)
             → self.old.running ≡ Running.Open o → o.readable ≡ has_bit flags.0 1 → o.writable ≡ has_bit flags.0 2
-            → o.stage ≡ Asked ticket → answers asked ≡ reply_in (at core.old ticket)
-            → OpenPolls core.old core.new self.old self.new slot asked ticket site
+            → o.stage ≡ Asked ticket → answers asked.0 ≡ reply_in (at core.old ticket)
+            → OpenPolls core.old core.new self.old self.new slot asked.0 ticket site
             (open_next slot flags path site facts (asked ∷ []) answers) result }
         ensures steady { IsSteadyCore core.old core.new }
     {
@@ -328,12 +331,12 @@ impl LaneState {
         requires awaited { MayPollRead core.old (file_in self.old slot) self.old.running }
         requires within { slot < length self.old.slots.items }
         requires unfailed { core.old.fault ≡ None }
-        ensures polls { (r : Reading) (f : FileValue) (place asked n ticket : ℕ) (site : Site) (facts : Facts)
-            (answers : Answers)
+        ensures polls { (r : Reading) (f : FileValue) (place n ticket : ℕ) (asked : ℕ × RequestValue) (site : Site)
+            (facts : Facts) (answers : Answers)
             → self.old.running ≡ Running.Read r → file_in self.old slot ≡ Some f
             → slot_at site slot ≡ slots.File (file_at place f) → r.stage ≡ Asked ticket
-            → answers asked ≡ reply_in (at core.old ticket)
-            → IfOk result (λ m. ReadPolls core.old core.new self.old self.new slot place asked ticket f site
+            → answers asked.0 ≡ reply_in (at core.old ticket)
+            → IfOk result (λ m. ReadPolls core.old core.new self.old self.new slot place asked.0 ticket f site
             (read_next slot n site facts (asked ∷ []) answers) m) }
         ensures steady { IsSteadyCore core.old core.new }
     {
@@ -359,11 +362,11 @@ impl LaneState {
     fn poll_close(&mut self, core: &mut Core) -> Moved
         requires awaited { MayPollClose core.old self.old.running }
         requires unfailed { core.old.fault ≡ None }
-        ensures polls { (stage : Stage) (slot asked ticket : ℕ) (held : FileAt) (site : Site) (facts : Facts)
-            (answers : Answers)
+        ensures polls { (stage : Stage) (slot ticket : ℕ) (asked : ℕ × RequestValue) (held : FileAt) (site : Site)
+            (facts : Facts) (answers : Answers)
             → self.old.running ≡ Running.Close stage → slot_at site slot ≡ slots.File held → stage ≡ Asked ticket
-            → answers asked ≡ reply_in (at core.old ticket)
-            → ClosePolls core.old core.new self.old self.new slot asked ticket site
+            → answers asked.0 ≡ reply_in (at core.old ticket)
+            → ClosePolls core.old core.new self.old self.new slot asked.0 ticket site
             (close_next slot site facts (asked ∷ []) answers) result }
         ensures steady { IsSteadyCore core.old core.new }
     {

@@ -1,5 +1,5 @@
 use Rattle.std.proofs.Common.{true, Ok, Err, refl, ap, sym, ◌∙◌, rules, ◌≡◌}
-use Rattle.sftp_model.specs.Plans.{open_request}
+use Rattle.sftp_calls.specs.FilePlans.{open_request}
 use Rattle.sftp_model.specs.declared.slot.Move.TheVariants.{Ask, Done}
 use Rattle.sftp_model.specs.declared.request.Request.{Request}
 use Rattle.sftp_model.specs.declared.request.Request.TheVariants as request

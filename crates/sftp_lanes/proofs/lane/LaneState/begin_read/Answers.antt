@@ -6,7 +6,8 @@ use Rattle.sftp_model.specs.declared.request.Request.{Request}
 use Rattle.sftp_model.specs.declared.request.Request.TheVariants as request
 use Rattle.sftp_model.specs.declared.slot.Move.TheVariants.{Ask, Done}
 use Rattle.sftp_model.specs.declared.slot.Slot.TheVariants as slots
-use Rattle.sftp_model.specs.Plans.{on_file, read_file_next}
+use Rattle.sftp_calls.specs.Moves.{on_file, by_reply}
+use Rattle.sftp_calls.specs.TransferPlans.{read_first, was_read}
 use Rattle.sftp_model.specs.Slots.{slot_at}
 use Rattle.sftp_core.specs.Core.{queued_last}
 use Rattle.sftp_file.specs.declared.stage.Stage.{Stage}
@@ -25,7 +26,7 @@ returns-in_default-index_mut-clause-begins c =
     λ place site facts answers has len.
     (let none : file_in c.args.self.now c.args.slot ≡ None = in_slot _ _ _ _ c.requires.within c.index_mut.ensures.value c.in_default-index_mut.is in
     let empty : slot_at site c.args.slot ≡ slots.Empty = subst (λ (o : Option FileValue). HasAt o c.args.slot place site answers) none has in (
-      ap (λ x. on_file x site (read_file_next c.args.slot c.args.n site facts [] answers)) empty,
+      ap (λ x. on_file x site (λ file. by_reply (read_first file c.args.n site facts answers) (was_read c.args.slot file site) [] answers)) empty,
       record {
         core = refl;
         state = (λ i. record c.args.self.now { slots = item_stays c.args.self.now.slots c.args.slot c.index_mut.result.now _ c.index_mut.ensures.value i });

@@ -14,11 +14,11 @@ use Rattle.sftp_lanes.proofs.lane.LaneState.poll_read.Goals as goal
 
 pub returns-in-Pending-clause-polls : goal.returns-in-Pending-clause-polls
 returns-in-Pending-clause-polls c =
-    λ r f place asked n ticket site facts answers is held at_slot stage answer.
+    λ r f place n ticket asked site facts answers is held at_slot stage answer.
     (let there : file_in c.args.self.now c.args.slot ≡ Some c.in-Some.file = in_slot _ _ _ _ c.requires.within c.index_mut.ensures.value c.in-Some.is in
     let same : f ≡ c.in-Some.file = same_value (sym held ∙ there) in
     let reading : r ≡ c.in-Read.call = same_reading (sym is ∙ c.in-Read.is) in
-    let plan = c.in-Pending.ensures.planned c.args.slot place asked n ticket site facts answers
+    let plan = c.in-Pending.ensures.planned c.args.slot place n ticket asked site facts answers
     (at_slot ∙ ap (λ (x : FileValue). slots.File (file_at place x)) same) (sym (ap (λ (x : Reading). x.stage) reading) ∙ stage) answer in
     let still : c.poll.new.file ≡ c.in-Some.file = c.poll.ensures.file ∙ still_file c.args.core.now c.in-Read.call.stage c.in-Some.file (sym c.in-Pending.is ∙ c.poll.ensures.answer) in
     record {
@@ -33,13 +33,13 @@ returns-in-Pending-clause-polls c =
 
 pub returns-in_ok-what_was_read-in-Ready-clause-polls : goal.returns-in_ok-what_was_read-in-Ready-clause-polls
 returns-in_ok-what_was_read-in-Ready-clause-polls c =
-    λ r f place asked n ticket site facts answers is held at_slot stage answer.
+    λ r f place n ticket asked site facts answers is held at_slot stage answer.
     (let there : file_in c.args.self.now c.args.slot ≡ Some c.in-Some.file = in_slot _ _ _ _ c.requires.within c.index_mut.ensures.value c.in-Some.is in
     let same : f ≡ c.in-Some.file = same_value (sym held ∙ there) in
     let reading : r ≡ c.in-Read.call = same_reading (sym is ∙ c.in-Read.is) in
     let at_stage : c.in-Read.call.stage ≡ Asking ticket = sym (ap (λ (x : Reading). x.stage) reading) ∙ stage in
-    let plan = c.in-Ready.ensures.planned c.args.slot place asked n ticket site facts answers (at_slot ∙ ap (λ (x : FileValue). slots.File (file_at place x)) same) at_stage answer in
-    let ends = planned_ends c.args.core.now.fault asked (read_ended c.args.slot place site c.poll.new.file) c.in-Ready.answer _ c.requires.unfailed plan in
+    let plan = c.in-Ready.ensures.planned c.args.slot place n ticket asked site facts answers (at_slot ∙ ap (λ (x : FileValue). slots.File (file_at place x)) same) at_stage answer in
+    let ends = planned_ends c.args.core.now.fault asked.0 (read_ended c.args.slot place site c.poll.new.file) c.in-Ready.answer _ c.requires.unfailed plan in
     let came = reply_came read_answer (reply_in (at c.args.core.now ticket)) c.args.core.now.fault c.in-Ready.answer c.requires.unfailed
     (sym c.in-Ready.is ∙ c.poll.ensures.answer ∙ ap (polled_answer None read_answer c.args.core.now) at_stage) in
     record {
