@@ -6,3 +6,4 @@ pub mod WaitingFrames
 pub mod Listing
 pub mod Places
 pub mod NameChanges
+pub mod MachineRows

@@ -4,6 +4,7 @@ ghost use Rattle.std.specs.Option.{option_copied};
 ghost use Rattle.sftp_tree.specs.declared.node.Node.TheVariants as node;
 ghost use Rattle.sftp_tree.specs.declared.opened.Opened.TheVariants as opened;
 ghost use Rattle.sftp_tree.specs.Components.{Name};
+ghost use Rattle.sftp_tree.specs.FitTrees.{GivesWithin};
 ghost use Rattle.sftp_tree.specs.HandleRequests.{refuses as refuses_by, after_open, after_close, after_read, after_write, offset_of as offset_by, writes as writes_by, after_fstat, resizes as resizes_by, sets_held, after_fsetstat, after_fsync, copied as copied_by, after_copy, held_by as held_of_flags, capped as capped_by};
 ghost use Rattle.sftp_tree.specs.FileTree.{node_at as node_by, opened_at as opened_by, file_of, bytes_of as bytes_by};
 ghost use Rattle.sftp_machine.specs.MachineState.{MachineState, Makes, numbered_handle as bytes_of_handle};
@@ -14,10 +15,10 @@ use crate::store::Store;
 use crate::tree_name::TreeName;
 use bytes::Bytes;
 use sftp_model::numbers::{
-    SSH_FX_EOF, SSH_FX_FAILURE, SSH_FX_NO_SUCH_FILE, SSH_FX_PERMISSION_DENIED, SSH_FXF_APPEND,
-    SSH_FXF_CREAT, SSH_FXF_EXCL, SSH_FXF_READ, SSH_FXF_TRUNC, SSH_FXF_WRITE,
+    MAX_TRANSFER_LEN, SSH_FX_EOF, SSH_FX_FAILURE, SSH_FX_NO_SUCH_FILE, SSH_FX_PERMISSION_DENIED,
+    SSH_FXF_APPEND, SSH_FXF_CREAT, SSH_FXF_EXCL, SSH_FXF_READ, SSH_FXF_TRUNC, SSH_FXF_WRITE,
 };
-use sftp_model::{Content, FileAttrs, Handle, Reply};
+use sftp_model::{Content, FileAttrs, Handle, Reply, Request};
 use sftp_tree::{Held, Node, Opened};
 use sftp_values::ByteText;
 use ssh_encoding::OutOfMemory;
@@ -264,4 +265,16 @@ pub(crate) fn capped(cap: u32, len: u32) -> u32
     ensures { result ≡ capped_by cap len }
 {
     if cap == 0 { len } else { cap.min(len) }
+}
+
+/// Whether a READ gives no more than one DATA can bring: it asks for at most `MAX_TRANSFER_LEN` bytes, or the cap, where
+/// it isn't 0, lets no more through. Any other request does.
+pub fn gives_within(request: &Request, cap: u32) -> bool
+    ensures holds { result ≡ true → GivesWithin cap request.now }
+    ensures fails { result ≡ false → GivesWithin cap request.now → ⊥ }
+{
+    match request {
+        Request::Read { len, .. } => capped(cap, *len) <= MAX_TRANSFER_LEN,
+        _ => true,
+    }
 }

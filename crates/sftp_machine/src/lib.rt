@@ -20,6 +20,7 @@ mod store;
 mod tree_name;
 
 pub use first_tree::may_begin;
+pub use handle_requests::gives_within;
 pub use laws::grants_are_new;
 pub use machine::Machine;
 pub use outbox::Outbox;

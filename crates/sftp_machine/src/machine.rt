@@ -75,7 +75,8 @@ impl Machine {
 
     /// Answers a request, which isn't the hello, by the definition: the reply, and what is left, where the handle that
     /// an OPEN or an OPENDIR is granted is the next number. Once all 4294967296 were granted, such a request is refused
-    /// with a STATUS of FAILURE and changes nothing. An Err comes only for want of memory, and all is as before.
+    /// with a STATUS of FAILURE and changes nothing. An Err comes only for want of memory, and all is as before. The
+    /// reply fits a frame where `gives_within` holds.
     pub fn apply(&mut self, request: &Request, choice: Choice) -> Result<Reply, OutOfMemory>
         requires after_hello { IsAfterHello request.now }
         ensures reply { IfOk result (λ r. r ≡ (answer_by self.old request.now choice).0) }

@@ -136,6 +136,35 @@ fn a_server_begins_with_short_names(rt: HostRuntime) -> Result<(), Fail> {
     Ok(())
 }
 
+// The names of the first file and of the first directory, and whether there are second ones.
+fn lists_in_order(machine: &Machine) -> bool {
+    let Some(file) = machine.file(0) else {
+        return false;
+    };
+    let Some(dir) = machine.dir(0) else {
+        return false;
+    };
+    file.0 == b"a.d/b".as_slice()
+        && file.1 == b"hello".as_slice()
+        && dir == b"a".as_slice()
+        && machine.file(1).is_none()
+        && machine.dir(2).is_none()
+}
+
+#[test]
+fn names_are_listed_in_order(rt: HostRuntime) -> Result<(), Fail> {
+    let alloc = rt.alloc();
+    let files = first_files(alloc, b"a.d/b")?;
+    let dirs = first_dirs(alloc, b"a.d")?;
+    if !may_begin(alloc, &files, &dirs)? {
+        return Ok(());
+    }
+    let mut machine = Machine::new_tree(alloc, &files, &dirs, config())?;
+    assert_eq!(rt; makes(&mut machine, alloc, b"a")?, Some(0));
+    assert!(rt; lists_in_order(&machine));
+    Ok(())
+}
+
 // What is given first and second of two frames that wait and one that comes at once.
 fn given(alloc: Global, outbox: &mut Outbox) -> Result<(u8, u8), OutOfMemory> {
     outbox.hold(bytes(alloc, b"1")?)?;

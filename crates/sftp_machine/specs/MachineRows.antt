@@ -1,0 +1,95 @@
+-- Worked examples of what a server in memory leaves and lists, and beside each what nearly is one.
+use Rattle.std.specs.Prelude.{ℕ, ◌≡◌, true, false, List, [], ◌∷◌, codes, Some, None, refl, replicate}
+use Rattle.sftp_model.specs.declared.request.Request.TheVariants as request
+use Rattle.sftp_model.specs.declared.reply.Reply.TheVariants as reply
+use Rattle.sftp_model.specs.Numbers.{SSH_FX_OK, SSH_FX_FAILURE}
+use Rattle.sftp_tree.specs.Components.{components}
+use Rattle.sftp_tree.specs.FileTree.{FileTree}
+use Rattle.sftp_tree.specs.HandleRequests.{status}
+use Rattle.sftp_tree.specs.RowWords.{config, choice, open_file, for_reading}
+use Rattle.sftp_tree.specs.declared.node.Node.TheVariants as node
+use Rattle.sftp_machine.specs.FirstTree.{first_tree, may_begin}
+use Rattle.sftp_machine.specs.Listing.{file_at, dir_at}
+use Rattle.sftp_machine.specs.MachineState.{MachineState, answer, numbered_handle}
+use Rattle.sftp_machine.specs.WaitingFrames.{WaitingFrames, turned}
+
+-- ---- handles
+
+pub first_handle : numbered_handle 0 ≡ 0 ∷ 0 ∷ 0 ∷ 0 ∷ []
+first_handle = refl
+
+pub big_handle : numbered_handle 258 ≡ 0 ∷ 0 ∷ 1 ∷ 2 ∷ []
+big_handle = refl
+
+-- the empty tree, of which so many handles were granted
+abbrev after_grants : ℕ → MachineState
+after_grants n = record { tree = first_tree [] []; config = config 0; grants = n }
+
+pub grants_last : (answer (after_grants 4294967295) (request.Opendir []) (choice 0 0)).0 ≡ reply.Handle (255 ∷ 255 ∷ 255 ∷ 255 ∷ [])
+unfolding components
+grants_last = refl
+
+pub grants_none : answer (after_grants 4294967296) (request.Opendir []) (choice 0 0) ≡ (status SSH_FX_FAILURE, after_grants 4294967296)
+unfolding components
+grants_none = refl
+
+-- a request that is granted no handle is answered as ever
+pub makes_directory : (answer (after_grants 4294967296) (request.Rmdir (codes "a")) (choice 0 0)).1 ≡ after_grants 4294967296
+unfolding components
+makes_directory = refl
+
+-- ---- the first tree, and what it lists
+
+abbrev example : FileTree
+example = first_tree ((codes "b/c", codes "x") ∷ (codes "/a", codes "yz") ∷ []) (codes "b" ∷ codes "a.d" ∷ [])
+
+pub numbers_files : example.names ≡ (codes "b" ∷ [], node.Directory) ∷ (codes "a.d" ∷ [], node.Directory) ∷ (codes "b" ∷ codes "c" ∷ [], node.File 0) ∷ (codes "a" ∷ [], node.File 1) ∷ []
+unfolding components
+numbers_files = refl
+
+pub lists_first_file : file_at example 0 ≡ Some (codes "a", codes "yz")
+unfolding components
+lists_first_file = refl
+
+pub lists_second_file : file_at example 1 ≡ Some (codes "b/c", codes "x")
+unfolding components
+lists_second_file = refl
+
+pub lists_no_third_file : file_at example 2 ≡ None
+unfolding components
+lists_no_third_file = refl
+
+pub lists_first_directory : dir_at example 0 ≡ Some (codes "a.d")
+unfolding components
+lists_first_directory = refl
+
+pub lists_no_third_directory : dir_at example 2 ≡ None
+unfolding components
+lists_no_third_directory = refl
+
+pub begins : may_begin ((codes "b/c", codes "x") ∷ []) (codes "b" ∷ []) ≡ true
+unfolding components
+begins = refl
+
+pub begins_with_long_name : may_begin [] (replicate 256 97 ∷ []) ≡ false
+unfolding components
+begins_with_long_name = refl
+
+-- ---- frames that wait
+
+abbrev waiting : List ℕ → List (List ℕ) → List ℕ → WaitingFrames
+waiting ready frames picks = record { ready = ready; waiting = frames; picks = picks }
+
+-- a pick is taken modulo the count of frames
+pub picks_second : turned (waiting [] (codes "1" ∷ codes "2" ∷ []) (3 ∷ 0 ∷ [])) ≡ waiting (codes "2") (codes "1" ∷ []) (0 ∷ [])
+picks_second = refl
+
+pub picks_first : turned (waiting [] (codes "1" ∷ codes "2" ∷ []) []) ≡ waiting (codes "1") (codes "2" ∷ []) []
+picks_first = refl
+
+-- no pick is used while a frame is being given, nor where none waits
+pub picks_later : turned (waiting (codes "0") (codes "1" ∷ []) (3 ∷ [])) ≡ waiting (codes "0") (codes "1" ∷ []) (3 ∷ [])
+picks_later = refl
+
+pub picks_nothing : turned (waiting [] [] (3 ∷ [])) ≡ waiting [] [] (3 ∷ [])
+picks_nothing = refl
