@@ -32,7 +32,7 @@ impl Machine {
         self.store.grant_count()
     }
 
-    /// What it offers.
+    /// What the server offers.
     pub fn config(&self) -> ServerConfig
         ensures { result ≡ self.now.config }
     {

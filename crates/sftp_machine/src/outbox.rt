@@ -7,7 +7,8 @@ use ssh_encoding::OutOfMemory;
 use std::alloc::Global;
 use std::marker::Model;
 
-/// The frame that is being given, and those that wait, in the order of their requests.
+/// Frames of replies: the rest of the one that is being given, and those that wait, in the order of their requests. The
+/// next pick n takes number n modulo their count; past the last pick it takes the first.
 #[derive(Drop)]
 pub struct Outbox {
     ready: Vec<u8>,
@@ -29,7 +30,7 @@ impl Model for Outbox {
 }
 
 impl Outbox {
-    /// Nothing waits.
+    /// Nothing waits, and these are the picks. Takes no memory.
     pub fn new(alloc: Global, picks: Items<u32>) -> Outbox
         ensures { result ≡ record { ready = []; waiting = []; picks = picks } }
     {
@@ -42,7 +43,8 @@ impl Outbox {
         }
     }
 
-    /// A frame is to be given at once. Or nothing is done.
+    /// A frame is to be given at once, behind the one that is being given. An Err comes only for want of memory, and
+    /// nothing is changed.
     pub fn say(&mut self, frame: &[u8]) -> Result<(), OutOfMemory>
         ensures said { OnOk result (self.new ≡ record {
           ready = self.old.ready ++ frame.now;
@@ -55,7 +57,7 @@ impl Outbox {
         Ok(())
     }
 
-    /// A frame waits until it is picked. Or nothing is done.
+    /// A frame waits until it is picked. An Err comes only for want of memory, and nothing is changed.
     pub fn hold(&mut self, frame: ByteText) -> Result<(), OutOfMemory>
         ensures held { OnOk result (self.new ≡ record {
           ready = self.old.ready;
@@ -82,7 +84,8 @@ impl Outbox {
         pick as usize % self.waiting.len()
     }
 
-    /// The bytes that are given next: the rest of a frame, or else the frame that is picked.
+    /// The bytes that are given next: the rest of a frame, or else the whole of the frame that is picked. They are none
+    /// where nothing waits.
     pub fn front(&self) -> &[u8]
         ensures { result.now ≡ (turned self.now).ready }
     {
@@ -95,7 +98,7 @@ impl Outbox {
         }
     }
 
-    /// So many of them were given.
+    /// So many of the bytes of `front` were given. A pick is used where a frame begins.
     pub fn give(&mut self, n: usize)
         requires { n ≤ length (turned self.old).ready }
         ensures { self.new ≡ record {
