@@ -2,11 +2,11 @@
 use Rattle.std.specs.Prelude.{ℕ, ◌≡◌, true, false, List, [], ◌∷◌, codes, Some, None, refl, replicate}
 use Rattle.sftp_model.specs.declared.request.Request.TheVariants as request
 use Rattle.sftp_model.specs.declared.reply.Reply.TheVariants as reply
-use Rattle.sftp_model.specs.Numbers.{SSH_FX_OK, SSH_FX_FAILURE}
+use Rattle.sftp_model.specs.Numbers.{SSH_FX_FAILURE}
 use Rattle.sftp_tree.specs.Components.{components}
 use Rattle.sftp_tree.specs.FileTree.{FileTree}
 use Rattle.sftp_tree.specs.HandleRequests.{status}
-use Rattle.sftp_tree.specs.RowWords.{config, choice, open_file, for_reading}
+use Rattle.sftp_tree.specs.RowWords.{config, choice}
 use Rattle.sftp_tree.specs.declared.node.Node.TheVariants as node
 use Rattle.sftp_machine.specs.FirstTree.{first_tree, may_begin}
 use Rattle.sftp_machine.specs.Listing.{file_at, dir_at}
@@ -34,9 +34,9 @@ unfolding components
 grants_none = refl
 
 -- a request that is granted no handle is answered as ever
-pub makes_directory : (answer (after_grants 4294967296) (request.Rmdir (codes "a")) (choice 0 0)).1 ≡ after_grants 4294967296
+pub refuses_as_ever : (answer (after_grants 4294967296) (request.Rmdir (codes "a")) (choice 0 0)).1 ≡ after_grants 4294967296
 unfolding components
-makes_directory = refl
+refuses_as_ever = refl
 
 -- ---- the first tree, and what it lists
 

@@ -1,4 +1,4 @@
-use Rattle.std.proofs.Common.{rules, ◌≡◌, ◌≤◌, ◌+◌, ◌-◌, ◌∷◌, ◌++◌, [], List, ℕ, length, take, get_or, map, Some, slice_get, ap, sym, ◌∙◌, vec_len, vec_capacity}
+use Rattle.std.proofs.Common.{rules, ◌≡◌, ◌≤◌, ◌+◌, ◌-◌, ◌∷◌, ◌++◌, [], List, length, take, get_or, map, Some, slice_get, ap, sym, ◌∙◌, vec_len, vec_capacity}
 use Rattle.std.specs.List.{insert}
 use Rattle.std.proofs.lemmas.List.{append_assoc}
 use Rattle.sftp_tree.specs.Components.{Name, written}
