@@ -53,10 +53,12 @@ WritesTo tree (request.Fsetstat handle attrs) file = IsOpenOn tree handle file
 WritesTo tree (request.CopyData from from_offset len to to_offset) file = IsOpenOn tree to file
 WritesTo tree other file = ⊥
 
+-- the request closes the handle
 abbrev pub Closes : Request → List ℕ → Type 0
 Closes (request.Close handle) h = handle ≡ h
 Closes other h = ⊥
 
+-- the request takes further entries of the handle
 abbrev pub Lists : Request → List ℕ → Type 0
 Lists (request.Readdir handle) h = handle ≡ h
 Lists other h = ⊥
@@ -137,7 +139,7 @@ MayLead tree r (RemovedFile name file) = Denotes r name
 MayLead tree r (Renamed old to) = Moves r old to
 MayLead tree r (Replaced old to gone) = Moves r old to
 
--- ---- what was looked at before a change
+-- ---- conditions of changes
 
 -- a new name's parent is a directory, and its last component isn't long
 abbrev pub MayStand : FileTree → Name → Type 0
@@ -148,6 +150,7 @@ abbrev pub HasEntries : FileTree → Opened → Type 0
 HasEntries tree (opened.File held) = Unit {0}
 HasEntries tree (opened.Directory entries) = (name : Name) × (entries ≡ entries_at tree name)
 
+-- what was looked at before a change
 abbrev pub WasChecked : FileTree → Change → Type 0
 WasChecked tree (Rewritten file bytes) = length bytes ≤ MAX_FILE_LEN
 WasChecked tree (Granted o) = HasEntries tree o

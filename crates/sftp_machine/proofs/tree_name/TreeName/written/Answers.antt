@@ -1,4 +1,4 @@
-use Rattle.std.proofs.Common.{rules, ◌≡◌, ◌-◌, ◌<◌, length}
+use Rattle.std.proofs.Common.{rules, ◌≡◌, ◌<◌, length}
 use Rattle.std.specs.Prelude.{flat_map}
 use Rattle.sftp_machine.specs.Names.{slashed}
 use Rattle.sftp_machine.proofs.PathLaws.{written_none, written_rest}
