@@ -1,5 +1,8 @@
+mod BufferSets
 mod Fewer
+mod Flushes
 mod Going
 mod Keeping
 mod Leaving
+mod LeftLaws
 mod SlotSets

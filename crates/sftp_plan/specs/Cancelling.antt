@@ -3,7 +3,10 @@ use Rattle.std.specs.Prelude.{ℕ, ◌≡◌, List, ◌∷◌, Option, Some, Non
 use Rattle.sftp_model.specs.declared.reply.Reply.{Reply}
 use Rattle.sftp_model.specs.declared.slot.Facts.{Facts}
 use Rattle.sftp_model.specs.declared.slot.Site.{Site}
-use Rattle.sftp_calls.specs.Moves.{Answers, Own}
+use Rattle.sftp_model.specs.Slots.{slot_at}
+use Rattle.sftp_calls.specs.Moves.{Answers, Own, left_on_buffered}
+use Rattle.sftp_calls.specs.BufferPlans.{cancelled_buf_flush}
+use Rattle.sftp_plan.specs.Buffers.{left_flushed}
 use Rattle.sftp_calls.specs.TransferPlans.{cancelled_transfer}
 use Rattle.sftp_calls.specs.CallPlans.{Call, cancelled}
 use Rattle.sftp_plan.specs.declared.next.Asked.TheVariants as asked
@@ -33,11 +36,14 @@ left_behind (running.Writing place slot file done) bytes site facts later answer
 left_behind (running.OpeningToWrite place) bytes site facts later answers = site
 left_behind (running.OpeningDirectory place bound) bytes site facts later answers = site
 left_behind (running.Listing place grant got bound) bytes site facts later answers = site
+left_behind (running.Flushing slot) bytes site facts later answers = cancelled_buf_flush slot site facts later answers
 left_behind (running.Copying place from to source target len) bytes site facts later answers = site
 
 -- what a call leaves that is cancelled after the reply that it awaited
 abbrev pub left_after : Running → List ℕ → Site → Facts → Option Reply → Leaving
-left_after running bytes site facts r later answers = left_behind running bytes site facts later answers
+left_after (running.Flushing slot) bytes site facts (Some r) later answers =
+    left_on_buffered (slot_at site slot) site (λ file buffer. left_flushed slot file buffer site buffer.deferred r answers)
+left_after other bytes site facts r later answers = left_behind other bytes site facts later answers
 
 -- what a cancelled call leaves where a machine has come so far
 abbrev pub Leaves : Leaving → ℕ → List ℕ → Site → Facts → Next → Type 0

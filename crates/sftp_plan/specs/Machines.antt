@@ -12,18 +12,19 @@ use Rattle.sftp_model.specs.declared.error.IoKind.TheVariants as kind
 use Rattle.sftp_model.specs.declared.slot.Facts.{Facts}
 use Rattle.sftp_model.specs.declared.slot.FileAt.{FileAt}
 use Rattle.sftp_model.specs.declared.slot.Slot.TheVariants.{File}
-use Rattle.sftp_model.specs.Slots.{with_slot}
+use Rattle.sftp_model.specs.Slots.{slot_at, with_slot}
 use Rattle.sftp_model.specs.declared.slot.Site.{Site}
 use Rattle.sftp_model.specs.declared.slot.Move.{Move}
 use Rattle.sftp_model.specs.declared.slot.Move.TheVariants.{Ask, Wait, Done}
 use Rattle.sftp_model.specs.Numbers.{SSH_FX_OK}
-use Rattle.sftp_calls.specs.Moves.{Answers, Own, Plan, once_answered, handle_of, done_by, told_by, on_content, on_handle, on_status, further, refuses}
+use Rattle.sftp_calls.specs.Moves.{Answers, Own, Plan, once_answered, handle_of, done_by, told_by, on_buffered, on_content, on_handle, on_status, further, refuses}
 use Rattle.sftp_calls.specs.PathPlans.{named_by}
 use Rattle.sftp_calls.specs.FilePlans.{opened, opened_file, copied}
 use Rattle.sftp_calls.specs.TransferPlans.{Keeping, in_slot, joined_parts, missing_next, part_len, rest_next, was_read, was_written}
 use Rattle.sftp_calls.specs.WholePlans.{entries_next, nowhere, on_names, to_replace}
 use Rattle.sftp_calls.specs.CallPlans as call
 use Rattle.sftp_calls.specs.CallPlans.{Call, next}
+use Rattle.sftp_plan.specs.Buffers.{flushed_after, oldest_in}
 use Rattle.sftp_plan.specs.declared.next.Asked.{Asked}
 use Rattle.sftp_plan.specs.declared.next.Asked.TheVariants as asked
 use Rattle.sftp_plan.specs.declared.next.EndsBy.{EndsBy}
@@ -61,6 +62,7 @@ awaited (running.Writing place slot file done) site = Some place
 awaited (running.OpeningToWrite place) site = Some place
 awaited (running.OpeningDirectory place bound) site = Some place
 awaited (running.Listing place grant got bound) site = Some place
+awaited (running.Flushing slot) site = oldest_in (slot_at site slot)
 awaited (running.Copying place from to source target len) site = Some place
 
 -- what a reply makes of a call that it ends
@@ -104,6 +106,8 @@ after (running.OpeningDirectory place bound) bytes site facts r later answers =
     with_reply site r (λ y. on_handle y site (λ handle. entries_next (handle_of (answers place)) [] bound site later answers))
 after (running.Listing place grant got bound) bytes site facts r later answers =
     with_reply site r (λ y. on_names y site (Done (outcome.Names got) site) (λ entries. entries_next (handle_of (answers grant)) (got ++ entries) (bound - 1) site later answers))
+after (running.Flushing slot) bytes site facts r later answers =
+    on_buffered (slot_at site slot) site (λ file buffer. with_reply site r (λ y. flushed_after slot file buffer site buffer.deferred y answers))
 after (running.Copying place from to source target len) bytes site facts r later answers =
     with_reply site r (λ y. on_status y site (Done outcome.Done (copied from to source target len site)))
 

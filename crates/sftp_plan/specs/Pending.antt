@@ -50,6 +50,7 @@ own_place (Some (running.OpeningToWrite place)) = Some place
 own_place (Some (running.OpeningDirectory place bound)) = Some place
 own_place (Some (running.Listing place grant got bound)) = Some place
 own_place (Some (running.Copying place from to source target len)) = Some place
+own_place (Some (running.Flushing slot)) = None
 own_place None = None
 
 -- how often the reply to a place is awaited

@@ -63,6 +63,7 @@ Sound (running.Writing place slot file done) bytes site facts =
 Sound (running.OpeningToWrite place) bytes site facts = Unit {0}
 Sound (running.OpeningDirectory place bound) bytes site facts = Unit {0}
 Sound (running.Listing place grant got bound) bytes site facts = Unit {0}
+Sound (running.Flushing slot) bytes site facts = slot < length site.slots
 Sound (running.Copying place from to source target len) bytes site facts =
     (from < length site.slots) × (to < length site.slots) × CanMove source len × CanMove target len
 

@@ -5,12 +5,14 @@ ghost use Rattle.sftp_plan.specs.Cancelling.{Leaves, left_after};
 ghost use Rattle.sftp_plan.specs.Sound.{AreWithin, Fits, Sound, Sounds};
 ghost use Rattle.sftp_plan.specs.Pending.{Pends, pends_after};
 
+use crate::buffer_flush::flush_replied;
 use crate::file_calls::copy_replied;
 use crate::gathering::content_replied;
 use crate::next::{Next, Running};
 use crate::opening::open_replied;
 use crate::reading::read_replied;
 use crate::single::ending_told;
+use crate::site::oldest_deferred;
 use crate::whole::{directory_opened, names_replied, whole_opened};
 use crate::writing::{part_replied, write_replied};
 use sftp_model::{Facts, Outcome, Reply, Site};
@@ -19,8 +21,8 @@ use std::alloc::Global;
 
 impl Running {
     /// The place of the request whose reply is awaited.
-    pub fn awaited(&self, _site: &Site) -> Option<u64>
-        ensures { result ≡ awaited self.now _site.now }
+    pub fn awaited(&self, site: &Site) -> Option<u64>
+        ensures { result ≡ awaited self.now site.now }
     {
         match self {
             Running::Ending { place, .. } => Some(*place),
@@ -32,6 +34,7 @@ impl Running {
             Running::OpeningToWrite { place } => Some(*place),
             Running::OpeningDirectory { place, .. } => Some(*place),
             Running::Listing { place, .. } => Some(*place),
+            Running::Flushing { slot } => oldest_deferred(site, *slot),
             Running::Copying { place, .. } => Some(*place),
         }
     }
@@ -105,6 +108,7 @@ pub fn go_on(
             got,
             bound,
         } => names_replied(awaited, grant, got, bound, reply, place, site, facts),
+        Running::Flushing { slot } => Ok(flush_replied(slot, reply, place, site, facts)),
         Running::Copying {
             from,
             to,

@@ -5,6 +5,7 @@ ghost use Rattle.sftp_model.specs.declared.slot.Facts.{Facts};
 ghost use Rattle.sftp_model.specs.declared.slot.Site.{Site};
 ghost use Rattle.sftp_calls.specs.Moves.{Answers, Own};
 ghost use Rattle.sftp_plan.specs.declared.next.Running.{Running};
+ghost use Rattle.sftp_plan.specs.Cancelling.{left_after, left_behind};
 ghost use Rattle.sftp_plan.specs.Machines.{after, awaited, idle, residual};
 
 /// A call that was begun goes on by the reply that it awaits: it waits while that is missing, and else goes on after
@@ -19,4 +20,12 @@ pub fn calls_go_on_by_awaited_replies()
     ensures none { (running : Running) (bytes : List ℕ) (site : Site) (facts : Facts) (later : Own)
         (answers : Answers) → awaited running site ≡ None
         → residual running bytes site facts later answers ≡ after running bytes site facts None later answers }
+{}
+
+/// What a cancelled call leaves is told by the machine before the reply that it awaited, and after it alike.
+pub fn cancelled_calls_leave_by_awaited_replies()
+    ensures { (running : Running) (bytes : List ℕ) (site : Site) (facts : Facts) (later : Own)
+        (answers : Answers) (place : ℕ) (r : Reply) → awaited running site ≡ Some place → answers place ≡ Some r
+        → left_behind running bytes site facts later answers
+        ≡ left_after running bytes site facts (Some r) later answers }
 {}

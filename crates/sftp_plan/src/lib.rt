@@ -2,6 +2,8 @@
 //! Nothing here sends or receives: the lane that runs a call submits what is asked and hands in each reply.
 #![tactic(auto)]
 
+mod buffer_flush;
+mod buffer_seek;
 mod closing;
 mod file_calls;
 mod gathering;
@@ -18,11 +20,13 @@ pub mod site;
 mod whole;
 mod writing;
 
+pub use buffer_flush::begin_buf_flush;
+pub use buffer_seek::begin_buf_seek;
 pub use closing::begin_close;
 pub use file_calls::{begin_copy, begin_meta, begin_set_len, begin_set_perm, begin_sync};
 pub use gathering::{begin_read_all, read_rest};
 pub use going_on::go_on;
-pub use laws::calls_go_on_by_awaited_replies;
+pub use laws::{calls_go_on_by_awaited_replies, cancelled_calls_leave_by_awaited_replies};
 pub use local_calls::{begin_buffer, begin_clone, begin_cwd, begin_seek, begin_unbuffer, sought};
 pub use next::{Asked, EndsBy, Next, Running};
 pub use opening::{begin_open, opened_file};

@@ -120,6 +120,10 @@ pub enum Running {
         got: Items<NameEntry>,
         bound: u32,
     },
+    /// A flush awaits the status of the oldest deferred write.
+    Flushing {
+        slot: u8,
+    },
     /// A `copy-data` awaits its reply.
     Copying {
         place: u64,

@@ -1,6 +1,8 @@
 //! What a lane holds, slot by slot.
 ghost use Rattle.std.specs.Prelude.{◌≡◌, ◌<◌, length};
 ghost use Rattle.std.specs.List.{list_any};
+ghost use Rattle.sftp_model.specs.declared.slot.Slot.TheVariants as slots;
+ghost use Rattle.sftp_plan.specs.Buffers.{oldest_in};
 ghost use Rattle.sftp_model.specs.Slots.{slot_at, with_slot, has_grant, slot_has};
 
 use sftp_model::{Site, Slot};
@@ -19,6 +21,39 @@ pub fn set_slot(site: &mut Site, slot: u8, held: Slot)
     ensures { site.new ≡ with_slot site.old slot held }
 {
     site.slots.set(slot as usize, held);
+}
+
+/// Takes out what a slot holds.
+pub fn take_slot(site: &mut Site, slot: u8) -> Slot
+    requires { slot < length site.old.slots }
+    ensures answer { result ≡ slot_at site.old slot }
+    ensures after { site.new ≡ with_slot site.old slot slots.Empty }
+{
+    site.slots.replace(slot as usize, Slot::Empty)
+}
+
+/// The place of the oldest write that the file in a slot has deferred.
+pub fn oldest_deferred(site: &Site, slot: u8) -> Option<u64>
+    ensures { result ≡ oldest_in (slot_at site.now slot) }
+{
+    match site.slots.as_slice().get(slot as usize) {
+        Some(held) => oldest_in(held),
+        None => None,
+    }
+}
+
+/// The place of the oldest write that a slot's file has deferred.
+fn oldest_in(slot: &Slot) -> Option<u64>
+    ensures { result ≡ oldest_in slot.now }
+{
+    match slot {
+        Slot::Empty => None,
+        Slot::File(_) => None,
+        Slot::Buffered(_, buffer) => match buffer.deferred.as_slice() {
+            [] => None,
+            [write, ..] => Some(write.0),
+        },
+    }
 }
 
 /// Whether some slot has the grant of this place.

@@ -29,3 +29,12 @@ returns-in-Listing-clause-goes c = rw (c.in-Listing.is, c.in-Some.is) (c.names_r
 
 pub returns-in-Listing-clause-left : goal.returns-in-Listing-clause-left
 returns-in-Listing-clause-left c = rw (c.in-Listing.is, c.in-Some.is) (c.names_replied.ensures.left c.args.bytes.now)
+
+pub returns-in-Flushing-clause-sound : goal.returns-in-Flushing-clause-sound
+returns-in-Flushing-clause-sound c = c.flush_replied.ensures.sound c.args.bytes.now
+
+pub returns-in-Flushing-clause-goes : goal.returns-in-Flushing-clause-goes
+returns-in-Flushing-clause-goes c = rw (c.in-Flushing.is, c.in-Some.is) (c.flush_replied.ensures.goes c.args.bytes.now)
+
+pub returns-in-Flushing-clause-left : goal.returns-in-Flushing-clause-left
+returns-in-Flushing-clause-left c = rw (c.in-Flushing.is, c.in-Some.is) (c.flush_replied.ensures.left c.args.bytes.now)
