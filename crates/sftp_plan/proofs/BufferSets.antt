@@ -1,5 +1,5 @@
 -- A buffered file that is put elsewhere.
-use Rattle.std.proofs.Common.{◌≡◌, ◌<◌, ◌≤◌, ◌+◌, ◌-◌, ◌^◌, ap, refl, sym, subst, arith, length-drop, ℕ, Bool, true, false, List, [], drop, length, Option, None, if◌then◌else◌, nat_lt}
+use Rattle.std.proofs.Common.{◌≡◌, ◌<◌, ◌≤◌, ◌+◌, ◌-◌, ◌^◌, ap, refl, sym, subst, arith, length-drop, ℕ, Bool, true, false, List, [], drop, length, None, if◌then◌else◌, nat_lt}
 use Rattle.std.specs.Prelude.{slice_index_or, slice_set}
 use Rattle.sftp_model.specs.declared.slot.FileAt.{FileAt}
 use Rattle.sftp_model.specs.declared.slot.Buffer.{Buffer}
@@ -8,9 +8,8 @@ use Rattle.sftp_model.specs.declared.slot.Site.{Site}
 use Rattle.sftp_model.specs.declared.slot.Slot.{Slot}
 use Rattle.sftp_model.specs.declared.slot.Slot.TheVariants.{Empty, Buffered}
 use Rattle.sftp_model.specs.Slots.{slot_at, with_slot}
-use Rattle.sftp_calls.specs.BufferPlans.{pending}
 use Rattle.sftp_plan.specs.Seeks.{sought_bytes}
-use Rattle.sftp_plan.specs.Sound.{AreWithin, IsWithin, Keeps}
+use Rattle.sftp_plan.specs.Sound.{IsWithin, Keeps}
 use Rattle.sftp_plan.specs.Pending.{Fewer, maybe, slot_times, slots_times, writes_times}
 use Rattle.sftp_plan.proofs.Fewer.{set_times}
 use Rattle.sftp_plan.proofs.Keeping.{keeps_set, set_count}

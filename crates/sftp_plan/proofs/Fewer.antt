@@ -1,5 +1,5 @@
 -- What awaits no more replies than before.
-use Rattle.std.proofs.Common.{◌≡◌, ◌<◌, ◌≤◌, ◌+◌, ◌-◌, ℕ, zero, suc, List, [], ◌∷◌, Option, Some, None, Ok, Err, length, refl, ap, sym, subst, arith}
+use Rattle.std.proofs.Common.{◌≡◌, ◌<◌, ◌≤◌, ◌+◌, ◌-◌, ℕ, zero, suc, List, [], ◌∷◌, Option, Some, None, Ok, Err, length, refl, sym, subst, arith}
 use Rattle.std.specs.Prelude.{IfOk, Result, slice_index_or, slice_set}
 use Rattle.ssh_encoding.specs.declared.out_of_memory.OutOfMemory.{OutOfMemory}
 use Rattle.sftp_model.specs.declared.slot.FileAt.{FileAt}
@@ -7,7 +7,7 @@ use Rattle.sftp_model.specs.declared.slot.Facts.{Facts}
 use Rattle.sftp_model.specs.declared.slot.Site.{Site}
 use Rattle.sftp_model.specs.declared.slot.Slot.{Slot}
 use Rattle.sftp_model.specs.declared.slot.Slot.TheVariants.{Empty, File, Buffered}
-use Rattle.sftp_model.specs.Slots.{slot_at, with_slot}
+use Rattle.sftp_model.specs.Slots.{with_slot}
 use Rattle.sftp_plan.specs.declared.next.Next.{Next}
 use Rattle.sftp_plan.specs.declared.next.Next.TheVariants as step
 use Rattle.sftp_plan.specs.Machines.{keep_in}

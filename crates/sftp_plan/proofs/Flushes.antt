@@ -11,7 +11,7 @@ use Rattle.sftp_model.specs.declared.slot.Site.{Site}
 use Rattle.sftp_model.specs.declared.slot.Slot.{Slot}
 use Rattle.sftp_model.specs.declared.slot.Slot.TheVariants.{Empty, File, Buffered}
 use Rattle.sftp_model.specs.Slots.{slot_at, with_slot}
-use Rattle.sftp_calls.specs.Moves.{Answers, Own, left_on_buffered, on_buffered}
+use Rattle.sftp_calls.specs.Moves.{Answers, Own, left_on_buffered}
 use Rattle.sftp_calls.specs.BufferPlans.{pending, with_deferred, is_good, unflushed}
 use Rattle.sftp_plan.specs.declared.next.Next.{Next}
 use Rattle.sftp_plan.specs.declared.next.Running.TheVariants as running

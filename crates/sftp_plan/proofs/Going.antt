@@ -1,22 +1,19 @@
 -- What goes by a plan goes by any plan that is the same.
-use Rattle.std.proofs.Common.{◌≡◌, ◌+◌, ◌-◌, ◌++◌, ◌∙◌, ap, sym, refl, min, drop, length, ℕ, List, [], ◌∷◌, Option, Some, None, Bool, true, false, if◌then◌else◌, ◌==◌}
+use Rattle.std.proofs.Common.{◌≡◌, ◌+◌, ◌-◌, ◌++◌, ◌∙◌, ap, sym, refl, drop, length, ℕ, List, [], ◌∷◌, Option, Some, None, Bool, true, false, if◌then◌else◌, ◌==◌}
 use Rattle.std.specs.Prelude.{IfOk, Result, Ok, Err}
 use Rattle.std.proofs.lemmas.List.{drop-drop}
 use Rattle.ssh_encoding.specs.declared.out_of_memory.OutOfMemory.{OutOfMemory}
 use Rattle.sftp_model.specs.declared.outcome.Outcome.{Outcome}
-use Rattle.sftp_model.specs.declared.outcome.Outcome.TheVariants as outcome
 use Rattle.sftp_model.specs.declared.reply.Reply.{Reply}
 use Rattle.sftp_model.specs.declared.reply.Reply.TheVariants as reply
 use Rattle.sftp_model.specs.declared.slot.Facts.{Facts}
 use Rattle.sftp_model.specs.declared.slot.Site.{Site}
 use Rattle.sftp_model.specs.declared.slot.Move.{Move}
-use Rattle.sftp_model.specs.declared.slot.Move.TheVariants.{Done}
 use Rattle.sftp_model.specs.declared.slot.FileAt.{FileAt}
-use Rattle.sftp_model.specs.declared.slot.Buffer.{Buffer}
 use Rattle.sftp_model.specs.declared.slot.Slot.{Slot}
-use Rattle.sftp_model.specs.declared.slot.Slot.TheVariants.{File, Buffered}
+use Rattle.sftp_model.specs.declared.slot.Slot.TheVariants.{File}
 use Rattle.sftp_model.specs.Slots.{with_slot}
-use Rattle.sftp_calls.specs.Moves.{Answers, Own, Plan, refused, on_file, on_buffered, on_status, further, handle_of, on_handle, once_answered}
+use Rattle.sftp_calls.specs.Moves.{Answers, Own, Plan, refused, on_file, on_status, further, handle_of, on_handle, once_answered}
 use Rattle.sftp_model.specs.declared.reply.NameEntry.{NameEntry}
 use Rattle.sftp_calls.specs.WholePlans.{entries_next}
 use Rattle.sftp_calls.specs.TransferPlans.{Keeping, missing_next, part_len, rest_next}

@@ -1,12 +1,12 @@
 -- What keeps a site as it may be.
-use Rattle.std.proofs.Common.{◌≡◌, ◌<◌, ◌≤◌, Option, Some, None, ap, refl, sym, ◌∙◌, subst, arith, ℕ, zero, suc, List, [], ◌∷◌, length}
+use Rattle.std.proofs.Common.{◌≡◌, ◌<◌, Option, Some, None, ap, refl, sym, ◌∙◌, subst, ℕ, zero, suc, List, [], ◌∷◌, length}
 use Rattle.std.specs.Prelude.{slice_set, slice_index_or}
 use Rattle.sftp_model.specs.declared.slot.FileAt.{FileAt}
 use Rattle.sftp_model.specs.declared.slot.Facts.{Facts}
 use Rattle.sftp_model.specs.declared.slot.Site.{Site}
 use Rattle.sftp_model.specs.declared.slot.Slot.{Slot}
-use Rattle.sftp_model.specs.declared.slot.Slot.TheVariants.{Empty, File, Buffered}
-use Rattle.sftp_model.specs.Slots.{slot_at, with_slot}
+use Rattle.sftp_model.specs.declared.slot.Slot.TheVariants.{Empty, File}
+use Rattle.sftp_model.specs.Slots.{with_slot}
 use Rattle.sftp_plan.specs.Machines.{keep_in}
 use Rattle.sftp_plan.specs.Sound.{IsKept, IsWithin, Keeps}
 use Rattle.sftp_plan.proofs.SlotSets.{set_at}

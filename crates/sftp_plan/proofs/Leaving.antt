@@ -1,13 +1,13 @@
 -- What a cancelled transfer leaves, from a site where its file was moved.
-use Rattle.std.proofs.Common.{◌≡◌, ◌<◌, ◌∙◌, ap, sym, subst, refl, arith, length, ℕ, zero, suc, List, [], ◌∷◌, Option, Some, None}
-use Rattle.std.specs.Prelude.{IfOk, Result, Ok, Err, slice_index_or, slice_set}
+use Rattle.std.proofs.Common.{◌≡◌, ◌<◌, ◌∙◌, ap, sym, refl, length, ℕ, List, ◌∷◌, Option, Some, None}
+use Rattle.std.specs.Prelude.{IfOk, Result, Ok, Err}
 use Rattle.ssh_encoding.specs.declared.out_of_memory.OutOfMemory.{OutOfMemory}
 use Rattle.sftp_model.specs.declared.request.Request.{Request}
 use Rattle.sftp_model.specs.declared.slot.Facts.{Facts}
 use Rattle.sftp_model.specs.declared.slot.Site.{Site}
 use Rattle.sftp_model.specs.declared.slot.FileAt.{FileAt}
 use Rattle.sftp_model.specs.declared.slot.Slot.{Slot}
-use Rattle.sftp_model.specs.declared.slot.Slot.TheVariants.{Empty, File}
+use Rattle.sftp_model.specs.declared.slot.Slot.TheVariants.{File}
 use Rattle.sftp_model.specs.Slots.{slot_at, with_slot}
 use Rattle.sftp_calls.specs.Moves.{Answers, Own, left_on_file}
 use Rattle.sftp_calls.specs.TransferPlans.{cancelled_transfer, last_offset, offset_asked}
@@ -15,7 +15,7 @@ use Rattle.sftp_plan.specs.declared.next.Asked.TheVariants as asked
 use Rattle.sftp_plan.specs.declared.next.Next.{Next}
 use Rattle.sftp_plan.specs.declared.next.Next.TheVariants as step
 use Rattle.sftp_plan.specs.Machines.{filled, keep_in}
-use Rattle.sftp_plan.specs.Cancelling.{AsksOffset, Leaves, Leaving, left_kept}
+use Rattle.sftp_plan.specs.Cancelling.{AsksOffset, Leaves, left_kept}
 use Rattle.sftp_plan.specs.Sound.{IsKept}
 use Rattle.sftp_plan.proofs.SlotSets.{set_at, set_twice}
 

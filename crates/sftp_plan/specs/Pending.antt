@@ -3,7 +3,7 @@ use Rattle.std.specs.Prelude.{ℕ, ◌≤◌, ◌+◌, ◌-◌, ◌==◌, List, 
 use Rattle.sftp_model.specs.declared.reply.Reply.{Reply}
 use Rattle.sftp_model.specs.declared.slot.Site.{Site}
 use Rattle.sftp_model.specs.declared.slot.Slot.{Slot}
-use Rattle.sftp_model.specs.declared.slot.Slot.TheVariants.{Empty, File, Buffered}
+use Rattle.sftp_model.specs.declared.slot.Slot.TheVariants.{Buffered}
 use Rattle.sftp_plan.specs.declared.next.Running.{Running}
 use Rattle.sftp_plan.specs.declared.next.Running.TheVariants as running
 use Rattle.sftp_plan.specs.declared.next.Next.{Next}

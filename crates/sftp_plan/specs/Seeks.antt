@@ -1,7 +1,6 @@
 -- A buffered file that stands elsewhere.
 use Rattle.std.specs.Prelude.{ℕ, ◌-◌, List, [], drop, Option, nat_lt, if◌then◌else◌}
 use Rattle.sftp_model.specs.declared.slot.FileAt.{FileAt}
-use Rattle.sftp_model.specs.declared.slot.Buffer.{Buffer}
 use Rattle.sftp_model.specs.declared.slot.Site.{Site}
 use Rattle.sftp_model.specs.declared.slot.Slot.{Slot}
 use Rattle.sftp_model.specs.declared.slot.Slot.TheVariants.{Buffered}

@@ -90,12 +90,15 @@ pub(crate) fn flush_replied(
     facts: &Facts,
 ) -> Next
     requires { slot < length site.old.slots }
-    ensures goes { (bytes : List ℕ) → Goes (after (running.Flushing slot) bytes site.old facts.now (Some reply))
+    ensures goes { (bytes : List ℕ)
+        → Goes (after (running.Flushing slot) bytes site.old facts.now (Some reply))
         place bytes site.new facts.now result }
-    ensures left { (bytes : List ℕ) → Leaves (left_after (running.Flushing slot) bytes site.old facts.now (Some reply))
+    ensures left { (bytes : List ℕ)
+        → Leaves (left_after (running.Flushing slot) bytes site.old facts.now (Some reply))
         place bytes site.new facts.now result }
     ensures sound { (bytes : List ℕ) → Sounds bytes facts.now site.old site.new result }
-    ensures pends { Pends (pends_after (running.Flushing slot) site.old (Some reply)) place site.new result }
+    ensures pends { Pends (pends_after (running.Flushing slot) site.old (Some reply))
+        place site.new result }
 {
     let Slot::Buffered(_, buffer) = slot_of(site, slot) else {
         return Next::Done(Outcome::NoFile);

@@ -120,7 +120,8 @@ fn content_came(
 ) -> Result<Next, OutOfMemory>
     requires kept { IsKept (Some slot) file site.old }
     requires room { CanMove file (length content) }
-    ensures goes { (bytes : List ℕ) → IfOk result (Goes (content_after slot file got left content site.old facts.now)
+    ensures goes { (bytes : List ℕ)
+        → IfOk result (Goes (content_after slot file got left content site.old facts.now)
         place bytes site.new facts.now) }
     ensures left { (bytes : List ℕ) → IfOk result (Leaves (left_kept (Some slot) site.old facts.now)
         place bytes site.new facts.now) }
@@ -158,7 +159,8 @@ pub(crate) fn content_replied(
 ) -> Result<Next, OutOfMemory>
     requires kept { IsKept (Some slot) file site.old }
     requires room { HasRoom file reply }
-    ensures goes { (bytes : List ℕ) → IfOk result (Goes (after (running.Gathering awaited slot file got left len)
+    ensures goes { (bytes : List ℕ)
+        → IfOk result (Goes (after (running.Gathering awaited slot file got left len)
         bytes site.old facts.now (Some reply)) place bytes site.new facts.now) }
     ensures left { (bytes : List ℕ) → IfOk result (Leaves (left_kept (Some slot) site.old facts.now)
         place bytes site.new facts.now) }

@@ -55,8 +55,10 @@ pub fn begin_open(
     facts: &Facts,
 ) -> Result<Next, OutOfMemory>
     requires { slot < length site.now.slots }
-    ensures goes { IfOk result (Begins (call.OpenFile slot flags path.now) place site.now site.now facts.now) }
-    ensures left { IfOk result (BeginsLeaving (call.OpenFile slot flags path.now) place site.now site.now facts.now) }
+    ensures goes { IfOk result (Begins (call.OpenFile slot flags path.now)
+        place site.now site.now facts.now) }
+    ensures left { IfOk result (BeginsLeaving (call.OpenFile slot flags path.now)
+        place site.now site.now facts.now) }
     ensures sound { IfOk result (Sounds [] facts.now site.now site.now) }
     ensures pends { IfOk result (Pends (pends_idle site.now) place site.now) }
 {

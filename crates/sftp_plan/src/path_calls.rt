@@ -23,7 +23,8 @@ pub fn begin_stat(
     facts: &Facts,
 ) -> Result<Next, OutOfMemory>
     ensures goes { IfOk result (Begins (call.Stat path.now) place site.now site.now facts.now) }
-    ensures left { IfOk result (BeginsLeaving (call.Stat path.now) place site.now site.now facts.now) }
+    ensures left { IfOk result (BeginsLeaving (call.Stat path.now)
+        place site.now site.now facts.now) }
     ensures sound { IfOk result (Sounds [] facts.now site.now site.now) }
     ensures pends { IfOk result (Pends (pends_idle site.now) place site.now) }
 {
@@ -41,7 +42,8 @@ pub fn begin_lstat(
     facts: &Facts,
 ) -> Result<Next, OutOfMemory>
     ensures goes { IfOk result (Begins (call.Lstat path.now) place site.now site.now facts.now) }
-    ensures left { IfOk result (BeginsLeaving (call.Lstat path.now) place site.now site.now facts.now) }
+    ensures left { IfOk result (BeginsLeaving (call.Lstat path.now)
+        place site.now site.now facts.now) }
     ensures sound { IfOk result (Sounds [] facts.now site.now site.now) }
     ensures pends { IfOk result (Pends (pends_idle site.now) place site.now) }
 {
@@ -60,8 +62,10 @@ pub fn begin_set_stat(
     site: &Site,
     facts: &Facts,
 ) -> Result<Next, OutOfMemory>
-    ensures goes { IfOk result (Begins (call.SetStat path.now size mode) place site.now site.now facts.now) }
-    ensures left { IfOk result (BeginsLeaving (call.SetStat path.now size mode) place site.now site.now facts.now) }
+    ensures goes { IfOk result (Begins (call.SetStat path.now size mode)
+        place site.now site.now facts.now) }
+    ensures left { IfOk result (BeginsLeaving (call.SetStat path.now size mode)
+        place site.now site.now facts.now) }
     ensures sound { IfOk result (Sounds [] facts.now site.now site.now) }
     ensures pends { IfOk result (Pends (pends_idle site.now) place site.now) }
 {
@@ -82,7 +86,8 @@ pub fn begin_remove(
     facts: &Facts,
 ) -> Result<Next, OutOfMemory>
     ensures goes { IfOk result (Begins (call.Remove path.now) place site.now site.now facts.now) }
-    ensures left { IfOk result (BeginsLeaving (call.Remove path.now) place site.now site.now facts.now) }
+    ensures left { IfOk result (BeginsLeaving (call.Remove path.now)
+        place site.now site.now facts.now) }
     ensures sound { IfOk result (Sounds [] facts.now site.now site.now) }
     ensures pends { IfOk result (Pends (pends_idle site.now) place site.now) }
 {
@@ -100,7 +105,8 @@ pub fn begin_mkdir(
     facts: &Facts,
 ) -> Result<Next, OutOfMemory>
     ensures goes { IfOk result (Begins (call.Mkdir path.now) place site.now site.now facts.now) }
-    ensures left { IfOk result (BeginsLeaving (call.Mkdir path.now) place site.now site.now facts.now) }
+    ensures left { IfOk result (BeginsLeaving (call.Mkdir path.now)
+        place site.now site.now facts.now) }
     ensures sound { IfOk result (Sounds [] facts.now site.now site.now) }
     ensures pends { IfOk result (Pends (pends_idle site.now) place site.now) }
 {
@@ -121,7 +127,8 @@ pub fn begin_rmdir(
     facts: &Facts,
 ) -> Result<Next, OutOfMemory>
     ensures goes { IfOk result (Begins (call.Rmdir path.now) place site.now site.now facts.now) }
-    ensures left { IfOk result (BeginsLeaving (call.Rmdir path.now) place site.now site.now facts.now) }
+    ensures left { IfOk result (BeginsLeaving (call.Rmdir path.now)
+        place site.now site.now facts.now) }
     ensures sound { IfOk result (Sounds [] facts.now site.now site.now) }
     ensures pends { IfOk result (Pends (pends_idle site.now) place site.now) }
 {
@@ -139,7 +146,8 @@ pub fn begin_read_link(
     facts: &Facts,
 ) -> Result<Next, OutOfMemory>
     ensures goes { IfOk result (Begins (call.ReadLink path.now) place site.now site.now facts.now) }
-    ensures left { IfOk result (BeginsLeaving (call.ReadLink path.now) place site.now site.now facts.now) }
+    ensures left { IfOk result (BeginsLeaving (call.ReadLink path.now)
+        place site.now site.now facts.now) }
     ensures sound { IfOk result (Sounds [] facts.now site.now site.now) }
     ensures pends { IfOk result (Pends (pends_idle site.now) place site.now) }
 {
@@ -166,8 +174,10 @@ pub fn begin_canonicalize(
     site: &Site,
     facts: &Facts,
 ) -> Result<Next, OutOfMemory>
-    ensures goes { IfOk result (Begins (call.Canonicalize path.now) place site.now site.now facts.now) }
-    ensures left { IfOk result (BeginsLeaving (call.Canonicalize path.now) place site.now site.now facts.now) }
+    ensures goes { IfOk result (Begins (call.Canonicalize path.now)
+        place site.now site.now facts.now) }
+    ensures left { IfOk result (BeginsLeaving (call.Canonicalize path.now)
+        place site.now site.now facts.now) }
     ensures sound { IfOk result (Sounds [] facts.now site.now site.now) }
     ensures pends { IfOk result (Pends (pends_idle site.now) place site.now) }
 {
@@ -195,8 +205,10 @@ pub fn begin_rename(
     site: &Site,
     facts: &Facts,
 ) -> Result<Next, OutOfMemory>
-    ensures goes { IfOk result (Begins (call.Rename old.now to.now) place site.now site.now facts.now) }
-    ensures left { IfOk result (BeginsLeaving (call.Rename old.now to.now) place site.now site.now facts.now) }
+    ensures goes { IfOk result (Begins (call.Rename old.now to.now)
+        place site.now site.now facts.now) }
+    ensures left { IfOk result (BeginsLeaving (call.Rename old.now to.now)
+        place site.now site.now facts.now) }
     ensures sound { IfOk result (Sounds [] facts.now site.now site.now) }
     ensures pends { IfOk result (Pends (pends_idle site.now) place site.now) }
 {
@@ -215,8 +227,10 @@ pub fn begin_symlink(
     site: &Site,
     facts: &Facts,
 ) -> Result<Next, OutOfMemory>
-    ensures goes { IfOk result (Begins (call.Symlink src.now dst.now) place site.now site.now facts.now) }
-    ensures left { IfOk result (BeginsLeaving (call.Symlink src.now dst.now) place site.now site.now facts.now) }
+    ensures goes { IfOk result (Begins (call.Symlink src.now dst.now)
+        place site.now site.now facts.now) }
+    ensures left { IfOk result (BeginsLeaving (call.Symlink src.now dst.now)
+        place site.now site.now facts.now) }
     ensures sound { IfOk result (Sounds [] facts.now site.now site.now) }
     ensures pends { IfOk result (Pends (pends_idle site.now) place site.now) }
 {
@@ -235,8 +249,10 @@ pub fn begin_hard_link(
     site: &Site,
     facts: &Facts,
 ) -> Result<Next, OutOfMemory>
-    ensures goes { IfOk result (Begins (call.HardLink old.now to.now) place site.now site.now facts.now) }
-    ensures left { IfOk result (BeginsLeaving (call.HardLink old.now to.now) place site.now site.now facts.now) }
+    ensures goes { IfOk result (Begins (call.HardLink old.now to.now)
+        place site.now site.now facts.now) }
+    ensures left { IfOk result (BeginsLeaving (call.HardLink old.now to.now)
+        place site.now site.now facts.now) }
     ensures sound { IfOk result (Sounds [] facts.now site.now site.now) }
     ensures pends { IfOk result (Pends (pends_idle site.now) place site.now) }
 {

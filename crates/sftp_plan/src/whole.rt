@@ -50,8 +50,10 @@ pub fn begin_fs_write(
     site: &Site,
     facts: &Facts,
 ) -> Result<Next, OutOfMemory>
-    ensures goes { IfOk result (Begins (call.FsWrite path.now bytes.now) place site.now site.now facts.now) }
-    ensures left { IfOk result (BeginsLeaving (call.FsWrite path.now bytes.now) place site.now site.now facts.now) }
+    ensures goes { IfOk result (Begins (call.FsWrite path.now bytes.now)
+        place site.now site.now facts.now) }
+    ensures left { IfOk result (BeginsLeaving (call.FsWrite path.now bytes.now)
+        place site.now site.now facts.now) }
     ensures sound { IfOk result (Sounds bytes.now facts.now site.now site.now) }
     ensures pends { IfOk result (Pends (pends_idle site.now) place site.now) }
 {
@@ -75,7 +77,8 @@ pub(crate) fn whole_opened(
 ) -> Result<Next, OutOfMemory>
     ensures goes { IfOk result (Goes (after (running.OpeningToWrite grant) bytes.now site.now facts.now (Some reply))
         place bytes.now site.now facts.now) }
-    ensures left { IfOk result (Leaves (λ own answers. site.now) place bytes.now site.now facts.now) }
+    ensures left { IfOk result (Leaves (λ own answers. site.now)
+        place bytes.now site.now facts.now) }
     ensures sound { IfOk result (Sounds bytes.now facts.now site.now site.now) }
     ensures pends { IfOk result (Pends (pends_after (running.OpeningToWrite grant) site.now (Some reply)) place site.now) }
 {
@@ -102,8 +105,10 @@ pub fn begin_list(
     site: &Site,
     facts: &Facts,
 ) -> Result<Next, OutOfMemory>
-    ensures goes { IfOk result (Begins (call.Names path.now bound) place site.now site.now facts.now) }
-    ensures left { IfOk result (BeginsLeaving (call.Names path.now bound) place site.now site.now facts.now) }
+    ensures goes { IfOk result (Begins (call.Names path.now bound)
+        place site.now site.now facts.now) }
+    ensures left { IfOk result (BeginsLeaving (call.Names path.now bound)
+        place site.now site.now facts.now) }
     ensures sound { IfOk result (Sounds [] facts.now site.now site.now) }
     ensures pends { IfOk result (Pends (pends_idle site.now) place site.now) }
 {
@@ -124,7 +129,8 @@ fn list_rest(grant: u64, got: Items<NameEntry>, bound: u32, place: u64) -> Next
         → Goes (λ own answers. entries_next (handle_of (answers grant)) got bound site own answers) place bytes site facts result }
     ensures left { (site : SiteValue) (facts : FactsValue) (bytes : List ℕ)
         → Leaves (λ own answers. site) place bytes site facts result }
-    ensures sound { (site : SiteValue) (facts : FactsValue) (bytes : List ℕ) → Sounds bytes facts site site result }
+    ensures sound { (site : SiteValue) (facts : FactsValue) (bytes : List ℕ)
+        → Sounds bytes facts site site result }
     ensures pends { (site : SiteValue) → Pends (pends_idle site) place site result }
 {
     if bound == 0 {
@@ -158,11 +164,14 @@ pub(crate) fn directory_opened(
     site: &Site,
     facts: &Facts,
 ) -> Next
-    ensures goes { (bytes : List ℕ) → Goes (after (running.OpeningDirectory grant bound) bytes site.now facts.now (Some reply))
+    ensures goes { (bytes : List ℕ)
+        → Goes (after (running.OpeningDirectory grant bound) bytes site.now facts.now (Some reply))
         place bytes site.now facts.now result }
-    ensures left { (bytes : List ℕ) → Leaves (λ own answers. site.now) place bytes site.now facts.now result }
+    ensures left { (bytes : List ℕ) → Leaves (λ own answers. site.now)
+        place bytes site.now facts.now result }
     ensures sound { (bytes : List ℕ) → Sounds bytes facts.now site.now site.now result }
-    ensures pends { Pends (pends_after (running.OpeningDirectory grant bound) site.now (Some reply)) place site.now result }
+    ensures pends { Pends (pends_after (running.OpeningDirectory grant bound) site.now
+        (Some reply)) place site.now result }
 {
     match reply {
         Reply::Handle(_handle) => list_rest(grant, no_entries(alloc), bound, place),
@@ -196,9 +205,11 @@ fn names_came(
     site: &Site,
     facts: &Facts,
 ) -> Result<Next, OutOfMemory>
-    ensures goes { (bytes : List ℕ) → IfOk result (Goes (after (running.Listing awaited grant got bound) bytes
+    ensures goes { (bytes : List ℕ)
+        → IfOk result (Goes (after (running.Listing awaited grant got bound) bytes
         site.now facts.now (Some (reply.Names names))) place bytes site.now facts.now) }
-    ensures left { (bytes : List ℕ) → IfOk result (Leaves (λ own answers. site.now) place bytes site.now facts.now) }
+    ensures left { (bytes : List ℕ) → IfOk result (Leaves (λ own answers. site.now)
+        place bytes site.now facts.now) }
     ensures sound { (bytes : List ℕ) → IfOk result (Sounds bytes facts.now site.now site.now) }
     ensures pends { IfOk result (Pends (pends_after (running.Listing awaited grant got bound) site.now
         (Some (reply.Names names))) place site.now) }
@@ -222,9 +233,11 @@ pub(crate) fn names_replied(
     site: &Site,
     facts: &Facts,
 ) -> Result<Next, OutOfMemory>
-    ensures goes { (bytes : List ℕ) → IfOk result (Goes (after (running.Listing awaited grant got bound) bytes site.now facts.now (Some reply))
+    ensures goes { (bytes : List ℕ)
+        → IfOk result (Goes (after (running.Listing awaited grant got bound) bytes site.now facts.now (Some reply))
         place bytes site.now facts.now) }
-    ensures left { (bytes : List ℕ) → IfOk result (Leaves (λ own answers. site.now) place bytes site.now facts.now) }
+    ensures left { (bytes : List ℕ) → IfOk result (Leaves (λ own answers. site.now)
+        place bytes site.now facts.now) }
     ensures sound { (bytes : List ℕ) → IfOk result (Sounds bytes facts.now site.now site.now) }
     ensures pends { IfOk result (Pends (pends_after (running.Listing awaited grant got bound) site.now (Some reply)) place site.now) }
 {

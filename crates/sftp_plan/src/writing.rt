@@ -38,8 +38,10 @@ pub fn begin_write(
     facts: &Facts,
 ) -> Result<Next, OutOfMemory>
     requires { slot < length site.now.slots }
-    ensures goes { IfOk result (Begins (call.Write slot bytes.now) place site.now site.now facts.now) }
-    ensures left { IfOk result (BeginsLeaving (call.Write slot bytes.now) place site.now site.now facts.now) }
+    ensures goes { IfOk result (Begins (call.Write slot bytes.now)
+        place site.now site.now facts.now) }
+    ensures left { IfOk result (BeginsLeaving (call.Write slot bytes.now)
+        place site.now site.now facts.now) }
     ensures sound { IfOk result (Sounds bytes.now facts.now site.now site.now) }
     ensures pends { IfOk result (Pends (pends_idle site.now) place site.now) }
 {
@@ -116,7 +118,8 @@ pub fn write_rest(
         → IfOk result (Goes (rest_next (keep_in slot) file (drop done bytes.now) site facts.now) place bytes.now site facts.now) }
     ensures left { (site : SiteValue) → IsKept slot file site
         → IfOk result (Leaves (left_kept slot site facts.now) place bytes.now site facts.now) }
-    ensures sound { (site : SiteValue) → IsKept slot file site → IfOk result (Sounds bytes.now facts.now site site) }
+    ensures sound { (site : SiteValue) → IsKept slot file site
+        → IfOk result (Sounds bytes.now facts.now site site) }
     ensures pends { (site : SiteValue) → IfOk result (Pends (pends_idle site) place site) }
     ensures asks { IfOk result AsksOffset }
 {
@@ -157,8 +160,10 @@ pub fn begin_write_all(
     facts: &Facts,
 ) -> Result<Next, OutOfMemory>
     requires { slot < length site.now.slots }
-    ensures goes { IfOk result (Begins (call.WriteAll slot bytes.now) place site.now site.now facts.now) }
-    ensures left { IfOk result (BeginsLeaving (call.WriteAll slot bytes.now) place site.now site.now facts.now) }
+    ensures goes { IfOk result (Begins (call.WriteAll slot bytes.now)
+        place site.now site.now facts.now) }
+    ensures left { IfOk result (BeginsLeaving (call.WriteAll slot bytes.now)
+        place site.now site.now facts.now) }
     ensures sound { IfOk result (Sounds bytes.now facts.now site.now site.now) }
     ensures pends { IfOk result (Pends (pends_idle site.now) place site.now) }
 {
@@ -181,7 +186,8 @@ pub fn begin_write_parts(
     ensures goes { (parts : List (List ℕ)) → joined_parts parts ≡ bytes.now
         → IfOk result (Begins (call.WriteParts slot parts) place site.now site.now facts.now) }
     ensures left { (parts : List (List ℕ)) → joined_parts parts ≡ bytes.now
-        → IfOk result (BeginsLeaving (call.WriteParts slot parts) place site.now site.now facts.now) }
+        → IfOk result (BeginsLeaving (call.WriteParts slot parts)
+        place site.now site.now facts.now) }
     ensures sound { IfOk result (Sounds bytes.now facts.now site.now site.now) }
     ensures pends { IfOk result (Pends (pends_idle site.now) place site.now) }
 {
@@ -217,7 +223,8 @@ pub(crate) fn part_replied(
     requires room { CanMove file (part_len facts.now (drop done bytes.now)) }
     ensures goes { IfOk result (Goes (after (running.Writing awaited slot file done) bytes.now site.old facts.now (Some reply))
         place bytes.now site.new facts.now) }
-    ensures left { IfOk result (Leaves (left_kept slot site.old facts.now) place bytes.now site.new facts.now) }
+    ensures left { IfOk result (Leaves (left_kept slot site.old facts.now)
+        place bytes.now site.new facts.now) }
     ensures sound { IfOk result (Sounds bytes.now facts.now site.old site.new) }
     ensures pends { IfOk result (Pends (pends_after (running.Writing awaited slot file done) site.old (Some reply)) place site.new) }
     ensures err { OnErr result (site.new ≡ site.old) }

@@ -1,4 +1,4 @@
-use Rattle.std.proofs.Common.{◌≡◌, sym, ◌∙◌, refl, [], None}
+use Rattle.std.proofs.Common.{◌≡◌, sym, ◌∙◌, refl, []}
 use Rattle.sftp_model.specs.declared.slot.Slot.TheVariants.{Empty, File, Buffered}
 use Rattle.sftp_model.specs.Slots.{slot_at, with_slot}
 use Rattle.sftp_calls.specs.FilePlans.{close_slot_next, close_grant_next}

@@ -1,7 +1,6 @@
-use Rattle.std.proofs.Common.{◌≡◌, rules, sym, ◌∙◌, []}
-use Rattle.sftp_model.specs.declared.slot.Slot.TheVariants.{File}
+use Rattle.std.proofs.Common.{sym, ◌∙◌, []}
 use Rattle.sftp_model.specs.Slots.{slot_at}
-use Rattle.sftp_calls.specs.TransferPlans.{missing_next, read_all_next}
+use Rattle.sftp_calls.specs.TransferPlans.{missing_next}
 use Rattle.sftp_plan.specs.Machines.{Goes}
 use Rattle.sftp_plan.proofs.Going.{on_file_goes}
 use Rattle.sftp_plan.proofs.gathering.begin_read_all.Goals as goal

@@ -1,7 +1,4 @@
 use Rattle.std.proofs.Common.{◌≡◌, ◌+◌, ◌-◌, rules, length, Some}
-use Rattle.sftp_model.specs.declared.slot.Slot.TheVariants.{File}
-use Rattle.sftp_model.specs.Slots.{with_slot}
-use Rattle.sftp_calls.specs.Moves.{further}
 use Rattle.sftp_plan.proofs.Going.{content_goes}
 use Rattle.sftp_plan.proofs.Leaving.{leaves_moved}
 use Rattle.sftp_plan.proofs.Fewer.{kept_pends}

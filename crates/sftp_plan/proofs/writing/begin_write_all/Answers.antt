@@ -1,5 +1,4 @@
-use Rattle.std.proofs.Common.{◌≡◌, sym, ◌∙◌}
-use Rattle.sftp_model.specs.declared.slot.Slot.TheVariants.{File}
+use Rattle.std.proofs.Common.{sym, ◌∙◌}
 use Rattle.sftp_model.specs.Slots.{slot_at}
 use Rattle.sftp_calls.specs.TransferPlans.{in_slot, rest_next}
 use Rattle.sftp_plan.proofs.Going.{on_file_if_ok}

@@ -1,9 +1,9 @@
-use Rattle.std.proofs.Common.{◌≡◌, ◌+◌, sym, ◌∙◌, ap, drop, min, ℕ, List, Some}
+use Rattle.std.proofs.Common.{◌≡◌, ◌+◌, sym, ◌∙◌, ap, drop, min}
 use Rattle.std.proofs.lemmas.List.{length-drop}
 use Rattle.sftp_calls.specs.TransferPlans.{part_len}
 use Rattle.sftp_plan.proofs.Going.{part_goes}
 use Rattle.sftp_plan.proofs.Leaving.{leaves_moved}
-use Rattle.sftp_plan.proofs.Fewer.{fewer_kept, kept_pends}
+use Rattle.sftp_plan.proofs.Fewer.{kept_pends}
 use Rattle.sftp_plan.proofs.Keeping.{keeps_kept, kept_there}
 use Rattle.sftp_plan.proofs.writing.part_replied.Goals as goal
 
