@@ -56,7 +56,8 @@ pub fn go_on(
     requires fits { Fits running reply }
     ensures goes { IfOk result (Goes (after running bytes.now site.old facts.now reply)
         place bytes.now site.new facts.now) }
-    ensures left { IfOk result (Leaves (left_after running bytes.now site.old facts.now reply) place bytes.now site.new facts.now) }
+    ensures left { IfOk result (Leaves (left_after running bytes.now site.old facts.now reply)
+        place bytes.now site.new facts.now) }
     ensures sound { IfOk result (Sounds bytes.now facts.now site.old site.new) }
     ensures pends { IfOk result (Pends (pends_after running site.old reply) place site.new) }
     ensures err { OnErr result (site.new ≡ site.old) }
