@@ -5,7 +5,7 @@ use Rattle.sftp_model.specs.declared.outcome.Outcome.TheVariants as outcome
 use Rattle.sftp_model.specs.declared.slot.Move.TheVariants.{Ask, Wait, Done}
 use Rattle.sftp_model.specs.FileMachine.{status}
 use Rattle.sftp_model.specs.Slots.{fresh_site}
-use Rattle.sftp_calls.specs.PlanWords.{after_handle, at, bare, file_at, handle, refused_with, write_at}
+use Rattle.sftp_calls.specs.PlanWords.{after_handle, at, bare, buffered, file_at, handle, refused_with, write_at}
 use Rattle.sftp_plan.specs.declared.next.Asked.TheVariants as asked
 use Rattle.sftp_plan.specs.declared.next.EndsBy.TheVariants as by
 use Rattle.sftp_plan.specs.declared.next.Running.TheVariants as running
@@ -48,3 +48,18 @@ part_of_whole = refl
 -- cancelled after the request of the rest: the file stands where that was asked
 pub part_cancelled : left_behind (running.Writing 1 (Some 0) (file_at 0 true true 5) 0) (codes "abc") (at 5) bare (write_at 2 7 (codes "c") ∷ []) (after_handle (status 0 ∷ [])) ≡ at 7
 part_cancelled = refl
+
+-- ---- a flush of two deferred writes
+
+pub flush_waits : residual (running.Flushing 0) [] (buffered 5 [] ((1, 2) ∷ (2, 1) ∷ []) None) bare [] (after_handle []) ≡ Wait 1
+flush_waits = refl
+
+pub flush_goes_on : residual (running.Flushing 0) [] (buffered 5 [] ((1, 2) ∷ (2, 1) ∷ []) None) bare [] (after_handle (status 0 ∷ [])) ≡ Wait 2
+flush_goes_on = refl
+
+-- the refused write was taken out too
+pub flush_refused : residual (running.Flushing 0) [] (buffered 5 [] ((1, 2) ∷ (2, 1) ∷ []) None) bare [] (after_handle (status 4 ∷ [])) ≡ Done (refused_with 4) (buffered 5 [] ((2, 1) ∷ []) None)
+flush_refused = refl
+
+pub flush_cancelled : left_behind (running.Flushing 0) [] (buffered 5 [] ((1, 2) ∷ (2, 1) ∷ []) None) bare [] (after_handle (status 0 ∷ [])) ≡ buffered 5 [] ((2, 1) ∷ []) None
+flush_cancelled = refl
