@@ -1,0 +1,82 @@
+-- What a lane awaits has a ticket: as a reply is polled, as a request is submitted, as a ticket is dropped.
+use Rattle.std.proofs.Common.{◌≡◌, ◌≢◌, ◌≤◌, ◌+◌, ◌-◌, ℕ, Bool, true, false, List, [], ◌∷◌, ◌++◌, Option, Some, None, refl, ap, sym, ◌∙◌, arith, if◌then◌else◌, inl, inr}
+use Rattle.std.specs.Prelude.{slice_get}
+use Rattle.std.proofs.lemmas.Bool.Decides.{eqb_tells}
+use Rattle.sftp_model.specs.declared.slot.Site.{Site}
+use Rattle.sftp_plan.specs.declared.next.Running.{Running}
+use Rattle.sftp_plan.specs.declared.next.Next.{Next}
+use Rattle.sftp_plan.specs.Machines.{awaited}
+use Rattle.sftp_plan.specs.Pending.{Pends, one, pends}
+use Rattle.sftp_ties.specs.Places.{IsRising, is_in, without}
+use Rattle.sftp_ties.specs.Lanes.{tickets_for}
+use Rattle.sftp_ties.proofs.PlaceLaws.{push_other, push_self, without_other}
+use Rattle.sftp_plan.specs.declared.next.Next.TheVariants as step
+use Rattle.sftp_plan.specs.declared.next.Running.TheVariants as running
+
+one_in : (p q : ℕ) → p ≡ q → one p q ≡ 1
+one_in p q e = elim (eqb_tells p q) [ inl t ↦ rw t.0 refl | inr t ↦ absurd (t.1 e) ]
+
+own_awaited : (place p n : ℕ) → (◌≡◌ {A = Option ℕ} (Some place) (Some p)) → 1 ≤ one place p + n
+own_awaited place p n e = (let here : one place p ≡ 1 = one_in place p cc in omega (arith, here))
+
+-- the reply that is awaited is counted
+pub awaited_pends : (r : Running) (site : Site) (p : ℕ) → awaited r site ≡ Some p → 1 ≤ pends p (Some r) site
+awaited_pends (running.Opening place slot flags) site p at = own_awaited _ p _ at
+awaited_pends other site p at = own_awaited _ p _ at
+
+-- what is awaited has a ticket
+pub awaited_has : (r : Running) (site : Site) (tickets : List ℕ) (p : ℕ) → ((q : ℕ) → pends q (Some r) site ≤ tickets_for tickets q) → awaited r site ≡ Some p → is_in p tickets ≡ true
+awaited_has r site tickets p all at = by_test (is_in p tickets) (all p) (awaited_pends r site p at)
+  where
+    by_test : (b : Bool) → pends p (Some r) site ≤ (if b then 1 else 0) → 1 ≤ pends p (Some r) site → b ≡ true
+    by_test true le some = refl
+    by_test false le some = absurd (omega (arith, le, some))
+
+-- ---- a ticket is gone
+
+one_out : (p q : ℕ) → q ≢ p → one p q ≡ 0
+one_out p q ne = elim (eqb_tells p q) [ inl t ↦ absurd (ne (sym t.1)) | inr t ↦ rw t.0 refl ]
+
+has_one : (tickets : List ℕ) (q : ℕ) → tickets_for tickets q ≤ 1
+has_one tickets q = by_test (is_in q tickets)
+  where
+    by_test : (b : Bool) → (if b then 1 else 0) ≤ 1
+    by_test true = omega arith
+    by_test false = omega arith
+
+-- the reply to a place was polled
+pub polled_has : (n : ℕ → ℕ) (tickets : List ℕ) (k p : ℕ) → IsRising tickets → slice_get tickets k ≡ Some p → ((q : ℕ) → n q ≤ tickets_for tickets q) → (q : ℕ) → n q - one p q ≤ tickets_for (without k tickets) q
+polled_has n tickets k p rising at all q = elim (eqb_tells q p) [
+  | inl t ↦ (let here : one p q ≡ 1 = one_in p q (sym t.1) in let le : n q ≤ tickets_for tickets q = all q in let top : tickets_for tickets q ≤ 1 = has_one tickets q in omega (arith, here, le, top))
+  | inr t ↦ (let here : one p q ≡ 0 = one_out p q t.1 in let le : n q ≤ tickets_for tickets q = all q in
+      let same : tickets_for (without k tickets) q ≡ tickets_for tickets q = ap (λ (b : Bool). if b then 1 else 0) (without_other tickets k p q at t.1) in omega (arith, here, le, same))
+]
+
+-- a ticket was dropped that nothing awaits
+pub dropped_has : (n : ℕ → ℕ) (tickets : List ℕ) (k p : ℕ) → slice_get tickets k ≡ Some p → n p ≡ 0 → ((q : ℕ) → n q ≤ tickets_for tickets q) → (q : ℕ) → n q ≤ tickets_for (without k tickets) q
+dropped_has n tickets k p at none all q = elim (eqb_tells q p) [
+  | inl t ↦ (let zero_here : n q ≡ 0 = ap n t.1 ∙ none in omega (arith, zero_here))
+  | inr t ↦ (let le : n q ≤ tickets_for tickets q = all q in let same : tickets_for (without k tickets) q ≡ tickets_for tickets q = ap (λ (b : Bool). if b then 1 else 0) (without_other tickets k p q at t.1) in omega (arith, le, same))
+]
+
+-- a request was submitted
+pub asked_has : (n : ℕ → ℕ) (tickets : List ℕ) (place : ℕ) → is_in place tickets ≡ false → ((q : ℕ) → n q ≤ tickets_for tickets q) → (q : ℕ) → n q + one place q ≤ tickets_for (tickets ++ place ∷ []) q
+asked_has n tickets place new all q = elim (eqb_tells q place) [
+  | inl t ↦ (let here : one place q ≡ 1 = one_in place q (sym t.1) in let le : n q ≤ tickets_for tickets q = all q in
+      let none : tickets_for tickets q ≡ 0 = ap (tickets_for tickets) t.1 ∙ ap (λ (b : Bool). if b then 1 else 0) new in
+      let some : tickets_for (tickets ++ place ∷ []) q ≡ 1 = ap (tickets_for (tickets ++ place ∷ [])) t.1 ∙ ap (λ (b : Bool). if b then 1 else 0) (push_self tickets place) in omega (arith, here, le, none, some))
+  | inr t ↦ (let here : one place q ≡ 0 = one_out place q t.1 in let le : n q ≤ tickets_for tickets q = all q in
+      let same : tickets_for (tickets ++ place ∷ []) q ≡ tickets_for tickets q = ap (λ (b : Bool). if b then 1 else 0) (push_other tickets place q t.1) in omega (arith, here, le, same))
+]
+
+-- ---- what a machine's answer awaits
+
+abbrev pub AwaitsStep : ℕ → Site → List ℕ → Next → Type 0
+AwaitsStep place site tickets (step.Ask a r) = (q : ℕ) → pends q (Some r) site ≤ tickets_for (tickets ++ place ∷ []) q
+AwaitsStep place site tickets (step.Wait r) = (q : ℕ) → pends q (Some r) site ≤ tickets_for tickets q
+AwaitsStep place site tickets (step.Done o) = (q : ℕ) → pends q None site ≤ tickets_for tickets q
+
+pub awaits_step : (before : ℕ → ℕ) (place : ℕ) (site : Site) (tickets : List ℕ) (n : Next) → Pends before place site n → is_in place tickets ≡ false → ((q : ℕ) → before q ≤ tickets_for tickets q) → AwaitsStep place site tickets n
+awaits_step before place site tickets (step.Ask a r) p new all = λ q. (let le : pends q (Some r) site ≤ before q + one place q = p q in let more : before q + one place q ≤ tickets_for (tickets ++ place ∷ []) q = asked_has before tickets place new all q in omega (arith, le, more))
+awaits_step before place site tickets (step.Wait r) p new all = λ q. (let le : pends q (Some r) site ≤ before q = p q in let more : before q ≤ tickets_for tickets q = all q in omega (arith, le, more))
+awaits_step before place site tickets (step.Done o) p new all = λ q. (let le : pends q None site ≤ before q = p q in let more : before q ≤ tickets_for tickets q = all q in omega (arith, le, more))

@@ -1,0 +1,115 @@
+-- What each entry makes of a lane's call, once for all calls.
+use Rattle.std.proofs.Common.{append_assoc, ◌≡◌, ℕ, false, List, [], ◌∷◌, ◌++◌, Option, Some, None, refl, ap, sym, ◌∙◌, subst}
+use Rattle.std.proofs.lemmas.List.{append-nil}
+use Rattle.sftp_model.specs.declared.outcome.Outcome.{Outcome}
+use Rattle.sftp_model.specs.declared.reply.Reply.{Reply}
+use Rattle.sftp_model.specs.declared.request.Request.{Request}
+use Rattle.sftp_model.specs.declared.slot.Facts.{Facts}
+use Rattle.sftp_model.specs.declared.slot.Move.TheVariants.{Done}
+use Rattle.sftp_model.specs.declared.slot.Site.{Site}
+use Rattle.sftp_calls.specs.Moves.{Answers, Plan, Own}
+use Rattle.sftp_calls.specs.OwnRequests.{Extends}
+use Rattle.sftp_plan.specs.declared.next.Running.{Running}
+use Rattle.sftp_plan.specs.declared.next.Next.{Next}
+use Rattle.sftp_plan.specs.Machines.{residual, after, awaited, filled, Goes, bytes_of, idle}
+use Rattle.sftp_history.specs.declared.call.Call.{Call}
+use Rattle.sftp_history.specs.declared.event.Owner.{Owner}
+use Rattle.sftp_history.specs.declared.event.Event.TheVariants.{Submit, Send, Take, End}
+use Rattle.sftp_history.specs.declared.entry.Entry.{Entry}
+use Rattle.sftp_history.specs.Readings.{asked, answer, ended, own, is_by, last_cancel}
+use Rattle.sftp_history.specs.Calls.{Setting, next, current, site_of, move_of, move_at, planned}
+use Rattle.sftp_history.proofs.CallLaws.{own_submit, own_other, end_site, end_own, ended_end}
+use Rattle.sftp_history.specs.Journals.{IsJournal, MayTake}
+use Rattle.sftp_history.proofs.RequestLaws.{answer_stays}
+use Rattle.sftp_ties.specs.Running.{RunTied, IsFrom, Steps, remaining, request_of}
+use Rattle.sftp_plan.specs.declared.next.Next.TheVariants as step
+use Rattle.sftp_history.specs.declared.entry.Entry.TheVariants as entry
+
+pub extends_self : (answers : Answers) → Extends answers answers
+extends_self answers place r e = e
+
+-- ---- a lane's move
+
+-- the move of a call is what is left of its plan, at the replies so far
+pub move_left : (s : Setting) (past : List Entry) (lane : ℕ) (running : Option Running) (site : Site) (c : Call) → RunTied s past lane running site → current s past lane ≡ Some c → move_of s past lane ≡ Some (remaining running c site s.facts [] (answer past))
+move_left s past lane running site c tied is =
+    ap (λ x. move_at x (site_of s past lane) s.facts (own past lane (ended past lane)) (answer past)) is
+    ∙ ap (λ m. Some m) (ap (λ (o : Own). next c (site_of s past lane) s.facts o (answer past)) (sym (append-nil (own past lane (ended past lane)))) ∙ tied c is (answer past) (extends_self (answer past)) [])
+
+-- a call that was not begun
+pub tied_idle : (s : Setting) (past : List Entry) (lane : ℕ) (site : Site) → own past lane (ended past lane) ≡ [] → site ≡ site_of s past lane → RunTied s past lane None site
+tied_idle s past lane site none same c is answers known later = rw (none, same) refl
+
+-- ---- what others do
+
+-- an entry that leaves the lane's readings, and no reply away
+pub tied_by : (s : Setting) (past now : List Entry) (lane : ℕ) (running : Option Running) (site : Site) → current s now lane ≡ current s past lane → site_of s now lane ≡ site_of s past lane → own now lane (ended now lane) ≡ own past lane (ended past lane)
+    → Extends (answer past) (answer now) → RunTied s past lane running site → RunTied s now lane running site
+tied_by s past now lane running site ec es eo grows tied c is answers known later =
+    ap (λ (x : Site). next c x s.facts (own now lane (ended now lane) ++ later) answers) es
+    ∙ (ap (λ (o : Own). next c (site_of s past lane) s.facts (o ++ later) answers) eo ∙ tied c (sym ec ∙ is) answers (λ place r e. known place r (grows place r e)) later)
+
+-- a reply that was taken
+pub tied_take : (s : Setting) (past : List Entry) (lane id : ℕ) (r : Reply) (running : Option Running) (site : Site) → MayTake past id r → RunTied s past lane running site → RunTied s (entry.Event (Take id r) ∷ past) lane running site
+tied_take s past lane id r running site may tied =
+    tied_by s past (entry.Event (Take id r) ∷ past) lane running site refl refl refl (λ place q e. answer_stays past id r q place may e) tied
+
+-- another's request
+pub tied_other : (s : Setting) (past : List Entry) (lane id : ℕ) (by : Owner) (r : Request) (running : Option Running) (site : Site) → is_by by lane (ended past lane) ≡ false → RunTied s past lane running site → RunTied s (entry.Event (Submit by id r) ∷ past) lane running site
+tied_other s past lane id by r running site other tied =
+    tied_by s past (entry.Event (Submit by id r) ∷ past) lane running site refl refl (own_other past by id r lane (ended past lane) other) (λ place q e. e) tied
+
+pub tied_send : (s : Setting) (past : List Entry) (lane : ℕ) (running : Option Running) (site : Site) → RunTied s past lane running site → RunTied s (entry.Event Send ∷ past) lane running site
+tied_send s past lane running site tied = tied
+
+-- ---- what the lane's machine does
+
+-- the reply that is awaited came
+came : (running : Running) (bytes : List ℕ) (site : Site) (facts : Facts) (later : Own) (answers : Answers) (p : ℕ) (y : Reply) → awaited running site ≡ Some p → answers p ≡ Some y → residual running bytes site facts later answers ≡ after running bytes site facts (Some y) later answers
+came running bytes site facts later answers p y at got = rw at (rw got refl)
+
+pub from_start : (past : List Entry) (c : Call) (site : Site) (facts : Facts) → IsFrom past None c site facts (next c site facts)
+from_start past c site facts answers known later = refl
+
+pub from_reply : (past : List Entry) (running : Running) (c : Call) (site : Site) (facts : Facts) (p : ℕ) (y : Reply) → awaited running site ≡ Some p → answer past p ≡ Some y → IsFrom past (Some running) c site facts (after running (bytes_of (planned c)) site facts (Some y))
+from_reply past running c site facts p y at got answers known later = came running (bytes_of (planned c)) site facts later answers p y at (known p y got)
+
+pub from_none : (past : List Entry) (running : Running) (c : Call) (site : Site) (facts : Facts) → awaited running site ≡ None → IsFrom past (Some running) c site facts (after running (bytes_of (planned c)) site facts None)
+from_none past running c site facts at answers known later = rw at refl
+
+-- an Ask, a wait for another reply, and an end, once for all calls
+pub steps : (s : Setting) (past : List Entry) (lane : ℕ) (running : Option Running) (site later : Site) (c : Call) (plan : Plan) (n : Next) → RunTied s past lane running site → current s past lane ≡ Some c → IsFrom past running c site s.facts plan → Goes plan (asked past) (bytes_of (planned c)) later s.facts n → Steps s past lane n later
+steps s past lane running site later c plan (step.Ask a r) tied is from goes =
+    let now : Answers = answer past in (
+      move_left s past lane running site c tied is ∙ ap (λ m. Some m) (from now (extends_self now) [] ∙ (goes now).0),
+      λ id stays d same answers known more.
+          (let q : Request = filled a now in
+          let new : ℕ × Request = (asked past, q) in
+          let mine : Own = own past lane (ended past lane) in
+          let here : c ≡ d = cc in
+          let grown : own (request_of past lane id a ∷ past) lane (ended past lane) ≡ mine ++ new ∷ [] = own_submit past lane (ended past lane) id q in
+          ap (λ (o : Own). next d (site_of s past lane) s.facts (o ++ more) answers) grown
+          ∙ (ap (λ (o : Own). next d (site_of s past lane) s.facts o answers) (append_assoc mine (new ∷ []) more)
+          ∙ (tied d same answers known (new ∷ more)
+          ∙ subst (λ (x : Call). remaining running x site s.facts (new ∷ more) answers ≡ residual r (bytes_of (planned x)) later s.facts more answers) here (from answers known (new ∷ more) ∙ (ap (λ (x : Request). plan ((asked past, x) ∷ more) answers) (sym (stays answers known)) ∙ (goes answers).1 more))))),
+    )
+steps s past lane running site later c plan (step.Wait r) tied is from goes = λ d same answers known more.
+    (let here : c ≡ d = cc in
+    tied d same answers known more ∙ subst (λ (x : Call). remaining running x site s.facts more answers ≡ residual r (bytes_of (planned x)) later s.facts more answers) here (from answers known more ∙ goes answers more))
+steps s past lane running site later c plan (step.Done o) tied is from goes =
+    let now : Answers = answer past in
+    move_left s past lane running site c tied is ∙ ap (λ m. Some m) (from now (extends_self now) [] ∙ goes now)
+
+-- the reply that is awaited did not come: the call does what it does meanwhile
+pub waits : (s : Setting) (past : List Entry) (lane : ℕ) (running : Running) (site : Site) (c : Call) (p : ℕ) → RunTied s past lane (Some running) site → current s past lane ≡ Some c → awaited running site ≡ Some p → answer past p ≡ None
+    → move_of s past lane ≡ Some (idle running (bytes_of (planned c)) site s.facts [] (answer past))
+waits s past lane running site c p tied is at none = move_left s past lane (Some running) site c tied is ∙ ap (λ m. Some m) (rw at (rw none refl))
+
+-- behind an end the lane holds what the machine left, and the next call was not begun
+pub tied_end : (s : Setting) (past : List Entry) (lane : ℕ) (o : Outcome) (site : Site) → IsJournal s past → last_cancel past ≡ None → move_of s past lane ≡ Some (Done o site)
+    → RunTied s (entry.Event (End lane (ended past lane) o) ∷ past) lane None site
+tied_end s past lane o site j calm is =
+    let now : List Entry = entry.Event (End lane (ended past lane) o) ∷ past in
+    tied_idle s now lane site
+    (ap (λ (n : ℕ). own now lane n) (ended_end past lane (ended past lane) o) ∙ end_own s past lane o j)
+    (sym (end_site s past lane o site calm is))

@@ -1,0 +1,5 @@
+use Rattle.sftp_ties.proofs.OrderLaws.{newer_grants}
+use Rattle.sftp_ties.proofs.laws.later_calls_stand_behind.Goals as goal
+
+pub returns : goal.returns
+returns c = newer_grants

@@ -1,0 +1,11 @@
+pub mod Places
+pub mod Tables
+pub mod Running
+pub mod Dues
+pub mod Lanes
+pub mod Changes
+pub mod Going
+pub mod Letting
+pub mod LaneTurns
+pub mod DueTurns
+pub mod SessionTurns
