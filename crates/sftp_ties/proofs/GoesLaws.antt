@@ -4,12 +4,11 @@ use Rattle.std.proofs.Common.{refl, ◌≡◌, ◌≢◌, ◌≤◌, ℕ, false,
 use Rattle.sftp_model.specs.declared.outcome.Outcome.{Outcome}
 use Rattle.sftp_model.specs.declared.slot.Site.{Site}
 use Rattle.sftp_model.specs.declared.reply.Reply.{Reply}
-use Rattle.sftp_model.specs.declared.slot.Facts.{Facts}
-use Rattle.sftp_calls.specs.Moves.{Answers, Own, Plan}
+use Rattle.sftp_calls.specs.Moves.{Plan}
 use Rattle.sftp_plan.specs.declared.next.Asked.{Asked}
 use Rattle.sftp_plan.specs.declared.next.Running.{Running}
 use Rattle.sftp_plan.specs.Sound.{AreWithin, Sound, Sounds}
-use Rattle.sftp_plan.specs.Cancelling.{left_behind, left_after, Leaving}
+use Rattle.sftp_plan.specs.Cancelling.{left_after, Leaving}
 use Rattle.sftp_plan.specs.Pending.{Pends, pends, pends_after, pends_idle}
 use Rattle.sftp_plan.specs.declared.next.Next.{Next}
 use Rattle.sftp_plan.specs.Machines.{after, awaited, bytes_of}
@@ -23,11 +22,12 @@ use Rattle.sftp_history.specs.Journals.{IsJournal}
 use Rattle.sftp_ties.specs.Running.{Steps, CancelSteps, CancelTied, IsFilled, request_of, IsFrom, LeavesFrom, RunTied, leaving}
 use Rattle.sftp_ties.specs.Places.{is_in, IsRising, without}
 use Rattle.sftp_ties.specs.Lanes.{LaneGoes, tickets_for}
-use Rattle.sftp_ties.specs.Going.{Answered, GoesOn}
+use Rattle.sftp_ties.specs.Going.{GoesOn, MachineStep}
 use Rattle.sftp_ties.proofs.CancelLaws.{cancel_leaves, cancel_idle, cancel_steps}
 use Rattle.sftp_ties.proofs.PendLaws.{awaits_step, polled_has}
 use Rattle.sftp_ties.proofs.RunningLaws.{from_none, from_reply, steps, tied_idle}
 use Rattle.sftp_ties.proofs.PlaceLaws.{without_out}
+use Rattle.sftp_ties.proofs.FlushLaws.{left_came, left_none}
 use Rattle.sftp_plan.specs.declared.next.Next.TheVariants as step
 use Rattle.sftp_history.specs.declared.entry.Entry.TheVariants as entry
 
@@ -104,7 +104,7 @@ cancelled_goes s past lane o running old site c tickets j tied is left sixteen w
 -- what the lane's machine answers, from this plan
 machine_goes : (s : Setting) (past : List Entry) (lane : ℕ) (c : Call) (running : Option Running) (old site : Site) (tickets : List ℕ) (plan : Plan) (leave : Leaving) (before : ℕ → ℕ) (n : Next) → current s past lane ≡ Some c
     → RunTied s past lane running old → CancelTied s past lane running old → length old.slots ≡ 16 → AreWithin s.facts old → IsFrom past running c old s.facts plan → LeavesFrom past running c old s.facts leave
-    → is_in (asked past) tickets ≡ false → ((q : ℕ) → before q ≤ tickets_for tickets q) → Answered s past c plan leave before old site n → GoesOn s past lane tickets site n
+    → is_in (asked past) tickets ≡ false → ((q : ℕ) → before q ≤ tickets_for tickets q) → MachineStep s past c plan leave before old site n → GoesOn s past lane tickets site n
 machine_goes s past lane c running old site tickets plan leave before n is runs cancels sixteen within from leaves_from new all a =
     by_next n (steps s past lane running old site c plan n runs is from a.goes) (cancel_steps s past lane running old site c leave n cancels is leaves_from a.left) a.sound a.pends
   where
@@ -113,13 +113,9 @@ machine_goes s past lane c running old site tickets plan leave before n is runs 
     by_next (step.Wait r) st left sounds pend = wait_goes s past lane (asked past) c old site tickets before r is sixteen within st left sounds pend new all
     by_next (step.Done o) st left sounds pend = (st, λ j calm. done_goes s past lane o c old site tickets before j calm sixteen within st sounds pend new all)
 
--- what a cancelled call leaves is the same behind the reply that was awaited
-left_came : (r : Running) (bytes : List ℕ) (site : Site) (facts : Facts) (y : Reply) (later : Own) (answers : Answers) → left_behind r bytes site facts later answers ≡ left_after r bytes site facts (Some y) later answers
-left_came r bytes site facts y later answers = refl
-
 -- The lane's next call begins.
 pub begin_goes : (s : Setting) (past : List Entry) (lane : ℕ) (c : Call) (old site : Site) (tickets : List ℕ) (n : Next) → current s past lane ≡ Some c → LaneGoes s past lane None old tickets → is_in (asked past) tickets ≡ false
-    → Answered s past c (next c old s.facts) (cancelled c old s.facts) (pends_idle old) old site n → GoesOn s past lane tickets site n
+    → MachineStep s past c (next c old s.facts) (cancelled c old s.facts) (pends_idle old) old site n → GoesOn s past lane tickets site n
 begin_goes s past lane c old site tickets n is l new a =
     machine_goes s past lane c None old site tickets (next c old s.facts) (cancelled c old s.facts) (pends_idle old) n is (tied_idle s past lane old l.runs.0 l.runs.1) (cancel_idle s past lane old l.runs.0 l.runs.1) l.sixteen l.within
     (λ answers known later. refl) (λ answers known later. refl) new l.awaits a
@@ -127,16 +123,16 @@ begin_goes s past lane c old site tickets n is l new a =
 -- A call goes on behind the reply that it awaited, whose ticket is gone.
 pub reply_goes : (s : Setting) (past : List Entry) (lane k p : ℕ) (c : Call) (r : Running) (y : Reply) (old site : Site) (tickets : List ℕ) (n : Next) → current s past lane ≡ Some c → LaneGoes s past lane (Some r) old tickets
     → IsRising tickets → slice_get tickets k ≡ Some p → awaited r old ≡ Some p → answer past p ≡ Some y → is_in (asked past) tickets ≡ false
-    → Answered s past c (after r (bytes_of (planned c)) old s.facts (Some y)) (left_after r (bytes_of (planned c)) old s.facts (Some y)) (pends_after r old (Some y)) old site n → GoesOn s past lane (without k tickets) site n
+    → MachineStep s past c (after r (bytes_of (planned c)) old s.facts (Some y)) (left_after r (bytes_of (planned c)) old s.facts (Some y)) (pends_after r old (Some y)) old site n → GoesOn s past lane (without k tickets) site n
 reply_goes s past lane k p c r y old site tickets n is l rising at awaits got new a =
     machine_goes s past lane c (Some r) old site (without k tickets) (after r (bytes_of (planned c)) old s.facts (Some y)) (left_after r (bytes_of (planned c)) old s.facts (Some y)) (pends_after r old (Some y)) n is l.runs.0 l.runs.1 l.sixteen l.within
-    (from_reply past r c old s.facts p y awaits got) (λ answers known later. left_came r (bytes_of (planned c)) old s.facts y later answers) (without_out tickets k (asked past) new)
+    (from_reply past r c old s.facts p y awaits got) (λ answers known later. left_came r (bytes_of (planned c)) old s.facts later answers p y awaits (known p y got)) (without_out tickets k (asked past) new)
     (rw awaits (polled_has (λ q. pends q (Some r) old) tickets k p rising at l.awaits)) a
 
 -- A call goes on that awaits no reply.
 pub unreplied_goes : (s : Setting) (past : List Entry) (lane : ℕ) (c : Call) (r : Running) (old site : Site) (tickets : List ℕ) (n : Next) → current s past lane ≡ Some c → LaneGoes s past lane (Some r) old tickets
     → awaited r old ≡ None → is_in (asked past) tickets ≡ false
-    → Answered s past c (after r (bytes_of (planned c)) old s.facts None) (left_after r (bytes_of (planned c)) old s.facts None) (pends_after r old None) old site n → GoesOn s past lane tickets site n
+    → MachineStep s past c (after r (bytes_of (planned c)) old s.facts None) (left_after r (bytes_of (planned c)) old s.facts None) (pends_after r old None) old site n → GoesOn s past lane tickets site n
 unreplied_goes s past lane c r old site tickets n is l awaits new a =
     machine_goes s past lane c (Some r) old site tickets (after r (bytes_of (planned c)) old s.facts None) (left_after r (bytes_of (planned c)) old s.facts None) (pends_after r old None) n is l.runs.0 l.runs.1 l.sixteen l.within
-    (from_none past r c old s.facts awaits) (λ answers known later. refl) new l.awaits a
+    (from_none past r c old s.facts awaits) (λ answers known later. left_none r (bytes_of (planned c)) old s.facts later answers) new l.awaits a

@@ -1,11 +1,16 @@
 -- The grants of a machine's site are those that its lane holds: no invariant says it, for what a cancelled call leaves has them.
-use Rattle.std.proofs.Common.{◌≡◌, ℕ, List, [], ◌∷◌, Some, refl, ap, sym, ◌∙◌}
+use Rattle.std.proofs.Common.{Option, None, ◌≡◌, ℕ, List, [], ◌∷◌, Some, refl, ap, sym, ◌∙◌}
 use Rattle.sftp_model.specs.declared.slot.Facts.{Facts}
+use Rattle.sftp_model.specs.declared.slot.Slot.{Slot}
+use Rattle.sftp_model.specs.declared.slot.Slot.TheVariants.{Empty, File, Buffered}
+use Rattle.sftp_model.specs.Slots.{grant_of, slot_at, with_slot, has_grant}
 use Rattle.sftp_model.specs.declared.slot.Site.{Site}
-use Rattle.sftp_model.specs.Slots.{has_grant}
-use Rattle.sftp_calls.specs.Moves.{Answers, Own}
+use Rattle.sftp_calls.specs.Moves.{left_on_buffered, left_on_file, Answers, Own}
+use Rattle.sftp_calls.specs.TransferPlans.{cancelled_transfer, last_offset}
+use Rattle.sftp_calls.specs.BufferPlans.{cancelled_buf_flush, unflushed, with_deferred}
+use Rattle.sftp_calls.proofs.SlotLaws.{same_set}
+use Rattle.sftp_plan.specs.Cancelling.{left_kept, left_behind}
 use Rattle.sftp_plan.specs.declared.next.Running.{Running}
-use Rattle.sftp_plan.specs.Cancelling.{left_behind}
 use Rattle.sftp_plan.specs.Machines.{bytes_of}
 use Rattle.sftp_history.specs.declared.call.Call.{Call}
 use Rattle.sftp_history.specs.declared.entry.Entry.{Entry}
@@ -22,9 +27,31 @@ cancelled_grants (call.Close slot) site facts [] answers g = refl
 cancelled_grants (call.Close slot) site facts (asked ∷ later) answers g = refl
 cancelled_grants other site facts own answers g = refl
 
+transfer_grants : (slot : ℕ) (site : Site) (facts : Facts) (own : Own) (answers : Answers) (g : ℕ) → has_grant (cancelled_transfer slot site facts own answers) g ≡ has_grant site g
+transfer_grants slot site facts own answers g = by_slot (slot_at site slot) refl
+  where
+    by_slot : (x : Slot) → slot_at site slot ≡ x → has_grant (left_on_file x site (λ file. with_slot site slot (File (record file { offset = last_offset file.offset own })))) g ≡ has_grant site g
+    by_slot Empty at = refl
+    by_slot (File file) at = same_set site slot file.grant (File (record file { offset = last_offset file.offset own })) (ap grant_of at) refl g
+    by_slot (Buffered file buffer) at = refl
+
+kept_grants : (slot : Option ℕ) (site : Site) (facts : Facts) (own : Own) (answers : Answers) (g : ℕ) → has_grant (left_kept slot site facts own answers) g ≡ has_grant site g
+kept_grants None site facts own answers g = refl
+kept_grants (Some slot) site facts own answers g = transfer_grants slot site facts own answers g
+
+flush_grants : (slot : ℕ) (site : Site) (facts : Facts) (own : Own) (answers : Answers) (g : ℕ) → has_grant (cancelled_buf_flush slot site facts own answers) g ≡ has_grant site g
+flush_grants slot site facts own answers g = by_slot (slot_at site slot) refl
+  where
+    by_slot : (x : Slot) → slot_at site slot ≡ x → has_grant (left_on_buffered x site (λ file buffer. with_deferred slot file buffer site (unflushed answers buffer.deferred))) g ≡ has_grant site g
+    by_slot Empty at = refl
+    by_slot (File file) at = refl
+    by_slot (Buffered file buffer) at = same_set site slot file.grant (Buffered file (record buffer { deferred = unflushed answers buffer.deferred })) (ap grant_of at) refl g
+
 -- and those of the machine's site
 pub left_grants : (r : Running) (bytes : List ℕ) (site : Site) (facts : Facts) (answers : Answers) (g : ℕ) → has_grant (left_behind r bytes site facts [] answers) g ≡ has_grant site g
-left_grants (running.Opening place slot flags) bytes site facts answers g = refl
+left_grants (running.Gathering place slot file got left len) bytes site facts answers g = transfer_grants slot site facts [] answers g
+left_grants (running.Writing place slot file done) bytes site facts answers g = kept_grants slot site facts [] answers g
+left_grants (running.Flushing slot) bytes site facts answers g = flush_grants slot site facts [] answers g
 left_grants other bytes site facts answers g = refl
 
 -- within a call

@@ -29,6 +29,7 @@ pub mod TurnLaws
 pub mod ReplyLaws
 pub mod LaneLaws
 pub mod RestLaws
+pub mod FlushLaws
 pub mod StepLaws
 pub mod TableLaws
 pub mod TakeHolds

@@ -1,12 +1,15 @@
 -- What a lane awaits has a ticket: as a reply is polled, as a request is submitted, as a ticket is dropped.
-use Rattle.std.proofs.Common.{◌≡◌, ◌≢◌, ◌≤◌, ◌+◌, ◌-◌, ℕ, Bool, true, false, List, [], ◌∷◌, ◌++◌, Option, Some, None, refl, ap, sym, ◌∙◌, arith, if◌then◌else◌, inl, inr}
-use Rattle.std.specs.Prelude.{slice_get}
+use Rattle.std.proofs.Common.{◌≡◌, ◌≢◌, ◌≤◌, ◌+◌, ◌-◌, ℕ, zero, suc, Bool, true, false, List, [], ◌∷◌, ◌++◌, Option, Some, None, refl, ap, sym, ◌∙◌, arith, if◌then◌else◌, inl, inr}
+use Rattle.std.specs.Prelude.{slice_get, slice_index_or}
 use Rattle.std.proofs.lemmas.Bool.Decides.{eqb_tells}
 use Rattle.sftp_model.specs.declared.slot.Site.{Site}
+use Rattle.sftp_model.specs.declared.slot.Slot.{Slot}
+use Rattle.sftp_model.specs.declared.slot.Slot.TheVariants.{Empty, File, Buffered}
 use Rattle.sftp_plan.specs.declared.next.Running.{Running}
 use Rattle.sftp_plan.specs.declared.next.Next.{Next}
 use Rattle.sftp_plan.specs.Machines.{awaited}
-use Rattle.sftp_plan.specs.Pending.{Pends, one, pends}
+use Rattle.sftp_plan.specs.Buffers.{oldest, oldest_in}
+use Rattle.sftp_plan.specs.Pending.{Pends, one, pends, slot_times, slots_times, writes_times}
 use Rattle.sftp_ties.specs.Places.{IsRising, is_in, without}
 use Rattle.sftp_ties.specs.Lanes.{tickets_for}
 use Rattle.sftp_ties.proofs.PlaceLaws.{push_other, push_self, without_other}
@@ -19,9 +22,23 @@ one_in p q e = elim (eqb_tells p q) [ inl t ↦ rw t.0 refl | inr t ↦ absurd (
 own_awaited : (place p n : ℕ) → (◌≡◌ {A = Option ℕ} (Some place) (Some p)) → 1 ≤ one place p + n
 own_awaited place p n e = (let here : one place p ≡ 1 = one_in place p cc in omega (arith, here))
 
+oldest_times : (writes : List (ℕ × ℕ)) (p : ℕ) → oldest writes ≡ Some p → 1 ≤ writes_times p writes
+oldest_times [] p at = absurd cc
+oldest_times (write ∷ writes) p at = own_awaited write.0 p (writes_times p writes) at
+
+slot_awaits : (x : Slot) (p : ℕ) → oldest_in x ≡ Some p → 1 ≤ slot_times p x
+slot_awaits Empty p at = absurd cc
+slot_awaits (File file) p at = absurd cc
+slot_awaits (Buffered file buffer) p at = (let some : 1 ≤ writes_times p buffer.deferred = oldest_times buffer.deferred p at in omega (arith, some))
+
+slots_await : (slots : List Slot) (k p : ℕ) → oldest_in (slice_index_or slots k Empty) ≡ Some p → 1 ≤ slots_times p slots
+slots_await [] k p at = absurd cc
+slots_await (slot ∷ slots) zero p at = (let some : 1 ≤ slot_times p slot = slot_awaits slot p at in omega (arith, some))
+slots_await (slot ∷ slots) (suc k) p at = (let some : 1 ≤ slots_times p slots = slots_await slots k p at in omega (arith, some))
+
 -- the reply that is awaited is counted
 pub awaited_pends : (r : Running) (site : Site) (p : ℕ) → awaited r site ≡ Some p → 1 ≤ pends p (Some r) site
-awaited_pends (running.Opening place slot flags) site p at = own_awaited _ p _ at
+awaited_pends (running.Flushing slot) site p at = slots_await site.slots slot p at
 awaited_pends other site p at = own_awaited _ p _ at
 
 -- what is awaited has a ticket

@@ -21,7 +21,7 @@ use Rattle.sftp_history.specs.declared.entry.Entry.TheVariants as entry
 
 -- The clauses of a machine's answer: it goes by this plan, leaves what a call leaves that is cancelled, and awaits no
 -- more than what was awaited before and its own request. The lane's site was the first one, and is the second.
-pub record Answered (s : Setting) (past : List Entry) (c : Call) (plan : Plan) (leave : Leaving) (before : ℕ → ℕ) (old new : Site) (n : Next) : Type 0 where
+pub record MachineStep (s : Setting) (past : List Entry) (c : Call) (plan : Plan) (leave : Leaving) (before : ℕ → ℕ) (old new : Site) (n : Next) : Type 0 where
   pub goes : Goes plan (asked past) (bytes_of (planned c)) new s.facts n
   pub left : Leaves leave (asked past) (bytes_of (planned c)) new s.facts n
   pub sound : Sounds (bytes_of (planned c)) s.facts old new n

@@ -22,7 +22,7 @@ use Rattle.sftp_history.specs.Journals.{IsJournal}
 use Rattle.sftp_ties.specs.Places.{IsBelow, is_in, without}
 use Rattle.sftp_ties.specs.Running.{leaving}
 use Rattle.sftp_ties.specs.Lanes.{AllOf, Held, LaneGoes, LaneTied, LaneValue, SessionTied, Ticketed, ticket_places, tickets_for}
-use Rattle.sftp_ties.specs.Going.{Answered, GoesOn}
+use Rattle.sftp_ties.specs.Going.{GoesOn, MachineStep}
 use Rattle.sftp_history.specs.declared.entry.Entry.TheVariants as entry
 
 -- ---- what the core has for a lane
@@ -47,19 +47,19 @@ GrantsCount = (s : Setting) (past : List Entry) (core : Core) (lanes : ℕ → L
 -- The lane's next call begins.
 abbrev pub BeginGoes : Type 0
 BeginGoes = (s : Setting) (past : List Entry) (lane : ℕ) (v : LaneValue) (dues : List ℕ) (c : Call) (site : Site) (n : Next) → LaneTied s past lane v dues → current s past lane ≡ Some c → v.running ≡ None
-    → Answered s past c (next c v.site s.facts) (cancelled c v.site s.facts) (pends_idle v.site) v.site site n → GoesOn s past lane (ticket_places v.tickets) site n
+    → MachineStep s past c (next c v.site s.facts) (cancelled c v.site s.facts) (pends_idle v.site) v.site site n → GoesOn s past lane (ticket_places v.tickets) site n
 
 -- A call goes on after the reply that it awaited, whose ticket is spent.
 abbrev pub ReplyGoes : Type 0
 ReplyGoes = (s : Setting) (past : List Entry) (lane k : ℕ) (v : LaneValue) (dues : List ℕ) (c : Call) (r : Running) (t : Ticketed) (y : Reply) (site : Site) (n : Next) → LaneTied s past lane v dues → current s past lane ≡ Some c → v.running ≡ Some r
     → slice_get v.tickets k ≡ Some t → awaited r v.site ≡ Some t.place → answer past t.place ≡ Some y
-    → Answered s past c (after r (bytes_of (planned c)) v.site s.facts (Some y)) (left_after r (bytes_of (planned c)) v.site s.facts (Some y)) (pends_after r v.site (Some y)) v.site site n
+    → MachineStep s past c (after r (bytes_of (planned c)) v.site s.facts (Some y)) (left_after r (bytes_of (planned c)) v.site s.facts (Some y)) (pends_after r v.site (Some y)) v.site site n
     → GoesOn s past lane (without k (ticket_places v.tickets)) site n
 
 -- A call goes on that awaits no reply.
 abbrev pub UnrepliedGoes : Type 0
 UnrepliedGoes = (s : Setting) (past : List Entry) (lane : ℕ) (v : LaneValue) (dues : List ℕ) (c : Call) (r : Running) (site : Site) (n : Next) → LaneTied s past lane v dues → current s past lane ≡ Some c → v.running ≡ Some r
-    → awaited r v.site ≡ None → Answered s past c (after r (bytes_of (planned c)) v.site s.facts None) (left_after r (bytes_of (planned c)) v.site s.facts None) (pends_after r v.site None) v.site site n
+    → awaited r v.site ≡ None → MachineStep s past c (after r (bytes_of (planned c)) v.site s.facts None) (left_after r (bytes_of (planned c)) v.site s.facts None) (pends_after r v.site None) v.site site n
     → GoesOn s past lane (ticket_places v.tickets) site n
 
 -- The lane has a ticket of the reply that its call awaits; where the reply is missing the lane's move is what the call
