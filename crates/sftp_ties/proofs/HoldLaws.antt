@@ -1,5 +1,5 @@
 -- What a lane has of tickets and grants, as it polls, drops and ends.
-use Rattle.std.proofs.Common.{◌≡◌, ◌≢◌, ◌==◌, ℕ, zero, suc, Bool, true, false, List, [], ◌∷◌, ◌++◌, Option, Some, None, refl, ap, sym, ◌∙◌, subst, inl, inr}
+use Rattle.std.proofs.Common.{◌<◌, ◌≡◌, ◌≢◌, ◌==◌, ℕ, zero, suc, Bool, true, false, List, [], ◌∷◌, ◌++◌, Option, Some, None, refl, ap, sym, ◌∙◌, subst, inl, inr}
 use Rattle.std.specs.Prelude.{◌&&◌, ◌||◌, length, slice_get}
 use Rattle.std.proofs.lemmas.Bool.{or_cases, or_right}
 use Rattle.std.proofs.lemmas.Bool.Decides.{eqb_tells}
@@ -16,7 +16,7 @@ use Rattle.sftp_history.proofs.PlannedLaws.{held_less}
 use Rattle.sftp_history.specs.Ids.{Replied, id_state}
 use Rattle.sftp_history.specs.Journals.{IsJournal}
 use Rattle.sftp_history.proofs.ClosedLaws.{gone_loose}
-use Rattle.sftp_ties.specs.Places.{IsRising, is_in, without}
+use Rattle.sftp_ties.specs.Places.{IsRising, is_in, without, IsBelow}
 use Rattle.sftp_ties.specs.Tables.{place_of}
 use Rattle.sftp_ties.specs.Lanes.{AllOf, GrantsTied, Held, LaneHolds, Ticketed, TicketsTied, grant_places, is_of, ticket_places}
 use Rattle.sftp_ties.specs.Changes.{Brought, brought}
@@ -107,18 +107,15 @@ spent_holds s past lane k ts gs dues t h at plain done =
       holding = h.holding;
     }
 
-pub granted_holds : (s : Setting) (past : List Entry) (lane k : ℕ) (ts : List Ticketed) (gs : List Held) (dues : List ℕ) (t : Ticketed) (handle : List ℕ) → IsJournal s past → LaneHolds s past lane ts gs dues → slice_get ts k ≡ Some t → Brought s past lane gs t handle
+pub granted_holds : (s : Setting) (past : List Entry) (lane k : ℕ) (ts : List Ticketed) (gs : List Held) (dues : List ℕ) (t : Ticketed) (handle : List ℕ) → LaneHolds s past lane ts gs dues → slice_get ts k ≡ Some t → Brought s past lane gs dues t handle
     → LaneHolds s past lane (without k ts) (gs ++ brought t handle ∷ []) dues
-granted_holds s past lane k ts gs dues t handle j h at b =
+granted_holds s past lane k ts gs dues t handle h at b =
     let ps : List ℕ = ticket_places ts in
     let here : slice_get ps k ≡ Some t.place = ticket_index ts k t at in
     let left : ticket_places (without k ts) ≡ without k ps = ticket_without ts k in
     let new : Held = brought t handle in
     let more : grant_places (gs ++ new ∷ []) ≡ grant_places gs ++ t.place ∷ [] = places_push gs new in
     let grant : is_grant past t.place ≡ true = ap is_granted b.got in
-    let holder : holds s past t.place lane ≡ true = or_right (has_grant (held_site s past lane) t.place) (is_unended_asker past lane t.place) b.mine in
-    let unclosed : is_one_of (closed s past) t.place ≡ false = open_still (is_one_of (closed s past) t.place) (λ e. (let lost : is_held s past t.place ≡ false = (gone_loose s past t.place j e).1 in let kept : is_held s past t.place ≡ true = any_passes (holds s past t.place) (length s.lanes) lane b.there holder in
-    let clash : false ≡ true = sym lost ∙ kept in absurd cc)) in
     record {
       tied = tied_without past ts k h.tied;
       tied_of = subst (λ (l : List ℕ). AllOf past lane l) (sym left) (of_without past lane ps k h.tied_of);
@@ -135,16 +132,26 @@ granted_holds s past lane k ts gs dues t handle j h at b =
           (let apart : g ≢ t.place = λ e. (let clash : true ≡ false = sym (push_self (grant_places gs) t.place) ∙ (ap (λ (n : ℕ). is_in n (grant_places gs ++ t.place ∷ [])) (sym e) ∙ (ap (is_in g) (sym more) ∙ out)) in absurd cc) in
           ap (is_in g) left ∙ (without_other ps k t.place g here apart ∙ h.whole g granted open_g holds_g (sym (push_other (grant_places gs) t.place g apart) ∙ (ap (is_in g) (sym more) ∙ out))));
       holding = λ g e. elim (eqb_tells g t.place) [
-        | inl d ↦ subst (λ (n : ℕ). (is_grant past n ≡ true) × ((is_one_of (closed s past) n ≡ false) × (is_in n dues ≡ false → holds s past n lane ≡ true))) (sym d.1) (grant, (unclosed, λ due. holder))
+        | inl d ↦ subst (λ (n : ℕ). (is_grant past n ≡ true) × ((is_one_of (closed s past) n ≡ false) × (is_in n dues ≡ false → holds s past n lane ≡ true))) (sym d.1) (grant, (b.unclosed, b.holder))
         | inr d ↦ h.holding g (sym (push_other (grant_places gs) t.place g d.1) ∙ (ap (is_in g) (sym more) ∙ e))
       ];
     }
+
+-- ---- who holds a grant
+
+-- what a lane holds has no CLOSE
+pub held_unclosed : (s : Setting) (past : List Entry) (g lane : ℕ) → IsJournal s past → lane < length s.lanes → holds s past g lane ≡ true → is_one_of (closed s past) g ≡ false
+held_unclosed s past g lane j there holder = open_still (is_one_of (closed s past) g)
+    (λ e. (let lost : is_held s past g ≡ false = (gone_loose s past g j e).1 in let kept : is_held s past g ≡ true = any_passes (holds s past g) (length s.lanes) lane there holder in
+    let clash : false ≡ true = sym lost ∙ kept in absurd cc))
   where
     open_still : (b : Bool) → (b ≡ true → ⊥) → b ≡ false
     open_still true never = absurd (never refl)
     open_still false never = refl
 
--- ---- who holds a grant
+-- the current call holds what it asked for
+pub asker_holds : (s : Setting) (past : List Entry) (g lane : ℕ) → is_unended_asker past lane g ≡ true → holds s past g lane ≡ true
+asker_holds s past g lane mine = or_right (has_grant (held_site s past lane) g) (is_unended_asker past lane g) mine
 
 -- a lane that holds a grant asked for it
 pub holder_asked : (s : Setting) (past : List Entry) (g w : ℕ) → IsJournal s past → holds s past g w ≡ true → (c : ℕ) × (is_asked_by (asked_at past g) w c ≡ true)
@@ -185,6 +192,39 @@ are_grants s past lane ts gs j h polled =
     in_or g granted true e ticket = e
     in_or g granted false e ticket = absurd (let clash : false ≡ true = sym (polled g (ticket e)) ∙ granted in cc)
 
+pub in_more : (ps : List ℕ) (p q : ℕ) → is_in q ps ≡ true → is_in q (ps ++ p ∷ []) ≡ true
+in_more [] p q e = absurd cc
+in_more (h ∷ hs) p q e = by_head (h == q) e (λ rest. in_more hs p q rest)
+  where
+    by_head : (b : Bool) → (b || is_in q hs) ≡ true → (is_in q hs ≡ true → is_in q (hs ++ p ∷ []) ≡ true) → (b || is_in q (hs ++ p ∷ [])) ≡ true
+    by_head true e more = refl
+    by_head false e more = more e
+
+-- and with a HANDLE that the current call has a ticket of
+pub are_grants_with : (s : Setting) (past : List Entry) (lane p : ℕ) (ts : List Ticketed) (gs : List Held) → IsJournal s past → lane < length s.lanes → LaneHolds s past lane ts gs [] → is_in p (ticket_places ts) ≡ true → is_grant past p ≡ true
+    → is_unended_asker past lane p ≡ true → IsBelow p (grant_places gs) → ((q : ℕ) → is_in q (ticket_places ts) ≡ true → is_grant past q ≡ true → q ≡ p) → AreGrants s past lane (grant_places gs ++ p ∷ [])
+are_grants_with s past lane p ts gs j there h has grant mine newer only =
+    record {
+      all = λ g granted unclosed holder. in_or g granted (is_in g (grant_places gs)) refl (λ out. h.whole g granted unclosed holder out);
+      granted = λ g e. elim (eqb_tells g p) [ inl t ↦ ap (is_grant past) t.1 ∙ grant | inr t ↦ (h.holding g (sym (push_other (grant_places gs) p g t.1) ∙ e)).0 ];
+      unclosed = λ g e. elim (eqb_tells g p) [
+        | inl t ↦ ap (is_one_of (closed s past)) t.1 ∙ held_unclosed s past p lane j there (asker_holds s past p lane mine)
+        | inr t ↦ (h.holding g (sym (push_other (grant_places gs) p g t.1) ∙ e)).1.0
+      ];
+      alone = λ g w e holder. elim (eqb_tells g p) [
+        | inl t ↦ by_asker_of g w (of_in past lane (ticket_places ts) g h.tied_of (ap (λ (n : ℕ). is_in n (ticket_places ts)) t.1 ∙ has)) holder
+        | inr t ↦ by_asker_of g w (of_in past lane (grant_places gs) g h.held_of (sym (push_other (grant_places gs) p g t.1) ∙ e)) holder
+      ];
+      rising = push_rising (grant_places gs) p h.held_rise newer;
+    }
+  where
+    by_asker_of : (g w : ℕ) → ((a : Asked) × ((asked_at past g ≡ Some a) × (is_of a.by lane ≡ true))) → holds s past g w ≡ true → w ≡ lane
+    by_asker_of g w own_of holder = (let who = holder_asked s past g w j holder in one_asker own_of.0 lane w who.0 own_of.1.1 (ap (λ x. is_asked_by x w who.0) (sym own_of.1.0) ∙ who.1))
+
+    in_or : (g : ℕ) → is_grant past g ≡ true → (b : Bool) → is_in g (grant_places gs) ≡ b → (is_in g (grant_places gs) ≡ false → is_in g (ticket_places ts) ≡ true) → is_in g (grant_places gs ++ p ∷ []) ≡ true
+    in_or g granted true e ticket = in_more (grant_places gs) p g e
+    in_or g granted false e ticket = (let same : g ≡ p = only g (ticket e) granted in ap (λ (n : ℕ). is_in n (grant_places gs ++ p ∷ [])) same ∙ push_self (grant_places gs) p)
+
 -- ---- a ticket is put at the end
 
 pub ticket_push : (ts : List Ticketed) (t : Ticketed) → ticket_places (ts ++ t ∷ []) ≡ ticket_places ts ++ t.place ∷ []
@@ -194,11 +234,3 @@ ticket_push (x ∷ xs) t = ap (λ (l : List ℕ). x.place ∷ l) (ticket_push xs
 pub tied_push : (past : List Entry) (ts : List Ticketed) (t : Ticketed) → TicketsTied past ts → place_of (id_state past t.ticket) ≡ Some t.place → TicketsTied past (ts ++ t ∷ [])
 tied_push past [] t all new = (new, tt)
 tied_push past (x ∷ xs) t all new = (all.0, tied_push past xs t all.1 new)
-
-pub in_more : (ps : List ℕ) (p q : ℕ) → is_in q ps ≡ true → is_in q (ps ++ p ∷ []) ≡ true
-in_more [] p q e = absurd cc
-in_more (h ∷ hs) p q e = by_head (h == q) e (λ rest. in_more hs p q rest)
-  where
-    by_head : (b : Bool) → (b || is_in q hs) ≡ true → (is_in q hs ≡ true → is_in q (hs ++ p ∷ []) ≡ true) → (b || is_in q (hs ++ p ∷ [])) ≡ true
-    by_head true e more = refl
-    by_head false e more = more e

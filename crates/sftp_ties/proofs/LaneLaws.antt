@@ -6,6 +6,7 @@ use Rattle.sftp_model.specs.declared.slot.Site.{Site}
 use Rattle.sftp_model.specs.Slots.{has_grant}
 use Rattle.sftp_core.specs.Core.{Core, at, reply_in}
 use Rattle.sftp_calls.specs.Moves.{Own}
+use Rattle.sftp_plan.specs.Pending.{pends}
 use Rattle.sftp_plan.specs.declared.next.Running.{Running}
 use Rattle.sftp_history.specs.declared.call.Call.{Call}
 use Rattle.sftp_history.specs.declared.entry.Entry.{Entry}
@@ -13,13 +14,13 @@ use Rattle.sftp_history.specs.Readings.{answer, asked}
 use Rattle.sftp_history.specs.Ids.{id_state}
 use Rattle.sftp_history.specs.Calls.{Setting, current, held_by, held_site, site_of}
 use Rattle.sftp_ties.specs.Lanes.{AllOf, AtTied, LaneGoes, LaneTied, LaneValue, SessionTied, Ticketed, among, grants_of, ticket_places, tickets_of}
-use Rattle.sftp_ties.specs.LaneTurns.{BeginGoes, CancelledGoes, GrantsCount, MissingWaits, RepliesAgree, ReplyGoes, SlotsAgree, TicketsCount, UnrepliedGoes}
+use Rattle.sftp_ties.specs.LaneTurns.{BeginGoes, CancelledGoes, GrantsCount, MissingWaits, RepliesAgree, ReplyGoes, SlotsAgree, TicketsCount, UnrepliedGoes, DroppedGoes}
 use Rattle.sftp_ties.specs.Running.{CancelTied}
 use Rattle.sftp_ties.specs.Places.{IsBelow, is_in}
 use Rattle.sftp_ties.specs.Tables.{place_of}
 use Rattle.sftp_ties.proofs.PollLaws.{among_self, came_answer, grant_counts, missing_answer, ticket_counts}
 use Rattle.sftp_ties.proofs.PlaceLaws.{at_in, different}
-use Rattle.sftp_ties.proofs.PendLaws.{awaited_has}
+use Rattle.sftp_ties.proofs.PendLaws.{awaited_has, dropped_has}
 use Rattle.sftp_ties.proofs.GoesLaws.{begin_goes, cancelled_goes, reply_goes, unreplied_goes}
 use Rattle.sftp_ties.proofs.CancelLaws.{cancel_idle}
 use Rattle.sftp_ties.proofs.CloseLaws.{grant_index, grant_state}
@@ -100,6 +101,10 @@ cancelled_lane s past lane v dues c o site l is j left sixteen within awaits =
     by_running : (x : Option Running) → AtTied s past lane x v.site → CancelTied s past lane x v.site
     by_running None t = cancel_idle s past lane v.site t.0 t.1
     by_running (Some r) t = t.1
+
+pub dropped_lane : DroppedGoes
+dropped_lane s past lane k p running site tickets l at_k none =
+    record { sixteen = l.sixteen; within = l.within; runs = l.runs; sound = l.sound; awaits = dropped_has (λ q. pends q running site) tickets k p at_k none l.awaits }
 
 -- ---- the grants of its slots
 

@@ -18,11 +18,12 @@ use Rattle.sftp_history.specs.Grants.{closed, holds, is_asked_by, is_grant, is_o
 use Rattle.sftp_history.proofs.GrantLaws.{any_where}
 use Rattle.sftp_history.specs.Journals.{IsJournal, close_of}
 use Rattle.sftp_history.proofs.HolderLaws.{holds_back, may_of}
-use Rattle.sftp_ties.specs.Lanes.{AtTied, CoreTied, Held, LaneHolds, LaneTied, LaneValue, SessionTied, Ticketed, grant_places, ticket_places}
+use Rattle.sftp_ties.specs.Lanes.{AtTied, CoreTied, Held, LaneHolds, LaneTied, LaneValue, SessionTied, Ticketed, grant_places, ticket_places, grants_of}
 use Rattle.sftp_ties.specs.Letting.{Letting}
-use Rattle.sftp_ties.specs.Changes.{bare_site, closed_lane, let_go_lane, with_lane, brought}
+use Rattle.sftp_ties.specs.Changes.{bare_site, closed_lane, let_go_lane, with_lane}
 use Rattle.sftp_ties.specs.Places.{is_in, without}
-use Rattle.sftp_ties.specs.Dues.{Dues}
+use Rattle.sftp_ties.specs.SessionTurns.{MoreDueKeeps}
+use Rattle.sftp_ties.specs.DueTurns.{NoneIsLeft}
 use Rattle.sftp_ties.proofs.SameLaws.{Same, grants_same, lane_same, of_same, tickets_same}
 use Rattle.sftp_ties.proofs.BareSites.{bare_pends, bare_within}
 use Rattle.sftp_ties.proofs.CloseLaws.{close_tied, grant_index, grant_without}
@@ -122,9 +123,10 @@ let_go_close_tied s past core now lanes lane g id k handle site slot rest h j l 
       letting_close s past site slot rest g id l is loose,
     )
 
--- Where nothing is due by the journal, no grant of a lane is.
-pub rest_tied : (s : Setting) (past : List Entry) (core : Core) (lanes : ℕ → LaneValue) (dues : List ℕ) → IsJournal s past → Dues s past [] → SessionTied s past core lanes dues → SessionTied s past core lanes []
-rest_tied s past core lanes dues j d h =
+-- other grants may be due, where each grant of a lane that is not due is held
+dues_tied : (s : Setting) (past : List Entry) (core : Core) (lanes : ℕ → LaneValue) (dues more : List ℕ)
+    → ((w : ℕ) (l : LaneTied s past w (lanes w) dues) (g : ℕ) → is_in g (grants_of lanes w) ≡ true → is_in g more ≡ false → holds s past g w ≡ true) → SessionTied s past core lanes dues → SessionTied s past core lanes more
+dues_tied s past core lanes dues more held h =
     record {
       work = h.work;
       table = h.table;
@@ -141,11 +143,18 @@ rest_tied s past core lanes dues j d h =
               apart = l.holds.apart;
               asks = l.holds.asks;
               whole = l.holds.whole;
-              holding = λ g e. (let was = l.holds.holding g e in (was.0, (was.1.0, λ out. held_by_it w (lanes w) l g e was.0 was.1.0)));
+              holding = λ g e. (let was = l.holds.holding g e in (was.0, (was.1.0, λ out. held w l g e out)));
             };
             goes = l.goes;
           });
     }
+
+pub more_due_tied : MoreDueKeeps
+more_due_tied s past core lanes dues more less h = dues_tied s past core lanes dues more (λ w l g e out. (l.holds.holding g e).1.1 (less g out)) h
+
+-- Where nothing is due by the journal, no grant of a lane is.
+pub rest_tied : NoneIsLeft
+rest_tied s past core lanes dues j d h = dues_tied s past core lanes dues [] (λ w l g e out. held_by_it w (lanes w) l g e (l.holds.holding g e).0 (l.holds.holding g e).1.0) h
   where
     held_by_it : (w : ℕ) (v : LaneValue) → LaneTied s past w v dues → (g : ℕ) → is_in g (grant_places v.grants) ≡ true → is_grant past g ≡ true → is_one_of (closed s past) g ≡ false → holds s past g w ≡ true
     held_by_it w v l g e granted unclosed =

@@ -30,6 +30,7 @@ pub mod ReplyLaws
 pub mod LaneLaws
 pub mod RestLaws
 pub mod FlushLaws
+pub mod FilledLaws
 pub mod StepLaws
 pub mod TableLaws
 pub mod TakeHolds

@@ -1,15 +1,18 @@
 -- Which grants are due behind each step of a session.
-use Rattle.std.proofs.Common.{◌∷◌, subst}
+use Rattle.std.proofs.Common.{[], ◌∷◌, ◌++◌, subst}
 use Rattle.sftp_history.specs.declared.event.Event.TheVariants.{Cancel, Send}
 use Rattle.sftp_history.specs.Ids.{Reads}
 use Rattle.sftp_history.proofs.IdLaws.{reads}
-use Rattle.sftp_ties.specs.DueTurns.{AddedDues, CancelDues, EndDues, NoneDueIsSettled, SentDues, TakenDues, UnheldDues}
+use Rattle.sftp_ties.specs.DueTurns.{AddedDues, CancelDues, EndDues, NoneDueIsSettled, SentDues, TakenDues, UnheldDues, CancelledEndDues}
+use Rattle.sftp_ties.specs.Lanes.{grant_places}
 use Rattle.sftp_ties.proofs.SessionLaws.{added_same, cancel_same}
 use Rattle.sftp_ties.proofs.SameLaws.{dues_same}
 use Rattle.sftp_ties.proofs.DueLaws.{dues_settled, settled_dues}
 use Rattle.sftp_ties.proofs.EndHolds.{end_dues}
 use Rattle.sftp_ties.proofs.SendLaws.{send_same}
 use Rattle.sftp_ties.proofs.TakeDues.{take_held, take_loose}
+use Rattle.sftp_ties.proofs.HoldLaws.{are_grants_with}
+use Rattle.sftp_ties.proofs.EndLaws.{dues_end}
 use Rattle.sftp_history.specs.declared.entry.Entry.TheVariants as entry
 
 pub none_due_is_settled : NoneDueIsSettled
@@ -23,6 +26,10 @@ unheld_dues s past id p a b r j is came unheld d = (let read = subst (Reads past
 
 pub ended_dues : EndDues
 ended_dues s past core lanes lane o h there j d polled = end_dues s past lane o (lanes lane).tickets (lanes lane).grants j d (h.each lane there).holds polled
+
+pub cancelled_dues : CancelledEndDues
+cancelled_dues s past core lanes lane p o h there j d has grant mine newer only =
+    dues_end s past lane o (grant_places (lanes lane).grants ++ p ∷ []) j d (are_grants_with s past lane p (lanes lane).tickets (lanes lane).grants j there (h.each lane there).holds has grant mine newer only)
 
 pub sent_dues : SentDues
 sent_dues s past dues d = dues_same s past (entry.Event Send ∷ past) dues (send_same s past) d

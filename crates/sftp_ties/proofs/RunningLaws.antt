@@ -1,11 +1,9 @@
 -- What each entry makes of a lane's call, once for all calls.
 use Rattle.std.proofs.Common.{append_assoc, ◌≡◌, ℕ, false, List, [], ◌∷◌, ◌++◌, Option, Some, None, refl, ap, sym, ◌∙◌, subst}
 use Rattle.std.proofs.lemmas.List.{append-nil}
-use Rattle.sftp_model.specs.declared.outcome.Outcome.{Outcome}
 use Rattle.sftp_model.specs.declared.reply.Reply.{Reply}
 use Rattle.sftp_model.specs.declared.request.Request.{Request}
 use Rattle.sftp_model.specs.declared.slot.Facts.{Facts}
-use Rattle.sftp_model.specs.declared.slot.Move.TheVariants.{Done}
 use Rattle.sftp_model.specs.declared.slot.Site.{Site}
 use Rattle.sftp_calls.specs.Moves.{Answers, Plan, Own}
 use Rattle.sftp_calls.specs.OwnRequests.{Extends}
@@ -14,13 +12,11 @@ use Rattle.sftp_plan.specs.declared.next.Next.{Next}
 use Rattle.sftp_plan.specs.Machines.{residual, after, awaited, filled, Goes, bytes_of, idle}
 use Rattle.sftp_history.specs.declared.call.Call.{Call}
 use Rattle.sftp_history.specs.declared.event.Owner.{Owner}
-use Rattle.sftp_history.specs.declared.event.Event.TheVariants.{Submit, Send, Take, End}
+use Rattle.sftp_history.specs.declared.event.Event.TheVariants.{Submit}
 use Rattle.sftp_history.specs.declared.entry.Entry.{Entry}
-use Rattle.sftp_history.specs.Readings.{asked, answer, ended, own, is_by, last_cancel}
+use Rattle.sftp_history.specs.Readings.{asked, answer, ended, own, is_by}
 use Rattle.sftp_history.specs.Calls.{Setting, next, current, site_of, move_of, move_at, planned}
-use Rattle.sftp_history.proofs.CallLaws.{own_submit, own_other, end_site, end_own, ended_end}
-use Rattle.sftp_history.specs.Journals.{IsJournal, MayTake}
-use Rattle.sftp_history.proofs.RequestLaws.{answer_stays}
+use Rattle.sftp_history.proofs.CallLaws.{own_submit, own_other}
 use Rattle.sftp_ties.specs.Running.{RunTied, IsFrom, Steps, remaining, request_of}
 use Rattle.sftp_plan.specs.declared.next.Next.TheVariants as step
 use Rattle.sftp_history.specs.declared.entry.Entry.TheVariants as entry
@@ -49,27 +45,16 @@ tied_by s past now lane running site ec es eo grows tied c is answers known late
     ap (λ (x : Site). next c x s.facts (own now lane (ended now lane) ++ later) answers) es
     ∙ (ap (λ (o : Own). next c (site_of s past lane) s.facts (o ++ later) answers) eo ∙ tied c (sym ec ∙ is) answers (λ place r e. known place r (grows place r e)) later)
 
--- a reply that was taken
-pub tied_take : (s : Setting) (past : List Entry) (lane id : ℕ) (r : Reply) (running : Option Running) (site : Site) → MayTake past id r → RunTied s past lane running site → RunTied s (entry.Event (Take id r) ∷ past) lane running site
-tied_take s past lane id r running site may tied =
-    tied_by s past (entry.Event (Take id r) ∷ past) lane running site refl refl refl (λ place q e. answer_stays past id r q place may e) tied
-
 -- another's request
 pub tied_other : (s : Setting) (past : List Entry) (lane id : ℕ) (by : Owner) (r : Request) (running : Option Running) (site : Site) → is_by by lane (ended past lane) ≡ false → RunTied s past lane running site → RunTied s (entry.Event (Submit by id r) ∷ past) lane running site
 tied_other s past lane id by r running site other tied =
     tied_by s past (entry.Event (Submit by id r) ∷ past) lane running site refl refl (own_other past by id r lane (ended past lane) other) (λ place q e. e) tied
-
-pub tied_send : (s : Setting) (past : List Entry) (lane : ℕ) (running : Option Running) (site : Site) → RunTied s past lane running site → RunTied s (entry.Event Send ∷ past) lane running site
-tied_send s past lane running site tied = tied
 
 -- ---- what the lane's machine does
 
 -- the reply that is awaited came
 came : (running : Running) (bytes : List ℕ) (site : Site) (facts : Facts) (later : Own) (answers : Answers) (p : ℕ) (y : Reply) → awaited running site ≡ Some p → answers p ≡ Some y → residual running bytes site facts later answers ≡ after running bytes site facts (Some y) later answers
 came running bytes site facts later answers p y at got = rw at (rw got refl)
-
-pub from_start : (past : List Entry) (c : Call) (site : Site) (facts : Facts) → IsFrom past None c site facts (next c site facts)
-from_start past c site facts answers known later = refl
 
 pub from_reply : (past : List Entry) (running : Running) (c : Call) (site : Site) (facts : Facts) (p : ℕ) (y : Reply) → awaited running site ≡ Some p → answer past p ≡ Some y → IsFrom past (Some running) c site facts (after running (bytes_of (planned c)) site facts (Some y))
 from_reply past running c site facts p y at got answers known later = came running (bytes_of (planned c)) site facts later answers p y at (known p y got)
@@ -104,12 +89,3 @@ steps s past lane running site later c plan (step.Done o) tied is from goes =
 pub waits : (s : Setting) (past : List Entry) (lane : ℕ) (running : Running) (site : Site) (c : Call) (p : ℕ) → RunTied s past lane (Some running) site → current s past lane ≡ Some c → awaited running site ≡ Some p → answer past p ≡ None
     → move_of s past lane ≡ Some (idle running (bytes_of (planned c)) site s.facts [] (answer past))
 waits s past lane running site c p tied is at none = move_left s past lane (Some running) site c tied is ∙ ap (λ m. Some m) (rw at (rw none refl))
-
--- behind an end the lane holds what the machine left, and the next call was not begun
-pub tied_end : (s : Setting) (past : List Entry) (lane : ℕ) (o : Outcome) (site : Site) → IsJournal s past → last_cancel past ≡ None → move_of s past lane ≡ Some (Done o site)
-    → RunTied s (entry.Event (End lane (ended past lane) o) ∷ past) lane None site
-tied_end s past lane o site j calm is =
-    let now : List Entry = entry.Event (End lane (ended past lane) o) ∷ past in
-    tied_idle s now lane site
-    (ap (λ (n : ℕ). own now lane n) (ended_end past lane (ended past lane) o) ∙ end_own s past lane o j)
-    (sym (end_site s past lane o site calm is))

@@ -56,11 +56,11 @@ spent_tied s past core now lanes dues lane k t running site h there at_k borne p
     }
 
 pub granted_tied : (s : Setting) (past : List Entry) (core now : Core) (lanes : ℕ → LaneValue) (dues : List ℕ) (lane k : ℕ) (t : Ticketed) (handle : List ℕ) (running : Option Running) (site : Site)
-    → IsJournal s past → SessionTied s past core lanes dues → lane < length s.lanes → slice_get (lanes lane).tickets k ≡ Some t → Brought s past lane (lanes lane).grants t handle
+    → SessionTied s past core lanes dues → lane < length s.lanes → slice_get (lanes lane).tickets k ≡ Some t → Brought s past lane (lanes lane).grants dues t handle
     → CoreTied s past now → at now t.ticket ≡ Some (Granted handle 1) → ((i : ℕ) → i ≢ t.ticket → at now i ≡ at core i)
     → LaneGoes s past lane running site (ticket_places (without k (lanes lane).tickets))
     → SessionTied s past now (with_lane lanes lane (granted_lane (lanes lane) k t handle running site)) dues
-granted_tied s past core now lanes dues lane k t handle running site j h there at_k b work is elsewhere goes =
+granted_tied s past core now lanes dues lane k t handle running site h there at_k b work is elsewhere goes =
     let old : LaneValue = lanes lane in
     let v : LaneValue = granted_lane old k t handle running site in
     let new : Held = brought t handle in
@@ -72,7 +72,7 @@ granted_tied s past core now lanes dues lane k t handle running site j h there a
       table = table_with past lanes lane v (without k (ticket_places old.tickets)) (grant_places old.grants ++ t.place ∷ []) (at now) (sym (ticket_without old.tickets k)) (sym (places_push old.grants new))
           (granted_tabled past (tickets_of lanes) (grants_of lanes) lane k t.ticket t.place mine.0 b.asked handle (at core) (at now) mine.1.0 mine.1.1 l.holds.tied_rise here b.came is elsewhere h.table);
       each = each_with (λ w x. LaneTied s past w x dues) lanes lane v (length s.lanes)
-          (record { ends = l.ends; holds = granted_holds s past lane k old.tickets old.grants dues t handle j l.holds at_k b; goes = goes })
+          (record { ends = l.ends; holds = granted_holds s past lane k old.tickets old.grants dues t handle l.holds at_k b; goes = goes })
           (λ w lt ne. h.each w lt);
     }
 

@@ -1,10 +1,12 @@
 -- The invariant of a session holds behind each of its steps.
-use Rattle.std.proofs.Common.{◌≡◌, ◌≢◌, ◌<◌, ℕ, Bool, true, false, List, [], ◌∷◌, Option, Some, None, refl, ap, sym, ◌∙◌, subst}
+use Rattle.std.proofs.lemmas.Bool.Decides.{eqb_tells}
+use Rattle.std.proofs.Common.{inl, inr, ◌≡◌, ◌≢◌, ◌<◌, ℕ, Bool, true, false, List, [], ◌∷◌, Option, Some, None, refl, ap, sym, ◌∙◌, subst}
 use Rattle.std.specs.Prelude.{length, slice_get}
 use Rattle.sftp_model.specs.declared.answers.Expected.{Expected}
 use Rattle.sftp_model.specs.declared.request.Request.{Request}
 use Rattle.sftp_model.specs.declared.reply.Reply.{Reply}
 use Rattle.sftp_model.specs.Answers.{expected_of, is_handle}
+use Rattle.sftp_model.specs.declared.slot.Site.{Site}
 use Rattle.sftp_core.specs.declared.place.Place.{Place}
 use Rattle.sftp_core.specs.declared.place.Place.TheVariants.{Waiting, Answered, Granted}
 use Rattle.sftp_core.specs.Core.{Core, abandon_leaves, abandoned, after_poll, at, given_leaves, handed_out, poll_leaves, queued_last, release_leaves, released, reply_in, users_of, with_place, without as removed}
@@ -12,20 +14,22 @@ use Rattle.sftp_core.specs.Grant.{GrantValue}
 use Rattle.sftp_core.specs.Table.{brings}
 use Rattle.sftp_core.proofs.Elsewhere.{gone_elsewhere, gone_here, hand_out_each, put_elsewhere, put_here}
 use Rattle.sftp_calls.specs.Moves.{handle_of}
+use Rattle.sftp_plan.specs.declared.next.Running.{Running}
 use Rattle.sftp_history.specs.declared.event.Event.TheVariants.{Submit}
 use Rattle.sftp_history.specs.declared.entry.Entry.{Entry}
 use Rattle.sftp_history.specs.Readings.{asked, Asked, answer, asked_at, ended}
 use Rattle.sftp_history.specs.Calls.{Setting}
-use Rattle.sftp_history.specs.Grants.{is_grant, is_granted}
+use Rattle.sftp_history.specs.Grants.{closed, holds, is_one_of, is_grant, is_granted}
 use Rattle.sftp_history.specs.Ids.{IdState, Free, Pending, Replied, Reads, id_state}
 use Rattle.sftp_history.specs.Journals.{close_of}
 use Rattle.sftp_history.proofs.IdLaws.{reads}
-use Rattle.sftp_ties.specs.SessionTurns.{CloseRequestKeeps, ClosedKeeps, DroppedKeeps, GrantedKeeps, PolledKeeps, RequestKeeps, SentKeeps}
-use Rattle.sftp_ties.specs.Lanes.{CoreTied, Held, LaneGoes, LaneTied, LaneValue, SessionTied, Ticketed, among, grants_of, is_of, ticket_places, tickets_of}
+use Rattle.sftp_ties.specs.SessionTurns.{CloseRequestKeeps, ClosedKeeps, DroppedKeeps, GrantedKeeps, PolledKeeps, RequestKeeps, SentKeeps, GrantedDueKeeps}
+use Rattle.sftp_ties.specs.Lanes.{CoreTied, Held, LaneGoes, LaneTied, LaneValue, SessionTied, Ticketed, among, grants_of, is_of, ticket_places, tickets_of, grant_places}
 use Rattle.sftp_ties.specs.Changes.{asking_lane, closed_lane, granted_lane, spent_lane, wants_but, with_lane}
-use Rattle.sftp_ties.specs.Places.{is_in, without}
+use Rattle.sftp_ties.specs.Places.{is_in, without, IsBelow}
 use Rattle.sftp_ties.specs.Running.{own_request}
 use Rattle.sftp_ties.specs.Tables.{place_of, stand}
+use Rattle.sftp_ties.specs.Dues.{AllDue, IsDue}
 use Rattle.sftp_ties.proofs.PollLaws.{among_self, came_answer, grant_counts, spent_unwanted}
 use Rattle.sftp_ties.proofs.PlaceLaws.{at_in}
 use Rattle.sftp_ties.proofs.AskTied.{close_request_tied, request_tied}
@@ -33,7 +37,7 @@ use Rattle.sftp_ties.proofs.CloseLaws.{close_tied, grant_index, grant_state}
 use Rattle.sftp_ties.proofs.CoreLaws.{core_placed, core_queued, core_removed, core_sent}
 use Rattle.sftp_ties.proofs.TableLaws.{dropped_waits, polled_plain}
 use Rattle.sftp_ties.proofs.StepLaws.{granted_tied, spent_tied}
-use Rattle.sftp_ties.proofs.HoldLaws.{of_in, ticket_at, ticket_index, ticket_without}
+use Rattle.sftp_ties.proofs.HoldLaws.{of_in, ticket_at, ticket_index, ticket_without, asker_holds, held_unclosed}
 use Rattle.sftp_ties.proofs.SendLaws.{send_tied}
 use Rattle.sftp_model.specs.declared.request.Request.TheVariants as request
 use Rattle.sftp_model.specs.declared.reply.Reply.TheVariants as reply
@@ -91,15 +95,31 @@ polled_keeps s past c lanes dues lane k t y running site h there at_k came plain
     (gone_here c.table t.ticket ∙ sym (ap (stand (wants_but past lanes lane k) (among past (grants_of lanes))) got.1.0 ∙ polled_plain (wants_but past lanes lane k) (among past (grants_of lanes)) t.place got.0 y away.0 away.1))
     (λ i ne. gone_elsewhere c.table t.ticket i ne) (subst (λ (x : List ℕ). LaneGoes s past lane running site x) (sym (ticket_without old.tickets k)) goes))
 
-pub granted_keeps : GrantedKeeps
-granted_keeps s past c lanes dues lane k t handle running site j h there at_k came mine newer goes =
+-- a HANDLE was polled: the lane holds it, or it is due
+handle_keeps : (s : Setting) (past : List Entry) (c : Core) (lanes : ℕ → LaneValue) (dues : List ℕ) (lane k : ℕ) (t : Ticketed) (handle : List ℕ) (running : Option Running) (site : Site) → SessionTied s past c lanes dues → lane < length s.lanes
+    → slice_get (lanes lane).tickets k ≡ Some t → reply_in (at c t.ticket) ≡ Some (reply.Handle handle) → is_one_of (closed s past) t.place ≡ false → (is_in t.place dues ≡ false → holds s past t.place lane ≡ true) → IsBelow t.place (grant_places (lanes lane).grants)
+    → LaneGoes s past lane running site (without k (ticket_places (lanes lane).tickets)) → SessionTied s past (after_poll c t.ticket) (with_lane lanes lane (granted_lane (lanes lane) k t handle running site)) dues
+handle_keeps s past c lanes dues lane k t handle running site h there at_k came unclosed holder newer goes =
     let old : LaneValue = lanes lane in
     let l : LaneTied s past lane old dues = h.each lane there in
     let got = came_answer past (among past (tickets_of lanes)) (among past (grants_of lanes)) (at c) t.ticket t.place (reply.Handle handle) h.table (ticket_at past old.tickets k t l.holds.tied at_k) came in
     subst (λ (x : Core). SessionTied s past x (with_lane lanes lane (granted_lane old k t handle running site)) dues) (sym (polled_is c t.ticket (reply.Handle handle) came))
-    (granted_tied s past c (with_place c t.ticket (Granted handle 1)) lanes dues lane k t handle running site j h there at_k
-    (record { asked = got.0; came = got.1.0; got = got.1.1; mine = mine; there = there; newer = newer }) (core_placed s past c t.ticket (Granted handle 1) h.work)
+    (granted_tied s past c (with_place c t.ticket (Granted handle 1)) lanes dues lane k t handle running site h there at_k
+    (record { asked = got.0; came = got.1.0; got = got.1.1; unclosed = unclosed; holder = holder; newer = newer }) (core_placed s past c t.ticket (Granted handle 1) h.work)
     (put_here c.table t.ticket (Granted handle 1)) (λ i ne. put_elsewhere c.table t.ticket (Granted handle 1) i ne) (subst (λ (x : List ℕ). LaneGoes s past lane running site x) (sym (ticket_without old.tickets k)) goes))
+
+pub granted_keeps : GrantedKeeps
+granted_keeps s past c lanes dues lane k t handle running site j h there at_k came mine newer goes =
+    let holder : holds s past t.place lane ≡ true = asker_holds s past t.place lane mine in
+    handle_keeps s past c lanes dues lane k t handle running site h there at_k came (held_unclosed s past t.place lane j there holder) (λ out. holder) newer goes
+
+pub granted_due_keeps : GrantedDueKeeps
+granted_due_keeps s past c lanes dues lane k t handle running site d h there at_k came due newer goes =
+    handle_keeps s past c lanes dues lane k t handle running site h there at_k came (due_in dues t.place d.loose due).unclosed (λ out. absurd (let clash : true ≡ false = sym due ∙ out in cc)) newer goes
+  where
+    due_in : (gs : List ℕ) (g : ℕ) → AllDue s past gs → is_in g gs ≡ true → IsDue s past g
+    due_in [] g all e = absurd cc
+    due_in (x ∷ xs) g all e = elim (eqb_tells x g) [ inl u ↦ subst (λ (n : ℕ). IsDue s past n) u.1 all.0 | inr u ↦ due_in xs g all.1 (rw u.0 at e) ]
 
 pub dropped_keeps : DroppedKeeps
 dropped_keeps s past c lanes dues lane k t running site h there at_k plain done goes = by_state (id_state past t.ticket) refl (reads past t.ticket) borne

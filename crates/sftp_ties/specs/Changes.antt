@@ -1,5 +1,5 @@
 -- What a turn makes of one lane, and what must hold for it.
-use Rattle.std.specs.Prelude.{◌≡◌, ◌<◌, ◌+◌, ◌==◌, ℕ, Bool, true, false, List, [], ◌∷◌, ◌++◌, length, Some, Option, None, if◌then◌else◌}
+use Rattle.std.specs.Prelude.{◌≡◌, ◌+◌, ◌==◌, ℕ, Bool, true, false, List, [], ◌∷◌, ◌++◌, Some, Option, None, if◌then◌else◌}
 use Rattle.sftp_model.specs.declared.slot.Site.{Site}
 use Rattle.sftp_model.specs.Slots.{fresh_site}
 use Rattle.sftp_model.specs.declared.reply.Reply.{Reply}
@@ -11,7 +11,7 @@ use Rattle.sftp_history.specs.declared.event.Event.TheVariants.{Send, Submit, Ta
 use Rattle.sftp_history.specs.declared.entry.Entry.{Entry}
 use Rattle.sftp_history.specs.Readings.{Asked, answer, asked_at, ended, own}
 use Rattle.sftp_history.specs.Calls.{Setting, site_of}
-use Rattle.sftp_history.specs.Grants.{closed, holds, is_grant, is_one_of, is_unended_asker}
+use Rattle.sftp_history.specs.Grants.{closed, holds, is_grant, is_one_of}
 use Rattle.sftp_history.specs.Ids.{Replied, id_state}
 use Rattle.sftp_ties.specs.Places.{IsBelow, IsRising, is_in, with_places, without}
 use Rattle.sftp_ties.specs.Tables.{place_of}
@@ -44,13 +44,13 @@ brought t handle = record { place = t.place; grant = record { id = t.ticket; han
 abbrev pub granted_lane : LaneValue → ℕ → Ticketed → List ℕ → Option Running → Site → LaneValue
 granted_lane v k t handle running site = record { running = running; site = site; tickets = without k v.tickets; grants = v.grants ++ brought t handle ∷ []; ended = v.ended }
 
--- the handle came for a request of the lane's current call, which stands behind those of its grants
-pub record Brought (s : Setting) (past : List Entry) (lane : ℕ) (gs : List Held) (t : Ticketed) (handle : List ℕ) : Type 0 where
+-- The handle came for a request that stands behind those of the lane's grants. The lane holds the grant, or it is due.
+pub record Brought (s : Setting) (past : List Entry) (lane : ℕ) (gs : List Held) (dues : List ℕ) (t : Ticketed) (handle : List ℕ) : Type 0 where
   pub asked : Asked
   pub came : id_state past t.ticket ≡ Replied t.place asked (reply.Handle handle)
   pub got : answer past t.place ≡ Some (reply.Handle handle)
-  pub mine : is_unended_asker past lane t.place ≡ true
-  pub there : lane < length s.lanes
+  pub unclosed : is_one_of (closed s past) t.place ≡ false
+  pub holder : is_in t.place dues ≡ false → holds s past t.place lane ≡ true
   pub newer : IsBelow t.place (grant_places gs)
 
 -- ---- a request is submitted

@@ -1,5 +1,5 @@
 -- Which grants are due for their CLOSE, step by step.
-use Rattle.std.specs.Prelude.{Bool, ◌≡◌, ◌<◌, ℕ, true, false, List, [], ◌∷◌, length, Some, None}
+use Rattle.std.specs.Prelude.{Bool, ◌++◌, ◌≡◌, ◌<◌, ℕ, true, false, List, [], ◌∷◌, length, Some, None}
 use Rattle.sftp_model.specs.declared.outcome.Outcome.{Outcome}
 use Rattle.sftp_model.specs.declared.reply.Reply.{Reply}
 use Rattle.sftp_model.specs.declared.request.Request.{Request}
@@ -10,10 +10,10 @@ use Rattle.sftp_history.specs.declared.event.Event.TheVariants.{Cancel, End, Sen
 use Rattle.sftp_history.specs.declared.entry.Entry.{Entry}
 use Rattle.sftp_history.specs.Readings.{Asked, ended}
 use Rattle.sftp_history.specs.Calls.{Setting, site_of}
-use Rattle.sftp_history.specs.Grants.{IsSettled, is_grant, is_held, letting_go, orphan}
+use Rattle.sftp_history.specs.Grants.{IsSettled, is_grant, is_held, is_unended_asker, letting_go, orphan}
 use Rattle.sftp_history.specs.Ids.{Pending, id_state}
 use Rattle.sftp_history.specs.Journals.{IsJournal, close_of}
-use Rattle.sftp_ties.specs.Places.{is_in}
+use Rattle.sftp_ties.specs.Places.{IsBelow, is_in}
 use Rattle.sftp_ties.specs.Running.{own_request}
 use Rattle.sftp_ties.specs.Dues.{Dues, loose_of}
 use Rattle.sftp_ties.specs.Lanes.{LaneValue, SessionTied, grant_places, ticket_places}
@@ -55,6 +55,13 @@ abbrev pub EndDues : Type 0
 EndDues = (s : Setting) (past : List Entry) (core : Core) (lanes : ℕ → LaneValue) (lane : ℕ) (o : Outcome) → SessionTied s past core lanes [] → lane < length s.lanes → IsJournal s past → Dues s past []
     → ((p : ℕ) → is_in p (ticket_places (lanes lane).tickets) ≡ true → is_grant past p ≡ false)
     → Dues s (entry.Event (End lane (ended past lane) o) ∷ past) (loose_of (site_of s (entry.Event (End lane (ended past lane) o) ∷ past) lane) (grant_places (lanes lane).grants))
+
+-- So does the end of a call that was cancelled before its HANDLE was polled; the HANDLE is due too, unless a slot has it.
+abbrev pub CancelledEndDues : Type 0
+CancelledEndDues = (s : Setting) (past : List Entry) (core : Core) (lanes : ℕ → LaneValue) (lane p : ℕ) (o : Outcome) → SessionTied s past core lanes [] → lane < length s.lanes → IsJournal s past → Dues s past []
+    → is_in p (ticket_places (lanes lane).tickets) ≡ true → is_grant past p ≡ true → is_unended_asker past lane p ≡ true → IsBelow p (grant_places (lanes lane).grants)
+    → ((q : ℕ) → is_in q (ticket_places (lanes lane).tickets) ≡ true → is_grant past q ≡ true → q ≡ p)
+    → Dues s (entry.Event (End lane (ended past lane) o) ∷ past) (loose_of (site_of s (entry.Event (End lane (ended past lane) o) ∷ past) lane) (grant_places (lanes lane).grants ++ p ∷ []))
 
 -- Other entries leave what is due: what was queued is sent,
 abbrev pub SentDues : Type 0

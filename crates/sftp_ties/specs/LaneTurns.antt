@@ -1,5 +1,5 @@
 -- What a lane's machine does, and what the core has for the lane, by the journal of their session.
-use Rattle.std.specs.Prelude.{◌≡◌, ◌<◌, ◌≤◌, ℕ, true, List, [], ◌∷◌, length, Some, None, slice_get}
+use Rattle.std.specs.Prelude.{Option, ◌≡◌, ◌<◌, ◌≤◌, ℕ, true, List, [], ◌∷◌, length, Some, None, slice_get}
 use Rattle.sftp_model.specs.declared.outcome.Outcome.{Outcome}
 use Rattle.sftp_model.specs.declared.reply.Reply.{Reply}
 use Rattle.sftp_model.specs.declared.slot.Site.{Site}
@@ -8,21 +8,26 @@ use Rattle.sftp_core.specs.Core.{Core, at, is_ticket, reply_in}
 use Rattle.sftp_core.specs.declared.place.Place.TheVariants.{Granted}
 use Rattle.sftp_plan.specs.declared.next.Next.{Next}
 use Rattle.sftp_plan.specs.declared.next.Running.{Running}
-use Rattle.sftp_plan.specs.Machines.{after, awaited, bytes_of, idle}
+use Rattle.sftp_plan.specs.declared.next.Asked.{Asked}
+use Rattle.sftp_plan.specs.Machines.{Goes, after, awaited, bytes_of, idle}
 use Rattle.sftp_plan.specs.Cancelling.{left_after}
 use Rattle.sftp_plan.specs.Sound.{AreWithin}
 use Rattle.sftp_plan.specs.Pending.{pends, pends_after, pends_idle}
 use Rattle.sftp_history.specs.declared.call.Call.{Call}
 use Rattle.sftp_history.specs.declared.event.Event.TheVariants.{Cancel, End}
 use Rattle.sftp_history.specs.declared.entry.Entry.{Entry}
-use Rattle.sftp_history.specs.Readings.{answer, asked_at, ended}
+use Rattle.sftp_history.specs.Readings.{answer, asked, asked_at, ended}
 use Rattle.sftp_history.specs.Calls.{Setting, cancelled, current, held_site, move_of, next, planned}
-use Rattle.sftp_history.specs.Grants.{is_asked_by}
+use Rattle.sftp_history.specs.Grants.{closed, closes, is_asked_by}
 use Rattle.sftp_history.specs.Journals.{IsJournal}
 use Rattle.sftp_ties.specs.Places.{IsBelow, is_in, without}
-use Rattle.sftp_ties.specs.Running.{leaving}
-use Rattle.sftp_ties.specs.Lanes.{AllOf, Held, LaneGoes, LaneTied, LaneValue, SessionTied, Ticketed, ticket_places, tickets_for}
+use Rattle.sftp_ties.specs.Running.{leaving, IsFilled, grants_named}
+use Rattle.sftp_ties.specs.Lanes.{AllOf, Held, LaneGoes, LaneTied, LaneValue, SessionTied, Ticketed, ticket_places, tickets_for, grant_places}
 use Rattle.sftp_ties.specs.Going.{GoesOn, MachineStep}
+use Rattle.sftp_model.specs.declared.reply.Reply.TheVariants as reply
+use Rattle.sftp_plan.specs.declared.next.Asked.TheVariants as plan_asked
+use Rattle.sftp_plan.specs.declared.next.Next.TheVariants as step
+use Rattle.sftp_history.specs.declared.event.Owner.TheVariants as owner
 use Rattle.sftp_history.specs.declared.entry.Entry.TheVariants as entry
 
 -- ---- what the core has for a lane
@@ -68,11 +73,32 @@ abbrev pub MissingWaits : Type 0
 MissingWaits = (s : Setting) (past : List Entry) (lane p : ℕ) (v : LaneValue) (dues : List ℕ) (c : Call) (r : Running) → LaneTied s past lane v dues → current s past lane ≡ Some c → v.running ≡ Some r → awaited r v.site ≡ Some p
     → (is_in p (ticket_places v.tickets) ≡ true) × (answer past p ≡ None → move_of s past lane ≡ Some (idle r (bytes_of (planned c)) v.site s.facts [] (answer past)))
 
+-- A lane goes on without the ticket of a place that it does not await.
+abbrev pub DroppedGoes : Type 0
+DroppedGoes = (s : Setting) (past : List Entry) (lane k p : ℕ) (running : Option Running) (site : Site) (tickets : List ℕ) → LaneGoes s past lane running site tickets → slice_get tickets k ≡ Some p → pends p running site ≡ 0
+    → LaneGoes s past lane running site (without k tickets)
+
 -- The lane's call was cancelled and ends: what its slots hold then is what the call leaves from where it has come.
 abbrev pub CancelledGoes : Type 0
 CancelledGoes = (s : Setting) (past : List Entry) (lane : ℕ) (v : LaneValue) (dues : List ℕ) (c : Call) (o : Outcome) (site : Site) → LaneTied s past lane v dues → current s past lane ≡ Some c → IsJournal s (entry.Event (Cancel lane) ∷ past)
     → site ≡ leaving v.running c v.site s.facts [] (answer past) → length site.slots ≡ 16 → AreWithin s.facts site → ((q : ℕ) → pends q None site ≤ tickets_for (ticket_places v.tickets) q)
     → LaneGoes s (entry.Event (End lane (ended past lane) o) ∷ entry.Event (Cancel lane) ∷ past) lane None site (ticket_places v.tickets)
+
+-- ---- what it asks
+
+-- The handle of a lane's grant is the one that came at its place,
+abbrev pub HandlesAgree : Type 0
+HandlesAgree = (s : Setting) (past : List Entry) (lane k : ℕ) (v : LaneValue) (dues : List ℕ) (g : Held) → LaneTied s past lane v dues → slice_get v.grants k ≡ Some g → answer past g.place ≡ Some (reply.Handle g.grant.handle)
+
+-- so a request that bears handles of the lane's grants is the same whatever comes later.
+abbrev pub RequestsAreFilled : Type 0
+RequestsAreFilled = (s : Setting) (past : List Entry) (lane : ℕ) (v : LaneValue) (dues : List ℕ) (a : Asked) → LaneTied s past lane v dues → ((g : ℕ) → is_in g (grants_named a) ≡ true → is_in g (grant_places v.grants) ≡ true)
+    → IsFilled a (answer past)
+
+-- The CLOSE with which a call begins is that of the grant that the journal says.
+abbrev pub ClosesAgree : Type 0
+ClosesAgree = (s : Setting) (past : List Entry) (lane g : ℕ) (v : LaneValue) (dues : List ℕ) (c : Call) (r : Running) (site : Site) → LaneTied s past lane v dues → current s past lane ≡ Some c → v.running ≡ None
+    → Goes (next c v.site s.facts) (asked past) (bytes_of (planned c)) site s.facts (step.Ask (plan_asked.Close g) r) → closes s past (closed s past) (owner.Call lane (ended past lane)) ≡ Some g
 
 -- ---- the grants of its slots
 

@@ -1,5 +1,5 @@
 -- A lane's call by the journal of its session, whatever the call is.
-use Rattle.std.specs.Prelude.{◌≡◌, ℕ, List, ◌∷◌, ◌++◌, Option, Some, None}
+use Rattle.std.specs.Prelude.{◌≡◌, ℕ, List, [], ◌∷◌, ◌++◌, Option, Some, None}
 use Rattle.sftp_model.specs.declared.slot.Facts.{Facts}
 use Rattle.sftp_model.specs.declared.slot.Move.TheVariants.{Ask, Done}
 use Rattle.sftp_model.specs.declared.request.Request.{Request}
@@ -16,6 +16,7 @@ use Rattle.sftp_history.specs.declared.event.Event.TheVariants.{Submit}
 use Rattle.sftp_history.specs.declared.entry.Entry.{Entry}
 use Rattle.sftp_history.specs.Readings.{answer, ended, own}
 use Rattle.sftp_history.specs.Calls.{Setting, planned, next, cancelled, current, move_of, site_of}
+use Rattle.sftp_plan.specs.declared.next.Asked.TheVariants as asked
 use Rattle.sftp_plan.specs.declared.next.Next.TheVariants as step
 use Rattle.sftp_history.specs.declared.event.Owner.TheVariants as owner
 use Rattle.sftp_history.specs.declared.entry.Entry.TheVariants as entry
@@ -45,6 +46,18 @@ CancelTied s past lane running site =
     → cancelled c (site_of s past lane) s.facts (own past lane (ended past lane) ++ later) answers ≡ leaving running c site s.facts later answers
 
 -- ---- what a step of a machine makes of its lane
+
+-- the places of the grants whose handles a request bears
+abbrev pub grants_named : Asked → List ℕ
+grants_named (asked.Plain r) = []
+grants_named (asked.Close grant) = grant ∷ []
+grants_named (asked.Read grant offset len) = grant ∷ []
+grants_named (asked.Write grant offset content) = grant ∷ []
+grants_named (asked.Fstat grant) = grant ∷ []
+grants_named (asked.Fsetstat grant attrs) = grant ∷ []
+grants_named (asked.Fsync grant) = grant ∷ []
+grants_named (asked.Readdir grant) = grant ∷ []
+grants_named (asked.CopyData from from_offset len to to_offset) = from ∷ to ∷ []
 
 -- The request is the same by all later replies: the handles of its grants have come.
 abbrev pub IsFilled : Asked → Answers → Type 0

@@ -20,10 +20,10 @@ use Rattle.sftp_history.specs.Calls.{Setting, site_of}
 use Rattle.sftp_history.specs.Grants.{closed, closes, is_asked_by, is_close, is_grant, is_one_of, is_unended_asker, orphan}
 use Rattle.sftp_history.specs.Ids.{Pending, id_state}
 use Rattle.sftp_history.specs.Journals.{IsJournal, close_of}
-use Rattle.sftp_ties.specs.Places.{IsBelow, without}
+use Rattle.sftp_ties.specs.Places.{IsBelow, is_in, without}
 use Rattle.sftp_ties.specs.Running.{own_request}
 use Rattle.sftp_ties.specs.Tables.{Tabled}
-use Rattle.sftp_ties.specs.Dues.{FewerDue, loose_of}
+use Rattle.sftp_ties.specs.Dues.{Dues, FewerDue, loose_of}
 use Rattle.sftp_ties.specs.Lanes.{CoreTied, LaneGoes, LaneValue, SessionTied, Ticketed, among, grant_places, ticket_places, tickets_of}
 use Rattle.sftp_ties.specs.Changes.{Unbegun, asking_lane, closed_lane, ended_lane, fresh_lane, granted_lane, let_go_lane, spent_lane, with_lane}
 use Rattle.sftp_ties.specs.Letting.{Letting}
@@ -45,6 +45,13 @@ abbrev pub GrantedKeeps : Type 0
 GrantedKeeps = (s : Setting) (past : List Entry) (core : Core) (lanes : ℕ → LaneValue) (dues : List ℕ) (lane k : ℕ) (t : Ticketed) (handle : List ℕ) (running : Option Running) (site : Site)
     → IsJournal s past → SessionTied s past core lanes dues → lane < length s.lanes → slice_get (lanes lane).tickets k ≡ Some t → reply_in (at core t.ticket) ≡ Some (reply.Handle handle)
     → is_unended_asker past lane t.place ≡ true → IsBelow t.place (grant_places (lanes lane).grants)
+    → LaneGoes s past lane running site (without k (ticket_places (lanes lane).tickets)) → SessionTied s past (after_poll core t.ticket) (with_lane lanes lane (granted_lane (lanes lane) k t handle running site)) dues
+
+-- A HANDLE was polled that is due for its CLOSE: its call was cancelled and has ended.
+abbrev pub GrantedDueKeeps : Type 0
+GrantedDueKeeps = (s : Setting) (past : List Entry) (core : Core) (lanes : ℕ → LaneValue) (dues : List ℕ) (lane k : ℕ) (t : Ticketed) (handle : List ℕ) (running : Option Running) (site : Site)
+    → Dues s past dues → SessionTied s past core lanes dues → lane < length s.lanes → slice_get (lanes lane).tickets k ≡ Some t → reply_in (at core t.ticket) ≡ Some (reply.Handle handle)
+    → is_in t.place dues ≡ true → IsBelow t.place (grant_places (lanes lane).grants)
     → LaneGoes s past lane running site (without k (ticket_places (lanes lane).tickets)) → SessionTied s past (after_poll core t.ticket) (with_lane lanes lane (granted_lane (lanes lane) k t handle running site)) dues
 
 -- A ticket was dropped whose request is no unanswered one of the current call, and brought no handle.
@@ -111,6 +118,10 @@ EndKeeps = (s : Setting) (past : List Entry) (core : Core) (lanes : ℕ → Lane
     → LaneGoes s (entry.Event (End lane (ended past lane) o) ∷ past) lane None site (ticket_places (lanes lane).tickets)
     → SessionTied s (entry.Event (End lane (ended past lane) o) ∷ past) core (with_lane lanes lane (ended_lane (lanes lane) site))
     (loose_of (site_of s (entry.Event (End lane (ended past lane) o) ∷ past) lane) (grant_places (lanes lane).grants))
+
+-- More may be due than before.
+abbrev pub MoreDueKeeps : Type 0
+MoreDueKeeps = (s : Setting) (past : List Entry) (core : Core) (lanes : ℕ → LaneValue) (dues more : List ℕ) → ((g : ℕ) → is_in g more ≡ false → is_in g dues ≡ false) → SessionTied s past core lanes dues → SessionTied s past core lanes more
 
 -- A call was added to a lane.
 abbrev pub AddedKeeps : Type 0

@@ -1,10 +1,10 @@
 // Laws of a session whose lanes go by the machines of their calls. The functions do nothing: what they ensure holds of
 // all values. What code must give is a premise; the invariant is that core and lanes are what the journal says.
 ghost use Rattle.sftp_ties.specs.Changes.{BeginsUnbegun};
-ghost use Rattle.sftp_ties.specs.DueTurns.{AddedDues, CancelDues, EndDues, FirstIsNext, NoneDueIsSettled, NoneIsLeft, NoneIsNext, OthersStayDue, RequestDues, SentDues, StartDues, TakenDues, UnheldDues};
-ghost use Rattle.sftp_ties.specs.LaneTurns.{BeginGoes, CancelledGoes, GrantsCount, MissingWaits, NewerStands, RepliesAgree, ReplyGoes, SlotsAgree, TicketsCount, UnrepliedGoes};
+ghost use Rattle.sftp_ties.specs.DueTurns.{AddedDues, CancelDues, CancelledEndDues, EndDues, FirstIsNext, NoneDueIsSettled, NoneIsLeft, NoneIsNext, OthersStayDue, RequestDues, SentDues, StartDues, TakenDues, UnheldDues};
+ghost use Rattle.sftp_ties.specs.LaneTurns.{BeginGoes, CancelledGoes, ClosesAgree, DroppedGoes, GrantsCount, HandlesAgree, MissingWaits, NewerStands, RepliesAgree, ReplyGoes, RequestsAreFilled, SlotsAgree, TicketsCount, UnrepliedGoes};
 ghost use Rattle.sftp_ties.specs.Letting.{NoSlotIsLeft, SlotsArePassed};
-ghost use Rattle.sftp_ties.specs.SessionTurns.{AddedKeeps, CancelKeeps, CloseRequestKeeps, ClosedKeeps, DroppedKeeps, EndKeeps, GrantedKeeps, LetGoClosedKeeps, LetGoKeeps, PolledKeeps, RequestKeeps, SentKeeps, StartTied, TakenKeeps, UnwantedKeeps};
+ghost use Rattle.sftp_ties.specs.SessionTurns.{AddedKeeps, CancelKeeps, CloseRequestKeeps, ClosedKeeps, DroppedKeeps, EndKeeps, GrantedDueKeeps, GrantedKeeps, LetGoClosedKeeps, LetGoKeeps, MoreDueKeeps, PolledKeeps, RequestKeeps, SentKeeps, StartTied, TakenKeeps, UnwantedKeeps};
 
 /// The core counts each ticket of a lane, and one user of each grant; the reply that it has for a ticket is the
 /// journal's.
@@ -21,7 +21,16 @@ pub fn machines_keep_their_lanes()
     ensures replied { ReplyGoes }
     ensures unreplied { UnrepliedGoes }
     ensures waits { MissingWaits }
+    ensures dropped { DroppedGoes }
     ensures cancelled { CancelledGoes }
+{}
+
+/// The requests of a lane's machine bear the handles of the lane's grants, and its CLOSE is that of the grant that the
+/// journal says.
+pub fn requests_bear_the_handles_of_grants()
+    ensures handles { HandlesAgree }
+    ensures filled { RequestsAreFilled }
+    ensures closing { ClosesAgree }
 {}
 
 /// Within a call too, the slots of a lane hold the grants that the journal says.
@@ -50,6 +59,7 @@ pub fn steps_leave_grants_due()
     ensures taken { TakenDues }
     ensures unheld { UnheldDues }
     ensures ended { EndDues }
+    ensures cancelled { CancelledEndDues }
 {}
 
 /// A Send, a Cancel and a call that is added leave due what was due.
@@ -64,6 +74,7 @@ pub fn other_steps_leave_what_is_due()
 pub fn spent_tickets_keep_sessions()
     ensures polled { PolledKeeps }
     ensures granted { GrantedKeeps }
+    ensures due { GrantedDueKeeps }
     ensures dropped { DroppedKeeps }
 {}
 
@@ -89,10 +100,12 @@ pub fn replies_keep_sessions()
     ensures unwanted { UnwantedKeeps }
 {}
 
-/// The invariant holds after a call is cancelled, after one ends, and after one is added to a lane.
+/// The invariant holds after a call is cancelled, after one ends, where more grants may be due, and after one is added
+/// to a lane.
 pub fn ends_keep_sessions()
     ensures cancelled { CancelKeeps }
     ensures ended { EndKeeps }
+    ensures more { MoreDueKeeps }
     ensures added { AddedKeeps }
 {}
 
