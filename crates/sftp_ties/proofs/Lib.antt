@@ -31,6 +31,7 @@ pub mod LaneLaws
 pub mod RestLaws
 pub mod FlushLaws
 pub mod FilledLaws
+pub mod HandleLaws
 pub mod StepLaws
 pub mod TableLaws
 pub mod TakeHolds

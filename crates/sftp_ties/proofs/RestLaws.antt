@@ -13,6 +13,7 @@ use Rattle.sftp_ties.proofs.SendLaws.{send_same}
 use Rattle.sftp_ties.proofs.TakeDues.{take_held, take_loose}
 use Rattle.sftp_ties.proofs.HoldLaws.{are_grants_with}
 use Rattle.sftp_ties.proofs.EndLaws.{dues_end}
+use Rattle.sftp_ties.proofs.HandleLaws.{handles_are_newer}
 use Rattle.sftp_history.specs.declared.entry.Entry.TheVariants as entry
 
 pub none_due_is_settled : NoneDueIsSettled
@@ -28,8 +29,8 @@ pub ended_dues : EndDues
 ended_dues s past core lanes lane o h there j d polled = end_dues s past lane o (lanes lane).tickets (lanes lane).grants j d (h.each lane there).holds polled
 
 pub cancelled_dues : CancelledEndDues
-cancelled_dues s past core lanes lane p o h there j d has grant mine newer only =
-    dues_end s past lane o (grant_places (lanes lane).grants ++ p ∷ []) j d (are_grants_with s past lane p (lanes lane).tickets (lanes lane).grants j there (h.each lane there).holds has grant mine newer only)
+cancelled_dues s past core lanes lane p o h there j d has grant mine only =
+    dues_end s past lane o (grant_places (lanes lane).grants ++ p ∷ []) j d (are_grants_with s past lane p (lanes lane).tickets (lanes lane).grants j there (h.each lane there).holds has grant mine (handles_are_newer s past lane p (lanes lane) [] (h.each lane there) j has grant mine) only)
 
 pub sent_dues : SentDues
 sent_dues s past dues d = dues_same s past (entry.Event Send ∷ past) dues (send_same s past) d

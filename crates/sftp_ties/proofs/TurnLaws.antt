@@ -39,6 +39,7 @@ use Rattle.sftp_ties.proofs.TableLaws.{dropped_waits, polled_plain}
 use Rattle.sftp_ties.proofs.StepLaws.{granted_tied, spent_tied}
 use Rattle.sftp_ties.proofs.HoldLaws.{of_in, ticket_at, ticket_index, ticket_without, asker_holds, held_unclosed}
 use Rattle.sftp_ties.proofs.SendLaws.{send_tied}
+use Rattle.sftp_ties.proofs.HandleLaws.{handles_are_newer}
 use Rattle.sftp_model.specs.declared.request.Request.TheVariants as request
 use Rattle.sftp_model.specs.declared.reply.Reply.TheVariants as reply
 use Rattle.sftp_core.specs.Core as core
@@ -109,7 +110,12 @@ handle_keeps s past c lanes dues lane k t handle running site h there at_k came 
     (put_here c.table t.ticket (Granted handle 1)) (λ i ne. put_elsewhere c.table t.ticket (Granted handle 1) i ne) (subst (λ (x : List ℕ). LaneGoes s past lane running site x) (sym (ticket_without old.tickets k)) goes))
 
 pub granted_keeps : GrantedKeeps
-granted_keeps s past c lanes dues lane k t handle running site j h there at_k came mine newer goes =
+granted_keeps s past c lanes dues lane k t handle running site j h there at_k came mine goes =
+    let old : LaneValue = lanes lane in
+    let l : LaneTied s past lane old dues = h.each lane there in
+    let got = came_answer past (among past (tickets_of lanes)) (among past (grants_of lanes)) (at c) t.ticket t.place (reply.Handle handle) h.table (ticket_at past old.tickets k t l.holds.tied at_k) came in
+    let has : is_in t.place (ticket_places old.tickets) ≡ true = at_in (ticket_places old.tickets) k t.place (ticket_index old.tickets k t at_k) in
+    let newer : IsBelow t.place (grant_places old.grants) = handles_are_newer s past lane t.place old dues l j has (ap is_granted got.1.1) mine in
     let holder : holds s past t.place lane ≡ true = asker_holds s past t.place lane mine in
     handle_keeps s past c lanes dues lane k t handle running site h there at_k came (held_unclosed s past t.place lane j there holder) (λ out. holder) newer goes
 

@@ -13,7 +13,7 @@ use Rattle.sftp_history.specs.Calls.{Setting, site_of}
 use Rattle.sftp_history.specs.Grants.{IsSettled, is_grant, is_held, is_unended_asker, letting_go, orphan}
 use Rattle.sftp_history.specs.Ids.{Pending, id_state}
 use Rattle.sftp_history.specs.Journals.{IsJournal, close_of}
-use Rattle.sftp_ties.specs.Places.{IsBelow, is_in}
+use Rattle.sftp_ties.specs.Places.{is_in}
 use Rattle.sftp_ties.specs.Running.{own_request}
 use Rattle.sftp_ties.specs.Dues.{Dues, loose_of}
 use Rattle.sftp_ties.specs.Lanes.{LaneValue, SessionTied, grant_places, ticket_places}
@@ -59,7 +59,7 @@ EndDues = (s : Setting) (past : List Entry) (core : Core) (lanes : ℕ → LaneV
 -- So does the end of a call that was cancelled before its HANDLE was polled; the HANDLE is due too, unless a slot has it.
 abbrev pub CancelledEndDues : Type 0
 CancelledEndDues = (s : Setting) (past : List Entry) (core : Core) (lanes : ℕ → LaneValue) (lane p : ℕ) (o : Outcome) → SessionTied s past core lanes [] → lane < length s.lanes → IsJournal s past → Dues s past []
-    → is_in p (ticket_places (lanes lane).tickets) ≡ true → is_grant past p ≡ true → is_unended_asker past lane p ≡ true → IsBelow p (grant_places (lanes lane).grants)
+    → is_in p (ticket_places (lanes lane).tickets) ≡ true → is_grant past p ≡ true → is_unended_asker past lane p ≡ true
     → ((q : ℕ) → is_in q (ticket_places (lanes lane).tickets) ≡ true → is_grant past q ≡ true → q ≡ p)
     → Dues s (entry.Event (End lane (ended past lane) o) ∷ past) (loose_of (site_of s (entry.Event (End lane (ended past lane) o) ∷ past) lane) (grant_places (lanes lane).grants ++ p ∷ []))
 

@@ -18,7 +18,7 @@ use Rattle.sftp_history.specs.declared.event.Event.TheVariants.{Cancel, End}
 use Rattle.sftp_history.specs.declared.entry.Entry.{Entry}
 use Rattle.sftp_history.specs.Readings.{answer, asked, asked_at, ended}
 use Rattle.sftp_history.specs.Calls.{Setting, cancelled, current, held_site, move_of, next, planned}
-use Rattle.sftp_history.specs.Grants.{closed, closes, is_asked_by}
+use Rattle.sftp_history.specs.Grants.{is_grant, is_unended_asker, closed, closes, is_asked_by}
 use Rattle.sftp_history.specs.Journals.{IsJournal}
 use Rattle.sftp_ties.specs.Places.{IsBelow, is_in, without}
 use Rattle.sftp_ties.specs.Running.{leaving, IsFilled, grants_named}
@@ -110,3 +110,8 @@ SlotsAgree = (s : Setting) (past : List Entry) (lane : ℕ) (v : LaneValue) (due
 abbrev pub NewerStands : Type 0
 NewerStands = (s : Setting) (past : List Entry) (lane p : ℕ) (gs : List ℕ) → IsJournal s past → is_asked_by (asked_at past p) lane (ended past lane) ≡ true → AllOf past lane gs
     → ((g : ℕ) → is_in g gs ≡ true → (c : ℕ) × ((c < ended past lane) × (is_asked_by (asked_at past g) lane c ≡ true))) → IsBelow p gs
+
+-- So does a HANDLE that came for the current call and was not polled: the call brings one handle, by its first request.
+abbrev pub HandlesAreNewer : Type 0
+HandlesAreNewer = (s : Setting) (past : List Entry) (lane p : ℕ) (v : LaneValue) (dues : List ℕ) → LaneTied s past lane v dues → IsJournal s past → is_in p (ticket_places v.tickets) ≡ true → is_grant past p ≡ true → is_unended_asker past lane p ≡ true
+    → IsBelow p (grant_places v.grants)

@@ -44,7 +44,7 @@ PolledKeeps = (s : Setting) (past : List Entry) (core : Core) (lanes : ℕ → L
 abbrev pub GrantedKeeps : Type 0
 GrantedKeeps = (s : Setting) (past : List Entry) (core : Core) (lanes : ℕ → LaneValue) (dues : List ℕ) (lane k : ℕ) (t : Ticketed) (handle : List ℕ) (running : Option Running) (site : Site)
     → IsJournal s past → SessionTied s past core lanes dues → lane < length s.lanes → slice_get (lanes lane).tickets k ≡ Some t → reply_in (at core t.ticket) ≡ Some (reply.Handle handle)
-    → is_unended_asker past lane t.place ≡ true → IsBelow t.place (grant_places (lanes lane).grants)
+    → is_unended_asker past lane t.place ≡ true
     → LaneGoes s past lane running site (without k (ticket_places (lanes lane).tickets)) → SessionTied s past (after_poll core t.ticket) (with_lane lanes lane (granted_lane (lanes lane) k t handle running site)) dues
 
 -- A HANDLE was polled that is due for its CLOSE: its call was cancelled and has ended.

@@ -2,7 +2,7 @@
 // all values. What code must give is a premise; the invariant is that core and lanes are what the journal says.
 ghost use Rattle.sftp_ties.specs.Changes.{BeginsUnbegun};
 ghost use Rattle.sftp_ties.specs.DueTurns.{AddedDues, CancelDues, CancelledEndDues, EndDues, FirstIsNext, NoneDueIsSettled, NoneIsLeft, NoneIsNext, OthersStayDue, RequestDues, SentDues, StartDues, TakenDues, UnheldDues};
-ghost use Rattle.sftp_ties.specs.LaneTurns.{BeginGoes, CancelledGoes, ClosesAgree, DroppedGoes, GrantsCount, HandlesAgree, MissingWaits, NewerStands, RepliesAgree, ReplyGoes, RequestsAreFilled, SlotsAgree, TicketsCount, UnrepliedGoes};
+ghost use Rattle.sftp_ties.specs.LaneTurns.{BeginGoes, CancelledGoes, ClosesAgree, DroppedGoes, GrantsCount, HandlesAgree, HandlesAreNewer, MissingWaits, NewerStands, RepliesAgree, ReplyGoes, RequestsAreFilled, SlotsAgree, TicketsCount, UnrepliedGoes};
 ghost use Rattle.sftp_ties.specs.Letting.{NoSlotIsLeft, SlotsArePassed};
 ghost use Rattle.sftp_ties.specs.SessionTurns.{AddedKeeps, CancelKeeps, CloseRequestKeeps, ClosedKeeps, DroppedKeeps, EndKeeps, GrantedDueKeeps, GrantedKeeps, LetGoClosedKeeps, LetGoKeeps, MoreDueKeeps, PolledKeeps, RequestKeeps, SentKeeps, StartTied, TakenKeeps, UnwantedKeeps};
 
@@ -38,9 +38,11 @@ pub fn slots_hold_the_grants_of_the_journal()
     ensures { SlotsAgree }
 {}
 
-/// A request of a lane's current call stands behind those of its earlier calls.
+/// A request of a lane's current call stands behind those of its earlier calls, and so its handle behind the grants of
+/// the lane.
 pub fn later_calls_stand_behind()
-    ensures { NewerStands }
+    ensures requests { NewerStands }
+    ensures handles { HandlesAreNewer }
 {}
 
 /// Of the grants that are due for their CLOSE the one of the least place is closed next, and the others stay due.
