@@ -1,0 +1,11 @@
+//! Tests of the plan machines by their public calls: what is asked, and whole calls reply by reply.
+#![tactic(auto)]
+
+#[cfg(test)]
+mod local;
+#[cfg(test)]
+mod setting;
+#[cfg(test)]
+mod tell;
+#[cfg(test)]
+mod whole;
