@@ -1,6 +1,6 @@
 // Requests by small values, and replies by their kind.
 ghost use Rattle.std.specs.Prelude.{IfOk};
-ghost use Rattle.sftp_model.specs.FileMachine.{IsAfterHello};
+ghost use Rattle.sftp_model.specs.Answers.{IsAfterHello};
 
 use bitflags::Flags;
 use bytes::Bytes;

@@ -1,5 +1,5 @@
 ghost use Rattle.std.specs.Prelude.{◌≡◌, true};
-ghost use Rattle.sftp_model.specs.FileMachine.{IsAfterHello};
+ghost use Rattle.sftp_model.specs.Answers.{IsAfterHello};
 ghost use Rattle.sftp_map_server.specs.Granting.{gives_within as gives_within_by};
 
 mod link;

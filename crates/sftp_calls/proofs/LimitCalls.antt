@@ -20,6 +20,7 @@ use Rattle.sftp_model.specs.declared.slot.Slot.{Slot}
 use Rattle.sftp_model.specs.declared.slot.Slot.TheVariants.{Empty, File, Buffered}
 use Rattle.sftp_model.specs.declared.slot.Site.{Site}
 use Rattle.sftp_model.specs.Slots.{slot_at, with_slot, has_grant}
+use Rattle.sftp_model.specs.Numbers.{FSYNC, COPY_DATA}
 use Rattle.sftp_calls.specs.Moves.{Answers, Own, by_reply, ask_path, ask_read, handle_of, overflows, refuses, refuses_extension, offers, on_status, on_file, done_by, told_by, is_too_long, further}
 use Rattle.sftp_calls.specs.PathPlans.{path_done, path_told, path_named, named_by}
 use Rattle.sftp_calls.specs.FilePlans.{open_request, opened, opened_file, first_place, close_grant_next, close_slot_next, ask_set, set_next, ask_meta, ask_sync, ask_copy, copied, copy_files_next, on_seek}
@@ -102,12 +103,12 @@ meta_leaves facts file site own answers b = once_leaves facts (ask_meta file sit
 
 pub sync_leaves : (facts : Facts) (file : FileAt) (site : Site) (own : Own) (answers : Answers) → BuffersWithin facts site → LeavesWithin facts (by_reply (ask_sync file site facts answers) (done_by site) own answers)
 sync_leaves facts file site own answers b = once_leaves facts (ask_sync file site facts answers) (done_by site) own answers
-    (either (LeavesWithin facts) (not (offers facts 4)) (refuses_extension 4 site) _ (λ e. b)
+    (either (LeavesWithin facts) (not (offers facts FSYNC)) (refuses_extension FSYNC site) _ (λ e. b)
     (λ e. either (LeavesWithin facts) (not file.writable) (refuses kind.NotWritable site) (Ask (request.Fsync (handle_of (answers file.grant)))) (λ n. b) (λ n. tt))) (λ r. done_leaves facts site site outcome.Done r b b)
 
 pub copy_leaves : (facts : Facts) (from to n : ℕ) (site : Site) (own : Own) (answers : Answers) (source target : FileAt) → BuffersWithin facts site → LeavesWithin facts (copy_files_next from to n site facts own answers source target)
 copy_leaves facts from to n site own answers source target b = once_leaves facts (ask_copy source target n site facts answers) _ own answers
-    (either (LeavesWithin facts) (not (offers facts 16)) (refuses_extension 16 site) _ (λ e. b)
+    (either (LeavesWithin facts) (not (offers facts COPY_DATA)) (refuses_extension COPY_DATA site) _ (λ e. b)
     (λ e. either (LeavesWithin facts) (not target.writable) (refuses kind.NotWritable site) _ (λ f. b)
     (λ f. either (LeavesWithin facts) (not source.readable) (refuses kind.NotReadable site) _ (λ g. b)
     (λ g. either (LeavesWithin facts) (overflows source.offset n) (refuses kind.OffsetOverflow site) _ (λ h. b)

@@ -18,6 +18,7 @@ use Rattle.sftp_model.specs.declared.slot.Slot.{Slot}
 use Rattle.sftp_model.specs.declared.slot.Site.{Site}
 use Rattle.sftp_model.specs.declared.slot.Slot.TheVariants.{Empty, File, Buffered}
 use Rattle.sftp_model.specs.Slots.{slot_at, with_slot, grant_of, slot_has, has_grant}
+use Rattle.sftp_model.specs.Numbers.{FSYNC, COPY_DATA}
 use Rattle.sftp_calls.specs.Moves.{Own, ask_path, handle_of, overflows, refuses, refuses_extension, offers, done_by, told_by, by_reply, further}
 use Rattle.sftp_calls.specs.PathPlans.{set_attributes}
 use Rattle.sftp_calls.specs.FilePlans.{open_request, opened, opened_file, first_place, open_next, close_grant_next, close_slot_next, close_next, ask_set, set_next, set_len_next, set_perm_next, ask_meta, meta_next, ask_sync, sync_next, ask_copy, copied, copy_files_next, copy_next, clone_next, on_seek, seek_next, buffer_next}
@@ -93,7 +94,7 @@ meta_good s slot = on_file_good s slot _ (λ file st.
 pub sync_good : (s : Situation) (slot : ℕ) → IsGood s (sync_next slot s.site s.facts s.own s.answers)
 sync_good s slot = on_file_good s slot _ (λ file st.
     replied s s.own (ask_sync file s.site s.facts s.answers) (done_by s.site)
-    (λ e. either (IsGood s) (not (offers s.facts 4)) (refuses_extension 4 s.site) _ (λ x. as_begun s outcome.NoFile)
+    (λ e. either (IsGood s) (not (offers s.facts FSYNC)) (refuses_extension FSYNC s.site) _ (λ x. as_begun s outcome.NoFile)
     (λ x. either (IsGood s) (not file.writable) (refuses kind.NotWritable s.site) (Ask (request.Fsync (handle_of (s.answers file.grant)))) (λ y. as_begun s outcome.NoFile)
     (λ y. held_handle s file.grant (stands_held s slot s.site file.grant st))))
     (λ r. by_status (IsGood s) r s.site (Done outcome.Done s.site) (as_begun s) (as_begun s outcome.Done)))
@@ -108,7 +109,7 @@ copy_good_files s from to n source target sf st =
     let source_held : IsHeld s source.grant = stands_held s from s.site source.grant sf in
     let target_held : IsHeld s target.grant = stands_held s to s.site target.grant st in
     replied s s.own (ask_copy source target n s.site s.facts s.answers) _
-    (λ e. either (IsGood s) (not (offers s.facts 16)) (refuses_extension 16 s.site) _ (λ x. as_begun s outcome.NoFile)
+    (λ e. either (IsGood s) (not (offers s.facts COPY_DATA)) (refuses_extension COPY_DATA s.site) _ (λ x. as_begun s outcome.NoFile)
     (λ x. either (IsGood s) (not target.writable) (refuses kind.NotWritable s.site) _ (λ y. as_begun s outcome.NoFile)
     (λ y. either (IsGood s) (not source.readable) (refuses kind.NotReadable s.site) _ (λ z. as_begun s outcome.NoFile)
     (λ z. either (IsGood s) (overflows source.offset n) (refuses kind.OffsetOverflow s.site) _ (λ u. as_begun s outcome.NoFile)

@@ -11,6 +11,7 @@ use Rattle.sftp_model.specs.declared.request.Request.TheVariants as request
 use Rattle.sftp_model.specs.declared.slot.Move.TheVariants.{Ask, Done}
 use Rattle.sftp_model.specs.Fits.{FitsAttributes, FitsLong, FitsNumber}
 use Rattle.sftp_model.specs.Frames.{no_attributes}
+use Rattle.sftp_model.specs.Numbers.{POSIX_RENAME, HARDLINK, EXPAND_PATH}
 use Rattle.sftp_calls.specs.Moves.{Own, is_too_long, ask_path, refuses, refuses_extension, offers, done_by, told_by}
 use Rattle.sftp_calls.specs.PathPlans.{from_directory, path_done, path_told, path_named, named_by, set_attributes, permission_bits, set_stat_next, remove_next, mkdir_next, rmdir_next, rename_request, rename_next, hard_link_next, symlink_next, stat_next, lstat_next, read_link_next, canonical_request, canonicalize_next, cwd_next}
 use Rattle.sftp_calls.specs.GoodMoves.{Situation, IsGood, IsGoodAsk}
@@ -63,7 +64,7 @@ renames s true old to e = e
 renames s false old to e = e
 
 pub rename_good : (s : Situation) (old to : List ℕ) → IsGood s (rename_next old to s.site s.facts s.own s.answers)
-rename_good s old to = done_good s s.own (rename_request s.facts (from_directory s.site old) (from_directory s.site to)) (renames s (offers s.facts 1) (from_directory s.site old) (from_directory s.site to))
+rename_good s old to = done_good s s.own (rename_request s.facts (from_directory s.site old) (from_directory s.site to)) (renames s (offers s.facts POSIX_RENAME) (from_directory s.site old) (from_directory s.site to))
 
 pub symlink_good : (s : Situation) (src dst : List ℕ) → IsGood s (symlink_next src dst s.site s.facts s.own s.answers)
 symlink_good s src dst = done_good s s.own (request.Symlink (from_directory s.site src) (from_directory s.site dst)) (λ e. e)
@@ -71,8 +72,8 @@ symlink_good s src dst = done_good s s.own (request.Symlink (from_directory s.si
 pub hard_link_good : (s : Situation) (old to : List ℕ) → IsGood s (hard_link_next old to s.site s.facts s.own s.answers)
 hard_link_good s old to =
     let r : Request = request.Hardlink (from_directory s.site old) (from_directory s.site to) in
-    replied s s.own (if offers s.facts 2 then ask_path r s.site else refuses_extension 2 s.site) (done_by s.site)
-    (λ e. either (IsGood s) (offers s.facts 2) (ask_path r s.site) (refuses_extension 2 s.site) (λ o. path_good s r (λ x. x)) (λ o. as_begun s outcome.NoFile))
+    replied s s.own (if offers s.facts HARDLINK then ask_path r s.site else refuses_extension HARDLINK s.site) (done_by s.site)
+    (λ e. either (IsGood s) (offers s.facts HARDLINK) (ask_path r s.site) (refuses_extension HARDLINK s.site) (λ o. path_good s r (λ x. x)) (λ o. as_begun s outcome.NoFile))
     (λ y. by_status (IsGood s) y s.site (Done outcome.Done s.site) (as_begun s) (as_begun s outcome.Done))
 
 pub stat_good : (s : Situation) (path : List ℕ) → IsGood s (stat_next path s.site s.facts s.own s.answers)
@@ -89,7 +90,7 @@ expands s true path e = e
 expands s false path e = e
 
 pub canonicalize_good : (s : Situation) (path : List ℕ) → IsGood s (canonicalize_next path s.site s.facts s.own s.answers)
-canonicalize_good s path = named_good s s.own (canonical_request s.facts (from_directory s.site path)) (expands s (offers s.facts 8) (from_directory s.site path))
+canonicalize_good s path = named_good s s.own (canonical_request s.facts (from_directory s.site path)) (expands s (offers s.facts EXPAND_PATH) (from_directory s.site path))
 
 pub cwd_good : (s : Situation) (path : List ℕ) → IsGood s (cwd_next path s.site s.facts s.own s.answers)
 cwd_good s path = λ g h. inl h

@@ -14,7 +14,7 @@ use Rattle.sftp_model.specs.declared.slot.Slot.TheVariants.{File}
 use Rattle.sftp_model.specs.Slots.{fresh_site, with_slot}
 use Rattle.sftp_calls.specs.CallPlans as call
 use Rattle.sftp_calls.specs.CallPlans.{next, cancelled}
-use Rattle.sftp_model.specs.FileMachine.{status}
+use Rattle.sftp_model.specs.Answers.{status}
 use Rattle.sftp_calls.specs.PlanWords.{file_at, attributes_of, handle, granted, after_handle, at, read_only, write_only, buffered, offering, bare, refused_io, refused_with, lacks}
 
 -- ---- open

@@ -2,7 +2,7 @@
 use Rattle.std.specs.Prelude.{ℕ, ◌+◌, ◌-◌, ◌==◌, not, List, [], ◌∷◌, Some, None, pos, negsuc, nat_le, if◌then◌else◌}
 use Rattle.std.specs.declared.io.traits.SeekFrom.{SeekFrom}
 use Rattle.std.specs.declared.io.traits.SeekFrom.TheVariants.{Start, End, Current}
-use Rattle.sftp_model.specs.Numbers.{SSH_FXF_READ, SSH_FXF_WRITE}
+use Rattle.sftp_model.specs.Numbers.{SSH_FXF_READ, SSH_FXF_WRITE, FSYNC, COPY_DATA}
 use Rattle.sftp_model.specs.declared.file_attrs.FileAttrs.{FileAttrs}
 use Rattle.sftp_model.specs.declared.flags.OpenFlags.{OpenFlags}
 use Rattle.sftp_model.specs.declared.request.Request.{Request}
@@ -87,7 +87,7 @@ meta_next slot site facts own answers = on_file (slot_at site slot) site (λ fil
 
 abbrev pub ask_sync : FileAt → Site → Facts → Answers → Move
 ask_sync file site facts answers =
-    if not (offers facts 4) then refuses_extension 4 site
+    if not (offers facts FSYNC) then refuses_extension FSYNC site
     else if not file.writable then refuses kind.NotWritable site
     else Ask (request.Fsync (handle_of (answers file.grant)))
 
@@ -98,7 +98,7 @@ sync_next slot site facts own answers = on_file (slot_at site slot) site (λ fil
 
 abbrev pub ask_copy : FileAt → FileAt → ℕ → Site → Facts → Answers → Move
 ask_copy source target n site facts answers =
-    if not (offers facts 16) then refuses_extension 16 site
+    if not (offers facts COPY_DATA) then refuses_extension COPY_DATA site
     else if not target.writable then refuses kind.NotWritable site
     else if not source.readable then refuses kind.NotReadable site
     else if overflows source.offset n then refuses kind.OffsetOverflow site

@@ -14,7 +14,7 @@ use Rattle.sftp_model.specs.declared.slot.Slot.TheVariants.{Buffered}
 use Rattle.sftp_model.specs.Slots.{fresh_site, with_slot}
 use Rattle.sftp_calls.specs.CallPlans as call
 use Rattle.sftp_calls.specs.CallPlans.{next, cancelled}
-use Rattle.sftp_model.specs.FileMachine.{status}
+use Rattle.sftp_model.specs.Answers.{status}
 use Rattle.sftp_calls.specs.PlanWords.{known, file_at, handle, after_handle, at, buffered, write_at, facts, bare, refused_io, refused_with}
 
 abbrev ok : Reply

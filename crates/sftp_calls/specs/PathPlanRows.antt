@@ -14,7 +14,7 @@ use Rattle.sftp_calls.specs.Moves.{Answers, is_too_long, refuses}
 use Rattle.sftp_calls.specs.PathPlans.{from_directory}
 use Rattle.sftp_calls.specs.CallPlans as call
 use Rattle.sftp_calls.specs.CallPlans.{next, cancelled}
-use Rattle.sftp_model.specs.FileMachine.{status}
+use Rattle.sftp_model.specs.Answers.{status}
 use Rattle.sftp_calls.specs.PlanWords.{attributes_of, entry, at, after_handle, offering, bare, refused_io, refused_with, lacks}
 
 abbrev in_x : Site

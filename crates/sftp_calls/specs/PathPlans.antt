@@ -13,6 +13,7 @@ use Rattle.sftp_model.specs.declared.slot.Move.TheVariants.{Done}
 use Rattle.sftp_model.specs.Frames.{no_attributes}
 use Rattle.sftp_model.specs.Paths.{joined_path}
 use Rattle.sftp_model.specs.declared.slot.Site.{Site}
+use Rattle.sftp_model.specs.Numbers.{POSIX_RENAME, HARDLINK, EXPAND_PATH}
 use Rattle.sftp_calls.specs.Moves.{Plan, by_reply, ask_path, done_by, told_by, refused, refuses_extension, offers}
 
 -- what a path of a call names
@@ -46,7 +47,7 @@ rmdir_next path site facts = path_done (request.Rmdir (from_directory site path)
 
 -- the rename that replaces, where the server offers it
 abbrev pub rename_request : Facts → List ℕ → List ℕ → Request
-rename_request facts old to = if offers facts 1 then request.PosixRename old to else request.Rename old to
+rename_request facts old to = if offers facts POSIX_RENAME then request.PosixRename old to else request.Rename old to
 
 abbrev pub rename_next : List ℕ → List ℕ → Site → Facts → Plan
 rename_next old to site facts = path_done (rename_request facts (from_directory site old) (from_directory site to)) site
@@ -57,7 +58,7 @@ symlink_next src dst site facts = path_done (request.Symlink (from_directory sit
 -- the extension is looked at before the length
 abbrev pub hard_link_next : List ℕ → List ℕ → Site → Facts → Plan
 hard_link_next old to site facts =
-    by_reply (if offers facts 2 then ask_path (request.Hardlink (from_directory site old) (from_directory site to)) site else refuses_extension 2 site) (done_by site)
+    by_reply (if offers facts HARDLINK then ask_path (request.Hardlink (from_directory site old) (from_directory site to)) site else refuses_extension HARDLINK site) (done_by site)
 
 -- ---- calls that attributes end
 
@@ -84,7 +85,7 @@ read_link_next path site facts = path_named (request.Readlink (from_directory si
 
 -- the extension that knows `~`, where the server offers it
 abbrev pub canonical_request : Facts → List ℕ → Request
-canonical_request facts path = if offers facts 8 then request.ExpandPath path else request.Realpath path
+canonical_request facts path = if offers facts EXPAND_PATH then request.ExpandPath path else request.Realpath path
 
 abbrev pub canonicalize_next : List ℕ → Site → Facts → Plan
 canonicalize_next path site facts = path_named (canonical_request facts (from_directory site path)) site

@@ -12,7 +12,7 @@ use Rattle.sftp_model.specs.declared.slot.Slot.TheVariants.{File, Buffered}
 use Rattle.sftp_model.specs.Slots.{fresh_site, with_slot}
 use Rattle.sftp_calls.specs.CallPlans as call
 use Rattle.sftp_calls.specs.CallPlans.{next, cancelled}
-use Rattle.sftp_model.specs.FileMachine.{status}
+use Rattle.sftp_model.specs.Answers.{status}
 use Rattle.sftp_calls.specs.PlanWords.{known, facts, file_at, attributes_of}
 
 pub open_1 : next (call.OpenFile 0 (record { 0 = 15 }) (97 ∷ 98 ∷ [])) (with_slot (record fresh_site { directory = (120 ∷ 47 ∷ []) }) 0 (File (file_at 2 true true 0))) (facts 57 4 2 3 4) ((3, (request.OpenFile (97 ∷ 98 ∷ []) (record { 0 = 15 }) (attributes_of None None))) ∷ []) (known ((0, (status 0)) ∷ (1, (reply.Handle (1 ∷ 7 ∷ []))) ∷ (2, (reply.Handle (2 ∷ 7 ∷ []))) ∷ (3, (reply.Handle (11 ∷ 213 ∷ []))) ∷ [])) ≡ Done outcome.Opened (with_slot (record fresh_site { directory = (120 ∷ 47 ∷ []) }) 0 (File (file_at 3 true true 0)))

@@ -11,7 +11,7 @@ use Rattle.sftp_model.specs.declared.slot.Slot.TheVariants.{File, Buffered}
 use Rattle.sftp_model.specs.Slots.{fresh_site, with_slot}
 use Rattle.sftp_calls.specs.CallPlans as call
 use Rattle.sftp_calls.specs.CallPlans.{next, cancelled}
-use Rattle.sftp_model.specs.FileMachine.{status}
+use Rattle.sftp_model.specs.Answers.{status}
 use Rattle.sftp_calls.specs.PlanWords.{known, facts, file_at, attributes_of}
 
 pub write_all_8 : next (call.WriteAll 0 (147 ∷ 247 ∷ 92 ∷ 76 ∷ 123 ∷ [])) (with_slot (with_slot (with_slot (record fresh_site { directory = (47 ∷ 120 ∷ []) }) 0 (File (file_at 0 false true 19))) 1 (File (file_at 0 true true 12))) 2 (Buffered (file_at 0 true false 19) (record { len = 1; bytes = []; deferred = []; reading = None }))) (facts 31 1 4 7 2) ((1, (request.Write (0 ∷ 7 ∷ []) 19 (147 ∷ 247 ∷ 92 ∷ 76 ∷ []))) ∷ (2, (request.Write (0 ∷ 7 ∷ []) 23 (123 ∷ []))) ∷ []) (known ((0, (reply.Handle (0 ∷ 7 ∷ []))) ∷ (1, (status 0)) ∷ [])) ≡ Wait 2

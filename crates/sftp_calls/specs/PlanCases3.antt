@@ -10,7 +10,7 @@ use Rattle.sftp_model.specs.declared.slot.Slot.TheVariants.{File, Buffered}
 use Rattle.sftp_model.specs.Slots.{fresh_site, with_slot}
 use Rattle.sftp_calls.specs.CallPlans as call
 use Rattle.sftp_calls.specs.CallPlans.{next, cancelled}
-use Rattle.sftp_model.specs.FileMachine.{status}
+use Rattle.sftp_model.specs.Answers.{status}
 use Rattle.sftp_calls.specs.PlanWords.{known, facts, file_at}
 
 pub close_2 : next (call.Close 3) (with_slot (with_slot (with_slot fresh_site 0 (File (file_at 1 true false 0))) 1 (Buffered (file_at 1 false true 5) (record { len = 2; bytes = []; deferred = ((2, 4) ∷ (3, 1) ∷ []); reading = None }))) 2 (File (file_at 1 false true 9))) (facts 44 2 4 5 2) [] (known ((0, (status 0)) ∷ (1, (reply.Handle (1 ∷ 7 ∷ []))) ∷ (2, (status 0)) ∷ (3, (status 1)) ∷ [])) ≡ Done outcome.NoFile (with_slot (with_slot (with_slot fresh_site 0 (File (file_at 1 true false 0))) 1 (Buffered (file_at 1 false true 5) (record { len = 2; bytes = []; deferred = ((2, 4) ∷ (3, 1) ∷ []); reading = None }))) 2 (File (file_at 1 false true 9)))

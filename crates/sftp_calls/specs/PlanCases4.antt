@@ -13,7 +13,7 @@ use Rattle.sftp_model.specs.declared.slot.Slot.TheVariants.{File, Buffered}
 use Rattle.sftp_model.specs.Slots.{fresh_site, with_slot}
 use Rattle.sftp_calls.specs.CallPlans as call
 use Rattle.sftp_calls.specs.CallPlans.{next, cancelled}
-use Rattle.sftp_model.specs.FileMachine.{status}
+use Rattle.sftp_model.specs.Answers.{status}
 use Rattle.sftp_calls.specs.PlanWords.{known, facts, file_at, attributes_of}
 
 pub buf_write_all_12 : next (call.BufWriteAll 2 (98 ∷ 33 ∷ 17 ∷ 103 ∷ 32 ∷ 93 ∷ 146 ∷ [])) (with_slot (with_slot (with_slot fresh_site 0 (File (file_at 0 true true 13))) 1 (File (file_at 0 true true 0))) 2 (Buffered (file_at 0 true true 0) (record { len = 2; bytes = (242 ∷ 163 ∷ 190 ∷ []); deferred = ((1, 1) ∷ []); reading = None }))) (facts 22 4 3 3 1) ((2, (request.Write (0 ∷ 7 ∷ []) 0 (98 ∷ 33 ∷ []))) ∷ []) (known ((0, (reply.Handle (0 ∷ 7 ∷ []))) ∷ [])) ≡ Wait 1

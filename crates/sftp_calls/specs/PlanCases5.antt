@@ -11,7 +11,7 @@ use Rattle.sftp_model.specs.declared.slot.Slot.TheVariants.{File, Buffered}
 use Rattle.sftp_model.specs.Slots.{fresh_site, with_slot}
 use Rattle.sftp_calls.specs.CallPlans as call
 use Rattle.sftp_calls.specs.CallPlans.{next, cancelled}
-use Rattle.sftp_model.specs.FileMachine.{status}
+use Rattle.sftp_model.specs.Answers.{status}
 use Rattle.sftp_calls.specs.PlanWords.{known, facts, file_at, entry, attributes_of}
 
 pub fs_read_17 : next (call.FsRead (97 ∷ []) 2) (with_slot (with_slot (with_slot (record fresh_site { directory = (120 ∷ 47 ∷ []) }) 0 (Buffered (file_at 2 true true 2) (record { len = 4; bytes = (156 ∷ []); deferred = ((3, 4) ∷ []); reading = None }))) 1 (File (file_at 2 true false 0))) 2 (File (file_at 1 true true 0))) (facts 62 4 2 4 1) ((4, (request.OpenFile (120 ∷ 47 ∷ 97 ∷ []) (record { 0 = 1 }) (attributes_of None None))) ∷ (5, (request.Read (76 ∷ 112 ∷ 17 ∷ []) 0 4)) ∷ []) (known ((0, (status 0)) ∷ (1, (reply.Handle (1 ∷ 7 ∷ []))) ∷ (2, (reply.Handle (2 ∷ 7 ∷ []))) ∷ (3, (status 0)) ∷ (4, (reply.Handle (76 ∷ 112 ∷ 17 ∷ []))) ∷ [])) ≡ Wait 5

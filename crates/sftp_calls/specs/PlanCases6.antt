@@ -11,7 +11,7 @@ use Rattle.sftp_model.specs.declared.slot.Slot.TheVariants.{File, Buffered}
 use Rattle.sftp_model.specs.Slots.{fresh_site, with_slot}
 use Rattle.sftp_calls.specs.CallPlans as call
 use Rattle.sftp_calls.specs.CallPlans.{next, cancelled}
-use Rattle.sftp_model.specs.FileMachine.{status}
+use Rattle.sftp_model.specs.Answers.{status}
 use Rattle.sftp_calls.specs.PlanWords.{known, facts, file_at, attributes_of}
 
 pub stat_1 : next (call.Stat (47 ∷ [])) (with_slot (with_slot (with_slot fresh_site 0 (File (file_at 1 true false 5))) 1 (Buffered (file_at 1 false true 19) (record { len = 5; bytes = []; deferred = ((2, 7) ∷ []); reading = None }))) 2 (Buffered (file_at 1 true true 0) (record { len = 2; bytes = []; deferred = ((3, 7) ∷ []); reading = None }))) (facts 59 3 2 7 1) ((4, (request.Stat (47 ∷ []))) ∷ []) (known ((0, (status 0)) ∷ (1, (reply.Handle (1 ∷ 7 ∷ []))) ∷ (2, (status 0)) ∷ [])) ≡ Wait 4

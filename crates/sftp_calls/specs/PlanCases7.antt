@@ -11,7 +11,7 @@ use Rattle.sftp_model.specs.declared.slot.Slot.TheVariants.{File, Buffered}
 use Rattle.sftp_model.specs.Slots.{fresh_site, with_slot}
 use Rattle.sftp_calls.specs.CallPlans as call
 use Rattle.sftp_calls.specs.CallPlans.{next, cancelled}
-use Rattle.sftp_model.specs.FileMachine.{status}
+use Rattle.sftp_model.specs.Answers.{status}
 use Rattle.sftp_calls.specs.PlanWords.{known, facts, file_at, entry}
 
 pub hard_link_3 : next (call.HardLink (97 ∷ 47 ∷ 98 ∷ []) []) (with_slot (with_slot (with_slot (record fresh_site { directory = (120 ∷ []) }) 0 (Buffered (file_at 1 true true 18446744073709551615) (record { len = 2; bytes = (9 ∷ 125 ∷ 140 ∷ []); deferred = []; reading = None }))) 1 (Buffered (file_at 1 true true 5) (record { len = 1; bytes = []; deferred = ((2, 3) ∷ []); reading = None }))) 2 (Buffered (file_at 1 true false 0) (record { len = 1; bytes = (64 ∷ []); deferred = []; reading = None }))) (facts 10 2 4 3 3) [] (known ((0, (status 0)) ∷ (1, (reply.Handle (1 ∷ 7 ∷ []))) ∷ [])) ≡ Ask (request.Hardlink (120 ∷ 47 ∷ 97 ∷ 47 ∷ 98 ∷ []) (120 ∷ 47 ∷ []))

@@ -8,7 +8,7 @@ use Rattle.sftp_model.specs.declared.error.IoKind.TheVariants as kind
 use Rattle.sftp_model.specs.declared.slot.Move.TheVariants.{Ask, Wait, Done}
 use Rattle.sftp_calls.specs.CallPlans as call
 use Rattle.sftp_calls.specs.CallPlans.{next, cancelled}
-use Rattle.sftp_model.specs.FileMachine.{status}
+use Rattle.sftp_model.specs.Answers.{status}
 use Rattle.sftp_calls.specs.PlanWords.{handle, after_handle, at, read_only, write_only, buffered, read_at, write_at, bare, refused_io, refused_with}
 
 abbrev got : List ℕ → Reply

@@ -12,7 +12,7 @@ use Rattle.sftp_model.specs.Slots.{fresh_site}
 use Rattle.sftp_calls.specs.Moves.{Answers}
 use Rattle.sftp_calls.specs.CallPlans as call
 use Rattle.sftp_calls.specs.CallPlans.{next, cancelled}
-use Rattle.sftp_model.specs.FileMachine.{status}
+use Rattle.sftp_model.specs.Answers.{status}
 use Rattle.sftp_calls.specs.PlanWords.{entry, handle, granted, at, write_at, bare, refused_with}
 
 -- the replies to the call's first requests, in order; the OPEN stands at place 0

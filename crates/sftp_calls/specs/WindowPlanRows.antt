@@ -14,7 +14,7 @@ use Rattle.sftp_model.specs.Slots.{fresh_site}
 use Rattle.sftp_calls.specs.Moves.{Own}
 use Rattle.sftp_calls.specs.CallPlans as call
 use Rattle.sftp_calls.specs.CallPlans.{next, cancelled}
-use Rattle.sftp_model.specs.FileMachine.{status}
+use Rattle.sftp_model.specs.Answers.{status}
 use Rattle.sftp_calls.specs.PlanWords.{known, handle, granted, at, read_at, facts, refused_with}
 
 abbrev pub got : List ℕ → Reply

@@ -1,10 +1,10 @@
 -- What a request leaves, by its reply and its change.
 use Rattle.std.proofs.Common.{◌≡◌, ◌==◌, Bool, true, false, if◌then◌else◌, refl, ap, sym, ◌∙◌}
 use Rattle.sftp_model.specs.declared.reply.Reply.{Reply}
-use Rattle.sftp_model.specs.Answers.{is_handle}
+use Rattle.sftp_model.specs.Answers.{is_handle, status}
 use Rattle.sftp_model.specs.Numbers.{SSH_FX_FAILURE}
 use Rattle.sftp_tree.specs.FileTree.{FileTree}
-use Rattle.sftp_tree.specs.HandleRequests.{Answer, status}
+use Rattle.sftp_tree.specs.HandleRequests.{Answer}
 use Rattle.sftp_machine.specs.Changes.{changed, is_grant}
 use Rattle.sftp_machine.specs.MachineState.{MachineState, Makes, counted, committed, with_grant, with_tree, MAX_HANDLES, numbered_handle}
 use Rattle.sftp_machine.specs.declared.change.Change.{Change}

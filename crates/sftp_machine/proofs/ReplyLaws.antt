@@ -4,13 +4,12 @@ use Rattle.std.proofs.Common.{subst, sym, ◌≡◌, ◌==◌, ◌<◌, ◌^◌,
 use Rattle.sftp_model.specs.declared.config.Choice.{Choice}
 use Rattle.sftp_model.specs.declared.reply.Reply.{Reply}
 use Rattle.sftp_model.specs.declared.request.Request.{Request}
-use Rattle.sftp_model.specs.Answers.{MayAnswer, is_handle}
-use Rattle.sftp_model.specs.FileMachine.{IsAfterHello}
+use Rattle.sftp_model.specs.Answers.{MayAnswer, is_handle, IsAfterHello, status}
 use Rattle.sftp_model.specs.Fits.{FitsReply}
 use Rattle.sftp_model.specs.Numbers.{SSH_FX_FAILURE}
 use Rattle.sftp_tree.specs.FileTree.{FileTree}
 use Rattle.sftp_tree.specs.FitTrees.{GivesWithin, IsFit}
-use Rattle.sftp_tree.specs.HandleRequests.{Answer, status}
+use Rattle.sftp_tree.specs.HandleRequests.{Answer}
 use Rattle.sftp_tree.specs.TreeAnswers.{apply}
 use Rattle.sftp_tree.proofs.AnswerLaws.{tree_answers}
 use Rattle.sftp_tree.proofs.FitLaws.{fit_after}

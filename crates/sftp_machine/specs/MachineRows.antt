@@ -3,9 +3,9 @@ use Rattle.std.specs.Prelude.{ℕ, ◌≡◌, true, false, List, [], ◌∷◌, 
 use Rattle.sftp_model.specs.declared.request.Request.TheVariants as request
 use Rattle.sftp_model.specs.declared.reply.Reply.TheVariants as reply
 use Rattle.sftp_model.specs.Numbers.{SSH_FX_FAILURE}
+use Rattle.sftp_model.specs.Answers.{status}
 use Rattle.sftp_tree.specs.Components.{components}
 use Rattle.sftp_tree.specs.FileTree.{FileTree}
-use Rattle.sftp_tree.specs.HandleRequests.{status}
 use Rattle.sftp_tree.specs.RowWords.{config, choice}
 use Rattle.sftp_tree.specs.declared.node.Node.TheVariants as node
 use Rattle.sftp_machine.specs.FirstTree.{first_tree, may_begin}

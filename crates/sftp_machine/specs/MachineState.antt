@@ -5,9 +5,9 @@ use Rattle.sftp_model.specs.declared.config.Choice.{Choice}
 use Rattle.sftp_model.specs.declared.config.ServerConfig.{ServerConfig}
 use Rattle.sftp_model.specs.declared.request.Request.{Request}
 use Rattle.sftp_model.specs.declared.reply.Reply.{Reply}
-use Rattle.sftp_model.specs.Answers.{is_handle}
+use Rattle.sftp_model.specs.Answers.{is_handle, status}
 use Rattle.sftp_model.specs.Numbers.{SSH_FX_FAILURE}
-use Rattle.sftp_tree.specs.HandleRequests.{Answer, status}
+use Rattle.sftp_tree.specs.HandleRequests.{Answer}
 use Rattle.sftp_tree.specs.declared.opened.Opened.{Opened}
 use Rattle.sftp_tree.specs.FileTree.{FileTree}
 use Rattle.sftp_tree.specs.TreeAnswers.{apply}

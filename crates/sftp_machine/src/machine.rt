@@ -1,6 +1,5 @@
 ghost use Rattle.std.specs.Prelude.{◌≡◌, ◌<◌, ◌≤◌, ◌+◌, [], true, length, IfOk, OnOk, OnErr};
-ghost use Rattle.sftp_model.specs.Answers.{MayAnswer};
-ghost use Rattle.sftp_model.specs.FileMachine.{IsAfterHello};
+ghost use Rattle.sftp_model.specs.Answers.{MayAnswer, IsAfterHello};
 ghost use Rattle.sftp_model.specs.Fits.{FitsReply};
 ghost use Rattle.sftp_tree.specs.FitTrees.{GivesWithin, IsFit};
 ghost use Rattle.sftp_machine.specs.FirstTree.{first_tree, may_begin};

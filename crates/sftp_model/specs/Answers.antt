@@ -1,6 +1,6 @@
 -- Which reply may answer which request (draft-ietf-secsh-filexfer-02, sections 6 and 7; OpenSSH's PROTOCOL,
 -- section 4).
-use Rattle.std.specs.Prelude.{ℕ, ◌==◌, Bool, true, false, not, ◌&&◌, ◌||◌, length, nat_lt, nat_le, IsTrue}
+use Rattle.std.specs.Prelude.{ℕ, ◌==◌, Bool, true, false, not, ◌&&◌, ◌||◌, [], length, nat_lt, nat_le, IsTrue}
 use Rattle.sftp_model.specs.declared.request.Request.{Request}
 use Rattle.sftp_model.specs.declared.request.Request.TheVariants as request
 use Rattle.sftp_model.specs.declared.reply.Reply.{Reply}
@@ -93,3 +93,14 @@ abbrev pub ends : Request → Reply → Bool
 ends (request.Read handle offset len) answer = is_end_of_file answer
 ends (request.Readdir handle) answer = is_end_of_file answer
 ends other answer = false
+
+-- ---- words for answers
+
+-- a STATUS, with an empty message and language
+abbrev pub status : ℕ → Reply
+status code = reply.Status code [] []
+
+-- any request but the hello
+abbrev pub IsAfterHello : Request → Type 0
+IsAfterHello (request.Init version) = ⊥
+IsAfterHello other = Unit {0}

@@ -11,7 +11,7 @@ use Rattle.sftp_model.specs.declared.request.Request.TheVariants as request
 use Rattle.sftp_model.specs.declared.reply.Reply.{Reply}
 use Rattle.sftp_model.specs.declared.reply.Reply.TheVariants as reply
 use Rattle.sftp_model.specs.declared.reply.NameEntry.{NameEntry}
-use Rattle.sftp_model.specs.Numbers.{SSH_FXP_INIT, SSH_FXP_VERSION, SSH_FXP_OPEN, SSH_FXP_CLOSE, SSH_FXP_READ, SSH_FXP_WRITE, SSH_FXP_LSTAT, SSH_FXP_FSTAT, SSH_FXP_SETSTAT, SSH_FXP_FSETSTAT, SSH_FXP_OPENDIR, SSH_FXP_READDIR, SSH_FXP_REMOVE, SSH_FXP_MKDIR, SSH_FXP_RMDIR, SSH_FXP_REALPATH, SSH_FXP_STAT, SSH_FXP_RENAME, SSH_FXP_READLINK, SSH_FXP_SYMLINK, SSH_FXP_STATUS, SSH_FXP_HANDLE, SSH_FXP_DATA, SSH_FXP_NAME, SSH_FXP_ATTRS, SSH_FXP_EXTENDED, SSH_FXP_EXTENDED_REPLY, SSH_FILEXFER_ATTR_SIZE, SSH_FILEXFER_ATTR_UIDGID, SSH_FILEXFER_ATTR_PERMISSIONS, SSH_FILEXFER_ATTR_ACMODTIME}
+use Rattle.sftp_model.specs.Numbers.{SSH_FXP_INIT, SSH_FXP_VERSION, SSH_FXP_OPEN, SSH_FXP_CLOSE, SSH_FXP_READ, SSH_FXP_WRITE, SSH_FXP_LSTAT, SSH_FXP_FSTAT, SSH_FXP_SETSTAT, SSH_FXP_FSETSTAT, SSH_FXP_OPENDIR, SSH_FXP_READDIR, SSH_FXP_REMOVE, SSH_FXP_MKDIR, SSH_FXP_RMDIR, SSH_FXP_REALPATH, SSH_FXP_STAT, SSH_FXP_RENAME, SSH_FXP_READLINK, SSH_FXP_SYMLINK, SSH_FXP_STATUS, SSH_FXP_HANDLE, SSH_FXP_DATA, SSH_FXP_NAME, SSH_FXP_ATTRS, SSH_FXP_EXTENDED, SSH_FXP_EXTENDED_REPLY, SSH_FILEXFER_ATTR_SIZE, SSH_FILEXFER_ATTR_UIDGID, SSH_FILEXFER_ATTR_PERMISSIONS, SSH_FILEXFER_ATTR_ACMODTIME, POSIX_RENAME, HARDLINK, FSYNC, EXPAND_PATH, COPY_DATA, LIMITS}
 
 -- ---- attributes (draft, section 5)
 
@@ -65,8 +65,8 @@ limits_name = codes "limits@openssh.com"
 -- the six names, each with its bit
 abbrev pub extension_table : List (List ℕ × ℕ)
 extension_table =
-    (posix_rename_name, 1) ∷ (hardlink_name, 2) ∷ (fsync_name, 4) ∷ (expand_path_name, 8)
-    ∷ (copy_data_name, 16) ∷ (limits_name, 32) ∷ []
+    (posix_rename_name, POSIX_RENAME) ∷ (hardlink_name, HARDLINK) ∷ (fsync_name, FSYNC)
+    ∷ (expand_path_name, EXPAND_PATH) ∷ (copy_data_name, COPY_DATA) ∷ (limits_name, LIMITS) ∷ []
 
 -- the pair of names of an extension that the set has, with the version 1
 abbrev pub extension_pair : ℕ → List ℕ × ℕ → List ℕ

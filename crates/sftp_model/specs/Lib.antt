@@ -10,14 +10,12 @@ pub mod RequestReadings
 pub mod Answers
 pub mod Lengths
 pub mod Slots
-pub mod FileMachine
 pub mod Fits
 pub mod Hex
 pub mod FrameRows
 pub mod ReplyRows
 pub mod RequestRows
 pub mod AnswerRows
-pub mod MachineRows
 pub mod SameFields
 pub mod SameRequest
 pub mod SameErrors

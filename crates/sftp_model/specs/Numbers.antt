@@ -197,6 +197,33 @@ SSH_FILEXFER_ATTR_ACMODTIME = 8
 abbrev pub SSH_FILEXFER_ATTR_EXTENDED : ℕ
 SSH_FILEXFER_ATTR_EXTENDED = 2147483648
 
+-- ---- bits of the extensions that a server may offer (OpenSSH's PROTOCOL, section 4; `copy-data` is of
+-- draft-ietf-secsh-filexfer-extensions-00, section 7)
+
+-- renames, and replaces what has the new name
+abbrev pub POSIX_RENAME : ℕ
+POSIX_RENAME = 1
+
+-- gives a file a further name
+abbrev pub HARDLINK : ℕ
+HARDLINK = 2
+
+-- has an open file written out
+abbrev pub FSYNC : ℕ
+FSYNC = 4
+
+-- asks for the absolute form of a path that may begin with `~`
+abbrev pub EXPAND_PATH : ℕ
+EXPAND_PATH = 8
+
+-- copies bytes of one open file into another
+abbrev pub COPY_DATA : ℕ
+COPY_DATA = 16
+
+-- asks for the limits of the server
+abbrev pub LIMITS : ℕ
+LIMITS = 32
+
 -- ---- bounds of this client
 
 -- the greatest length of a frame's body and of a string in it, in bytes

@@ -1,6 +1,5 @@
 //! The values that an SFTP client and server exchange, and what they mean: the frames of requests and
-//! replies, which reply may answer which request, session lengths, the plans of calls and a server of files
-//! in memory. The definitions stand in `specs/`.
+//! replies, which reply may answer which request, and session lengths. The definitions stand in `specs/`.
 #![tactic(auto)]
 
 mod answers;
@@ -14,7 +13,6 @@ mod frame_error;
 mod handle;
 mod laws;
 mod lengths;
-mod machine;
 pub mod numbers;
 mod outcome;
 mod remote_path;
@@ -32,9 +30,8 @@ pub use file_attrs::FileAttrs;
 pub use flags::{Extensions, OpenFlags};
 pub use frame_error::{FormatKind, FrameError};
 pub use handle::Handle;
-pub use laws::{frames_read_back, machine_answers, machine_fits};
+pub use laws::frames_read_back;
 pub use lengths::session_lengths;
-pub use machine::Held;
 pub use outcome::Outcome;
 pub use remote_path::RemotePath;
 pub use reply::{NameEntry, Reply};

@@ -3,7 +3,7 @@ use Rattle.std.specs.Prelude.{◌≡◌, true, [], ◌∷◌, codes, Some, None,
 use Rattle.sftp_model.specs.declared.request.Request.TheVariants as request
 use Rattle.sftp_model.specs.declared.outcome.Outcome.TheVariants as outcome
 use Rattle.sftp_model.specs.declared.slot.Move.TheVariants.{Ask, Wait, Done}
-use Rattle.sftp_model.specs.FileMachine.{status}
+use Rattle.sftp_model.specs.Answers.{status}
 use Rattle.sftp_model.specs.Slots.{fresh_site}
 use Rattle.sftp_calls.specs.PlanWords.{after_handle, at, bare, buffered, file_at, handle, refused_with, write_at}
 use Rattle.sftp_plan.specs.declared.next.Asked.TheVariants as asked

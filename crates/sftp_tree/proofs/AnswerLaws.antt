@@ -14,8 +14,7 @@ use Rattle.sftp_model.specs.declared.request.Request.{Request}
 use Rattle.sftp_model.specs.declared.request.Request.TheVariants as request
 use Rattle.sftp_tree.specs.declared.node.Node.TheVariants as node
 use Rattle.sftp_tree.specs.declared.opened.Opened.TheVariants as opened
-use Rattle.sftp_model.specs.Answers.{MayAnswer}
-use Rattle.sftp_model.specs.FileMachine.{IsAfterHello}
+use Rattle.sftp_model.specs.Answers.{MayAnswer, IsAfterHello}
 use Rattle.sftp_model.specs.Frames.{reply_body}
 use Rattle.sftp_model.specs.Readings.{has_bit}
 use Rattle.sftp_model.specs.Numbers.{MAX_BODY_LEN, SSH_FX_EOF, SSH_FX_FAILURE, SSH_FX_NO_SUCH_FILE, SSH_FX_OK, SSH_FX_OP_UNSUPPORTED, SSH_FX_PERMISSION_DENIED}

@@ -3,8 +3,7 @@ use Rattle.std.proofs.Common.{◌≡◌, ℕ, ◌==◌, false, [], refl}
 use Rattle.sftp_model.specs.declared.reply.Reply.TheVariants as reply
 use Rattle.sftp_model.specs.declared.request.Request.{Request}
 use Rattle.sftp_model.specs.declared.request.Request.TheVariants as request
-use Rattle.sftp_model.specs.Answers.{MayAnswer}
-use Rattle.sftp_model.specs.FileMachine.{IsAfterHello}
+use Rattle.sftp_model.specs.Answers.{MayAnswer, IsAfterHello}
 use Rattle.sftp_model.specs.Numbers.{SSH_FX_OK}
 use Rattle.sftp_tree.specs.FileTree.{FileTree}
 use Rattle.sftp_tree.specs.HandleRequests.{Answer}

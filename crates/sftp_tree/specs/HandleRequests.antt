@@ -8,6 +8,7 @@ use Rattle.sftp_tree.specs.declared.node.Node.TheVariants as node
 use Rattle.sftp_tree.specs.declared.opened.Opened.TheVariants as opened
 use Rattle.sftp_model.specs.Readings.{has_bit}
 use Rattle.sftp_model.specs.Numbers.{SSH_FX_EOF, SSH_FX_FAILURE, SSH_FX_NO_SUCH_FILE, SSH_FX_OK, SSH_FX_PERMISSION_DENIED, SSH_FXF_READ, SSH_FXF_WRITE, SSH_FXF_APPEND, SSH_FXF_CREAT, SSH_FXF_TRUNC, SSH_FXF_EXCL}
+use Rattle.sftp_model.specs.Answers.{status}
 use Rattle.sftp_tree.specs.Components.{Name, is_long, parent_of}
 use Rattle.sftp_tree.specs.FileTree.{FileTree, after_loss, attributes_of, bytes_of, is_directory, is_over, node_at, put, resized, size_of, with_bytes, with_file, with_handle, without_handle}
 use Rattle.sftp_tree.specs.declared.node.Node.{Node}
@@ -17,10 +18,6 @@ use Rattle.sftp_tree.specs.declared.opened.Opened.{Opened}
 -- a reply, and the tree after it
 abbrev pub Answer : Type 0
 Answer = Reply × FileTree
-
--- a STATUS, with an empty message and language
-abbrev pub status : ℕ → Reply
-status code = reply.Status code [] []
 
 -- a STATUS that changes nothing
 abbrev pub refuses : FileTree → ℕ → Answer

@@ -6,11 +6,12 @@ use Rattle.sftp_model.specs.declared.reply.Reply.TheVariants as reply
 use Rattle.sftp_tree.specs.declared.node.Node.TheVariants as node
 use Rattle.sftp_tree.specs.declared.opened.Opened.TheVariants as opened
 use Rattle.sftp_model.specs.Frames.{no_attributes}
-use Rattle.sftp_model.specs.Numbers.{SSH_FX_EOF, SSH_FX_FAILURE, SSH_FX_OK, SSH_FX_OP_UNSUPPORTED, SSH_FX_PERMISSION_DENIED}
+use Rattle.sftp_model.specs.Numbers.{SSH_FX_EOF, SSH_FX_FAILURE, SSH_FX_OK, SSH_FX_OP_UNSUPPORTED, SSH_FX_PERMISSION_DENIED, POSIX_RENAME, FSYNC, EXPAND_PATH, COPY_DATA}
+use Rattle.sftp_model.specs.Answers.{status}
 use Rattle.sftp_tree.specs.FileTree.{FileTree}
-use Rattle.sftp_tree.specs.HandleRequests.{held_by, status}
+use Rattle.sftp_tree.specs.HandleRequests.{held_by}
 use Rattle.sftp_tree.specs.RowWords.{by, choice, config, d, example, example_names, of_directory, sized, with_open, for_reading, for_writing, for_both, appending}
-use Rattle.sftp_tree.specs.TreeAnswers.{apply, POSIX_RENAME, FSYNC, EXPAND_PATH, COPY_DATA}
+use Rattle.sftp_tree.specs.TreeAnswers.{apply}
 
 -- ---- CLOSE
 

@@ -6,12 +6,13 @@ use Rattle.sftp_tree.specs.declared.node.Node.TheVariants as node
 use Rattle.sftp_tree.specs.declared.opened.Opened.TheVariants as opened
 use Rattle.ssh_encoding.specs.Writing.{uint32, string}
 use Rattle.sftp_model.specs.Frames.{no_attributes, reply_body, attributes}
-use Rattle.sftp_model.specs.Numbers.{SSH_FX_EOF, SSH_FX_FAILURE, SSH_FX_NO_SUCH_FILE, SSH_FX_OK, SSH_FX_OP_UNSUPPORTED}
+use Rattle.sftp_model.specs.Numbers.{SSH_FX_EOF, SSH_FX_FAILURE, SSH_FX_NO_SUCH_FILE, SSH_FX_OK, SSH_FX_OP_UNSUPPORTED, POSIX_RENAME, FSYNC, COPY_DATA}
+use Rattle.sftp_model.specs.Answers.{status}
 use Rattle.sftp_tree.specs.Components.{Name, components}
 use Rattle.sftp_tree.specs.FileTree.{FileTree}
-use Rattle.sftp_tree.specs.HandleRequests.{held_by, status}
+use Rattle.sftp_tree.specs.HandleRequests.{held_by}
 use Rattle.sftp_tree.specs.RowWords.{by, choice, config, d, entry, example, example_files, example_names, f, g, of_directory, sized, with_open, for_reading}
-use Rattle.sftp_tree.specs.TreeAnswers.{apply, POSIX_RENAME, FSYNC, COPY_DATA}
+use Rattle.sftp_tree.specs.TreeAnswers.{apply}
 use Rattle.sftp_tree.specs.declared.node.Node.{Node}
 use Rattle.sftp_tree.specs.declared.opened.Opened.{Opened}
 

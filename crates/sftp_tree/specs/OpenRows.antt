@@ -3,8 +3,9 @@ use Rattle.std.specs.Prelude.{◌≡◌, [], ◌∷◌, ◌++◌, codes, refl, r
 use Rattle.sftp_model.specs.declared.reply.Reply.TheVariants as reply
 use Rattle.sftp_tree.specs.declared.node.Node.TheVariants as node
 use Rattle.sftp_model.specs.Numbers.{SSH_FX_FAILURE, SSH_FX_NO_SUCH_FILE}
+use Rattle.sftp_model.specs.Answers.{status}
 use Rattle.sftp_tree.specs.Components.{components}
-use Rattle.sftp_tree.specs.HandleRequests.{held_by, status}
+use Rattle.sftp_tree.specs.HandleRequests.{held_by}
 use Rattle.sftp_tree.specs.RowWords.{by, d, example, example_names, f, g, open_file, with_open, for_reading, creating, truncating, replacing, exclusive, creating_new}
 
 -- ---- OPEN

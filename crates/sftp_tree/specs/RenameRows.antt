@@ -2,12 +2,13 @@
 use Rattle.std.specs.Prelude.{◌≡◌, List, [], ◌∷◌, codes, refl, replicate, ◌+◌}
 use Rattle.sftp_model.specs.declared.request.Request.TheVariants as request
 use Rattle.sftp_tree.specs.declared.node.Node.TheVariants as node
-use Rattle.sftp_model.specs.Numbers.{SSH_FX_FAILURE, SSH_FX_NO_SUCH_FILE, SSH_FX_OK, SSH_FX_OP_UNSUPPORTED}
+use Rattle.sftp_model.specs.Numbers.{SSH_FX_FAILURE, SSH_FX_NO_SUCH_FILE, SSH_FX_OK, SSH_FX_OP_UNSUPPORTED, FSYNC, EXPAND_PATH, COPY_DATA}
+use Rattle.sftp_model.specs.Answers.{status}
 use Rattle.sftp_tree.specs.Components.{Name, components}
 use Rattle.sftp_tree.specs.FileTree.{FileTree}
-use Rattle.sftp_tree.specs.HandleRequests.{held_by, status}
+use Rattle.sftp_tree.specs.HandleRequests.{held_by}
 use Rattle.sftp_tree.specs.RowWords.{by, choice, config, d, example, example_files, f, g, with_open, for_reading}
-use Rattle.sftp_tree.specs.TreeAnswers.{apply, FSYNC, EXPAND_PATH, COPY_DATA}
+use Rattle.sftp_tree.specs.TreeAnswers.{apply}
 use Rattle.sftp_tree.specs.declared.node.Node.{Node}
 
 abbrev named : List (Name × Node) → FileTree

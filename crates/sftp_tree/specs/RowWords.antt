@@ -14,10 +14,10 @@ use Rattle.sftp_model.specs.Frames.{no_attributes}
 use Rattle.sftp_tree.specs.Components.{Name}
 use Rattle.sftp_tree.specs.FileTree.{FileTree}
 use Rattle.sftp_tree.specs.HandleRequests.{Answer}
-use Rattle.sftp_tree.specs.TreeAnswers.{apply, POSIX_RENAME, FSYNC, EXPAND_PATH, COPY_DATA}
+use Rattle.sftp_tree.specs.TreeAnswers.{apply}
 use Rattle.sftp_tree.specs.declared.node.Node.{Node}
 use Rattle.sftp_tree.specs.declared.opened.Opened.{Opened}
-use Rattle.sftp_model.specs.Numbers.{SSH_FXF_APPEND, SSH_FXF_CREAT, SSH_FXF_EXCL, SSH_FXF_READ, SSH_FXF_TRUNC, SSH_FXF_WRITE}
+use Rattle.sftp_model.specs.Numbers.{SSH_FXF_APPEND, SSH_FXF_CREAT, SSH_FXF_EXCL, SSH_FXF_READ, SSH_FXF_TRUNC, SSH_FXF_WRITE, POSIX_RENAME, FSYNC, EXPAND_PATH, COPY_DATA}
 
 -- the flags of an OPEN
 abbrev pub for_reading : ℕ

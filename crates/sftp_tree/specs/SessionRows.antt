@@ -6,13 +6,13 @@ use Rattle.sftp_model.specs.declared.request.Request.TheVariants as request
 use Rattle.sftp_model.specs.declared.reply.Reply.TheVariants as reply
 use Rattle.sftp_tree.specs.declared.node.Node.TheVariants as node
 use Rattle.sftp_model.specs.Frames.{no_attributes, limits_content, reply_body, attributes}
-use Rattle.sftp_model.specs.Numbers.{SSH_FX_EOF, SSH_FX_FAILURE, SSH_FX_NO_SUCH_FILE, SSH_FX_OK}
+use Rattle.sftp_model.specs.Numbers.{SSH_FX_EOF, SSH_FX_FAILURE, SSH_FX_NO_SUCH_FILE, SSH_FX_OK, COPY_DATA}
+use Rattle.sftp_model.specs.Answers.{status}
 use Rattle.sftp_tree.specs.Components.{Name, components}
 use Rattle.sftp_tree.specs.FileTree.{FileTree}
 use Rattle.sftp_tree.specs.RowWords.{choice, config, entry, in_turn, of_directory, open_file, sized, for_reading, for_both, creating, replacing}
-use Rattle.sftp_tree.specs.TreeAnswers.{apply, COPY_DATA}
+use Rattle.sftp_tree.specs.TreeAnswers.{apply}
 use Rattle.sftp_tree.specs.declared.node.Node.{Node}
-use Rattle.sftp_tree.specs.HandleRequests.{status}
 
 abbrev none : FileTree
 none = record { names = []; files = []; handles = [] }

@@ -9,24 +9,12 @@ use Rattle.sftp_model.specs.declared.reply.Reply.{Reply}
 use Rattle.sftp_model.specs.declared.reply.Reply.TheVariants as reply
 use Rattle.sftp_model.specs.Frames.{limits_content}
 use Rattle.sftp_model.specs.Readings.{has_bit}
-use Rattle.sftp_model.specs.Numbers.{SSH_FX_OP_UNSUPPORTED, SSH_FX_OK}
+use Rattle.sftp_model.specs.Numbers.{SSH_FX_OP_UNSUPPORTED, SSH_FX_OK, POSIX_RENAME, FSYNC, EXPAND_PATH, COPY_DATA}
+use Rattle.sftp_model.specs.Answers.{status}
 use Rattle.sftp_tree.specs.Components.{components}
 use Rattle.sftp_tree.specs.FileTree.{FileTree, entries_of, file_of, node_at, opened_at}
-use Rattle.sftp_tree.specs.HandleRequests.{Answer, after_close, after_copy, after_fsetstat, after_fstat, after_fsync, after_open, after_read, after_write, refuses, status}
+use Rattle.sftp_tree.specs.HandleRequests.{Answer, after_close, after_copy, after_fsetstat, after_fstat, after_fsync, after_open, after_read, after_write, refuses}
 use Rattle.sftp_tree.specs.NameRequests.{after_mkdir, after_opendir, after_posix_rename, after_readdir, after_realpath, after_remove, after_rename, after_rmdir, after_setstat, after_stat}
-
--- the bits of the extensions that a server in memory knows
-abbrev pub POSIX_RENAME : ℕ
-POSIX_RENAME = 1
-
-abbrev pub FSYNC : ℕ
-FSYNC = 4
-
-abbrev pub EXPAND_PATH : ℕ
-EXPAND_PATH = 8
-
-abbrev pub COPY_DATA : ℕ
-COPY_DATA = 16
 
 -- an extension, by its bit, that isn't offered isn't known
 abbrev pub where_offered : FileTree → ServerConfig → ℕ → Answer → Answer

@@ -1,7 +1,6 @@
 //! Laws of the definitions. The functions do nothing: what they ensure holds of all values.
 ghost use Rattle.std.specs.Prelude.{◌≡◌, ◌≢◌, ◌<◌, ◌≤◌, ◌⊎◌, ℕ, List, None, Some, false, length};
-ghost use Rattle.sftp_model.specs.Answers.{MayAnswer, is_handle};
-ghost use Rattle.sftp_model.specs.FileMachine.{IsAfterHello};
+ghost use Rattle.sftp_model.specs.Answers.{MayAnswer, is_handle, IsAfterHello};
 ghost use Rattle.sftp_model.specs.Fits.{FitsHandle, FitsNumber, FitsReply};
 ghost use Rattle.sftp_model.specs.Frames.{reply_body};
 ghost use Rattle.sftp_model.specs.Numbers.{MAX_BODY_LEN};
