@@ -8,7 +8,7 @@ use Rattle.sftp_tree.specs.FitTrees.{IsFit}
 use Rattle.sftp_tree.specs.Limits.{MAX_COMPONENT_LEN, MAX_FILE_LEN}
 use Rattle.sftp_tree.specs.Pairs.{Has}
 use Rattle.sftp_tree.specs.declared.node.Node.{Node}
-use Rattle.sftp_machine.specs.FirstTree.{directories, numbered, first_tree, is_short_path, may_hold, may_begin}
+use Rattle.sftp_tree.specs.FirstTree.{directories, numbered, first_tree, is_short_path, may_hold, may_begin}
 
 short_name : (path : List ℕ) → is_short_path path ≡ true → length (last_of (components path)) ≤ MAX_COMPONENT_LEN
 short_name path h = ltb-false MAX_COMPONENT_LEN (length (last_of (components path))) (not-true (is_long (components path)) h)

@@ -9,7 +9,8 @@ use Rattle.sftp_tree.specs.Components.{Name, written}
 use Rattle.sftp_tree.specs.NameRequests.{is_before}
 use Rattle.sftp_tree.specs.declared.node.Node.{Node}
 use Rattle.sftp_tree.specs.FileTree.{FileTree}
-use Rattle.sftp_machine.specs.Listing.{placed_name, in_name_order, AreInOrder, node_bytes, file_at, dir_at}
+use Rattle.sftp_tree.specs.Listing.{placed_name, in_name_order, node_bytes, file_at, dir_at}
+use Rattle.sftp_machine.specs.Listing.{AreInOrder}
 use Rattle.sftp_machine.specs.Places.{count_before, is_of_kind, where_of_kind, nth_there}
 
 -- ---- a place more

@@ -1,7 +1,6 @@
 pub mod Names
 pub mod Changes
 pub mod MachineState
-pub mod FirstTree
 pub mod WaitingFrames
 pub mod Listing
 pub mod Places

@@ -4,12 +4,12 @@ use Rattle.sftp_model.specs.declared.request.Request.TheVariants as request
 use Rattle.sftp_model.specs.declared.reply.Reply.TheVariants as reply
 use Rattle.sftp_model.specs.Numbers.{SSH_FX_FAILURE}
 use Rattle.sftp_model.specs.Answers.{status}
+use Rattle.sftp_tree.specs.Listing.{file_at, dir_at}
 use Rattle.sftp_tree.specs.Components.{components}
 use Rattle.sftp_tree.specs.FileTree.{FileTree}
 use Rattle.sftp_tree.specs.RowWords.{config, choice}
 use Rattle.sftp_tree.specs.declared.node.Node.TheVariants as node
-use Rattle.sftp_machine.specs.FirstTree.{first_tree, may_begin}
-use Rattle.sftp_machine.specs.Listing.{file_at, dir_at}
+use Rattle.sftp_tree.specs.FirstTree.{first_tree, may_begin}
 use Rattle.sftp_machine.specs.MachineState.{MachineState, answer, numbered_handle}
 use Rattle.sftp_machine.specs.WaitingFrames.{WaitingFrames, turned}
 

@@ -3,7 +3,7 @@ use Rattle.std.specs.Prelude.{ℕ, ◌+◌, ◌-◌, ◌==◌, Bool, false, not,
 use Rattle.sftp_tree.specs.Components.{Name, written}
 use Rattle.sftp_tree.specs.NameRequests.{is_before}
 use Rattle.sftp_tree.specs.declared.node.Node.{Node}
-use Rattle.sftp_machine.specs.Listing.{is_file}
+use Rattle.sftp_tree.specs.Listing.{is_file}
 
 -- what is found stands before a written name
 abbrev pub stands_before : Option (Name × Node) → List ℕ → Bool

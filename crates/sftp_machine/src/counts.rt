@@ -1,7 +1,7 @@
 // How many names have a file, and how many a directory.
 ghost use Rattle.std.specs.Prelude.{◌≡◌, length, filter};
 ghost use Rattle.sftp_machine.specs.MachineState.{IsValid};
-ghost use Rattle.sftp_machine.specs.Listing.{has_file, has_directory};
+ghost use Rattle.sftp_tree.specs.Listing.{has_file, has_directory};
 
 use crate::machine::Machine;
 use crate::order::is_file;

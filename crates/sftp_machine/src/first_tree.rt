@@ -2,7 +2,7 @@
 ghost use Rattle.std.specs.Prelude.{◌≡◌, ◌++◌, ◌<◌, ◌^◌, [], length, map, IfOk, OnOk};
 ghost use Rattle.std.specs.List.{list_all};
 ghost use Rattle.sftp_tree.specs.Components.{components as components_by};
-ghost use Rattle.sftp_machine.specs.FirstTree.{first_tree, directories, numbered, is_short_path as is_short_by, may_hold as may_hold_by, may_begin as may_begin_by};
+ghost use Rattle.sftp_tree.specs.FirstTree.{first_tree, directories, numbered, is_short_path as is_short_by, may_hold as may_hold_by, may_begin as may_begin_by};
 
 use crate::file_bytes::FileBytes;
 use crate::lookups::is_long;

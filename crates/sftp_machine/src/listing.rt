@@ -1,7 +1,7 @@
 // Files and directories by their number in the order of the written names.
 ghost use Rattle.std.specs.Prelude.{◌≡◌};
 ghost use Rattle.std.specs.Option.{option_copied, option_map};
-ghost use Rattle.sftp_machine.specs.Listing.{file_at, dir_at};
+ghost use Rattle.sftp_tree.specs.Listing.{file_at, dir_at};
 
 use crate::machine::Machine;
 use crate::order::nth_of_kind;

@@ -2,7 +2,7 @@ ghost use Rattle.std.specs.Prelude.{◌≡◌, ◌<◌, ◌≤◌, ◌+◌, [], 
 ghost use Rattle.sftp_model.specs.Answers.{MayAnswer, IsAfterHello};
 ghost use Rattle.sftp_model.specs.Fits.{FitsReply};
 ghost use Rattle.sftp_tree.specs.FitTrees.{GivesWithin, IsFit};
-ghost use Rattle.sftp_machine.specs.FirstTree.{first_tree, may_begin};
+ghost use Rattle.sftp_tree.specs.FirstTree.{first_tree, may_begin};
 ghost use Rattle.sftp_machine.specs.Changes.{FitsChange, is_grant};
 ghost use Rattle.sftp_machine.specs.MachineState.{MAX_HANDLES, answer as answer_by, committed};
 

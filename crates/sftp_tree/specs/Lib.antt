@@ -8,6 +8,8 @@ pub mod Refusals
 pub mod Pairs
 pub mod Changes
 pub mod FitTrees
+pub mod Listing
+pub mod FirstTree
 pub mod RowWords
 pub mod ComponentRows
 pub mod OpenRows
@@ -15,3 +17,4 @@ pub mod HandleRows
 pub mod NameRows
 pub mod RenameRows
 pub mod SessionRows
+pub mod FirstTreeRows

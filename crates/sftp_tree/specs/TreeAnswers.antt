@@ -1,5 +1,5 @@
 -- A server of files and directories in memory: how it answers a request, and what it has then.
-use Rattle.std.specs.Prelude.{ℕ, ◌==◌, List, Option, Some, None, if◌then◌else◌}
+use Rattle.std.specs.Prelude.{ℕ, ◌==◌, List, [], ◌∷◌, Option, Some, None, if◌then◌else◌}
 use Rattle.sftp_model.specs.declared.config.Choice.{Choice}
 use Rattle.sftp_model.specs.declared.config.Limits.{Limits}
 use Rattle.sftp_model.specs.declared.config.ServerConfig.{ServerConfig}
@@ -51,6 +51,11 @@ answered tree config (request.CopyData from from_offset len to to_offset) cap ha
     where_offered tree config COPY_DATA (after_copy tree from_offset len to_offset (file_of (opened_at tree from)) (file_of (opened_at tree to)))
 answered tree config request.LimitsQuery cap handle = (limits_reply config.limits, tree)
 answered tree config other cap handle = refuses tree SSH_FX_OP_UNSUPPORTED
+
+-- the first of the choices; behind the last, nothing is refused and nothing capped
+abbrev pub first_choice : List Choice → Choice
+first_choice [] = record { refuse = SSH_FX_OK; cap = 0 }
+first_choice (choice ∷ choices) = choice
 
 -- The reply to a request, and the tree after it. A choice may refuse any request, which changes nothing; its cap
 -- bounds the bytes of a DATA and the entries of READDIR's NAME.

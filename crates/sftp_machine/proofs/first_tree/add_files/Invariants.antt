@@ -1,5 +1,5 @@
 use Rattle.std.proofs.Common.{◌≡◌, ◌+◌, ◌++◌, length}
-use Rattle.sftp_machine.specs.FirstTree.{numbered}
+use Rattle.sftp_tree.specs.FirstTree.{numbered}
 use Rattle.sftp_machine.proofs.first_tree.add_files.Given as goal
 
 abbrev pub invariant-loop-rest : goal.invariant-loop-rest

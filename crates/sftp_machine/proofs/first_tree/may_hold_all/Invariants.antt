@@ -1,6 +1,6 @@
 use Rattle.std.proofs.Common.{◌≡◌, length}
 use Rattle.std.specs.List.{list_all}
-use Rattle.sftp_machine.specs.FirstTree.{may_hold}
+use Rattle.sftp_tree.specs.FirstTree.{may_hold}
 use Rattle.sftp_machine.proofs.first_tree.may_hold_all.Given as goal
 
 abbrev pub invariant-loop-rest : goal.invariant-loop-rest

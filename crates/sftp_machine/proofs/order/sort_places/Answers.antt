@@ -3,7 +3,7 @@ use Rattle.std.specs.List.{insert}
 use Rattle.std.proofs.lemmas.List.{append_assoc}
 use Rattle.sftp_tree.specs.Components.{Name, written}
 use Rattle.sftp_tree.specs.declared.node.Node.{Node}
-use Rattle.sftp_machine.specs.Listing.{in_name_order}
+use Rattle.sftp_tree.specs.Listing.{in_name_order}
 use Rattle.sftp_machine.specs.Places.{count_before}
 use Rattle.sftp_machine.proofs.SortLaws.{sort_step, last_split}
 use Rattle.sftp_machine.proofs.order.sort_places.Goals as goal

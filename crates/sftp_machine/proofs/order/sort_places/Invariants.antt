@@ -2,7 +2,7 @@ use Rattle.std.proofs.Common.{◌≡◌, ◌≤◌, ◌+◌, ◌++◌, List, len
 use Rattle.std.specs.Prelude.{map, slice_get, Some}
 use Rattle.sftp_tree.specs.Components.{Name}
 use Rattle.sftp_tree.specs.declared.node.Node.{Node}
-use Rattle.sftp_machine.specs.Listing.{in_name_order}
+use Rattle.sftp_tree.specs.Listing.{in_name_order}
 use Rattle.sftp_machine.proofs.order.sort_places.Given as goal
 
 -- the places of the names that were passed

@@ -2,7 +2,8 @@ use Rattle.std.proofs.Common.{rules, ◌≡◌, ◌∙◌, Some, None, List, ℕ
 use Rattle.std.specs.Option.{option_copied}
 use Rattle.sftp_tree.specs.Components.{Name, written}
 use Rattle.sftp_tree.specs.declared.node.Node.{Node}
-use Rattle.sftp_machine.specs.Listing.{AreInOrder, node_bytes}
+use Rattle.sftp_tree.specs.Listing.{node_bytes}
+use Rattle.sftp_machine.specs.Listing.{AreInOrder}
 use Rattle.sftp_machine.proofs.SortLaws.{file_found}
 use Rattle.sftp_machine.proofs.machine.Machine.file.Goals as goal
 
