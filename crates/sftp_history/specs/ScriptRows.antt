@@ -69,6 +69,7 @@ pub open_read_close : script_of (text (codes "file 61 68656c6c6f" ∷ codes "lan
       files = (codes "a", codes "hello") ∷ [];
       lanes = record { calls = call.OpenFile 0 to_read (codes "a") ∷ call.Read 0 5 ∷ call.Close 0 ∷ [] } ∷ [];
     })
+unfolding components
 open_read_close = refl
 
 pub lanes_and_turns : script_of (text (codes "lane" ∷ codes "lane" ∷ codes "close 15" ∷ codes "step 1" ∷ codes "flush" ∷ codes "take" ∷ codes "cancel 7" ∷ []))
@@ -135,12 +136,70 @@ option_range = refl
 pub option_twice : script_of (text (codes "option flush_interval 0" ∷ codes "option flush_interval 0" ∷ [])) ≡ Err (2, reason.Repeat)
 option_twice = refl
 
-pub file_twice : script_of (text (codes "file 61 -" ∷ codes "file 61 -" ∷ [])) ≡ Err (2, reason.Repeat)
+-- ---- first files and directories
+
+abbrev tree_lines : List (List ℕ) → Result Script (ℕ × Reason)
+tree_lines lines = script_of (text lines)
+
+pub files_and_directories : tree_lines (codes "file 612f62 01" ∷ codes "dir 61" ∷ codes "dir 2f612f63" ∷ codes "file 6162 -" ∷ [])
+    ≡ Ok (record empty_script {
+      files = (codes "a/b", 1 ∷ []) ∷ (codes "ab", []) ∷ [];
+      dirs = codes "a" ∷ codes "/a/c" ∷ [];
+    })
+unfolding components
+files_and_directories = refl
+
+pub file_twice : tree_lines (codes "file 61 -" ∷ codes "file 2f61 -" ∷ []) ≡ Err (2, reason.Repeat)
+unfolding components
 file_twice = refl
 
 -- fields are looked at before what was said before
-pub file_twice_misspelled : script_of (text (codes "file 61 -" ∷ codes "file 61 x" ∷ [])) ≡ Err (2, reason.Hex)
+pub file_twice_misspelled : tree_lines (codes "file 61 -" ∷ codes "file 61 x" ∷ []) ≡ Err (2, reason.Hex)
+unfolding components
 file_twice_misspelled = refl
+
+pub file_of_the_root : tree_lines (codes "file 2f2e x" ∷ []) ≡ Err (1, reason.Range)
+unfolding components
+file_of_the_root = refl
+
+pub file_within_a_file : tree_lines (codes "file 61 -" ∷ codes "file 612f62 -" ∷ []) ≡ Err (2, reason.Repeat)
+unfolding components
+file_within_a_file = refl
+
+-- each parent is a directory
+pub file_of_a_parent : tree_lines (codes "file 612f62 -" ∷ codes "file 61 -" ∷ []) ≡ Err (2, reason.Repeat)
+unfolding components
+file_of_a_parent = refl
+
+pub file_of_a_directory : tree_lines (codes "dir 612f62" ∷ codes "file 61 -" ∷ []) ≡ Err (2, reason.Repeat)
+unfolding components
+file_of_a_directory = refl
+
+pub dir_twice : tree_lines (codes "dir 61" ∷ codes "dir 612f" ∷ []) ≡ Err (2, reason.Repeat)
+unfolding components
+dir_twice = refl
+
+pub dir_of_a_file : tree_lines (codes "file 61 -" ∷ codes "dir 61" ∷ []) ≡ Err (2, reason.Repeat)
+unfolding components
+dir_of_a_file = refl
+
+pub dir_within_a_file : tree_lines (codes "file 61 -" ∷ codes "dir 612f62" ∷ []) ≡ Err (2, reason.Repeat)
+unfolding components
+dir_within_a_file = refl
+
+-- a parent that was not named yet may be
+pub dir_of_a_parent : tree_lines (codes "dir 612f62" ∷ codes "dir 61" ∷ []) ≡ Ok (record empty_script { dirs = codes "a/b" ∷ codes "a" ∷ [] })
+unfolding components
+dir_of_a_parent = refl
+
+pub dir_of_the_root : tree_lines (codes "dir -" ∷ []) ≡ Err (1, reason.Range)
+unfolding components
+dir_of_the_root = refl
+
+pub dir_of_two_words : tree_lines (codes "dir 61 -" ∷ []) ≡ Err (1, reason.Count)
+dir_of_two_words = refl
+
+-- ---- what was said before
 
 pub ext_twice : script_of (text (codes "server ext fsync" ∷ codes "server ext fsync" ∷ [])) ≡ Err (2, reason.Repeat)
 ext_twice = refl

@@ -1,13 +1,17 @@
 -- Which bytes read as a script, and which line of the others is the first that does not, and why.
-use Rattle.std.specs.Prelude.{ℕ, ◌+◌, ◌-◌, ◌^◌, ◌==◌, Bool, true, false, not, List, [], ◌∷◌, ◌++◌, length, codes, Some, None, Result, Ok, Err, is_some, nat_lt, if◌then◌else◌}
+use Rattle.std.specs.Prelude.{ℕ, ◌+◌, ◌-◌, ◌^◌, ◌==◌, Bool, true, false, not, ◌&&◌, ◌||◌, List, [], ◌∷◌, ◌++◌, length, map, codes, Some, None, Result, Ok, Err, is_some, nat_le, nat_lt, if◌then◌else◌}
 use Rattle.std.specs.Int.RustNames.{bit_or}
-use Rattle.std.specs.List.{list_any}
+use Rattle.std.specs.List.{list_all, list_any, sum_by}
 use Rattle.std.specs.Str.{bytes_eq}
 use Rattle.ssh_encoding.specs.Reading.{◌>>=◌}
 use Rattle.sftp_core.specs.declared.options.SftpOptions.{SftpOptions}
 use Rattle.sftp_core.specs.Options.{default_options}
 use Rattle.sftp_model.specs.declared.config.Limits.{Limits}
+use Rattle.sftp_model.specs.Numbers.{COPY_DATA, EXPAND_PATH, FSYNC, HARDLINK, POSIX_RENAME}
 use Rattle.sftp_model.specs.Readings.{has_bit}
+use Rattle.sftp_tree.specs.Components.{Name, components, is_within, same_name}
+use Rattle.sftp_tree.specs.FirstTree.{FirstFile, are_apart, may_be_named, name_of}
+use Rattle.sftp_tree.specs.Limits.{MAX_FILE_LEN, MAX_TOTAL_LEN}
 use Rattle.sftp_history.specs.declared.call.Call.{Call}
 use Rattle.sftp_history.specs.declared.call.Call.TheVariants as call
 use Rattle.sftp_history.specs.declared.call.Lane.{Lane}
@@ -30,6 +34,7 @@ empty_script =
       options = default_options;
       server = record { extensions = record { 0 = 0 }; limits = None; cut = 0 };
       files = [];
+      dirs = [];
       choices = [];
       picks = [];
       lanes = [];
@@ -103,11 +108,11 @@ option_line d name word =
 -- the bit of an extension that a script may name
 abbrev pub extension_in : List ℕ → Result ℕ Reason
 extension_in name =
-    if bytes_eq name (codes "posix-rename") then Ok 1
-    else if bytes_eq name (codes "hardlink") then Ok 2
-    else if bytes_eq name (codes "fsync") then Ok 4
-    else if bytes_eq name (codes "expand-path") then Ok 8
-    else if bytes_eq name (codes "copy-data") then Ok 16
+    if bytes_eq name (codes "posix-rename") then Ok POSIX_RENAME
+    else if bytes_eq name (codes "hardlink") then Ok HARDLINK
+    else if bytes_eq name (codes "fsync") then Ok FSYNC
+    else if bytes_eq name (codes "expand-path") then Ok EXPAND_PATH
+    else if bytes_eq name (codes "copy-data") then Ok COPY_DATA
     else Err reason.Mode
 
 -- the server offers an extension more
@@ -144,18 +149,38 @@ server_line d (kind ∷ words) =
     else if bytes_eq kind (codes "cut") then one_word (cut_line d) words
     else Err reason.Mode
 
--- ---- files, choices and picks
+-- ---- files, directories, choices and picks
 
--- a file has the name
-abbrev pub is_file : List (List ℕ × List ℕ) → List ℕ → Bool
-is_file files name = list_any (λ f. bytes_eq f.0 name) files
+-- a path that denotes a name which may be there
+abbrev pub path_in : List ℕ → Result (List ℕ) Reason
+path_in word = bytes_in word >>= λ path. if may_be_named (components path) then Ok path else Err reason.Range
 
--- a script is too short for files that are over the server's limits
+-- with these files, one more may have these bytes
+abbrev pub may_add : List FirstFile → List ℕ → Bool
+may_add files content = nat_le (length content) MAX_FILE_LEN && nat_le (sum_by (λ file. length file.1) files + length content) MAX_TOTAL_LEN
+
+-- the bytes of a file more
+abbrev pub content_in : List FirstFile → List ℕ → Result (List ℕ) Reason
+content_in files word = bytes_in word >>= λ content. if may_add files content then Ok content else Err reason.Range
+
+-- the name is a file's or a directory's already, or stands within a file
+abbrev pub meets_file : Script → Name → Bool
+meets_file script name = not (list_all (are_apart name) (map name_of script.files)) || list_any (is_within name) (map components script.dirs)
+
+-- the name was given to a directory, or is a file's, or stands within a file
+abbrev pub meets_dir : Script → Name → Bool
+meets_dir script name = list_any (same_name name) (map components script.dirs) || list_any (λ file. is_within (name_of file) name) script.files
+
+-- a line of a first file. Its parents are directories too
 abbrev pub file_line : Draft → List ℕ → List ℕ → Result Draft Reason
 file_line d a b = do
-  name ← bytes_in a
-  content ← bytes_in b
-  unless_said (is_file d.script.files name) (record d { script = record d.script { files = d.script.files ++ (name, content) ∷ [] } })
+  path ← path_in a
+  content ← content_in d.script.files b
+  unless_said (meets_file d.script (components path)) (record d { script = record d.script { files = d.script.files ++ (path, content) ∷ [] } })
+
+-- a line of a first directory. Its parents are directories too
+abbrev pub dir_line : Draft → List ℕ → Result Draft Reason
+dir_line d a = path_in a >>= λ path. unless_said (meets_dir d.script (components path)) (record d { script = record d.script { dirs = d.script.dirs ++ path ∷ [] } })
 
 -- a request is not refused, by 0, or refused by a code of 2 or more
 abbrev pub refusal_in : List ℕ → Result ℕ Reason
@@ -232,6 +257,7 @@ line_by d word words =
     if bytes_eq word (codes "option") then two_words (option_line d) words
     else if bytes_eq word (codes "server") then server_line d words
     else if bytes_eq word (codes "file") then two_words (file_line d) words
+    else if bytes_eq word (codes "dir") then one_word (dir_line d) words
     else if bytes_eq word (codes "choice") then two_words (choice_line d) words
     else if bytes_eq word (codes "pick") then one_word (pick_line d) words
     else if bytes_eq word (codes "lane") then no_word (with_lane d) words

@@ -3,14 +3,13 @@
 use Rattle.std.specs.Prelude.{◌≡◌, ◌≤◌, ℕ, zero, suc, ◌+◌, ◌%◌, Bool, true, false, not, ◌&&◌, List, [], ◌∷◌, ◌++◌, length, drop, Option, Some, None, is_none, if◌then◌else◌, slice_get, slice_index_or, MatchBool}
 use Rattle.ssh_encoding.specs.Writing.{uint32}
 use Rattle.sftp_model.specs.declared.config.Choice.{Choice}
-use Rattle.sftp_model.specs.declared.config.Limits.{Limits}
 use Rattle.sftp_model.specs.declared.config.ServerConfig.{ServerConfig}
 use Rattle.sftp_model.specs.declared.request.Request.{Request}
 use Rattle.sftp_model.specs.declared.reply.Reply.{Reply}
 use Rattle.sftp_model.specs.declared.reply.Reply.TheVariants as reply
-use Rattle.sftp_model.specs.FileMachine.{Machine, apply, at_key, status}
-use Rattle.sftp_model.specs.Frames.{limits_content}
-use Rattle.sftp_model.specs.Numbers.{MAX_HANDLE_LEN, SSH_FX_OP_UNSUPPORTED}
+use Rattle.sftp_model.specs.Numbers.{MAX_HANDLE_LEN}
+use Rattle.sftp_tree.specs.FileTree.{FileTree, opened_at}
+use Rattle.sftp_tree.specs.TreeAnswers.{apply, first_choice, limits_reply}
 use Rattle.sftp_history.specs.declared.event.Owner.{Owner}
 use Rattle.sftp_history.specs.declared.event.Owner.TheVariants as owner
 use Rattle.sftp_history.specs.declared.event.Event.TheVariants.{Submit, Send, Take}
@@ -41,36 +40,26 @@ requests_sent (_ ∷ past) = requests_sent past
 
 -- ---- the machine's run
 
--- the first of the choices; behind the last, nothing is refused and nothing capped
-abbrev pub first_choice : List Choice → Choice
-first_choice [] = record { refuse = 0; cap = 0 }
-first_choice (c ∷ choices) = c
-
 -- a handle that may be granted: a short one that is not open
-abbrev pub MayGrant : Machine → List ℕ → Type 0
-MayGrant m handle = (length handle ≤ MAX_HANDLE_LEN) × (at_key m.handles handle ≡ None)
+abbrev pub MayGrant : FileTree → List ℕ → Type 0
+MayGrant tree handle = (length handle ≤ MAX_HANDLE_LEN) × (opened_at tree handle ≡ None)
 
 -- a reply, where it was taken, is this one
 abbrev pub IsReply : Option Reply → Reply → Type 0
 IsReply None r = Unit {0}
 IsReply (Some taken) r = taken ≡ r
 
--- Under these choices, the machine answers the requests one after another by the replies that were taken, and
--- is left as `now`.
-abbrev pub ServesAll : ServerConfig → List Entry → Machine → List Choice → List (ℕ × Request) → Machine → Type 0
-ServesAll config past m choices [] now = now ≡ m
-ServesAll config past m choices (r ∷ requests) now =
+-- Under these choices, a file machine that has this tree answers the requests one after another by the replies that were
+-- taken, and is left with the tree `now`.
+abbrev pub ServesAll : ServerConfig → List Entry → FileTree → List Choice → List (ℕ × Request) → FileTree → Type 0
+ServesAll config past tree choices [] now = now ≡ tree
+ServesAll config past tree choices (r ∷ requests) now =
     (handle : List ℕ)
-    × (MayGrant m handle
-    × IsReply (answer past r.0) (apply m config r.1 (first_choice choices) handle).0
-    × ServesAll config past (apply m config r.1 (first_choice choices) handle).1 (drop 1 choices) requests now)
+    × (MayGrant tree handle
+    × IsReply (answer past r.0) (apply tree config r.1 (first_choice choices) handle).0
+    × ServesAll config past (apply tree config r.1 (first_choice choices) handle).1 (drop 1 choices) requests now)
 
 -- ---- limits
-
--- the reply to the query for limits (OpenSSH's PROTOCOL, section 4.8)
-abbrev pub limits_reply : Option Limits → Reply
-limits_reply None = status SSH_FX_OP_UNSUPPORTED
-limits_reply (Some limits) = reply.Extended (limits_content limits)
 
 -- a reply, where its request is one of the opening
 abbrev pub where_by_setup : Owner → Option Reply → Option Reply
@@ -87,8 +76,8 @@ reply_to_query (Some a) r = where_by_setup a.by r
 abbrev pub TellsLimits : ServerConfig → List Entry → Type 0
 TellsLimits config past = IsReply (reply_to_query (asked_at past 0) (answer past 0)) (limits_reply config.limits)
 
--- A server so configured serves the journal under these choices, from a machine to a machine.
-abbrev pub Serves : ServerConfig → List Choice → Machine → List Entry → Machine → Type 0
+-- A server so configured serves the journal under these choices, from a tree to a tree.
+abbrev pub Serves : ServerConfig → List Choice → FileTree → List Entry → FileTree → Type 0
 Serves config choices first past now = ServesAll config past first choices (requests_sent past) now × TellsLimits config past
 
 -- ---- the order of replies

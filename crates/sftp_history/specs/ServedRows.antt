@@ -8,9 +8,11 @@ use Rattle.sftp_model.specs.declared.config.ServerConfig.{ServerConfig}
 use Rattle.sftp_model.specs.declared.reply.Reply.{Reply}
 use Rattle.sftp_model.specs.declared.reply.Reply.TheVariants as reply
 use Rattle.sftp_model.specs.Frames.{request_body, reply_body, attributes, reply_frame, limits_content}
-use Rattle.sftp_model.specs.FileMachine.{Machine}
 use Rattle.sftp_model.specs.Readings.{extensions_at}
 use Rattle.sftp_model.specs.ReplyReadings.{reply_at, reply_fields_at, version_at, handle_at}
+use Rattle.sftp_tree.specs.Components.{components}
+use Rattle.sftp_tree.specs.FileTree.{FileTree}
+use Rattle.sftp_tree.specs.declared.node.Node.TheVariants as node
 use Rattle.sftp_link.specs.declared.piece.Piece.{Piece}
 use Rattle.sftp_link.specs.declared.piece.Piece.TheVariants.{Sent, Got}
 use Rattle.sftp_history.specs.Shown.{Shows, hello_frame}
@@ -25,10 +27,11 @@ use Rattle.sftp_history.specs.EntryRows.{told_limits}
 abbrev pub config : ServerConfig
 config = record { extensions = record { 0 = 0 }; limits = None; cut = 0 }
 
-abbrev pub hello_file : Machine
-hello_file = record { names = (codes "a", 0) ∷ []; files = codes "hello" ∷ []; handles = [] }
+abbrev pub hello_file : FileTree
+hello_file = record { names = (codes "a" ∷ [], node.File 0) ∷ []; files = codes "hello" ∷ []; handles = [] }
 
 pub over_is_served : Serves config [] hello_file over hello_file
+unfolding components
 over_is_served = (
   (
     handle 7,
@@ -54,12 +57,14 @@ handle_in (reply.Handle h) = h
 handle_in other = []
 
 pub not_capped : Serves config (record { refuse = 0; cap = 0 } ∷ record { refuse = 0; cap = 4 } ∷ []) hello_file over hello_file → ⊥
+unfolding components
 not_capped h = let g : handle 7 ≡ h.0.0 = ap handle_in h.0.1.1 in let e : reply.Content (codes "hello") ≡ reply.Content (codes "hell") = rw (sym g) at h.0.1.2.1.1 in absurd (clear e)
   where
     clear : reply.Content (codes "hello") ≡ reply.Content (codes "hell") → ⊥
     clear e = absurd cc
 
 pub not_refused : Serves config (record { refuse = 4; cap = 0 } ∷ []) hello_file over hello_file → ⊥
+unfolding components
 not_refused h = let e = h.0.1.1 in absurd cc
 
 -- what isn't sent is not answered

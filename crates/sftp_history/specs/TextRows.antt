@@ -6,13 +6,14 @@ use Rattle.sftp_model.specs.declared.error.IoKind.TheVariants as kind
 use Rattle.sftp_model.specs.declared.outcome.Outcome.TheVariants as outcome
 use Rattle.sftp_model.specs.declared.request.Request.TheVariants as request
 use Rattle.sftp_model.specs.Frames.{request_body, reply_body, attributes}
-use Rattle.sftp_model.specs.FileMachine.{Machine}
+use Rattle.sftp_tree.specs.FileTree.{FileTree}
+use Rattle.sftp_tree.specs.declared.node.Node.TheVariants as node
 use Rattle.sftp_history.specs.Readings.{outcomes_below}
 use Rattle.sftp_history.specs.JournalRows.{over}
 use Rattle.sftp_history.specs.LaneRows.{cancelled_late, cancelled_answered, was_refused}
 use Rattle.sftp_history.specs.ScriptRows.{text}
 use Rattle.sftp_history.specs.ServedRows.{hello_file}
-use Rattle.sftp_history.specs.Texts.{text_of, text_with_files, outcome_line, request_line, file_lines}
+use Rattle.sftp_history.specs.Texts.{text_of, text_with_files, outcome_line, request_line, file_lines, dir_lines}
 
 pub text_of_three : text_with_files over (outcomes_below over 1) hello_file
     ≡ text (codes "> open 00000001610000000100000000" ∷ codes "< handle 0000000107"
@@ -56,12 +57,20 @@ text_of_no_bytes = refl
 pub text_of_extension : outcome_line 0 3 (outcome.Refused (error.UnsupportedExtension (record { 0 = 4 }))) ≡ text (codes "lane 0 call 3 refused extension fsync" ∷ [])
 text_of_extension = refl
 
--- names stand in the order of their bytes
-abbrev three_files : Machine
-three_files = record { names = (codes "b", 0) ∷ (codes "ab", 1) ∷ (codes "a", 2) ∷ []; files = codes "1" ∷ [] ∷ codes "3" ∷ []; handles = [] }
+-- names stand in the order of their bytes as they are written, and directories behind files
+abbrev tree : FileTree
+tree = record {
+  names = (codes "b" ∷ [], node.File 0) ∷ (codes "a" ∷ codes "b" ∷ [], node.File 1) ∷ (codes "a" ∷ [], node.Directory) ∷ (codes "a-b" ∷ [], node.File 2)
+      ∷ (codes "a" ∷ codes "c" ∷ [], node.Directory) ∷ [];
+  files = codes "1" ∷ [] ∷ codes "3" ∷ [];
+  handles = [];
+}
 
-pub text_of_files : file_lines three_files ≡ text (codes "file 61 33" ∷ codes "file 6162 -" ∷ codes "file 62 31" ∷ [])
+pub text_of_files : file_lines tree ≡ text (codes "file 612d62 33" ∷ codes "file 612f62 -" ∷ codes "file 62 31" ∷ [])
 text_of_files = refl
+
+pub text_of_directories : dir_lines tree ≡ text (codes "dir 61" ∷ codes "dir 612f63" ∷ [])
+text_of_directories = refl
 
 pub text_of_numbers : outcome_line 0 12 (outcome.Count 4096) ≡ text (codes "lane 0 call 12 count 4096" ∷ [])
 text_of_numbers = refl

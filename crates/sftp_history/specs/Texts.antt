@@ -1,6 +1,6 @@
--- The text that is printed of a session: its frames in their order, the outcomes of its calls, and the files of
--- its server.
-use Rattle.std.specs.Prelude.{ℕ, ◌+◌, ◌==◌, Bool, true, false, List, [], ◌∷◌, ◌++◌, codes, drop, map, nat_lt, if◌then◌else◌}
+-- The text that is printed of a session: its frames in their order, the outcomes of its calls, and the files and
+-- directories of its server.
+use Rattle.std.specs.Prelude.{ℕ, ◌+◌, ◌==◌, Bool, true, false, List, [], ◌∷◌, ◌++◌, codes, drop, filter, map, if◌then◌else◌}
 use Rattle.std.specs.Int.Digits.{digits_of}
 use Rattle.std.specs.List.{flat_map}
 use Rattle.ssh_encoding.specs.Canonical.{hex_text}
@@ -16,7 +16,10 @@ use Rattle.sftp_model.specs.declared.reply.Reply.{Reply}
 use Rattle.sftp_model.specs.declared.reply.Reply.TheVariants as reply
 use Rattle.sftp_model.specs.declared.reply.NameEntry.{NameEntry}
 use Rattle.sftp_model.specs.Frames.{request_body, reply_body, attributes}
-use Rattle.sftp_model.specs.FileMachine.{Machine, bytes_of_file}
+use Rattle.sftp_model.specs.Numbers.{COPY_DATA, EXPAND_PATH, FSYNC, HARDLINK, POSIX_RENAME}
+use Rattle.sftp_tree.specs.Components.{written}
+use Rattle.sftp_tree.specs.FileTree.{FileTree}
+use Rattle.sftp_tree.specs.Listing.{has_directory, has_file, in_name_order, node_bytes}
 use Rattle.sftp_history.specs.declared.event.Event.TheVariants.{Send, Take}
 use Rattle.sftp_history.specs.declared.entry.Entry.{Entry}
 use Rattle.sftp_history.specs.declared.entry.Entry.TheVariants as entry
@@ -105,11 +108,11 @@ kind_name kind.UnexpectedEof = codes "UnexpectedEof"
 -- the word of a set that has one extension
 abbrev pub extension_word : ℕ → List ℕ
 extension_word set =
-    if set == 1 then codes "posix-rename"
-    else if set == 2 then codes "hardlink"
-    else if set == 4 then codes "fsync"
-    else if set == 8 then codes "expand-path"
-    else if set == 16 then codes "copy-data"
+    if set == POSIX_RENAME then codes "posix-rename"
+    else if set == HARDLINK then codes "hardlink"
+    else if set == FSYNC then codes "fsync"
+    else if set == EXPAND_PATH then codes "expand-path"
+    else if set == COPY_DATA then codes "copy-data"
     else codes "limits"
 
 -- a call is refused by the server, for want of an extension, or by the client; other errors end a session
@@ -152,32 +155,23 @@ abbrev pub lane_lines : ℕ → List (List Outcome) → List ℕ
 lane_lines lane [] = []
 lane_lines lane (outcomes ∷ lanes) = outcome_lines lane 0 outcomes ++ lane_lines (lane + 1) lanes
 
--- ---- files
-
--- bytes stand before others: by the first byte that differs, and a front of them before the whole
-abbrev pub is_before : List ℕ → List ℕ → Bool
-is_before [] [] = false
-is_before [] (y ∷ ys) = true
-is_before (x ∷ xs) [] = false
-is_before (x ∷ xs) (y ∷ ys) = if x == y then is_before xs ys else nat_lt x y
-
--- a name among sorted ones
-abbrev pub sorted_in : {V : Type 0} → List ℕ × V → List (List ℕ × V) → List (List ℕ × V)
-sorted_in x [] = x ∷ []
-sorted_in x (y ∷ pairs) = if is_before y.0 x.0 then y ∷ sorted_in x pairs else x ∷ y ∷ pairs
-
--- the pairs in the order of their names by bytes
-abbrev pub sorted : {V : Type 0} → List (List ℕ × V) → List (List ℕ × V)
-sorted [] = []
-sorted (x ∷ pairs) = sorted_in x (sorted pairs)
+-- ---- files and directories
 
 -- the line of a file
 abbrev pub file_text : List ℕ → List ℕ → List ℕ
 file_text name content = line (codes "file " ++ hex_word name ++ codes " " ++ hex_word content)
 
--- a line for each name of the machine, in their order by bytes
-abbrev pub file_lines : Machine → List ℕ
-file_lines m = flat_map (λ f. file_text f.0 (bytes_of_file m f.1)) (sorted m.names)
+-- a line for each name with a file, in the order of the written names by bytes
+abbrev pub file_lines : FileTree → List ℕ
+file_lines tree = flat_map (λ pair. file_text (written pair.0) (node_bytes tree pair.1)) (filter has_file (in_name_order tree.names))
+
+-- the line of a directory
+abbrev pub dir_text : List ℕ → List ℕ
+dir_text name = line (codes "dir " ++ hex_word name)
+
+-- a line for each name with a directory, in the same order; the root has no name
+abbrev pub dir_lines : FileTree → List ℕ
+dir_lines tree = flat_map (λ pair. dir_text (written pair.0)) (filter has_directory (in_name_order tree.names))
 
 -- ---- the whole
 
@@ -185,6 +179,6 @@ file_lines m = flat_map (λ f. file_text f.0 (bytes_of_file m f.1)) (sorted m.na
 abbrev pub text_of : List Entry → List (List Outcome) → List ℕ
 text_of past outcomes = frame_lines past ++ lane_lines 0 outcomes
 
--- and of the files that are left
-abbrev pub text_with_files : List Entry → List (List Outcome) → Machine → List ℕ
-text_with_files past outcomes m = text_of past outcomes ++ file_lines m
+-- and of the files and directories that are left
+abbrev pub text_with_files : List Entry → List (List Outcome) → FileTree → List ℕ
+text_with_files past outcomes tree = text_of past outcomes ++ file_lines tree ++ dir_lines tree

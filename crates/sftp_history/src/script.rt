@@ -11,8 +11,10 @@ pub struct Script {
     pub options: SftpOptions,
     /// What the server offers.
     pub server: ServerConfig,
-    /// The server's files: the name of each and its content.
+    /// The server's first files: the path of each and its content.
     pub files: Items<(ByteText, ByteText)>,
+    /// The paths of the server's first directories. All parents of files and directories are there too.
+    pub dirs: Items<ByteText>,
     /// What the server does with the requests, in the order in which it gets them.
     pub choices: Items<Choice>,
     /// Which of the waiting replies the server gives, for one reply after another.

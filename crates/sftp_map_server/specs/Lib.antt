@@ -1,3 +1,1 @@
-pub mod Granting
-pub mod Order
 pub mod Serving

@@ -1,5 +1,5 @@
 -- A file machine behind a link: what it answers to the bytes that come, and what it gives.
-use Rattle.std.specs.Prelude.{◌≡◌, ◌<◌, ◌≤◌, ℕ, ◌+◌, Bool, true, false, List, [], ◌∷◌, ◌++◌, length, drop, reverse, Option, Some, None, is_some, if◌then◌else◌}
+use Rattle.std.specs.Prelude.{◌≡◌, ◌<◌, ◌≤◌, ℕ, ◌+◌, Bool, true, false, nat_le, List, [], ◌∷◌, ◌++◌, length, drop, Option, Some, None, is_some, if◌then◌else◌}
 use Rattle.std.specs.List.{flat_map}
 use Rattle.std.specs.Result.{result_ok}
 use Rattle.std.specs.Int.RustNames.{bit_and, bit_or}
@@ -13,19 +13,41 @@ use Rattle.sftp_model.specs.declared.request.Request.{Request}
 use Rattle.sftp_model.specs.declared.request.Request.TheVariants as request
 use Rattle.sftp_model.specs.declared.reply.Reply.{Reply}
 use Rattle.sftp_model.specs.declared.reply.Reply.TheVariants as reply
-use Rattle.sftp_model.specs.FileMachine.{status}
-use Rattle.sftp_model.specs.Numbers.{MAX_BODY_LEN}
-use Rattle.sftp_model.specs.Frames.{reply_frame, limits_content}
+use Rattle.sftp_model.specs.Numbers.{LIMITS, MAX_BODY_LEN, MAX_TRANSFER_LEN}
+use Rattle.sftp_model.specs.Frames.{reply_frame}
 use Rattle.sftp_model.specs.RequestReadings.{request_at}
+use Rattle.sftp_tree.specs.FirstTree.{FirstFile, first_tree}
+use Rattle.sftp_tree.specs.HandleRequests.{capped}
+use Rattle.sftp_tree.specs.TreeAnswers.{first_choice, limits_reply}
 use Rattle.sftp_wire.specs.FrameReader.{fault_of, missing}
-use Rattle.sftp_history.specs.Served.{first_choice, limits_reply}
-use Rattle.sftp_map_server.specs.Granting.{Granting, gives_within, machine_of, next}
+use Rattle.sftp_machine.specs.MachineState.{MachineState, answer}
+use Rattle.sftp_machine.specs.WaitingFrames.{WaitingFrames, turned}
+
+-- ---- what is said
+
+-- bytes that are given at once, and frames that wait until they are picked
+pub record Said : Type 0 where
+  pub at_once : List ℕ
+  pub later : List (List ℕ)
+
+abbrev pub nothing : Said
+nothing = record { at_once = []; later = [] }
+
+abbrev pub at_once : List ℕ → Said
+at_once frame = record { at_once = frame; later = [] }
+
+abbrev pub later : List ℕ → Said
+later frame = record { at_once = []; later = frame ∷ [] }
+
+-- one behind the other
+abbrev pub both : Said → Said → Said
+both a b = record { at_once = a.at_once ++ b.at_once; later = a.later ++ b.later }
 
 -- ---- one request
 
 -- the machine, the choices that are left, whether the hello came, and whether the link is over
 pub record Desk : Type 0 where
-  pub granting : Granting
+  pub machine : MachineState
   pub choices : List Choice
   pub greeted : Bool
   pub over : Bool
@@ -33,7 +55,7 @@ pub record Desk : Type 0 where
 -- the extensions that VERSION tells, as bits: `limits` exactly where there are some
 abbrev pub told_bits : ℕ → Option Limits → ℕ
 told_bits bits None = bit_and bits 31
-told_bits bits (Some limits) = bit_or bits 32
+told_bits bits (Some limits) = bit_or bits LIMITS
 
 -- the answer to the hello
 abbrev pub version_reply : ServerConfig → Reply
@@ -54,50 +76,56 @@ id_of (Some id) = id
 
 -- the link is over: nothing is answered any more
 abbrev pub over_at : Desk → Desk
-over_at d = record { granting = d.granting; choices = d.choices; greeted = d.greeted; over = true }
+over_at d = record { machine = d.machine; choices = d.choices; greeted = d.greeted; over = true }
 
--- the next choice is taken
-abbrev pub spent : Desk → Desk
-spent d = record { granting = d.granting; choices = drop 1 d.choices; greeted = d.greeted; over = d.over }
+-- the next choice is taken, and this is left of the machine
+abbrev pub spent : Desk → MachineState → Desk
+spent d left = record { machine = left; choices = drop 1 d.choices; greeted = d.greeted; over = d.over }
 
--- the hello is answered by VERSION, once
-abbrev pub greet : Desk → List ℕ × Desk
+-- a READ gives no more than one DATA can bring: by the length asked or by the cap
+abbrev pub gives_within : Request → Choice → Bool
+gives_within (request.Read handle offset len) choice = nat_le (capped choice.cap len) MAX_TRANSFER_LEN
+gives_within other choice = true
+
+-- the hello is answered by VERSION, once and at once
+abbrev pub greet : Desk → Said × Desk
 greet d =
-    if d.greeted then ([], over_at d)
-    else (reply_frame (version_reply d.granting.config) 0, record { granting = d.granting; choices = d.choices; greeted = true; over = d.over })
+    if d.greeted then (nothing, over_at d)
+    else (at_once (reply_frame (version_reply d.machine.config) 0), record { machine = d.machine; choices = d.choices; greeted = true; over = d.over })
 
--- a request of the machine takes the next choice
-abbrev pub serve : Desk → Option ℕ → Request → List ℕ × Desk
+-- a request of the machine takes the next choice, and its answer waits
+abbrev pub serve : Desk → Option ℕ → Request → Said × Desk
 serve d id r =
     if gives_within r (first_choice d.choices) then (
-      reply_frame (next d.granting r (first_choice d.choices)).0 (id_of id),
-      record { granting = (next d.granting r (first_choice d.choices)).1; choices = drop 1 d.choices; greeted = d.greeted; over = d.over },
+      later (reply_frame (answer d.machine r (first_choice d.choices)).0 (id_of id)),
+      spent d (answer d.machine r (first_choice d.choices)).1,
     )
-    else ([], over_at d)
+    else (nothing, over_at d)
 
--- a request: the frame of its answer, and what it leaves. The first is the hello, and the query for limits takes no choice
-abbrev pub respond : Desk → Option ℕ → Request → List ℕ × Desk
+-- a request: what is said to it, and what it leaves. The first is the hello; the query for limits is answered at once and
+-- takes no choice
+abbrev pub respond : Desk → Option ℕ → Request → Said × Desk
 respond d id r =
     if is_hello r then greet d
     else if d.greeted then
-    (if is_query r then (reply_frame (limits_reply d.granting.config.limits) (id_of id), d) else serve d id r)
-    else ([], over_at d)
+    (if is_query r then (at_once (reply_frame (limits_reply d.machine.config.limits) (id_of id)), d) else serve d id r)
+    else (nothing, over_at d)
 
 -- what was read; what reads as no request ends the link
-abbrev pub heed : Desk → Option (Option ℕ × Request) → List ℕ × Desk
+abbrev pub heed : Desk → Option (Option ℕ × Request) → Said × Desk
 heed d (Some asked) = respond d asked.0 asked.1
-heed d None = ([], over_at d)
+heed d None = (nothing, over_at d)
 
 -- the body of a frame: nothing is answered once the link is over
-unfoldable pub step : Desk → List ℕ → List ℕ × Desk
-step d body = if d.over then ([], d) else heed d (result_ok (request_at body))
+unfoldable pub step : Desk → List ℕ → Said × Desk
+step d body = if d.over then (nothing, d) else heed d (result_ok (request_at body))
 
 -- ---- bytes that come and go
 
 -- what is said to bodies, one after another, and what they leave
-abbrev pub all_said : Desk → List (List ℕ) → List ℕ
-all_said d [] = []
-all_said d (body ∷ more) = (step d body).0 ++ all_said (step d body).1 more
+abbrev pub all_said : Desk → List (List ℕ) → Said
+all_said d [] = nothing
+all_said d (body ∷ more) = both (step d body).0 (all_said (step d body).1 more)
 
 abbrev pub all_left : Desk → List (List ℕ) → Desk
 all_left d [] = d
@@ -107,7 +135,11 @@ all_left d (body ∷ more) = all_left (step d body).1 more
 pub record Server : Type 0 where
   pub desk : Desk
   pub input : List ℕ
-  pub output : List ℕ
+  pub output : WaitingFrames
+
+-- what is said stands behind what is still to be given
+abbrev pub with_said : WaitingFrames → Said → WaitingFrames
+with_said output said = record { ready = output.ready ++ said.at_once; waiting = output.waiting ++ said.later; picks = output.picks }
 
 -- the desk and the input behind the frames that came whole: a length that is 0 or too great ends the link, and then
 -- the bytes are dropped
@@ -131,11 +163,13 @@ pub record Absorbs (before : Server) (bytes : List ℕ) (after : Server) : Type 
   pub desk : after.desk ≡ (behind (all_left before.desk bodies) rest).0
   pub input : after.input ≡ (behind (all_left before.desk bodies) rest).1
   pub part : 0 < missing after.input
-  pub output : after.output ≡ before.output ++ all_said before.desk bodies
+  pub output : after.output ≡ with_said before.output (all_said before.desk bodies)
 
--- bytes were given
+-- bytes were given, of the frame that is being given or of the one that is picked next
 pub record Gives (before : Server) (bytes : List ℕ) (after : Server) : Type 0 where
-  pub output : before.output ≡ bytes ++ after.output
+  pub ready : (turned before.output).ready ≡ bytes ++ after.output.ready
+  pub waiting : after.output.waiting ≡ (turned before.output).waiting
+  pub picks : after.output.picks ≡ (turned before.output).picks
   pub input : after.input ≡ before.input
   pub desk : after.desk ≡ before.desk
 
@@ -145,40 +179,20 @@ IsServed first [] now = now ≡ first
 IsServed first (Sent bytes ∷ log) now = (mid : Server) × IsServed first log mid × Absorbs mid bytes now
 IsServed first (Got bytes ∷ log) now = (mid : Server) × IsServed first log mid × Gives mid bytes now
 
--- a server before anything came
-abbrev pub opened : Desk → Server
-opened d = record { desk = d; input = []; output = [] }
-
 -- ---- a server in memory
 
--- the desk at first and now
-pub record Desks : Type 0 where
-  pub first : Desk
-  pub now : Desk
-
--- a machine before the first request
-abbrev pub fresh : Granting → Granting
-fresh g = record {
-  machine = record { names = g.machine.names; files = g.machine.files; handles = [] };
-  config = g.config;
-  grants = 0;
-}
-
--- by the machine, all choices, how many were taken, and where the link stands
-abbrev pub desks_of : Granting → List Choice → ℕ → Bool → Bool → Desks
-desks_of g choices used greeted over = record {
-  first = record { granting = fresh g; choices = choices; greeted = false; over = false };
-  now = record { granting = g; choices = drop used choices; greeted = greeted; over = over };
-}
-
 -- a server's state by its parts
-abbrev pub server_of : Desk → List ℕ → List ℕ → Server
+abbrev pub server_of : Desk → List ℕ → WaitingFrames → Server
 server_of desk input output = record { desk = desk; input = input; output = output }
 
--- a server of these files before the first request
-abbrev pub first_desk : List (List ℕ × List ℕ) → ServerConfig → List Choice → Desk
-first_desk files config choices = record {
-  granting = record { machine = machine_of files; config = config; grants = 0 };
+-- a server before anything came, which is to give its replies by these picks
+abbrev pub opened : Desk → List ℕ → Server
+opened d picks = server_of d [] (record { ready = []; waiting = []; picks = picks })
+
+-- the desk of these files and directories before the first request
+abbrev pub first_desk : List FirstFile → List (List ℕ) → ServerConfig → List Choice → Desk
+first_desk files dirs config choices = record {
+  machine = record { tree = first_tree files dirs; config = config; grants = 0 };
   choices = choices;
   greeted = false;
   over = false;
@@ -186,13 +200,13 @@ first_desk files config choices = record {
 
 -- a server with its log, of which the newest piece stands first, and the flag of the end
 pub record Serving : Type 0 where
-  pub first : Desk
+  pub first : Server
   pub now : Server
   pub log : List Piece
   pub ended : Bool
 
--- what it keeps: its log is that of such a server from the first desk on, and it ends only where nothing waits
-pub record IsServing (first : Desk) (now : Server) (log : List Piece) (ended : Bool) : Type 0 where
-  pub served : IsServed (opened first) log now
+-- what it keeps: its log is that of such a server from the first on, and it ends only where nothing is left to be given
+pub record IsServing (first now : Server) (log : List Piece) (ended : Bool) : Type 0 where
+  pub served : IsServed first log now
   pub part : 0 < missing now.input
-  pub end : ended ≡ true → now.output ≡ []
+  pub end : ended ≡ true → (turned now.output).ready ≡ []
