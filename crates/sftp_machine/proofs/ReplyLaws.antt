@@ -60,14 +60,15 @@ reply_fits state r choice fit code within =
     (says_fit x.0 (tree_replies state.tree state.config r choice (numbered_handle state.grants) fit (omega arith) code within).said)
 
 -- whichever way an answer ends
-pub answers_where : {E : Type 0} (state : MachineState) (r : Request) (choice : Choice) (result : Result Reply E) → IsAfterHello r → IfOk result (λ said. said ≡ (answer state r choice).0) → IfOk result (λ said. MayAnswer r said)
-answers_where state r choice (Ok said) h is = subst (λ (w : Reply). MayAnswer r w) (sym is) (reply_answers state r choice h)
-answers_where state r choice (Err e) h is = tt
+pub answers_where : {A E : Type 0} (state : MachineState) (r : Request) (choice : Choice) (reply : A → Reply) (result : Result A E) → IsAfterHello r
+    → IfOk result (λ a. reply a ≡ (answer state r choice).0) → IfOk result (λ a. MayAnswer r (reply a))
+answers_where state r choice reply (Ok a) h is = subst (λ (w : Reply). MayAnswer r w) (sym is) (reply_answers state r choice h)
+answers_where state r choice reply (Err e) h is = tt
 
-pub fits_where : {E : Type 0} (state : MachineState) (r : Request) (choice : Choice) (result : Result Reply E) → IsFit state.tree → choice.refuse < 2 ^ 32 → IfOk result (λ said. said ≡ (answer state r choice).0)
-    → IfOk result (λ said. GivesWithin choice.cap r → FitsReply said)
-fits_where state r choice (Ok said) fit code is = λ within. subst (λ (w : Reply). FitsReply w) (sym is) (reply_fits state r choice fit code within)
-fits_where state r choice (Err e) fit code is = tt
+pub fits_where : {A E : Type 0} (state : MachineState) (r : Request) (choice : Choice) (reply : A → Reply) (result : Result A E) → IsFit state.tree → choice.refuse < 2 ^ 32
+    → IfOk result (λ a. reply a ≡ (answer state r choice).0) → IfOk result (λ a. GivesWithin choice.cap r → FitsReply (reply a))
+fits_where state r choice reply (Ok a) fit code is = λ within. subst (λ (w : Reply). FitsReply w) (sym is) (reply_fits state r choice fit code within)
+fits_where state r choice reply (Err e) fit code is = tt
 
 -- the change of an answer leaves a tree within its bounds
 pub fit_committed : (state : MachineState) (r : Request) (choice : Choice) (said : Reply × Change) → IsFit state.tree → Makes state said (defined state r choice) → IsFit (committed state said.1).tree

@@ -1,5 +1,5 @@
 -- A server of files and directories in memory, which grants the numbers 0, 1, 2 and so on as its handles.
-use Rattle.std.specs.Prelude.{◌≡◌, ◌<◌, ◌≤◌, ℕ, ◌+◌, ◌==◌, List, [], ◌∷◌, if◌then◌else◌}
+use Rattle.std.specs.Prelude.{◌≡◌, ◌<◌, ◌≤◌, ℕ, ◌+◌, ◌==◌, true, List, [], ◌∷◌, if◌then◌else◌}
 use Rattle.std.specs.Int.{w32, to_be_bytes}
 use Rattle.sftp_model.specs.declared.config.Choice.{Choice}
 use Rattle.sftp_model.specs.declared.config.ServerConfig.{ServerConfig}
@@ -10,8 +10,10 @@ use Rattle.sftp_model.specs.Numbers.{SSH_FX_FAILURE}
 use Rattle.sftp_tree.specs.HandleRequests.{Answer}
 use Rattle.sftp_tree.specs.declared.opened.Opened.{Opened}
 use Rattle.sftp_tree.specs.FileTree.{FileTree}
+use Rattle.sftp_tree.specs.FitTrees.{IsFit}
 use Rattle.sftp_tree.specs.TreeAnswers.{apply}
-use Rattle.sftp_machine.specs.Changes.{Leads, changed, is_grant}
+use Rattle.sftp_machine.specs.Changes.{FitsChange, Leads, changed, is_grant}
+use Rattle.sftp_machine.specs.declared.answered.Answered.{Answered}
 use Rattle.sftp_machine.specs.declared.change.Change.{Change}
 
 -- files and directories, what the server offers, and how many handles it granted
@@ -59,6 +61,18 @@ committed state c = record {
 -- a reply with a change is that answer
 abbrev pub Makes : MachineState → Reply × Change → Answer → Type 0
 Makes state said x = Leads state.tree (numbered_handle state.grants) said x
+
+-- ---- answers that were found, and are not committed yet
+
+-- what the answer leaves
+abbrev pub left_by : MachineState → Answered → MachineState
+left_by state answered = committed state answered.change
+
+-- the answer may be committed: a handle is left where it grants one, and files and names stay within their bounds
+pub record MayCommit (state : MachineState) (answered : Answered) : Type 0 where
+  pub room : is_grant answered.change ≡ true → state.grants < MAX_HANDLES
+  pub fits : FitsChange answered.change
+  pub within : IsFit (left_by state answered).tree
 
 -- ---- handles
 

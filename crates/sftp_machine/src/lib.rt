@@ -3,6 +3,7 @@
 #![tactic(auto)]
 
 mod answer;
+mod answered;
 mod change;
 mod commit;
 mod counts;
@@ -19,6 +20,7 @@ mod outbox;
 mod store;
 mod tree_name;
 
+pub use answered::Answered;
 pub use first_tree::may_begin;
 pub use handle_requests::gives_within;
 pub use laws::grants_are_new;

@@ -4,9 +4,10 @@ ghost use Rattle.sftp_model.specs.Fits.{FitsReply};
 ghost use Rattle.sftp_tree.specs.FitTrees.{GivesWithin, IsFit};
 ghost use Rattle.sftp_tree.specs.FirstTree.{first_tree, may_begin};
 ghost use Rattle.sftp_machine.specs.Changes.{FitsChange, is_grant};
-ghost use Rattle.sftp_machine.specs.MachineState.{MAX_HANDLES, answer as answer_by, committed};
+ghost use Rattle.sftp_machine.specs.MachineState.{MAX_HANDLES, MayCommit, answer as answer_by, committed, left_by};
 
 use crate::answer::{changes_names, grants};
+use crate::answered::Answered;
 use crate::change::Change;
 use crate::order::sort_places;
 use crate::store::Store;
@@ -86,28 +87,55 @@ impl Machine {
         ensures answers { IfOk result (λ r. MayAnswer request.now r) }
         ensures fits { IfOk result (λ r. GivesWithin choice.cap request.now → FitsReply r) }
     {
-        self.serve(request, choice)
+        let Answered { reply, change } = self.answer(request, choice)?;
+        self.make(change)?;
+        Ok(reply)
     }
 
-    // The same, by the definition alone.
-    #[tactic(auto, using(crate::proofs::CommitLaws::refused, crate::proofs::CommitLaws::granted, crate::proofs::ReplyLaws::fit_committed))]
-    fn serve(&mut self, request: &Request, choice: Choice) -> Result<Reply, OutOfMemory>
-        ensures reply { IfOk result (λ r. r ≡ (answer_by self.old request.now choice).0) }
-        ensures left { OnOk result (self.new ≡ (answer_by self.old request.now choice).1) }
+    /// The answer to a request, as `apply` gives it, which changes nothing before it is committed. A caller can write
+    /// `reply` in between, and let go of the answer where that fails. Refused only for want of memory.
+    pub fn answer(&self, request: &Request, choice: Choice) -> Result<Answered, OutOfMemory>
+        requires after_hello { IsAfterHello request.now }
+        ensures reply { IfOk result (λ a. a.reply ≡ (answer_by self.now request.now choice).0) }
+        ensures left { IfOk result (λ a. left_by self.now a ≡ (answer_by self.now request.now choice).1) }
+        ensures may { IfOk result (λ a. MayCommit self.now a) }
+
+        // What follows from these: the reply may answer the request, and it fits a frame.
+        ensures answers { IfOk result (λ a. MayAnswer request.now a.reply) }
+        ensures fits { IfOk result (λ a. GivesWithin choice.cap request.now → FitsReply a.reply) }
+    {
+        self.find(request, choice)
+    }
+
+    /// Commits an answer that this server found last: what it leaves. An Err comes only for want of memory, and all is
+    /// as before.
+    pub fn commit(&mut self, answered: Answered) -> Result<(), OutOfMemory>
+        requires may { MayCommit self.old answered }
+        ensures left { OnOk result (self.new ≡ left_by self.old answered) }
         ensures kept { OnErr result (self.new ≡ self.old) }
-        ensures fit { IsFit self.old.tree }
+    {
+        self.make(answered.change)
+    }
+
+    // The answer, by the definition alone.
+    #[tactic(auto, using(crate::proofs::CommitLaws::refused, crate::proofs::CommitLaws::granted, crate::proofs::ReplyLaws::fit_committed))]
+    fn find(&self, request: &Request, choice: Choice) -> Result<Answered, OutOfMemory>
+        ensures reply { IfOk result (λ a. a.reply ≡ (answer_by self.now request.now choice).0) }
+        ensures left { IfOk result (λ a. left_by self.now a ≡ (answer_by self.now request.now choice).1) }
+        ensures may { IfOk result (λ a. MayCommit self.now a) }
+        ensures fit { IsFit self.now.tree }
     {
         let (reply, change) = self.store.answer(request, choice)?;
         if self.store.is_full() && grants(&change) {
-            return Ok(self.store.status(SSH_FX_FAILURE));
+            let (reply, change) = self.store.refused(SSH_FX_FAILURE);
+            return Ok(Answered { reply, change });
         }
-        self.commit(change)?;
-        Ok(reply)
+        Ok(Answered { reply, change })
     }
 
     // Makes a change, and puts the names in order. An Err comes only for want of memory, and all is as before.
     #[tactic(auto, using(crate::proofs::NameChangeLaws::names_stay, crate::proofs::NameChangeLaws::names_grow))]
-    fn commit(&mut self, change: Change) -> Result<(), OutOfMemory>
+    fn make(&mut self, change: Change) -> Result<(), OutOfMemory>
         requires room { is_grant change ≡ true → self.old.grants < MAX_HANDLES }
         requires fits { FitsChange change }
         requires within { IsFit (committed self.old change).tree }

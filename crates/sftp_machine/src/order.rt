@@ -1,7 +1,8 @@
 // The order of names, by their places.
 ghost use Rattle.std.specs.Prelude.{◌≡◌, ◌≤◌, length, map, slice_get, vec_capacity};
 ghost use Rattle.std.specs.Option.{option_copied};
-ghost use Rattle.sftp_machine.specs.Listing.{AreInOrder, is_file as is_file_by};
+ghost use Rattle.sftp_tree.specs.Listing.{is_file as is_file_by};
+ghost use Rattle.sftp_machine.specs.Listing.{AreInOrder};
 ghost use Rattle.sftp_machine.specs.Places.{stands_before as stands_before_by, count_before as count_before_by, is_of_kind as is_of_kind_by, where_of_kind, nth_there};
 
 use crate::lookups::is_before;

@@ -7,7 +7,7 @@ ghost use Rattle.sftp_tree.specs.Components.{parent_of};
 ghost use Rattle.sftp_tree.specs.Limits.{MAX_FILE_LEN, MAX_TOTAL_LEN};
 ghost use Rattle.sftp_tree.specs.HandleRequests.{refuses as refuses_by, done as done_by};
 ghost use Rattle.sftp_tree.specs.FileTree.{node_at as node_by, opened_at as opened_by, file_of, entries_of, bytes_of as bytes_by, attributes_of as attributes_by, is_directory as is_directory_by, is_over as is_over_by};
-ghost use Rattle.sftp_machine.specs.Listing.{node_bytes as node_bytes_by};
+ghost use Rattle.sftp_tree.specs.Listing.{node_bytes as node_bytes_by};
 ghost use Rattle.sftp_machine.specs.MachineState.{MachineState, IsValid, Makes, committed, MAX_HANDLES, numbered_handle as bytes_of_handle};
 ghost use Rattle.sftp_machine.specs.declared.change.Change.TheVariants as change;
 

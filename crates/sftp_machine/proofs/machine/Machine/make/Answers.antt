@@ -2,7 +2,7 @@ use Rattle.std.proofs.Common.{rules, ◌≡◌, ◌≤◌, ◌+◌, length, ap, 
 use Rattle.sftp_machine.specs.Changes.{changed}
 use Rattle.sftp_machine.specs.MachineState.{numbered_handle}
 use Rattle.sftp_machine.proofs.NameChangeLaws.{names_grow}
-use Rattle.sftp_machine.proofs.machine.Machine.commit.Goals as goal
+use Rattle.sftp_machine.proofs.machine.Machine.make.Goals as goal
 
 pub sort_places-requires : goal.sort_places-requires
 sort_places-requires c =

@@ -1,0 +1,21 @@
+// Answers that are not committed yet.
+ghost use Rattle.std.specs.Prelude.{◌≡◌};
+
+use crate::change::Change;
+use sftp_model::Reply;
+
+/// The answer to a request that a server found, and has not committed yet: the reply, and what the request changes.
+#[derive(Drop)]
+pub struct Answered {
+    pub(crate) reply: Reply,
+    pub(crate) change: Change,
+}
+
+impl Answered {
+    /// What is replied.
+    pub fn reply(&self) -> &Reply
+        ensures { result.now ≡ self.now.reply }
+    {
+        &self.reply
+    }
+}
