@@ -9,5 +9,6 @@ pub mod OpenLaws
 pub mod StatusLaws
 pub mod AnswerLaws
 pub mod FitLaws
+pub mod FirstFits
 pub mod ReplyLaws
 pub mod ReplyFits

@@ -1,5 +1,5 @@
 //! Laws of the definitions. The functions do nothing: what they ensure holds of all values.
-ghost use Rattle.std.specs.Prelude.{◌≡◌, ◌≢◌, ◌<◌, ◌≤◌, ◌⊎◌, ℕ, List, None, Some, false, length};
+ghost use Rattle.std.specs.Prelude.{◌≡◌, ◌≢◌, ◌<◌, ◌≤◌, ◌⊎◌, ℕ, List, None, Some, false, length, true};
 ghost use Rattle.sftp_model.specs.Answers.{MayAnswer, is_handle, IsAfterHello};
 ghost use Rattle.sftp_model.specs.Fits.{FitsHandle, FitsNumber, FitsReply};
 ghost use Rattle.sftp_model.specs.Frames.{reply_body};
@@ -10,6 +10,7 @@ ghost use Rattle.sftp_model.specs.declared.request.Request.{Request};
 ghost use Rattle.sftp_tree.specs.Changes.{Asks, IsWellFormed, Leaves, Opens};
 ghost use Rattle.sftp_tree.specs.Components.{Name};
 ghost use Rattle.sftp_tree.specs.FileTree.{FileTree, node_at, opened_at};
+ghost use Rattle.sftp_tree.specs.FirstTree.{FirstFile, first_tree, may_begin};
 ghost use Rattle.sftp_tree.specs.FitTrees.{GivesWithin, IsFit};
 ghost use Rattle.sftp_tree.specs.HandleRequests.{capped};
 ghost use Rattle.sftp_tree.specs.Refusals.{KeepsWhereRefused};
@@ -42,6 +43,12 @@ pub fn trees_stay_well_formed()
 pub fn trees_stay_fit()
     ensures { (tree : FileTree) (config : ServerConfig) (r : Request) (choice : Choice)
         (handle : List ℕ) → IsFit tree → IsFit (apply tree config r choice handle).1 }
+{}
+
+/// The tree of a server that may begin so has its files and names within their bounds.
+pub fn first_trees_are_fit()
+    ensures { (files : List FirstFile) (dirs : List (List ℕ)) → may_begin files dirs ≡ true
+        → IsFit (first_tree files dirs) }
 {}
 
 /// The reply fits a frame, and its body is within the bound, where the tree is within its bounds and the handle,
