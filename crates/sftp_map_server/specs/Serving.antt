@@ -165,8 +165,9 @@ pub record Absorbs (before : Server) (bytes : List ℕ) (after : Server) : Type 
   pub part : 0 < missing after.input
   pub output : after.output ≡ with_said before.output (all_said before.desk bodies)
 
--- bytes were given, of the frame that is being given or of the one that is picked next
+-- Bytes were given, of the frame that is being given or of the one that is picked next; none were only where none are left.
 pub record Gives (before : Server) (bytes : List ℕ) (after : Server) : Type 0 where
+  pub some : bytes ≡ [] → (turned before.output).ready ≡ []
   pub ready : (turned before.output).ready ≡ bytes ++ after.output.ready
   pub waiting : after.output.waiting ≡ (turned before.output).waiting
   pub picks : after.output.picks ≡ (turned before.output).picks
