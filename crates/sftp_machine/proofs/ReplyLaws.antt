@@ -1,19 +1,20 @@
 -- What a server replies may answer the request and fits a frame, and its tree stays within its bounds.
 use Rattle.std.specs.Prelude.{Result, Ok, Err, IfOk}
-use Rattle.std.proofs.Common.{subst, sym, ◌≡◌, ◌==◌, ◌<◌, ◌^◌, Bool, true, false, if◌then◌else◌, arith, lit<, refl}
+use Rattle.std.proofs.Common.{subst, sym, ◌≡◌, ◌==◌, ℕ, ◌<◌, ◌≤◌, ◌^◌, length, Bool, true, false, if◌then◌else◌, arith, lit<, refl}
 use Rattle.sftp_model.specs.declared.config.Choice.{Choice}
 use Rattle.sftp_model.specs.declared.reply.Reply.{Reply}
 use Rattle.sftp_model.specs.declared.request.Request.{Request}
 use Rattle.sftp_model.specs.Answers.{MayAnswer, is_handle, IsAfterHello, status}
 use Rattle.sftp_model.specs.Fits.{FitsReply}
-use Rattle.sftp_model.specs.Numbers.{SSH_FX_FAILURE}
+use Rattle.sftp_model.specs.Frames.{reply_body}
+use Rattle.sftp_model.specs.Numbers.{MAX_BODY_LEN, SSH_FX_FAILURE}
 use Rattle.sftp_tree.specs.FileTree.{FileTree}
-use Rattle.sftp_tree.specs.FitTrees.{GivesWithin, IsFit}
+use Rattle.sftp_tree.specs.FitTrees.{GivesWithin, IsFit, MayReply}
 use Rattle.sftp_tree.specs.HandleRequests.{Answer}
 use Rattle.sftp_tree.specs.TreeAnswers.{apply}
 use Rattle.sftp_tree.proofs.AnswerLaws.{tree_answers}
 use Rattle.sftp_tree.proofs.FitLaws.{fit_after}
-use Rattle.sftp_tree.proofs.ReplyFits.{says_fit}
+use Rattle.sftp_tree.proofs.ReplyFits.{body_within, says_fit}
 use Rattle.sftp_tree.proofs.ReplyLaws.{tree_replies}
 use Rattle.sftp_tree.proofs.StatusLaws.{status_allowed}
 use Rattle.sftp_machine.specs.declared.change.Change.{Change}
@@ -38,26 +39,30 @@ fit_left state r choice fit =
     let x : Answer = defined state r choice in
     fit_by state x (is_handle x.0) (state.grants == MAX_HANDLES) fit (fit_after state.tree state.config r choice (numbered_handle state.grants) fit)
 
-answers_by : (state : MachineState) (r : Request) (x : Answer) (grant full : Bool) → MayAnswer r (status SSH_FX_FAILURE) → MayAnswer r x.0 → MayAnswer r (by_flags state x grant full).0
-answers_by state r x true true refused said = refused
-answers_by state r x true false refused said = said
-answers_by state r x false full refused said = said
+-- what holds of the reply and of the STATUS that refuses a grant holds of what is replied
+reply_by : (P : Reply → Type 0) (state : MachineState) (x : Answer) (grant full : Bool) → P (status SSH_FX_FAILURE) → P x.0 → P (by_flags state x grant full).0
+reply_by P state x true true refused said = refused
+reply_by P state x true false refused said = said
+reply_by P state x false full refused said = said
 
 pub reply_answers : (state : MachineState) (r : Request) (choice : Choice) → IsAfterHello r → MayAnswer r (answer state r choice).0
 reply_answers state r choice h =
     let x : Answer = defined state r choice in
-    answers_by state r x (is_handle x.0) (state.grants == MAX_HANDLES) (status_allowed r SSH_FX_FAILURE h refl) (tree_answers state.tree state.config r choice (numbered_handle state.grants) h).allowed
+    reply_by (λ w. MayAnswer r w) state x (is_handle x.0) (state.grants == MAX_HANDLES) (status_allowed r SSH_FX_FAILURE h refl) (tree_answers state.tree state.config r choice (numbered_handle state.grants) h).allowed
 
-fits_by : (state : MachineState) (x : Answer) (grant full : Bool) → FitsReply (status SSH_FX_FAILURE) → FitsReply x.0 → FitsReply (by_flags state x grant full).0
-fits_by state x true true refused said = refused
-fits_by state x true false refused said = said
-fits_by state x false full refused said = said
+-- the reply is one that a tree may give
+may_reply : (state : MachineState) (r : Request) (choice : Choice) → IsFit state.tree → choice.refuse < 2 ^ 32 → GivesWithin choice.cap r → MayReply (answer state r choice).0
+may_reply state r choice fit code within =
+    let x : Answer = defined state r choice in
+    reply_by (λ w. MayReply w) state x (is_handle x.0) (state.grants == MAX_HANDLES) (lit< tt, refl, refl)
+    (tree_replies state.tree state.config r choice (numbered_handle state.grants) fit (omega arith) code within).said
 
 pub reply_fits : (state : MachineState) (r : Request) (choice : Choice) → IsFit state.tree → choice.refuse < 2 ^ 32 → GivesWithin choice.cap r → FitsReply (answer state r choice).0
-reply_fits state r choice fit code within =
-    let x : Answer = defined state r choice in
-    fits_by state x (is_handle x.0) (state.grants == MAX_HANDLES) (lit< tt, omega arith, omega arith)
-    (says_fit x.0 (tree_replies state.tree state.config r choice (numbered_handle state.grants) fit (omega arith) code within).said)
+reply_fits state r choice fit code within = says_fit (answer state r choice).0 (may_reply state r choice fit code within)
+
+-- and its body is within the bound
+pub reply_within : (state : MachineState) (r : Request) (choice : Choice) (id : ℕ) → IsFit state.tree → choice.refuse < 2 ^ 32 → GivesWithin choice.cap r → length (reply_body (answer state r choice).0 id) ≤ MAX_BODY_LEN
+reply_within state r choice id fit code within = body_within (answer state r choice).0 id (may_reply state r choice fit code within)
 
 -- whichever way an answer ends
 pub answers_where : {A E : Type 0} (state : MachineState) (r : Request) (choice : Choice) (reply : A → Reply) (result : Result A E) → IsAfterHello r
@@ -69,6 +74,11 @@ pub fits_where : {A E : Type 0} (state : MachineState) (r : Request) (choice : C
     → IfOk result (λ a. reply a ≡ (answer state r choice).0) → IfOk result (λ a. GivesWithin choice.cap r → FitsReply (reply a))
 fits_where state r choice reply (Ok a) fit code is = λ within. subst (λ (w : Reply). FitsReply w) (sym is) (reply_fits state r choice fit code within)
 fits_where state r choice reply (Err e) fit code is = tt
+
+pub within_where : {A E : Type 0} (state : MachineState) (r : Request) (choice : Choice) (reply : A → Reply) (result : Result A E) → IsFit state.tree → choice.refuse < 2 ^ 32
+    → IfOk result (λ a. reply a ≡ (answer state r choice).0) → IfOk result (λ a. GivesWithin choice.cap r → (id : ℕ) → length (reply_body (reply a) id) ≤ MAX_BODY_LEN)
+within_where state r choice reply (Ok a) fit code is = λ within id. subst (λ (w : Reply). length (reply_body w id) ≤ MAX_BODY_LEN) (sym is) (reply_within state r choice id fit code within)
+within_where state r choice reply (Err e) fit code is = tt
 
 -- the change of an answer leaves a tree within its bounds
 pub fit_committed : (state : MachineState) (r : Request) (choice : Choice) (said : Reply × Change) → IsFit state.tree → Makes state said (defined state r choice) → IsFit (committed state said.1).tree

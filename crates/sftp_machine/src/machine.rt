@@ -1,6 +1,8 @@
-ghost use Rattle.std.specs.Prelude.{◌≡◌, ◌<◌, ◌≤◌, ◌+◌, [], true, length, IfOk, OnOk, OnErr};
+ghost use Rattle.std.specs.Prelude.{◌≡◌, ℕ, ◌<◌, ◌≤◌, ◌+◌, [], true, length, IfOk, OnOk, OnErr};
 ghost use Rattle.sftp_model.specs.Answers.{MayAnswer, IsAfterHello};
 ghost use Rattle.sftp_model.specs.Fits.{FitsReply};
+ghost use Rattle.sftp_model.specs.Frames.{reply_body};
+ghost use Rattle.sftp_model.specs.Numbers.{MAX_BODY_LEN};
 ghost use Rattle.sftp_tree.specs.FitTrees.{GivesWithin, IsFit};
 ghost use Rattle.sftp_tree.specs.FirstTree.{first_tree, may_begin};
 ghost use Rattle.sftp_machine.specs.Changes.{FitsChange, is_grant};
@@ -100,9 +102,10 @@ impl Machine {
         ensures left { IfOk result (λ a. left_by self.now a ≡ (answer_by self.now request.now choice).1) }
         ensures may { IfOk result (λ a. MayCommit self.now a) }
 
-        // What follows from these: the reply may answer the request, and it fits a frame.
+        // What follows from these: the reply may answer the request, it fits a frame, and its body is within the bound.
         ensures answers { IfOk result (λ a. MayAnswer request.now a.reply) }
         ensures fits { IfOk result (λ a. GivesWithin choice.cap request.now → FitsReply a.reply) }
+        ensures within { IfOk result (λ a. GivesWithin choice.cap request.now → (id : ℕ) → length (reply_body a.reply id) ≤ MAX_BODY_LEN) }
     {
         self.find(request, choice)
     }
