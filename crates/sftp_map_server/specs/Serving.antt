@@ -165,14 +165,18 @@ pub record Absorbs (before : Server) (bytes : List ℕ) (after : Server) : Type 
   pub part : 0 < missing after.input
   pub output : after.output ≡ with_said before.output (all_said before.desk bodies)
 
--- Bytes were given, of the frame that is being given or of the one that is picked next; none were only where none are left.
-pub record Gives (before : Server) (bytes : List ℕ) (after : Server) : Type 0 where
-  pub some : bytes ≡ [] → (turned before.output).ready ≡ []
+-- bytes were given, of the frame that is being given or of the one that is picked next
+pub record GivesSome (before : Server) (bytes : List ℕ) (after : Server) : Type 0 where
   pub ready : (turned before.output).ready ≡ bytes ++ after.output.ready
   pub waiting : after.output.waiting ≡ (turned before.output).waiting
   pub picks : after.output.picks ≡ (turned before.output).picks
   pub input : after.input ≡ before.input
   pub desk : after.desk ≡ before.desk
+
+-- Bytes were given. None are given only where none are left, and then nothing changes.
+abbrev pub Gives : Server → List ℕ → Server → Type 0
+Gives before [] after = (after ≡ before) × ((turned before.output).ready ≡ [])
+Gives before (b ∷ bytes) after = GivesSome before (b ∷ bytes) after
 
 -- a log, with its newest piece first, is that of such a server
 abbrev pub IsServed : Server → List Piece → Server → Type 0
