@@ -17,8 +17,9 @@ use Rattle.sftp_model.specs.Readings.{has_bit}
 use Rattle.sftp_model.specs.Answers.{is_handle}
 use Rattle.sftp_model.specs.declared.config.Limits.{Limits}
 use Rattle.sftp_model.specs.Numbers.{MAX_BODY_LEN, SSH_FX_EOF, SSH_FX_FAILURE, SSH_FX_NO_SUCH_FILE, SSH_FX_OP_UNSUPPORTED, SSH_FX_PERMISSION_DENIED}
+use Rattle.sftp_tree.proofs.NameLaws.{differ_by}
 use Rattle.sftp_tree.proofs.PutLaws.{length_put, length_resized}
-use Rattle.sftp_tree.specs.Changes.{Asks, ClosedDirectory, ClosedFile, Closes, Created, Denotes, Granted, Leaves, Listed, Lists, MadeDirectory, MayStand, Moves, Reaches, RemovedDirectory, RemovedFile, Renamed, Replaced, Rewritten, Truncated, Unchanged, makes_or_empties}
+use Rattle.sftp_tree.specs.Changes.{Asks, ClosedDirectory, ClosedFile, Closes, Created, Denotes, Granted, Leaves, Listed, Lists, MadeDirectory, MayMove, MayStand, Moves, Reaches, RemovedDirectory, RemovedFile, Renamed, Replaced, Rewritten, Truncated, Unchanged, makes_or_empties}
 use Rattle.sftp_tree.specs.Components.{Name, components, is_long, is_within, parent_of, same_name}
 use Rattle.sftp_tree.specs.FileTree.{FileTree, all_bytes, bytes_of, entries_of, file_of, is_directory, is_over, node_at, opened_at, put, resized, size_of, with_bytes, with_file, with_name, with_renamed, without_name}
 use Rattle.sftp_tree.specs.HandleRequests.{Answer, after_close, after_copy, after_fsetstat, after_fstat, after_fsync, after_open, after_read, after_write, capped, copied, creates, done, grants, held_by, is_exclusive, offset_of, refuses, resizes, sets_held, truncates, where_new, writes}
@@ -44,10 +45,10 @@ either_by : (tree : FileTree) (r : Request) (handle : List ℕ) (b : Bool) (x y 
 either_by tree r handle true x y h k = h refl
 either_by tree r handle false x y h k = k refl
 
-new : (tree : FileTree) (r : Request) (handle : List ℕ) (name : Name) (x : Answer) → (MayStand tree name → Leaves tree r handle x) → Leaves tree r handle (where_new tree name x)
-new tree r handle name x h =
+new : (tree : FileTree) (r : Request) (handle : List ℕ) (name : Name) (x : Answer) → node_at tree name ≡ None → (MayStand tree name → Leaves tree r handle x) → Leaves tree r handle (where_new tree name x)
+new tree r handle name x none h =
     either_by tree r handle (not (is_directory (node_at tree (parent_of name)))) (refuses tree SSH_FX_NO_SUCH_FILE) (if is_long name then refuses tree SSH_FX_FAILURE else x) (λ t. same tree r handle refl)
-    (λ t. either_by tree r handle (is_long name) (refuses tree SSH_FX_FAILURE) x (λ v. same tree r handle refl) (λ v. h (not-false (is_directory (node_at tree (parent_of name))) t, v)))
+    (λ t. either_by tree r handle (is_long name) (refuses tree SSH_FX_FAILURE) x (λ v. same tree r handle refl) (λ v. h (none, not-false (is_directory (node_at tree (parent_of name))) t, v)))
 
 -- a size that isn't over a limit
 within_limit : (tree : FileTree) (file size : ℕ) → is_over tree file size ≡ false → size ≤ MAX_FILE_LEN
@@ -62,7 +63,7 @@ open_leaves tree r handle flags name (Some (node.File file)) a d e =
     (λ t. record { change = Granted (held_by flags file); may = (name, (a, e)); checked = tt; is = refl; said = refl; named = λ t. refl }))
 open_leaves tree r handle flags name None a d e =
     either_by tree r handle (not (creates flags)) (refuses tree SSH_FX_NO_SUCH_FILE) (where_new tree name (grants (with_file tree name) handle (held_by flags (length tree.files)))) (λ t. same tree r handle refl)
-    (λ t. new tree r handle name (grants (with_file tree name) handle (held_by flags (length tree.files)))
+    (λ t. new tree r handle name (grants (with_file tree name) handle (held_by flags (length tree.files))) e
     (λ u. record { change = Created name (held_by flags (length tree.files)); may = (d (or_left (creates flags) (truncates flags) (not-false (creates flags) t)), e, refl); checked = (u, tt); is = refl; said = refl; named = λ t. refl }))
 
 close_leaves : (tree : FileTree) (r : Request) (handle h : List ℕ) (o : Option Opened) → Closes r h → Leaves tree r handle (after_close tree h o)
@@ -147,20 +148,23 @@ any_setstat_leaves : (tree : FileTree) (r : Request) (handle : List ℕ) (name :
 any_setstat_leaves tree r handle name attrs None d e = same tree r handle refl
 any_setstat_leaves tree r handle name attrs (Some n) d e = setstat_leaves tree r handle name attrs.size n d e
 
-remove_leaves : (tree : FileTree) (r : Request) (handle : List ℕ) (name : Name) (n : Option Node) → Denotes r name → Leaves tree r handle (after_remove tree name n)
-remove_leaves tree r handle name None d = same tree r handle refl
-remove_leaves tree r handle name (Some node.Directory) d = same tree r handle refl
-remove_leaves tree r handle name (Some (node.File file)) d = record { change = RemovedFile name file; may = d; checked = tt; is = refl; said = refl; named = λ t. absurd cc }
+remove_leaves : (tree : FileTree) (r : Request) (handle : List ℕ) (name : Name) (n : Option Node) → Denotes r name → node_at tree name ≡ n → Leaves tree r handle (after_remove tree name n)
+remove_leaves tree r handle name None d e = same tree r handle refl
+remove_leaves tree r handle name (Some node.Directory) d e = same tree r handle refl
+remove_leaves tree r handle name (Some (node.File file)) d e = record { change = RemovedFile name file; may = d; checked = e; is = refl; said = refl; named = λ t. absurd cc }
 
-mkdir_leaves : (tree : FileTree) (r : Request) (handle : List ℕ) (name : Name) (n : Option Node) → Denotes r name → Leaves tree r handle (after_mkdir tree name n)
-mkdir_leaves tree r handle name None d = new tree r handle name (done (with_name tree name node.Directory)) (λ u. record { change = MadeDirectory name; may = d; checked = u; is = refl; said = refl; named = λ t. absurd cc })
-mkdir_leaves tree r handle name (Some n) d = same tree r handle refl
+mkdir_leaves : (tree : FileTree) (r : Request) (handle : List ℕ) (name : Name) (n : Option Node) → Denotes r name → node_at tree name ≡ n → Leaves tree r handle (after_mkdir tree name n)
+mkdir_leaves tree r handle name None d e = new tree r handle name (done (with_name tree name node.Directory)) e (λ u. record { change = MadeDirectory name; may = d; checked = u; is = refl; said = refl; named = λ t. absurd cc })
+mkdir_leaves tree r handle name (Some n) d e = same tree r handle refl
 
-rmdir_leaves : (tree : FileTree) (r : Request) (handle : List ℕ) (name : Name) (n : Option Node) → Denotes r name → Leaves tree r handle (after_rmdir tree name n)
-rmdir_leaves tree r handle name None d = same tree r handle refl
-rmdir_leaves tree r handle name (Some (node.File file)) d = same tree r handle refl
-rmdir_leaves tree r handle name (Some node.Directory) d =
-    either tree r handle (same_name name [] || has_child tree name) (refuses tree SSH_FX_FAILURE) (done (without_name tree name)) (same tree r handle refl) (record { change = RemovedDirectory name; may = d; checked = tt; is = refl; said = refl; named = λ t. absurd cc })
+rmdir_leaves : (tree : FileTree) (r : Request) (handle : List ℕ) (name : Name) (n : Option Node) → Denotes r name → node_at tree name ≡ n → Leaves tree r handle (after_rmdir tree name n)
+rmdir_leaves tree r handle name None d e = same tree r handle refl
+rmdir_leaves tree r handle name (Some (node.File file)) d e = same tree r handle refl
+rmdir_leaves tree r handle name (Some node.Directory) d e =
+    either_by tree r handle (same_name name [] || has_child tree name) (refuses tree SSH_FX_FAILURE) (done (without_name tree name)) (λ t. same tree r handle refl)
+    (λ t.
+    let parts = or_parts (same_name name []) (has_child tree name) t in
+    record { change = RemovedDirectory name; may = d; checked = (e, differ_by name [] parts.0, parts.1); is = refl; said = refl; named = λ t. absurd cc })
 
 opendir_leaves : (tree : FileTree) (r : Request) (handle : List ℕ) (name : Name) (n : Option Node) → Leaves tree r handle (after_opendir tree handle name n)
 opendir_leaves tree r handle name None = same tree r handle refl
@@ -176,27 +180,31 @@ realpath_leaves : (tree : FileTree) (r : Request) (handle : List ℕ) (name : Na
 realpath_leaves tree r handle name =
     either tree r handle (nat_lt MAX_BODY_LEN (length (reply_body (path_reply name) 0))) (refuses tree SSH_FX_FAILURE) (let x : Answer = (path_reply name, tree) in x) (same tree r handle refl) (same tree r handle refl)
 
-moved_leaves : (tree : FileTree) (r : Request) (handle : List ℕ) (old to : Name) → Moves r old to → MayStand tree to → Leaves tree r handle (done (with_renamed tree old to))
-moved_leaves tree r handle old to d u = record { change = Renamed old to; may = d; checked = u; is = refl; said = refl; named = λ t. absurd cc }
+moved_leaves : (tree : FileTree) (r : Request) (handle : List ℕ) (old to : Name) → Moves r old to → MayMove tree old to → MayStand tree to → Leaves tree r handle (done (with_renamed tree old to))
+moved_leaves tree r handle old to d m u = record { change = Renamed old to; may = d; checked = (m, u); is = refl; said = refl; named = λ t. absurd cc }
 
-rename_leaves : (tree : FileTree) (r : Request) (handle : List ℕ) (old to : Name) (n there : Option Node) → Moves r old to → Leaves tree r handle (after_rename tree old to n there)
-rename_leaves tree r handle old to None there d = same tree r handle refl
-rename_leaves tree r handle old to (Some n) (Some there) d = same tree r handle refl
-rename_leaves tree r handle old to (Some n) None d =
-    either tree r handle (is_within old to) (refuses tree SSH_FX_FAILURE) (where_new tree to (done (with_renamed tree old to))) (same tree r handle refl) (new tree r handle to (done (with_renamed tree old to)) (λ u. moved_leaves tree r handle old to d u))
+rename_leaves : (tree : FileTree) (r : Request) (handle : List ℕ) (old to : Name) (n there : Option Node) → Moves r old to → node_at tree old ≡ n → node_at tree to ≡ there → Leaves tree r handle (after_rename tree old to n there)
+rename_leaves tree r handle old to None there d e f = same tree r handle refl
+rename_leaves tree r handle old to (Some n) (Some there) d e f = same tree r handle refl
+rename_leaves tree r handle old to (Some n) None d e f =
+    either_by tree r handle (is_within old to) (refuses tree SSH_FX_FAILURE) (where_new tree to (done (with_renamed tree old to))) (λ t. same tree r handle refl)
+    (λ t. new tree r handle to (done (with_renamed tree old to)) f (λ u. moved_leaves tree r handle old to d (n, e, t) u))
 
-replaces_leaves : (tree : FileTree) (r : Request) (handle : List ℕ) (old to : Name) (n : Node) (there : Option Node) → Moves r old to → node_at tree to ≡ there → Leaves tree r handle (replaces tree old to n there)
-replaces_leaves tree r handle old to n None d e = new tree r handle to (done (with_renamed tree old to)) (λ u. moved_leaves tree r handle old to d u)
-replaces_leaves tree r handle old to node.Directory (Some there) d e = same tree r handle refl
-replaces_leaves tree r handle old to (node.File file) (Some node.Directory) d e = same tree r handle refl
-replaces_leaves tree r handle old to (node.File file) (Some (node.File gone)) d e = record { change = Replaced old to gone; may = d; checked = e; is = refl; said = refl; named = λ t. absurd cc }
+replaces_leaves : (tree : FileTree) (r : Request) (handle : List ℕ) (old to : Name) (n : Node) (there : Option Node) → Moves r old to → node_at tree old ≡ Some n → node_at tree to ≡ there → (is_within old to ≡ false) × (is_within to old ≡ false)
+    → Leaves tree r handle (replaces tree old to n there)
+replaces_leaves tree r handle old to n None d e f apart = new tree r handle to (done (with_renamed tree old to)) f (λ u. moved_leaves tree r handle old to d (n, e, apart.0) u)
+replaces_leaves tree r handle old to node.Directory (Some there) d e f apart = same tree r handle refl
+replaces_leaves tree r handle old to (node.File file) (Some node.Directory) d e f apart = same tree r handle refl
+replaces_leaves tree r handle old to (node.File file) (Some (node.File gone)) d e f apart =
+    record { change = Replaced old to gone; may = d; checked = (file, e, f, apart.0, apart.1); is = refl; said = refl; named = λ t. absurd cc }
 
-posix_leaves : (tree : FileTree) (r : Request) (handle : List ℕ) (old to : Name) (n there : Option Node) → Moves r old to → node_at tree to ≡ there → Leaves tree r handle (after_posix_rename tree old to n there)
-posix_leaves tree r handle old to None there d e = same tree r handle refl
-posix_leaves tree r handle old to (Some n) there d e =
+posix_leaves : (tree : FileTree) (r : Request) (handle : List ℕ) (old to : Name) (n there : Option Node) → Moves r old to → node_at tree old ≡ n → node_at tree to ≡ there → Leaves tree r handle (after_posix_rename tree old to n there)
+posix_leaves tree r handle old to None there d e f = same tree r handle refl
+posix_leaves tree r handle old to (Some n) there d e f =
     let rest : Answer = if is_within old to || is_within to old then refuses tree SSH_FX_FAILURE else replaces tree old to n there in
     either tree r handle (same_name old to) (done tree) rest (same tree r handle refl)
-    (either tree r handle (is_within old to || is_within to old) (refuses tree SSH_FX_FAILURE) (replaces tree old to n there) (same tree r handle refl) (replaces_leaves tree r handle old to n there d e))
+    (either_by tree r handle (is_within old to || is_within to old) (refuses tree SSH_FX_FAILURE) (replaces tree old to n there) (λ t. same tree r handle refl)
+    (λ t. replaces_leaves tree r handle old to n there d e f (or_parts (is_within old to) (is_within to old) t)))
 
 offered : (tree : FileTree) (config : ServerConfig) (r : Request) (handle : List ℕ) (bit : ℕ) (x : Answer) → Leaves tree r handle x → Leaves tree r handle (where_offered tree config bit x)
 offered tree config r handle bit x h = either tree r handle (has_bit config.extensions.0 bit) x (refuses tree SSH_FX_OP_UNSUPPORTED) h (same tree r handle refl)
@@ -211,17 +219,17 @@ answered_leaves tree config (request.Lstat path) cap handle = stat_leaves tree _
 answered_leaves tree config (request.Fstat h) cap handle = fstat_leaves tree _ handle (opened_at tree h)
 answered_leaves tree config (request.Setstat path attrs) cap handle = any_setstat_leaves tree _ handle (components path) attrs (node_at tree (components path)) refl refl
 answered_leaves tree config (request.Fsetstat h attrs) cap handle = fsetstat_leaves tree _ handle attrs (file_of (opened_at tree h)) (λ held e. inl (held, (e, refl)))
-answered_leaves tree config (request.Remove path) cap handle = remove_leaves tree _ handle (components path) (node_at tree (components path)) refl
-answered_leaves tree config (request.Mkdir path attrs) cap handle = mkdir_leaves tree _ handle (components path) (node_at tree (components path)) refl
-answered_leaves tree config (request.Rmdir path) cap handle = rmdir_leaves tree _ handle (components path) (node_at tree (components path)) refl
+answered_leaves tree config (request.Remove path) cap handle = remove_leaves tree _ handle (components path) (node_at tree (components path)) refl refl
+answered_leaves tree config (request.Mkdir path attrs) cap handle = mkdir_leaves tree _ handle (components path) (node_at tree (components path)) refl refl
+answered_leaves tree config (request.Rmdir path) cap handle = rmdir_leaves tree _ handle (components path) (node_at tree (components path)) refl refl
 answered_leaves tree config (request.Opendir path) cap handle = opendir_leaves tree _ handle (components path) (node_at tree (components path))
 answered_leaves tree config (request.Readdir h) cap handle = readdir_leaves tree _ handle h cap (entries_of (opened_at tree h)) refl refl
 answered_leaves tree config (request.Realpath path) cap handle = realpath_leaves tree _ handle (components path)
 answered_leaves tree config (request.ExpandPath path) cap handle = offered tree config _ handle 8 (after_realpath tree (components path)) (realpath_leaves tree _ handle (components path))
-answered_leaves tree config (request.Rename old to) cap handle = rename_leaves tree _ handle (components old) (components to) (node_at tree (components old)) (node_at tree (components to)) (refl, refl)
+answered_leaves tree config (request.Rename old to) cap handle = rename_leaves tree _ handle (components old) (components to) (node_at tree (components old)) (node_at tree (components to)) (refl, refl) refl refl
 answered_leaves tree config (request.PosixRename old to) cap handle =
     offered tree config _ handle 1 (after_posix_rename tree (components old) (components to) (node_at tree (components old)) (node_at tree (components to)))
-    (posix_leaves tree _ handle (components old) (components to) (node_at tree (components old)) (node_at tree (components to)) (refl, refl) refl)
+    (posix_leaves tree _ handle (components old) (components to) (node_at tree (components old)) (node_at tree (components to)) (refl, refl) refl refl)
 answered_leaves tree config (request.Fsync h) cap handle = offered tree config _ handle 4 (after_fsync tree (file_of (opened_at tree h))) (fsync_leaves tree _ handle (file_of (opened_at tree h)))
 answered_leaves tree config (request.CopyData from from_offset len to to_offset) cap handle =
     offered tree config _ handle 16 (after_copy tree from_offset len to_offset (file_of (opened_at tree from)) (file_of (opened_at tree to)))

@@ -184,16 +184,16 @@ change_fits tree handle (Rewritten file bytes) fit w = bytes_fit tree file bytes
 change_fits tree handle (Granted o) fit w = handle_fit tree handle o fit (opened_short tree tree o fit w)
 change_fits tree handle (Truncated file o) fit w = handle_fit (with_bytes tree file []) handle o (bytes_fit tree file [] fit (omega arith)) (opened_short tree tree o fit w)
 change_fits tree handle (Created name o) fit w =
-    handle_fit (with_file tree name) handle o (name_fit tree name (node.File (length tree.files)) (tree.files ++ [] ∷ []) fit (not_long name w.0.1) (λ file. push_size tree.files file (fit.sizes file))) (opened_short tree tree o fit w.1)
+    handle_fit (with_file tree name) handle o (name_fit tree name (node.File (length tree.files)) (tree.files ++ [] ∷ []) fit (not_long name w.0.2) (λ file. push_size tree.files file (fit.sizes file))) (opened_short tree tree o fit w.1)
 change_fits tree handle (ClosedDirectory h) fit w = closed_fit tree h fit
 change_fits tree handle (ClosedFile h file) fit w = loss_fit (without_handle tree h) file (closed_fit tree h fit)
 change_fits tree handle (Listed h entries) fit w = given_fit tree h entries fit (subst AreShort (sym w.3) (drop_short w.1 w.0 (held_entries tree h w.0 fit w.2)))
-change_fits tree handle (MadeDirectory name) fit w = name_fit tree name node.Directory tree.files fit (not_long name w.1) fit.sizes
+change_fits tree handle (MadeDirectory name) fit w = name_fit tree name node.Directory tree.files fit (not_long name w.2) fit.sizes
 change_fits tree handle (RemovedDirectory name) fit w = without_fit tree name fit
 change_fits tree handle (RemovedFile name file) fit w = loss_fit (without_name tree name) file (without_fit tree name fit)
-change_fits tree handle (Renamed old to) fit w = moved_fit tree old to fit (not_long to w.1)
+change_fits tree handle (Renamed old to) fit w = moved_fit tree old to fit (not_long to w.1.2)
 change_fits tree handle (Replaced old to gone) fit w =
-    loss_fit (with_renamed (without_name tree to) old to) gone (moved_fit (without_name tree to) old to (without_fit tree to fit) (fit.short to (node.File gone) (name_has tree to gone w)))
+    loss_fit (with_renamed (without_name tree to) old to) gone (moved_fit (without_name tree to) old to (without_fit tree to fit) (fit.short to (node.File gone) (name_has tree to gone w.2)))
 
 -- a tree within its bounds stays so, whatever is requested
 pub fit_after : (tree : FileTree) (config : ServerConfig) (r : Request) (choice : Choice) (handle : List ℕ) → IsFit tree → IsFit (apply tree config r choice handle).1

@@ -8,6 +8,9 @@ pub mod GrantingLaws
 pub mod OpenLaws
 pub mod StatusLaws
 pub mod AnswerLaws
+pub mod WithinLaws
+pub mod OnceLaws
+pub mod TreeLaws
 pub mod FitLaws
 pub mod FirstFits
 pub mod ReplyLaws

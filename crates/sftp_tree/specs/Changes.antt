@@ -1,5 +1,5 @@
 -- What a request may change on a tree.
-use Rattle.std.specs.Prelude.{◌≡◌, ◌<◌, ℕ, ◌⊎◌, Bool, true, false, ◌||◌, List, [], length, Some, None, drop, ◌≤◌}
+use Rattle.std.specs.Prelude.{◌≡◌, ◌≢◌, ◌<◌, ℕ, ◌⊎◌, Bool, true, false, ◌||◌, List, [], length, Some, None, drop, ◌≤◌}
 use Rattle.sftp_model.specs.declared.reply.NameEntry.{NameEntry}
 use Rattle.sftp_model.specs.declared.reply.Reply.TheVariants as reply
 use Rattle.sftp_model.specs.declared.request.Request.{Request}
@@ -7,12 +7,13 @@ use Rattle.sftp_model.specs.declared.request.Request.TheVariants as request
 use Rattle.sftp_tree.specs.declared.node.Node.TheVariants as node
 use Rattle.sftp_tree.specs.declared.opened.Opened.TheVariants as opened
 use Rattle.sftp_model.specs.Answers.{is_handle}
-use Rattle.sftp_tree.specs.Components.{Name, components, is_long, parent_of}
+use Rattle.sftp_tree.specs.Components.{Name, components, is_long, is_within, parent_of}
 use Rattle.sftp_tree.specs.FileTree.{FileTree, after_loss, entries_of, file_of, is_directory, node_at, opened_at, with_bytes, with_file, with_handle, with_name, with_renamed, without_handle, without_name}
 use Rattle.sftp_tree.specs.HandleRequests.{Answer, creates, truncates}
 use Rattle.sftp_tree.specs.Limits.{MAX_FILE_LEN}
-use Rattle.sftp_tree.specs.NameRequests.{entries_at, with_entries}
+use Rattle.sftp_tree.specs.NameRequests.{entries_at, has_child, with_entries}
 use Rattle.sftp_tree.specs.Pairs.{Has}
+use Rattle.sftp_tree.specs.declared.node.Node.{Node}
 use Rattle.sftp_tree.specs.declared.opened.Held.{Held}
 use Rattle.sftp_tree.specs.declared.opened.Opened.{Opened}
 
@@ -141,9 +142,21 @@ MayLead tree r (Replaced old to gone) = Moves r old to
 
 -- ---- conditions of changes
 
--- a new name's parent is a directory, and its last component isn't long
+-- a new name isn't there, its parent is a directory, and its last component isn't long
 abbrev pub MayStand : FileTree → Name → Type 0
-MayStand tree name = (is_directory (node_at tree (parent_of name)) ≡ true) × (is_long name ≡ false)
+MayStand tree name = (node_at tree name ≡ None) × (is_directory (node_at tree (parent_of name)) ≡ true) × (is_long name ≡ false)
+
+-- a directory that is taken away is there, isn't the root, and has nothing in it
+abbrev pub MayGo : FileTree → Name → Type 0
+MayGo tree name = (node_at tree name ≡ Some node.Directory) × (name ≢ []) × (has_child tree name ≡ false)
+
+-- a name that is moved is there, and the new one isn't within it
+abbrev pub MayMove : FileTree → Name → Name → Type 0
+MayMove tree old to = (n : Node) × (node_at tree old ≡ Some n) × (is_within old to ≡ false)
+
+-- a file takes the place of a file, whose name isn't within its own, nor its own within that one
+abbrev pub MayReplace : FileTree → Name → Name → ℕ → Type 0
+MayReplace tree old to gone = (file : ℕ) × (node_at tree old ≡ Some (node.File file)) × (node_at tree to ≡ Some (node.File gone)) × (is_within old to ≡ false) × (is_within to old ≡ false)
 
 -- a directory that is opened is opened with the entries of some name
 abbrev pub HasEntries : FileTree → Opened → Type 0
@@ -158,8 +171,10 @@ WasChecked tree (Truncated file o) = HasEntries tree o
 WasChecked tree (Created name o) = MayStand tree name × HasEntries tree o
 WasChecked tree (Listed h entries) = (old : List NameEntry) × (k : ℕ) × (entries_of (opened_at tree h) ≡ Some old) × (entries ≡ drop k old)
 WasChecked tree (MadeDirectory name) = MayStand tree name
-WasChecked tree (Renamed old to) = MayStand tree to
-WasChecked tree (Replaced old to gone) = node_at tree to ≡ Some (node.File gone)
+WasChecked tree (RemovedDirectory name) = MayGo tree name
+WasChecked tree (RemovedFile name file) = node_at tree name ≡ Some (node.File file)
+WasChecked tree (Renamed old to) = MayMove tree old to × MayStand tree to
+WasChecked tree (Replaced old to gone) = MayReplace tree old to gone
 WasChecked tree other = Unit {0}
 
 -- the change grants the handle

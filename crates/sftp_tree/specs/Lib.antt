@@ -6,12 +6,14 @@ pub mod NameRequests
 pub mod TreeAnswers
 pub mod Refusals
 pub mod Pairs
+pub mod Trees
 pub mod Changes
 pub mod FitTrees
 pub mod Listing
 pub mod FirstTree
 pub mod RowWords
 pub mod ComponentRows
+pub mod TreeRows
 pub mod OpenRows
 pub mod HandleRows
 pub mod NameRows

@@ -8,14 +8,16 @@ ghost use Rattle.sftp_model.specs.declared.config.Choice.{Choice};
 ghost use Rattle.sftp_model.specs.declared.config.ServerConfig.{ServerConfig};
 ghost use Rattle.sftp_model.specs.declared.request.Request.{Request};
 ghost use Rattle.sftp_tree.specs.Changes.{Asks, IsWellFormed, Leaves, Opens};
-ghost use Rattle.sftp_tree.specs.Components.{Name};
+ghost use Rattle.sftp_tree.specs.Components.{Name, is_within};
 ghost use Rattle.sftp_tree.specs.FileTree.{FileTree, node_at, opened_at};
 ghost use Rattle.sftp_tree.specs.FirstTree.{FirstFile, first_tree, may_begin};
 ghost use Rattle.sftp_tree.specs.FitTrees.{GivesWithin, IsFit};
 ghost use Rattle.sftp_tree.specs.HandleRequests.{capped};
 ghost use Rattle.sftp_tree.specs.Refusals.{KeepsWhereRefused};
 ghost use Rattle.sftp_tree.specs.TreeAnswers.{apply};
+ghost use Rattle.sftp_tree.specs.Trees.{IsTree};
 ghost use Rattle.sftp_tree.specs.declared.node.Node.TheVariants as node;
+ghost use Rattle.sftp_tree.specs.declared.node.Node.{Node};
 
 /// The reply to any request but the hello may answer it, and a request that is refused changes nothing.
 pub fn replies_may_answer()
@@ -49,6 +51,13 @@ pub fn trees_stay_fit()
 pub fn first_trees_are_fit()
     ensures { (files : List FirstFile) (dirs : List (List ℕ)) → may_begin files dirs ≡ true
         → IsFit (first_tree files dirs) }
+{}
+
+/// In a tree, a name within which another one is there is a directory.
+pub fn prefixes_are_directories()
+    ensures { (tree : FileTree) (directory name : Name) (n : Node) → IsTree tree
+        → is_within directory name ≡ true → directory ≢ name → node_at tree name ≡ Some n
+        → node_at tree directory ≡ Some node.Directory }
 {}
 
 /// The reply fits a frame, and its body is within the bound, where the tree is within its bounds and the handle,
