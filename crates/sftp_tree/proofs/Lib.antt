@@ -13,5 +13,6 @@ pub mod OnceLaws
 pub mod TreeLaws
 pub mod FitLaws
 pub mod FirstFits
+pub mod FirstTrees
 pub mod ReplyLaws
 pub mod ReplyFits

@@ -53,6 +53,12 @@ pub fn first_trees_are_fit()
         → IsFit (first_tree files dirs) }
 {}
 
+/// A server that may begin so begins with a tree.
+pub fn first_trees_are_trees()
+    ensures { (files : List FirstFile) (dirs : List (List ℕ)) → may_begin files dirs ≡ true
+        → IsTree (first_tree files dirs) }
+{}
+
 /// In a tree, a name within which another one is there is a directory.
 pub fn prefixes_are_directories()
     ensures { (tree : FileTree) (directory name : Name) (n : Node) → IsTree tree

@@ -9,9 +9,9 @@ mod node;
 mod opened;
 
 pub use laws::{
-    answers_leave_changes, files_open_by_opens, first_trees_are_fit, handles_open_where_granted,
-    prefixes_are_directories, replies_fit_frames, replies_may_answer, replies_of_any_length,
-    trees_stay_fit, trees_stay_well_formed,
+    answers_leave_changes, files_open_by_opens, first_trees_are_fit, first_trees_are_trees,
+    handles_open_where_granted, prefixes_are_directories, replies_fit_frames, replies_may_answer,
+    replies_of_any_length, trees_stay_fit, trees_stay_well_formed,
 };
 pub use node::Node;
 pub use opened::{Held, Opened};
