@@ -8,7 +8,7 @@ use Rattle.sftp_tree.proofs.FirstFits.{Begins, begins, has_append}
 use Rattle.sftp_tree.proofs.NameLaws.{names_tell}
 use Rattle.sftp_tree.proofs.OnceLaws.{has_none}
 use Rattle.sftp_tree.proofs.PairLaws.{differs, found_has, found_push_here, found_push_old, found_push_other, has_push}
-use Rattle.sftp_tree.proofs.TreeLaws.{directory_is, has_all, node_found, pushed_tree}
+use Rattle.sftp_tree.proofs.TreeLaws.{directory_is, has_all, node_found, none_passes, pushed_tree}
 use Rattle.sftp_tree.proofs.WithinLaws.{parent_last, parent_push, parent_within, within_join, within_split}
 use Rattle.sftp_tree.specs.Components.{Name, components, is_within, last_of, parent_of, same_name}
 use Rattle.sftp_tree.specs.FileTree.{FileTree, found, is_directory, node_at}
@@ -147,11 +147,6 @@ map_has f (x ∷ xs) y (inr h) = let more = map_has f xs y h in (more.0, (inr mo
 has_later : {X : Type 0} (xs ys : List X) (x : X) → Has ys x → Has (xs ++ ys) x
 has_later [] ys x h = h
 has_later (y ∷ xs) ys x h = inr (has_later xs ys x h)
-
-none_passes : {X : Type 0} (test : X → Bool) (xs : List X) (x : X) → list_any test xs ≡ false → Has xs x → test x ≡ false
-none_passes test [] x e h = absurd h
-none_passes test (y ∷ xs) x e (inl same) = subst (λ w. test w ≡ false) same (or_parts (test y) (list_any test xs) e).0
-none_passes test (y ∷ xs) x e (inr h) = none_passes test xs x (or_parts (test y) (list_any test xs) e).1 h
 
 named_some : (name : Name) → may_be_named name ≡ true → name ≢ []
 named_some [] e is = absurd cc

@@ -11,6 +11,8 @@ pub mod AnswerLaws
 pub mod WithinLaws
 pub mod OnceLaws
 pub mod TreeLaws
+pub mod MoveLaws
+pub mod StayingLaws
 pub mod FitLaws
 pub mod FirstFits
 pub mod FirstTrees

@@ -1,8 +1,8 @@
 -- A tree stays one, whatever is requested, and what stands within another name stands within a directory.
 use Rattle.std.proofs.Common.{◌≡◌, ◌≢◌, ℕ, Bool, true, false, List, [], ◌∷◌, ◌++◌, Option, Some, None, refl, ap, sym, ◌∙◌, subst, inl, inr}
 use Rattle.std.specs.Prelude.{◌⊎◌}
-use Rattle.std.specs.List.{list_all}
-use Rattle.std.proofs.lemmas.Bool.{and_parts}
+use Rattle.std.specs.List.{list_all, list_any}
+use Rattle.std.proofs.lemmas.Bool.{and_parts, or_parts}
 use Rattle.std.proofs.lemmas.List.{append-nil, append_assoc}
 use Rattle.sftp_tree.proofs.NameLaws.{names_tell}
 use Rattle.sftp_tree.proofs.OnceLaws.{has_found, none_has, push_once, without_once}
@@ -25,6 +25,11 @@ pub has_all : {X : Type 0} (test : X → Bool) (xs : List X) (x : X) → list_al
 has_all test [] x e h = absurd h
 has_all test (y ∷ xs) x e (inl same) = subst (λ w. test w ≡ true) same (and_parts (test y) (list_all test xs) e).0
 has_all test (y ∷ xs) x e (inr h) = has_all test xs x (and_parts (test y) (list_all test xs) e).1 h
+
+pub none_passes : {X : Type 0} (test : X → Bool) (xs : List X) (x : X) → list_any test xs ≡ false → Has xs x → test x ≡ false
+none_passes test [] x e h = absurd h
+none_passes test (y ∷ xs) x e (inl same) = subst (λ w. test w ≡ false) same (or_parts (test y) (list_any test xs) e).0
+none_passes test (y ∷ xs) x e (inr h) = none_passes test xs x (or_parts (test y) (list_any test xs) e).1 h
 
 -- ---- what is there
 

@@ -53,6 +53,12 @@ pub fn first_trees_are_fit()
         → IsFit (first_tree files dirs) }
 {}
 
+/// Where each name stands once and beneath a directory, this stays so.
+pub fn trees_stay_trees()
+    ensures { (tree : FileTree) (config : ServerConfig) (r : Request) (choice : Choice)
+        (handle : List ℕ) → IsTree tree → IsTree (apply tree config r choice handle).1 }
+{}
+
 /// A server that may begin so begins with a tree.
 pub fn first_trees_are_trees()
     ensures { (files : List FirstFile) (dirs : List (List ℕ)) → may_begin files dirs ≡ true
