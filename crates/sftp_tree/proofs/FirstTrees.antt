@@ -199,16 +199,28 @@ no_front files dirs file to b has ne into within = elim (has_append (map compone
       ])
 ]
 
+-- what is passed on the way to each directory and to each file
+abbrev ways : List FirstFile → List (List ℕ) → List Name
+ways files dirs = map components dirs ++ map (λ file. parent_of (name_of file)) files
+
+first_ways : (bytes : List (List ℕ)) (files : List FirstFile) (dirs : List (List ℕ))
+    → AreDirectories bytes (ways files dirs) (first_directories files dirs) × Keeps bytes [] (first_directories files dirs) × ((dir : Name) → Has (ways files dirs) dir → is_directory (node_at (of bytes (first_directories files dirs)) dir) ≡ true)
+first_ways bytes files dirs =
+    let none : AreDirectories bytes (ways files dirs) [] = record { tree = record { once = tt; rootless = refl; parents = refl }; directories = λ name n has. absurd has; leading = λ name n has. absurd has } in
+    directories_more bytes (ways files dirs) [] (ways files dirs) none (λ dir has. has)
+
+pub first_are_directories : (files : List FirstFile) (dirs : List (List ℕ)) (name : Name) (n : Node) → Has (first_directories files dirs) (name, n) → n ≡ node.Directory
+first_are_directories files dirs = (first_ways [] files dirs).0.directories
+
 pub first_is_tree : (files : List FirstFile) (dirs : List (List ℕ)) → may_begin files dirs ≡ true → IsTree (first_tree files dirs)
 first_is_tree files dirs h =
     let b = begins files dirs h in
     let bytes : List (List ℕ) = map (λ file. file.1) files in
-    let into : List Name = map components dirs ++ map (λ file. parent_of (name_of file)) files in
-    let none : AreDirectories bytes into [] = record { tree = record { once = tt; rootless = refl; parents = refl }; directories = λ name n has. absurd has; leading = λ name n has. absurd has } in
-    let d = directories_more bytes into [] into none (λ dir has. has) in
+    let d = first_ways bytes files dirs in
     files_more bytes (first_directories files dirs) 0 files d.0.tree (λ file has.
-    let ne = named_some (name_of file) (has_all may_be_named (map name_of files) (name_of file) b.files_named (has_map name_of files file has)) in (
-      d.2 (parent_of (name_of file)) (has_later (map components dirs) (map (λ file. parent_of (name_of file)) files) (parent_of (name_of file)) (has_map (λ (file : FirstFile). parent_of (name_of file)) files file has)),
+    let ne = named_some (name_of file) (has_all may_be_named (map name_of files) (name_of file) b.files_named (has_map name_of files file has)) in
+    let up = has_later (map components dirs) (map (λ file. parent_of (name_of file)) files) (parent_of (name_of file)) (has_map (λ (file : FirstFile). parent_of (name_of file)) files file has) in (
+      d.2 (parent_of (name_of file)) up,
       has_none (first_directories files dirs) (name_of file) (λ n own. let to = d.0.leading (name_of file) n own in no_front files dirs file to.0 b has ne to.1.0 to.1.1),
       ne,
     )) b.apart

@@ -16,5 +16,6 @@ pub mod StayingLaws
 pub mod FitLaws
 pub mod FirstFits
 pub mod FirstTrees
+pub mod FirstFiles
 pub mod ReplyLaws
 pub mod ReplyFits

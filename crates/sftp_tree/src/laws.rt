@@ -65,6 +65,12 @@ pub fn first_trees_are_trees()
         → IsTree (first_tree files dirs) }
 {}
 
+/// A server that may begin so begins with a number of its own for each file, which one name has.
+pub fn first_trees_are_well_formed()
+    ensures { (files : List FirstFile) (dirs : List (List ℕ)) → may_begin files dirs ≡ true
+        → IsWellFormed (first_tree files dirs) }
+{}
+
 /// In a tree, a name within which another one is there is a directory.
 pub fn prefixes_are_directories()
     ensures { (tree : FileTree) (directory name : Name) (n : Node) → IsTree tree
