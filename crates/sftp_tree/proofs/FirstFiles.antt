@@ -1,7 +1,7 @@
 -- A tree that a server may begin with has each file under one name.
 use Rattle.std.proofs.Common.{◌≡◌, ℕ, ◌+◌, ◌<◌, ◌≤◌, true, false, List, [], ◌∷◌, ◌++◌, length, ap, sym, ◌∙◌, arith, inl, inr}
 use Rattle.std.proofs.lemmas.List.{length-map}
-use Rattle.sftp_tree.proofs.FirstFits.{has_append}
+use Rattle.sftp_tree.proofs.HasLaws.{has_append}
 use Rattle.sftp_tree.proofs.FirstTrees.{first_are_directories}
 use Rattle.sftp_tree.specs.Changes.{IsWellFormed}
 use Rattle.sftp_tree.specs.Components.{Name}

@@ -1,9 +1,10 @@
 -- A tree that a server may begin with is within its bounds.
 use Rattle.std.proofs.Common.{◌≡◌, ℕ, zero, suc, ◌+◌, ◌-◌, ◌==◌, ◌≤◌, Bool, true, false, List, [], ◌∷◌, ◌++◌, length, take, get_or, if◌then◌else◌, refl, ap, subst, arith, inl, inr}
-use Rattle.std.specs.Prelude.{◌⊎◌, nat_le, map, not}
+use Rattle.std.specs.Prelude.{nat_le, map, not}
 use Rattle.std.specs.List.{list_all}
 use Rattle.std.proofs.lemmas.Bool.{and_parts, leb-true}
 use Rattle.std.proofs.lemmas.List.Folds.{list_all-append}
+use Rattle.sftp_tree.proofs.HasLaws.{has_append}
 use Rattle.sftp_tree.proofs.PairLaws.{has_push}
 use Rattle.sftp_tree.specs.Components.{Name, components, parent_of}
 use Rattle.sftp_tree.specs.FirstTree.{FirstFile, differ, first_directories, first_tree, has_name, leave_room, may_be_named, may_begin, may_hold, may_hold_all, name_of, numbered, stand_apart, with_directories, with_directory, with_way}
@@ -96,11 +97,6 @@ parents_short [] h = refl
 parents_short (file ∷ files) h =
     let both = and_parts (may_be_named (name_of file)) _ h in
     rw (take_short (length (name_of file) - 1) (name_of file) (named_short (name_of file) both.0), parents_short files both.1) refl
-
-pub has_append : {X : Type 0} (xs ys : List X) (x : X) → Has (xs ++ ys) x → Has xs x ⊎ Has ys x
-has_append [] ys x h = inr h
-has_append (y ∷ xs) ys x (inl e) = inl (inl e)
-has_append (y ∷ xs) ys x (inr h) = elim (has_append xs ys x h) [ inl a ↦ inl (inr a) | inr b ↦ inr b ]
 
 -- ---- sizes
 

@@ -4,12 +4,13 @@ use Rattle.std.specs.Prelude.{◌⊎◌, map, not, ◌||◌}
 use Rattle.std.specs.List.{list_all, list_any}
 use Rattle.std.proofs.lemmas.Bool.{and_parts, not-true, or_parts}
 use Rattle.std.proofs.lemmas.List.{append-nil, append_assoc, length-append}
-use Rattle.sftp_tree.proofs.FirstFits.{Begins, begins, has_append}
+use Rattle.sftp_tree.proofs.FirstFits.{Begins, begins}
+use Rattle.sftp_tree.proofs.HasLaws.{has_all, has_append, has_later, has_map, map_has, none_passes}
 use Rattle.sftp_tree.proofs.NameLaws.{names_tell}
 use Rattle.sftp_tree.proofs.OnceLaws.{has_none}
 use Rattle.sftp_tree.proofs.PairLaws.{differs, found_has, found_push_here, found_push_old, found_push_other, has_push}
-use Rattle.sftp_tree.proofs.TreeLaws.{directory_is, has_all, node_found, none_passes, pushed_tree}
-use Rattle.sftp_tree.proofs.WithinLaws.{parent_last, parent_push, parent_within, within_join, within_split}
+use Rattle.sftp_tree.proofs.TreeLaws.{directory_is, node_found, pushed_tree}
+use Rattle.sftp_tree.proofs.WithinLaws.{cons_not_nil, parent_last, parent_push, parent_within, within_join, within_split}
 use Rattle.sftp_tree.specs.Components.{Name, components, is_within, last_of, parent_of, same_name}
 use Rattle.sftp_tree.specs.FileTree.{FileTree, found, is_directory, node_at}
 use Rattle.sftp_tree.specs.FirstTree.{FirstFile, are_apart, first_directories, first_tree, has_name, may_be_named, may_begin, name_of, numbered, stand_apart, with_directories, with_directory, with_way}
@@ -134,23 +135,9 @@ two_apart (name ∷ names) a b e (inr h) (inr k) = two_apart names a b (and_part
 
 -- ---- files
 
-pub has_map : {X Y : Type 0} (f : X → Y) (xs : List X) (x : X) → Has xs x → Has (map f xs) (f x)
-has_map f [] x h = absurd h
-has_map f (y ∷ xs) x (inl e) = inl (ap f e)
-has_map f (y ∷ xs) x (inr h) = inr (has_map f xs x h)
-
-map_has : {X Y : Type 0} (f : X → Y) (xs : List X) (y : Y) → Has (map f xs) y → (x : X) × (Has xs x × (f x ≡ y))
-map_has f [] y h = absurd h
-map_has f (x ∷ xs) y (inl e) = (x, (inl refl, e))
-map_has f (x ∷ xs) y (inr h) = let more = map_has f xs y h in (more.0, (inr more.1.0, more.1.1))
-
-has_later : {X : Type 0} (xs ys : List X) (x : X) → Has ys x → Has (xs ++ ys) x
-has_later [] ys x h = h
-has_later (y ∷ xs) ys x h = inr (has_later xs ys x h)
-
 named_some : (name : Name) → may_be_named name ≡ true → name ≢ []
 named_some [] e is = absurd cc
-named_some (part ∷ parts) e is = let l : length (part ∷ parts) ≡ 0 = ap length is in absurd (omega (arith, l))
+named_some (part ∷ parts) e is = cons_not_nil part parts is
 
 -- no name is a front of its parent
 above_parent : (name : Name) → name ≢ [] → is_within name (parent_of name) ≡ true → ⊥

@@ -1,3 +1,4 @@
+pub mod HasLaws
 pub mod PairLaws
 pub mod NameLaws
 pub mod PutLaws
@@ -14,6 +15,7 @@ pub mod TreeLaws
 pub mod MoveLaws
 pub mod StayingLaws
 pub mod FitLaws
+pub mod ListingLaws
 pub mod FirstFits
 pub mod FirstTrees
 pub mod FirstFiles

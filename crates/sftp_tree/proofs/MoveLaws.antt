@@ -1,11 +1,11 @@
 -- A tree stays one where a name moves with all that is within it.
-use Rattle.std.proofs.Common.{◌≡◌, ◌≢◌, ℕ, true, false, List, [], ◌∷◌, ◌++◌, length, Some, None, refl, ap, sym, ◌∙◌, subst, inl, inr}
-use Rattle.std.specs.Prelude.{map}
+use Rattle.std.proofs.Common.{◌≡◌, ◌≢◌, true, false, [], ◌∷◌, ◌++◌, Some, None, refl, ap, sym, ◌∙◌, subst, inl, inr}
 use Rattle.std.proofs.lemmas.List.{append-nil, append_cancel_left}
+use Rattle.sftp_tree.proofs.HasLaws.{all_has, has_all, has_map}
 use Rattle.sftp_tree.proofs.OnceLaws.{has_found, has_none, map_once}
 use Rattle.sftp_tree.proofs.PairLaws.{has_moved}
-use Rattle.sftp_tree.proofs.TreeLaws.{absent_not_root, all_has, directory_is, has_all, named_node, named_not_root, node_found, node_named, within_absent}
-use Rattle.sftp_tree.proofs.WithinLaws.{Lies, lies, moved_outside, moved_within, parent_below, parent_outside}
+use Rattle.sftp_tree.proofs.TreeLaws.{absent_not_root, directory_is, named_node, named_not_root, node_found, node_named, within_absent}
+use Rattle.sftp_tree.proofs.WithinLaws.{Lies, cons_not_nil, lies, moved_outside, moved_within, parent_below, parent_outside}
 use Rattle.sftp_tree.specs.Components.{Name, is_within, moved_name, parent_of}
 use Rattle.sftp_tree.specs.FileTree.{FileTree, is_directory, node_at, with_renamed}
 use Rattle.sftp_tree.specs.Pairs.{Has}
@@ -26,7 +26,7 @@ old_not_root old to e is = let all : is_within [] to ≡ false = subst (λ (w : 
 
 append_not_nil : (to rest : Name) → to ≢ [] → to ++ rest ≢ []
 append_not_nil [] rest ne is = ne refl
-append_not_nil (part ∷ parts) rest ne is = absurd (let k : length (part ∷ parts ++ rest) ≡ 0 = ap length is in cc)
+append_not_nil (part ∷ parts) rest ne is = cons_not_nil part (parts ++ rest) is
 
 -- no name but one becomes the root
 moved_not_root : (tree : FileTree) (old to name : Name) → MayMoveTo tree old to → name ≢ [] → moved_name old to name ≢ []
@@ -57,16 +57,11 @@ moved_same tree old to m a b v w x y e = by_lies (lies old a) (lies old b)
 moved_once : (tree : FileTree) (old to : Name) → MayMoveTo tree old to → StandOnce (with_renamed tree old to).names
 moved_once tree old to m = map_once (moved_name old to) tree.names (moved_same tree old to m) m.is.once
 
-has_under : (f : Name → Name) (names : List (Name × Node)) (name : Name) (n : Node) → Has names (name, n) → Has {X = Name × Node} (map (λ pair. (f pair.0, pair.1)) names) (f name, n)
-has_under f [] name n h = absurd h
-has_under f (p ∷ names) name n (inl e) = inl (ap (λ (w : Name × Node). let q : Name × Node = (f w.0, w.1) in q) e)
-has_under f (p ∷ names) name n (inr h) = inr (has_under f names name n h)
-
 -- what a name has is found by its new name
 moved_node : (tree : FileTree) (old to name : Name) (n : Node) → MayMoveTo tree old to → name ≢ [] → node_at tree name ≡ Some n → node_at (with_renamed tree old to) (moved_name old to name) ≡ Some n
 moved_node tree old to name n m ne e =
     node_found (with_renamed tree old to) (moved_name old to name) (moved_not_root tree old to name m ne)
-    ∙ has_found (with_renamed tree old to).names (moved_name old to name) n (moved_once tree old to m) (has_under (moved_name old to) tree.names name n (node_named tree name n ne e))
+    ∙ has_found (with_renamed tree old to).names (moved_name old to name) n (moved_once tree old to m) (has_map (λ (pair : Name × Node). let moved : Name × Node = (moved_name old to pair.0, pair.1) in moved) tree.names (name, n) (node_named tree name n ne e))
 
 -- a directory is one by its new name, also the root
 moved_directory : (tree : FileTree) (old to name : Name) → MayMoveTo tree old to → is_directory (node_at tree name) ≡ true → is_directory (node_at (with_renamed tree old to) (moved_name old to name)) ≡ true
@@ -76,10 +71,7 @@ moved_directory tree old to [] m h = by_lie (lies old [])
     by_lie (inl (rest, e)) = absurd (append_not_nil old rest (old_not_root old to m.outside) (sym e))
     by_lie (inr out) = subst (λ (w : Name). is_directory (node_at (with_renamed tree old to) w) ≡ true) (sym (moved_outside old to [] out)) refl
 moved_directory tree old to (part ∷ parts) m h =
-    ap is_directory (moved_node tree old to (part ∷ parts) node.Directory m (absurd_root part parts) (directory_is (node_at tree (part ∷ parts)) h))
-  where
-    absurd_root : (part : List ℕ) (parts : Name) → part ∷ parts ≢ []
-    absurd_root part parts is = absurd (let k : length (part ∷ parts) ≡ 0 = ap length is in cc)
+    ap is_directory (moved_node tree old to (part ∷ parts) node.Directory m (cons_not_nil part parts) (directory_is (node_at tree (part ∷ parts)) h))
 
 -- the parent of a moved name is a moved name of a directory
 moved_parent : (tree : FileTree) (old to name : Name) → MayMoveTo tree old to → name ≢ [] → is_directory (node_at tree (parent_of name)) ≡ true

@@ -9,9 +9,10 @@ use Rattle.sftp_model.specs.declared.request.Request.{Request}
 use Rattle.sftp_tree.proofs.ChangeLaws.{apply_leaves}
 use Rattle.sftp_tree.proofs.MoveLaws.{moved_tree}
 use Rattle.sftp_tree.proofs.NameLaws.{names_tell}
+use Rattle.sftp_tree.proofs.HasLaws.{has_all, none_passes}
 use Rattle.sftp_tree.proofs.OnceLaws.{without_none}
 use Rattle.sftp_tree.proofs.PairLaws.{found_without_other}
-use Rattle.sftp_tree.proofs.TreeLaws.{has_all, named_not_root, node_found, none_passes, pushed_tree, removed_tree, tree_parent}
+use Rattle.sftp_tree.proofs.TreeLaws.{named_not_root, node_found, pushed_tree, removed_tree, tree_parent}
 use Rattle.sftp_tree.proofs.WithinLaws.{parent_last, within_join}
 use Rattle.sftp_tree.specs.Changes.{Change, ClosedDirectory, ClosedFile, Created, Granted, Listed, MadeDirectory, RemovedDirectory, RemovedFile, Renamed, Replaced, Rewritten, Truncated, Unchanged, WasChecked, changed}
 use Rattle.sftp_tree.specs.Components.{Name, is_child, is_within, last_of, parent_of, same_name}

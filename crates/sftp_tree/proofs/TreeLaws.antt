@@ -1,9 +1,8 @@
 -- A tree stays one, whatever is requested, and what stands within another name stands within a directory.
-use Rattle.std.proofs.Common.{◌≡◌, ◌≢◌, ℕ, Bool, true, false, List, [], ◌∷◌, ◌++◌, Option, Some, None, refl, ap, sym, ◌∙◌, subst, inl, inr}
+use Rattle.std.proofs.Common.{◌≡◌, ◌≢◌, ℕ, true, false, List, [], ◌∷◌, ◌++◌, Option, Some, None, refl, ap, sym, ◌∙◌, subst, inl, inr}
 use Rattle.std.specs.Prelude.{◌⊎◌}
-use Rattle.std.specs.List.{list_all, list_any}
-use Rattle.std.proofs.lemmas.Bool.{and_parts, or_parts}
 use Rattle.std.proofs.lemmas.List.{append-nil, append_assoc}
+use Rattle.sftp_tree.proofs.HasLaws.{all_has, has_all}
 use Rattle.sftp_tree.proofs.NameLaws.{names_tell}
 use Rattle.sftp_tree.proofs.OnceLaws.{has_found, none_has, push_once, without_once}
 use Rattle.sftp_tree.proofs.PairLaws.{differs, found_has, found_push_old, found_push_other, found_without_other, has_push, has_without}
@@ -14,22 +13,6 @@ use Rattle.sftp_tree.specs.Pairs.{Has}
 use Rattle.sftp_tree.specs.Trees.{IsTree, has_parent}
 use Rattle.sftp_tree.specs.declared.node.Node.{Node}
 use Rattle.sftp_tree.specs.declared.node.Node.TheVariants as node
-
--- ---- tests of all that a list has
-
-pub all_has : {X : Type 0} (test : X → Bool) (xs : List X) → ((x : X) → Has xs x → test x ≡ true) → list_all test xs ≡ true
-all_has test [] h = refl
-all_has test (x ∷ xs) h = rw (h x (inl refl), all_has test xs (λ y has. h y (inr has))) refl
-
-pub has_all : {X : Type 0} (test : X → Bool) (xs : List X) (x : X) → list_all test xs ≡ true → Has xs x → test x ≡ true
-has_all test [] x e h = absurd h
-has_all test (y ∷ xs) x e (inl same) = subst (λ w. test w ≡ true) same (and_parts (test y) (list_all test xs) e).0
-has_all test (y ∷ xs) x e (inr h) = has_all test xs x (and_parts (test y) (list_all test xs) e).1 h
-
-pub none_passes : {X : Type 0} (test : X → Bool) (xs : List X) (x : X) → list_any test xs ≡ false → Has xs x → test x ≡ false
-none_passes test [] x e h = absurd h
-none_passes test (y ∷ xs) x e (inl same) = subst (λ w. test w ≡ false) same (or_parts (test y) (list_any test xs) e).0
-none_passes test (y ∷ xs) x e (inr h) = none_passes test xs x (or_parts (test y) (list_any test xs) e).1 h
 
 -- ---- what is there
 

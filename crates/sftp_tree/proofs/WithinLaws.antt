@@ -6,6 +6,9 @@ use Rattle.std.proofs.lemmas.List.{append_assoc, length-append, take_more}
 use Rattle.std.proofs.lemmas.Slice.Eq.{bytes_eq-Decides, starts_is}
 use Rattle.sftp_tree.specs.Components.{Name, is_within, last_of, moved_name, parent_of}
 
+pub cons_not_nil : (part : List ℕ) (parts : Name) → part ∷ parts ≢ []
+cons_not_nil part parts is = let l : length (part ∷ parts) ≡ 0 = ap length is in absurd (omega (arith, l))
+
 -- ---- within
 
 pub within_split : (old name : Name) → is_within old name ≡ true → name ≡ old ++ drop (length old) name

@@ -1,8 +1,10 @@
 -- Worked examples of what is a tree, and beside it what nearly is one.
-use Rattle.std.specs.Prelude.{◌≡◌, true, false, List, [], ◌∷◌, codes, Some, None, refl}
+use Rattle.std.specs.Prelude.{ℕ, ◌≡◌, true, false, List, [], ◌∷◌, codes, Some, None, refl}
+use Rattle.sftp_model.specs.declared.reply.NameEntry.{NameEntry}
+use Rattle.sftp_model.specs.Frames.{no_attributes}
 use Rattle.sftp_tree.specs.Components.{Name}
 use Rattle.sftp_tree.specs.FileTree.{FileTree}
-use Rattle.sftp_tree.specs.Trees.{IsTree}
+use Rattle.sftp_tree.specs.Trees.{IsTree, ListOnce}
 use Rattle.sftp_tree.specs.declared.node.Node.{Node}
 use Rattle.sftp_tree.specs.declared.node.Node.TheVariants as node
 
@@ -37,3 +39,14 @@ orphan_is_no_tree tree = absurd (let both : false ≡ true = tree.parents in cc)
 
 pub in_a_file_is_no_tree : IsTree (named ((a, node.File 0) ∷ (ab, node.Directory) ∷ [])) → ⊥
 in_a_file_is_no_tree tree = absurd (let both : false ≡ true = tree.parents in cc)
+
+-- ---- listings
+
+abbrev entry : List ℕ → NameEntry
+entry filename = record { filename = filename; longname = []; attrs = no_attributes }
+
+pub two_filenames : ListOnce (entry (codes "a") ∷ entry (codes "ab") ∷ [])
+two_filenames = (refl, (refl, tt))
+
+pub filename_twice : ListOnce (entry (codes "a") ∷ entry (codes "b") ∷ entry (codes "a") ∷ []) → ⊥
+filename_twice once = absurd (let both : true ≡ false = once.0 in cc)

@@ -1,6 +1,8 @@
 -- Trees in which each name stands once, and beneath a directory.
-use Rattle.std.specs.Prelude.{◌≡◌, Bool, true, List, [], ◌∷◌, None}
-use Rattle.std.specs.List.{list_all}
+use Rattle.std.specs.Prelude.{◌≡◌, ℕ, Bool, true, false, List, [], ◌∷◌, None}
+use Rattle.std.specs.List.{list_all, list_any}
+use Rattle.std.specs.Str.{bytes_eq}
+use Rattle.sftp_model.specs.declared.reply.NameEntry.{NameEntry}
 use Rattle.sftp_tree.specs.Components.{Name, parent_of, same_name}
 use Rattle.sftp_tree.specs.FileTree.{FileTree, found, is_directory, node_at}
 use Rattle.sftp_tree.specs.declared.node.Node.{Node}
@@ -19,3 +21,14 @@ pub record IsTree (tree : FileTree) : Type 0 where
   pub once : StandOnce tree.names
   pub rootless : found same_name tree.names [] ≡ None
   pub parents : list_all (has_parent tree) tree.names ≡ true
+
+-- ---- listings
+
+-- an entry has the filename
+abbrev pub has_filename : List NameEntry → List ℕ → Bool
+has_filename entries filename = list_any (λ e. bytes_eq e.filename filename) entries
+
+-- each filename stands once: after an entry there is none with its filename
+abbrev pub ListOnce : List NameEntry → Type 0
+ListOnce [] = Unit {0}
+ListOnce (e ∷ entries) = (has_filename entries e.filename ≡ false) × ListOnce entries

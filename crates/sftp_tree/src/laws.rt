@@ -13,9 +13,10 @@ ghost use Rattle.sftp_tree.specs.FileTree.{FileTree, node_at, opened_at};
 ghost use Rattle.sftp_tree.specs.FirstTree.{FirstFile, first_tree, may_begin};
 ghost use Rattle.sftp_tree.specs.FitTrees.{GivesWithin, IsFit};
 ghost use Rattle.sftp_tree.specs.HandleRequests.{capped};
+ghost use Rattle.sftp_tree.specs.NameRequests.{entries_at};
 ghost use Rattle.sftp_tree.specs.Refusals.{KeepsWhereRefused};
 ghost use Rattle.sftp_tree.specs.TreeAnswers.{apply};
-ghost use Rattle.sftp_tree.specs.Trees.{IsTree};
+ghost use Rattle.sftp_tree.specs.Trees.{IsTree, ListOnce};
 ghost use Rattle.sftp_tree.specs.declared.node.Node.TheVariants as node;
 ghost use Rattle.sftp_tree.specs.declared.node.Node.{Node};
 
@@ -76,6 +77,11 @@ pub fn prefixes_are_directories()
     ensures { (tree : FileTree) (directory name : Name) (n : Node) → IsTree tree
         → is_within directory name ≡ true → directory ≢ name → node_at tree name ≡ Some n
         → node_at tree directory ≡ Some node.Directory }
+{}
+
+/// In a tree, the entries of a directory have each filename once.
+pub fn listings_name_each_once()
+    ensures { (tree : FileTree) (name : Name) → IsTree tree → ListOnce (entries_at tree name) }
 {}
 
 /// The reply fits a frame, and its body is within the bound, where the tree is within its bounds and the handle,

@@ -10,9 +10,9 @@ mod opened;
 
 pub use laws::{
     answers_leave_changes, files_open_by_opens, first_trees_are_fit, first_trees_are_trees,
-    first_trees_are_well_formed, handles_open_where_granted, prefixes_are_directories,
-    replies_fit_frames, replies_may_answer, replies_of_any_length, trees_stay_fit,
-    trees_stay_trees, trees_stay_well_formed,
+    first_trees_are_well_formed, handles_open_where_granted, listings_name_each_once,
+    prefixes_are_directories, replies_fit_frames, replies_may_answer, replies_of_any_length,
+    trees_stay_fit, trees_stay_trees, trees_stay_well_formed,
 };
 pub use node::Node;
 pub use opened::{Held, Opened};
