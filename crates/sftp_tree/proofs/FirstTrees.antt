@@ -25,7 +25,7 @@ of files names = record { names = names; files = files; handles = [] }
 
 -- ---- directories
 
--- Names of directories that make a tree, each within one of these names or its front.
+-- Directories that make a tree, each by a prefix of one of these names.
 record AreDirectories (files : List (List ℕ)) (into : List Name) (names : List (Name × Node)) : Type 0 where
   tree : IsTree (of files names)
   directories : (name : Name) (n : Node) → Has names (name, n) → n ≡ node.Directory
@@ -43,7 +43,7 @@ some_named (p ∷ names) name e = by_test (same_name p.0 name) e (some_named nam
     by_test true x more = (p.1, refl)
     by_test false x more = more x
 
--- a directory that was there is there behind the change
+-- a directory that was there is still there
 abbrev Keeps : List (List ℕ) → List (Name × Node) → List (Name × Node) → Type 0
 Keeps files before after = (name : Name) → is_directory (node_at (of files before) name) ≡ true → is_directory (node_at (of files after) name) ≡ true
 
@@ -139,7 +139,7 @@ named_some : (name : Name) → may_be_named name ≡ true → name ≢ []
 named_some [] e is = absurd cc
 named_some (part ∷ parts) e is = cons_not_nil part parts is
 
--- no name is a front of its parent
+-- no name is a prefix of its parent's
 above_parent : (name : Name) → name ≢ [] → is_within name (parent_of name) ≡ true → ⊥
 above_parent name ne e =
     let whole : length (parent_of name) ≡ length name + length (drop (length name) (parent_of name)) =
@@ -169,9 +169,9 @@ files_more bytes names n (file ∷ files) t h apart =
     )) both.1)
 
 -- a file has the name of no directory and of no parent
-no_front : (files : List FirstFile) (dirs : List (List ℕ)) (file : FirstFile) (to : Name) → Begins files dirs → Has files file → name_of file ≢ []
+no_prefix : (files : List FirstFile) (dirs : List (List ℕ)) (file : FirstFile) (to : Name) → Begins files dirs → Has files file → name_of file ≢ []
     → Has (map components dirs ++ map (λ file. parent_of (name_of file)) files) to → is_within (name_of file) to ≡ true → ⊥
-no_front files dirs file to b has ne into within = elim (has_append (map components dirs) (map (λ file. parent_of (name_of file)) files) to into) [
+no_prefix files dirs file to b has ne into within = elim (has_append (map components dirs) (map (λ file. parent_of (name_of file)) files) to into) [
   | inl dir ↦ (
       let room = has_all (λ name. not (list_any (is_within name) (map components dirs))) (map name_of files) (name_of file) b.room (has_map name_of files file has) in
       let outside = none_passes (is_within (name_of file)) (map components dirs) to (not-true (list_any (is_within (name_of file)) (map components dirs)) room) dir in
@@ -208,6 +208,6 @@ first_is_tree files dirs h =
     let ne = named_some (name_of file) (has_all may_be_named (map name_of files) (name_of file) b.files_named (has_map name_of files file has)) in
     let up = has_later (map components dirs) (map (λ file. parent_of (name_of file)) files) (parent_of (name_of file)) (has_map (λ (file : FirstFile). parent_of (name_of file)) files file has) in (
       d.2 (parent_of (name_of file)) up,
-      has_none (first_directories files dirs) (name_of file) (λ n own. let to = d.0.leading (name_of file) n own in no_front files dirs file to.0 b has ne to.1.0 to.1.1),
+      has_none (first_directories files dirs) (name_of file) (λ n own. let to = d.0.leading (name_of file) n own in no_prefix files dirs file to.0 b has ne to.1.0 to.1.1),
       ne,
     )) b.apart

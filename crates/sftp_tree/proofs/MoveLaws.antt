@@ -13,7 +13,7 @@ use Rattle.sftp_tree.specs.Trees.{IsTree, StandOnce, has_parent}
 use Rattle.sftp_tree.specs.declared.node.Node.{Node}
 use Rattle.sftp_tree.specs.declared.node.Node.TheVariants as node
 
--- what is looked at before a name moves
+-- a tree in which a name may move
 pub record MayMoveTo (tree : FileTree) (old to : Name) : Type 0 where
   pub is : IsTree tree
   pub none : node_at tree to ≡ None
@@ -28,7 +28,7 @@ append_not_nil : (to rest : Name) → to ≢ [] → to ++ rest ≢ []
 append_not_nil [] rest ne is = ne refl
 append_not_nil (part ∷ parts) rest ne is = cons_not_nil part (parts ++ rest) is
 
--- no name but one becomes the root
+-- no name becomes the root's
 moved_not_root : (tree : FileTree) (old to name : Name) → MayMoveTo tree old to → name ≢ [] → moved_name old to name ≢ []
 moved_not_root tree old to name m ne = by_lie (lies old name)
   where

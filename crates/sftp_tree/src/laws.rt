@@ -48,7 +48,7 @@ pub fn trees_stay_fit()
         (handle : List ℕ) → IsFit tree → IsFit (apply tree config r choice handle).1 }
 {}
 
-/// The tree of a server that may begin so has its files and names within their bounds.
+/// What a server may begin with is within its bounds: no file and no name's last component is too long.
 pub fn first_trees_are_fit()
     ensures { (files : List FirstFile) (dirs : List (List ℕ)) → may_begin files dirs ≡ true
         → IsFit (first_tree files dirs) }
@@ -60,19 +60,19 @@ pub fn trees_stay_trees()
         (handle : List ℕ) → IsTree tree → IsTree (apply tree config r choice handle).1 }
 {}
 
-/// A server that may begin so begins with a tree.
+/// What a server may begin with is a tree: each name stands once, and beneath a directory.
 pub fn first_trees_are_trees()
     ensures { (files : List FirstFile) (dirs : List (List ℕ)) → may_begin files dirs ≡ true
         → IsTree (first_tree files dirs) }
 {}
 
-/// A server that may begin so begins with a number of its own for each file, which one name has.
+/// In what a server may begin with, each file has a number, which one name has at most.
 pub fn first_trees_are_well_formed()
     ensures { (files : List FirstFile) (dirs : List (List ℕ)) → may_begin files dirs ≡ true
         → IsWellFormed (first_tree files dirs) }
 {}
 
-/// In a tree, a name within which another one is there is a directory.
+/// In a tree, each name within which another one stands is a directory's.
 pub fn prefixes_are_directories()
     ensures { (tree : FileTree) (directory name : Name) (n : Node) → IsTree tree
         → is_within directory name ≡ true → directory ≢ name → node_at tree name ≡ Some n
