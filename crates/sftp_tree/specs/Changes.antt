@@ -154,7 +154,7 @@ MayGo tree name = (node_at tree name ≡ Some node.Directory) × (name ≢ []) �
 abbrev pub MayMove : FileTree → Name → Name → Type 0
 MayMove tree old to = (n : Node) × (node_at tree old ≡ Some n) × (is_within old to ≡ false)
 
--- a file takes the place of a file, whose name isn't within its own, nor its own within that one
+-- a file takes the place of another file, and neither name is within the other
 abbrev pub MayReplace : FileTree → Name → Name → ℕ → Type 0
 MayReplace tree old to gone = (file : ℕ) × (node_at tree old ≡ Some (node.File file)) × (node_at tree to ≡ Some (node.File gone)) × (is_within old to ≡ false) × (is_within to old ≡ false)
 
