@@ -8,6 +8,7 @@ use Rattle.sftp_history.specs.declared.script.Script.{Script}
 use Rattle.sftp_history.specs.declared.turn.Turn.TheVariants as turn
 use Rattle.sftp_history.specs.Lines.{lines_of, words_of, number_of, hex_pairs, flags_in}
 use Rattle.sftp_history.specs.Scripts.{script_of, empty_script}
+use Rattle.sftp_tree.specs.Components.{components}
 use Rattle.sftp_history.specs.RowWords.{to_read}
 
 -- lines joined, each ended by a line feed
