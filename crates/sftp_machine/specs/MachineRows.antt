@@ -1,5 +1,5 @@
 -- Worked examples of what a server in memory leaves and lists, and beside each what nearly is one.
-use Rattle.std.specs.Prelude.{ℕ, ◌≡◌, true, false, List, [], ◌∷◌, codes, Some, None, refl, replicate}
+use Rattle.std.specs.Prelude.{ℕ, ◌≡◌, List, [], ◌∷◌, codes, Some, None, refl}
 use Rattle.sftp_model.specs.declared.request.Request.TheVariants as request
 use Rattle.sftp_model.specs.declared.reply.Reply.TheVariants as reply
 use Rattle.sftp_model.specs.Numbers.{SSH_FX_FAILURE}
@@ -9,7 +9,8 @@ use Rattle.sftp_tree.specs.Components.{components}
 use Rattle.sftp_tree.specs.FileTree.{FileTree}
 use Rattle.sftp_tree.specs.RowWords.{config, choice}
 use Rattle.sftp_tree.specs.declared.node.Node.TheVariants as node
-use Rattle.sftp_tree.specs.FirstTree.{first_tree, may_begin}
+use Rattle.sftp_tree.specs.FirstTree.{first_tree}
+use Rattle.sftp_machine.specs.Listing.{AreInOrder}
 use Rattle.sftp_machine.specs.MachineState.{MachineState, answer, numbered_handle}
 use Rattle.sftp_machine.specs.WaitingFrames.{WaitingFrames, turned}
 
@@ -38,14 +39,20 @@ pub refuses_as_ever : (answer (after_grants 4294967296) (request.Rmdir (codes "a
 unfolding components
 refuses_as_ever = refl
 
--- ---- the first tree, and what it lists
+-- ---- what the first tree lists
 
+-- the directory `b` is there since a file stands in it
 abbrev example : FileTree
-example = first_tree ((codes "b/c", codes "x") ∷ (codes "/a", codes "yz") ∷ []) (codes "b" ∷ codes "a.d" ∷ [])
+example = first_tree ((codes "b/c", codes "x") ∷ (codes "/a", codes "yz") ∷ []) (codes "a.d" ∷ [])
 
-pub numbers_files : example.names ≡ (codes "b" ∷ [], node.Directory) ∷ (codes "a.d" ∷ [], node.Directory) ∷ (codes "b" ∷ codes "c" ∷ [], node.File 0) ∷ (codes "a" ∷ [], node.File 1) ∷ []
+pub has_a_parent : example.names ≡ (codes "a.d" ∷ [], node.Directory) ∷ (codes "b" ∷ [], node.Directory) ∷ (codes "b" ∷ codes "c" ∷ [], node.File 0) ∷ (codes "a" ∷ [], node.File 1) ∷ []
 unfolding components
-numbers_files = refl
+has_a_parent = refl
+
+-- `a`, `a.d`, `b`, `b/c`
+pub places_in_order : AreInOrder example.names (3 ∷ 0 ∷ 1 ∷ 2 ∷ [])
+unfolding components
+places_in_order = refl
 
 pub lists_first_file : file_at example 0 ≡ Some (codes "a", codes "yz")
 unfolding components
@@ -63,17 +70,13 @@ pub lists_first_directory : dir_at example 0 ≡ Some (codes "a.d")
 unfolding components
 lists_first_directory = refl
 
+pub lists_the_parent : dir_at example 1 ≡ Some (codes "b")
+unfolding components
+lists_the_parent = refl
+
 pub lists_no_third_directory : dir_at example 2 ≡ None
 unfolding components
 lists_no_third_directory = refl
-
-pub begins : may_begin ((codes "b/c", codes "x") ∷ []) (codes "b" ∷ []) ≡ true
-unfolding components
-begins = refl
-
-pub begins_with_long_name : may_begin [] (replicate 256 97 ∷ []) ≡ false
-unfolding components
-begins_with_long_name = refl
 
 -- ---- frames that wait
 

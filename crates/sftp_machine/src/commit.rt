@@ -276,7 +276,7 @@ fn moved(
 }
 
 /// Adds copies of components.
-fn add_copies(
+pub(crate) fn add_copies(
     alloc: Global,
     parts: &mut Vec<ByteText>,
     more: &[ByteText],

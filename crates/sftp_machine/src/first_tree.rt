@@ -1,22 +1,22 @@
 // The tree that a server begins with.
-ghost use Rattle.std.specs.Prelude.{◌≡◌, ◌++◌, ◌<◌, ◌^◌, [], length, map, IfOk, OnOk};
-ghost use Rattle.std.specs.List.{list_all};
-ghost use Rattle.sftp_tree.specs.Components.{components as components_by};
-ghost use Rattle.sftp_tree.specs.FirstTree.{first_tree, directories, numbered, is_short_path as is_short_by, may_hold as may_hold_by, may_begin as may_begin_by};
+ghost use Rattle.std.specs.Prelude.{◌≡◌, ◌++◌, [], map, take, IfOk, OnOk};
+ghost use Rattle.std.specs.List.{list_any};
+ghost use Rattle.sftp_tree.specs.Components.{components as components_by, parent_of, same_name};
+ghost use Rattle.sftp_tree.specs.FirstTree.{first_tree, has_name as has_name_by, name_of as name_by, numbered, with_directories, with_directory, with_way};
 
+use crate::commit::add_copies;
 use crate::file_bytes::FileBytes;
-use crate::lookups::is_long;
 use crate::store::Store;
 use crate::tree_name::{TreeName, walk};
 use sftp_model::ServerConfig;
 use sftp_tree::Node;
-use sftp_tree::limits::MAX_FILE_LEN;
-use sftp_values::ByteText;
+use sftp_values::{ByteText, Items};
 use ssh_encoding::OutOfMemory;
 use std::alloc::Global;
 
 impl Store {
-    /// These files, each a path and its bytes, and these directories, each a path. Refused only for want of memory.
+    /// These files, each a path and its bytes, these directories, each a path, and the parents of all. Refused only for
+    /// want of memory.
     pub(crate) fn new(
         alloc: Global,
         files: &[(ByteText, ByteText)],
@@ -25,8 +25,10 @@ impl Store {
     ) -> Result<Store, OutOfMemory>
         ensures { IfOk result (λ m. m ≡ record { tree = first_tree files.now dirs.now; config = config; grants = 0 }) }
     {
+        let mut wanted = names_of(alloc, dirs)?;
+        add_parents(alloc, &mut wanted, files)?;
         let mut names = Vec::new(alloc);
-        add_directories(alloc, &mut names, dirs)?;
+        add_directories(alloc, &mut names, &wanted)?;
         add_files(alloc, &mut names, files)?;
         Ok(Store {
             alloc,
@@ -39,96 +41,98 @@ impl Store {
     }
 }
 
-/// Whether a server may begin with these files, each a path and its bytes, and these directories, each a path: each file
-/// has at most `MAX_FILE_LEN` bytes, and the last component of each name at most `MAX_COMPONENT_LEN`. Refused only for
-/// want of memory.
-pub fn may_begin(
+/// The names that paths denote.
+pub(crate) fn names_of(
     alloc: Global,
+    paths: &[ByteText],
+) -> Result<Vec<Items<ByteText>>, OutOfMemory>
+    ensures { IfOk result (λ names. names.items ≡ map components_by paths.now) }
+{
+    let mut names = Vec::with_capacity(alloc, paths.len())?;
+    for path in paths {
+        names.push(Items::new(walk(alloc, path.as_slice())?))?;
+    }
+    Ok(names)
+}
+
+/// Adds the directories right above files.
+fn add_parents(
+    alloc: Global,
+    names: &mut Vec<Items<ByteText>>,
     files: &[(ByteText, ByteText)],
-    dirs: &[ByteText],
-) -> Result<bool, OutOfMemory>
-    ensures { IfOk result (λ b. b ≡ may_begin_by files.now dirs.now) }
+) -> Result<(), OutOfMemory>
+    ensures { OnOk result (names.new.items ≡ names.old.items ++ map (λ file. parent_of (name_by file)) files.now) }
 {
-    if !may_hold_all(alloc, files)? {
-        return Ok(false);
+    for file in files {
+        names.push(parent(alloc, file.0.as_slice())?)?;
     }
-    are_short_paths(alloc, dirs)
+    Ok(())
 }
 
-/// Whether each of these files is within its bounds.
-fn may_hold_all(alloc: Global, files: &[(ByteText, ByteText)]) -> Result<bool, OutOfMemory>
-    ensures { IfOk result (λ b. b ≡ list_all may_hold_by files.now) }
+/// The name right above the one that a path denotes; the root's is the root.
+fn parent(alloc: Global, path: &[u8]) -> Result<Items<ByteText>, OutOfMemory>
+    ensures { IfOk result (λ name. name ≡ parent_of (components_by path.now)) }
 {
-    let mut rest = files;
-    loop {
-        match rest {
-            [] => return Ok(true),
-            [file, later @ ..] => {
-                if !may_hold(alloc, file.0.as_slice(), file.1.as_slice())? {
-                    return Ok(false);
-                }
-                rest = later;
-            }
-        }
-    }
+    let mut parts = walk(alloc, path)?;
+    parts.pop();
+    Ok(Items::new(parts))
 }
 
-/// Whether a file of these bytes is within its bounds.
-fn may_hold(alloc: Global, path: &[u8], bytes: &[u8]) -> Result<bool, OutOfMemory>
-    ensures { IfOk result (λ b. b ≡ may_hold_by (path.now, bytes.now)) }
-{
-    if bytes.len() as u64 > MAX_FILE_LEN {
-        return Ok(false);
-    }
-    is_short_path(alloc, path)
-}
-
-/// Whether the last component of each of these paths' names is within its bound.
-fn are_short_paths(alloc: Global, paths: &[ByteText]) -> Result<bool, OutOfMemory>
-    ensures { IfOk result (λ b. b ≡ list_all is_short_by paths.now) }
-{
-    let mut rest = paths;
-    loop {
-        match rest {
-            [] => return Ok(true),
-            [path, later @ ..] => {
-                if !is_short_path(alloc, path.as_slice())? {
-                    return Ok(false);
-                }
-                rest = later;
-            }
-        }
-    }
-}
-
-/// Whether the last component of a path's name is within its bound.
-fn is_short_path(alloc: Global, path: &[u8]) -> Result<bool, OutOfMemory>
-    ensures { IfOk result (λ b. b ≡ is_short_by path.now) }
-{
-    Ok(!is_long(&walk(alloc, path)?))
-}
-
-/// The name that a path denotes.
-fn name_of(alloc: Global, path: &[u8]) -> Result<TreeName, OutOfMemory>
-    ensures { IfOk result (λ name. name ≡ components_by path.now) }
-{
-    TreeName::new(alloc, walk(alloc, path)?)
-}
-
-/// Adds directories.
+/// Adds directories, each with its parents, where their names aren't there.
 fn add_directories(
     alloc: Global,
     names: &mut Vec<(TreeName, Node)>,
-    dirs: &[ByteText],
+    wanted: &[Items<ByteText>],
 ) -> Result<(), OutOfMemory>
-    ensures { OnOk result (names.new.items ≡ names.old.items ++ directories dirs.now) }
+    ensures { OnOk result (names.new.items ≡ with_directories names.old.items wanted.now) }
 {
-    let mut rest = dirs;
-    while let [path, later @ ..] = rest {
-        names.push((name_of(alloc, path.as_slice())?, Node::Directory))?;
+    let mut rest = wanted;
+    while let [name, later @ ..] = rest {
+        add_way(alloc, names, name.as_slice())?;
         rest = later;
     }
     Ok(())
+}
+
+/// Adds the directories that one passes from the root to a name, the last one too.
+#[tactic(auto, using(crate::proofs::FirstLaws::way_step))]
+fn add_way(
+    alloc: Global,
+    names: &mut Vec<(TreeName, Node)>,
+    name: &[ByteText],
+) -> Result<(), OutOfMemory>
+    ensures { OnOk result (names.new.items ≡ with_way names.old.items [] name.now) }
+{
+    let mut passed = 0;
+    while passed < name.len() {
+        add_directory(alloc, names, &name[..passed + 1])?;
+        passed += 1;
+    }
+    Ok(())
+}
+
+/// Adds a directory, where its name isn't there.
+fn add_directory(
+    alloc: Global,
+    names: &mut Vec<(TreeName, Node)>,
+    name: &[ByteText],
+) -> Result<(), OutOfMemory>
+    ensures { OnOk result (names.new.items ≡ with_directory names.old.items name.now) }
+{
+    if has_name(names, name) {
+        return Ok(());
+    }
+    let mut parts = Vec::new(alloc);
+    add_copies(alloc, &mut parts, name)?;
+    names.push((TreeName::new(alloc, parts)?, Node::Directory))?;
+    Ok(())
+}
+
+/// Whether a name is there.
+fn has_name(pairs: &[(TreeName, Node)], name: &[ByteText]) -> bool
+    ensures { result ≡ has_name_by pairs.now name.now }
+{
+    pairs.iter().any(|pair| pair.0.parts() == name)
 }
 
 /// Adds files, numbered from 0 on.
@@ -142,7 +146,8 @@ fn add_files(
     let mut number = 0u64;
     let mut rest = files;
     while let [file, later @ ..] = rest {
-        names.push((name_of(alloc, file.0.as_slice())?, Node::File(number)))?;
+        let name = TreeName::new(alloc, walk(alloc, file.0.as_slice())?)?;
+        names.push((name, Node::File(number)))?;
         number += 1;
         rest = later;
     }

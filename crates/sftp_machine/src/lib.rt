@@ -6,6 +6,7 @@ mod answer;
 mod answered;
 mod change;
 mod commit;
+mod conditions;
 mod counts;
 mod file_bytes;
 mod first_tree;
@@ -21,12 +22,9 @@ mod store;
 mod tree_name;
 
 pub use answered::Answered;
-pub use first_tree::may_begin;
+pub use conditions::may_begin;
 pub use handle_requests::gives_within;
 pub use laws::grants_are_new;
 pub use machine::Machine;
 pub use outbox::Outbox;
 pub use tree_name::{TreeName, components};
-
-#[cfg(test)]
-mod tests;

@@ -44,8 +44,9 @@ impl Model for Machine {
 }
 
 impl Machine {
-    /// A server with these files, each a path and its bytes, numbered in their order. `may_begin` tells whether it may
-    /// begin with them. Refused only for want of memory; nothing is left of it then.
+    /// A server with these files, each a path and its bytes, numbered in their order. The directories that a path passes
+    /// through are made too. It is to be asked for only where `may_begin` answers true. Refused only for want of memory;
+    /// nothing is left of it then.
     pub fn new(
         alloc: Global,
         files: &[(ByteText, ByteText)],
@@ -57,9 +58,9 @@ impl Machine {
         Machine::new_tree(alloc, files, &[], config)
     }
 
-    /// The same with these directories too, each a path. The directories that a path passes through are not made:
-    /// they are to be among `dirs`.
-    #[tactic(auto, using(crate::proofs::FirstLaws::first_fits))]
+    /// The same with these directories too, each a path. The directories that a path of a file or of a directory passes
+    /// through are made too, each once; the root is always there.
+    #[tactic(auto, using(sftp_tree::proofs::FirstFits::first_fits))]
     pub fn new_tree(
         alloc: Global,
         files: &[(ByteText, ByteText)],
