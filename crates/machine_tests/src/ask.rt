@@ -8,10 +8,13 @@ use sftp_machine::Machine;
 use sftp_model::*;
 use std::alloc::Global;
 
+const NO_CHOICE: Choice = Choice { refuse: 0, cap: 0 };
+
 /// A request: of a path or two, or of the handle of a grant.
 #[derive(Clone, Copy)]
 pub(crate) enum Ask<'a> {
     Open(&'a [u8]),
+    Create(&'a [u8]),
     Close(u8),
     Read(u8),
     Write(u8),
@@ -111,16 +114,24 @@ fn of_paths(alloc: Global, ask: Ask) -> Result<Request, OutOfMemory>
     }
 }
 
-/// The request. An OPEN reads and writes; a SETSTAT sets a size of 2 bytes.
+/// An OPEN.
+fn opening(alloc: Global, name: &[u8], flags: OpenFlags) -> Result<Request, OutOfMemory>
+    ensures { IfOk result IsAfterHello }
+{
+    Ok(Request::OpenFile {
+        path: path(alloc, name)?,
+        flags,
+        attrs: sized(None),
+    })
+}
+
+/// The request. An OPEN reads and writes, and may create the file; a SETSTAT sets a size of 2 bytes.
 fn request(alloc: Global, ask: Ask) -> Result<Request, OutOfMemory>
     ensures { IfOk result IsAfterHello }
 {
     match ask {
-        Ask::Open(name) => Ok(Request::OpenFile {
-            path: path(alloc, name)?,
-            flags: OpenFlags::from_bits_retain(3),
-            attrs: sized(None),
-        }),
+        Ask::Open(name) => opening(alloc, name, OpenFlags::from_bits_retain(3)),
+        Ask::Create(name) => opening(alloc, name, OpenFlags::from_bits_retain(11)),
         Ask::Stat(name) => Ok(Request::Stat {
             path: path(alloc, name)?,
         }),
@@ -191,6 +202,23 @@ pub(crate) fn answers(
     told: Told,
 ) -> Result<bool, OutOfMemory> {
     let request = request(alloc, ask)?;
-    let reply = machine.apply(&request, Choice { refuse: 0, cap: 0 })?;
+    let reply = machine.apply(&request, NO_CHOICE)?;
     Ok(is_told(&reply, told))
+}
+
+/// The machine's counts of files and of handles before a request's answer is committed, and after.
+pub(crate) fn commits(
+    alloc: Global,
+    machine: &mut Machine,
+    ask: Ask,
+) -> Result<[(u64, u64); 2], OutOfMemory> {
+    let request = request(alloc, ask)?;
+    let answered = machine.answer(&request, NO_CHOICE)?;
+    let before = counts(machine);
+    machine.commit(answered)?;
+    Ok([before, counts(machine)])
+}
+
+fn counts(machine: &Machine) -> (u64, u64) {
+    (machine.file_count(), machine.grant_count())
 }

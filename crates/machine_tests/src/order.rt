@@ -1,16 +1,13 @@
 // One order of requests, each answered as draft-ietf-secsh-filexfer-02, sections 6 and 7, has it for a plain server.
 
-use crate::ask::{Ask, Told, answers};
+use crate::ask::{Ask, Told, answers, commits};
+use crate::first::plain;
+use crate::texts::{files_of, paths_of};
 use bitflags::Flags;
 use sftp_machine::{Machine, may_begin};
 use sftp_model::*;
-use sftp_values::ByteText;
 use std::alloc::Global;
 use std::test::Fail;
-
-fn text(alloc: Global, bytes: &[u8]) -> Result<ByteText, OutOfMemory> {
-    Ok(ByteText::new(Vec::from_slice(alloc, bytes)?))
-}
 
 /// A server that offers all extensions, with the file `a` of `hello` and the directory `d`.
 fn a_machine(alloc: Global) -> Result<Machine, Fail> {
@@ -25,10 +22,8 @@ fn a_machine(alloc: Global) -> Result<Machine, Fail> {
         limits: Some(limits),
         cut: 0,
     };
-    let mut files = Vec::with_capacity(alloc, 1)?;
-    files.push((text(alloc, b"a")?, text(alloc, b"hello")?))?;
-    let mut dirs = Vec::with_capacity(alloc, 1)?;
-    dirs.push(text(alloc, b"d")?)?;
+    let files = files_of(alloc, &[b"a"])?;
+    let dirs = paths_of(alloc, &[b"d"])?;
     if !may_begin(alloc, &files, &dirs)? {
         return Err(Fail::new("it may not begin"));
     }
@@ -73,5 +68,34 @@ fn requests_are_answered(rt: HostRuntime) -> Result<(), Fail> {
     for (ask, told) in rows {
         assert!(rt; answers(alloc, &mut machine, ask, told)?);
     }
+    Ok(())
+}
+
+#[test]
+fn a_file_moves_into_a_directory(rt: HostRuntime) -> Result<(), Fail> {
+    let alloc = rt.alloc();
+    let mut machine = Machine::new(alloc, &[], plain())?;
+    let rows = [
+        (Ask::Create(b"a"), Told::Handle(b"\0\0\0\0")),
+        (Ask::Rename(b"a", b"/d/../d/b"), Told::Status(2)),
+        (Ask::Mkdir(b"d"), DONE),
+        (Ask::Rename(b"a", b"/d/../d/b"), DONE),
+        (Ask::Mkdir(b"d/b"), Told::Status(4)),
+        (Ask::Fsync(0), Told::Status(8)),
+    ];
+    for (ask, told) in rows {
+        assert!(rt; answers(alloc, &mut machine, ask, told)?);
+    }
+    Ok(())
+}
+
+#[test]
+fn an_answer_changes_nothing_before_its_commit(rt: HostRuntime) -> Result<(), Fail> {
+    let alloc = rt.alloc();
+    let mut machine = Machine::new(alloc, &[], plain())?;
+    assert_eq!(rt;
+        commits(alloc, &mut machine, Ask::Create(b"a"))?,
+        [(0, 0), (1, 1)]
+    );
     Ok(())
 }
