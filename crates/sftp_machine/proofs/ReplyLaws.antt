@@ -1,4 +1,4 @@
--- What a server replies may answer the request and fits a frame, and its tree stays within its bounds.
+-- What a server replies may answer the request and fits a frame, and its tree stays consistent.
 use Rattle.std.specs.Prelude.{Result, Ok, Err, IfOk}
 use Rattle.std.proofs.Common.{subst, sym, ◌≡◌, ◌==◌, ℕ, ◌<◌, ◌≤◌, ◌^◌, length, Bool, true, false, if◌then◌else◌, arith, lit<, refl}
 use Rattle.sftp_model.specs.declared.config.Choice.{Choice}
@@ -17,8 +17,10 @@ use Rattle.sftp_tree.proofs.FitLaws.{fit_after}
 use Rattle.sftp_tree.proofs.ReplyFits.{body_within, says_fit}
 use Rattle.sftp_tree.proofs.ReplyLaws.{tree_replies}
 use Rattle.sftp_tree.proofs.StatusLaws.{status_allowed}
+use Rattle.sftp_tree.proofs.StayingLaws.{tree_after}
+use Rattle.sftp_tree.proofs.WellFormedLaws.{well_formed_after}
 use Rattle.sftp_machine.specs.declared.change.Change.{Change}
-use Rattle.sftp_machine.specs.MachineState.{Makes, committed, MachineState, answer, with_grant, with_tree, numbered_handle, MAX_HANDLES}
+use Rattle.sftp_machine.specs.MachineState.{IsConsistent, Makes, committed, MachineState, answer, with_grant, with_tree, numbered_handle, MAX_HANDLES}
 
 -- the answer of the definition, with the next number
 abbrev defined : MachineState → Request → Choice → Answer
@@ -80,6 +82,12 @@ pub within_where : {A E : Type 0} (state : MachineState) (r : Request) (choice :
 within_where state r choice reply (Ok a) fit code is = λ within id. subst (λ (w : Reply). length (reply_body w id) ≤ MAX_BODY_LEN) (sym is) (reply_within state r choice id fit code within)
 within_where state r choice reply (Err e) fit code is = tt
 
--- the change of an answer leaves a tree within its bounds
-pub fit_committed : (state : MachineState) (r : Request) (choice : Choice) (said : Reply × Change) → IsFit state.tree → Makes state said (defined state r choice) → IsFit (committed state said.1).tree
-fit_committed state r choice said fit makes = subst (λ (w : FileTree). IsFit w) (sym makes.left) (fit_after state.tree state.config r choice (numbered_handle state.grants) fit)
+-- the change of an answer leaves a consistent tree
+pub consistent_committed : (state : MachineState) (r : Request) (choice : Choice) (said : Reply × Change) → IsConsistent state.tree → Makes state said (defined state r choice) → IsConsistent (committed state said.1).tree
+consistent_committed state r choice said before makes =
+    let after : IsConsistent (defined state r choice).1 = record {
+      placed = tree_after state.tree state.config r choice (numbered_handle state.grants) before.placed;
+      numbered = well_formed_after state.tree state.config r choice (numbered_handle state.grants) before.numbered;
+      fit = fit_after state.tree state.config r choice (numbered_handle state.grants) before.fit;
+    } in
+    subst (λ (w : FileTree). IsConsistent w) (sym makes.left) after

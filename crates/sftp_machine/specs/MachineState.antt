@@ -10,8 +10,10 @@ use Rattle.sftp_model.specs.Numbers.{SSH_FX_FAILURE}
 use Rattle.sftp_tree.specs.HandleRequests.{Answer}
 use Rattle.sftp_tree.specs.declared.opened.Opened.{Opened}
 use Rattle.sftp_tree.specs.FileTree.{FileTree}
+use Rattle.sftp_tree.specs.Changes.{IsWellFormed}
 use Rattle.sftp_tree.specs.FitTrees.{IsFit}
 use Rattle.sftp_tree.specs.TreeAnswers.{apply}
+use Rattle.sftp_tree.specs.Trees.{IsTree}
 use Rattle.sftp_machine.specs.Changes.{FitsChange, Leads, changed, is_grant}
 use Rattle.sftp_machine.specs.declared.answered.Answered.{Answered}
 use Rattle.sftp_machine.specs.declared.change.Change.{Change}
@@ -29,6 +31,13 @@ numbered_handle n = to_be_bytes w32 n
 -- as many handles as there are numbers of four bytes
 abbrev pub MAX_HANDLES : ℕ
 MAX_HANDLES = 4294967296
+
+-- what holds of a server's files and directories always: each name stands beneath a directory, no two names have one file,
+-- and files and names are within their bounds
+pub record IsConsistent (tree : FileTree) : Type 0 where
+  pub placed : IsTree tree
+  pub numbered : IsWellFormed tree
+  pub fit : IsFit tree
 
 -- ---- what a request leaves
 
@@ -68,11 +77,11 @@ Makes state said x = Leads state.tree (numbered_handle state.grants) said x
 abbrev pub left_by : MachineState → Answered → MachineState
 left_by state answered = committed state answered.change
 
--- the answer may be committed: a handle is left where it grants one, and files and names stay within their bounds
+-- the answer may be committed: a handle is left where it grants one, and files and directories stay consistent
 pub record MayCommit (state : MachineState) (answered : Answered) : Type 0 where
   pub room : is_grant answered.change ≡ true → state.grants < MAX_HANDLES
   pub fits : FitsChange answered.change
-  pub within : IsFit (left_by state answered).tree
+  pub within : IsConsistent (left_by state answered).tree
 
 -- ---- handles
 

@@ -1,6 +1,6 @@
 // How many names have a file, and how many a directory.
 ghost use Rattle.std.specs.Prelude.{◌≡◌, length, filter};
-ghost use Rattle.sftp_machine.specs.MachineState.{IsValid};
+ghost use Rattle.sftp_machine.specs.MachineState.{IsConsistent, IsValid};
 ghost use Rattle.sftp_tree.specs.Listing.{has_file, has_directory};
 
 use crate::machine::Machine;
@@ -24,10 +24,12 @@ impl Machine {
         count_directories(&self.store.names)
     }
 
-    /// How many handles were granted. Each open handle is a number below it.
+    /// How many handles were granted. Each open handle is a number below it, and the files and directories are
+    /// consistent.
     pub fn grant_count(&self) -> u64
         ensures count { result ≡ self.now.grants }
         ensures valid { IsValid self.now }
+        ensures consistent { IsConsistent self.now.tree }
     {
         self.store.grant_count()
     }

@@ -3,10 +3,10 @@ ghost use Rattle.sftp_model.specs.Answers.{MayAnswer, IsAfterHello};
 ghost use Rattle.sftp_model.specs.Fits.{FitsReply};
 ghost use Rattle.sftp_model.specs.Frames.{reply_body};
 ghost use Rattle.sftp_model.specs.Numbers.{MAX_BODY_LEN};
-ghost use Rattle.sftp_tree.specs.FitTrees.{GivesWithin, IsFit};
+ghost use Rattle.sftp_tree.specs.FitTrees.{GivesWithin};
 ghost use Rattle.sftp_tree.specs.FirstTree.{first_tree, may_begin};
 ghost use Rattle.sftp_machine.specs.Changes.{FitsChange, is_grant};
-ghost use Rattle.sftp_machine.specs.MachineState.{MAX_HANDLES, MayCommit, answer as answer_by, committed, left_by};
+ghost use Rattle.sftp_machine.specs.MachineState.{IsConsistent, MAX_HANDLES, MayCommit, answer as answer_by, committed, left_by};
 
 use crate::answer::{changes_names, grants};
 use crate::answered::Answered;
@@ -22,7 +22,8 @@ use std::marker::Model;
 
 /// A server of files and directories in memory, without a link. Its handles are the numbers 0, 1, 2 and so on in
 /// the order of grants, each as four bytes, the most significant first. A contract sees the tree of its files and
-/// directories, what it offers and how many handles it granted.
+/// directories, what it offers and how many handles it granted. Each name stands once and beneath a directory, no two
+/// names have one file, and files and names are within their bounds: `grant_count` says so to a caller.
 #[derive(Drop)]
 pub struct Machine {
     pub(crate) store: Store,
@@ -31,16 +32,15 @@ pub struct Machine {
 }
 
 impl Model for Machine {
-    ghost use Rattle.sftp_tree.specs.FitTrees.{IsFit};
     ghost use Rattle.sftp_machine.specs.Listing.{AreInOrder};
-    ghost use Rattle.sftp_machine.specs.MachineState.{MachineState};
+    ghost use Rattle.sftp_machine.specs.MachineState.{IsConsistent, MachineState};
 
     ghost Value = { MachineState };
 
     ghost view = { λ m. m.store };
 
-    // files and names are within their bounds, and the places are in order
-    ghost invariant = { λ m. (IsFit m.store.tree) × AreInOrder m.store.tree.names m.order.items };
+    // files and directories are consistent, and the places are in order
+    ghost invariant = { λ m. (IsConsistent m.store.tree) × AreInOrder m.store.tree.names m.order.items };
 }
 
 impl Machine {
@@ -60,7 +60,7 @@ impl Machine {
 
     /// The same with these directories too, each a path. The directories that a path of a file or of a directory passes
     /// through are made too, each once; the root is always there.
-    #[tactic(auto, using(sftp_tree::proofs::FirstFits::first_fits))]
+    #[tactic(auto, using(crate::proofs::FirstLaws::first_consistent))]
     pub fn new_tree(
         alloc: Global,
         files: &[(ByteText, ByteText)],
@@ -122,12 +122,12 @@ impl Machine {
     }
 
     // The answer, by the definition alone.
-    #[tactic(auto, using(crate::proofs::CommitLaws::refused, crate::proofs::CommitLaws::granted, crate::proofs::ReplyLaws::fit_committed))]
+    #[tactic(auto, using(crate::proofs::CommitLaws::refused, crate::proofs::CommitLaws::granted, crate::proofs::ReplyLaws::consistent_committed))]
     fn find(&self, request: &Request, choice: Choice) -> Result<Answered, OutOfMemory>
         ensures reply { IfOk result (λ a. a.reply ≡ (answer_by self.now request.now choice).0) }
         ensures left { IfOk result (λ a. left_by self.now a ≡ (answer_by self.now request.now choice).1) }
         ensures may { IfOk result (λ a. MayCommit self.now a) }
-        ensures fit { IsFit self.now.tree }
+        ensures consistent { IsConsistent self.now.tree }
     {
         let (reply, change) = self.store.answer(request, choice)?;
         if self.store.is_full() && grants(&change) {
@@ -142,7 +142,7 @@ impl Machine {
     fn make(&mut self, change: Change) -> Result<(), OutOfMemory>
         requires room { is_grant change ≡ true → self.old.grants < MAX_HANDLES }
         requires fits { FitsChange change }
-        requires within { IsFit (committed self.old change).tree }
+        requires within { IsConsistent (committed self.old change).tree }
         ensures left { OnOk result (self.new ≡ committed self.old change) }
         ensures kept { OnErr result (self.new ≡ self.old) }
     {

@@ -8,9 +8,9 @@ returns-clause-answers c = answers_where c.args.self.now c.args.request.now c.ar
 pub returns-clause-fits : goal.returns-clause-fits
 returns-clause-fits c =
     let code : c.args.choice.refuse < 2 ^ 32 = search rules in
-    fits_where c.args.self.now c.args.request.now c.args.choice (λ a. a.reply) c.find.result c.find.ensures.fit code c.find.ensures.reply
+    fits_where c.args.self.now c.args.request.now c.args.choice (λ a. a.reply) c.find.result c.find.ensures.consistent.fit code c.find.ensures.reply
 
 pub returns-clause-within : goal.returns-clause-within
 returns-clause-within c =
     let code : c.args.choice.refuse < 2 ^ 32 = search rules in
-    within_where c.args.self.now c.args.request.now c.args.choice (λ a. a.reply) c.find.result c.find.ensures.fit code c.find.ensures.reply
+    within_where c.args.self.now c.args.request.now c.args.choice (λ a. a.reply) c.find.result c.find.ensures.consistent.fit code c.find.ensures.reply

@@ -1,15 +1,14 @@
 use Rattle.std.proofs.Common.{rules, ◌≡◌, ◌<◌, true}
-use Rattle.sftp_tree.specs.FitTrees.{IsFit}
 use Rattle.sftp_tree.specs.TreeAnswers.{apply}
 use Rattle.sftp_machine.specs.Changes.{is_grant}
-use Rattle.sftp_machine.specs.MachineState.{MAX_HANDLES, Makes, numbered_handle}
-use Rattle.sftp_machine.proofs.ReplyLaws.{fit_committed}
+use Rattle.sftp_machine.specs.MachineState.{IsConsistent, MAX_HANDLES, Makes, numbered_handle}
+use Rattle.sftp_machine.proofs.ReplyLaws.{consistent_committed}
 use Rattle.sftp_machine.proofs.machine.Machine.find.Goals as goal
 
 pub returns-clause-may : goal.returns-clause-may
 returns-clause-may c =
     let state = c.args.self.now in
-    let fit : IsFit state.tree = search rules in
+    let before : IsConsistent state.tree = search rules in
     let makes : Makes state (c.in_ok-reply.reply, c.in_ok-reply.change) (apply state.tree state.config c.args.request.now c.args.choice (numbered_handle state.grants)) = search rules in
     let room : is_grant c.in_ok-reply.change ≡ true → state.grants < MAX_HANDLES = search rules in
-    record { room = room; fits = makes.fits; within = fit_committed state c.args.request.now c.args.choice (c.in_ok-reply.reply, c.in_ok-reply.change) fit makes }
+    record { room = room; fits = makes.fits; within = consistent_committed state c.args.request.now c.args.choice (c.in_ok-reply.reply, c.in_ok-reply.change) before makes }
