@@ -18,12 +18,8 @@ pub(crate) fn plain() -> ServerConfig {
     }
 }
 
-const LONG: &[u8] = &[97; 256];
-
-const LONGEST: &[u8] = &[97; 255];
-
 // Paths of files and of directories, and whether a server may begin with them.
-const CASES: [(&[&[u8]], &[&[u8]], bool); 15] = [
+const CASES: [(&[&[u8]], &[&[u8]], bool); 12] = [
     (&[], &[], true),
     (&[b"a/b", b"a/c"], &[b"a", b"a/d"], true),
     (&[b"a", b"ab"], &[b"a-"], true),
@@ -36,29 +32,49 @@ const CASES: [(&[&[u8]], &[&[u8]], bool); 15] = [
     (&[b"a"], &[b"x", b"a/b/c"], false),
     (&[b"a/.."], &[], false),
     (&[], &[b"/"], false),
-    (&[b"a"], &[LONGEST], true),
-    (&[b"a"], &[LONG], false),
-    (&[LONG], &[], false),
 ];
+
+fn may(alloc: Global, files: &[&[u8]], dirs: &[&[u8]]) -> Result<bool, OutOfMemory> {
+    let files = files_of(alloc, files)?;
+    let dirs = paths_of(alloc, dirs)?;
+    may_begin(alloc, &files, &dirs)
+}
 
 #[test]
 fn a_server_may_begin(rt: HostRuntime) -> Result<(), Fail> {
     let alloc = rt.alloc();
-    for (files, dirs, may) in CASES {
-        let files = files_of(alloc, files)?;
-        let dirs = paths_of(alloc, dirs)?;
-        assert_eq!(rt; may_begin(alloc, &files, &dirs)?, may);
+    for case in CASES {
+        assert_eq!(rt; may(alloc, case.0, case.1)?, case.2);
     }
     Ok(())
+}
+
+// Whether a server may begin with a file whose name's component is so long.
+fn may_be_long(alloc: Global, len: usize) -> Result<bool, OutOfMemory> {
+    let mut name = Vec::new(alloc);
+    name.resize(len, b'a')?;
+    may(alloc, &[name.as_slice()], &[])
+}
+
+#[test]
+fn components_may_be_so_long(rt: HostRuntime) -> Result<(), Fail> {
+    let alloc = rt.alloc();
+    assert!(rt; may_be_long(alloc, 255)?);
+    assert!(rt; !may_be_long(alloc, 256)?);
+    Ok(())
+}
+
+fn zeros(alloc: Global, len: usize) -> Result<ByteText, OutOfMemory> {
+    let mut bytes = Vec::new(alloc);
+    bytes.resize(len, 0)?;
+    Ok(ByteText::new(bytes))
 }
 
 // Whether a server may begin with so many files of so many bytes.
 fn may_hold(alloc: Global, count: u8, len: usize) -> Result<bool, OutOfMemory> {
     let mut files = Vec::new(alloc);
     for k in 0..count {
-        let mut bytes = Vec::new(alloc);
-        bytes.resize(len, 0)?;
-        files.push((text(alloc, &[k])?, ByteText::new(bytes)))?;
+        files.push((text(alloc, &[k])?, zeros(alloc, len)?))?;
     }
     may_begin(alloc, &files, &[])
 }
@@ -78,46 +94,54 @@ fn files_may_have_so_many_bytes(rt: HostRuntime) -> Result<(), Fail> {
     Ok(())
 }
 
-const DIRS: [&[u8]; 5] = [b"a", b"a-", b"b", b"b/c", b"b/d"];
+const DIRS: [(u64, &[u8]); 5] = [(0, b"a"), (1, b"a-"), (2, b"b"), (3, b"b/c"), (4, b"b/d")];
 
-const FILES: [&[u8]; 3] = [b"a/x", b"b/c/x", b"y"];
+const FILES: [(u64, &[u8]); 3] = [(0, b"a/x"), (1, b"b/c/x"), (2, b"y")];
 
 fn lists_dirs(machine: &Machine) -> bool {
-    let mut k = 0;
-    for name in DIRS {
-        if machine.dir(k).unwrap_or(b"") != name {
+    for dir in DIRS {
+        if machine.dir(dir.0).unwrap_or(b"") != dir.1 {
             return false;
         }
-        k += 1;
     }
-    machine.dir(k).is_none() && machine.dir_count() == k
+    machine.dir(5).is_none() && machine.dir_count() == 5
 }
 
 fn lists_files(machine: &Machine) -> bool {
-    let mut k = 0;
-    for name in FILES {
-        match machine.file(k) {
+    for row in FILES {
+        match machine.file(row.0) {
             Some(file) => {
-                if file.0 != name || file.1 != b"hello".as_slice() {
+                if file.0 != row.1 || file.1 != b"hello".as_slice() {
                     return false;
                 }
             }
             None => return false,
         }
-        k += 1;
     }
-    machine.file(k).is_none() && machine.file_count() == k
+    machine.file(3).is_none() && machine.file_count() == 3
+}
+
+/// A server that begins with files of `hello` and with directories.
+pub(crate) fn begun(
+    alloc: Global,
+    files: &[&[u8]],
+    dirs: &[&[u8]],
+    config: ServerConfig,
+) -> Result<Machine, Fail> {
+    let files = files_of(alloc, files)?;
+    let dirs = paths_of(alloc, dirs)?;
+    if !may_begin(alloc, &files, &dirs)? {
+        return Err(Fail::new("it may not begin"));
+    }
+    Ok(Machine::new_tree(alloc, &files, &dirs, config)?)
 }
 
 #[test]
 fn parents_are_made_and_listed(rt: HostRuntime) -> Result<(), Fail> {
     let alloc = rt.alloc();
-    let files = files_of(alloc, &[b"/b/c/x", b"y", b"a/x"])?;
-    let dirs = paths_of(alloc, &[b"b/d", b"a-", b"b"])?;
-    if !may_begin(alloc, &files, &dirs)? {
-        return Err(Fail::new("it may not begin"));
-    }
-    let machine = Machine::new_tree(alloc, &files, &dirs, plain())?;
+    let files: [&[u8]; 3] = [b"/b/c/x", b"y", b"a/x"];
+    let dirs: [&[u8]; 3] = [b"b/d", b"a-", b"b"];
+    let machine = begun(alloc, &files, &dirs, plain())?;
     assert!(rt; lists_dirs(&machine) && lists_files(&machine));
     Ok(())
 }

@@ -1,10 +1,9 @@
 // One order of requests, each answered as draft-ietf-secsh-filexfer-02, sections 6 and 7, has it for a plain server.
 
 use crate::ask::{Ask, Told, answers, commits};
-use crate::first::plain;
-use crate::texts::{files_of, paths_of};
+use crate::first::{begun, plain};
 use bitflags::Flags;
-use sftp_machine::{Machine, may_begin};
+use sftp_machine::Machine;
 use sftp_model::*;
 use std::alloc::Global;
 use std::test::Fail;
@@ -22,12 +21,7 @@ fn a_machine(alloc: Global) -> Result<Machine, Fail> {
         limits: Some(limits),
         cut: 0,
     };
-    let files = files_of(alloc, &[b"a"])?;
-    let dirs = paths_of(alloc, &[b"d"])?;
-    if !may_begin(alloc, &files, &dirs)? {
-        return Err(Fail::new("it may not begin"));
-    }
-    Ok(Machine::new_tree(alloc, &files, &dirs, config)?)
+    begun(alloc, &[b"a"], &[b"d"], config)
 }
 
 const DONE: Told<'static> = Told::Status(0);
