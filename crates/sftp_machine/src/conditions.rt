@@ -15,8 +15,9 @@ use std::alloc::Global;
 /// Whether a server may begin with these files, each a path and its bytes, and these directories, each a path. It
 /// answers false where a file has more than `MAX_FILE_LEN` bytes, or all together more than `MAX_TOTAL_LEN`; where a
 /// path denotes the root, or a component of its name has more than `MAX_COMPONENT_LEN` bytes; where two files or two
-/// directories have one name; and where a file's name is that of a directory, or one of the others stands within it.
-/// Refused only for want of memory; nothing is left of it then.
+/// directories have one name; and where a directory has a file's name, or something stands within a file. A directory
+/// may be given or come as a parent, so its own parents needn't be given. Refused only for want of memory; nothing is
+/// left of it then.
 pub fn may_begin(
     alloc: Global,
     files: &[(ByteText, ByteText)],

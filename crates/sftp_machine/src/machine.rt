@@ -95,8 +95,9 @@ impl Machine {
         Ok(reply)
     }
 
-    /// The answer to a request, as `apply` gives it, which changes nothing before it is committed. A caller can write
-    /// `reply` in between, and let go of the answer where that fails. Refused only for want of memory.
+    /// The answer to a request, as `apply` gives it, which changes nothing before `commit`. A caller can write the reply
+    /// in between, and let go of the answer where that fails. Where no handle is left for an OPEN or an OPENDIR, it is a
+    /// STATUS of FAILURE without a change. Refused only for want of memory.
     pub fn answer(&self, request: &Request, choice: Choice) -> Result<Answered, OutOfMemory>
         requires after_hello { IsAfterHello request.now }
         ensures reply { IfOk result (λ a. a.reply ≡ (answer_by self.now request.now choice).0) }
@@ -111,8 +112,8 @@ impl Machine {
         self.find(request, choice)
     }
 
-    /// Commits an answer that this server found last: what it leaves. An Err comes only for want of memory, and all is
-    /// as before.
+    /// Makes what an answer changes, which was found as the server is now. An Err comes only for want of memory, and all
+    /// is as before.
     pub fn commit(&mut self, answered: Answered) -> Result<(), OutOfMemory>
         requires may { MayCommit self.old answered }
         ensures left { OnOk result (self.new ≡ left_by self.old answered) }
