@@ -1,5 +1,5 @@
 // Replies that wait, and the order in which they are given.
-ghost use Rattle.std.specs.Prelude.{◌≡◌, ◌≤◌, ◌∷◌, ◌++◌, [], length, drop, OnOk, OnErr};
+ghost use Rattle.std.specs.Prelude.{◌≡◌, ◌<◌, ◌≤◌, ◌-◌, ◌∷◌, ◌++◌, [], length, take, drop, OnOk, OnErr};
 ghost use Rattle.sftp_machine.specs.WaitingFrames.{WaitingFrames, turned, index_of};
 
 use sftp_values::{ByteText, Items};
@@ -68,6 +68,18 @@ impl Outbox {
     {
         self.waiting.push(frame)?;
         Ok(())
+    }
+
+    /// The frame that was held last is let go, as if it had not been held.
+    pub fn take_back(&mut self)
+        requires { 0 < length self.old.waiting }
+        ensures { self.new ≡ record {
+          ready = self.old.ready;
+          waiting = take (length self.old.waiting - 1) self.old.waiting;
+          picks = self.old.picks;
+        } }
+    {
+        let _ = self.waiting.pop();
     }
 
     // The place of the frame that is picked next.

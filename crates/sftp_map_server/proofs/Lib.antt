@@ -1,5 +1,3 @@
-pub mod Numbering
-pub mod Handles
-pub mod Choices
 pub mod Whole
-pub mod Short
+pub mod Bounds
+pub mod Waiting

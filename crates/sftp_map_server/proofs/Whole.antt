@@ -10,7 +10,8 @@ use Rattle.sftp_model.specs.declared.frame_error.FormatKind.{FormatKind}
 use Rattle.sftp_model.specs.declared.frame_error.FormatKind.TheVariants as kinds
 use Rattle.sftp_model.specs.Numbers.{MAX_BODY_LEN}
 use Rattle.sftp_wire.specs.FrameReader.{told_len, len_of, missing, missing_with, fault_of, fault_of_len}
-use Rattle.sftp_map_server.specs.Serving.{Desk, Absorbs, behind, server_of, step, over_at}
+use Rattle.sftp_machine.specs.WaitingFrames.{WaitingFrames}
+use Rattle.sftp_map_server.specs.Serving.{Desk, Said, Absorbs, behind, both, nothing, server_of, step, over_at, with_said}
 
 take_bytes : (n : ℕ) (bytes : List ℕ) → ((i : ℕ) → get_or bytes i 0 < 256) → (i : ℕ) → get_or (take n bytes) i 0 < 256
 take_bytes n bytes fits i =
@@ -83,8 +84,20 @@ good_told xs h e = good_len (told_len xs) (ap (λ (b : Bool). is_some (fault_of_
 
 -- ---- what is absorbed
 
-pub absorb_over : (d : Desk) (i o bytes left : List ℕ) → d.over ≡ true → left ≡ [] → Absorbs (server_of d i o) bytes (server_of d left o)
-absorb_over d i o bytes left e none = record {
+-- what is said to no body
+said_nothing : (o : WaitingFrames) → o ≡ with_said o nothing
+said_nothing o =
+    ap (λ (w : List ℕ). let q : WaitingFrames = record { ready = w; waiting = o.waiting; picks = o.picks } in q) (sym (append-nil o.ready))
+    ∙ ap (λ (w : List (List ℕ)). let q : WaitingFrames = record { ready = o.ready ++ []; waiting = w; picks = o.picks } in q) (sym (append-nil o.waiting))
+
+-- what is said to one body
+said_once : (o : WaitingFrames) (said : Said) → with_said o said ≡ with_said o (both said nothing)
+said_once o said =
+    ap (λ (w : List ℕ). let q : WaitingFrames = record { ready = o.ready ++ w; waiting = o.waiting ++ said.later; picks = o.picks } in q) (sym (append-nil said.at_once))
+    ∙ ap (λ (w : List (List ℕ)). let q : WaitingFrames = record { ready = o.ready ++ (said.at_once ++ []); waiting = o.waiting ++ w; picks = o.picks } in q) (sym (append-nil said.later))
+
+pub absorb_over : (d : Desk) (i bytes left : List ℕ) (o : WaitingFrames) → d.over ≡ true → left ≡ [] → Absorbs (server_of d i o) bytes (server_of d left o)
+absorb_over d i bytes left o e none = record {
   bodies = [];
   rest = i ++ bytes;
   short = tt;
@@ -92,11 +105,11 @@ absorb_over d i o bytes left e none = record {
   desk = rw e refl;
   input = rw e none;
   part = rw none (omega arith);
-  output = sym (append-nil o);
+  output = said_nothing o;
 }
 
-pub absorb_bad : (d after : Desk) (i o bytes all left : List ℕ) → d.over ≡ false → all ≡ i ++ bytes → is_some (fault_of all) ≡ true → after ≡ over_at d → left ≡ [] → Absorbs (server_of d i o) bytes (server_of after left o)
-absorb_bad d after i o bytes all left e is bad over none = record {
+pub absorb_bad : (d after : Desk) (i bytes all left : List ℕ) (o : WaitingFrames) → d.over ≡ false → all ≡ i ++ bytes → is_some (fault_of all) ≡ true → after ≡ over_at d → left ≡ [] → Absorbs (server_of d i o) bytes (server_of after left o)
+absorb_bad d after i bytes all left o e is bad over none = record {
   bodies = [];
   rest = all;
   short = tt;
@@ -104,11 +117,11 @@ absorb_bad d after i o bytes all left e is bad over none = record {
   desk = rw (e, bad) over;
   input = rw (e, bad) none;
   part = rw none (omega arith);
-  output = sym (append-nil o);
+  output = said_nothing o;
 }
 
-pub absorb_part : (d : Desk) (i o bytes all : List ℕ) → d.over ≡ false → all ≡ i ++ bytes → is_some (fault_of all) ≡ false → 0 < missing all → Absorbs (server_of d i o) bytes (server_of d all o)
-absorb_part d i o bytes all e is good some = record {
+pub absorb_part : (d : Desk) (i bytes all : List ℕ) (o : WaitingFrames) → d.over ≡ false → all ≡ i ++ bytes → is_some (fault_of all) ≡ false → 0 < missing all → Absorbs (server_of d i o) bytes (server_of d all o)
+absorb_part d i bytes all o e is good some = record {
   bodies = [];
   rest = all;
   short = tt;
@@ -116,7 +129,7 @@ absorb_part d i o bytes all e is good some = record {
   desk = rw (e, good) refl;
   input = rw (e, good) refl;
   part = some;
-  output = sym (append-nil o);
+  output = said_nothing o;
 }
 
 if_same : (b : Bool) (d : Desk) → (if b then (let p : Desk × List ℕ = (d, []) in p) else (d, [])) ≡ (d, [])
@@ -126,9 +139,9 @@ if_same false d = refl
 behind_nothing : (d : Desk) → behind d [] ≡ (d, [])
 behind_nothing d = if_same d.over d
 
-pub absorb_whole : (d after : Desk) (i o bytes all body left out : List ℕ) → all ≡ i ++ bytes → IsWhole all → is_some (fault_of all) ≡ false → all ≡ string body → body ≡ drop 4 all
-    → after ≡ (step d body).1 → out ≡ o ++ (step d body).0 → left ≡ [] → Absorbs (server_of d i o) bytes (server_of after left out)
-absorb_whole d after i o bytes all body left out is whole good framed behind_four stepped said none =
+pub absorb_whole : (d after : Desk) (i bytes all body left : List ℕ) (o out : WaitingFrames) → all ≡ i ++ bytes → IsWhole all → is_some (fault_of all) ≡ false → all ≡ string body → body ≡ drop 4 all
+    → after ≡ (step d body).1 → out ≡ with_said o (step d body).0 → left ≡ [] → Absorbs (server_of d i o) bytes (server_of after left out)
+absorb_whole d after i bytes all body left o out is whole good framed behind_four stepped said none =
     let len : length body ≡ length all - 4 = ap length behind_four ∙ length-drop 4 all in
     let w = whole.len in
     let told = good_told all whole.four good in
@@ -140,5 +153,5 @@ absorb_whole d after i o bytes all body left out is whole good framed behind_fou
       desk = stepped ∙ sym (ap (λ (p : Desk × List ℕ). p.0) (behind_nothing (step d body).1));
       input = none ∙ sym (ap (λ (p : Desk × List ℕ). p.1) (behind_nothing (step d body).1));
       part = rw none (omega arith);
-      output = said ∙ ap (λ (w : List ℕ). o ++ w) (sym (append-nil (step d body).0));
+      output = said ∙ said_once o (step d body).0;
     }

@@ -1,17 +1,17 @@
-// What the machine answers to the body of a frame.
-ghost use Rattle.std.specs.Prelude.{◌≡◌, ◌≤◌, ◌++◌, Some, false, length, IfOk, OnOk, OnErr};
+// What is said to the body of a frame.
+ghost use Rattle.std.specs.Prelude.{◌≡◌, ◌≤◌, Some, false, true, length, IfOk, OnOk, OnErr};
 ghost use Rattle.std.specs.Result.{result_ok};
+ghost use Rattle.sftp_model.specs.Answers.{IsAfterHello};
 ghost use Rattle.sftp_model.specs.Numbers.{MAX_BODY_LEN};
 ghost use Rattle.sftp_model.specs.Frames.{reply_body, reply_frame};
 ghost use Rattle.sftp_model.specs.RequestReadings.{request_at};
-ghost use Rattle.sftp_map_server.specs.Granting.{gives_within as gives_within_by};
-ghost use Rattle.sftp_history.specs.Served.{first_choice, limits_reply};
-ghost use Rattle.sftp_map_server.specs.Serving.{desks_of, version_reply, is_hello as is_hello_by, is_query as is_query_by, id_of as id_by, over_at, greet, serve, respond, spent, step};
+ghost use Rattle.sftp_tree.specs.FitTrees.{IsFit};
+ghost use Rattle.sftp_tree.specs.TreeAnswers.{first_choice, limits_reply};
+ghost use Rattle.sftp_map_server.specs.Serving.{at_once, gives_within as gives_within_by, greet, id_of as id_by, is_hello as is_hello_by, is_query as is_query_by, over_at, respond, serve, spent, step, version_reply, with_said};
 
-use crate::machine::{Machine, capped};
 use bitflags::Flags;
-use sftp_model::numbers::{MAX_TRANSFER_LEN, SSH_FX_OP_UNSUPPORTED};
-use sftp_model::{Choice, Extensions, FrameError, Limits, Reply, Request, ServerConfig};
+use sftp_machine::{Machine, Outbox, gives_within};
+use sftp_model::{Choice, Extensions, FrameError, Reply, Request, ServerConfig};
 use sftp_values::{ByteText, Items};
 use sftp_wire::{read_request, write_reply};
 use ssh_encoding::OutOfMemory;
@@ -30,14 +30,21 @@ pub(crate) struct Desk {
 }
 
 impl Model for Desk {
-    ghost use Rattle.std.specs.Prelude.{◌≤◌, length};
-    ghost use Rattle.sftp_map_server.specs.Serving.{Desks, desks_of};
+    ghost use Rattle.std.specs.Prelude.{◌≤◌, drop, length};
+    ghost use Rattle.sftp_tree.specs.FitTrees.{IsFit};
+    ghost use Rattle.sftp_map_server.specs.Serving.{Desk as DeskState};
 
-    ghost Value = { Desks };
+    ghost Value = { DeskState };
 
-    ghost view = { λ d. desks_of d.machine d.choices d.used d.greeted d.over };
+    ghost view = { λ d. record {
+      machine = d.machine;
+      choices = drop d.used d.choices;
+      greeted = d.greeted;
+      over = d.over;
+    } };
 
-    ghost invariant = { λ d. d.used ≤ length d.choices };
+    // replies fit a frame
+    ghost invariant = { λ d. (d.used ≤ length d.choices) × IsFit d.machine.tree };
 }
 
 /// Whether a request is the hello.
@@ -61,13 +68,10 @@ fn is_query(request: &Request) -> bool
 }
 
 /// Whether the answer to a request has no more bytes than one DATA can bring.
-pub fn gives_within(request: &Request, choice: Choice) -> bool
+fn may_serve(request: &Request, choice: Choice) -> bool
     ensures { result ≡ gives_within_by request.now choice }
 {
-    match request {
-        Request::Read { len, .. } => capped(choice.cap, *len) <= MAX_TRANSFER_LEN,
-        _ => true,
-    }
+    gives_within(request, choice.cap)
 }
 
 /// The request that a body spells, with its id; None where it spells none.
@@ -95,26 +99,14 @@ fn version(config: ServerConfig) -> Reply
     }
 }
 
-/// The limits in an answer.
-#[tactic(auto, unfolding(sftp_model::specs::Frames::limits_content, ssh_encoding::specs::Writing::uint64))]
-fn told_limits(alloc: Global, limits: Limits) -> Result<Reply, OutOfMemory>
-    ensures { IfOk result (λ r. r ≡ limits_reply (Some limits)) }
-{
-    let mut content = Vec::from_slice(alloc, &limits.packet_len.to_be_bytes())?;
-    content.extend_from_slice(&limits.read_len.to_be_bytes())?;
-    content.extend_from_slice(&limits.write_len.to_be_bytes())?;
-    content.extend_from_slice(&limits.open_handles.to_be_bytes())?;
-    Ok(Reply::Extended(ByteText::new(content)))
-}
-
-/// Puts the frame of a reply behind the output.
-fn put(reply: &Reply, id: u32, output: &mut Vec<u8>) -> Result<(), OutOfMemory>
+/// The frame of a reply.
+fn frame_of(alloc: Global, reply: &Reply, id: u32) -> Result<Vec<u8>, OutOfMemory>
     requires { length (reply_body reply.now id) ≤ MAX_BODY_LEN }
-    ensures ok { OnOk result (output.new.items ≡ output.old.items ++ reply_frame reply.now id) }
-    ensures err { OnErr result (output.new.items ≡ output.old.items) }
+    ensures { IfOk result (λ frame. frame.items ≡ reply_frame reply.now id) }
 {
-    match write_reply(reply, id, output) {
-        Ok(()) => Ok(()),
+    let mut frame = Vec::new(alloc);
+    match write_reply(reply, id, &mut frame) {
+        Ok(()) => Ok(frame),
         Err(FrameError::OutOfMemory) => Err(OutOfMemory),
         Err(_) => unreachable!(),
     }
@@ -133,7 +125,8 @@ fn id_of(id: Option<u32>) -> u32
 impl Desk {
     /// Before the first request.
     pub(crate) fn new(alloc: Global, machine: Machine, choices: Items<Choice>) -> Desk
-        ensures { result ≡ desks_of machine choices 0 false false }
+        requires { IsFit machine.tree }
+        ensures { result ≡ record { machine = machine; choices = choices; greeted = false; over = false } }
     {
         Desk {
             alloc,
@@ -147,36 +140,35 @@ impl Desk {
 
     /// The machine.
     pub(crate) fn machine(&self) -> &Machine
-        ensures { result.now ≡ self.now.now.granting }
+        ensures { result.now ≡ self.now.machine }
     {
         &self.machine
     }
 
     /// The most bytes that one call moves; 0 is no limit.
     pub(crate) fn cut(&self) -> u32
-        ensures { result ≡ self.now.now.granting.config.cut }
+        ensures { result ≡ self.now.machine.config.cut }
     {
         self.machine.config().cut
     }
 
     /// Whether the link is over.
     pub(crate) fn is_over(&self) -> bool
-        ensures { result ≡ self.now.now.over }
+        ensures { result ≡ self.now.over }
     {
         self.over
     }
 
     /// The link is over.
     pub(crate) fn end(&mut self)
-        ensures first { self.new.first ≡ self.old.first }
-        ensures left { self.new.now ≡ over_at self.old.now }
+        ensures { self.new ≡ over_at self.old }
     {
         self.over = true;
     }
 
     // The choice for the next request.
     fn choice(&self) -> Choice
-        ensures { result ≡ first_choice self.now.now.choices }
+        ensures { result ≡ first_choice self.now.choices }
     {
         match self.choices.as_slice().get(self.used) {
             Some(choice) => *choice,
@@ -185,66 +177,57 @@ impl Desk {
     }
 
     // The hello is answered by VERSION, once.
-    fn greet(&mut self, output: &mut Vec<u8>) -> Result<(), OutOfMemory>
-        ensures first { self.new.first ≡ self.old.first }
-        ensures left { OnOk result (self.new.now ≡ (greet self.old.now).1) }
-        ensures said { OnOk result (output.new.items ≡ output.old.items ++ (greet self.old.now).0) }
+    fn greet(&mut self, outbox: &mut Outbox) -> Result<(), OutOfMemory>
+        ensures left { OnOk result (self.new ≡ (greet self.old).1) }
+        ensures said { OnOk result (outbox.new ≡ with_said outbox.old (greet self.old).0) }
         ensures kept { OnErr result (self.new ≡ self.old) }
-        ensures same { OnErr result (output.new.items ≡ output.old.items) }
+        ensures same { OnErr result (outbox.new ≡ outbox.old) }
     {
         if self.greeted {
             self.over = true;
             return Ok(());
         }
-        put(&version(self.machine.config()), 0, output)?;
+        let frame = frame_of(self.alloc, &version(self.machine.config()), 0)?;
+        outbox.say(&frame)?;
         self.greeted = true;
         Ok(())
     }
 
-    // The answer to the query for limits.
-    fn limits(&self) -> Result<Reply, OutOfMemory>
-        ensures { IfOk result (λ r. r ≡ limits_reply self.now.now.granting.config.limits) }
+    // The query for limits is answered at once, and takes no choice.
+    fn tell(&self, id: Option<u32>, query: &Request, outbox: &mut Outbox) -> Result<(), OutOfMemory>
+        requires { is_query_by query.now ≡ true }
+        ensures said { OnOk result (outbox.new ≡ with_said outbox.old
+            (at_once (reply_frame (limits_reply self.now.machine.config.limits) (id_by id)))) }
+        ensures same { OnErr result (outbox.new ≡ outbox.old) }
     {
-        match self.machine.config().limits {
-            Some(limits) => told_limits(self.alloc, limits),
-            None => Ok(self.machine.status(SSH_FX_OP_UNSUPPORTED)),
-        }
+        let answered = self.machine.answer(query, Choice { refuse: 0, cap: 0 })?;
+        let frame = frame_of(self.alloc, answered.reply(), id_of(id))?;
+        outbox.say(&frame)
     }
 
-    // The query for limits takes no choice.
-    fn tell(&self, id: Option<u32>, output: &mut Vec<u8>) -> Result<(), OutOfMemory>
-        ensures said { OnOk result (output.new.items ≡ output.old.items
-            ++ reply_frame (limits_reply self.now.now.granting.config.limits) (id_by id)) }
-        ensures same { OnErr result (output.new.items ≡ output.old.items) }
-    {
-        let reply = self.limits()?;
-        put(&reply, id_of(id), output)
-    }
-
-    // A request of the machine takes the next choice.
+    // A request of the machine takes the next choice, and its answer waits.
     fn serve(
         &mut self,
         id: Option<u32>,
         request: &Request,
-        output: &mut Vec<u8>,
+        outbox: &mut Outbox,
     ) -> Result<(), OutOfMemory>
-        ensures first { self.new.first ≡ self.old.first }
-        ensures left { OnOk result (self.new.now ≡ (serve self.old.now id request.now).1) }
-        ensures said { OnOk result (output.new.items ≡ output.old.items
-            ++ (serve self.old.now id request.now).0) }
+        requires { IsAfterHello request.now }
+        ensures left { OnOk result (self.new ≡ (serve self.old id request.now).1) }
+        ensures said { OnOk result (outbox.new ≡ with_said outbox.old (serve self.old id request.now).0) }
         ensures kept { OnErr result (self.new ≡ self.old) }
-        ensures same { OnErr result (output.new.items ≡ output.old.items) }
+        ensures same { OnErr result (outbox.new ≡ outbox.old) }
     {
         let choice = self.choice();
-        if !gives_within(request, choice) {
+        if !may_serve(request, choice) {
             self.over = true;
             return Ok(());
         }
-        let reply = self.machine.reply(request, choice)?;
-        let before = output.len();
-        put(&reply, id_of(id), output)?;
-        if self.machine.advance(request, choice).is_err() {
-            output.truncate(before);
+        let answered = self.machine.answer(request, choice)?;
+        let frame = frame_of(self.alloc, answered.reply(), id_of(id))?;
+        outbox.hold(ByteText::new(frame))?;
+        if self.machine.commit(answered).is_err() {
+            outbox.take_back();
             return Err(OutOfMemory);
         }
         self.spend();
@@ -253,8 +236,7 @@ impl Desk {
 
     // The next choice is taken.
     fn spend(&mut self)
-        ensures first { self.new.first ≡ self.old.first }
-        ensures left { self.new.now ≡ spent self.old.now }
+        ensures { self.new ≡ spent self.old self.old.machine }
     {
         if self.used < self.choices.as_slice().len() {
             self.used += 1;
@@ -266,37 +248,34 @@ impl Desk {
         &mut self,
         id: Option<u32>,
         request: &Request,
-        output: &mut Vec<u8>,
+        outbox: &mut Outbox,
     ) -> Result<(), OutOfMemory>
-        ensures first { self.new.first ≡ self.old.first }
-        ensures left { OnOk result (self.new.now ≡ (respond self.old.now id request.now).1) }
-        ensures said { OnOk result (output.new.items ≡ output.old.items
-            ++ (respond self.old.now id request.now).0) }
+        ensures left { OnOk result (self.new ≡ (respond self.old id request.now).1) }
+        ensures said { OnOk result (outbox.new ≡ with_said outbox.old (respond self.old id request.now).0) }
         ensures kept { OnErr result (self.new ≡ self.old) }
-        ensures same { OnErr result (output.new.items ≡ output.old.items) }
+        ensures same { OnErr result (outbox.new ≡ outbox.old) }
     {
         if is_hello(request) {
-            return self.greet(output);
+            return self.greet(outbox);
         }
         if !self.greeted {
             self.over = true;
             return Ok(());
         }
         if is_query(request) {
-            return self.tell(id, output);
+            return self.tell(id, request, outbox);
         }
-        self.serve(id, request, output)
+        self.serve(id, request, outbox)
     }
 
-    /// Answers the body of a frame: the frame of the answer is put behind the output. Or nothing is done.
+    /// Answers the body of a frame: VERSION and the limits are said at once, and the frame of another answer waits. An
+    /// Err comes only for want of memory, and nothing is changed.
     #[tactic(auto, unfolding(crate::specs::Serving::step))]
-    pub(crate) fn answer(&mut self, body: &[u8], output: &mut Vec<u8>) -> Result<(), OutOfMemory>
-        ensures first { self.new.first ≡ self.old.first }
-        ensures left { OnOk result (self.new.now ≡ (step self.old.now body.now).1) }
-        ensures said { OnOk result (output.new.items ≡ output.old.items
-            ++ (step self.old.now body.now).0) }
+    pub(crate) fn answer(&mut self, body: &[u8], outbox: &mut Outbox) -> Result<(), OutOfMemory>
+        ensures left { OnOk result (self.new ≡ (step self.old body.now).1) }
+        ensures said { OnOk result (outbox.new ≡ with_said outbox.old (step self.old body.now).0) }
         ensures kept { OnErr result (self.new ≡ self.old) }
-        ensures same { OnErr result (output.new.items ≡ output.old.items) }
+        ensures same { OnErr result (outbox.new ≡ outbox.old) }
     {
         if self.over {
             return Ok(());
@@ -305,6 +284,6 @@ impl Desk {
             self.over = true;
             return Ok(());
         };
-        self.respond(id, &request, output)
+        self.respond(id, &request, outbox)
     }
 }

@@ -1,16 +1,11 @@
-//! A server of files in memory, as an SFTP version 3 server answers its requests
-//! (draft-ietf-secsh-filexfer-02, sections 6 and 7).
+//! A server of files and directories in memory behind a link, as an SFTP version 3 server answers its requests
+//! (draft-ietf-secsh-filexfer-02). The server itself is that of `sftp_machine`; here are the bytes that come and go.
 #![tactic(auto)]
 
 mod desk;
-mod laws;
-mod machine;
 mod map_server;
-mod names;
 
-pub use desk::gives_within;
-pub use laws::grants_are_new;
-pub use machine::Machine;
 pub use map_server::MapServer;
+pub use sftp_machine::{Machine, components, gives_within, grants_are_new, may_begin};
 pub use sftp_model::{Choice, Limits, ServerConfig};
 pub use ssh_encoding::OutOfMemory;

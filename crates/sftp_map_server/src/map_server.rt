@@ -1,52 +1,59 @@
-// The file machine as a link in memory.
-ghost use Rattle.std.specs.Prelude.{◌≡◌, ◌≤◌, ◌<◌, ◌^◌, ◌∷◌, ◌++◌, ◌+◌, ◌-◌, [], None, Some, length, reverse, IfOk, OnOk, OnErr, is_some, false, true, drop, min, take, vec_len, vec_capacity};
+// A server of files and directories in memory as a link.
+ghost use Rattle.std.specs.Prelude.{◌≡◌, ◌≤◌, ◌<◌, ◌∷◌, ◌++◌, ◌+◌, ◌-◌, [], None, Some, length, filter, reverse, IfOk, OnOk, OnErr, is_some, false, true, drop, min, take, vec_len, vec_capacity};
 ghost use Rattle.std.specs.Option.{option_map};
 ghost use Rattle.sftp_link.specs.Causes.{Cause};
 ghost use Rattle.sftp_link.specs.Script.{limited as limited_by};
 ghost use Rattle.sftp_link.specs.Told.{IsEnd, Receives, Sends};
-ghost use Rattle.sftp_map_server.specs.Order.{file_at};
+ghost use Rattle.sftp_machine.specs.MachineState.{IsValid};
+ghost use Rattle.sftp_machine.specs.WaitingFrames.{turned};
 ghost use Rattle.sftp_map_server.specs.Serving.{Absorbs, Gives, IsServing, server_of, opened, first_desk};
 ghost use Rattle.sftp_model.specs.Numbers.{MAX_BODY_LEN};
+ghost use Rattle.sftp_tree.specs.FirstTree.{may_begin};
+ghost use Rattle.sftp_tree.specs.Listing.{dir_at, file_at, has_directory, has_file};
 ghost use Rattle.sftp_wire.specs.FrameReader.{told_len as told_len_of, fault_of, missing as missing_of};
 ghost use Rattle.ssh_encoding.specs.Writing.{string};
 
 use crate::desk::Desk;
-use crate::machine::Machine;
 use sftp_link::{DeviceError, Link, LinkIn, LinkOut, LinkState, Piece};
+use sftp_machine::{Machine, Outbox};
 use sftp_model::numbers::MAX_BODY_LEN;
 use sftp_model::{Choice, ServerConfig};
 use sftp_values::{ByteText, Items};
 use ssh_encoding::OutOfMemory;
 use std::alloc::Global;
 use std::marker::Model;
+use std::snapshot::Snapshot;
 
-/// A server of files in memory, as a link without faults. It answers each frame as soon as it has
-/// come whole, in order; its handles are those of a [`Machine`].
+/// A server of files and directories in memory, as a link without faults. It answers each frame as soon as it has come
+/// whole, in order, as a [`Machine`] does, and gives its replies in the order of its picks.
 #[derive(Drop)]
 pub struct MapServer {
     alloc: Global,
     desk: Desk,
     log: Vec<Piece>,
     input: Vec<u8>,
-    output: Vec<u8>,
+    outbox: Outbox,
     ended: bool,
+    // What it began with; clauses alone read it.
+    first_desk: Snapshot<Desk>,
+    first_picks: Snapshot<Items<u32>>,
 }
 
 impl Model for MapServer {
     ghost use Rattle.std.specs.Prelude.{reverse};
-    ghost use Rattle.sftp_map_server.specs.Serving.{Serving, IsServing, server_of};
+    ghost use Rattle.sftp_map_server.specs.Serving.{Serving, IsServing, opened, server_of};
 
     ghost Value = { Serving };
 
     ghost view = { λ s. record {
-      first = s.desk.first;
-      now = server_of s.desk.now s.input.items s.output.items;
+      first = opened s.first_desk.value s.first_picks.value;
+      now = server_of s.desk s.input.items s.outbox;
       log = reverse s.log.items;
       ended = s.ended;
     } };
 
-    ghost invariant = { λ s. IsServing s.desk.first
-        (server_of s.desk.now s.input.items s.output.items) (reverse s.log.items) s.ended };
+    ghost invariant = { λ s. IsServing (opened s.first_desk.value s.first_picks.value)
+        (server_of s.desk s.input.items s.outbox) (reverse s.log.items) s.ended };
 }
 
 /// The length that the first four bytes tell.
@@ -109,18 +116,16 @@ fn add_piece(log: &mut Vec<Piece>, piece: Piece)
 fn absorb(
     desk: &mut Desk,
     input: &mut Vec<u8>,
-    output: &mut Vec<u8>,
+    outbox: &mut Outbox,
     bytes: &[u8],
 ) -> Result<(), OutOfMemory>
     requires part { 0 < missing_of input.old.items }
-    requires within { desk.old.now.over ≡ false → length bytes.now ≤ missing_of input.old.items }
-    ensures first { desk.new.first ≡ desk.old.first }
-    ensures absorbs { OnOk result (Absorbs
-        (server_of desk.old.now input.old.items output.old.items) bytes.now
-        (server_of desk.new.now input.new.items output.new.items)) }
+    requires within { desk.old.over ≡ false → length bytes.now ≤ missing_of input.old.items }
+    ensures absorbs { OnOk result (Absorbs (server_of desk.old input.old.items outbox.old) bytes.now
+        (server_of desk.new input.new.items outbox.new)) }
     ensures desk { OnErr result (desk.new ≡ desk.old) }
     ensures input { OnErr result (input.new.items ≡ input.old.items) }
-    ensures output { OnErr result (output.new.items ≡ output.old.items) }
+    ensures outbox { OnErr result (outbox.new ≡ outbox.old) }
 {
     if desk.is_over() {
         input.clear();
@@ -136,7 +141,7 @@ fn absorb(
     if missing(input) > 0 {
         return Ok(());
     }
-    if desk.answer(body_of(input), output).is_err() {
+    if desk.answer(body_of(input), outbox).is_err() {
         input.truncate(before);
         return Err(OutOfMemory);
     }
@@ -145,46 +150,93 @@ fn absorb(
 }
 
 impl MapServer {
-    /// A server of these files, each a name and its bytes, whose k-th request takes the k-th
-    /// choice. Refused only for want of memory.
+    /// A server of these files, each a path and its bytes, which begins with the parents of their names. Its k-th
+    /// request takes the k-th choice, and the k-th reply that it gives is the one that the k-th pick takes of those
+    /// that wait. `may_begin` tells whether it may begin so. Refused only for want of memory; nothing is left of it then.
     pub fn new(
         alloc: Global,
         files: &[(ByteText, ByteText)],
         config: ServerConfig,
         choices: Items<Choice>,
+        picks: Items<u32>,
     ) -> Result<MapServer, OutOfMemory>
-        requires { length files.now < 2 ^ 32 }
+        requires { may_begin files.now [] ≡ true }
         ensures { IfOk result (λ s. s ≡ record {
-          first = first_desk files.now config choices;
-          now = opened (first_desk files.now config choices);
+          first = opened (first_desk files.now [] config choices) picks;
+          now = opened (first_desk files.now [] config choices) picks;
           log = [];
           ended = false;
         }) }
     {
-        let machine = Machine::new(alloc, files, config)?;
+        MapServer::new_tree(alloc, files, &[], config, choices, picks)
+    }
+
+    /// The same with these directories too, each a path.
+    pub fn new_tree(
+        alloc: Global,
+        files: &[(ByteText, ByteText)],
+        dirs: &[ByteText],
+        config: ServerConfig,
+        choices: Items<Choice>,
+        picks: Items<u32>,
+    ) -> Result<MapServer, OutOfMemory>
+        requires { may_begin files.now dirs.now ≡ true }
+        ensures { IfOk result (λ s. s ≡ record {
+          first = opened (first_desk files.now dirs.now config choices) picks;
+          now = opened (first_desk files.now dirs.now config choices) picks;
+          log = [];
+          ended = false;
+        }) }
+    {
+        let machine = Machine::new_tree(alloc, files, dirs, config)?;
+        let desk = Desk::new(alloc, machine, choices);
         Ok(MapServer {
             alloc,
-            desk: Desk::new(alloc, machine, choices),
+            first_desk: Snapshot::of(&desk),
+            first_picks: Snapshot::of(&picks),
+            desk,
             log: Vec::new(alloc),
             input: Vec::new(alloc),
-            output: Vec::new(alloc),
+            outbox: Outbox::new(alloc, picks),
             ended: false,
         })
     }
 
-    /// How many files have a name.
+    /// How many names have a file.
     pub fn file_count(&self) -> u64
-        ensures { result ≡ length self.now.now.desk.granting.machine.names }
+        ensures { result ≡ length (filter has_file self.now.now.desk.machine.tree.names) }
     {
         self.desk.machine().file_count()
     }
 
-    /// The name and the bytes of file `k`, counted from 0 in the order of the names by bytes.
+    /// The written name and the bytes of file `k`, counted from 0 in the order of the written names by bytes.
     pub fn file(&self, k: u64) -> Option<(&[u8], &[u8])>
         ensures { option_map (λ f. (f.0.now, f.1.now)) result
-            ≡ file_at self.now.now.desk.granting.machine k }
+            ≡ file_at self.now.now.desk.machine.tree k }
     {
         self.desk.machine().file(k)
+    }
+
+    /// How many names have a directory; the root has no name.
+    pub fn dir_count(&self) -> u64
+        ensures { result ≡ length (filter has_directory self.now.now.desk.machine.tree.names) }
+    {
+        self.desk.machine().dir_count()
+    }
+
+    /// The written name of directory `k`, counted from 0 in the order of the written names by bytes.
+    pub fn dir(&self, k: u64) -> Option<&[u8]>
+        ensures { option_map (λ d. d.now) result ≡ dir_at self.now.now.desk.machine.tree k }
+    {
+        self.desk.machine().dir(k)
+    }
+
+    /// How many handles were granted. Each open handle is a number below it.
+    pub fn grant_count(&self) -> u64
+        ensures count { result ≡ self.now.now.desk.machine.grants }
+        ensures valid { IsValid self.now.now.desk.machine }
+    {
+        self.desk.machine().grant_count()
     }
 
     /// Whether its last call met the end. What it keeps: its log is that of a server from its first
@@ -214,7 +266,7 @@ fn wanted(is_over: bool, input: &[u8], most: usize) -> usize
 
 impl LinkState for MapServer {
     ghost use Rattle.std.specs.Prelude.{Some};
-    ghost use Rattle.sftp_map_server.specs.Serving.{Desk as FirstDesk};
+    ghost use Rattle.sftp_map_server.specs.Serving.{Server};
 
     ghost log = { λ s. Some s.log };
 
@@ -222,7 +274,7 @@ impl LinkState for MapServer {
 
     ghost ended = { λ s. s.ended };
 
-    ghost Service = { FirstDesk };
+    ghost Service = { Server };
 
     ghost service = { λ s. s.first };
 }
@@ -238,7 +290,7 @@ impl LinkOut for MapServer {
         ensures cause { Cause 0 0 result }
         ensures same { self.new.first ≡ self.old.first }
         ensures cut { IfOk result
-            (λ n. n ≤ limited_by self.old.now.desk.granting.config.cut (length bytes.now)) }
+            (λ n. n ≤ limited_by self.old.now.desk.machine.config.cut (length bytes.now)) }
         ensures absorbs { IfOk result (λ n. Absorbs self.old.now (take n bytes.now) self.new.now) }
         ensures kept { OnErr result (self.new.now ≡ self.old.now) }
     {
@@ -247,7 +299,7 @@ impl LinkOut for MapServer {
         let n = wanted(self.desk.is_over(), &self.input, most);
         let front = Vec::from_slice(self.alloc, &bytes[..n])?;
         self.log.reserve(1)?;
-        if absorb(&mut self.desk, &mut self.input, &mut self.output, &front).is_err() {
+        if absorb(&mut self.desk, &mut self.input, &mut self.outbox, &front).is_err() {
             return Err(DeviceError::OutOfMemory);
         }
         add_piece(&mut self.log, Piece::Sent(ByteText::new(front)));
@@ -256,7 +308,8 @@ impl LinkOut for MapServer {
 }
 
 impl LinkIn for MapServer {
-    /// Gives the first bytes of the answers, up to the cut and the room; where none waits, the end.
+    /// Gives the first bytes of what is given next, up to the cut and the room: of the frame that is being given, or of
+    /// the one that is picked. Where nothing waits, that is the end. The rest of the room stays as it is.
     fn recv(&mut self, room: &mut [u8]) -> Result<usize, DeviceError>
         requires some { 0 < length room.old }
         ensures within { IfOk result (λ n. n ≤ length room.new) }
@@ -265,19 +318,19 @@ impl LinkIn for MapServer {
         ensures cause { Cause 0 0 result }
         ensures same { self.new.first ≡ self.old.first }
         ensures cut { IfOk result (λ n. n ≡ min
-            (limited_by self.old.now.desk.granting.config.cut (length room.old))
-            (length self.old.now.output)) }
+            (limited_by self.old.now.desk.machine.config.cut (length room.old))
+            (length (turned self.old.now.output).ready)) }
         ensures gives { IfOk result (λ n. Gives self.old.now (take n room.new) self.new.now) }
         ensures kept { OnErr result (self.new.now ≡ self.old.now) }
+        ensures rest { IfOk result (λ n. drop n room.new ≡ drop n room.old) }
     {
         self.ended = false;
-        let n = limited(self.desk.cut(), room.len()).min(self.output.len());
-        let piece = Vec::from_slice(self.alloc, &self.output[..n])?;
-        let rest = Vec::from_slice(self.alloc, &self.output[n..])?;
+        let n = limited(self.desk.cut(), room.len()).min(self.outbox.front().len());
+        let piece = Vec::from_slice(self.alloc, &self.outbox.front()[..n])?;
         self.log.reserve(1)?;
         room[..n].copy_from_slice(&piece);
         add_piece(&mut self.log, Piece::Got(ByteText::new(piece)));
-        self.output = rest;
+        self.outbox.give(n);
         self.ended = n == 0;
         Ok(n)
     }

@@ -1,8 +1,11 @@
-use Rattle.std.proofs.Common.{◌≡◌, ◌∙◌, ap}
-use Rattle.sftp_map_server.specs.Serving.{Desks, spent}
-use Rattle.sftp_map_server.proofs.Choices.{one_more}
+use Rattle.std.proofs.Common.{ℕ, Bool, List, drop, ap, sym, ◌∙◌}
+use Rattle.std.proofs.lemmas.List.{drop-drop}
+use Rattle.sftp_model.specs.declared.config.Choice.{Choice}
+use Rattle.sftp_map_server.specs.Serving.{Desk, spent}
 use Rattle.sftp_map_server.proofs.desk.Desk.spend.Goals as goal
 
-pub returns-then-self-as_slice-clause-left : goal.returns-then-self-as_slice-clause-left
-returns-then-self-as_slice-clause-left c =
-    one_more c.self.inside.machine c.self.inside.choices c.self.inside.used c.self.inside.greeted c.self.inside.over ∙ ap (λ (w : Desks). spent w.now) c.self.view_is
+pub returns-then-self-as_slice : goal.returns-then-self-as_slice
+returns-then-self-as_slice c =
+    let d = c.self.inside in
+    ap (λ (w : List Choice). let q : Desk = record { machine = d.machine; choices = w; greeted = d.greeted; over = d.over } in q) (sym (drop-drop 1 d.used d.choices))
+    ∙ ap (λ (w : Desk). spent w w.machine) c.self.view_is
