@@ -1,5 +1,5 @@
 //! Writes the text of a session: a line for each frame that was sent or taken, one for the outcome of each call,
-//! and one for each file that is left.
+//! and one for each file and each directory that is left.
 #![tactic(auto)]
 
 mod frames;
@@ -12,4 +12,4 @@ mod words;
 pub use laws::traces_keep_texts;
 pub use sftp_history::Report;
 pub use ssh_encoding::OutOfMemory;
-pub use text::{write_file, write_text};
+pub use text::{write_dir, write_file, write_text};

@@ -1,6 +1,6 @@
 ghost use Rattle.std.specs.Prelude.{◌≡◌, ◌++◌, OnOk, OnErr};
 ghost use Rattle.sftp_wire.specs.Body.{Grows};
-ghost use Rattle.sftp_history.specs.Texts.{text_of, file_text};
+ghost use Rattle.sftp_history.specs.Texts.{text_of, file_text, dir_text};
 ghost use Rattle.sftp_text.specs.Traces.{journal_of};
 
 use crate::frames::put_frames;
@@ -64,5 +64,30 @@ fn put_file(name: &[u8], content: &[u8], out: &mut Vec<u8>) -> Result<(), OutOfM
 {
     put_bytes_behind("file ", name, out)?;
     put_bytes_behind(" ", content, out)?;
+    put_word("\n", out)
+}
+
+/// Appends the line of a directory that is left. Refused for want of memory; `out` is unchanged then.
+pub fn write_dir(_alloc: Global, name: &[u8], out: &mut Vec<u8>) -> Result<(), OutOfMemory>
+    ensures ok { OnOk result (out.new.items ≡ out.old.items ++ dir_text name.now) }
+    ensures err { OnErr result (out.new.items ≡ out.old.items) }
+{
+    let before = out.len();
+    match put_dir(name, out) {
+        Ok(()) => Ok(()),
+        Err(OutOfMemory) => {
+            out.truncate(before);
+            Err(OutOfMemory)
+        }
+    }
+}
+
+/// The line of a directory.
+#[tactic(auto, using(sftp_wire::proofs::Puts::puts))]
+fn put_dir(name: &[u8], out: &mut Vec<u8>) -> Result<(), OutOfMemory>
+    ensures ok { OnOk result (out.new.items ≡ out.old.items ++ dir_text name.now) }
+    ensures grows { Grows out.old.items out.new.items }
+{
+    put_bytes_behind("dir ", name, out)?;
     put_word("\n", out)
 }

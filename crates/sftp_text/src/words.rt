@@ -73,12 +73,18 @@ pub(crate) fn kind_name(kind: IoKind) -> &'static str
 pub(crate) fn extension_word(extension: Extensions) -> &'static str
     ensures { result.now ≡ extension_word extension.0 }
 {
-    match extension.bits() {
-        1 => "posix-rename",
-        2 => "hardlink",
-        4 => "fsync",
-        8 => "expand-path",
-        16 => "copy-data",
-        _ => "limits",
+    let bits = extension.bits();
+    if bits == Extensions::POSIX_RENAME.bits() {
+        "posix-rename"
+    } else if bits == Extensions::HARDLINK.bits() {
+        "hardlink"
+    } else if bits == Extensions::FSYNC.bits() {
+        "fsync"
+    } else if bits == Extensions::EXPAND_PATH.bits() {
+        "expand-path"
+    } else if bits == Extensions::COPY_DATA.bits() {
+        "copy-data"
+    } else {
+        "limits"
     }
 }
