@@ -7,3 +7,6 @@ pub mod Counts
 pub mod Fields
 pub mod InLanes
 pub mod Steps
+pub mod FirstLaws
+pub mod LineLaws
+pub mod ScriptLaws

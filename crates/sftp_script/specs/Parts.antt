@@ -1,10 +1,16 @@
--- Parts of lines.
+-- Parts of drafts and of lines.
 use Rattle.std.specs.Prelude.{ℕ, List, [], ◌∷◌, ◌++◌, Result, Ok}
 use Rattle.ssh_encoding.specs.Reading.{◌>>=◌}
 use Rattle.sftp_model.specs.declared.config.Limits.{Limits}
+use Rattle.sftp_tree.specs.FirstTree.{FirstFile}
 use Rattle.sftp_history.specs.declared.reason.Reason.{Reason}
 use Rattle.sftp_history.specs.Lines.{number_in}
 use Rattle.sftp_history.specs.Scripts.{Draft, greatest_u64}
+
+-- the first files, each a path and its bytes, and the paths of the first directories
+pub record First : Type 0 where
+  pub files : List FirstFile
+  pub dirs : List (List ℕ)
 
 -- the cut that a script tells
 abbrev pub with_cut : Draft → ℕ → Draft
@@ -12,7 +18,11 @@ with_cut d n = record d { script = record d.script { server = record d.script.se
 
 -- a file more
 abbrev pub with_file : Draft → List ℕ → List ℕ → Draft
-with_file d name content = record d { script = record d.script { files = d.script.files ++ (name, content) ∷ [] } }
+with_file d path content = record d { script = record d.script { files = d.script.files ++ (path, content) ∷ [] } }
+
+-- a directory more
+abbrev pub with_dir : Draft → List ℕ → Draft
+with_dir d path = record d { script = record d.script { dirs = d.script.dirs ++ path ∷ [] } }
 
 -- the four limits
 abbrev pub limits_of : List ℕ → List ℕ → List ℕ → List ℕ → Result Limits Reason

@@ -1,13 +1,15 @@
 // A script of which some lines are read.
-ghost use Rattle.std.specs.Prelude.{◌≡◌, ◌++◌, ◌∷◌, ◌≤◌, ◌==◌, [], not, Some, Ok, is_some, ◌≢◌, Err, OnOk, IfErr, MatchResult, MatchBool};
+ghost use Rattle.std.specs.Prelude.{◌≡◌, ◌++◌, ◌∷◌, ◌≤◌, ◌==◌, [], not, Some, Ok, is_some, ◌≢◌, Err, OnOk, IfErr, MatchResult, MatchBool, true};
 ghost use Rattle.std.specs.List.{list_any};
 ghost use Rattle.std.specs.Int.RustNames.{bit_or};
 ghost use Rattle.sftp_model.specs.Readings.{has_bit};
-ghost use Rattle.sftp_history.specs.Scripts.{empty_script, with_options, unless_said, is_file, with_lane, with_turn, call_at_end, with_call, with_extension, with_limits};
-ghost use Rattle.sftp_script.specs.Parts.{with_cut, with_file};
+ghost use Rattle.sftp_history.specs.Scripts.{empty_script, with_options, unless_said, may_add, meets_file, meets_dir, with_lane, with_turn, call_at_end, with_call, with_extension, with_limits};
+ghost use Rattle.sftp_tree.specs.Components.{components};
+ghost use Rattle.sftp_script.specs.Parts.{with_cut, with_dir, with_file};
 ghost use Rattle.sftp_script.specs.Refusals.{Refuses};
 
 use crate::error::LineError;
+use crate::first::FirstTree;
 use bitflags::Flags;
 use sftp_core::SftpOptions;
 use sftp_history::{Call, Lane, Reason, Script, Turn};
@@ -22,7 +24,7 @@ use std::marker::Model;
 pub struct Draft {
     options: SftpOptions,
     server: ServerConfig,
-    files: Vec<(ByteText, ByteText)>,
+    first: FirstTree,
     choices: Vec<Choice>,
     picks: Vec<u32>,
     lanes: Vec<Lane>,
@@ -39,7 +41,8 @@ impl Model for Draft {
       script = record {
         options = d.options;
         server = d.server;
-        files = d.files.items;
+        files = d.first.files;
+        dirs = d.first.dirs;
         choices = d.choices.items;
         picks = d.picks.items;
         lanes = d.lanes.items;
@@ -61,7 +64,7 @@ impl Draft {
                 limits: None,
                 cut: 0,
             },
-            files: Vec::new(alloc),
+            first: FirstTree::new(alloc),
             choices: Vec::new(alloc),
             picks: Vec::new(alloc),
             lanes: Vec::new(alloc),
@@ -74,10 +77,12 @@ impl Draft {
     pub(crate) fn into_script(self) -> Script
         ensures { result ≡ self.script }
     {
+        let (files, dirs) = self.first.into_parts();
         Script {
             options: self.options,
             server: self.server,
-            files: Items::new(self.files),
+            files,
+            dirs,
             choices: Items::new(self.choices),
             picks: Items::new(self.picks),
             lanes: Items::new(self.lanes),
@@ -145,15 +150,42 @@ impl Draft {
         Ok(())
     }
 
-    /// One file more, whose name no other file has.
-    pub(crate) fn add_file(&mut self, name: ByteText, content: ByteText) -> Result<(), LineError>
-        ensures ok { OnOk result (unless_said (is_file self.old.script.files name) (with_file self.old name content) ≡ Ok self.new) }
-        ensures refused { IfErr result (λ e. Refuses (unless_said (is_file self.old.script.files name) (with_file self.old name content)) e) }
+    /// Whether a file more may have these bytes.
+    pub(crate) fn may_add(&self, content: &[u8]) -> bool
+        ensures { result ≡ may_add self.now.script.files content.now }
     {
-        if is_file(self.files.as_slice(), name.as_slice()) {
+        self.first.may_add(content)
+    }
+
+    /// One file more, unless its name meets one that was given before.
+    pub(crate) fn add_file(
+        &mut self,
+        path: ByteText,
+        name: Items<ByteText>,
+        content: ByteText,
+    ) -> Result<(), LineError>
+        requires named { name ≡ components path }
+        requires room { may_add self.old.script.files content ≡ true }
+        ensures ok { OnOk result (unless_said (meets_file self.old.script (components path)) (with_file self.old path content) ≡ Ok self.new) }
+        ensures refused { IfErr result (λ e. Refuses (unless_said (meets_file self.old.script (components path)) (with_file self.old path content)) e) }
+    {
+        if self.first.meets_file(name.as_slice()) {
             return Err(LineError::Refused(Reason::Repeat));
         }
-        self.files.push((name, content))?;
+        self.first.add_file(path, name, content)?;
+        Ok(())
+    }
+
+    /// One directory more, unless its name meets one that was given before.
+    pub(crate) fn add_dir(&mut self, path: ByteText, name: Items<ByteText>) -> Result<(), LineError>
+        requires { name ≡ components path }
+        ensures ok { OnOk result (unless_said (meets_dir self.old.script (components path)) (with_dir self.old path) ≡ Ok self.new) }
+        ensures refused { IfErr result (λ e. Refuses (unless_said (meets_dir self.old.script (components path)) (with_dir self.old path)) e) }
+    {
+        if self.first.meets_dir(name.as_slice()) {
+            return Err(LineError::Refused(Reason::Repeat));
+        }
+        self.first.add_dir(path, name)?;
         Ok(())
     }
 
@@ -211,13 +243,6 @@ fn is_named(named: &[u8], key: u8) -> bool
     ensures { result ≡ list_any (λ k. k == key) named.now }
 {
     named.iter().any(|k| *k == key)
-}
-
-/// Whether a file has the name.
-fn is_file(files: &[(ByteText, ByteText)], name: &[u8]) -> bool
-    ensures { result ≡ is_file files.now name.now }
-{
-    files.iter().any(|file| file.0.as_slice() == name)
 }
 
 /// One call more at the end of the last lane, where there is a lane.

@@ -4,9 +4,12 @@
 mod calls;
 mod draft;
 mod error;
+mod first;
 mod flags;
 mod hex;
+mod laws;
 mod lines;
+mod names;
 mod number;
 mod options;
 mod script;
@@ -14,5 +17,6 @@ mod server;
 mod words;
 
 pub use error::ScriptError;
+pub use laws::{scripts_have_a_write_limit, scripts_may_begin};
 pub use script::read_script;
 pub use sftp_history::{Reason, Script};

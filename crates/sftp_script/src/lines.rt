@@ -1,20 +1,24 @@
 // One line by its first word.
-ghost use Rattle.std.specs.Prelude.{◌≡◌, Ok, OnOk, IfErr};
+ghost use Rattle.std.specs.Prelude.{◌≡◌, Ok, IfOk, OnOk, IfErr, true};
 ghost use Rattle.sftp_history.specs.declared.turn.Turn.TheVariants as turns;
 ghost use Rattle.sftp_history.specs.Lines.{words_of, is_comment};
-ghost use Rattle.sftp_history.specs.Scripts.{file_line, refusal_in, choice_line, pick_line, server_line, lane_turn, with_lane, with_turn, no_word, one_word, two_words, line_by, read_line};
+ghost use Rattle.sftp_history.specs.Scripts.{path_in, content_in, may_add, file_line, dir_line, refusal_in, choice_line, pick_line, server_line, lane_turn, with_lane, with_turn, no_word, one_word, two_words, line_by, read_line};
+ghost use Rattle.sftp_tree.specs.Components.{components};
 ghost use Rattle.sftp_script.specs.Refusals.{Refuses};
 
 use crate::calls::{close_line, open_line, read_file_line};
 use crate::draft::Draft;
 use crate::error::LineError;
 use crate::hex::bytes_in;
+use crate::names::may_be_named;
 use crate::number::number_from;
 use crate::options::option_line;
 use crate::server::server_line;
 use crate::words::{no_word, one_word, split_word, two_words};
 use sftp_history::{Reason, Turn};
+use sftp_machine::components;
 use sftp_model::Choice;
+use sftp_values::{ByteText, Items};
 use std::alloc::Global;
 
 const OPTION: &[u8] = b"option";
@@ -22,6 +26,8 @@ const OPTION: &[u8] = b"option";
 const SERVER: &[u8] = b"server";
 
 const FILE: &[u8] = b"file";
+
+const DIR: &[u8] = b"dir";
 
 const CHOICE: &[u8] = b"choice";
 
@@ -43,14 +49,49 @@ const READ: &[u8] = b"read";
 
 const CLOSE: &[u8] = b"close";
 
-/// The server has a file of this name and content.
-fn add_file(alloc: Global, draft: &mut Draft, name: &[u8], content: &[u8]) -> Result<(), LineError>
-    ensures ok { OnOk result (file_line draft.old name.now content.now ≡ Ok draft.new) }
-    ensures refused { IfErr result (λ e. Refuses (file_line draft.old name.now content.now) e) }
+/// A path of a name that may be there, and the name.
+fn path_in(alloc: Global, word: &[u8]) -> Result<(ByteText, Items<ByteText>), LineError>
+    ensures ok { IfOk result (λ p. (path_in word.now ≡ Ok p.0) × (p.1 ≡ components p.0)) }
+    ensures refused { IfErr result (λ e. Refuses (path_in word.now) e) }
 {
-    let name = bytes_in(alloc, name)?;
-    let content = bytes_in(alloc, content)?;
-    draft.add_file(name, content)
+    let path = bytes_in(alloc, word)?;
+    let name = components(alloc, path.as_slice())?;
+    if !may_be_named(name.as_slice()) {
+        return Err(LineError::Refused(Reason::Range));
+    }
+    Ok((path, name))
+}
+
+/// The bytes of a file more.
+fn content_in(alloc: Global, draft: &Draft, word: &[u8]) -> Result<ByteText, LineError>
+    ensures ok { IfOk result (λ content. (content_in draft.now.script.files word.now ≡ Ok content)
+        × (may_add draft.now.script.files content ≡ true)) }
+    ensures refused { IfErr result (λ e. Refuses (content_in draft.now.script.files word.now) e) }
+{
+    let content = bytes_in(alloc, word)?;
+    if !draft.may_add(content.as_slice()) {
+        return Err(LineError::Refused(Reason::Range));
+    }
+    Ok(content)
+}
+
+/// The server has a file at this path, with this content.
+fn add_file(alloc: Global, draft: &mut Draft, path: &[u8], content: &[u8]) -> Result<(), LineError>
+    ensures ok { OnOk result (file_line draft.old path.now content.now ≡ Ok draft.new) }
+    ensures refused { IfErr result (λ e. Refuses (file_line draft.old path.now content.now) e) }
+{
+    let (path, name) = path_in(alloc, path)?;
+    let content = content_in(alloc, draft, content)?;
+    draft.add_file(path, name, content)
+}
+
+/// The server has a directory at this path.
+fn add_dir(alloc: Global, draft: &mut Draft, path: &[u8]) -> Result<(), LineError>
+    ensures ok { OnOk result (dir_line draft.old path.now ≡ Ok draft.new) }
+    ensures refused { IfErr result (λ e. Refuses (dir_line draft.old path.now) e) }
+{
+    let (path, name) = path_in(alloc, path)?;
+    draft.add_dir(path, name)
 }
 
 /// The words behind `file`.
@@ -61,6 +102,16 @@ fn file_line(alloc: Global, draft: &mut Draft, line: &[u8]) -> Result<(), LineEr
 {
     let (name, content) = two_words(line)?;
     add_file(alloc, draft, name, content)
+}
+
+/// The word behind `dir`.
+#[tactic(auto, using(crate::proofs::Counts::not_one))]
+fn dir_line(alloc: Global, draft: &mut Draft, line: &[u8]) -> Result<(), LineError>
+    ensures ok { OnOk result (one_word (dir_line draft.old) (words_of line.now) ≡ Ok draft.new) }
+    ensures refused { IfErr result (λ e. Refuses (one_word (dir_line draft.old) (words_of line.now)) e) }
+{
+    let path = one_word(line)?;
+    add_dir(alloc, draft, path)
 }
 
 /// The code that a request is refused with, or 0.
@@ -174,6 +225,8 @@ fn line_by(alloc: Global, draft: &mut Draft, word: &[u8], line: &[u8]) -> Result
         server_words(draft, line)
     } else if word == FILE {
         file_line(alloc, draft, line)
+    } else if word == DIR {
+        dir_line(alloc, draft, line)
     } else if word == CHOICE {
         choice_line(draft, line)
     } else if word == PICK {

@@ -7,8 +7,9 @@ ghost use Rattle.sftp_script.specs.Parts.{limits_of};
 use crate::draft::Draft;
 use crate::number::{number_from, number_in};
 use crate::words::{four_words, one_word, split_word};
+use bitflags::Flags;
 use sftp_history::Reason;
-use sftp_model::Limits;
+use sftp_model::{Extensions, Limits};
 
 const POSIX_RENAME: &[u8] = b"posix-rename";
 
@@ -31,15 +32,15 @@ fn extension_in(name: &[u8]) -> Result<u32, Reason>
     ensures { result ≡ extension_in name.now }
 {
     if name == POSIX_RENAME {
-        Ok(1)
+        Ok(Extensions::POSIX_RENAME.bits())
     } else if name == HARDLINK {
-        Ok(2)
+        Ok(Extensions::HARDLINK.bits())
     } else if name == FSYNC {
-        Ok(4)
+        Ok(Extensions::FSYNC.bits())
     } else if name == EXPAND_PATH {
-        Ok(8)
+        Ok(Extensions::EXPAND_PATH.bits())
     } else if name == COPY_DATA {
-        Ok(16)
+        Ok(Extensions::COPY_DATA.bits())
     } else {
         Err(Reason::Mode)
     }
