@@ -26,7 +26,7 @@ use Rattle.sftp_history.proofs.CallLaws.{next_submit}
 use Rattle.sftp_history.specs.Lanes.{weight, lane_weight, weight_limit, is_within, are_ok}
 use Rattle.sftp_history.specs.Runs.{TurnsTo, RoundsTo, EndsTo, LetsGoTo, DrainsTo, Opens, round_of, IsRun}
 use Rattle.sftp_history.specs.Turns.{Stage, TurnTo, MovesBy, RulesTo, ClosesTo, is_full, is_begun, begun_but}
-use Rattle.sftp_map_server.specs.Granting.{MAX_HANDLES}
+use Rattle.sftp_machine.specs.MachineState.{MAX_HANDLES}
 use Rattle.sftp_served.proofs.Asking.{asks_handle, asks_first}
 use Rattle.sftp_served.proofs.Replying.{both_of, is_less}
 use Rattle.sftp_served.proofs.Serving.{handles_asked, called}

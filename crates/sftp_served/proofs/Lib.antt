@@ -1,12 +1,15 @@
 pub mod Asking
 pub mod Strings
+pub mod Places
 pub mod Feeding
 pub mod Sound
 pub mod Replying
 pub mod Owing
+pub mod Picking
 pub mod Showing
 pub mod Stopping
 pub mod Serving
+pub mod Numbering
 pub mod Counting
 pub mod Whole
 pub mod Scripted

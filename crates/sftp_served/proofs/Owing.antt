@@ -1,27 +1,36 @@
 -- What a server owes, by the journal that its log shows.
-use Rattle.std.proofs.Common.{◌≡◌, ◌<◌, ◌≤◌, ◌==◌, ℕ, ◌+◌, Bool, List, [], ◌∷◌, ◌++◌, length, Option, Some, None, Result, Ok, is_some, refl, ap, sym, ◌∙◌, subst, append_assoc, arith, if◌then◌else◌, inl, inr}
+use Rattle.std.proofs.Common.{◌≡◌, ◌≢◌, ◌<◌, ◌≤◌, ◌==◌, ℕ, suc, ◌+◌, Bool, true, false, not, List, [], ◌∷◌, ◌++◌, length, drop, map, Option, Some, None, Result, Ok, is_some, is_none, refl, ap, sym, ◌∙◌, subst, arith, if◌then◌else◌, inl, inr}
+use Rattle.std.specs.Prelude.{◌&&◌}
 use Rattle.std.specs.List.{flat_map}
 use Rattle.std.proofs.lemmas.Bool.Decides.{eqb_tells}
 use Rattle.std.proofs.lemmas.Bool.{ne_eqb, eq-eqb}
 use Rattle.std.proofs.lemmas.Grind.{flat_map-append}
+use Rattle.std.proofs.lemmas.List.{append-nil, map-append}
 use Rattle.ssh_encoding.specs.Writing.{string}
 use Rattle.sftp_model.specs.declared.frame_error.FrameError.{FrameError}
 use Rattle.sftp_model.specs.declared.reply.Reply.{Reply}
 use Rattle.sftp_model.specs.declared.request.Request.{Request}
 use Rattle.sftp_model.specs.declared.config.ServerConfig.{ServerConfig}
 use Rattle.sftp_model.specs.Numbers.{MAX_BODY_LEN}
-use Rattle.sftp_model.specs.Frames.{request_body, reply_body, request_frame, reply_frame}
-use Rattle.sftp_model.specs.ReplyReadings.{reply_at}
+use Rattle.sftp_model.specs.Frames.{request_body, request_frame, reply_frame}
+use Rattle.sftp_machine.specs.WaitingFrames.{WaitingFrames}
 use Rattle.sftp_history.specs.declared.event.Owner.{Owner}
+use Rattle.sftp_history.specs.declared.event.Owner.TheVariants as owner
 use Rattle.sftp_history.specs.declared.event.Event.TheVariants.{Submit, Send, Take}
 use Rattle.sftp_history.specs.declared.entry.Entry.{Entry}
 use Rattle.sftp_history.specs.declared.entry.Entry.TheVariants as entry
-use Rattle.sftp_history.specs.Readings.{Asked, asked, asked_at, sent, unsent, unsent_bytes}
-use Rattle.sftp_map_server.specs.Serving.{Server, Desk, AllShort, all_said, all_left, step}
-use Rattle.sftp_served.proofs.Strings.{pair_is, one_string, no_frame}
+use Rattle.sftp_history.specs.Calls.{Setting}
+use Rattle.sftp_history.specs.Journals.{IsJournal}
+use Rattle.sftp_history.specs.Readings.{Asked, answer, asked, asked_at, sent, unsent, unsent_bytes}
+use Rattle.sftp_history.specs.Served.{is_query, is_setup, taken, those_below}
+use Rattle.sftp_history.proofs.CallLaws.{next_take}
+use Rattle.sftp_history.proofs.RequestLaws.{answer_beyond, answer_other, asked_new, asked_other, sent_asked}
+use Rattle.sftp_map_server.specs.Serving.{AllShort, Desk, Said, Server, all_left, all_said, at_once, both, is_query as is_limits_query, later, nothing, step, with_said}
+use Rattle.sftp_served.proofs.Strings.{pair_is}
+use Rattle.sftp_served.proofs.Places.{below_split, between_more, between_none, between_same, those_between}
 use Rattle.sftp_served.proofs.Feeding.{FedAll, StaysOpen, all_left-append, all_said-append, stays_more}
-use Rattle.sftp_served.proofs.Sound.{IsSound}
-use Rattle.sftp_served.proofs.Replying.{IsGood, Says, reply_to, next_desk, next_good, next_config, step_fits, request_short, says}
+use Rattle.sftp_served.proofs.Sound.{FitsBy, IsSound}
+use Rattle.sftp_served.proofs.Replying.{IsGood, Says, call_query, next_config, next_desk, next_good, reply_to, request_short, said_to, says, step_fits}
 
 -- ---- desks
 
@@ -38,14 +47,14 @@ desk_sent first (entry.Event Send ∷ past) = desk_of first past
 desk_sent first (_ ∷ past) = desk_sent first past
 
 abbrev pub tells_of : Desk → Bool
-tells_of d = is_some d.granting.config.limits
+tells_of d = is_some d.machine.config.limits
 
 pub good_at : (d : Desk) (past : List Entry) → IsGood d → IsGood (desk_of d past)
 good_at d [] g = g
 good_at d (entry.Event (Submit by id r) ∷ past) g = next_good (desk_of d past) r (good_at d past g)
 good_at d (_ ∷ past) g = good_at d past g
 
-pub config_at : (d : Desk) (past : List Entry) → (desk_of d past).granting.config ≡ d.granting.config
+pub config_at : (d : Desk) (past : List Entry) → (desk_of d past).machine.config ≡ d.machine.config
 config_at d [] = refl
 config_at d (entry.Event (Submit by id r) ∷ past) = next_config (desk_of d past) r ∙ config_at d past
 config_at d (_ ∷ past) = config_at d past
@@ -57,18 +66,6 @@ abbrev pub due : Desk → List Entry → ℕ → Option (Asked × Reply)
 due first [] place = None
 due first (entry.Event (Submit by id r) ∷ past) place = if place == asked past then Some (record { by = by; id = id; request = r }, reply_to (desk_of first past) r) else due first past place
 due first (_ ∷ past) place = due first past place
-
--- how many replies were taken
-abbrev pub takes : List Entry → ℕ
-takes [] = 0
-takes (entry.Event (Take id r) ∷ past) = takes past + 1
-takes (_ ∷ past) = takes past
-
--- each reply that was taken was the next one due
-abbrev pub IsInOrder : Desk → List Entry → Type 0
-IsInOrder first [] = Unit {0}
-IsInOrder first (entry.Event (Take id r) ∷ past) = ((a : Asked) × ((due first past (takes past) ≡ Some (a, r)) × (a.id ≡ id))) × IsInOrder first past
-IsInOrder first (_ ∷ past) = IsInOrder first past
 
 pub due_asked : (d : Desk) (past : List Entry) (p : ℕ) (w : Asked × Reply) → due d past p ≡ Some w → asked_at past p ≡ Some w.0
 due_asked d [] p w e = absurd cc
@@ -98,39 +95,43 @@ due_old d past by id p r lt = rw (ne_eqb p (asked past) (λ e. absurd (omega (ar
 pub due_new : (d : Desk) (past : List Entry) (by : Owner) (id : ℕ) (r : Request) → due d (entry.Event (Submit by id r) ∷ past) (asked past) ≡ Some (record { by = by; id = id; request = r }, reply_to (desk_of d past) r)
 due_new d past by id r = rw (eq-eqb (asked past) (asked past) refl) refl
 
--- ---- rows of replies
+-- each request has a reply
+pub due_there : (d : Desk) (past : List Entry) (p : ℕ) → p < asked past → (w : Asked × Reply) × (due d past p ≡ Some w)
+due_there d [] p lt = absurd (omega (arith, lt))
+due_there d (entry.Event (Submit by id r) ∷ past) p lt =
+    elim (eqb_tells p (asked past)) [
+      | inl t ↦ ((record { by = by; id = id; request = r }, reply_to (desk_of d past) r), rw t.0 refl)
+      | inr t ↦ (let small : p < asked past + 1 = lt in let ne : p ≢ asked past = t.1 in let h = due_there d past p (omega (arith, small, ne)) in (h.0, rw t.0 h.1))
+    ]
+due_there d (_ ∷ past) p lt = due_there d past p lt
 
-abbrev Due : Type 0
-Due = ℕ → Option (Asked × Reply)
+-- ---- frames by places
 
--- these stand at the places from n on, and end before m
-abbrev pub IsRow : Due → ℕ → List (Asked × Reply) → ℕ → Type 0
-IsRow f n [] m = n ≡ m
-IsRow f n (w ∷ ws) m = (f n ≡ Some w) × IsRow f (n + 1) ws m
+-- the frame of the reply to the request at a place
+abbrev pub framed : Option (Asked × Reply) → List ℕ
+framed None = []
+framed (Some w) = reply_frame w.1 w.0.id
 
-abbrev pub spelled : List (Asked × Reply) → List ℕ
-spelled [] = []
-spelled (w ∷ ws) = reply_frame w.1 w.0.id ++ spelled ws
+abbrev pub frame_due : Desk → List Entry → ℕ → List ℕ
+frame_due first past place = framed (due first past place)
 
-pub row_le : (f : Due) (n m : ℕ) (ws : List (Asked × Reply)) → IsRow f n ws m → n ≤ m
-row_le f n m [] r = omega (arith, r)
-row_le f n m (w ∷ ws) r = let more = row_le f (n + 1) m ws r.1 in omega (arith, more)
+-- the request at the place is unanswered, and that it is the query for limits passes a test
+abbrev pub stands : (Bool → Bool) → List Entry → ℕ → Bool
+stands test past place = is_none (answer past place) && test (is_query (asked_at past place))
 
-pub row_as : (f g : Due) (n m : ℕ) (ws : List (Asked × Reply)) → ((p : ℕ) → p < m → g p ≡ f p) → IsRow f n ws m → IsRow g n ws m
-row_as f g n m [] e r = r
-row_as f g n m (w ∷ ws) e r = let more = row_le f (n + 1) m ws r.1 in (e n (omega (arith, more)) ∙ r.0, row_as f g (n + 1) m ws e r.1)
+-- it is the query
+abbrev pub itself : Bool → Bool
+itself b = b
 
-row_more : (f : Due) (n m : ℕ) (ws : List (Asked × Reply)) (w : Asked × Reply) → IsRow f n ws m → f m ≡ Some w → IsRow f n (ws ++ w ∷ []) (m + 1)
-row_more f n m [] w r e = (ap f r ∙ e, ap (λ (k : ℕ). k + 1) r)
-row_more f n m (v ∷ ws) w r e = (r.0, row_more f (n + 1) m ws w r.1 e)
+-- the frames of the replies to those requests that were sent
+abbrev pub frames_owed : (Bool → Bool) → Desk → List Entry → List (List ℕ)
+frames_owed test first past = map (frame_due first past) (those_below (stands test past) (sent past))
 
-row_append : (f : Due) (n m k : ℕ) (ws vs : List (Asked × Reply)) → IsRow f n ws m → IsRow f m vs k → IsRow f n (ws ++ vs) k
-row_append f n m k [] vs r q = subst (λ (i : ℕ). IsRow f i vs k) (sym r) q
-row_append f n m k (v ∷ ws) vs r q = (r.0, row_append f (n + 1) m k ws vs r.1 q)
+abbrev pub joined : List (List ℕ) → List ℕ
+joined frames = flat_map (λ (frame : List ℕ). frame) frames
 
-spelled-append : (ws vs : List (Asked × Reply)) → spelled (ws ++ vs) ≡ spelled ws ++ spelled vs
-spelled-append [] vs = refl
-spelled-append (w ∷ ws) vs = ap (λ (x : List ℕ). reply_frame w.1 w.0.id ++ x) (spelled-append ws vs) ∙ sym (append_assoc (reply_frame w.1 w.0.id) (spelled ws) (spelled vs))
+joined_more : (xs : List (List ℕ)) (x : List ℕ) → joined xs ++ x ≡ joined (xs ++ x ∷ [])
+joined_more xs x = sym (flat_map-append (λ (frame : List ℕ). frame) xs (x ∷ []) ∙ ap (λ (w : List ℕ). joined xs ++ w) (append-nil x))
 
 -- ---- what is unsent
 
@@ -153,59 +154,140 @@ short_more : (bs : List (List ℕ)) (b : List ℕ) → AllShort bs → (0 < leng
 short_more [] b p q = (q.0, q.1, tt)
 short_more (x ∷ bs) b p q = (p.0, p.1, short_more bs b p.2 q)
 
--- what is unsent would be answered so
-pub record Unsent (d : Desk) (past : List Entry) : Type 0 where
-  pub replies : List (Asked × Reply)
-  pub row : IsRow (due d past) (sent past) replies (asked past)
-  pub said : all_said (desk_sent d past) (unsent_bodies past) ≡ spelled replies
-  pub left : all_left (desk_sent d past) (unsent_bodies past) ≡ desk_of d past
-  pub stays : StaysOpen (desk_sent d past) (unsent_bodies past)
-  pub short : AllShort (unsent_bodies past)
+-- the frame, where it passes
+abbrev frame_if : Bool → List ℕ → List (List ℕ)
+frame_if b frame = if b then frame ∷ [] else []
 
-pub unsent_owes : (d : Desk) (past : List Entry) → IsGood d → IsSound (tells_of d) past → Unsent d past
-unsent_owes d [] g s = record { replies = []; row = refl; said = refl; left = refl; stays = g.still; short = tt }
-unsent_owes d (entry.Event Send ∷ past) g s = record { replies = []; row = refl; said = refl; left = refl; stays = (good_at d past g).still; short = tt }
+-- the frames of the replies to the requests behind the last Send
+abbrev unsent_frames : (Bool → Bool) → Desk → List Entry → List (List ℕ)
+unsent_frames test first [] = []
+unsent_frames test first (entry.Event Send ∷ past) = []
+unsent_frames test first (entry.Event (Submit by id r) ∷ past) = unsent_frames test first past ++ frame_if (test (is_setup by)) (reply_frame (reply_to (desk_of first past) r) id)
+unsent_frames test first (_ ∷ past) = unsent_frames test first past
+
+-- the reply to the query is given at once, and the others wait
+abbrev unsent_said : Desk → List Entry → Said
+unsent_said first past = record { at_once = joined (unsent_frames itself first past); later = unsent_frames not first past }
+
+-- the query is asked by the opening alone
+pub query_by : (tells : Bool) (by : Owner) (r : Request) → FitsBy tells by r → is_limits_query r ≡ is_setup by
+query_by tells owner.Setup r f = ap is_limits_query f.0
+query_by tells owner.Close r f = ap is_limits_query f.1
+query_by tells (owner.Call lane call) r f = call_query r f
+
+said_more : (b : Bool) (frame : List ℕ) (x : List (List ℕ)) (y : List (List ℕ))
+    → both (record { at_once = joined x; later = y }) (if b then at_once frame else later frame) ≡ record { at_once = joined (x ++ frame_if b frame); later = y ++ frame_if (not b) frame }
+said_more true frame x y i = record { at_once = joined_more x frame i; later = y ++ [] }
+said_more false frame x y i = record { at_once = (append-nil (joined x) ∙ ap joined (sym (append-nil x))) i; later = y ++ frame ∷ [] }
+
+said_next : (d : Desk) (tells : Bool) (by : Owner) (id : ℕ) (r : Request) → FitsBy tells by r → said_to d r id ≡ (if is_setup by then at_once (reply_frame (reply_to d r) id) else later (reply_frame (reply_to d r) id))
+unfolding said_to
+said_next d tells by id r f = ap (λ (b : Bool). if b then at_once (reply_frame (reply_to d r) id) else later (reply_frame (reply_to d r) id)) (query_by tells by r f)
+
+pub both_nothing : (a : Said) → both a nothing ≡ a
+both_nothing a i = record { at_once = append-nil a.at_once i; later = append-nil a.later i }
+
+-- what is unsent would be answered so
+record Unsent (d : Desk) (past : List Entry) : Type 0 where
+  said : all_said (desk_sent d past) (unsent_bodies past) ≡ unsent_said d past
+  left : all_left (desk_sent d past) (unsent_bodies past) ≡ desk_of d past
+  stays : StaysOpen (desk_sent d past) (unsent_bodies past)
+  short : AllShort (unsent_bodies past)
+
+unsent_owes : (d : Desk) (past : List Entry) → IsGood d → IsSound (tells_of d) past → Unsent d past
+unsent_owes d [] g s = record { said = refl; left = refl; stays = g.still; short = tt }
+unsent_owes d (entry.Event Send ∷ past) g s = record { said = refl; left = refl; stays = (good_at d past g).still; short = tt }
 unsent_owes d (entry.Event (Submit by id r) ∷ past) g s =
     let u : Unsent d past = unsent_owes d past g s.2 in
     let at : Desk = desk_of d past in
     let b : List ℕ = request_body r id in
-    let w : Asked × Reply = (record { by = by; id = id; request = r }, reply_to at r) in
-    let is : step at b ≡ (reply_frame (reply_to at r) id, next_desk at r) = step_fits at (tells_of d) by id r (good_at d past g) s.0 s.1 in
+    let is : step at b ≡ (said_to at r id, next_desk at r) = step_fits at (tells_of d) by id r (good_at d past g) s.0 s.1 in
     record {
-      replies = u.replies ++ w ∷ [];
-      row = row_more (due d (entry.Event (Submit by id r) ∷ past)) (sent past) (asked past) u.replies w
-          (row_as (due d past) (due d (entry.Event (Submit by id r) ∷ past)) (sent past) (asked past) u.replies (λ p lt. due_old d past by id p r lt) u.row) (due_new d past by id r);
       said = all_said-append (desk_sent d past) (unsent_bodies past) (b ∷ [])
-          ∙ (ap (λ (x : List ℕ). x ++ all_said (all_left (desk_sent d past) (unsent_bodies past)) (b ∷ [])) u.said
-          ∙ (ap (λ (x : Desk). spelled u.replies ++ all_said x (b ∷ [])) u.left
-          ∙ (ap (λ (x : List ℕ × Desk). spelled u.replies ++ (x.0 ++ [])) is ∙ sym (spelled-append u.replies (w ∷ [])))));
-      left = all_left-append (desk_sent d past) (unsent_bodies past) (b ∷ []) ∙ (ap (λ (x : Desk). (step x b).1) u.left ∙ ap (λ (x : List ℕ × Desk). x.1) is);
+          ∙ (ap (λ (x : Said). both x (all_said (all_left (desk_sent d past) (unsent_bodies past)) (b ∷ []))) u.said
+          ∙ (ap (λ (x : Desk). both (unsent_said d past) (all_said x (b ∷ []))) u.left
+          ∙ (ap (λ (x : Said × Desk). both (unsent_said d past) (both x.0 nothing)) is
+          ∙ (ap (λ (x : Said). both (unsent_said d past) x) (both_nothing (said_to at r id) ∙ said_next at (tells_of d) by id r s.1)
+          ∙ said_more (is_setup by) (reply_frame (reply_to at r) id) (unsent_frames itself d past) (unsent_frames not d past)))));
+      left = all_left-append (desk_sent d past) (unsent_bodies past) (b ∷ []) ∙ (ap (λ (x : Desk). (step x b).1) u.left ∙ ap (λ (x : Said × Desk). x.1) is);
       stays = stays_more (desk_sent d past) (unsent_bodies past) b u.stays
-          (ap (λ (x : Desk). (step x b).1.over) u.left ∙ (ap (λ (x : List ℕ × Desk). x.1.over) is ∙ (next_good at r (good_at d past g)).still));
+          (ap (λ (x : Desk). (step x b).1.over) u.left ∙ (ap (λ (x : Said × Desk). x.1.over) is ∙ (next_good at r (good_at d past g)).still));
       short = short_more (unsent_bodies past) b u.short (request_short (tells_of d) by r id s.1);
     }
-unsent_owes d (_ ∷ past) g s = let u : Unsent d past = unsent_owes d past g s in record { replies = u.replies; row = u.row; said = u.said; left = u.left; stays = u.stays; short = u.short }
+unsent_owes d (_ ∷ past) g s = let u : Unsent d past = unsent_owes d past g s in record { said = u.said; left = u.left; stays = u.stays; short = u.short }
+
+-- what wasn't sent is unanswered
+none_beyond : (s : Setting) (past : List Entry) (p : ℕ) → IsJournal s past → sent past ≤ p → answer past p ≡ None
+none_beyond s [] p j le = refl
+none_beyond s (entry.Event Send ∷ past) p j le = answer_beyond past p le
+none_beyond s (entry.Event (Take id r) ∷ past) p j le =
+    let may = (next_take s past id r j.0).0 in
+    let below = may.1.0.1 in
+    answer_other past id may.0 p r may.1.0.0 (λ e. absurd (omega (arith, e, below, le))) ∙ none_beyond s past p j.1 le
+none_beyond s (_ ∷ past) p j le = none_beyond s past p j.1 le
+
+last_frame : (b : Bool) (h : ℕ → List ℕ) (n : ℕ) (frame : List ℕ) → h n ≡ frame → map h (if b then n ∷ [] else []) ≡ frame_if b frame
+last_frame true h n frame e = ap (λ (x : List ℕ). x ∷ []) e
+last_frame false h n frame e = refl
+
+-- the frames by the places of what is unsent
+between_frames : (test : Bool → Bool) (s : Setting) (d : Desk) (past : List Entry) → IsJournal s past → map (frame_due d past) (those_between (stands test past) (sent past) (asked past)) ≡ unsent_frames test d past
+between_frames test s d [] j = refl
+between_frames test s d (entry.Event Send ∷ past) j = ap (λ (x : List ℕ). map (frame_due d past) x) (between_none (stands test past) (asked past))
+between_frames test s d (entry.Event (Submit by id r) ∷ past) j =
+    let now : List Entry = entry.Event (Submit by id r) ∷ past in
+    let n : ℕ = asked past in
+    let next : n + 1 ≡ suc n = omega arith in
+    let here : stands test now n ≡ test (is_setup by) =
+    ap (λ (o : Option Reply). is_none o && test (is_query (asked_at now n))) (answer_beyond past n (omega arith)) ∙ ap (λ (o : Option Asked). test (is_query o)) (asked_new past by id r) in
+    ap (λ (k : ℕ). map (frame_due d now) (those_between (stands test now) (sent past) k)) next
+    ∙ (ap (λ (x : List ℕ). map (frame_due d now) x) (between_more (stands test now) (sent past) n (sent_asked past))
+    ∙ (map-append (frame_due d now) (those_between (stands test now) (sent past) n) (if stands test now n then n ∷ [] else [])
+    ∙ (ap (λ (x : List (List ℕ)). x ++ map (frame_due d now) (if stands test now n then n ∷ [] else []))
+    (between_same (stands test now) (stands test past) (frame_due d now) (frame_due d past) (sent past) n
+    (λ p le lt. (ap (λ (o : Option Asked). is_none (answer past p) && test (is_query o)) (asked_other past by id p r lt), ap framed (due_old d past by id p r lt)))
+    ∙ between_frames test s d past j.1)
+    ∙ ap (λ (x : List (List ℕ)). unsent_frames test d past ++ x)
+    (ap (λ (b : Bool). map (frame_due d now) (if b then n ∷ [] else [])) here ∙ last_frame (test (is_setup by)) (frame_due d now) n (reply_frame (reply_to (desk_of d past) r) id) (ap framed (due_new d past by id r))))))
+between_frames test s d (entry.Event (Take id r) ∷ past) j =
+    let may = (next_take s past id r j.0).0 in
+    let below = may.1.0.1 in
+    between_same (stands test (entry.Event (Take id r) ∷ past)) (stands test past) (frame_due d past) (frame_due d past) (sent past) (asked past)
+    (λ p le lt. (ap (λ (o : Option Reply). is_none o && test (is_query (asked_at past p))) (answer_other past id may.0 p r may.1.0.0 (λ e. absurd (omega (arith, e, below, le)))), refl))
+    ∙ between_frames test s d past j.1
+between_frames test s d (_ ∷ past) j = between_frames test s d past j.1
 
 -- ---- what is owed
 
--- The output that is left is the frames of the replies to the requests that were sent and not answered, in order.
-pub record Owes (first : Desk) (past : List Entry) (now : Server) : Type 0 where
-  pub waiting : List (Asked × Reply)
-  pub row : IsRow (due first past) (takes past) waiting (sent past)
-  pub output : now.output ≡ spelled waiting
+-- What is to be given is the frames of the replies to the requests that were sent and not answered, in their order, that to
+-- the query at once; as many picks were used as replies were taken but for that one.
+pub record Owes (first : Desk) (picks : List ℕ) (past : List Entry) (now : Server) : Type 0 where
+  pub ready : now.output.ready ≡ joined (frames_owed itself first past)
+  pub waiting : now.output.waiting ≡ frames_owed not first past
+  pub picks_left : now.output.picks ≡ drop (taken past) picks
   pub input : now.input ≡ []
   pub desk : now.desk ≡ desk_sent first past
 
-pub send_owes : (d : Desk) (past : List Entry) (mid now : Server) → IsGood d → IsSound (tells_of d) past → Owes d past mid
-    → (mid.input ≡ [] → AllShort (unsent_bodies past) → StaysOpen mid.desk (unsent_bodies past) → FedAll mid (unsent_bodies past) now) → Owes d (entry.Event Send ∷ past) now
-send_owes d past mid now g s o feeds =
-    let u : Unsent d past = unsent_owes d past g s in
+-- behind a Send
+owed_more : (test : Bool → Bool) (s : Setting) (d : Desk) (past : List Entry) → IsJournal s past → map (frame_due d past) (those_below (stands test past) (asked past)) ≡ frames_owed test d past ++ unsent_frames test d past
+owed_more test s d past j =
+    ap (λ (x : List ℕ). map (frame_due d past) x) (below_split (stands test past) (sent past) (asked past) (sent_asked past))
+    ∙ (map-append (frame_due d past) (those_below (stands test past) (sent past)) (those_between (stands test past) (sent past) (asked past))
+    ∙ ap (λ (x : List (List ℕ)). frames_owed test d past ++ x) (between_frames test s d past j))
+
+pub send_owes : (s : Setting) (d : Desk) (picks : List ℕ) (past : List Entry) (mid now : Server) → IsJournal s past → IsGood d → IsSound (tells_of d) past → Owes d picks past mid
+    → (mid.input ≡ [] → AllShort (unsent_bodies past) → StaysOpen mid.desk (unsent_bodies past) → FedAll mid (unsent_bodies past) now) → Owes d picks (entry.Event Send ∷ past) now
+send_owes s d picks past mid now j g sound o feeds =
+    let u : Unsent d past = unsent_owes d past g sound in
     let f : FedAll mid (unsent_bodies past) now = feeds o.input u.short (subst (λ (w : Desk). StaysOpen w (unsent_bodies past)) (sym o.desk) u.stays) in
+    let said : all_said mid.desk (unsent_bodies past) ≡ unsent_said d past = ap (λ (w : Desk). all_said w (unsent_bodies past)) o.desk ∙ u.said in
+    let is : now.output ≡ with_said mid.output (unsent_said d past) = f.output ∙ ap (λ (w : Said). with_said mid.output w) said in
     record {
-      waiting = o.waiting ++ u.replies;
-      row = row_append (due d past) (takes past) (sent past) (asked past) o.waiting u.replies o.row u.row;
-      output = f.output ∙ (ap (λ (w : List ℕ). w ++ all_said mid.desk (unsent_bodies past)) o.output
-          ∙ (ap (λ (w : List ℕ). spelled o.waiting ++ w) (ap (λ (w : Desk). all_said w (unsent_bodies past)) o.desk ∙ u.said) ∙ sym (spelled-append o.waiting u.replies)));
+      ready = ap (λ (w : WaitingFrames). w.ready) is
+          ∙ (ap (λ (w : List ℕ). w ++ joined (unsent_frames itself d past)) o.ready
+          ∙ (sym (flat_map-append (λ (frame : List ℕ). frame) (frames_owed itself d past) (unsent_frames itself d past)) ∙ ap joined (sym (owed_more itself s d past j))));
+      waiting = ap (λ (w : WaitingFrames). w.waiting) is ∙ (ap (λ (w : List (List ℕ)). w ++ unsent_frames not d past) o.waiting ∙ sym (owed_more not s d past j));
+      picks_left = ap (λ (w : WaitingFrames). w.picks) is ∙ o.picks_left;
       input = f.input;
       desk = f.desk ∙ (ap (λ (w : Desk). all_left w (unsent_bodies past)) o.desk ∙ u.left);
     }
@@ -213,15 +295,3 @@ send_owes d past mid now g s o feeds =
 -- one body reads as one reply
 pub one_reply : (i j : Option ℕ) (q r : Reply) → (let x : Result (Option ℕ × Reply) FrameError = Ok (i, q) in x) ≡ Ok (j, r) → (i ≡ j) × (q ≡ r)
 one_reply i j q r e = let pairs : (i, q) ≡ (j, r) = cc e in pair_is i j q r pairs
-
--- the frame that was got is the first that is owed
-pub take_row : (d : Desk) (past : List Entry) (ws : List (Asked × Reply)) (body rest : List ℕ) (id : ℕ) (r : Reply) → IsGood d → IsSound (tells_of d) past
-    → IsRow (due d past) (takes past) ws (sent past) → spelled ws ≡ string body ++ rest → length body ≤ MAX_BODY_LEN → reply_at body ≡ Ok (Some id, r)
-    → ((a : Asked) × ((due d past (takes past) ≡ Some (a, r)) × (a.id ≡ id))) × ((vs : List (Asked × Reply)) × (IsRow (due d past) (takes past + 1) vs (sent past) × (rest ≡ spelled vs)))
-take_row d past [] body rest id r g s row e short reads = absurd (no_frame body rest (sym e))
-take_row d past (w ∷ ws) body rest id r g s row e short reads =
-    let says : Says w.0 w.1 = due_says d past (takes past) w g s row.0 in
-    let parts = one_string (reply_body w.1 w.0.id) body (spelled ws) rest says.short short e in
-    let both = one_reply (Some w.0.id) (Some id) w.1 r (sym says.reads ∙ (ap reply_at parts.0 ∙ reads)) in
-    let same : w.0.id ≡ id = cc (both.0) in
-    ((w.0, (row.0 ∙ ap (λ (x : Reply). let p : Asked × Reply = (w.0, x) in Some p) both.1, same)), (ws, (row.1, sym parts.1)))

@@ -12,50 +12,55 @@ use Rattle.sftp_model.specs.declared.reply.Reply.{Reply}
 use Rattle.sftp_model.specs.declared.reply.Reply.TheVariants as reply
 use Rattle.sftp_model.specs.declared.request.Request.{Request}
 use Rattle.sftp_model.specs.declared.request.Request.TheVariants as request
-use Rattle.sftp_model.specs.Answers.{expected_of, may_answer}
-use Rattle.sftp_model.specs.FileMachine.{Machine, IsAfterHello, apply, capped, status}
+use Rattle.sftp_model.specs.Answers.{IsAfterHello, expected_of, is_handle, may_answer, status}
 use Rattle.sftp_model.specs.Fits.{FitsLimits}
 use Rattle.sftp_model.specs.Numbers.{MAX_BODY_LEN, MAX_TRANSFER_LEN}
+use Rattle.sftp_model.specs.declared.flags.Extensions.{Extensions}
 use Rattle.sftp_model.specs.Frames.{request_body, request_id, reply_body, reply_id, reply_frame, limits_content}
 use Rattle.sftp_model.specs.ReplyReadings.{reply_at}
 use Rattle.sftp_model.specs.RequestReadings.{request_at}
-use Rattle.sftp_model.proofs.MachineLaws.{machine_allowed}
 use Rattle.sftp_model.proofs.ReplyBacks.{reply_back, limits_back}
 use Rattle.sftp_model.proofs.RequestBacks.{request_back}
 use Rattle.sftp_core.specs.Info.{offers_limits}
-use Rattle.sftp_core.specs.Take.{wrong_content}
 use Rattle.sftp_history.specs.declared.event.Owner.{Owner}
 use Rattle.sftp_wire.proofs.Lengths.{lengths}
-use Rattle.sftp_driver.specs.Refusals.{refuses_limits}
+use Rattle.sftp_history.specs.Journals.{goes_on, is_read}
 use Rattle.sftp_history.specs.Readings.{Asked}
-use Rattle.sftp_history.specs.Served.{first_choice, limits_reply}
-use Rattle.sftp_map_server.specs.Granting.{Granting, gives_within, handle_of, next}
-use Rattle.sftp_map_server.specs.Serving.{Desk, told_bits, version_reply, is_hello, is_query, id_of, over_at, heed, respond, step}
-use Rattle.sftp_map_server.proofs.Short.{IsShort, next_short, next_fits, next_within, next_answers, limits_within}
+use Rattle.sftp_tree.specs.FileTree.{FileTree}
+use Rattle.sftp_tree.specs.FitTrees.{GivesWithin, IsFit}
+use Rattle.sftp_tree.specs.HandleRequests.{Answer, capped}
+use Rattle.sftp_tree.specs.TreeAnswers.{apply, first_choice, limits_reply}
+use Rattle.sftp_machine.specs.MachineState.{MAX_HANDLES, MachineState, answer, numbered_handle, with_grant, with_tree}
+use Rattle.sftp_machine.proofs.ReplyLaws.{fit_left, reply_answers, reply_fits, reply_within}
+use Rattle.sftp_map_server.specs.Serving.{Desk, Said, at_once, gives_within, heed, id_of, is_hello, is_query, later, nothing, over_at, respond, spent, step, told_bits, version_reply}
+use Rattle.sftp_map_server.proofs.Bounds.{limits_within}
 use Rattle.sftp_served.proofs.Asking.{FitsCall, body_len}
 use Rattle.sftp_served.proofs.Sound.{FitsBy, by_owner}
 
 -- the reply to a request
 unfoldable pub reply_to : Desk → Request → Reply
-reply_to d r = if is_query r then limits_reply d.granting.config.limits else (next d.granting r (first_choice d.choices)).0
+reply_to d r = if is_query r then limits_reply d.machine.config.limits else (answer d.machine r (first_choice d.choices)).0
 
--- and what it leaves
+-- it is given at once to the query for limits, and waits else
+unfoldable pub said_to : Desk → Request → ℕ → Said
+said_to d r id = if is_query r then at_once (reply_frame (reply_to d r) id) else later (reply_frame (reply_to d r) id)
+
+-- and what the request leaves
 unfoldable pub next_desk : Desk → Request → Desk
-next_desk d r =
-    if is_query r then d
-    else record { granting = (next d.granting r (first_choice d.choices)).1; choices = drop 1 d.choices; greeted = d.greeted; over = d.over }
+next_desk d r = if is_query r then d else spent d (answer d.machine r (first_choice d.choices)).1
 
 -- each choice refuses by a code of four bytes
 abbrev pub AllCodes : List Choice → Type 0
 AllCodes [] = Unit {0}
 AllCodes (c ∷ choices) = (c.refuse < 2 ^ 32) × AllCodes choices
 
--- a desk that was greeted, with choices and limits that fit
+-- a desk that was greeted, with choices and limits that fit, and a tree within its bounds
 pub record IsGood (d : Desk) : Type 0 where
   pub greeted : d.greeted ≡ true
   pub still : d.over ≡ false
   pub codes : AllCodes d.choices
-  pub limits : IfSome d.granting.config.limits FitsLimits
+  pub limits : IfSome d.machine.config.limits FitsLimits
+  pub fit : IsFit d.machine.tree
 
 -- ---- requests
 
@@ -66,6 +71,13 @@ call_query other f = refl
 call_id : (r : Request) (id : ℕ) → FitsCall r → request_id r id ≡ Some id
 call_id (request.Init version) id f = absurd f.ordinary
 call_id r id f = refl
+
+capped_most : (cap n : ℕ) → n ≤ MAX_TRANSFER_LEN → capped cap n ≤ MAX_TRANSFER_LEN
+capped_most cap n h = elim (eqb_tells cap 0) [ inl t ↦ rw t.0 h | inr t ↦ rw t.0 (omega (arith, h)) ]
+
+call_gives : (r : Request) (cap : ℕ) → FitsCall r → GivesWithin cap r
+call_gives (request.Read handle offset len) cap f = capped_most cap len f.within
+call_gives r cap f = tt
 
 capped_le : (cap n : ℕ) → n ≤ MAX_TRANSFER_LEN → nat_le (capped cap n) MAX_TRANSFER_LEN ≡ true
 capped_le cap n h = elim (eqb_tells cap 0) [ inl t ↦ rw t.0 (grind (arith, nat_tests)) | inr t ↦ rw t.0 (grind (arith, nat_tests)) ]
@@ -88,69 +100,70 @@ drop_codes : (choices : List Choice) → AllCodes choices → AllCodes (drop 1 c
 drop_codes [] c = tt
 drop_codes (c ∷ choices) h = h.1
 
-served_config : (a b : Bool) (g : Granting) (x : Reply × Machine)
-    → (let p : Reply × Granting = if a then (if b then (status 4, g) else (x.0, record { machine = x.1; config = g.config; grants = g.grants + 1 })) else (x.0, record { machine = x.1; config = g.config; grants = g.grants }) in p).1.config ≡ g.config
-served_config true true g x = refl
-served_config true false g x = refl
-served_config false b g x = refl
+-- what is left has the same offers
+config_by : (a b : Bool) (state : MachineState) (x : Answer)
+    → (let p : Reply × MachineState = if a then (if b then (status 4, state) else (x.0, with_grant state x.1)) else (x.0, with_tree state x.1) in p).1.config ≡ state.config
+config_by true true state x = refl
+config_by true false state x = refl
+config_by false b state x = refl
+
+-- what holds of a desk, and of it where a choice more was taken, holds of what a request leaves
+next_by : (P : Desk → Type 0) (d : Desk) (r : Request) → P d → P (spent d (answer d.machine r (first_choice d.choices)).1) → P (next_desk d r)
+unfolding next_desk
+next_by P d r h k = by_test (is_query r)
+  where
+    by_test : (b : Bool) → P (if b then d else spent d (answer d.machine r (first_choice d.choices)).1)
+    by_test true = h
+    by_test false = k
 
 -- what a server offers stays
-pub next_config : (d : Desk) (r : Request) → (next_desk d r).granting.config ≡ d.granting.config
-unfolding next_desk
-next_config d r = by_test (is_query r)
-  where
-    by_test : (b : Bool) → (let n : Desk = if b then d else record { granting = (next d.granting r (first_choice d.choices)).1; choices = drop 1 d.choices; greeted = d.greeted; over = d.over } in n).granting.config ≡ d.granting.config
-    by_test true = refl
-    by_test false = served_config _ _ d.granting (apply d.granting.machine d.granting.config r (first_choice d.choices) (handle_of d.granting.grants))
-
-next_rest : (d : Desk) (r : Request) → AllCodes d.choices → ((next_desk d r).greeted ≡ d.greeted) × ((next_desk d r).over ≡ d.over) × AllCodes (next_desk d r).choices
-unfolding next_desk
-next_rest d r c = by_test (is_query r) (next d.granting r (first_choice d.choices)).1
-  where
-    by_test : (b : Bool) (g : Granting) → (let n : Desk = if b then d else record { granting = g; choices = drop 1 d.choices; greeted = d.greeted; over = d.over } in (n.greeted ≡ d.greeted) × (n.over ≡ d.over) × AllCodes n.choices)
-    by_test true g = (refl, refl, c)
-    by_test false g = (refl, refl, drop_codes d.choices c)
+pub next_config : (d : Desk) (r : Request) → (next_desk d r).machine.config ≡ d.machine.config
+next_config d r =
+    next_by (λ n. n.machine.config ≡ d.machine.config) d r refl
+    (config_by _ _ d.machine (apply d.machine.tree d.machine.config r (first_choice d.choices) (numbered_handle d.machine.grants)))
 
 pub next_good : (d : Desk) (r : Request) → IsGood d → IsGood (next_desk d r)
 next_good d r g =
-    let p = next_rest d r g.codes in
-    record { greeted = p.0 ∙ g.greeted; still = p.1 ∙ g.still; codes = p.2; limits = subst (λ (c : ServerConfig). IfSome c.limits FitsLimits) (sym (next_config d r)) g.limits }
+    next_by IsGood d r g
+    (record {
+      greeted = g.greeted;
+      still = g.still;
+      codes = drop_codes d.choices g.codes;
+      limits = subst (λ (c : ServerConfig). IfSome c.limits FitsLimits) (sym (config_by _ _ d.machine (apply d.machine.tree d.machine.config r (first_choice d.choices) (numbered_handle d.machine.grants)))) g.limits;
+      fit = fit_left d.machine r (first_choice d.choices) g.fit;
+    })
 
 -- ---- steps
 
 respond_call : (d : Desk) (i : Option ℕ) (r : Request) → is_hello r ≡ false → d.greeted ≡ true → is_query r ≡ false → gives_within r (first_choice d.choices) ≡ true
-    → respond d i r ≡ (
-      reply_frame (next d.granting r (first_choice d.choices)).0 (id_of i),
-      record { granting = (next d.granting r (first_choice d.choices)).1; choices = drop 1 d.choices; greeted = d.greeted; over = d.over },
-    )
+    → respond d i r ≡ (later (reply_frame (answer d.machine r (first_choice d.choices)).0 (id_of i)), spent d (answer d.machine r (first_choice d.choices)).1)
 respond_call d i r a b c w = rw (a, b, c, w) refl
 
 -- a body that is read while the link isn't over
 step_on : (d : Desk) (body : List ℕ) (i : Option ℕ) (r : Request) → d.over ≡ false → request_at body ≡ Ok (i, r) → step d body ≡ respond d i r
 unfolding step
 step_on d body i r still back =
-    ap (λ (b : Bool). if b then (let p : List ℕ × Desk = ([], d) in p) else heed d (result_ok (request_at body))) still ∙ ap (λ (w : Result (Option ℕ × Request) FrameError). heed d (result_ok w)) back
+    ap (λ (b : Bool). if b then (let p : Said × Desk = (nothing, d) in p) else heed d (result_ok (request_at body))) still ∙ ap (λ (w : Result (Option ℕ × Request) FrameError). heed d (result_ok w)) back
 
-step_call : (d : Desk) (id : ℕ) (r : Request) → IsGood d → id < 2 ^ 32 → FitsCall r → step d (request_body r id) ≡ (reply_frame (reply_to d r) id, next_desk d r)
-unfolding reply_to next_desk
+step_call : (d : Desk) (id : ℕ) (r : Request) → IsGood d → id < 2 ^ 32 → FitsCall r → step d (request_body r id) ≡ (said_to d r id, next_desk d r)
+unfolding reply_to said_to next_desk
 step_call d id r g lt f =
     let query = call_query r f in
     let back : request_at (request_body r id) ≡ Ok (Some id, r) = request_back r id f.fits lt ∙ ap (λ (i : Option ℕ). Ok (i, r)) (call_id r id f) in
-    let n = next d.granting r (first_choice d.choices) in
-    let after : Desk = record { granting = n.1; choices = drop 1 d.choices; greeted = d.greeted; over = d.over } in
-    let is : (reply_frame n.0 id, after) ≡ (reply_frame (reply_to d r) id, next_desk d r) = rw query refl in
+    let n = answer d.machine r (first_choice d.choices) in
+    let is : (later (reply_frame n.0 id), spent d n.1) ≡ (said_to d r id, next_desk d r) = rw query refl in
     step_on d (request_body r id) (Some id) r g.still back ∙ (respond_call d (Some id) r (call_after r f).0 g.greeted query (call_within r (first_choice d.choices) f) ∙ is)
 
-step_query : (d : Desk) (id : ℕ) → IsGood d → id < 2 ^ 32 → step d (request_body request.LimitsQuery id) ≡ (reply_frame (reply_to d request.LimitsQuery) id, next_desk d request.LimitsQuery)
-unfolding reply_to next_desk
+step_query : (d : Desk) (id : ℕ) → IsGood d → id < 2 ^ 32 → step d (request_body request.LimitsQuery id) ≡ (said_to d request.LimitsQuery id, next_desk d request.LimitsQuery)
+unfolding reply_to said_to next_desk
 step_query d id g lt =
     step_on d (request_body request.LimitsQuery id) (Some id) request.LimitsQuery g.still (request_back request.LimitsQuery id tt lt)
-    ∙ ap (λ (b : Bool). if b then (let p : List ℕ × Desk = (reply_frame (limits_reply d.granting.config.limits) id, d) in p) else ([], over_at d)) g.greeted
+    ∙ ap (λ (b : Bool). if b then (let p : Said × Desk = (at_once (reply_frame (limits_reply d.machine.config.limits) id), d) in p) else (nothing, over_at d)) g.greeted
 
 -- a request that fits is answered
-pub step_fits : (d : Desk) (tells : Bool) (by : Owner) (id : ℕ) (r : Request) → IsGood d → id < 2 ^ 32 → FitsBy tells by r → step d (request_body r id) ≡ (reply_frame (reply_to d r) id, next_desk d r)
+pub step_fits : (d : Desk) (tells : Bool) (by : Owner) (id : ℕ) (r : Request) → IsGood d → id < 2 ^ 32 → FitsBy tells by r → step d (request_body r id) ≡ (said_to d r id, next_desk d r)
 step_fits d tells by id r g lt f =
-    by_owner (λ w. step d (request_body w id) ≡ (reply_frame (reply_to d w) id, next_desk d w)) tells by r f (λ c. step_call d id r g lt c) (λ t. step_query d id g lt)
+    by_owner (λ w. step d (request_body w id) ≡ (said_to d w id, next_desk d w)) tells by r f (λ c. step_call d id r g lt c) (λ t. step_query d id g lt)
 
 body_there : (r : Request) (id : ℕ) → 0 < length (request_body r id)
 unfolding request_body
@@ -175,7 +188,7 @@ pub record Says (a : Asked) (r : Reply) : Type 0 where
   pub some : 0 < length (reply_body r a.id)
   pub short : length (reply_body r a.id) ≤ MAX_BODY_LEN
   pub may : may_answer a.request r ≡ true
-  pub goes : refuses_limits (expected_of a.request) r ≡ None
+  pub goes : goes_on (expected_of a.request) r ≡ true
 
 pub body_some : (r : Reply) (id : ℕ) → 0 < length (reply_body r id)
 unfolding reply_body
@@ -187,11 +200,16 @@ body_some (reply.Names names) id = omega arith
 body_some (reply.Attrs attrs) id = omega arith
 body_some (reply.Extended content) id = omega arith
 
-short_id : (r : Reply) (id : ℕ) → IsShort r → reply_id r id ≡ Some id
-short_id (reply.Version version extensions) id h = absurd h
-short_id r id h = refl
+no_version : (r : Request) (version : ℕ) (extensions : Extensions) → IsAfterHello r → may_answer r (reply.Version version extensions) ≡ true → ⊥
+no_version (request.Init v) version extensions h may = absurd h
+no_version r version extensions h may = absurd cc
 
-call_goes : (r : Request) (x : Reply) → FitsCall r → refuses_limits (expected_of r) x ≡ None
+-- a reply that may answer bears the id
+answer_id : (r : Request) (x : Reply) (id : ℕ) → IsAfterHello r → may_answer r x ≡ true → reply_id x id ≡ Some id
+answer_id r (reply.Version version extensions) id h may = absurd (no_version r version extensions h may)
+answer_id r x id h may = refl
+
+call_goes : (r : Request) (x : Reply) → FitsCall r → goes_on (expected_of r) x ≡ true
 call_goes request.LimitsQuery x f = absurd f.ordinary
 call_goes r x f = refl
 
@@ -199,14 +217,15 @@ says_call : (d : Desk) (by : Owner) (id : ℕ) (r : Request) → IsGood d → id
 unfolding reply_to
 says_call d by id r g lt f =
     let c = first_choice d.choices in
-    let within = call_within r c f in
+    let within = call_gives r c.cap f in
     let code = first_code d.choices g.codes in
-    let x : Reply = (next d.granting r c).0 in
+    let x : Reply = (answer d.machine r c).0 in
+    let may : may_answer r x ≡ true = reply_answers d.machine r c (call_after r f).1 in
     rw (call_query r f) (record {
-      reads = reply_back x id (next_fits d.granting r c within code) lt ∙ ap (λ (i : Option ℕ). Ok (i, x)) (short_id x id (next_short d.granting r c within code).is);
+      reads = reply_back x id (reply_fits d.machine r c g.fit code within) lt ∙ ap (λ (i : Option ℕ). Ok (i, x)) (answer_id r x id (call_after r f).1 may);
       some = body_some x id;
-      short = next_within d.granting r c id within code;
-      may = next_answers d.granting r c (λ m config q choice handle h. (machine_allowed m config q choice handle h).allowed) (call_after r f).1;
+      short = reply_within d.machine r c id g.fit code within;
+      may = may;
       goes = call_goes r x f;
     })
 
@@ -221,17 +240,17 @@ says_limits (Some limits) by id h t lt =
     record {
       reads = reply_back (reply.Extended content) id (limits_text limits) lt;
       some = body_some (reply.Extended content) id;
-      short = limits_within (Some limits) id;
+      short = limits_within (record { extensions = record { 0 = 0 }; limits = Some limits; cut = 0 }) id;
       may = refl;
-      goes = ap wrong_content (limits_back limits h);
+      goes = ap is_read (limits_back limits h);
     }
 
-says_query : (d : Desk) (by : Owner) (id : ℕ) → IsGood d → is_some d.granting.config.limits ≡ true → id < 2 ^ 32 → Says (record { by = by; id = id; request = request.LimitsQuery }) (reply_to d request.LimitsQuery)
+says_query : (d : Desk) (by : Owner) (id : ℕ) → IsGood d → is_some d.machine.config.limits ≡ true → id < 2 ^ 32 → Says (record { by = by; id = id; request = request.LimitsQuery }) (reply_to d request.LimitsQuery)
 unfolding reply_to
-says_query d by id g t lt = says_limits d.granting.config.limits by id g.limits t lt
+says_query d by id g t lt = says_limits d.machine.config.limits by id g.limits t lt
 
 -- the reply to a request that fits
-pub says : (d : Desk) (tells : Bool) (by : Owner) (id : ℕ) (r : Request) → IsGood d → is_some d.granting.config.limits ≡ tells → id < 2 ^ 32 → FitsBy tells by r → Says (record { by = by; id = id; request = r }) (reply_to d r)
+pub says : (d : Desk) (tells : Bool) (by : Owner) (id : ℕ) (r : Request) → IsGood d → is_some d.machine.config.limits ≡ tells → id < 2 ^ 32 → FitsBy tells by r → Says (record { by = by; id = id; request = r }) (reply_to d r)
 says d tells by id r g t lt f =
     by_owner (λ w. Says (record { by = by; id = id; request = w }) (reply_to d w)) tells by r f (λ c. says_call d by id r g lt c) (λ e. says_query d by id g (t ∙ e) lt)
 
@@ -239,12 +258,12 @@ says d tells by id r g t lt f =
 
 -- the desk behind the hello
 abbrev pub greeted_at : Desk → Desk
-greeted_at d = record { granting = d.granting; choices = d.choices; greeted = true; over = d.over }
+greeted_at d = record { machine = d.machine; choices = d.choices; greeted = true; over = d.over }
 
-pub step_hello : (d : Desk) → d.greeted ≡ false → d.over ≡ false → step d (request_body (request.Init 3) 0) ≡ (reply_frame (version_reply d.granting.config) 0, greeted_at d)
+pub step_hello : (d : Desk) → d.greeted ≡ false → d.over ≡ false → step d (request_body (request.Init 3) 0) ≡ (at_once (reply_frame (version_reply d.machine.config) 0), greeted_at d)
 step_hello d fresh still =
     step_on d (request_body (request.Init 3) 0) None (request.Init 3) still (request_back (request.Init 3) 0 (lit< tt) (lit< tt))
-    ∙ ap (λ (b : Bool). if b then (let p : List ℕ × Desk = ([], over_at d) in p) else (reply_frame (version_reply d.granting.config) 0, greeted_at d)) fresh
+    ∙ ap (λ (b : Bool). if b then (let p : Said × Desk = (nothing, over_at d) in p) else (at_once (reply_frame (version_reply d.machine.config) 0), greeted_at d)) fresh
 
 pub hello_short : (0 < length (request_body (request.Init 3) 0)) × (length (request_body (request.Init 3) 0) ≤ MAX_BODY_LEN)
 unfolding request_body

@@ -5,14 +5,15 @@ use Rattle.std.specs.Int.RustNames.{bit_or}
 use Rattle.std.specs.Str.{bytes_eq}
 use Rattle.ssh_encoding.specs.Reading.{◌>>=◌}
 use Rattle.sftp_core.specs.declared.options.SftpOptions.{SftpOptions}
+use Rattle.sftp_tree.specs.Components.{components}
 use Rattle.sftp_history.specs.declared.call.Lane.{Lane}
 use Rattle.sftp_history.specs.declared.call.Call.{Call}
 use Rattle.sftp_history.specs.declared.reason.Reason.{Reason}
 use Rattle.sftp_history.specs.declared.reason.Reason.TheVariants as reason
 use Rattle.sftp_history.specs.declared.script.Script.{Script}
 use Rattle.sftp_history.specs.declared.turn.Turn.{Turn}
-use Rattle.sftp_history.specs.Lines.{lines_of, words_of, is_comment, number_in, bytes_in}
-use Rattle.sftp_history.specs.Scripts.{Draft, empty_script, no_word, one_word, two_words, four_words, unless_said, greatest_u32, greatest_u64, is_file, refusal_in, option_in, option_line, extension_in, with_extension, ext_line, limits_line, cut_line, server_line, file_line, choice_line, pick_line, in_lane, lane_turn, line_by, line_of, read_line, go_on, read_lines, MAX_SCRIPT_LEN, script_of}
+use Rattle.sftp_history.specs.Lines.{lines_of, words_of, is_comment, number_in}
+use Rattle.sftp_history.specs.Scripts.{Draft, empty_script, no_word, one_word, two_words, four_words, unless_said, greatest_u32, greatest_u64, path_in, content_in, meets_file, meets_dir, refusal_in, option_in, option_line, extension_in, with_extension, ext_line, limits_line, cut_line, server_line, file_line, dir_line, choice_line, pick_line, in_lane, lane_turn, line_by, line_of, read_line, go_on, read_lines, MAX_SCRIPT_LEN, script_of}
 use Rattle.sftp_served.proofs.Replying.{lt_or_is, both_of, is_less}
 
 -- what was read names known extensions, or it is refused
@@ -126,12 +127,13 @@ turn_known d of_lane word k = bind_known (number_in 0 greatest_u32 word) _ (λ n
 line_known : (d : Draft) (word : List ℕ) (words : List (List ℕ)) → IsKnown (Ok d) → Known (line_by d word words)
 line_known d word words k =
     if_known (bytes_eq word (codes "option")) _ _ (two_known (option_line d) words (λ a b. options_known d a b k)) (if_known (bytes_eq word (codes "server")) _ _ (server_known d words k)
-    (if_known (bytes_eq word (codes "file")) _ _ (two_known (file_line d) words (λ a b. bind_known (bytes_in a) _ (λ x. bind_known (bytes_in b) _ (λ y. unless_known (is_file d.script.files x) _ k))))
+    (if_known (bytes_eq word (codes "file")) _ _ (two_known (file_line d) words (λ a b. bind_known (path_in a) _ (λ x. bind_known (content_in d.script.files b) _ (λ y. unless_known (meets_file d.script (components x)) _ k))))
+    (if_known (bytes_eq word (codes "dir")) _ _ (one_known (dir_line d) words (λ a. bind_known (path_in a) _ (λ x. unless_known (meets_dir d.script (components x)) _ k)))
     (if_known (bytes_eq word (codes "choice")) _ _ (two_known (choice_line d) words (λ a b. bind_known (refusal_in a) _ (λ x. bind_known (number_in 0 greatest_u32 b) _ (λ y. record { is = k }))))
     (if_known (bytes_eq word (codes "pick")) _ _ (one_known (pick_line d) words (λ a. bind_known (number_in 0 greatest_u32 a) _ (λ x. record { is = k })))
     (if_known (bytes_eq word (codes "lane")) _ _ (no_known _ words k) (if_known (bytes_eq word (codes "step")) _ _ (one_known _ words (λ a. turn_known d _ a k)) (if_known (bytes_eq word (codes "cancel")) _ _ (one_known _ words (λ a. turn_known d _ a k))
     (if_known (bytes_eq word (codes "flush")) _ _ (no_known _ words k) (if_known (bytes_eq word (codes "take")) _ _ (no_known _ words k)
-    (if_known (bytes_eq word (codes "open")) _ _ (lane_known d d.script.lanes _ k) (if_known (bytes_eq word (codes "read")) _ _ (lane_known d d.script.lanes _ k) (if_known (bytes_eq word (codes "close")) _ _ (lane_known d d.script.lanes _ k) (record { is = tt })))))))))))))
+    (if_known (bytes_eq word (codes "open")) _ _ (lane_known d d.script.lanes _ k) (if_known (bytes_eq word (codes "read")) _ _ (lane_known d d.script.lanes _ k) (if_known (bytes_eq word (codes "close")) _ _ (lane_known d d.script.lanes _ k) (record { is = tt }))))))))))))))
 
 words_known : (d : Draft) (words : List (List ℕ)) → IsKnown (Ok d) → Known (line_of d words)
 words_known d [] k = record { is = k }

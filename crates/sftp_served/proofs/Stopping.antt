@@ -1,39 +1,52 @@
--- A run over a server that serves stops only for want of memory.
-use Rattle.std.proofs.Common.{◌≡◌, ◌<◌, ◌≤◌, ℕ, Bool, true, List, [], ◌∷◌, ◌++◌, Option, Some, None, Result, Err, refl, ap, sym, ◌∙◌, subst, arith, inl, inr}
+-- A run over a link that serves stops only for want of memory, and the server in memory is such a link.
+use Rattle.std.proofs.Common.{◌≡◌, ◌<◌, ◌≤◌, ℕ, Bool, true, List, [], ◌∷◌, ◌++◌, length, Option, Some, None, Result, Ok, Err, refl, ap, sym, ◌∙◌, subst, arith, inl, inr}
+use Rattle.std.specs.Prelude.{nat_lt}
+use Rattle.std.proofs.lemmas.Bool.Decides.{nat_tests}
 use Rattle.std.proofs.lemmas.List.{append-nil}
 use Rattle.ssh_encoding.specs.Writing.{string}
+use Rattle.sftp_model.specs.declared.answers.Expected.{Expected}
+use Rattle.sftp_model.specs.declared.answers.Expected.TheVariants as expected
+use Rattle.sftp_model.specs.declared.config.Limits.{Limits}
 use Rattle.sftp_model.specs.declared.error.Error.{Error}
 use Rattle.sftp_model.specs.declared.error.Error.TheVariants as error
 use Rattle.sftp_model.specs.declared.flags.Extensions.{Extensions}
+use Rattle.sftp_model.specs.declared.frame_error.FormatKind.{FormatKind}
 use Rattle.sftp_model.specs.declared.frame_error.FrameError.{FrameError}
 use Rattle.sftp_model.specs.declared.reply.Reply.{Reply}
+use Rattle.sftp_model.specs.declared.reply.Reply.TheVariants as reply
+use Rattle.sftp_model.specs.Answers.{expected_of}
 use Rattle.sftp_model.specs.Numbers.{MAX_TRANSFER_LEN}
 use Rattle.sftp_model.specs.Lengths.{session_len}
-use Rattle.sftp_model.specs.ReplyReadings.{reply_at}
+use Rattle.sftp_model.specs.ReplyReadings.{limits_at, reply_at}
 use Rattle.sftp_core.specs.Info.{offers_limits}
+use Rattle.sftp_core.specs.Take.{wrong_content}
 use Rattle.sftp_core.specs.declared.errors.TakeError.{TakeError}
 use Rattle.sftp_core.specs.declared.options.SftpOptions.{SftpOptions}
 use Rattle.sftp_link.specs.declared.piece.Piece.{Piece}
 use Rattle.sftp_link.specs.Log.{GotOn}
-use Rattle.sftp_wire.specs.FrameReader.{missing}
+use Rattle.sftp_wire.specs.FrameReader.{fault_of, missing}
 use Rattle.sftp_driver.specs.Causes.{Cause}
-use Rattle.sftp_driver.specs.Logs.{Ends, Behind, BehindHello, IsUnsent, GotUnusable}
-use Rattle.sftp_driver.specs.Refusals.{refuses, refuses_hello}
+use Rattle.sftp_driver.specs.Logs.{Behind, BehindHello, Ends, GotUnusable, IsUnsent}
+use Rattle.sftp_driver.specs.Refusals.{awaited_at, refuses, refuses_hello, refuses_limits, refuses_reply, sent_at}
 use Rattle.sftp_driver.specs.Session.{Given, IsLater}
+use Rattle.sftp_machine.specs.WaitingFrames.{WaitingFrames, turned}
 use Rattle.sftp_history.specs.declared.call.Lane.{Lane}
 use Rattle.sftp_history.specs.declared.entry.Entry.{Entry}
-use Rattle.sftp_history.specs.Readings.{awaited}
 use Rattle.sftp_history.specs.Calls.{Setting}
-use Rattle.sftp_history.specs.Journals.{IsJournal}
+use Rattle.sftp_history.specs.Journals.{IsJournal, MayReply, goes_on, is_read}
+use Rattle.sftp_history.specs.Readings.{Asked, asked_at, awaited, awaiting, sent}
 use Rattle.sftp_history.specs.Settings.{greeting, setting_of}
 use Rattle.sftp_history.specs.Shown.{Shows}
-use Rattle.sftp_map_server.specs.Serving.{Server, Desk, IsServed, opened, told_bits}
-use Rattle.sftp_served.proofs.Strings.{one_string, nothing_missing, no_fault}
-use Rattle.sftp_served.proofs.Feeding.{got_front}
-use Rattle.sftp_served.proofs.Sound.{IsSound, sound, shows_takes}
+use Rattle.sftp_history.proofs.RequestLaws.{is_awaiting}
+use Rattle.sftp_map_server.specs.Serving.{Desk, IsServed, Server, opened, told_bits}
+use Rattle.sftp_served.specs.ServingLinks.{GivesGood, IsAllowed, IsOne, IsVersion, Read, ServesLanes}
+use Rattle.sftp_served.proofs.Strings.{no_fault, nothing_missing, one_string}
+use Rattle.sftp_served.proofs.Feeding.{Given as GivenBy, got_front, one_frame, one_part, still_turned}
+use Rattle.sftp_served.proofs.Sound.{IsSound, shows_takes, sound}
 use Rattle.sftp_served.proofs.Replying.{told_right}
 use Rattle.sftp_served.proofs.Owing.{tells_of}
-use Rattle.sftp_served.proofs.Showing.{IsFirst, Ready, ready, hello_ready, shows_version}
+use Rattle.sftp_served.proofs.Picking.{Ready}
+use Rattle.sftp_served.proofs.Showing.{IsFirst, hello_ready, ready, shows_version}
 
 -- ---- the session's setting
 
@@ -51,78 +64,152 @@ len_some None len = omega arith
 len_some (Some most) len = omega arith
 
 -- each request of a session that the server greeted fits
-pub sound_at : (lanes : List Lane) (options : SftpOptions) (extensions : Extensions) (f : Desk) (past : List Entry) (log : List Piece) (now : Server) → IsFirst f
-    → IsJournal (setting_of lanes options extensions past) past → Shows (greeting extensions) past [] log → IsServed (opened f) log now → IsSound (tells_of f) past
-sound_at lanes options extensions f past log now first j shown served =
-    let is = shows_version f (greeting extensions) past log now first shown served in
-    let same : extensions ≡ record { 0 = told_bits f.granting.config.extensions.0 f.granting.config.limits } = cc in
-    let told = (told_right f.granting.config.extensions.0 f.granting.config.limits first.known).1 in
+pub sound_at : (lanes : List Lane) (options : SftpOptions) (extensions : Extensions) (f : Desk) (picks : List ℕ) (past : List Entry) (log : List Piece) (now : Server) → IsFirst f
+    → IsJournal (setting_of lanes options extensions past) past → Shows (greeting extensions) past [] log → IsServed (opened f picks) log now → IsSound (tells_of f) past
+sound_at lanes options extensions f picks past log now first j shown served =
+    let is = shows_version f picks (greeting extensions) past log now first shown served in
+    let same : extensions ≡ record { 0 = told_bits f.machine.config.extensions.0 f.machine.config.limits } = cc in
+    let told = (told_right f.machine.config.extensions.0 f.machine.config.limits first.known).1 in
     sound (setting_of lanes options extensions past) (tells_of f) past (λ e. sym told ∙ (ap offers_limits (sym same) ∙ e)) (record { some = len_some options.max_read_len _; read_len = len_within options.max_read_len _; write_len = len_within options.max_write_len _; read_window = omega arith }) j (shows_takes (greeting extensions) past [] log shown)
+
+-- ---- what a link gives that serves
+
+-- VERSION 3 isn't refused
+version_fine : (read : Read) → IsVersion read → refuses_hello (Ok read) ≡ None
+version_fine read v = ap (λ (w : Read). refuses_hello (Ok w)) v.1
+
+goes_fine : (x : Expected) (r : Reply) → goes_on x r ≡ true → refuses_limits x r ≡ None
+goes_fine expected.Limits (reply.Extended content) e = by_limits (limits_at content) e
+  where
+    by_limits : (l : Result Limits FrameError) → is_read l ≡ true → wrong_content l ≡ None
+    by_limits (Ok limits) e = refl
+    by_limits (Err why) e = absurd cc
+goes_fine expected.Limits r e = absurd cc
+goes_fine x r e = refl
+
+lt_true : (n m : ℕ) → n < m → nat_lt n m ≡ true
+lt_true n m h = grind (arith, nat_tests)
+
+reply_fine : (a : Option Asked) (id : ℕ) (r : Reply) → MayReply a r → refuses_reply id r a ≡ None
+reply_fine None id r m = absurd m
+reply_fine (Some a) id r m = rw m.0 (goes_fine (expected_of a.request) r m.1)
+
+-- a reply that may be taken isn't refused
+allowed_fine : (past : List Entry) (read : Read) → IsAllowed past read → refuses past (Ok read) ≡ None
+allowed_fine past read allowed =
+    let id : ℕ = allowed.0 in
+    let r : Reply = allowed.1.0 in
+    let may = allowed.1.1.1 in
+    let waits : awaiting past id ≡ Some may.0 = is_awaiting past id may.0 may.1.0.0 may.1.0.2 in
+    let there : awaited_at past id ≡ asked_at past may.0 = ap (sent_at past) waits ∙ rw (lt_true may.0 (sent past) may.1.0.1) refl in
+    ap (λ (w : Read). refuses past (Ok w)) allowed.1.1.0 ∙ (ap (refuses_reply id r) there ∙ reply_fine (asked_at past may.0) id r may.1.1)
 
 -- ---- what came
 
--- what was got since then stood at the front of what was to be given
-came : (f : Desk) (wrong : Result (Option ℕ × Reply) FrameError → Option TakeError) (mid after : List Piece) (bytes : List ℕ) (now : Server)
-    → ((m : Server) → IsServed (opened f) mid m → Ready wrong m.output) → IsServed (opened f) after now → GotOn mid after bytes → Ready wrong (bytes ++ now.output)
-came f wrong mid after bytes now can served got =
-    let g = got_front (opened f) now mid got.0 bytes got.2 (subst (λ (w : List Piece). IsServed (opened f) w now) got.1 served) in
-    subst (Ready wrong) g.1.1.output (can g.0 g.1.0)
-
 -- it isn't a part of a frame, where the end was met
-no_part : (wrong : Result (Option ℕ × Reply) FrameError → Option TakeError) (bytes out : List ℕ) → Ready wrong (bytes ++ out) → out ≡ [] → 0 < missing bytes → ⊥
-no_part wrong bytes out r none some =
-    let is : bytes ≡ string r.body ++ r.rest = sym (append-nil bytes) ∙ (ap (λ (w : List ℕ). bytes ++ w) (sym none) ∙ r.framed) in
-    let whole : missing bytes ≡ 0 = ap missing is ∙ nothing_missing r.body r.rest r.short in
+no_part : (good : Read → Type 0) (bytes : List ℕ) (ended : Bool) → GivesGood good bytes ended → ended ≡ true → 0 < missing bytes → ⊥
+no_part good bytes ended g over some =
+    let is : bytes ≡ string g.body ++ g.rest = sym (append-nil bytes) ∙ (ap (λ (w : List ℕ). bytes ++ w) (sym (g.whole over)) ∙ g.framed) in
+    let whole : missing bytes ≡ 0 = ap missing is ∙ nothing_missing g.body g.rest g.short in
     absurd (omega (arith, whole, some))
 
+-- bytes with a wrong length begin with no whole frame
+one_bad : (bytes : List ℕ) (kind : FormatKind) → fault_of bytes ≡ Some kind → IsOne bytes
+one_bad bytes kind bad body rest some short e = absurd (let none = no_fault bytes [] body rest (append-nil bytes ∙ e) some short in let no_way : Some kind ≡ None = sym bad ∙ none in cc)
+
 -- and nothing is wrong with it
-no_refusal : (f : Desk) (wrong : Result (Option ℕ × Reply) FrameError → Option TakeError) (e : Error) (mid after : List Piece) (now : Server)
-    → ((m : Server) → IsServed (opened f) mid m → Ready wrong m.output) → IsServed (opened f) after now → GotUnusable wrong e mid after → ⊥
-no_refusal f wrong e mid after now can served (inl bad) =
-    let got = bad.1.1.1.2 in
-    let r = came f wrong mid after bad.1.1.0 now can served got in
-    let none = no_fault bad.1.1.0 now.output r.body r.rest r.framed r.some r.short in
+no_refusal : (good : Read → Type 0) (wrong : Result (Option ℕ × Reply) FrameError → Option TakeError) (ended : Bool) (e : Error) (mid after : List Piece) → ((read : Read) → good read → wrong (Ok read) ≡ None)
+    → ((bytes : List ℕ) → GotOn mid after bytes → IsOne bytes → GivesGood good bytes ended) → GotUnusable wrong e mid after → ⊥
+no_refusal good wrong ended e mid after fine gives (inl bad) =
+    let g = gives bad.1.1.0 bad.1.1.1.2 (one_bad bad.1.1.0 bad.0 bad.1.1.1.0) in
+    let none = no_fault bad.1.1.0 g.tail g.body g.rest g.framed g.some g.short in
     let some = bad.1.1.1.0 in
     absurd cc
-no_refusal f wrong e mid after now can served (inr bad) =
-    let r = came f wrong mid after (string bad.0) now can served bad.1.1 in
-    let same = (one_string bad.0 r.body now.output r.rest bad.1.0 r.short r.framed).0 in
-    let none : wrong (reply_at bad.0) ≡ None = ap (λ (w : List ℕ). wrong (reply_at w)) same ∙ r.fine in
+no_refusal good wrong ended e mid after fine gives (inr bad) =
+    let g = gives (string bad.0) bad.1.1 (one_frame bad.0 bad.1.0) in
+    let same = (one_string bad.0 g.body g.tail g.rest bad.1.0 g.short g.framed).0 in
+    let none : wrong (reply_at bad.0) ≡ None = ap (λ (w : List ℕ). wrong (reply_at w)) same ∙ (ap wrong g.reads ∙ fine g.read g.is_good) in
     let some = bad.1.2.1.0 in
     absurd cc
 
 -- ---- errors
 
-journal_only : (f : Desk) (ended : Bool) (e : Error) (past : List Entry) (mid after : List Piece) (now : Server) → (0 < awaited past → (m : Server) → IsServed (opened f) mid m → Ready (refuses past) m.output)
-    → IsServed (opened f) after now → (ended ≡ true → now.output ≡ []) → Behind ended e past mid after → Cause {T = Unit {0}} 0 0 (Err e) → e ≡ error.OutOfMemory
-journal_only f ended error.OutOfMemory past mid after now can served none b why = refl
-journal_only f ended error.LinkFault past mid after now can served none b why = absurd (omega (arith, why))
-journal_only f ended error.LinkEnded past mid after now can served none b why =
-    let got = b.2.1.2 in absurd (no_part (refuses past) b.2.0 now.output (came f (refuses past) mid after b.2.0 now (can b.1) served got) (none b.0) b.2.1.0)
-journal_only f ended other past mid after now can served none b why = absurd (no_refusal f (refuses past) other mid after now (can b.0) served b.1)
+journal_only : (ended : Bool) (e : Error) (past : List Entry) (mid after : List Piece) → (0 < awaited past → (bytes : List ℕ) → GotOn mid after bytes → IsOne bytes → GivesGood (IsAllowed past) bytes ended)
+    → Behind ended e past mid after → Cause {T = Unit {0}} 0 0 (Err e) → e ≡ error.OutOfMemory
+journal_only ended error.OutOfMemory past mid after gives b why = refl
+journal_only ended error.LinkFault past mid after gives b why = absurd (omega (arith, why))
+journal_only ended error.LinkEnded past mid after gives b why = absurd (no_part (IsAllowed past) b.2.0 ended (gives b.1 b.2.0 b.2.1.2 (one_part b.2.0 b.2.1.0)) b.0 b.2.1.0)
+journal_only ended other past mid after gives b why = absurd (no_refusal (IsAllowed past) (refuses past) ended other mid after (allowed_fine past) (gives b.0) b.1)
 
-hello_only : (f : Desk) (ended : Bool) (e : Error) (mid after : List Piece) (now : Server) → ((m : Server) → IsServed (opened f) mid m → Ready refuses_hello m.output)
-    → IsServed (opened f) after now → (ended ≡ true → now.output ≡ []) → BehindHello ended e mid after → Cause {T = Unit {0}} 0 0 (Err e) → e ≡ error.OutOfMemory
-hello_only f ended error.OutOfMemory mid after now can served none b why = refl
-hello_only f ended error.LinkFault mid after now can served none b why = absurd (omega (arith, why))
-hello_only f ended error.LinkEnded mid after now can served none b why =
-    let got = b.1.1.2 in absurd (no_part refuses_hello b.1.0 now.output (came f refuses_hello mid after b.1.0 now can served got) (none b.0) b.1.1.0)
-hello_only f ended other mid after now can served none b why = absurd (no_refusal f refuses_hello other mid after now can served b)
+hello_only : (ended : Bool) (e : Error) (mid after : List Piece) → ((bytes : List ℕ) → GotOn mid after bytes → IsOne bytes → GivesGood IsVersion bytes ended) → BehindHello ended e mid after → Cause {T = Unit {0}} 0 0 (Err e)
+    → e ≡ error.OutOfMemory
+hello_only ended error.OutOfMemory mid after gives b why = refl
+hello_only ended error.LinkFault mid after gives b why = absurd (omega (arith, why))
+hello_only ended error.LinkEnded mid after gives b why = absurd (no_part IsVersion b.1.0 ended (gives b.1.0 b.1.1.2 (one_part b.1.0 b.1.1.0)) b.0 b.1.1.0)
+hello_only ended other mid after gives b why = absurd (no_refusal IsVersion refuses_hello ended other mid after version_fine gives b)
 
 unsent_only : (e : Error) → IsUnsent e → Cause {T = Unit {0}} 0 0 (Err e) → e ≡ error.OutOfMemory
 unsent_only error.OutOfMemory u why = refl
 unsent_only error.LinkFault u why = absurd (omega (arith, why))
 unsent_only other u why = absurd u
 
--- over a server that serves, a run stops only for want of memory
-pub only_memory : (given : Given) (f : Desk) (ended : Bool) (e : Error) (log : List Piece) (now : Server) → IsFirst f → IsServed (opened f) log now → (ended ≡ true → now.output ≡ [])
-    → Ends given ended e [] log → Cause {T = Unit {0}} 0 0 (Err e) → e ≡ error.OutOfMemory
-only_memory given f ended e log now first served none (inl (inl part)) why = unsent_only e part.0 why
-only_memory given f ended e log now first served none (inl (inr h)) why =
-    hello_only f ended e h.0 log now (λ m v. hello_ready f h.0 m first h.1.0 v) served none h.1.1 why
-only_memory given f ended e log now first served none (inr x) why =
+-- over a link that serves, a run stops only for want of memory
+pub only_memory : (given : Given) (ended : Bool) (e : Error) (log : List Piece) → ServesLanes given log ended → Ends given ended e [] log → Cause {T = Unit {0}} 0 0 (Err e) → e ≡ error.OutOfMemory
+only_memory given ended e log serves (inl (inl part)) why = unsent_only e part.0 why
+only_memory given ended e log serves (inl (inr h)) why = hello_only ended e h.0 log (λ bytes. serves.greets h.0 bytes h.1.0) h.1.1 why
+only_memory given ended e log serves (inr x) why =
     let past = x.1.0 in
-    let s : Setting = setting_of given.lanes given.options x.0 past in
-    let j = later_journal s past x.1.1.1.0 in
-    journal_only f ended e past x.1.1.0 log now
-    (λ some m v. ready s f (greeting x.0) past x.1.1.0 m first j (sound_at given.lanes given.options x.0 f past x.1.1.0 m first j x.1.1.1.1 v) x.1.1.1.1 v some) served none x.1.1.1.2 why
+    let j = later_journal (setting_of given.lanes given.options x.0 past) past x.1.1.1.0 in
+    journal_only ended e past x.1.1.0 log (λ some bytes. serves.replies x.0 past x.1.1.0 bytes j x.1.1.1.1 some) x.1.1.1.2 why
+
+-- ---- the server in memory
+
+turned_none : (o : WaitingFrames) → (turned o).ready ≡ [] → o.ready ≡ []
+turned_none o e = by_ready o.ready refl
+  where
+    by_ready : (ready : List ℕ) → o.ready ≡ ready → o.ready ≡ []
+    by_ready [] is = is
+    by_ready (b ∷ ready) is = sym (ap (λ (w : WaitingFrames). w.ready) (still_turned o (subst (λ (x : List ℕ). 0 < length x) (sym is) (omega arith)))) ∙ e
+
+-- what was given is the front of what was to be given next
+good_by : (good : Read → Type 0) (ended : Bool) (mid now : Server) (bytes : List ℕ) → (ended ≡ true → (turned now.output).ready ≡ []) → Ready good mid.output → GivenBy mid bytes now → GivesGood good bytes ended
+good_by good ended mid now bytes none r (inl same) = record {
+  body = r.whole.body;
+  read = r.read;
+  rest = r.whole.rest;
+  tail = (turned mid.output).ready;
+  framed = ap (λ (w : List ℕ). w ++ (turned mid.output).ready) same.0 ∙ r.whole.framed;
+  some = r.whole.some;
+  short = r.whole.short;
+  reads = r.reads;
+  is_good = r.is_good;
+  whole = λ over. ap (λ (w : Server). (turned w.output).ready) (sym same.1) ∙ none over;
+}
+good_by good ended mid now bytes none r (inr p) = record {
+  body = r.whole.body;
+  read = r.read;
+  rest = r.whole.rest;
+  tail = now.output.ready;
+  framed = sym p.ready ∙ r.whole.framed;
+  some = r.whole.some;
+  short = r.whole.short;
+  reads = r.reads;
+  is_good = r.is_good;
+  whole = λ over. turned_none now.output (none over);
+}
+
+came : (f : Desk) (picks : List ℕ) (good : Read → Type 0) (ended : Bool) (mid after : List Piece) (bytes : List ℕ) (now : Server) → ((m : Server) → IsServed (opened f picks) mid m → Ready good m.output)
+    → IsServed (opened f picks) after now → (ended ≡ true → (turned now.output).ready ≡ []) → GotOn mid after bytes → IsOne bytes → GivesGood good bytes ended
+came f picks good ended mid after bytes now can served none got one =
+    let g = got_front (opened f picks) now mid got.0 bytes got.2 one (subst (λ (w : List Piece). IsServed (opened f picks) w now) got.1 served) in
+    let r = can g.0 g.1.0 in
+    good_by good ended g.0 now bytes none r (g.1.1 r.whole)
+
+-- a server in memory serves
+pub serves_lanes : (given : Given) (f : Desk) (picks : List ℕ) (ended : Bool) (log : List Piece) (now : Server) → IsFirst f → IsServed (opened f picks) log now → (ended ≡ true → (turned now.output).ready ≡ []) → ServesLanes given log ended
+serves_lanes given f picks ended log now first served none = record {
+  greets = λ before bytes was_sent got one. came f picks IsVersion ended before log bytes now (λ m v. hello_ready f picks before m first was_sent v) served none got one;
+  replies = λ extensions past before bytes j shown some got one.
+      came f picks (IsAllowed past) ended before log bytes now
+      (λ m v. ready (setting_of given.lanes given.options extensions past) f picks (greeting extensions) past before m first j (sound_at given.lanes given.options extensions f picks past before m first j shown v) shown v some) served none got one;
+}

@@ -1,5 +1,5 @@
 -- Runs over a server of files: they are served, and stop only for want of memory.
-use Rattle.std.proofs.Common.{◌≡◌, ◌<◌, suc, true, List, [], ◌∷◌, All, Option, Some, Err, refl, ap, sym, ◌∙◌, subst, arith}
+use Rattle.std.proofs.Common.{◌≡◌, ◌<◌, ℕ, suc, true, List, [], ◌∷◌, All, Option, Some, Err, refl, ap, sym, ◌∙◌, subst, arith}
 use Rattle.sftp_model.specs.declared.config.Choice.{Choice}
 use Rattle.sftp_model.specs.declared.error.Error.{Error}
 use Rattle.sftp_model.specs.declared.error.Error.TheVariants as error
@@ -20,47 +20,87 @@ use Rattle.sftp_history.specs.Journals.{IsJournal}
 use Rattle.sftp_history.specs.Lanes.{are_ok}
 use Rattle.sftp_history.proofs.OverLaws.{runs_are_journals}
 use Rattle.sftp_history.specs.Runs.{IsRun}
-use Rattle.sftp_history.specs.Served.{Serves}
+use Rattle.sftp_history.specs.Readings.{answer, unanswered}
+use Rattle.sftp_history.specs.Served.{IsNumbered, IsPicked, Serves}
 use Rattle.sftp_history.specs.Settings.{greeting, setting_of}
 use Rattle.sftp_history.specs.Shown.{Shows}
-use Rattle.sftp_map_server.specs.Granting.{MAX_HANDLES}
-use Rattle.sftp_map_server.specs.Serving.{Desk, Serving, IsServing, version_reply}
-use Rattle.sftp_served.specs.Unopened.{IsUnopened}
+use Rattle.sftp_tree.specs.FileTree.{FileTree}
+use Rattle.sftp_tree.specs.FitTrees.{IsFit}
+use Rattle.sftp_tree.proofs.FirstFits.{first_fits}
+use Rattle.sftp_machine.specs.MachineState.{MAX_HANDLES}
+use Rattle.sftp_map_server.specs.Serving.{Desk, IsServed, IsServing, Server, Serving, first_desk, opened, version_reply}
+use Rattle.sftp_served.specs.ServingLinks.{ServesLanes}
+use Rattle.sftp_served.specs.Unopened.{IsServedRun, IsUnopened}
 use Rattle.sftp_served.proofs.Counting.{run_calls}
 use Rattle.sftp_served.proofs.Replying.{AllCodes, greeted_at}
+use Rattle.sftp_served.proofs.Owing.{due}
 use Rattle.sftp_served.proofs.Serving.{called, serves_by}
-use Rattle.sftp_served.proofs.Showing.{IsFirst, shows_owes, shows_version, answers_by}
-use Rattle.sftp_served.proofs.Stopping.{only_memory, sound_at}
+use Rattle.sftp_served.proofs.Numbering.{numbered_by}
+use Rattle.sftp_served.proofs.Showing.{AnswersBy, IsFirst, answers_by, shows_served, shows_version}
+use Rattle.sftp_served.proofs.Stopping.{only_memory, serves_lanes, sound_at}
 
 all_codes : (choices : List Choice) → All (λ choice. FitsNumber choice.refuse) choices → AllCodes choices
 all_codes [] h = tt
 all_codes (c ∷ choices) h = (h 0 c (omega arith), all_codes choices (λ k d lt. h (suc k) d (omega (arith, lt))))
 
-first_is : (first : Desk) → IsUnopened first → IsFirst first
+first_is : (first : Server) → IsUnopened first → IsFirst first.desk
 first_is first new =
+    let d : Desk = first_desk new.files new.dirs first.desk.machine.config first.desk.choices in
+    let is : first.desk ≡ d = ap (λ (w : Server). w.desk) new.is in
     record {
-      fresh = ap (λ (d : Desk). d.greeted) new.is;
-      good = record { greeted = refl; still = ap (λ (d : Desk). d.over) new.is; codes = all_codes first.choices new.fits.codes; limits = new.fits.limits };
+      fresh = ap (λ (w : Desk). w.greeted) is;
+      good = record {
+        greeted = refl;
+        still = ap (λ (w : Desk). w.over) is;
+        codes = all_codes first.desk.choices new.fits.codes;
+        limits = new.fits.limits;
+        fit = subst (λ (w : Desk). IsFit w.machine.tree) (sym is) (first_fits new.files new.dirs new.may);
+      };
       known = new.fits.known;
     }
+
+-- its log is that of a server from this desk on
+served_from : (server : Serving) (new : IsUnopened server.first) → IsServing server.first server.now server.log server.ended → IsServed (opened server.first.desk server.first.output.picks) server.log server.now
+served_from server new serving =
+    let here : server.first ≡ opened server.first.desk server.first.output.picks =
+    new.is ∙ ap (λ (d : Desk). opened d server.first.output.picks) (sym (ap (λ (w : Server). w.desk) new.is)) in
+    subst (λ (w : Server). IsServed w server.log server.now) here serving.served
+
+-- the server serves the lanes of any session
+pub server_serves : (given : Given) (server : Serving) → IsUnopened server.first → IsServing server.first server.now server.log server.ended → ServesLanes given server.log server.ended
+server_serves given server new serving =
+    serves_lanes given server.first.desk server.first.output.picks server.ended server.log server.now (first_is server.first new) (served_from server new serving) serving.end
 
 -- a run stops only for want of memory
 pub stops_for_memory : (given : Given) (server : Serving) (e : Error) → IsUnopened server.first → IsServing server.first server.now server.log server.ended
     → Ends given server.ended e [] server.log → Cause {T = Unit {0}} 0 0 (Err e) → e ≡ error.OutOfMemory
-stops_for_memory given server e new serving ends why =
-    only_memory given server.first server.ended e server.log server.now (first_is server.first new) serving.served serving.end ends why
+stops_for_memory given server e new serving ends why = only_memory given server.ended e server.log (server_serves given server new serving) ends why
+
+-- what the replies of a journal are to which the log bears witness
+pub record IsAnswered (first : Server) (past : List Entry) (left : FileTree) : Type 0 where
+  pub serves : Serves first.desk.machine.config first.desk.choices first.desk.machine.tree past left
+  pub by_picks : IsPicked first.output.picks past
+  pub numbered : unanswered past ≡ 0 → IsNumbered past
 
 -- a journal that the log shows is served, where calls submitted fewer requests than there are handles
-pub journal_is_served : (lanes : List Lane) (options : SftpOptions) (extensions : Extensions) (past : List Entry) (server : Serving) → IsUnopened server.first → IsServing server.first server.now server.log server.ended
-    → IsJournal (setting_of lanes options extensions past) past → called past < MAX_HANDLES → Shows (greeting extensions) past [] server.log
-    → Serves server.first.granting.config server.first.choices server.first.granting.machine past server.now.desk.granting.machine
+journal_is_served : (lanes : List Lane) (options : SftpOptions) (extensions : Extensions) (past : List Entry) (server : Serving) → IsUnopened server.first → IsServing server.first server.now server.log server.ended
+    → IsJournal (setting_of lanes options extensions past) past → called past < MAX_HANDLES → Shows (greeting extensions) past [] server.log → IsAnswered server.first past server.now.desk.machine.tree
 journal_is_served lanes options extensions past server new serving j few shows =
     let first = first_is server.first new in
-    let sound = sound_at lanes options extensions server.first past server.log server.now first j shows serving.served in
-    let d : Desk = greeted_at server.first in
-    let o = shows_owes server.first (greeting extensions) past server.log server.now first sound shows serving.served in
-    subst (λ (w : Desk). Serves server.first.granting.config server.first.choices server.first.granting.machine past w.granting.machine) (sym o.0.desk)
-    (serves_by d past (ap (λ (w : Desk). w.granting.grants) new.is) (ap (λ (w : Desk). w.granting.machine.handles) new.is) sound (λ p. answers_by (setting_of lanes options extensions past) d past p j o.1) few)
+    let f : Desk = server.first.desk in
+    let picks : List ℕ = server.first.output.picks in
+    let served = served_from server new serving in
+    let sound = sound_at lanes options extensions f picks past server.log server.now first j shows served in
+    let d : Desk = greeted_at f in
+    let o = shows_served (setting_of lanes options extensions past) f picks (greeting extensions) past server.log server.now first j sound shows served in
+    let none : d.machine.grants ≡ 0 = ap (λ (w : Server). w.desk.machine.grants) new.is in
+    let closed : d.machine.tree.handles ≡ [] = ap (λ (w : Server). w.desk.machine.tree.handles) new.is in
+    let by : (p : ℕ) → AnswersBy (answer past p) (due d past p) = λ p. answers_by d past p o.due in
+    record {
+      serves = subst (λ (w : Desk). Serves f.machine.config f.choices f.machine.tree past w.machine.tree) (sym o.owes.desk) (serves_by d past none closed sound by few);
+      by_picks = o.by_picks;
+      numbered = λ over. numbered_by d past none closed sound by few over;
+    }
 
 -- the log shows VERSION and the journal
 shown_by : (given : Given) (version : Option Reply) (s : Setting) (past : List Entry) (log : List Piece) → (fixed : IsFixed given version past s) → Told (Showing version past) (Some []) (Some log) → Shows (greeting fixed.0) past [] log
@@ -68,18 +108,18 @@ shown_by given version s past log fixed shown = subst (λ (v : Option Reply). To
 
 -- VERSION tells what the server offers
 pub version_is_told : (given : Given) (version : Option Reply) (s : Setting) (past : List Entry) (server : Serving) → IsUnopened server.first → IsServing server.first server.now server.log server.ended
-    → IsFixed given version past s → Told (Showing version past) (Some []) (Some server.log) → version ≡ Some (version_reply server.first.granting.config)
+    → IsFixed given version past s → Told (Showing version past) (Some []) (Some server.log) → version ≡ Some (version_reply server.first.desk.machine.config)
 version_is_told given version s past server new serving fixed shown =
-    fixed.1.0 ∙ ap (λ (r : Reply). Some r) (shows_version server.first (greeting fixed.0) past server.log server.now (first_is server.first new) (shown_by given version s past server.log fixed shown) serving.served)
+    fixed.1.0 ∙ ap (λ (r : Reply). Some r) (shows_version server.first.desk server.first.output.picks (greeting fixed.0) past server.log server.now (first_is server.first new) (shown_by given version s past server.log fixed shown) (served_from server new serving))
 
 -- a whole run is served
 pub run_is_served : (given : Given) (version : Option Reply) (s : Setting) (turns : List Turn) (past : List Entry) (server : Serving) → IsUnopened server.first → IsServing server.first server.now server.log server.ended
-    → are_ok given.lanes ≡ true → IsRun s turns past → IsFixed given version past s → Told (Showing version past) (Some []) (Some server.log)
-    → Serves server.first.granting.config server.first.choices server.first.granting.machine past server.now.desk.granting.machine
+    → are_ok given.lanes ≡ true → IsRun s turns past → IsFixed given version past s → Told (Showing version past) (Some []) (Some server.log) → IsServedRun server.first past server.now.desk.machine.tree
 run_is_served given version s turns past server new serving ok run fixed shown =
     let is : Setting = setting_of given.lanes given.options fixed.0 past in
     let shows = shown_by given version s past server.log fixed shown in
     let whole : IsRun is turns past = subst (λ (t : Setting). IsRun t turns past) fixed.1.1 run in
     let j : IsJournal is past = runs_are_journals is turns past whole in
     let few = run_calls is turns past whole j ok in
-    journal_is_served given.lanes given.options fixed.0 past server new serving j few shows
+    let a = journal_is_served given.lanes given.options fixed.0 past server new serving j few shows in
+    record { serves = a.serves; by_picks = a.by_picks; numbered = a.numbered (subst (λ (w : List Entry). unanswered w ≡ 0) whole.1.1 whole.1.0.answered) }

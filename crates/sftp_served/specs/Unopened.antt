@@ -1,15 +1,19 @@
--- Servers of files that nothing was sent to.
-use Rattle.std.specs.Prelude.{◌≡◌, ℕ, false, List, [], All, IfSome}
+-- Servers of files and directories that nothing was sent to.
+use Rattle.std.specs.Prelude.{◌≡◌, ℕ, true, false, List, [], All, IfSome}
 use Rattle.sftp_model.specs.declared.config.Choice.{Choice}
 use Rattle.sftp_model.specs.declared.config.ServerConfig.{ServerConfig}
 use Rattle.sftp_model.specs.Fits.{FitsNumber, FitsSet, FitsLimits}
-use Rattle.sftp_map_server.specs.Serving.{Desk, Serving, first_desk, opened}
+use Rattle.sftp_tree.specs.FileTree.{FileTree}
+use Rattle.sftp_tree.specs.FirstTree.{FirstFile, may_begin}
+use Rattle.sftp_history.specs.declared.entry.Entry.{Entry}
+use Rattle.sftp_history.specs.Served.{IsNumbered, IsPicked, Serves}
+use Rattle.sftp_map_server.specs.Serving.{Server, Serving, first_desk, opened}
 
--- a server of these files
-abbrev pub unopened : List (List ℕ × List ℕ) → ServerConfig → List Choice → Serving
-unopened files config choices = record {
-  first = first_desk files config choices;
-  now = opened (first_desk files config choices);
+-- a server of these files and directories, which is to give its replies by these picks
+abbrev pub unopened : List FirstFile → List (List ℕ) → ServerConfig → List Choice → List ℕ → Serving
+unopened files dirs config choices picks = record {
+  first = opened (first_desk files dirs config choices) picks;
+  now = opened (first_desk files dirs config choices) picks;
   log = [];
   ended = false;
 }
@@ -20,8 +24,17 @@ pub record IsFitting (config : ServerConfig) (choices : List Choice) : Type 0 wh
   pub limits : IfSome config.limits FitsLimits
   pub codes : All (λ choice. FitsNumber choice.refuse) choices
 
--- the first desk of a server of some files, which can tell what it offers
-pub record IsUnopened (first : Desk) : Type 0 where
-  pub files : List (List ℕ × List ℕ)
-  pub is : first ≡ first_desk files first.granting.config first.choices
-  pub fits : IsFitting first.granting.config first.choices
+-- the first state of a server of some files and directories, which can tell what it offers
+pub record IsUnopened (first : Server) : Type 0 where
+  pub files : List FirstFile
+  pub dirs : List (List ℕ)
+  pub may : may_begin files dirs ≡ true
+  pub is : first ≡ opened (first_desk files dirs first.desk.machine.config first.desk.choices) first.output.picks
+  pub fits : IsFitting first.desk.machine.config first.desk.choices
+
+-- The replies of a whole run's journal are those of one sequential run of the file machine, which grants the handles 0, 1, 2
+-- and so on, and is left with this tree; they were taken in the order that the picks say.
+pub record IsServedRun (first : Server) (past : List Entry) (left : FileTree) : Type 0 where
+  pub serves : Serves first.desk.machine.config first.desk.choices first.desk.machine.tree past left
+  pub by_picks : IsPicked first.output.picks past
+  pub numbered : IsNumbered past

@@ -1,12 +1,11 @@
-// A run over a server of files in memory.
+// A run over a server of files and directories in memory.
 ghost use Rattle.std.specs.Prelude.{◌≡◌, [], true, Some, IfErr, OnOk};
 ghost use Rattle.sftp_model.specs.declared.error.Error.TheVariants as error;
 ghost use Rattle.sftp_history.specs.Lanes.{are_ok};
 ghost use Rattle.sftp_history.specs.Runs.{IsRun};
-ghost use Rattle.sftp_history.specs.Served.{Serves};
 ghost use Rattle.sftp_driver.specs.Session.{IsFixed, at_rest};
 ghost use Rattle.sftp_map_server.specs.Serving.{version_reply};
-ghost use Rattle.sftp_served.specs.Unopened.{IsUnopened};
+ghost use Rattle.sftp_served.specs.Unopened.{IsServedRun, IsUnopened};
 
 use sftp_driver::{Phase, RunsLanes, run_session};
 use sftp_history::Turn;
@@ -18,7 +17,8 @@ use std::alloc::Global;
 ///
 /// With Ok the journal is a run of the lanes under these turns, VERSION told what the server offers, and the replies are
 /// those of one sequential run of the file machine over the requests in the order in which they were sent, which leaves
-/// the server's machine as it is. It stops only for want of memory.
+/// the server's files and directories as they are; they came in the order that the picks say, and handles are numbered by the
+/// grants. It stops only for want of memory.
 pub fn run_served<X: RunsLanes>(
     alloc: Global,
     session: &mut X,
@@ -32,8 +32,8 @@ pub fn run_served<X: RunsLanes>(
     requires quiet { server.old.log ≡ [] }
     ensures run { OnOk result (IsRun (X.setting session.new) schedule.now (X.stage session.new).past) }
     ensures fixed { OnOk result (IsFixed (X.given session.old) (X.version session.new) (X.stage session.new).past (X.setting session.new)) }
-    ensures version { OnOk result (X.version session.new ≡ Some (version_reply server.old.first.granting.config)) }
-    ensures serves { OnOk result (Serves server.old.first.granting.config server.old.first.choices server.old.first.granting.machine (X.stage session.new).past server.new.now.desk.granting.machine) }
+    ensures version { OnOk result (X.version session.new ≡ Some (version_reply server.old.first.desk.machine.config)) }
+    ensures serves { OnOk result (IsServedRun server.old.first (X.stage session.new).past server.new.now.desk.machine.tree) }
     ensures only { IfErr result (λ e. e ≡ error.OutOfMemory) }
     ensures first { server.new.first ≡ server.old.first }
 {

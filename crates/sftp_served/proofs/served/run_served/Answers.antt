@@ -1,10 +1,9 @@
 use Rattle.std.proofs.Common.{List, Some, ap, sym, ◌∙◌, subst}
 use Rattle.sftp_link.specs.declared.piece.Piece.{Piece}
 use Rattle.sftp_link.specs.Told.{Told}
-use Rattle.sftp_history.specs.Served.{Serves}
 use Rattle.sftp_driver.specs.Logs.{Ends, Showing}
-use Rattle.sftp_map_server.specs.Serving.{Desk, version_reply}
-use Rattle.sftp_served.specs.Unopened.{IsUnopened}
+use Rattle.sftp_map_server.specs.Serving.{Server, version_reply}
+use Rattle.sftp_served.specs.Unopened.{IsServedRun, IsUnopened}
 use Rattle.sftp_served.proofs.Whole.{version_is_told, run_is_served, stops_for_memory}
 use Rattle.sftp_served.proofs.served.run_served.Goals as goal
 
@@ -15,14 +14,14 @@ returns-in-Ok-clause-version g c =
     let past = (g.X.RunsLanes.stage c.run_session.new.session).past in
     version_is_told (g.X.RunsLanes.given c.args.session.now) version (g.X.RunsLanes.setting c.run_session.new.session) past c.run_session.new.link (subst IsUnopened (sym same) c.requires.unopened)
     c.is_ended-ended.ensures.serving c.in-Ok.ensures.fixed (subst (λ (w : List Piece). Told (Showing version past) (Some w) (Some c.run_session.new.link.log)) c.requires.quiet c.in-Ok.ensures.log)
-    ∙ ap (λ (d : Desk). Some (version_reply d.granting.config)) same
+    ∙ ap (λ (x : Server). Some (version_reply x.desk.machine.config)) same
 
 pub returns-in-Ok-clause-serves : goal.returns-in-Ok-clause-serves
 returns-in-Ok-clause-serves g c =
     let same = c.in-Ok.ensures.service in
     let version = g.X.RunsLanes.version c.run_session.new.session in
     let past = (g.X.RunsLanes.stage c.run_session.new.session).past in
-    subst (λ (d : Desk). Serves d.granting.config d.choices d.granting.machine past c.run_session.new.link.now.desk.granting.machine) same
+    subst (λ (x : Server). IsServedRun x past c.run_session.new.link.now.desk.machine.tree) same
     (run_is_served (g.X.RunsLanes.given c.args.session.now) version (g.X.RunsLanes.setting c.run_session.new.session) c.args.schedule.now past c.run_session.new.link (subst IsUnopened (sym same) c.requires.unopened)
     c.is_ended-ended.ensures.serving c.requires.lanes c.in-Ok.ensures.run c.in-Ok.ensures.fixed (subst (λ (w : List Piece). Told (Showing version past) (Some w) (Some c.run_session.new.link.log)) c.requires.quiet c.in-Ok.ensures.log))
 
