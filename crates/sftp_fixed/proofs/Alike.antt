@@ -1,8 +1,8 @@
 -- Runs that are alike, but for the ids of their requests, stay alike, where the same replies are taken at the same places.
 use Rattle.std.proofs.Common.{◌≡◌, ◌<◌, ℕ, zero, suc, Bool, true, false, List, [], ◌∷◌, Option, Some, None, refl, ap, sym, ◌∙◌, subst, arith, inl, inr}
-use Rattle.std.specs.Prelude.{◌&&◌, nat_lt, is_some, MatchBool}
+use Rattle.std.specs.Prelude.{◌&&◌, ◌==◌, nat_lt, is_some, MatchBool}
+use Rattle.std.specs.List.{list_any}
 use Rattle.sftp_model.specs.declared.outcome.Outcome.TheVariants as outcome
-use Rattle.sftp_model.specs.declared.request.Request.{Request}
 use Rattle.sftp_model.specs.declared.request.Request.TheVariants as request
 use Rattle.sftp_model.specs.declared.reply.Reply.{Reply}
 use Rattle.sftp_model.specs.declared.slot.Move.{Move}
@@ -17,11 +17,11 @@ use Rattle.sftp_history.specs.declared.entry.Entry.TheVariants as entry
 use Rattle.sftp_history.specs.Readings.{asked, sent, awaited, ended, unanswered}
 use Rattle.sftp_history.specs.Calls.{Setting, current, move_of}
 use Rattle.sftp_history.specs.Grants.{orphan}
-use Rattle.sftp_history.specs.Journals.{MayTake, close_of, cancelled_end}
+use Rattle.sftp_history.specs.Journals.{close_of}
 use Rattle.sftp_history.specs.Turns.{Stage, TurnTo, MovesBy, RulesTo, SettlesTo, ClosesTo, is_full, is_begun, begun_with, begun_but}
-use Rattle.sftp_history.specs.Runs.{TurnsTo, round_of, RoundsTo, EndsTo, LetsGoTo, DrainsTo}
+use Rattle.sftp_history.specs.Runs.{TurnsTo, round_of, EndsTo, LetsGoTo, DrainsTo}
 use Rattle.sftp_fixed.proofs.Placed.{place_of, placed, placed_asked, placed_answers, placed_sent, placed_awaited, placed_unanswered, placed_full, placed_ended, placed_current, placed_move, placed_orphan}
-use Rattle.sftp_fixed.proofs.Back.{GoesBack, rules_back, turns_back, rounds_back, drains_back}
+use Rattle.sftp_fixed.proofs.Back.{GoesBack, rules_back, turns_back, Repeats, HasCall, Awaits, rounds_repeat, drains_repeat, repeats_back}
 
 -- ---- what is alike
 
@@ -34,10 +34,15 @@ pub record Alike (a b : Stage) : Type 0 where
   pub past : Same a.past b.past
   pub begun : a.begun ≡ b.begun
 
--- a property that goes back, and that fixes what is taken behind each journal, but for its id
-pub record Fixes (P : List Entry → Type 0) (next : List Entry → Entry) : Type 0 where
-  pub back : GoesBack P
-  pub takes : (past : List Entry) (id : ℕ) (r : Reply) → MayTake past id r → P (entry.Event (Take id r) ∷ past) → entry.Event (Take (place_of past id) r) ≡ next (placed past)
+-- each reply in the journal is the one that this function of the journal before it gives, but for its id
+abbrev pub Follows : (List Entry → Entry) → List Entry → Type 0
+Follows next [] = Unit {0}
+Follows next (entry.Event (Take id r) ∷ past) = (entry.Event (Take (place_of past id) r) ≡ next (placed past)) × Follows next past
+Follows next (_ ∷ past) = Follows next past
+
+pub follows_back : (next : List Entry → Entry) → GoesBack (Follows next)
+follows_back next (entry.Event (Take id r)) past p = p.1
+follows_back next (_) past p = p
 
 -- what is read without ids is read alike
 pub read : {A : Type 0} (f : List Entry → A) → ((past : List Entry) → f (placed past) ≡ f past) → (a b : List Entry) → Same a b → f a ≡ f b
@@ -111,130 +116,101 @@ rules_same s a b now_a now_b h x y =
 
 -- ---- turns
 
-asks_same : (lane i j : ℕ) (r : Request) (a b : List Entry) → Same a b → Same (entry.Event (Submit (owner.Call lane (ended a lane)) i r) ∷ a) (entry.Event (Submit (owner.Call lane (ended b lane)) j r) ∷ b)
-asks_same lane i j r a b h =
-    let number = read (λ (w : List Entry). ended w lane) (λ w. placed_ended w lane) a b h in
-    let place = read asked placed_asked a b h in
-    λ k. entry.Event (Submit (owner.Call lane (number k)) (place k) r) ∷ h k
+-- an event, and what follows it
+events_same : (s : Setting) (a b : List Entry) (begun_a begun_b : List ℕ) (now_a now_b : Stage) → Same a b → begun_a ≡ begun_b
+    → (now_a.begun ≡ begun_a) × RulesTo s a now_a.past → (now_b.begun ≡ begun_b) × RulesTo s b now_b.past → Alike now_a now_b
+events_same s a b begun_a begun_b now_a now_b h e x y = record { past = rules_same s a b now_a.past now_b.past h x.1 y.1; begun = x.0 ∙ (e ∙ sym y.0) }
+
+tests_same : (t u : Bool) (A B : Type 0) (a b now_a now_b : Stage) → Alike a b → t ≡ u → (A → B → Alike now_a now_b) → MatchBool t A (now_a ≡ a) → MatchBool u B (now_b ≡ b) → Alike now_a now_b
+tests_same true true A B a b now_a now_b h e f x y = f x y
+tests_same false false A B a b now_a now_b h e f x y = stay_same a b now_a now_b h x y
+tests_same true false A B a b now_a now_b h e f x y = absurd cc
+tests_same false true A B a b now_a now_b h e f x y = absurd cc
+
+number : (lane : ℕ) (a b : List Entry) → Same a b → ended a lane ≡ ended b lane
+number lane a b h = read (λ (w : List Entry). ended w lane) (λ w. placed_ended w lane) a b h
 
 moves_same : (s : Setting) (lane : ℕ) (a b now_a now_b : Stage) (m : Option Move) → Alike a b → MovesBy (RulesTo s) lane a now_a m → MovesBy (RulesTo s) lane b now_b m → Alike now_a now_b
 moves_same s lane a b now_a now_b None h x y = stay_same a b now_a now_b h x y
 moves_same s lane a b now_a now_b (Some (Wait place)) h x y =
     stay_same (record { past = a.past; begun = begun_with a.begun lane }) (record { past = b.past; begun = begun_with b.begun lane }) now_a now_b
-    (record { past = h.past; begun = ap (λ (l : List ℕ). begun_with l lane) h.begun }) x y
+    (record { past = h.past; begun = λ i. begun_with (h.begun i) lane }) x y
 moves_same s lane a b now_a now_b (Some (Ask r)) h x y =
-    record {
-      past = rules_same s _ _ now_a.past now_b.past (asks_same lane x.1.0 y.1.0 r a.past b.past h.past) x.1.1.1 y.1.1.1;
-      begun = x.0 ∙ (ap (λ (l : List ℕ). begun_with l lane) h.begun ∙ sym y.0);
-    }
+    let n = number lane a.past b.past h.past in
+    let place = read asked placed_asked a.past b.past h.past in
+    events_same s _ _ _ _ now_a now_b (λ i. entry.Event (Submit (owner.Call lane (n i)) (place i) r) ∷ h.past i) (λ i. begun_with (h.begun i) lane) (x.0, x.1.1.1) (y.0, y.1.1.1)
 moves_same s lane a b now_a now_b (Some (Done o site)) h x y =
-    let number = read (λ (w : List Entry). ended w lane) (λ w. placed_ended w lane) a.past b.past h.past in
-    record {
-      past = rules_same s _ _ now_a.past now_b.past (λ i. entry.Event (End lane (number i) o) ∷ h.past i) x.1 y.1;
-      begun = x.0 ∙ (ap (λ (l : List ℕ). begun_but l lane) h.begun ∙ sym y.0);
-    }
+    let n = number lane a.past b.past h.past in
+    events_same s _ _ _ _ now_a now_b (λ i. entry.Event (End lane (n i) o) ∷ h.past i) (λ i. begun_but (h.begun i) lane) x y
 
-abbrev Flushes : Setting → Stage → Stage → Bool → Type 0
-Flushes s before now t = MatchBool t ((now.begun ≡ before.begun) × RulesTo s (entry.Event Send ∷ before.past) now.past) (now ≡ before)
+pub taken_same : (next : List Entry → Entry) (a b : List Entry) (i j : ℕ) (r q : Reply) → Same a b → Follows next (entry.Event (Take i r) ∷ a) → Follows next (entry.Event (Take j q) ∷ b)
+    → Same (entry.Event (Take i r) ∷ a) (entry.Event (Take j q) ∷ b)
+taken_same next a b i j r q h p k = (λ n. p.0 n ∷ placed a) ∙ (ap (λ (w : List Entry). next w ∷ w) h ∙ (λ n. sym k.0 n ∷ placed b))
 
-flushes_same : (s : Setting) (t : Bool) (a b now_a now_b : Stage) → Alike a b → Flushes s a now_a t → Flushes s b now_b t → Alike now_a now_b
-flushes_same s true a b now_a now_b h x y =
-    record { past = rules_same s _ _ now_a.past now_b.past (λ i. entry.Event Send ∷ h.past i) x.1 y.1; begun = x.0 ∙ (h.begun ∙ sym y.0) }
-flushes_same s false a b now_a now_b h x y = stay_same a b now_a now_b h x y
-
-abbrev Takes : Setting → Stage → Stage → Bool → Type 0
-Takes s before now t =
-    MatchBool t ((now.begun ≡ before.begun) × ((id : ℕ) × ((r : Reply) × (MayTake before.past id r × RulesTo s (entry.Event (Take id r) ∷ before.past) now.past)))) (now ≡ before)
-
-taken_next : {P : List Entry → Type 0} {next : List Entry → Entry} → Fixes P next → (past : List Entry) (id : ℕ) (r : Reply) → MayTake past id r → P (entry.Event (Take id r) ∷ past)
-    → placed (entry.Event (Take id r) ∷ past) ≡ next (placed past) ∷ placed past
-taken_next f past id r may p = λ i. f.takes past id r may p i ∷ placed past
-
-pub take_same : {P Q : List Entry → Type 0} {next : List Entry → Entry} → Fixes P next → Fixes Q next → (a b : List Entry) (i j : ℕ) (r q : Reply) → Same a b → MayTake a i r → MayTake b j q
-    → P (entry.Event (Take i r) ∷ a) → Q (entry.Event (Take j q) ∷ b) → Same (entry.Event (Take i r) ∷ a) (entry.Event (Take j q) ∷ b)
-take_same {P} {Q} {next} f g a b i j r q h x y p k = taken_next f a i r x p ∙ (ap (λ (w : List Entry). next w ∷ w) h ∙ sym (taken_next g b j q y k))
-
-takes_same : {P Q : List Entry → Type 0} {next : List Entry → Entry} → Fixes P next → Fixes Q next → (s : Setting) (t : Bool) (a b now_a now_b : Stage) → Alike a b
-    → Takes s a now_a t → Takes s b now_b t → P now_a.past → Q now_b.past → Alike now_a now_b
-takes_same {P} {Q} f g s true a b now_a now_b h x y p q =
-    let same = take_same f g a.past b.past x.1.0 y.1.0 x.1.1.0 y.1.1.0 h.past x.1.1.1.0 y.1.1.1.0 (rules_back P f.back s _ now_a.past x.1.1.1.1 p) (rules_back Q g.back s _ now_b.past y.1.1.1.1 q) in
-    record { past = rules_same s _ _ now_a.past now_b.past same x.1.1.1.1 y.1.1.1.1; begun = x.0 ∙ (h.begun ∙ sym y.0) }
-takes_same f g s false a b now_a now_b h x y p q = stay_same a b now_a now_b h x y
-
-abbrev Cancels : Setting → ℕ → Stage → Stage → Bool → Type 0
-Cancels s lane before now t =
-    MatchBool t ((now.begun ≡ begun_but before.begun lane) × RulesTo s (cancelled_end (entry.Event (Cancel lane) ∷ before.past) lane ∷ entry.Event (Cancel lane) ∷ before.past) now.past) (now ≡ before)
-
-cancels_same : (s : Setting) (lane : ℕ) (t : Bool) (a b now_a now_b : Stage) → Alike a b → Cancels s lane a now_a t → Cancels s lane b now_b t → Alike now_a now_b
-cancels_same s lane true a b now_a now_b h x y =
-    let number = read (λ (w : List Entry). ended w lane) (λ w. placed_ended w lane) a.past b.past h.past in
-    record {
-      past = rules_same s _ _ now_a.past now_b.past (λ i. entry.Event (End lane (number i) outcome.Cancelled) ∷ entry.Event (Cancel lane) ∷ h.past i) x.1 y.1;
-      begun = x.0 ∙ (ap (λ (l : List ℕ). begun_but l lane) h.begun ∙ sym y.0);
-    }
-cancels_same s lane false a b now_a now_b h x y = stay_same a b now_a now_b h x y
-
-turn_same : {P Q : List Entry → Type 0} {next : List Entry → Entry} → Fixes P next → Fixes Q next → (s : Setting) (t : Turn) (a b now_a now_b : Stage) → Alike a b
-    → TurnTo s t a now_a → TurnTo s t b now_b → P now_a.past → Q now_b.past → Alike now_a now_b
-turn_same f g s (turn.Step lane) a b now_a now_b h x y p q =
+turn_same : (next : List Entry → Entry) (s : Setting) (t : Turn) (a b now_a now_b : Stage) → Alike a b → TurnTo s t a now_a → TurnTo s t b now_b
+    → Follows next now_a.past → Follows next now_b.past → Alike now_a now_b
+turn_same next s (turn.Step lane) a b now_a now_b h x y p q =
     let move = read (λ (w : List Entry). move_of s w lane) (λ w. placed_move s w lane) a.past b.past h.past in
     moves_same s lane a b now_a now_b (move_of s a.past lane) h x (subst (MovesBy (RulesTo s) lane b now_b) (sym move) y)
-turn_same f g s turn.Flush a b now_a now_b h x y p q =
-    let test : nat_lt (sent a.past) (asked a.past) ≡ nat_lt (sent b.past) (asked b.past) = read (λ (w : List Entry). nat_lt (sent w) (asked w)) (λ w i. nat_lt (placed_sent w i) (placed_asked w i)) a.past b.past h.past in
-    flushes_same s (nat_lt (sent a.past) (asked a.past)) a b now_a now_b h x (subst (Flushes s b now_b) (sym test) y)
-turn_same f g s turn.Take a b now_a now_b h x y p q =
-    let test : nat_lt 0 (awaited a.past) ≡ nat_lt 0 (awaited b.past) = ap (nat_lt 0) (read awaited placed_awaited a.past b.past h.past) in
-    takes_same f g s (nat_lt 0 (awaited a.past)) a b now_a now_b h x (subst (Takes s b now_b) (sym test) y) p q
-turn_same f g s (turn.Cancel lane) a b now_a now_b h x y p q =
+turn_same next s turn.Flush a b now_a now_b h x y p q =
+    let test = read (λ (w : List Entry). nat_lt (sent w) (asked w)) (λ w i. nat_lt (placed_sent w i) (placed_asked w i)) a.past b.past h.past in
+    tests_same (nat_lt (sent a.past) (asked a.past)) (nat_lt (sent b.past) (asked b.past)) _ _ a b now_a now_b h test
+    (λ x y. events_same s _ _ _ _ now_a now_b (λ i. entry.Event Send ∷ h.past i) h.begun x y) x y
+turn_same next s turn.Take a b now_a now_b h x y p q =
+    let test = ap (nat_lt 0) (read awaited placed_awaited a.past b.past h.past) in
+    tests_same (nat_lt 0 (awaited a.past)) (nat_lt 0 (awaited b.past)) _ _ a b now_a now_b h test
+    (λ x y. events_same s _ _ _ _ now_a now_b
+    (taken_same next a.past b.past x.1.0 y.1.0 x.1.1.0 y.1.1.0 h.past
+    (rules_back (Follows next) (follows_back next) s _ now_a.past x.1.1.1.1 p) (rules_back (Follows next) (follows_back next) s _ now_b.past y.1.1.1.1 q))
+    h.begun (x.0, x.1.1.1.1) (y.0, y.1.1.1.1)) x y
+turn_same next s (turn.Cancel lane) a b now_a now_b h x y p q =
     let call = read (λ (w : List Entry). current s w lane) (λ w. placed_current s w lane) a.past b.past h.past in
-    let test : (is_some (current s a.past lane) && is_begun a lane) ≡ (is_some (current s b.past lane) && is_begun b lane) = λ i. is_some (call i) && is_begun (record { past = []; begun = h.begun i }) lane in
-    cancels_same s lane (is_some (current s a.past lane) && is_begun a lane) a b now_a now_b h x (subst (Cancels s lane b now_b) (sym test) y)
+    let n = number lane a.past b.past h.past in
+    tests_same (is_some (current s a.past lane) && is_begun a lane) (is_some (current s b.past lane) && is_begun b lane) _ _ a b now_a now_b h
+    (λ i. is_some (call i) && list_any (λ l. l == lane) (h.begun i))
+    (λ x y. events_same s _ _ _ _ now_a now_b (λ i. entry.Event (End lane (n i) outcome.Cancelled) ∷ entry.Event (Cancel lane) ∷ h.past i) (λ i. begun_but (h.begun i) lane) x y) x y
 
 -- ---- parts of a run
 
-pub turns_same : {P Q : List Entry → Type 0} {next : List Entry → Entry} → Fixes P next → Fixes Q next → (s : Setting) (turns : List Turn) (a b now_a now_b : Stage) → Alike a b
-    → TurnsTo s turns a now_a → TurnsTo s turns b now_b → P now_a.past → Q now_b.past → Alike now_a now_b
-turns_same f g s [] a b now_a now_b h x y p q = stay_same a b now_a now_b h x y
-turns_same {P} {Q} f g s (t ∷ turns) a b now_a now_b h x y p q =
-    turns_same f g s turns x.0 y.0 now_a now_b
-    (turn_same f g s t a b x.0 y.0 h x.1.0 y.1.0 (turns_back P f.back s turns x.0 now_a x.1.1 p) (turns_back Q g.back s turns y.0 now_b y.1.1 q)) x.1.1 y.1.1 p q
+pub turns_same : (next : List Entry → Entry) (s : Setting) (turns : List Turn) (a b now_a now_b : Stage) → Alike a b → TurnsTo s turns a now_a → TurnsTo s turns b now_b
+    → Follows next now_a.past → Follows next now_b.past → Alike now_a now_b
+turns_same next s [] a b now_a now_b h x y p q = stay_same a b now_a now_b h x y
+turns_same next s (t ∷ turns) a b now_a now_b h x y p q =
+    let back = turns_back (Follows next) (follows_back next) s turns in
+    turns_same next s turns x.0 y.0 now_a now_b (turn_same next s t a b x.0 y.0 h x.1.0 y.1.0 (back x.0 now_a x.1.1 p) (back y.0 now_b y.1.1 q)) x.1.1 y.1.1 p q
 
-idle_same : (s : Setting) (lane : ℕ) (a b now : Stage) → Alike a b → now ≡ a → current s now.past lane ≡ None → current s b.past lane ≡ None
-idle_same s lane a b now h e idle =
-    read (λ (w : List Entry). current s w lane) (λ w. placed_current s w lane) b.past a.past (sym h.past) ∙ (ap (λ (w : Stage). current s w.past lane) (sym e) ∙ idle)
+-- where nothing is left in the end, the same turns were repeated equally often
+repeats_same : (next : List Entry → Entry) (IsLeft : List Entry → Type 0) (s : Setting) (turns : List Turn) (n m : ℕ) (a b now_a now_b : Stage)
+    → ((c d : List Entry) → Same c d → IsLeft c → IsLeft d) → Alike a b → Repeats IsLeft s turns n a now_a → Repeats IsLeft s turns m b now_b
+    → (IsLeft now_a.past → ⊥) → (IsLeft now_b.past → ⊥) → Follows next now_a.past → Follows next now_b.past → Alike now_a now_b
+repeats_same next IsLeft s turns zero zero a b now_a now_b f h x y e d p q = stay_same a b now_a now_b h x y
+repeats_same next IsLeft s turns zero (suc m) a b now_a now_b f h x y e d p q = absurd (e (f b.past now_a.past (sym h.past ∙ ap (λ (w : Stage). placed w.past) (sym x)) y.0))
+repeats_same next IsLeft s turns (suc n) zero a b now_a now_b f h x y e d p q = absurd (d (f a.past now_b.past (h.past ∙ ap (λ (w : Stage). placed w.past) (sym y)) x.0))
+repeats_same next IsLeft s turns (suc n) (suc m) a b now_a now_b f h x y e d p q =
+    let back = repeats_back (Follows next) (follows_back next) IsLeft s turns in
+    let mid = turns_same next s turns a b x.1.0 y.1.0 h x.1.1.0 y.1.1.0 (back n x.1.0 now_a x.1.1.1 p) (back m y.1.0 now_b y.1.1.1 q) in
+    repeats_same next IsLeft s turns n m x.1.0 y.1.0 now_a now_b f mid x.1.1.1 y.1.1.1 e d p q
 
-rounds_same : {P Q : List Entry → Type 0} {next : List Entry → Entry} → Fixes P next → Fixes Q next → (s : Setting) (lane n m : ℕ) (a b now_a now_b : Stage) → Alike a b
-    → RoundsTo s lane n a now_a → RoundsTo s lane m b now_b → current s now_a.past lane ≡ None → current s now_b.past lane ≡ None → P now_a.past → Q now_b.past → Alike now_a now_b
-rounds_same f g s lane zero zero a b now_a now_b h x y e d p q = stay_same a b now_a now_b h x y
-rounds_same f g s lane zero (suc m) a b now_a now_b h x y e d p q = absurd (y.0 (idle_same s lane a b now_a h x e))
-rounds_same f g s lane (suc n) zero a b now_a now_b h x y e d p q = absurd (x.0 (idle_same s lane b a now_b (record { past = sym h.past; begun = sym h.begun }) y d))
-rounds_same {P} {Q} f g s lane (suc n) (suc m) a b now_a now_b h x y e d p q =
-    rounds_same f g s lane n m x.1.0 y.1.0 now_a now_b
-    (turns_same f g s (round_of lane) a b x.1.0 y.1.0 h x.1.1.0 y.1.1.0 (rounds_back P f.back s lane n x.1.0 now_a x.1.1.1 p) (rounds_back Q g.back s lane m y.1.0 now_b y.1.1.1 q)) x.1.1.1 y.1.1.1 e d p q
-
-pub ends_same : {P Q : List Entry → Type 0} {next : List Entry → Entry} → Fixes P next → Fixes Q next → (s : Setting) (n : ℕ) (a b now_a now_b : Stage) → Alike a b
-    → EndsTo s n a now_a → EndsTo s n b now_b → P now_a.past → Q now_b.past → Alike now_a now_b
-ends_same f g s zero a b now_a now_b h x y p q = stay_same a b now_a now_b h x y
-ends_same {P} {Q} f g s (suc lane) a b now_a now_b h x y p q =
-    rounds_same f g s lane x.1.1.0 y.1.1.0 x.0 y.0 now_a now_b
-    (ends_same f g s lane a b x.0 y.0 h x.1.0 y.1.0 (rounds_back P f.back s lane x.1.1.0 x.0 now_a x.1.1.1 p) (rounds_back Q g.back s lane y.1.1.0 y.0 now_b y.1.1.1 q)) x.1.1.1 y.1.1.1 x.1.2 y.1.2 p q
+pub ends_same : (next : List Entry → Entry) (s : Setting) (n : ℕ) (a b now_a now_b : Stage) → Alike a b → EndsTo s n a now_a → EndsTo s n b now_b
+    → Follows next now_a.past → Follows next now_b.past → Alike now_a now_b
+ends_same next s zero a b now_a now_b h x y p q = stay_same a b now_a now_b h x y
+ends_same next s (suc lane) a b now_a now_b h x y p q =
+    let one = rounds_repeat s lane x.1.1.0 x.0 now_a x.1.1.1 in
+    let other = rounds_repeat s lane y.1.1.0 y.0 now_b y.1.1.1 in
+    let back = repeats_back (Follows next) (follows_back next) (HasCall s lane) s (round_of lane) in
+    let mid = ends_same next s lane a b x.0 y.0 h x.1.0 y.1.0 (back x.1.1.0 x.0 now_a one p) (back y.1.1.0 y.0 now_b other q) in
+    repeats_same next (HasCall s lane) s (round_of lane) x.1.1.0 y.1.1.0 x.0 y.0 now_a now_b
+    (λ c d e some none. some (read (λ (w : List Entry). current s w lane) (λ w. placed_current s w lane) c d e ∙ none))
+    mid one other (λ some. some x.1.2) (λ some. some y.1.2) p q
 
 pub lets_go_same : (s : Setting) (n : ℕ) (a b now_a now_b : Stage) → Alike a b → LetsGoTo s n a now_a → LetsGoTo s n b now_b → Alike now_a now_b
 lets_go_same s zero a b now_a now_b h x y = stay_same a b now_a now_b h x y
 lets_go_same s (suc lane) a b now_a now_b h x y =
     let mid = lets_go_same s lane a b x.0 y.0 h x.1.0 y.1.0 in
-    record { past = rules_same s _ _ now_a.past now_b.past (λ i. entry.LetGo lane ∷ mid.past i) x.1.1.1 y.1.1.1; begun = x.1.1.0 ∙ (mid.begun ∙ sym y.1.1.0) }
+    events_same s _ _ _ _ now_a now_b (λ i. entry.LetGo lane ∷ mid.past i) mid.begun x.1.1 y.1.1
 
-nothing_left : (a b now : Stage) → Alike a b → now ≡ a → unanswered now.past ≡ 0 → 0 < unanswered b.past → ⊥
-nothing_left a b now h e none some =
-    let same : unanswered b.past ≡ 0 = read unanswered placed_unanswered b.past a.past (sym h.past) ∙ (ap (λ (w : Stage). unanswered w.past) (sym e) ∙ none) in
-    absurd (omega (arith, same, some))
-
-pub drains_same : {P Q : List Entry → Type 0} {next : List Entry → Entry} → Fixes P next → Fixes Q next → (s : Setting) (n m : ℕ) (a b now_a now_b : Stage) → Alike a b
-    → DrainsTo s n a now_a → DrainsTo s m b now_b → unanswered now_a.past ≡ 0 → unanswered now_b.past ≡ 0 → P now_a.past → Q now_b.past → Alike now_a now_b
-drains_same f g s zero zero a b now_a now_b h x y e d p q = stay_same a b now_a now_b h x y
-drains_same f g s zero (suc m) a b now_a now_b h x y e d p q = absurd (nothing_left a b now_a h x e y.0)
-drains_same f g s (suc n) zero a b now_a now_b h x y e d p q = absurd (nothing_left b a now_b (record { past = sym h.past; begun = sym h.begun }) y d x.0)
-drains_same {P} {Q} f g s (suc n) (suc m) a b now_a now_b h x y e d p q =
-    drains_same f g s n m x.1.0 y.1.0 now_a now_b
-    (turns_same f g s (turn.Flush ∷ turn.Take ∷ []) a b x.1.0 y.1.0 h x.1.1.0 y.1.1.0 (drains_back P f.back s n x.1.0 now_a x.1.1.1 p) (drains_back Q g.back s m y.1.0 now_b y.1.1.1 q)) x.1.1.1 y.1.1.1 e d p q
+pub drains_same : (next : List Entry → Entry) (s : Setting) (n m : ℕ) (a b now_a now_b : Stage) → Alike a b → DrainsTo s n a now_a → DrainsTo s m b now_b
+    → unanswered now_a.past ≡ 0 → unanswered now_b.past ≡ 0 → Follows next now_a.past → Follows next now_b.past → Alike now_a now_b
+drains_same next s n m a b now_a now_b h x y e d p q =
+    repeats_same next Awaits s (turn.Flush ∷ turn.Take ∷ []) n m a b now_a now_b (λ c d e some. subst (λ (k : ℕ). 0 < k) (read unanswered placed_unanswered c d e) some)
+    h (drains_repeat s n a now_a x) (drains_repeat s m b now_b y) (λ some. absurd (omega (arith, e, some))) (λ some. absurd (omega (arith, d, some))) p q

@@ -17,11 +17,12 @@ use Rattle.sftp_history.specs.Calls.{Setting}
 use Rattle.sftp_history.specs.Grants.{is_granted, is_grant}
 use Rattle.sftp_history.specs.Journals.{IsJournal, MayTake, is_opened, opened}
 use Rattle.sftp_history.specs.Served.{requests_sent, is_query, bears_query, IsNumbered, IsPicked, IsReply, Serves, TellsLimits, picked, reply_to_query}
+use Rattle.sftp_history.proofs.CallLaws.{next_take}
 use Rattle.sftp_history.proofs.CountLaws.{some_unanswered}
 use Rattle.sftp_history.proofs.LimitsLaws.{unopened}
 use Rattle.sftp_history.proofs.RequestLaws.{answer_new, sent_asked}
 use Rattle.sftp_fixed.proofs.Placed.{place_or, place_of, placed, placed_answers, placed_query, placed_picked, placed_requests_sent}
-use Rattle.sftp_fixed.proofs.Alike.{Fixes}
+use Rattle.sftp_fixed.proofs.Alike.{Follows}
 use Rattle.sftp_fixed.proofs.Told.{Has, IsTold, has_below, reply_at, reply_front, served_told}
 use Rattle.sftp_fixed.proofs.Parts.{answer_later, has_more, journal_part, picked_part, query_first, query_later, sent_counts, sent_has, sent_later}
 
@@ -29,7 +30,7 @@ use Rattle.sftp_fixed.proofs.Parts.{answer_later, has_more, journal_part, picked
 abbrev pub Began : List Entry → List Entry → Type 0
 Began full part = (later : List Entry) × (full ≡ later ++ part)
 
-began_back : (full : List Entry) (e : Entry) (past : List Entry) → Began full (e ∷ past) → Began full past
+pub began_back : (full : List Entry) (e : Entry) (past : List Entry) → Began full (e ∷ past) → Began full past
 began_back full e past b = (b.0 ++ e ∷ [], b.1 ∙ sym (append_assoc b.0 (e ∷ []) past))
 
 -- a journal whose replies were all taken, served by a machine in the order of the picks, with its handles numbered
@@ -94,7 +95,7 @@ abbrev asks_limits : List Entry → Bool
 asks_limits past = is_query (asked_at past 0) && is_none (answer past 0)
 
 -- the reply that is taken next, under the place of its request: that to the query, and else the one that is picked
-abbrev next_taken : ServerConfig → List Choice → List ℕ → FileTree → List Entry → Entry
+abbrev pub next_taken : ServerConfig → List Choice → List ℕ → FileTree → List Entry → Entry
 next_taken config choices picks first past =
     if asks_limits past then entry.Event (Take 0 (limits_reply config.limits))
     else entry.Event (Take (place_or (picked picks past) 0) (reply_at config first choices 0 (requests_sent past) (place_or (picked picks past) 0)))
@@ -144,10 +145,9 @@ picked_is false P e h = h
 some_same : (a b : Reply) → Some a ≡ Some b → a ≡ b
 some_same a b e = cc e
 
-pub whole_fixes : (s : Setting) (config : ServerConfig) (choices : List Choice) (picks : List ℕ) (first : FileTree) (full : List Entry) (left : FileTree)
-    → Whole s config choices picks first full left → Fixes (Began full) (next_taken config choices picks first)
-whole_fixes s config choices picks first full left w =
-    record { back = began_back full; takes = λ past id r may b. takes past id r may b (asks_limits past) refl ∙ sym (next_placed config choices picks first past) }
+pub whole_follows : (s : Setting) (config : ServerConfig) (choices : List Choice) (picks : List ℕ) (first : FileTree) (full : List Entry) (left : FileTree)
+    → Whole s config choices picks first full left → Follows (next_taken config choices picks first) full
+whole_follows s config choices picks first full left w = part_follows full ([], refl)
   where
     takes : (past : List Entry) (id : ℕ) (r : Reply) → MayTake past id r → Began full (entry.Event (Take id r) ∷ past) → (t : Bool) → asks_limits past ≡ t
         → entry.Event (Take (place_of past id) r) ≡ next_taken config choices picks first past
@@ -182,3 +182,11 @@ whole_fixes s config choices picks first full left w =
         let same : r ≡ reply_at config first choices 0 (requests_sent past) p =
         some_same r _ (sym got ∙ told) ∙ (ap (λ (l : List (ℕ × Request)). reply_at config first choices 0 l p) whole ∙ reply_front config first choices 0 p (requests_sent past) front.0 has) in
         rw (e, at) (λ i. entry.Event (Take (place_or (borne i) (asked past)) (same i)))
+
+    part_follows : (part : List Entry) → Began full part → Follows (next_taken config choices picks first) part
+    part_follows [] b = tt
+    part_follows (entry.Event (Take id r) ∷ past) b =
+        let j : IsJournal s (b.0 ++ entry.Event (Take id r) ∷ past) = subst (IsJournal s) b.1 w.run in
+        let may = (next_take s past id r (journal_part s b.0 (entry.Event (Take id r) ∷ past) j).0).0 in
+        (takes past id r may b (asks_limits past) refl ∙ sym (next_placed config choices picks first past), part_follows past (began_back full (entry.Event (Take id r)) past b))
+    part_follows (e ∷ past) b = part_follows past (began_back full e past b)

@@ -11,6 +11,7 @@ use Rattle.sftp_tree.specs.FileTree.{FileTree}
 use Rattle.sftp_tree.specs.TreeAnswers.{limits_reply}
 use Rattle.sftp_history.specs.declared.call.Lane.{Lane}
 use Rattle.sftp_history.specs.declared.turn.Turn.{Turn}
+use Rattle.sftp_history.specs.declared.turn.Turn.TheVariants as turn
 use Rattle.sftp_history.specs.declared.event.Owner.TheVariants as owner
 use Rattle.sftp_history.specs.declared.event.Event.TheVariants.{Take}
 use Rattle.sftp_history.specs.declared.entry.Entry.{Entry}
@@ -27,51 +28,49 @@ use Rattle.sftp_history.proofs.RequestLaws.{answer_new, bearer_new}
 use Rattle.sftp_fixed.specs.Fixed.{IsFixedBy}
 use Rattle.sftp_fixed.proofs.Placed.{placed, placed_outcomes_below, placed_requests_sent}
 use Rattle.sftp_fixed.proofs.Lines.{placed_lines}
-use Rattle.sftp_fixed.proofs.Back.{turns_back, ends_back, lets_go_back, drains_back}
-use Rattle.sftp_fixed.proofs.Alike.{Alike, Fixes, Same, drains_same, ends_same, lets_go_same, read, take_same, turns_same}
+use Rattle.sftp_fixed.proofs.Back.{Awaits, GoesBack, drains_repeat, repeats_back, turns_back, ends_back, lets_go_back}
+use Rattle.sftp_fixed.proofs.Alike.{Alike, Follows, Same, drains_same, ends_same, follows_back, lets_go_same, read, taken_same, turns_same}
 use Rattle.sftp_fixed.proofs.Told.{tree_left}
 use Rattle.sftp_fixed.proofs.Parts.{answer_later, query_later}
-use Rattle.sftp_fixed.proofs.Fixing.{Began, Whole, query_told, whole_fixes, whole_told}
+use Rattle.sftp_fixed.proofs.Fixing.{Began, Whole, began_back, next_taken, query_told, whole_follows, whole_told}
 
 -- ---- a whole run
 
-opens_same : {P Q : List Entry → Type 0} {next : List Entry → Entry} → Fixes P next → Fixes Q next → (limits : Bool) (a b : List Entry) → Opens limits a → Opens limits b → P a → Q b → Same a b
-opens_same f g false a b x y p q = ap placed x ∙ sym (ap placed y)
-opens_same {P} {Q} f g true a b x y p q =
-    ap placed x.1.1.2
-    ∙ (take_same f g (queried x.0) (queried y.0) x.0 y.0 x.1.0 y.1.0 refl x.1.1.1 y.1.1.1 (subst P x.1.1.2 p) (subst Q y.1.1.2 q)
-    ∙ sym (ap placed y.1.1.2))
+opens_same : (next : List Entry → Entry) (limits : Bool) (a b : List Entry) → Opens limits a → Opens limits b → Follows next a → Follows next b → Same a b
+opens_same next false a b x y p q = ap placed x ∙ sym (ap placed y)
+opens_same next true a b x y p q =
+    let one = taken_same next (queried x.0) (queried y.0) x.0 y.0 x.1.0 y.1.0 refl (subst (Follows next) x.1.1.2 p) (subst (Follows next) y.1.1.2 q) in
+    ap placed x.1.1.2 ∙ (one ∙ sym (ap placed y.1.1.2))
 
--- how far a part of a run had come when its later parts began
-record Reaches (P : List Entry → Type 0) (at : Stages) : Type 0 where
+-- what holds of each part that began a run
+record Each (P : List Entry → Type 0) (at : Stages) : Type 0 where
   pub opened : P at.opened
   pub turned : P at.turned.past
   pub ended : P at.ended.past
   pub let_go : P at.let_go.past
 
-reaches : {P : List Entry → Type 0} {next : List Entry → Entry} → Fixes P next → (s : Setting) (turns : List Turn) (at : Stages) → GoesBy s turns at → P at.drained.past → Reaches P at
-reaches {P} f s turns at by p =
-    let let_go = drains_back P f.back s by.drains.0 at.let_go at.drained by.drains.1 p in
-    let ended = lets_go_back P f.back s (length s.lanes) at.ended at.let_go by.lets_go let_go in
-    let turned = ends_back P f.back s (length s.lanes) at.turned at.ended by.ends ended in
-    record { opened = turns_back P f.back s turns (at_first at.opened) at.turned by.turns turned; turned = turned; ended = ended; let_go = let_go }
+each : (P : List Entry → Type 0) → GoesBack P → (s : Setting) (turns : List Turn) (at : Stages) → GoesBy s turns at → P at.drained.past → Each P at
+each P f s turns at by p =
+    let let_go = repeats_back P f Awaits s (turn.Flush ∷ turn.Take ∷ []) by.drains.0 at.let_go at.drained (drains_repeat s by.drains.0 at.let_go at.drained by.drains.1) p in
+    let ended = lets_go_back P f s (length s.lanes) at.ended at.let_go by.lets_go let_go in
+    let turned = ends_back P f s (length s.lanes) at.turned at.ended by.ends ended in
+    record { opened = turns_back P f s turns (at_first at.opened) at.turned by.turns turned; turned = turned; ended = ended; let_go = let_go }
 
-goes_same : {P Q : List Entry → Type 0} {next : List Entry → Entry} → Fixes P next → Fixes Q next → (s : Setting) (turns : List Turn) (a b : Stages) → GoesBy s turns a → GoesBy s turns b
-    → P a.drained.past → Q b.drained.past → Same a.drained.past b.drained.past
-goes_same f g s turns a b x y p q =
-    let one = reaches f s turns a x p in
-    let other = reaches g s turns b y q in
-    let opened : Alike (at_first a.opened) (at_first b.opened) = record { past = opens_same f g s.limits a.opened b.opened x.opens y.opens one.opened other.opened; begun = refl } in
-    let turned = turns_same f g s turns (at_first a.opened) (at_first b.opened) a.turned b.turned opened x.turns y.turns one.turned other.turned in
-    let ended = ends_same f g s (length s.lanes) a.turned b.turned a.ended b.ended turned x.ends y.ends one.ended other.ended in
+goes_same : (next : List Entry → Entry) (s : Setting) (turns : List Turn) (a b : Stages) → GoesBy s turns a → GoesBy s turns b
+    → Follows next a.drained.past → Follows next b.drained.past → Same a.drained.past b.drained.past
+goes_same next s turns a b x y p q =
+    let one = each (Follows next) (follows_back next) s turns a x p in
+    let other = each (Follows next) (follows_back next) s turns b y q in
+    let opened : Alike (at_first a.opened) (at_first b.opened) = record { past = opens_same next s.limits a.opened b.opened x.opens y.opens one.opened other.opened; begun = refl } in
+    let turned = turns_same next s turns (at_first a.opened) (at_first b.opened) a.turned b.turned opened x.turns y.turns one.turned other.turned in
+    let ended = ends_same next s (length s.lanes) a.turned b.turned a.ended b.ended turned x.ends y.ends one.ended other.ended in
     let let_go = lets_go_same s (length s.lanes) a.ended b.ended a.let_go b.let_go ended x.lets_go y.lets_go in
-    (drains_same f g s x.drains.0 y.drains.0 a.let_go b.let_go a.drained b.drained let_go x.drains.1 y.drains.1 x.answered y.answered p q).past
+    (drains_same next s x.drains.0 y.drains.0 a.let_go b.let_go a.drained b.drained let_go x.drains.1 y.drains.1 x.answered y.answered p q).past
 
--- runs whose next replies are fixed alike are one, but for ids
-pub runs_same : {P Q : List Entry → Type 0} {next : List Entry → Entry} → Fixes P next → Fixes Q next → (s : Setting) (turns : List Turn) (one other : List Entry) → IsRun s turns one → IsRun s turns other
-    → P one → Q other → Same one other
-runs_same {P} {Q} f g s turns one other (a, (x, is_one)) (b, (y, is_other)) p q =
-    ap placed (sym is_one) ∙ (goes_same f g s turns a b x y (subst P (sym is_one) p) (subst Q (sym is_other) q) ∙ ap placed is_other)
+-- runs whose replies follow one function are one, but for ids
+pub runs_same : (next : List Entry → Entry) (s : Setting) (turns : List Turn) (one other : List Entry) → IsRun s turns one → IsRun s turns other → Follows next one → Follows next other → Same one other
+runs_same next s turns one other (a, (x, is_one)) (b, (y, is_other)) p q =
+    ap placed (sym is_one) ∙ (goes_same next s turns a b x y (subst (Follows next) (sym is_one) p) (subst (Follows next) (sym is_other) q) ∙ ap placed is_other)
 
 -- ---- what is given
 
@@ -114,8 +113,7 @@ setting_fixed lanes options extensions turns config choices picks first past lef
     let w = whole_of lanes options extensions turns config choices picks first past left x in
     let at : Stages = x.run.0 in
     let by = x.run.1.0 in
-    let f = whole_fixes s config choices picks first past left w in
-    let began : Began past at.opened = (reaches f s turns at by ([], sym x.run.1.1)).opened in
+    let began : Began past at.opened = (each (Began past) (began_back past) s turns at by ([], sym x.run.1.1)).opened in
     let limits = limits_fixed s config choices picks first past left w (offers_limits extensions) at.opened by.opens began in
     λ i. record { lanes = lanes; facts = facts_of options extensions (limits i); limits = offers_limits extensions; max_pending = options.max_pending_requests }
 
@@ -129,9 +127,10 @@ one_text lanes options extensions turns config choices picks first one left_one 
     let v = whole_of lanes options extensions turns config choices picks first one left_one x in
     let w = whole_of lanes options extensions turns config choices picks first other left_other y in
     let setting : s_other ≡ s = setting_fixed lanes options extensions turns config choices picks first other left_other y ∙ sym (setting_fixed lanes options extensions turns config choices picks first one left_one x) in
-    let f = whole_fixes s config choices picks first one left_one v in
-    let g = whole_fixes s_other config choices picks first other left_other w in
-    let same : Same one other = runs_same f g s turns one other x.run (subst (λ (t : Setting). IsRun t turns other) setting y.run) ([], refl) ([], refl) in
+    let next = next_taken config choices picks first in
+    let p = whole_follows s config choices picks first one left_one v in
+    let q = whole_follows s_other config choices picks first other left_other w in
+    let same : Same one other = runs_same next s turns one other x.run (subst (λ (t : Setting). IsRun t turns other) setting y.run) p q in
     let sent = read requests_sent placed_requests_sent one other same in
     let frames = read frame_lines placed_lines one other same in
     let outcomes = read (λ (past : List Entry). outcomes_below past (length lanes)) (λ past. placed_outcomes_below past (length lanes)) one other same in

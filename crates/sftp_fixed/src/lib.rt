@@ -2,5 +2,7 @@
 #![tactic(auto)]
 
 mod laws;
+mod rows;
 
 pub use laws::texts_are_fixed;
+pub use rows::runs_as_worked_out;
