@@ -8,6 +8,7 @@ use Rattle.sftp_model.specs.declared.request.Request.{Request}
 use Rattle.sftp_model.specs.declared.reply.Reply.{Reply}
 use Rattle.sftp_tree.specs.FileTree.{FileTree}
 use Rattle.sftp_tree.specs.TreeAnswers.{limits_reply}
+use Rattle.sftp_history.specs.declared.event.Owner.{Owner}
 use Rattle.sftp_history.specs.declared.event.Owner.TheVariants as owner
 use Rattle.sftp_history.specs.declared.event.Event.TheVariants.{Take}
 use Rattle.sftp_history.specs.declared.entry.Entry.{Entry}
@@ -48,7 +49,7 @@ tells None r said got q e is = absurd cc
 tells (Some a) None said got q e is = absurd cc
 tells (Some a) (Some r) said got q e is = by_owner a.by refl
   where
-    by_owner : (by : _) → a.by ≡ by → got ≡ said
+    by_owner : (by : Owner) → a.by ≡ by → got ≡ said
     by_owner owner.Setup o = (let same : r ≡ got = cc e in sym same ∙ rw o at is)
     by_owner owner.Close o = absurd (let no_way : false ≡ true = rw o at q in cc)
     by_owner (owner.Call lane call) o = absurd (let no_way : false ≡ true = rw o at q in cc)
