@@ -1,7 +1,6 @@
 // The tree that a server begins with.
-ghost use Rattle.std.specs.Prelude.{◌≡◌, ◌++◌, [], map, take, IfOk, OnOk};
-ghost use Rattle.std.specs.List.{list_any};
-ghost use Rattle.sftp_tree.specs.Components.{components as components_by, parent_of, same_name};
+ghost use Rattle.std.specs.Prelude.{◌≡◌, ◌++◌, [], map, IfOk, OnOk};
+ghost use Rattle.sftp_tree.specs.Components.{components as components_by, parent_of};
 ghost use Rattle.sftp_tree.specs.FirstTree.{first_tree, has_name as has_name_by, name_of as name_by, numbered, with_directories, with_directory, with_way};
 
 use crate::commit::add_copies;

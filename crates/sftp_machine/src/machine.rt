@@ -1,4 +1,4 @@
-ghost use Rattle.std.specs.Prelude.{◌≡◌, ℕ, ◌<◌, ◌≤◌, ◌+◌, [], true, length, IfOk, OnOk, OnErr};
+ghost use Rattle.std.specs.Prelude.{◌≡◌, ℕ, ◌<◌, ◌≤◌, [], true, length, IfOk, OnOk, OnErr};
 ghost use Rattle.sftp_model.specs.Answers.{MayAnswer, IsAfterHello};
 ghost use Rattle.sftp_model.specs.Fits.{FitsReply};
 ghost use Rattle.sftp_model.specs.Frames.{reply_body};
