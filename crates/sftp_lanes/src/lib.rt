@@ -21,5 +21,5 @@ pub use session::Session;
 pub use sftp_history::{Call, Entry, Event, Lane, Report, Script, Turn, lanes_ok};
 pub use sftp_model::{Error, Outcome};
 pub use sftp_script::{ScriptError, read_script};
-pub use sftp_text::{write_file, write_text};
+pub use sftp_text::{write_dir, write_file, write_text};
 pub use ssh_encoding::OutOfMemory;
