@@ -1,213 +1,440 @@
-ghost use Rattle.std.specs.Prelude.{◌≡◌, true};
-ghost use Rattle.sftp_model.specs.Answers.{IsAfterHello};
-ghost use Rattle.sftp_map_server.specs.Granting.{gives_within as gives_within_by};
+// The server in memory over its link. The frames are laid out by draft-ietf-secsh-filexfer-02, sections 3 to 7, and
+// OpenSSH's PROTOCOL, section 4.8.
 
-mod link;
-
-use bytes::Bytes;
-use sftp_map_server::*;
-use sftp_model::{
-    Choice, Extensions, FileAttrs, Handle, OpenFlags, RemotePath, Reply, Request, ServerConfig,
-};
-use sftp_values::{ByteText, is_same};
+use sftp_link::{LinkIn, send_all};
+use sftp_map_server::{MapServer, may_begin};
+use sftp_model::{Choice, Extensions, Limits, ServerConfig};
+use sftp_values::{ByteText, Items};
 use std::alloc::Global;
 use std::test::Fail;
 
-const NO_ATTRS: FileAttrs = FileAttrs {
-    size: None,
-    id: None,
-    permissions: None,
-    time: None,
+const PLAIN: ServerConfig = ServerConfig {
+    extensions: Extensions::LIMITS,
+    limits: None,
+    cut: 0,
 };
 
-const ANSWER: Choice = Choice { refuse: 0, cap: 0 };
+const LIMITED: ServerConfig = ServerConfig {
+    extensions: Extensions::FSYNC,
+    limits: Some(Limits {
+        packet_len: 1,
+        read_len: 2,
+        write_len: 3,
+        open_handles: 4,
+    }),
+    cut: 0,
+};
+
+const HELLO: &[u8] = b"\0\0\0\x05\x01\0\0\0\x03";
+
+const VERSION: &[u8] = b"\0\0\0\x05\x02\0\0\0\x03";
+
+/// VERSION 3 with `fsync@openssh.com` and `limits@openssh.com`, `1` each.
+const VERSION_WITH_LIMITS: &[u8] = b"\0\0\0\x3a\x02\0\0\0\x03\0\0\0\x11fsync@openssh.com\0\0\0\x011\
+\0\0\0\x12limits@openssh.com\0\0\0\x011";
+
+/// OPEN of `a` to read, under the ids 1 to 3.
+const OPEN_1: &[u8] = b"\0\0\0\x12\x03\0\0\0\x01\0\0\0\x01a\0\0\0\x01\0\0\0\0";
+
+const OPEN_2: &[u8] = b"\0\0\0\x12\x03\0\0\0\x02\0\0\0\x01a\0\0\0\x01\0\0\0\0";
+
+const OPEN_3: &[u8] = b"\0\0\0\x12\x03\0\0\0\x03\0\0\0\x01a\0\0\0\x01\0\0\0\0";
+
+/// HANDLE of the numbers 0 to 2, under the ids 1 to 3.
+const HANDLE_1: &[u8] = b"\0\0\0\x0d\x66\0\0\0\x01\0\0\0\x04\0\0\0\0";
+
+const HANDLE_2: &[u8] = b"\0\0\0\x0d\x66\0\0\0\x02\0\0\0\x04\0\0\0\x01";
+
+const HANDLE_3: &[u8] = b"\0\0\0\x0d\x66\0\0\0\x03\0\0\0\x04\0\0\0\x02";
+
+/// READ of the handle 0 from its start, under the id 4: of 9 bytes, of 1048275, and of 1048276.
+const READ: &[u8] = b"\0\0\0\x19\x05\0\0\0\x04\0\0\0\x04\0\0\0\0\0\0\0\0\0\0\0\0\0\0\0\x09";
+
+const READ_MOST: &[u8] =
+    b"\0\0\0\x19\x05\0\0\0\x04\0\0\0\x04\0\0\0\0\0\0\0\0\0\0\0\0\0\x0f\xfe\xd3";
+
+const READ_TOO_MUCH: &[u8] =
+    b"\0\0\0\x19\x05\0\0\0\x04\0\0\0\x04\0\0\0\0\0\0\0\0\0\0\0\0\0\x0f\xfe\xd4";
+
+const CONTENT: &[u8] = b"\0\0\0\x0e\x67\0\0\0\x04\0\0\0\x05hello";
+
+/// The query for limits, under the id 5, its answer, and STATUS 8 to it.
+const QUERY: &[u8] = b"\0\0\0\x1b\xc8\0\0\0\x05\0\0\0\x12limits@openssh.com";
+
+const LIMITS: &[u8] = b"\0\0\0\x25\xc9\0\0\0\x05\0\0\0\0\0\0\0\x01\0\0\0\0\0\0\0\x02\
+\0\0\0\0\0\0\0\x03\0\0\0\0\0\0\0\x04";
+
+const NO_LIMITS: &[u8] = b"\0\0\0\x11\x65\0\0\0\x05\0\0\0\x08\0\0\0\0\0\0\0\0";
+
+/// Nothing comes.
+const END: &[u8] = b"";
+
+/// What is sent, frame by frame, and then what each receive gives.
+type Exchange = (&'static [&'static [u8]], &'static [&'static [u8]]);
 
 fn text(alloc: Global, bytes: &[u8]) -> Result<ByteText, Fail> {
     Ok(ByteText::new(Vec::from_slice(alloc, bytes)?))
 }
 
-fn path(alloc: Global, bytes: &[u8]) -> Result<RemotePath, Fail> {
-    Ok(RemotePath::new(Vec::from_slice(alloc, bytes)?))
-}
-
-fn handle(bytes: &[u8]) -> Result<Handle, Fail> {
-    match Handle::new(bytes) {
-        Some(handle) => Ok(handle),
-        None => Err(Fail::new("the handle is too long")),
-    }
-}
-
-fn config() -> ServerConfig {
-    ServerConfig {
-        extensions: Extensions::LIMITS,
-        limits: None,
-        cut: 0,
-    }
-}
-
-/// A machine with one file `a` of the bytes `hello`.
-fn hello_file(alloc: Global) -> Result<Machine, Fail> {
+/// A server of the file `a` of `hello`.
+fn hello_server(
+    alloc: Global,
+    config: ServerConfig,
+    choices: &[Choice],
+    picks: &[u32],
+) -> Result<MapServer, Fail> {
+    let choices = Items::new(Vec::from_slice(alloc, choices)?);
+    let picks = Items::new(Vec::from_slice(alloc, picks)?);
     let files = [(text(alloc, b"a")?, text(alloc, b"hello")?)];
-    match Machine::new(alloc, &files, config()) {
-        Ok(machine) => Ok(machine),
-        Err(_) => Err(Fail::new("no memory for the machine")),
+    if !may_begin(alloc, &files, &[])? {
+        return Err(Fail::new("it may not begin"));
     }
+    Ok(MapServer::new(alloc, &files, config, choices, picks)?)
 }
 
-fn open(alloc: Global, name: &[u8]) -> Result<Request, Fail> {
-    Ok(Request::OpenFile {
-        path: path(alloc, name)?,
-        flags: OpenFlags::READ,
-        attrs: NO_ATTRS,
-    })
-}
-
-fn read(number: u8, offset: u64, len: u32) -> Result<Request, Fail> {
-    Ok(Request::Read {
-        handle: handle(&[0, 0, 0, number])?,
-        offset,
-        len,
-    })
-}
-
-fn close(number: u8) -> Result<Request, Fail> {
-    Ok(Request::Close {
-        handle: handle(&[0, 0, 0, number])?,
-    })
-}
-
-fn status(alloc: Global, code: u32) -> Reply {
-    Reply::Status {
-        code,
-        message: ByteText::new(Vec::new(alloc)),
-        language: ByteText::new(Vec::new(alloc)),
-    }
-}
-
-/// Whether a machine takes such a request.
-fn is_taken(request: &Request, choice: Choice) -> bool
-    ensures hello { result ≡ true → IsAfterHello request.now }
-    ensures within { result ≡ true → gives_within_by request.now choice ≡ true }
-{
-    match request {
-        Request::Init { .. } => false,
-        _ => gives_within(request, choice),
-    }
-}
-
-/// Fails where the machine answers otherwise.
-fn answers(
-    machine: &mut Machine,
-    request: &Request,
-    choice: Choice,
-    want: &Reply,
-) -> Result<(), Fail> {
-    if !is_taken(request, choice) {
-        return Err(Fail::new("no request for a machine"));
-    }
-    match machine.apply(request, choice) {
-        Ok(reply) => {
-            if is_same(&reply, want) {
-                Ok(())
-            } else {
-                Err(Fail::new("another reply"))
-            }
+fn takes(server: &mut MapServer, frames: &[&[u8]]) -> bool {
+    for frame in frames {
+        if send_all(server, frame).is_err() {
+            return false;
         }
-        Err(_) => Err(Fail::new("no memory for a reply")),
+    }
+    true
+}
+
+/// Whether a receive gives just these bytes, and is the end where they are none.
+fn gives(server: &mut MapServer, want: &[u8]) -> bool {
+    let mut room = [0u8; 80];
+    match server.recv(&mut room) {
+        Ok(n) => n <= 80 && &room[..n] == want && server.is_ended() == want.is_empty(),
+        Err(_) => false,
     }
 }
 
-fn grants(machine: &mut Machine, request: &Request, number: u8) -> Result<(), Fail> {
-    let want = Reply::Handle(handle(&[0, 0, 0, number])?);
-    answers(machine, request, ANSWER, &want)
+fn gives_all(server: &mut MapServer, pieces: &[&[u8]]) -> bool {
+    for piece in pieces {
+        if !gives(server, piece) {
+            return false;
+        }
+    }
+    true
 }
 
-fn gives(
-    machine: &mut Machine,
-    request: &Request,
-    cap: u32,
-    want: &'static [u8],
-) -> Result<(), Fail> {
-    let want = Reply::Content(Bytes::from_static(want));
-    answers(machine, request, Choice { refuse: 0, cap }, &want)
+/// Whether a server does so.
+fn does(server: &mut MapServer, exchanges: &[Exchange]) -> bool {
+    for (sent, given) in exchanges {
+        if !takes(server, sent) || !gives_all(server, given) {
+            return false;
+        }
+    }
+    true
 }
 
-fn refuses(alloc: Global, machine: &mut Machine, request: &Request, code: u32) -> Result<(), Fail> {
-    answers(machine, request, ANSWER, &status(alloc, code))
+/// Whether a server of one file does so.
+fn hello_server_does(
+    alloc: Global,
+    config: ServerConfig,
+    choices: &[Choice],
+    picks: &[u32],
+    exchanges: &[Exchange],
+) -> Result<bool, Fail> {
+    let mut server = hello_server(alloc, config, choices, picks)?;
+    Ok(does(&mut server, exchanges))
 }
+
+/// The end of the link: what is sent then has no answer, and what waits is still given.
+const ENDS: &[(&str, Exchange)] = &[
+    ("nothing yet", (&[], &[END, END])),
+    ("a hello", (&[HELLO], &[VERSION, END])),
+    ("a request before the hello", (&[OPEN_1, HELLO], &[END])),
+    ("a second hello", (&[HELLO, HELLO, OPEN_1], &[VERSION, END])),
+    (
+        "a length of 0",
+        (
+            &[HELLO, OPEN_1, b"\0\0\0\0", OPEN_2],
+            &[VERSION, HANDLE_1, END],
+        ),
+    ),
+    (
+        "a length of 1048576",
+        (
+            &[HELLO, OPEN_1, b"\0\x10\0\0", OPEN_2],
+            &[VERSION, HANDLE_1, END],
+        ),
+    ),
+    (
+        "the greatest length",
+        (&[HELLO, b"\xff\xff\xff\xff", OPEN_1], &[VERSION, END]),
+    ),
+    (
+        "a type that is none",
+        (
+            &[HELLO, b"\0\0\0\x05\x63\0\0\0\x01", OPEN_1],
+            &[VERSION, END],
+        ),
+    ),
+    (
+        "a byte behind the handle of a CLOSE",
+        (
+            &[
+                HELLO,
+                b"\0\0\0\x0e\x04\0\0\0\x01\0\0\0\x04\0\0\0\0\0",
+                OPEN_1,
+            ],
+            &[VERSION, END],
+        ),
+    ),
+    (
+        "a READ of more than a DATA can bring",
+        (
+            &[HELLO, OPEN_1, READ_MOST, READ_TOO_MUCH, OPEN_2],
+            &[VERSION, HANDLE_1, CONTENT, END],
+        ),
+    ),
+];
 
 #[test]
-fn one_file_is_read(rt: HostRuntime) -> Result<(), Fail> {
-    let alloc = rt.alloc();
-    let mut machine = hello_file(alloc)?;
-    grants(&mut machine, &open(alloc, b"a")?, 0)?;
-    gives(&mut machine, &read(0, 0, 3)?, 0, b"hel")?;
-    gives(&mut machine, &read(0, 3, 9)?, 0, b"lo")?;
-    gives(&mut machine, &read(0, 0, 9)?, 2, b"he")?;
-    refuses(alloc, &mut machine, &read(0, 5, 1)?, 1)?;
-    refuses(alloc, &mut machine, &read(0, 0, 0)?, 4)?;
-    refuses(alloc, &mut machine, &close(0)?, 0)?;
-    refuses(alloc, &mut machine, &close(0)?, 4)?;
-    refuses(alloc, &mut machine, &read(0, 0, 1)?, 4)?;
-    grants(&mut machine, &open(alloc, b"a")?, 1)?;
+fn the_link_ends(rt: HostRuntime) -> Result<(), Fail> {
+    for (title, exchange) in ENDS {
+        let same = hello_server_does(rt.alloc(), PLAIN, &[], &[], &[*exchange])?;
+        assert!(rt; same, "at {title}");
+    }
     Ok(())
 }
 
-#[test]
-fn requests_are_refused(rt: HostRuntime) -> Result<(), Fail> {
-    let alloc = rt.alloc();
-    let mut machine = hello_file(alloc)?;
-    refuses(alloc, &mut machine, &open(alloc, b"b")?, 2)?;
-    refuses(alloc, &mut machine, &close(7)?, 4)?;
-    let stat = Request::Stat {
-        path: path(alloc, b"a")?,
-    };
-    refuses(alloc, &mut machine, &stat, 8)?;
-    let refused = Choice { refuse: 3, cap: 0 };
-    answers(
-        &mut machine,
-        &open(alloc, b"a")?,
-        refused,
-        &status(alloc, 3),
-    )?;
-    if machine.grants() == 0 {
-        grants(&mut machine, &open(alloc, b"a")?, 0)?;
-        Ok(())
-    } else {
-        Err(Fail::new("a refused request was counted"))
-    }
-}
+/// Picks, and what a server does that has limits to tell.
+const PICKS: &[(&str, &[u32], &[Exchange])] = &[
+    (
+        "no pick: the order of the requests",
+        &[],
+        &[(
+            &[HELLO, OPEN_1, OPEN_2],
+            &[VERSION_WITH_LIMITS, HANDLE_1, HANDLE_2, END],
+        )],
+    ),
+    (
+        "VERSION uses none",
+        &[1],
+        &[(
+            &[HELLO, OPEN_1, OPEN_2],
+            &[VERSION_WITH_LIMITS, HANDLE_2, HANDLE_1, END],
+        )],
+    ),
+    (
+        "the limits use none, and come before what waits",
+        &[1],
+        &[
+            (&[HELLO], &[VERSION_WITH_LIMITS]),
+            (&[OPEN_1, OPEN_2, QUERY], &[LIMITS, HANDLE_2, HANDLE_1, END]),
+        ],
+    ),
+    (
+        "none is used where nothing waits",
+        &[1],
+        &[
+            (&[], &[END]),
+            (&[HELLO], &[VERSION_WITH_LIMITS, END, END]),
+            (&[OPEN_1, OPEN_2], &[HANDLE_2, HANDLE_1, END]),
+        ],
+    ),
+    (
+        "one is used where one reply waits",
+        &[0, 1],
+        &[
+            (&[HELLO, OPEN_1], &[VERSION_WITH_LIMITS, HANDLE_1]),
+            (&[OPEN_2, OPEN_3], &[HANDLE_3, HANDLE_2, END]),
+        ],
+    ),
+    (
+        "modulo the count of those that wait",
+        &[5, 1, 9],
+        &[(
+            &[HELLO, OPEN_1, OPEN_2, OPEN_3],
+            &[VERSION_WITH_LIMITS, HANDLE_3, HANDLE_2, HANDLE_1, END],
+        )],
+    ),
+];
 
 #[test]
-fn files_stand_in_order(rt: HostRuntime) -> Result<(), Fail> {
-    let alloc = rt.alloc();
-    let files = [
-        (text(alloc, b"b")?, text(alloc, b"1")?),
-        (text(alloc, b"ab")?, text(alloc, b"")?),
-        (text(alloc, b"a")?, text(alloc, b"3")?),
-    ];
-    let Ok(machine) = Machine::new(alloc, &files, config()) else {
-        return Err(Fail::new("no memory for the machine"));
-    };
-    assert_eq!(rt; machine.file_count(), 3);
-    is_file(&machine, 0, b"a", b"3")?;
-    is_file(&machine, 1, b"ab", b"")?;
-    is_file(&machine, 2, b"b", b"1")?;
-    assert!(rt; machine.file(3).is_none());
-    grants_are_new();
+fn replies_come_as_picked(rt: HostRuntime) -> Result<(), Fail> {
+    for (title, picks, exchanges) in PICKS {
+        let same = hello_server_does(rt.alloc(), LIMITED, &[], picks, exchanges)?;
+        assert!(rt; same, "at {title}");
+    }
     Ok(())
 }
 
-/// Fails where file `k` has another name or other bytes.
-fn is_file(machine: &Machine, k: u64, name: &[u8], bytes: &[u8]) -> Result<(), Fail> {
-    match machine.file(k) {
-        Some((found, content)) => {
-            if found == name && content == bytes {
-                Ok(())
-            } else {
-                Err(Fail::new("another file"))
-            }
-        }
-        None => Err(Fail::new("no such file")),
+const NO_CHOICE: Choice = Choice { refuse: 0, cap: 0 };
+
+/// The second request is refused, and the next two get at most two bytes and one; the query takes no choice.
+const CHOICES: &[Choice] = &[
+    NO_CHOICE,
+    Choice { refuse: 3, cap: 0 },
+    Choice { refuse: 0, cap: 2 },
+    Choice { refuse: 0, cap: 1 },
+];
+
+const CHOSEN: &[Exchange] = &[
+    (&[HELLO], &[VERSION]),
+    (
+        &[OPEN_1, OPEN_2, QUERY, READ, READ_TOO_MUCH, READ],
+        &[
+            NO_LIMITS,
+            HANDLE_1,
+            b"\0\0\0\x11\x65\0\0\0\x02\0\0\0\x03\0\0\0\0\0\0\0\0",
+            b"\0\0\0\x0b\x67\0\0\0\x04\0\0\0\x02he",
+            b"\0\0\0\x0a\x67\0\0\0\x04\0\0\0\x01h",
+            CONTENT,
+            END,
+        ],
+    ),
+];
+
+#[test]
+fn each_request_takes_a_choice(rt: HostRuntime) -> Result<(), Fail> {
+    assert!(rt; hello_server_does(rt.alloc(), PLAIN, CHOICES, &[], CHOSEN)?);
+    Ok(())
+}
+
+/// Cuts, and what a server does of which a call moves at most so many bytes. A piece never runs on into a reply that
+/// waits; what is given at once follows the frame that is being given.
+const CUTS: &[(u32, &[Exchange])] = &[
+    (
+        4,
+        &[(
+            &[HELLO, OPEN_1],
+            &[
+                b"\0\0\0\x05",
+                b"\x02\0\0\0",
+                b"\x03",
+                b"\0\0\0\x0d",
+                b"\x66\0\0\0",
+                b"\x01\0\0\0",
+                b"\x04\0\0\0",
+                b"\0",
+                END,
+            ],
+        )],
+    ),
+    (
+        9,
+        &[
+            (&[HELLO, OPEN_1], &[VERSION, b"\0\0\0\x0d\x66\0\0\0\x01"]),
+            (
+                &[QUERY],
+                &[
+                    b"\0\0\0\x04\0\0\0\0\0",
+                    b"\0\0\x11\x65\0\0\0\x05\0",
+                    b"\0\0\x08\0\0\0\0\0\0",
+                    b"\0\0",
+                    END,
+                ],
+            ),
+        ],
+    ),
+];
+
+#[test]
+fn calls_are_cut(rt: HostRuntime) -> Result<(), Fail> {
+    for (cut, exchanges) in CUTS {
+        let config = ServerConfig {
+            extensions: Extensions::LIMITS,
+            limits: None,
+            cut: *cut,
+        };
+        let same = hello_server_does(rt.alloc(), config, &[], &[], exchanges)?;
+        assert!(rt; same, "at {cut}");
     }
+    Ok(())
+}
+
+/// MKDIR of `b/d`; OPEN of `b/a` to read and to write; WRITE of `!` at its end; READ; OPENDIR of `b`; READDIR. Under the
+/// ids 1 to 6.
+const REQUESTS: &[&[u8]] = &[
+    b"\0\0\0\x10\x0e\0\0\0\x01\0\0\0\x03b/d\0\0\0\0",
+    b"\0\0\0\x14\x03\0\0\0\x02\0\0\0\x03b/a\0\0\0\x03\0\0\0\0",
+    b"\0\0\0\x1a\x06\0\0\0\x03\0\0\0\x04\0\0\0\0\0\0\0\0\0\0\0\x05\0\0\0\x01!",
+    READ,
+    b"\0\0\0\x0a\x0b\0\0\0\x05\0\0\0\x01b",
+    b"\0\0\0\x0d\x0c\0\0\0\x06\0\0\0\x04\0\0\0\x01",
+];
+
+/// NAME has `a` of 6 bytes, and `c` and `d`, of which permissions alone are told.
+const REPLIES: &[&[u8]] = &[
+    b"\0\0\0\x11\x65\0\0\0\x01\0\0\0\0\0\0\0\0\0\0\0\0",
+    b"\0\0\0\x0d\x66\0\0\0\x02\0\0\0\x04\0\0\0\0",
+    b"\0\0\0\x11\x65\0\0\0\x03\0\0\0\0\0\0\0\0\0\0\0\0",
+    b"\0\0\0\x0f\x67\0\0\0\x04\0\0\0\x06hello!",
+    b"\0\0\0\x0d\x66\0\0\0\x05\0\0\0\x04\0\0\0\x01",
+    b"\0\0\0\x40\x68\0\0\0\x06\0\0\0\x03\0\0\0\x01a\0\0\0\0\0\0\0\x01\0\0\0\0\0\0\0\x06\
+\0\0\0\x01c\0\0\0\0\0\0\0\x04\0\0\x41\xed\0\0\0\x01d\0\0\0\0\0\0\0\x04\0\0\x41\xed",
+    END,
+];
+
+/// A server of the file `b/a` of `hello`, and of the directory `/b/c`.
+fn tree_server(alloc: Global) -> Result<MapServer, Fail> {
+    let choices = Items::new(Vec::new(alloc));
+    let picks = Items::new(Vec::new(alloc));
+    let files = [(text(alloc, b"b/a")?, text(alloc, b"hello")?)];
+    let dirs = [text(alloc, b"/b/c")?];
+    if !may_begin(alloc, &files, &dirs)? {
+        return Err(Fail::new("it may not begin"));
+    }
+    Ok(MapServer::new_tree(alloc, &files, &dirs, PLAIN, choices, picks)?)
+}
+
+fn has_dir(server: &MapServer, k: u64, name: &[u8]) -> bool {
+    match server.dir(k) {
+        Some(found) => found == name,
+        None => false,
+    }
+}
+
+fn has_file(server: &MapServer, k: u64, name: &[u8], bytes: &[u8]) -> bool {
+    match server.file(k) {
+        Some((found, content)) => found == name && content == bytes,
+        None => false,
+    }
+}
+
+/// Whether the server has only `b/a` of these bytes, and `b`, `b/c` and maybe `b/d`.
+fn has_tree(server: &MapServer, bytes: &[u8], has_d: bool) -> bool {
+    has_file(server, 0, b"b/a", bytes)
+        && server.file(1).is_none()
+        && server.file_count() == 1
+        && has_dir(server, 0, b"b")
+        && has_dir(server, 1, b"b/c")
+        && has_dir(server, 2, b"b/d") == has_d
+        && server.dir_count() == if has_d { 3 } else { 2 }
+}
+
+/// Whether a server of files and directories begins, does and leaves what is told here.
+fn tree_is_served(alloc: Global) -> Result<bool, Fail> {
+    let mut server = tree_server(alloc)?;
+    let begins = has_tree(&server, b"hello", false) && server.grant_count() == 0;
+    let serves = does(&mut server, &[(&[HELLO], &[VERSION]), (REQUESTS, REPLIES)]);
+    Ok(begins && serves && has_tree(&server, b"hello!", true) && server.grant_count() == 2)
+}
+
+#[test]
+fn files_and_directories_are_served(rt: HostRuntime) -> Result<(), Fail> {
+    assert!(rt; tree_is_served(rt.alloc())?);
+    Ok(())
+}
+
+/// A server of one file begins with the parents of its name.
+fn parent_is_listed(alloc: Global) -> Result<bool, Fail> {
+    let none = Items::new(Vec::new(alloc));
+    let picks = Items::new(Vec::new(alloc));
+    let files = [(text(alloc, b"/x/../b/a")?, text(alloc, b"")?)];
+    if !may_begin(alloc, &files, &[])? {
+        return Ok(false);
+    }
+    let server = MapServer::new(alloc, &files, PLAIN, none, picks)?;
+    Ok(has_file(&server, 0, b"b/a", b"") && has_dir(&server, 0, b"b") && server.dir_count() == 1)
+}
+
+#[test]
+fn parents_are_listed(rt: HostRuntime) -> Result<(), Fail> {
+    assert!(rt; parent_is_listed(rt.alloc())?);
+    Ok(())
 }

@@ -60,6 +60,17 @@ const REFUSED: &[(&str, u64, Reason)] = &[
     ),
     ("server cut 1\nserver cut 1", 2, Reason::Repeat),
     ("file 61 -\nfile 62 -\n\nfile 61 61", 4, Reason::Repeat),
+    ("file - -", 1, Reason::Range),
+    ("file 61 -\nfile 612f62 -", 2, Reason::Repeat),
+    ("dir", 1, Reason::Count),
+    ("dir 61 -", 1, Reason::Count),
+    ("dir 6", 1, Reason::Hex),
+    ("dir -", 1, Reason::Range),
+    ("dir 612f2e2e", 1, Reason::Range),
+    ("dir 61\ndir 2f61", 2, Reason::Repeat),
+    ("file 61 -\ndir 61", 2, Reason::Repeat),
+    ("file 61 -\ndir 612f62", 2, Reason::Repeat),
+    ("dir 612f62\nfile 61 -", 2, Reason::Repeat),
 ];
 
 /// Why a script is refused, where it is.
@@ -99,8 +110,10 @@ server  ext  expand-path
 server ext copy-data
 server limits 1 2 3 18446744073709551615
 server cut 5
-file 61 68656C6c6f
-file - -
+file 612f62 68656C6c6f
+dir 61
+file 78 -
+dir 2f612f63
 choice 0 6
 choice 4 0
 pick 9
@@ -147,10 +160,19 @@ fn has_server(script: &Script) -> bool {
 fn has_files(script: &Script) -> bool {
     match script.files.as_slice() {
         [first, second] => {
-            first.0.as_slice() == b"a".as_slice()
+            first.0.as_slice() == b"a/b".as_slice()
                 && first.1.as_slice() == b"hello".as_slice()
-                && second.0.as_slice().is_empty()
+                && second.0.as_slice() == b"x".as_slice()
                 && second.1.as_slice().is_empty()
+        }
+        _ => false,
+    }
+}
+
+fn has_dirs(script: &Script) -> bool {
+    match script.dirs.as_slice() {
+        [first, second] => {
+            first.as_slice() == b"a".as_slice() && second.as_slice() == b"/a/c".as_slice()
         }
         _ => false,
     }
@@ -231,6 +253,9 @@ fn is_whole(script: &Script) -> Result<(), Fail> {
     }
     if !has_files(script) {
         return Err(Fail::new("the files differ"));
+    }
+    if !has_dirs(script) {
+        return Err(Fail::new("the directories differ"));
     }
     if !has_choices(script) {
         return Err(Fail::new("the choices or the picks differ"));

@@ -1,7 +1,11 @@
-// A session without lanes over a server of one file.
+// A session without lanes over a server of a file and directories.
+ghost use Rattle.std.specs.Prelude.{◌≡◌, [], IfOk};
+ghost use Rattle.sftp_served.specs.Unopened.{IsUnopened};
+
 use sftp_core::SftpOptions;
 use sftp_driver::NoLanes;
 use sftp_history::Turn;
+use sftp_map_server::{MapServer, may_begin};
 use sftp_model::{Extensions, Limits, ServerConfig};
 use sftp_served::*;
 use sftp_values::{ByteText, Items};
@@ -23,15 +27,30 @@ fn text(alloc: Global, bytes: &[u8]) -> Result<ByteText, AllocError> {
     Ok(ByteText::new(Vec::from_slice(alloc, bytes)?))
 }
 
-/// The hello, the limits and turns without a lane leave the server's file.
+/// A server of the file `a` of `hello` and the directory `b/c`.
+fn a_server(alloc: Global) -> Result<MapServer, Fail>
+    ensures unopened { IfOk result (λ server. IsUnopened server.first) }
+    ensures quiet { IfOk result (λ server. server.log ≡ []) }
+{
+    let choices = Items::new(Vec::new(alloc));
+    let picks = Items::new(Vec::new(alloc));
+    let files = [(text(alloc, b"a")?, text(alloc, b"hello")?)];
+    let dirs = [text(alloc, b"b/c")?];
+    if !may_begin(alloc, &files, &dirs)? {
+        return Err(Fail::new("it may not begin"));
+    }
+    Ok(new_server(alloc, &files, &dirs, CONFIG, choices, picks)?)
+}
+
+/// The hello, the limits and turns without a lane leave the server's files and directories.
 #[test]
 fn runs(rt: HostRuntime) -> Result<(), Fail> {
     let alloc = rt.alloc();
-    let files = [(text(alloc, b"a")?, text(alloc, b"hello")?)];
-    let mut server = new_server(alloc, &files, CONFIG, Items::new(Vec::new(alloc)))?;
+    let mut server = a_server(alloc)?;
     let mut session = NoLanes::new(alloc, &SftpOptions::new())?;
     let turns = [Turn::Step(0), Turn::Take];
     assert!(rt; run_served(alloc, &mut session, &mut server, &turns) == Ok(()));
     assert!(rt; server.file(0) == Some((b"a".as_slice(), b"hello".as_slice())));
+    assert!(rt; server.dir(1) == Some(b"b/c".as_slice()) && server.dir(2).is_none());
     Ok(())
 }

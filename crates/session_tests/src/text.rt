@@ -1,7 +1,7 @@
 use bytes::Bytes;
 use sftp_history::{Event, Owner, Report};
 use sftp_model::{Error, FileAttrs, Handle, OpenFlags, Outcome, RemotePath, Reply, Request};
-use sftp_text::{write_file, write_text};
+use sftp_text::{write_dir, write_file, write_text};
 use sftp_values::{ByteText, Items};
 use std::alloc::Global;
 use std::test::Fail;
@@ -183,11 +183,13 @@ fn nothing(rt: HostRuntime) -> Result<(), Fail> {
 }
 
 #[test]
-fn files(rt: HostRuntime) -> Result<(), Fail> {
+fn files_and_directories(rt: HostRuntime) -> Result<(), Fail> {
     let alloc = rt.alloc();
     let mut text = Vec::new(alloc);
     write_file(alloc, b"a", b"hello", &mut text)?;
     write_file(alloc, b"a", b"", &mut text)?;
-    assert!(rt; text.as_slice() == b"file 61 68656c6c6f\nfile 61 -\n".as_slice());
+    write_dir(alloc, b"a/c", &mut text)?;
+    let lines = b"file 61 68656c6c6f\nfile 61 -\ndir 612f63\n";
+    assert!(rt; text.as_slice() == lines.as_slice());
     Ok(())
 }
