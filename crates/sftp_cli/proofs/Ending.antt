@@ -8,6 +8,7 @@ use Rattle.sftp_history.specs.declared.script.Script.{Script}
 use Rattle.sftp_history.specs.Lines.{lines_of}
 use Rattle.sftp_history.specs.Scripts.{script_of, MAX_SCRIPT_LEN, read_lines, empty_script}
 use Rattle.sftp_link.specs.Told.{Told, Same, Went, ReadUpTo}
+use Rattle.sftp_map_server.specs.Serving.{Serving}
 use Rattle.sftp_cli.specs.declared.failure.Failure.{Failure}
 use Rattle.sftp_cli.specs.declared.failure.Failure.TheVariants.{SourceFailed, SinkFailed, OutOfMemory, DialFailed}
 use Rattle.sftp_cli.specs.Dialled.{LastLink, IsShown, IsStopped, RunsOver, Undialled}
@@ -261,38 +262,38 @@ pub ruleset endings = (no_cause, source_cause, sink_cause, dial_cause)
 
 -- ---- over a server in memory
 
-memory_small : Small RunsInMemory
-memory_small script status text a = let zero : status ≡ 0 = a.0 in omega (arith, zero)
+memory_small : (kept : Option Serving) → Small (RunsInMemory kept)
+memory_small kept script status text a = let zero : status ≡ 0 = a.0 in omega (arith, zero)
 
-pub memory_ran : (status : ℕ) (left left_now written written_now : Option (List ℕ)) → Answered RunsInMemory status left left_now written written_now → status ≡ 0 → Ran IsPrinted left left_now written written_now
-memory_ran status left left_now written written_now a is = answer_ran RunsInMemory IsPrinted 0 status left left_now written written_now (λ script n text r e. r.1) (omega arith) a is
+pub memory_ran : (kept : Option Serving) (status : ℕ) (left left_now written written_now : Option (List ℕ)) → Answered (RunsInMemory kept) status left left_now written written_now → status ≡ 0 → Ran (λ script text. IsPrinted kept script text) left left_now written written_now
+memory_ran kept status left left_now written written_now a is = answer_ran (RunsInMemory kept) (λ script text. IsPrinted kept script text) 0 status left left_now written written_now (λ script n text r e. r.1) (omega arith) a is
 
-memory_refused : (status : ℕ) (left left_now written written_now : Option (List ℕ)) → Answered RunsInMemory status left left_now written written_now → status ≡ 2 → Refused left left_now written written_now
-memory_refused status left left_now written written_now a is = answer_refused RunsInMemory status left left_now written written_now memory_small a is
+memory_refused : (kept : Option Serving) (status : ℕ) (left left_now written written_now : Option (List ℕ)) → Answered (RunsInMemory kept) status left left_now written written_now → status ≡ 2 → Refused left left_now written written_now
+memory_refused kept status left left_now written written_now a is = answer_refused (RunsInMemory kept) status left left_now written written_now (memory_small kept) a is
 
-pub memory_small_status : (status : ℕ) (left left_now written written_now : Option (List ℕ)) → Answered RunsInMemory status left left_now written written_now → status < 3
-memory_small_status status left left_now written written_now a = answer_small RunsInMemory status left left_now written written_now memory_small a
+pub memory_small_status : (kept : Option Serving) (status : ℕ) (left left_now written written_now : Option (List ℕ)) → Answered (RunsInMemory kept) status left left_now written written_now → status < 3
+memory_small_status kept status left left_now written written_now a = answer_small (RunsInMemory kept) status left left_now written written_now (memory_small kept) a
 
-pub memory_completes : (status : ℕ) (left left_now written written_now : Option (List ℕ)) → Answered RunsInMemory status left left_now written written_now → Completes IsWhole status left
-memory_completes status left left_now written written_now a = answer_completes RunsInMemory IsWhole status left left_now written written_now (λ script text r. r.0) a
+pub memory_completes : (kept : Option Serving) (status : ℕ) (left left_now written written_now : Option (List ℕ)) → Answered (RunsInMemory kept) status left left_now written written_now → Completes IsWhole status left
+memory_completes kept status left left_now written written_now a = answer_completes (RunsInMemory kept) IsWhole status left left_now written written_now (λ script text r. r.0) a
 
-memory_finished : (status : ℕ) (left left_now written written_now : Option (List ℕ)) → Answered RunsInMemory status left left_now written written_now → Unfinished RunsInMemory status left left_now written written_now
-memory_finished status left left_now written written_now a = answer_finished RunsInMemory status left left_now written written_now memory_small a
+memory_finished : (kept : Option Serving) (status : ℕ) (left left_now written written_now : Option (List ℕ)) → Answered (RunsInMemory kept) status left left_now written written_now → Unfinished (RunsInMemory kept) status left left_now written written_now
+memory_finished kept status left left_now written written_now a = answer_finished (RunsInMemory kept) status left left_now written written_now (memory_small kept) a
 
-pub memory_ends : (status : ℕ) (left left_now written written_now : Option (List ℕ)) → Answered RunsInMemory status left left_now written written_now → EndsInMemory status left left_now written written_now
-memory_ends status left left_now written written_now a =
-    record { refused = memory_refused status left left_now written written_now a; unfinished = memory_finished status left left_now written written_now a }
+pub memory_ends : (kept : Option Serving) (status : ℕ) (left left_now written written_now : Option (List ℕ)) → Answered (RunsInMemory kept) status left left_now written written_now → EndsInMemory kept status left left_now written written_now
+memory_ends kept status left left_now written written_now a =
+    record { refused = memory_refused kept status left left_now written written_now a; unfinished = memory_finished kept status left left_now written written_now a }
 
-pub memory_failure : (why : Failure) (status : ℕ) (left left_now written written_now : Option (List ℕ)) → Stopped RunsInMemory why left left_now written written_now → status ≡ code why → EndsInMemory status left left_now written written_now
-memory_failure why status left left_now written written_now stopped is =
-    record { refused = λ two. absurd (no_code why status is (omega (arith, two))); unfinished = failure_unfinished RunsInMemory why status left left_now written written_now stopped is }
+pub memory_failure : (kept : Option Serving) (why : Failure) (status : ℕ) (left left_now written written_now : Option (List ℕ)) → Stopped (RunsInMemory kept) why left left_now written written_now → status ≡ code why → EndsInMemory kept status left left_now written written_now
+memory_failure kept why status left left_now written written_now stopped is =
+    record { refused = λ two. absurd (no_code why status is (omega (arith, two))); unfinished = failure_unfinished (RunsInMemory kept) why status left left_now written written_now stopped is }
 
-memory_status_by : (r : Result Script (ℕ × Reason)) (status : ℕ) (text : List ℕ) → IsAnswer RunsInMemory r status text → IsStatus status
-memory_status_by (Ok script) status text a = inl a.0
-memory_status_by (Err why) status text a = inr (inl a.0)
+memory_status_by : (kept : Option Serving) (r : Result Script (ℕ × Reason)) (status : ℕ) (text : List ℕ) → IsAnswer (RunsInMemory kept) r status text → IsStatus status
+memory_status_by kept (Ok script) status text a = inl a.0
+memory_status_by kept (Err why) status text a = inr (inl a.0)
 
-pub memory_status : (status : ℕ) (left left_now written written_now : Option (List ℕ)) → Answered RunsInMemory status left left_now written written_now → IsStatus status
-memory_status status left left_now written written_now a = memory_status_by (script_of a.bytes) status a.text a.answer
+pub memory_status : (kept : Option Serving) (status : ℕ) (left left_now written written_now : Option (List ℕ)) → Answered (RunsInMemory kept) status left left_now written written_now → IsStatus status
+memory_status kept status left left_now written written_now a = memory_status_by kept (script_of a.bytes) status a.text a.answer
 
 pub ruleset in_memory = (memory_ran, memory_ends, memory_failure, memory_small_status, memory_completes, memory_stops, memory_status, undialled_status)
 

@@ -1,5 +1,5 @@
--- A script that was read has lanes that a session can be given, and few files.
-use Rattle.std.proofs.Common.{◌≡◌, ◌<◌, ◌≤◌, ◌^◌, ℕ, ◌+◌, Bool, true, false, List, [], ◌∷◌, ◌++◌, Result, Ok, Err, if◌then◌else◌, refl, ◌∙◌, subst, arith, length, length-append}
+-- A script that was read has lanes that a session can be given.
+use Rattle.std.proofs.Common.{◌≡◌, ◌<◌, ◌≤◌, ◌^◌, ℕ, ◌+◌, Bool, true, false, List, [], ◌∷◌, ◌++◌, Result, Ok, Err, if◌then◌else◌, refl, ◌∙◌, subst, arith, length}
 use Rattle.std.specs.Prelude.{◌==◌, not, ◌&&◌, nat_lt, nat_le, is_some, codes, Option, Some, None}
 use Rattle.std.specs.List.{list_all, sum_by}
 use Rattle.std.specs.Str.{bytes_eq}
@@ -8,6 +8,7 @@ use Rattle.std.proofs.lemmas.List.Sums.{sum_by-cons, sum_by-append}
 use Rattle.std.proofs.lemmas.List.Folds.{list_all-append}
 use Rattle.ssh_encoding.specs.Reading.{◌>>=◌}
 use Rattle.sftp_core.specs.declared.options.SftpOptions.{SftpOptions}
+use Rattle.sftp_tree.specs.Components.{components}
 use Rattle.sftp_history.specs.declared.call.Lane.{Lane}
 use Rattle.sftp_history.specs.declared.call.Call.{Call}
 use Rattle.sftp_history.specs.declared.reason.Reason.{Reason}
@@ -16,21 +17,20 @@ use Rattle.sftp_history.specs.declared.script.Script.{Script}
 use Rattle.sftp_history.specs.declared.turn.Turn.{Turn}
 use Rattle.sftp_history.specs.Lanes.{is_slot, is_within, weight, lane_weight, weight_limit, are_ok}
 use Rattle.sftp_history.specs.Lines.{with_front, lines_of, words_of, is_comment, number_of, within, number_in, bytes_in, flags_in}
-use Rattle.sftp_history.specs.Scripts.{Draft, empty_script, no_word, one_word, two_words, three_words, four_words, unless_said, greatest_u32, greatest_u64, is_file, refusal_in, option_in, option_line, extension_in, with_extension, ext_line, limits_line, cut_line, server_line, file_line, choice_line, pick_line, with_lane, call_at_end, slot_in, open_call, read_call, close_call, in_lane, lane_turn, line_by, line_of, read_line, go_on, read_lines, MAX_SCRIPT_LEN, script_of}
+use Rattle.sftp_history.specs.Scripts.{Draft, empty_script, no_word, one_word, two_words, three_words, four_words, unless_said, greatest_u32, greatest_u64, path_in, content_in, meets_file, meets_dir, refusal_in, option_in, option_line, extension_in, with_extension, ext_line, limits_line, cut_line, server_line, file_line, dir_line, choice_line, pick_line, with_lane, call_at_end, slot_in, open_call, read_call, close_call, in_lane, lane_turn, line_by, line_of, read_line, go_on, read_lines, MAX_SCRIPT_LEN, script_of}
 
 -- each call of a lane is within its ranges
 abbrev lane_ok : Lane → Bool
 lane_ok lane = list_all is_within lane.calls
 
--- no more files than lines, lanes within their ranges, and at most two counts a line
-record Within (n : ℕ) (files : List (List ℕ × List ℕ)) (lanes : List Lane) : Type 0 where
-  few : length files ≤ n
+-- lanes within their ranges, and at most two counts a line
+record Within (n : ℕ) (lanes : List Lane) : Type 0 where
   ok : list_all lane_ok lanes ≡ true
   count : sum_by lane_weight lanes ≤ n + n
 
 -- what was read of n lines is so, or it is refused
 abbrev IsFine : ℕ → Result Draft Reason → Type 0
-IsFine n (Ok d) = Within n d.script.files d.script.lanes
+IsFine n (Ok d) = Within n d.script.lanes
 IsFine n (Err why) = Unit {0}
 
 record Fine (n : ℕ) (r : Result Draft Reason) : Type 0 where
@@ -38,10 +38,10 @@ record Fine (n : ℕ) (r : Result Draft Reason) : Type 0 where
 
 -- a draft of n lines
 abbrev Has : ℕ → Draft → Type 0
-Has n d = Within n d.script.files d.script.lanes
+Has n d = Within n d.script.lanes
 
-more : (n : ℕ) (files : List (List ℕ × List ℕ)) (lanes : List Lane) → Within n files lanes → Within (n + 1) files lanes
-more n files lanes w = record { few = let h = w.few in omega (arith, h); ok = w.ok; count = let h = w.count in omega (arith, h) }
+more : (n : ℕ) (lanes : List Lane) → Within n lanes → Within (n + 1) lanes
+more n lanes w = record { ok = w.ok; count = let h = w.count in omega (arith, h) }
 
 -- ---- parts of readings
 
@@ -188,7 +188,6 @@ lanes_count (lane ∷ next ∷ lanes) c =
 call_fine : (n : ℕ) (d : Draft) (read : Result Call Reason) → Has n d → Named read → Fine (n + 1) (read >>= λ c. Ok (record d { script = record d.script { lanes = call_at_end d.script.lanes c } }))
 call_fine n d (Ok c) k named = record {
   is = record {
-    few = let h = k.few in omega (arith, h);
     ok = lanes_end d.script.lanes c k.ok named.is;
     count = let h = k.count in let l = lanes_count d.script.lanes c in omega (arith, h, l);
   };
@@ -201,17 +200,16 @@ lane_fine n d (lane ∷ lanes) read k named = call_fine n d read k named
 
 begun_fine : (n : ℕ) (d : Draft) → Has n d → Has (n + 1) (with_lane d)
 begun_fine n d k = record {
-  few = let h = k.few in omega (arith, h);
   ok = list_all-append lane_ok d.script.lanes (record { calls = [] } ∷ []) ∙ both_true (list_all lane_ok d.script.lanes) true k.ok refl;
   count = let h = k.count in let l = sum_by-append lane_weight d.script.lanes (record { calls = [] } ∷ []) in rw l (omega (arith, h));
 }
 
 files_fine : (n : ℕ) (d : Draft) (a b : List ℕ) → Has n d → Fine (n + 1) (file_line d a b)
-files_fine n d a b k = bind_fine (n + 1) (bytes_in a) _ (λ name. bind_fine (n + 1) (bytes_in b) _ (λ content. unless_fine (n + 1) (is_file d.script.files name) _ (record {
-  few = let h = k.few in let l = length-append d.script.files ((name, content) ∷ []) in rw l (omega (arith, h));
-  ok = k.ok;
-  count = let h = k.count in omega (arith, h);
-})))
+files_fine n d a b k =
+    bind_fine (n + 1) (path_in a) _ (λ path. bind_fine (n + 1) (content_in d.script.files b) _ (λ content. unless_fine (n + 1) (meets_file d.script (components path)) _ (more n d.script.lanes k)))
+
+dirs_fine : (n : ℕ) (d : Draft) (a : List ℕ) → Has n d → Fine (n + 1) (dir_line d a)
+dirs_fine n d a k = bind_fine (n + 1) (path_in a) _ (λ path. unless_fine (n + 1) (meets_dir d.script (components path)) _ (more n d.script.lanes k))
 
 option_fine : (n : ℕ) (d : Draft) (key least most : ℕ) (word : List ℕ) (set : ℕ → SftpOptions) → Has n d → Fine n (option_in d key least most word set)
 option_fine n d key least most word set k = bind_fine n (number_in least most word) _ (λ x. unless_fine n _ _ k)
@@ -239,34 +237,35 @@ turn_fine n d of_lane word k = bind_fine n (number_in 0 greatest_u32 word) _ (λ
 
 line_fine : (n : ℕ) (d : Draft) (word : List ℕ) (words : List (List ℕ)) → Has n d → Fine (n + 1) (line_by d word words)
 line_fine n d word words k =
-    let m : Has (n + 1) d = more n d.script.files d.script.lanes k in
+    let m : Has (n + 1) d = more n d.script.lanes k in
     if_fine (n + 1) (bytes_eq word (codes "option")) _ _ (two_fine (n + 1) (option_line d) words (λ a b. options_fine (n + 1) d a b m)) (if_fine (n + 1) (bytes_eq word (codes "server")) _ _ (server_fine (n + 1) d words m)
     (if_fine (n + 1) (bytes_eq word (codes "file")) _ _ (two_fine (n + 1) (file_line d) words (λ a b. files_fine n d a b k))
+    (if_fine (n + 1) (bytes_eq word (codes "dir")) _ _ (one_fine (n + 1) (dir_line d) words (λ a. dirs_fine n d a k))
     (if_fine (n + 1) (bytes_eq word (codes "choice")) _ _ (two_fine (n + 1) (choice_line d) words (λ a b. bind_fine (n + 1) (refusal_in a) _ (λ x. bind_fine (n + 1) (number_in 0 greatest_u32 b) _ (λ y. record { is = m }))))
     (if_fine (n + 1) (bytes_eq word (codes "pick")) _ _ (one_fine (n + 1) (pick_line d) words (λ a. bind_fine (n + 1) (number_in 0 greatest_u32 a) _ (λ x. record { is = m })))
     (if_fine (n + 1) (bytes_eq word (codes "lane")) _ _ (no_fine (n + 1) (with_lane d) words (begun_fine n d k)) (if_fine (n + 1) (bytes_eq word (codes "step")) _ _ (one_fine (n + 1) _ words (λ a. turn_fine (n + 1) d _ a m)) (if_fine (n + 1) (bytes_eq word (codes "cancel")) _ _ (one_fine (n + 1) _ words (λ a. turn_fine (n + 1) d _ a m))
     (if_fine (n + 1) (bytes_eq word (codes "flush")) _ _ (no_fine (n + 1) _ words m) (if_fine (n + 1) (bytes_eq word (codes "take")) _ _ (no_fine (n + 1) _ words m)
-    (if_fine (n + 1) (bytes_eq word (codes "open")) _ _ (lane_fine n d d.script.lanes _ k (three_named open_call words open_named)) (if_fine (n + 1) (bytes_eq word (codes "read")) _ _ (lane_fine n d d.script.lanes _ k (two_named read_call words read_named)) (if_fine (n + 1) (bytes_eq word (codes "close")) _ _ (lane_fine n d d.script.lanes _ k (one_named close_call words close_named)) (record { is = tt })))))))))))))
+    (if_fine (n + 1) (bytes_eq word (codes "open")) _ _ (lane_fine n d d.script.lanes _ k (three_named open_call words open_named)) (if_fine (n + 1) (bytes_eq word (codes "read")) _ _ (lane_fine n d d.script.lanes _ k (two_named read_call words read_named)) (if_fine (n + 1) (bytes_eq word (codes "close")) _ _ (lane_fine n d d.script.lanes _ k (one_named close_call words close_named)) (record { is = tt }))))))))))))))
 
 words_fine : (n : ℕ) (d : Draft) (words : List (List ℕ)) → Has n d → Fine (n + 1) (line_of d words)
-words_fine n d [] k = record { is = more n d.script.files d.script.lanes k }
+words_fine n d [] k = record { is = more n d.script.lanes k }
 words_fine n d (word ∷ words) k = line_fine n d word words k
 
 -- ---- all lines
 
-go_fine : (script : Script) (m number : ℕ) (n : ℕ) (r : Result Draft Reason) (rest : Draft → Result Script (ℕ × Reason)) → Fine n r → ((d : Draft) → Has n d → rest d ≡ Ok script → Within m script.files script.lanes)
-    → go_on number r rest ≡ Ok script → Within m script.files script.lanes
+go_fine : (script : Script) (m number : ℕ) (n : ℕ) (r : Result Draft Reason) (rest : Draft → Result Script (ℕ × Reason)) → Fine n r → ((d : Draft) → Has n d → rest d ≡ Ok script → Within m script.lanes)
+    → go_on number r rest ≡ Ok script → Within m script.lanes
 go_fine script m number n (Ok d) rest k h e = h d k.is e
 go_fine script m number n (Err why) rest k h e = absurd cc
 
 -- n lines were read before these
-lines_fine : (script : Script) (m n number : ℕ) (d : Draft) (lines : List (List ℕ)) → n + length lines ≤ m → Has n d → read_lines number d lines ≡ Ok script → Within m script.files script.lanes
+lines_fine : (script : Script) (m n number : ℕ) (d : Draft) (lines : List (List ℕ)) → n + length lines ≤ m → Has n d → read_lines number d lines ≡ Ok script → Within m script.lanes
 lines_fine script m n number d [] le k e =
     let is : d.script ≡ script = cc e in
-    subst (λ (s : Script). Within m s.files s.lanes) is (record { few = let h = k.few in omega (arith, h, le); ok = k.ok; count = let h = k.count in omega (arith, h, le) })
+    subst (λ (s : Script). Within m s.lanes) is (record { ok = k.ok; count = let h = k.count in omega (arith, h, le) })
 lines_fine script m n number d (line ∷ lines) le k e =
     go_fine script m number (n + 1) (read_line d line) (λ more. read_lines (number + 1) more lines)
-    (if_fine (n + 1) (is_comment line) (Ok d) (line_of d (words_of line)) (record { is = more n d.script.files d.script.lanes k }) (words_fine n d (words_of line) k))
+    (if_fine (n + 1) (is_comment line) (Ok d) (line_of d (words_of line)) (record { is = more n d.script.lanes k }) (words_fine n d (words_of line) k))
     (λ next has is. lines_fine script m (n + 1) (number + 1) next lines (omega (arith, le)) has is) e
 
 -- ---- as many lines as bytes at most
@@ -283,19 +282,19 @@ few_lines : (bytes : List ℕ) → length (lines_of bytes) ≤ length bytes
 few_lines [] = omega arith
 few_lines (b ∷ bytes) = let h = lines_if (b == 10) b (lines_of bytes) (length bytes) (few_lines bytes) in omega (arith, h)
 
-by_size : (script : Script) (n : ℕ) (b : Bool) (r : Result Script (ℕ × Reason)) → (b ≡ false → r ≡ Ok script → Within n script.files script.lanes) → (if b then Err (0, reason.Size) else r) ≡ Ok script → Within n script.files script.lanes
+by_size : (script : Script) (n : ℕ) (b : Bool) (r : Result Script (ℕ × Reason)) → (b ≡ false → r ≡ Ok script → Within n script.lanes) → (if b then Err (0, reason.Size) else r) ≡ Ok script → Within n script.lanes
 by_size script n true r h e = absurd cc
 by_size script n false r h e = h refl e
 
 at_most : (m n : ℕ) → nat_lt m n ≡ false → n ≤ m
 at_most m n e = grind (arith, nat_tests)
 
-script_within : (bytes : List ℕ) (script : Script) → script_of bytes ≡ Ok script → Within MAX_SCRIPT_LEN script.files script.lanes
+script_within : (bytes : List ℕ) (script : Script) → script_of bytes ≡ Ok script → Within MAX_SCRIPT_LEN script.lanes
 script_within bytes script e =
     by_size script MAX_SCRIPT_LEN (nat_lt MAX_SCRIPT_LEN (length bytes)) (read_lines 1 (record { script = empty_script; named = [] }) (lines_of bytes))
     (λ short is. lines_fine script MAX_SCRIPT_LEN 0 1 (record { script = empty_script; named = [] }) (lines_of bytes)
     (let few = few_lines bytes in let most = at_most MAX_SCRIPT_LEN (length bytes) short in omega (arith, few, most))
-    (record { few = omega arith; ok = refl; count = omega arith }) is) e
+    (record { ok = refl; count = omega arith }) is) e
 
 less : (n m : ℕ) → n < m → nat_lt n m ≡ true
 less n m h = grind (arith, nat_tests)
@@ -305,6 +304,3 @@ script_lanes bytes script e =
     let w = script_within bytes script e in
     let count = w.count in
     both_true (list_all lane_ok script.lanes) (nat_lt (sum_by lane_weight script.lanes) weight_limit) w.ok (less (sum_by lane_weight script.lanes) weight_limit (omega (arith, count)))
-
-pub script_files : (bytes : List ℕ) (script : Script) → script_of bytes ≡ Ok script → length script.files < 2 ^ 32
-script_files bytes script e = let w = script_within bytes script e in let files = w.few in omega (arith, files)

@@ -3,3 +3,4 @@ pub mod Fit
 pub mod Running
 pub mod Ending
 pub mod Linked
+pub mod Fixing

@@ -9,26 +9,25 @@ use Rattle.sftp_link.specs.Told.{Told}
 use Rattle.sftp_model.specs.declared.error.Error.{Error}
 use Rattle.sftp_model.specs.declared.error.Error.TheVariants as error
 use Rattle.sftp_model.specs.declared.reply.Reply.{Reply}
-use Rattle.sftp_model.specs.FileMachine.{Machine}
 use Rattle.sftp_history.specs.declared.call.Lane.{Lane}
 use Rattle.sftp_history.specs.declared.report.Report.{Report}
 use Rattle.sftp_history.specs.declared.script.Script.{Script}
 use Rattle.sftp_history.specs.declared.turn.Turn.{Turn}
 use Rattle.sftp_history.specs.Lanes.{are_ok}
 use Rattle.sftp_history.specs.Settings.{greeting, setting_of}
-use Rattle.sftp_history.specs.Served.{Serves}
 use Rattle.sftp_history.specs.Shown.{Shows}
-use Rattle.sftp_history.specs.Texts.{text_of, file_lines}
+use Rattle.sftp_history.specs.Texts.{dir_lines, file_lines, text_of, text_with_files}
 use Rattle.sftp_driver.specs.Causes.{Cause}
 use Rattle.sftp_driver.specs.Logs.{Ends}
 use Rattle.sftp_driver.specs.Session.{Given, IsFixed}
-use Rattle.sftp_map_server.specs.Serving.{Desk, Serving, IsServing, version_reply}
+use Rattle.sftp_tree.specs.FirstTree.{FirstFile}
+use Rattle.sftp_map_server.specs.Serving.{IsServing, Server, Serving, first_desk, opened, version_reply}
 use Rattle.sftp_served.specs.Unopened.{IsUnopened, unopened}
 use Rattle.sftp_served.proofs.Whole.{version_is_told, run_is_served, stops_for_memory}
 use Rattle.sftp_lanes.specs.Reported.{IsReport}
 use Rattle.sftp_text.specs.Traces.{journal_of}
 use Rattle.sftp_text.proofs.TraceLaws.{trace_text}
-use Rattle.sftp_cli.specs.Printed.{IsPrinted, IsServedRun}
+use Rattle.sftp_cli.specs.Printed.{IsPrinted, IsServedReport, IsTextOver}
 
 -- a value in Some
 some_is : {A : Type 0} (x y : A) → Some x ≡ Some y → x ≡ y
@@ -39,8 +38,7 @@ pub from_empty : {A : Type 0} (R : List A → List A → Type 0) (before now : L
 from_empty R before now none h = subst (λ b. R b now) none h
 
 pub served_report : (lanes : List Lane) (options : SftpOptions) (turns : List Turn) (old now : Serving) (r : Report) → are_ok lanes ≡ true → IsUnopened old.first → old.log ≡ [] → now.first ≡ old.first
-    → IsServing now.first now.now now.log now.ended → IsReport lanes options turns (Some old.log) (Some now.log) r
-    → IsServedRun lanes options turns old.first now.now.desk.granting.machine r
+    → IsServing now.first now.now now.log now.ended → IsReport lanes options turns (Some old.log) (Some now.log) r → IsServedReport lanes options turns now r
 served_report lanes options turns old now r ok new none same serving report =
     let given : Given = record { lanes = lanes; options = options } in
     let hello : Option Reply = Some (greeting report.extensions) in
@@ -49,13 +47,13 @@ served_report lanes options turns old now r ok new none same serving report =
     let fresh : IsUnopened now.first = subst IsUnopened (sym same) new in
     let shown : Shows (greeting report.extensions) report.past [] now.log = from_empty (Shows (greeting report.extensions) report.past) old.log now.log none report.log in
     let told = version_is_told given hello s report.past now fresh serving fixed shown in
-    let served = run_is_served given hello s turns report.past now fresh serving ok report.run fixed shown in
     record {
       extensions = report.extensions;
       past = report.past;
       run = report.run;
-      version = some_is (greeting report.extensions) (version_reply now.first.granting.config) told ∙ ap (λ (d : Desk). version_reply d.granting.config) same;
-      served = subst (λ (d : Desk). Serves d.granting.config d.choices d.granting.machine report.past now.now.desk.granting.machine) same served;
+      version = some_is (greeting report.extensions) (version_reply now.first.desk.machine.config) told;
+      shown = shown;
+      served = run_is_served given hello s turns report.past now fresh serving ok report.run fixed shown;
       closed = report.closed;
       trace = report.trace;
       outcomes = report.outcomes;
@@ -82,28 +80,39 @@ only_for_memory lanes options old now e new none same serving ends why =
     let given : Given = record { lanes = lanes; options = options } in
     stops_for_memory given now e (subst IsUnopened (sym same) new) serving (from_empty (Ends given now.ended e) old.log now.log none ends) (cause_of e why)
 
--- the text of a run over a server of a script's files
-pub printed_run : (script : Script) (server : Serving) (report : Report) (left : Machine) (text : List ℕ) → server ≡ unopened script.files script.server script.choices
-    → IsServedRun script.lanes script.options script.turns server.first left report → text ≡ text_of (journal_of report.trace) report.outcomes ++ file_lines left → IsPrinted script text
-printed_run script server report left text is run written =
-    let first : server.first ≡ (unopened script.files script.server script.choices).first = ap (λ (s : Serving). s.first) is in
-    record {
-      extensions = run.extensions;
-      past = run.past;
-      left = left;
-      run = run.run;
-      version = run.version ∙ ap (λ (d : Desk). version_reply d.granting.config) first;
-      served = subst (λ (d : Desk). Serves d.granting.config d.choices d.granting.machine run.past left) first run.served;
-      closed = run.closed;
-      is = written ∙ ap (λ (l : List ℕ). l ++ file_lines left)
-          (ap (λ t. text_of (journal_of t) report.outcomes) run.trace ∙ trace_text run.past report.outcomes ∙ ap (λ o. text_of run.past o) run.outcomes);
-    }
+-- the text that was made of the report
+pub text_is : (lanes : List Lane) (options : SftpOptions) (turns : List Turn) (server : Serving) (report : Report) (r : Result (Vec ℕ Global) OutOfMemory) → IsServedReport lanes options turns server report
+    → IfOk r (λ text. text.items ≡ text_of (journal_of report.trace) report.outcomes ++ file_lines server.now.desk.machine.tree ++ dir_lines server.now.desk.machine.tree)
+    → IfOk r (λ text. IsTextOver lanes options turns server text.items)
+text_is lanes options turns server report (Ok text) run written = record {
+  report = report;
+  run = run;
+  is = written ∙ ap (λ (l : List ℕ). l ++ file_lines server.now.desk.machine.tree ++ dir_lines server.now.desk.machine.tree)
+      (ap (λ t. text_of (journal_of t) report.outcomes) run.trace ∙ trace_text run.past report.outcomes);
+}
+text_is lanes options turns server report (Err e) run written = tt
 
--- the same, where there was memory for the text, and the parts of the script are told apart
-pub printed_if : (script : Script) (files : List (List ℕ × List ℕ)) (lanes : List Lane) (turns : List Turn) (server : Serving) (report : Report) (left : Machine) (r : Result (Vec ℕ Global) OutOfMemory)
-    → files ≡ script.files → lanes ≡ script.lanes → turns ≡ script.turns → server ≡ unopened files script.server script.choices → IsServedRun lanes script.options turns server.first left report
-    → IfOk r (λ text. text.items ≡ text_of (journal_of report.trace) report.outcomes ++ file_lines left) → IfOk r (λ text. IsPrinted script text.items)
-printed_if script files lanes turns server report left (Ok text) f l t is run written =
-    printed_run script server report left text.items (is ∙ ap (λ (x : List (List ℕ × List ℕ)). unopened x script.server script.choices) f)
-    (subst (λ (x : List Turn). IsServedRun script.lanes script.options x server.first left report) t (subst (λ (x : List Lane). IsServedRun x script.options turns server.first left report) l run)) written
-printed_if script files lanes turns server report left (Err e) f l t is run written = tt
+-- over the server of a script, which was kept, it is the script's
+pub printed_if : (script : Script) (kept : Option Serving) (files : List FirstFile) (dirs : List (List ℕ)) (lanes : List Lane) (turns : List Turn) (old now : Serving) (r : Result (Vec ℕ Global) OutOfMemory)
+    → files ≡ script.files → dirs ≡ script.dirs → lanes ≡ script.lanes → turns ≡ script.turns → old ≡ unopened files dirs script.server script.choices script.picks → now.first ≡ old.first → kept ≡ Some now
+    → IfOk r (λ text. IsTextOver lanes script.options turns now text.items) → IfOk r (λ text. IsPrinted kept script text.items)
+printed_if script kept files dirs lanes turns old now (Ok text) f d l t is same k run =
+    let first : now.first ≡ opened (first_desk script.files script.dirs script.server script.choices) script.picks =
+    same ∙ (ap (λ (s : Serving). s.first) is
+    ∙ (ap (λ (x : List FirstFile). opened (first_desk x dirs script.server script.choices) script.picks) f ∙ ap (λ (x : List (List ℕ)). opened (first_desk script.files x script.server script.choices) script.picks) d)) in
+    let over : IsTextOver script.lanes script.options script.turns now text.items =
+    subst (λ (x : List Turn). IsTextOver script.lanes script.options x now text.items) t (subst (λ (x : List Lane). IsTextOver x script.options turns now text.items) l run) in
+    record {
+      extensions = over.run.extensions;
+      past = over.run.past;
+      server = now;
+      is_kept = k;
+      first = first;
+      run = over.run.run;
+      version = over.run.version ∙ ap (λ (x : Server). version_reply x.desk.machine.config) first;
+      shown = over.run.shown;
+      served = over.run.served;
+      closed = over.run.closed;
+      is = over.is ∙ ap (λ o. text_with_files over.run.past o now.now.desk.machine.tree) over.run.outcomes;
+    }
+printed_if script kept files dirs lanes turns old now (Err e) f d l t is same k run = tt

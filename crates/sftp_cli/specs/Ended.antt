@@ -5,6 +5,7 @@ use Rattle.sftp_history.specs.declared.reason.Reason.{Reason}
 use Rattle.sftp_history.specs.declared.script.Script.{Script}
 use Rattle.sftp_history.specs.Scripts.{script_of}
 use Rattle.sftp_link.specs.Told.{Told, Same, Went, WentLess, ReadUpTo}
+use Rattle.sftp_map_server.specs.Serving.{Serving}
 use Rattle.sftp_cli.specs.declared.failure.Failure.{Failure}
 use Rattle.sftp_cli.specs.declared.failure.Failure.TheVariants.{SourceFailed, SinkFailed, OutOfMemory, DialFailed}
 use Rattle.sftp_cli.specs.Dialled.{LastLink, IsShown, IsStopped, RunsOver}
@@ -90,9 +91,9 @@ abbrev pub Unfinished : (Script → ℕ → List ℕ → Type 0) → ℕ → Opt
 Unfinished right status left left_now written written_now = (why : Failure) → status ≡ code why → Stopped right why left left_now written written_now
 
 -- how the program ends with a script over a server in memory, where it isn't run whole
-pub record EndsInMemory (status : ℕ) (left left_now written written_now : Option (List ℕ)) : Type 0 where
+pub record EndsInMemory (kept : Option Serving) (status : ℕ) (left left_now written written_now : Option (List ℕ)) : Type 0 where
   pub refused : status ≡ 2 → Refused left left_now written written_now
-  pub unfinished : Unfinished RunsInMemory status left left_now written written_now
+  pub unfinished : Unfinished (RunsInMemory kept) status left left_now written written_now
 
 -- how the program ends with a script over a link
 pub record EndsOverLink (last : LastLink) (status : ℕ) (left left_now written written_now : Option (List ℕ)) : Type 0 where

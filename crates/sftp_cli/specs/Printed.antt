@@ -1,7 +1,6 @@
 -- What the program has to write for the bytes of a script.
 use Rattle.std.specs.Prelude.{◌≡◌, ℕ, List, [], ◌++◌, length, codes, Option, Some, None, Result, Ok, Err}
 use Rattle.sftp_core.specs.declared.options.SftpOptions.{SftpOptions}
-use Rattle.sftp_model.specs.FileMachine.{Machine}
 use Rattle.sftp_model.specs.declared.flags.Extensions.{Extensions}
 use Rattle.sftp_history.specs.declared.call.Lane.{Lane}
 use Rattle.sftp_history.specs.declared.entry.Entry.{Entry}
@@ -13,42 +12,59 @@ use Rattle.sftp_history.specs.declared.turn.Turn.{Turn}
 use Rattle.sftp_history.specs.Closes.{AreClosed}
 use Rattle.sftp_history.specs.Readings.{trace_of, outcomes_below}
 use Rattle.sftp_history.specs.Runs.{IsRun}
-use Rattle.sftp_history.specs.Served.{Serves}
 use Rattle.sftp_history.specs.Settings.{greeting, setting_of}
-use Rattle.sftp_history.specs.Texts.{line, number_text, file_text, text_with_files}
-use Rattle.sftp_map_server.specs.Granting.{machine_of}
-use Rattle.sftp_map_server.specs.Serving.{Desk, version_reply}
+use Rattle.sftp_history.specs.Shown.{Shows}
+use Rattle.sftp_history.specs.Texts.{dir_text, file_text, line, number_text, text_with_files}
+use Rattle.sftp_map_server.specs.Serving.{Serving, first_desk, opened, version_reply}
+use Rattle.sftp_served.specs.Unopened.{IsServedRun}
 
 -- ---- a run
 
 -- The text is that of a run of the script's lanes: the frames of its journal, the outcomes, which are the values of the
--- plans, and the files that are left. VERSION told what the script's server offers, the journal was served from the
--- script's files to those that are left, and each handle was closed exactly as often as it was granted. Picks are passed over.
-pub record IsPrinted (script : Script) (text : List ℕ) : Type 0 where
+-- plans, and the files and directories that are left. It ran over a server of the script's files and directories, choices and
+-- picks, which was kept: VERSION told what the server offers, the server's log shows VERSION and the journal, the replies are
+-- those of one sequential run of the file machine, in the order that the picks say and under handles that are numbered by
+-- the grants, and each handle was closed exactly as often as it was granted.
+pub record IsPrinted (kept : Option Serving) (script : Script) (text : List ℕ) : Type 0 where
   pub extensions : Extensions
   pub past : List Entry
-  pub left : Machine
+  pub server : Serving
+  pub is_kept : kept ≡ Some server
+  pub first : server.first ≡ opened (first_desk script.files script.dirs script.server script.choices) script.picks
   pub run : IsRun (setting_of script.lanes script.options extensions past) script.turns past
   pub version : greeting extensions ≡ version_reply script.server
-  pub served : Serves script.server script.choices (machine_of script.files) past left
+  pub shown : Shows (greeting extensions) past [] server.log
+  pub served : IsServedRun server.first past server.now.desk.machine.tree
   pub closed : AreClosed past
-  pub is : text ≡ text_with_files past (outcomes_below past (length script.lanes)) left
+  pub is : text ≡ text_with_files past (outcomes_below past (length script.lanes)) server.now.desk.machine.tree
 
--- the report is that of a run of lanes, which a server served from its first machine to the machine that is left
-pub record IsServedRun (lanes : List Lane) (options : SftpOptions) (turns : List Turn) (first : Desk) (left : Machine) (report : Report) : Type 0 where
+-- the report is that of a run of lanes over this server, whose log shows it
+pub record IsServedReport (lanes : List Lane) (options : SftpOptions) (turns : List Turn) (server : Serving) (report : Report) : Type 0 where
   pub extensions : Extensions
   pub past : List Entry
   pub run : IsRun (setting_of lanes options extensions past) turns past
-  pub version : greeting extensions ≡ version_reply first.granting.config
-  pub served : Serves first.granting.config first.choices first.granting.machine past left
+  pub version : greeting extensions ≡ version_reply server.first.desk.machine.config
+  pub shown : Shows (greeting extensions) past [] server.log
+  pub served : IsServedRun server.first past server.now.desk.machine.tree
   pub closed : AreClosed past
   pub trace : report.trace ≡ trace_of past
   pub outcomes : report.outcomes ≡ outcomes_below past (length lanes)
+
+-- the text is that of a run of lanes over this server, whose log shows it
+pub record IsTextOver (lanes : List Lane) (options : SftpOptions) (turns : List Turn) (server : Serving) (text : List ℕ) : Type 0 where
+  pub report : Report
+  pub run : IsServedReport lanes options turns server report
+  pub is : text ≡ text_with_files run.past report.outcomes server.now.desk.machine.tree
 
 -- the line of a file, where there is one
 abbrev pub file_text_of : Option (List ℕ × List ℕ) → List ℕ
 file_text_of None = []
 file_text_of (Some file) = file_text file.0 file.1
+
+-- the line of a directory, where there is one
+abbrev pub dir_text_of : Option (List ℕ) → List ℕ
+dir_text_of None = []
+dir_text_of (Some name) = dir_text name
 
 -- ---- a refusal
 
@@ -71,9 +87,9 @@ refusal_line number why = line (codes "line " ++ number_text number ++ codes " "
 
 -- ---- both
 
--- the status and the text of a run over a server in memory
-abbrev pub RunsInMemory : Script → ℕ → List ℕ → Type 0
-RunsInMemory script status text = (status ≡ 0) × IsPrinted script text
+-- the status and the text of a run over a server in memory that was kept
+abbrev pub RunsInMemory : Option Serving → Script → ℕ → List ℕ → Type 0
+RunsInMemory kept script status text = (status ≡ 0) × IsPrinted kept script text
 
 -- the status and the text for bytes that were read: what is right for the script that they are, or 2 and why they are none
 abbrev pub IsAnswer : (Script → ℕ → List ℕ → Type 0) → Result Script (ℕ × Reason) → ℕ → List ℕ → Type 0

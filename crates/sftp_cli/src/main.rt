@@ -4,6 +4,7 @@
 mod answer;
 mod dialled;
 mod failure;
+mod laws;
 mod printed;
 mod refusal;
 mod run;
@@ -11,6 +12,7 @@ mod script;
 #[cfg(test)]
 mod tests;
 
+pub use laws::scripts_fix_texts;
 pub use run::run;
 use sftp_link::{ReadSource, UnixDial, WriteSink};
 use std::env;
@@ -29,5 +31,13 @@ fn main(rt: HostRuntime) -> ExitCode {
     let mut source = ReadSource::new(rt.stdin());
     let mut sink = WriteSink::new(rt.stdout());
     let mut dial = UnixDial::new(&rt);
-    ExitCode::from(run(rt.alloc(), &words, &mut source, &mut sink, &mut dial))
+    let mut kept = None;
+    ExitCode::from(run(
+        rt.alloc(),
+        &words,
+        &mut source,
+        &mut sink,
+        &mut dial,
+        &mut kept,
+    ))
 }

@@ -1,13 +1,14 @@
-// A script that was read is run over a server of its files, and the text of the run is made.
-ghost use Rattle.std.specs.Prelude.{◌≡◌, ◌<◌, ◌++◌, ◌^◌, [], true, length, IfOk, OnOk};
+// A script that was read is run over a server of its files and directories, and the text of the run is made.
+ghost use Rattle.std.specs.Prelude.{◌≡◌, ◌++◌, [], true, IfOk, OnOk};
 ghost use Rattle.sftp_history.specs.Lanes.{are_ok};
-ghost use Rattle.sftp_history.specs.Texts.{file_lines, text_of};
-ghost use Rattle.sftp_map_server.specs.Order.{file_at};
+ghost use Rattle.sftp_history.specs.Texts.{dir_lines, file_lines, text_of};
 ghost use Rattle.sftp_model.specs.Fits.{FitsSet};
 ghost use Rattle.sftp_model.specs.declared.error.Error.TheVariants as errors;
+ghost use Rattle.sftp_tree.specs.FirstTree.{may_begin};
+ghost use Rattle.sftp_tree.specs.Listing.{dir_at, file_at};
 ghost use Rattle.sftp_served.specs.Unopened.{IsUnopened};
 ghost use Rattle.sftp_text.specs.Traces.{journal_of};
-ghost use Rattle.sftp_cli.specs.Printed.{IsPrinted, IsServedRun, file_text_of};
+ghost use Rattle.sftp_cli.specs.Printed.{IsPrinted, IsServedReport, IsTextOver, dir_text_of, file_text_of};
 
 use sftp_core::SftpOptions;
 use sftp_history::{Lane, Report, Script, Turn};
@@ -15,7 +16,7 @@ use sftp_lanes::run_lanes;
 use sftp_map_server::MapServer;
 use sftp_model::Error;
 use sftp_served::new_server;
-use sftp_text::{traces_keep_texts, write_file, write_text};
+use sftp_text::{traces_keep_texts, write_dir, write_file, write_text};
 use ssh_encoding::OutOfMemory;
 use std::alloc::Global;
 
@@ -41,7 +42,8 @@ fn served_run(
     requires lanes { are_ok lanes.now ≡ true }
     requires unopened { IsUnopened server.old.first }
     requires quiet { server.old.log ≡ [] }
-    ensures { IfOk result (λ report. IsServedRun lanes.now options.now turns.now server.old.first server.new.now.desk.granting.machine report) }
+    ensures run { IfOk result (λ report. IsServedReport lanes.now options.now turns.now server.new report) }
+    ensures first { server.new.first ≡ server.old.first }
 {
     match run_lanes(alloc, server, lanes, turns, options) {
         Ok(report) => {
@@ -62,7 +64,7 @@ fn write_file_at(
     k: u64,
     out: &mut Vec<u8>,
 ) -> Result<(), OutOfMemory>
-    ensures { OnOk result (out.new.items ≡ out.old.items ++ file_text_of (file_at server.now.now.desk.granting.machine k)) }
+    ensures { OnOk result (out.new.items ≡ out.old.items ++ file_text_of (file_at server.now.now.desk.machine.tree k)) }
 {
     match server.file(k) {
         Some((name, content)) => write_file(alloc, name, content, out),
@@ -70,10 +72,10 @@ fn write_file_at(
     }
 }
 
-/// Appends a line for each file, in the order of their names by bytes.
+/// Appends a line for each file, in the order of the written names by bytes.
 #[tactic(auto, using(crate::proofs::Files::file_step, crate::proofs::Files::files_end))]
 fn write_files(alloc: Global, server: &MapServer, out: &mut Vec<u8>) -> Result<(), OutOfMemory>
-    ensures { OnOk result (out.new.items ≡ out.old.items ++ file_lines server.now.now.desk.granting.machine) }
+    ensures { OnOk result (out.new.items ≡ out.old.items ++ file_lines server.now.now.desk.machine.tree) }
 {
     for k in 0..server.file_count() {
         write_file_at(alloc, server, k, out)?;
@@ -81,45 +83,105 @@ fn write_files(alloc: Global, server: &MapServer, out: &mut Vec<u8>) -> Result<(
     Ok(())
 }
 
-/// The text of a report, and of the files that a server has.
+/// Appends the line of directory k.
+fn write_dir_at(
+    alloc: Global,
+    server: &MapServer,
+    k: u64,
+    out: &mut Vec<u8>,
+) -> Result<(), OutOfMemory>
+    ensures { OnOk result (out.new.items ≡ out.old.items ++ dir_text_of (dir_at server.now.now.desk.machine.tree k)) }
+{
+    match server.dir(k) {
+        Some(name) => write_dir(alloc, name, out),
+        None => Ok(()),
+    }
+}
+
+/// Appends a line for each directory, in the order of the written names by bytes.
+#[tactic(auto, using(crate::proofs::Files::dir_step, crate::proofs::Files::dirs_end))]
+fn write_dirs(alloc: Global, server: &MapServer, out: &mut Vec<u8>) -> Result<(), OutOfMemory>
+    ensures { OnOk result (out.new.items ≡ out.old.items ++ dir_lines server.now.now.desk.machine.tree) }
+{
+    for k in 0..server.dir_count() {
+        write_dir_at(alloc, server, k, out)?;
+    }
+    Ok(())
+}
+
+/// The text of a report, and of the files and directories that a server has.
 fn text_with_files(
     alloc: Global,
     report: &Report,
     server: &MapServer,
 ) -> Result<Vec<u8>, OutOfMemory>
-    ensures { IfOk result (λ text. text.items ≡ text_of (journal_of report.now.trace) report.now.outcomes ++ file_lines server.now.now.desk.granting.machine) }
+    ensures { IfOk result (λ text. text.items ≡ text_of (journal_of report.now.trace) report.now.outcomes
+        ++ file_lines server.now.now.desk.machine.tree ++ dir_lines server.now.now.desk.machine.tree) }
 {
     let mut text = Vec::new(alloc);
     write_text(alloc, report, &mut text)?;
     write_files(alloc, server, &mut text)?;
+    write_dirs(alloc, server, &mut text)?;
     Ok(text)
 }
 
-/// Runs a script over a server of its files, and gives the text of the run: its frames, the outcomes, and the files that
-/// are left. Its picks are passed over: the server answers in the order of the requests.
-pub(crate) fn text_of_run(alloc: Global, script: Script) -> Result<Vec<u8>, OutOfMemory>
+/// Runs lanes over a server, and gives the text of the run: its frames, the outcomes, and the files and directories that are
+/// left.
+fn text_over(
+    alloc: Global,
+    server: &mut MapServer,
+    lanes: &[Lane],
+    turns: &[Turn],
+    options: &SftpOptions,
+) -> Result<Vec<u8>, OutOfMemory>
+    requires lanes { are_ok lanes.now ≡ true }
+    requires unopened { IsUnopened server.old.first }
+    requires quiet { server.old.log ≡ [] }
+    ensures text { IfOk result (λ text. IsTextOver lanes.now options.now turns.now server.new text.items) }
+    ensures first { server.new.first ≡ server.old.first }
+{
+    let report = served_run(alloc, server, lanes, turns, options)?;
+    traces_keep_texts();
+    text_with_files(alloc, &report, server)
+}
+
+/// Runs a script over a server of its files and directories, and gives the text of the run. The server is left in `kept`, also
+/// where the run stopped for want of memory.
+pub(crate) fn text_of_run(
+    alloc: Global,
+    script: Script,
+    kept: &mut Option<MapServer>,
+) -> Result<Vec<u8>, OutOfMemory>
     requires lanes { are_ok script.lanes ≡ true }
-    requires files { length script.files < 2 ^ 32 }
+    requires files { may_begin script.files script.dirs ≡ true }
     requires known { FitsSet script.server.extensions.0 }
-    ensures { IfOk result (λ text. IsPrinted script text.items) }
+    ensures { IfOk result (λ text. IsPrinted kept.new script text.items) }
 {
     let Script {
         options,
         server: config,
         files,
+        dirs,
         choices,
+        picks,
         lanes,
         turns,
-        ..
     } = script;
-    let mut server = new_server(alloc, files.as_slice(), config, choices)?;
-    let report = served_run(
+    let mut server = new_server(
+        alloc,
+        files.as_slice(),
+        dirs.as_slice(),
+        config,
+        choices,
+        picks,
+    )?;
+    let text = text_over(
         alloc,
         &mut server,
         lanes.as_slice(),
         turns.as_slice(),
         &options,
-    )?;
-    traces_keep_texts();
-    text_with_files(alloc, &report, &server)
+    );
+    *kept = Some(server);
+    text
 }

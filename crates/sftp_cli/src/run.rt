@@ -1,4 +1,4 @@
-ghost use Rattle.std.specs.Prelude.{◌≡◌, ◌<◌, ◌⊎◌, ◌-◌, ◌^◌, true, false, map};
+ghost use Rattle.std.specs.Prelude.{◌≡◌, ◌<◌, ◌⊎◌, ◌-◌, ◌^◌, None, true, false, map};
 ghost use Rattle.std.specs.String.{string_bytes};
 ghost use Rattle.sftp_cli.specs.Words.{Writes, is_script, is_unix, takes_script, status_of, text_of};
 ghost use Rattle.sftp_cli.specs.Dialled.{last_link};
@@ -8,20 +8,26 @@ ghost use Rattle.sftp_cli.specs.Ended.{Ran, EndsInMemory, EndsOverLink, DialsLas
 use crate::answer::{Answer, answer_to, is_script, unix_path};
 use crate::script::{run_script, run_unix, write_whole};
 use sftp_link::{Dial, Sink, Source};
+use sftp_map_server::MapServer;
 use std::alloc::Global;
 
 /// The status of a script over a server in memory.
 #[tactic(auto, using(crate::proofs::Ending::endings, crate::proofs::Ending::in_memory))]
-fn end_script<S: Source, K: Sink>(alloc: Global, source: &mut S, sink: &mut K) -> u8
+fn end_script<S: Source, K: Sink>(
+    alloc: Global,
+    source: &mut S,
+    sink: &mut K,
+    kept: &mut Option<MapServer>,
+) -> u8
     requires source { S.faults source.old < 2 ^ 64 - 1 }
     requires sink { K.faults sink.old < 2 ^ 64 - 1 }
-    ensures headline { result ≡ 0 → Ran IsPrinted (S.left source.old) (S.left source.new) (K.written sink.old) (K.written sink.new) }
-    ensures ends { EndsInMemory result (S.left source.old) (S.left source.new) (K.written sink.old) (K.written sink.new) }
+    ensures headline { result ≡ 0 → Ran (λ script text. IsPrinted kept.new script text) (S.left source.old) (S.left source.new) (K.written sink.old) (K.written sink.new) }
+    ensures ends { EndsInMemory kept.new result (S.left source.old) (S.left source.new) (K.written sink.old) (K.written sink.new) }
     ensures complete { S.faults source.new ≡ S.faults source.old → K.faults sink.new ≡ K.faults sink.old → Completes IsWhole result (S.left source.old) }
     ensures causes { HasCause 3 result (S.faults source.old) (S.faults source.new) × HasCause 4 result (K.faults sink.old) (K.faults sink.new) }
     ensures status { IsStatus result }
 {
-    match run_script(alloc, source, sink) {
+    match run_script(alloc, source, sink, kept) {
         Ok(status) => status,
         Err(failure) => failure.status(),
     }
@@ -71,11 +77,12 @@ fn end_answer<K: Sink>(sink: &mut K, answer: Answer) -> u8
 
 /// Does all that the program does, by the words of its command line without its name, and answers the status to end with.
 ///
-/// With the one word `script` it reads the source to its end and runs it as a script over a server of the script's files in
-/// memory. With `unix` and a path it runs the script's lanes over a link to the server that listens there; the script's files,
+/// With the one word `script` it reads the source to its end and runs it as a script over a server of the script's files and
+/// directories in memory, by its choices and picks. The server is left in `kept`, which holds nothing else: its log shows the
+/// frames of the run. With `unix` and a path it runs the script's lanes over a link to the server that listens there; the script's files,
 /// server, choices and picks are passed over then, and the link is given back to the dial, whatever came of the run. It is 0
 /// where the whole text of the run was written; 1, with `unix` alone, where an error stopped the run and the line that names it
-/// was written; 2 where the bytes are no script and the line that says why was written. The picks of a script are passed over.
+/// was written; 2 where the bytes are no script and the line that says why was written.
 /// `--help` and `--version` are answered with 0 and other words with 2. It is 3 where the source failed, 4 where the sink failed,
 /// 5 where there was no memory, and 6 where the dial failed; with 4 and 5 a front of the text was written, or nothing.
 #[tactic(auto, using(crate::proofs::Ending::dispatch))]
@@ -85,14 +92,16 @@ pub fn run<S: Source, K: Sink, D: Dial>(
     source: &mut S,
     sink: &mut K,
     dial: &mut D,
+    kept: &mut Option<MapServer>,
 ) -> u8
     requires source { S.faults source.old < 2 ^ 64 - 1 }
     requires sink { K.faults sink.old < 2 ^ 64 - 1 }
     requires dial { D.faults dial.old < 2 ^ 64 - 1 }
     ensures headline { is_script (map string_bytes words.now) ≡ true → result ≡ 0
-        → Ran IsPrinted (S.left source.old) (S.left source.new) (K.written sink.old) (K.written sink.new) }
+        → Ran (λ script text. IsPrinted kept.new script text) (S.left source.old) (S.left source.new) (K.written sink.old) (K.written sink.new) }
     ensures in_memory { is_script (map string_bytes words.now) ≡ true → (dial.new ≡ dial.old)
-        × EndsInMemory result (S.left source.old) (S.left source.new) (K.written sink.old) (K.written sink.new) }
+        × EndsInMemory kept.new result (S.left source.old) (S.left source.new) (K.written sink.old) (K.written sink.new) }
+    ensures kept { is_script (map string_bytes words.now) ≡ false → kept.new ≡ None }
     ensures over_link { is_unix (map string_bytes words.now) ≡ true
         → EndsOverLink (last_link (D.last dial.new) (D.last_faults dial.new) (D.last_ended dial.new))
         result (S.left source.old) (S.left source.new) (K.written sink.old) (K.written sink.new) }
@@ -110,8 +119,9 @@ pub fn run<S: Source, K: Sink, D: Dial>(
         × HasCause 4 result (K.faults sink.old) (K.faults sink.new) × HasCause 6 result (D.faults dial.old) (D.faults dial.new) }
     ensures status { IsStatus result ⊎ ((is_unix (map string_bytes words.now) ≡ true) × ((result ≡ 1) ⊎ (result ≡ 6))) }
 {
+    *kept = None;
     if is_script(words) {
-        end_script(alloc, source, sink)
+        end_script(alloc, source, sink, kept)
     } else if let Some(path) = unix_path(words) {
         end_unix(alloc, path, source, sink, dial)
     } else {

@@ -1,5 +1,5 @@
 // The bytes of a script are read, run or refused, and the answer is written.
-ghost use Rattle.std.specs.Prelude.{◌≡◌, ◌<◌, ◌⊎◌, ◌-◌, ◌^◌, true, length, IfOk, IfErr, List, ℕ, Ok};
+ghost use Rattle.std.specs.Prelude.{◌≡◌, ◌<◌, ◌⊎◌, ◌-◌, ◌^◌, true, IfOk, IfErr, List, ℕ, Ok};
 ghost use Rattle.sftp_link.specs.Told.{Told, ReadUpTo, Went, WentLess};
 ghost use Rattle.sftp_history.specs.Lanes.{are_ok};
 ghost use Rattle.sftp_history.specs.Scripts.{script_of};
@@ -15,7 +15,8 @@ use crate::printed::text_of_run;
 use crate::refusal::refusal_line;
 use sftp_history::Reason;
 use sftp_link::{DeviceError, Dial, Sink, Source, read_up_to, write_all};
-use sftp_script::{ScriptError, read_script};
+use sftp_map_server::MapServer;
+use sftp_script::{ScriptError, read_script, scripts_may_begin};
 use sftp_served::scripts_are_known;
 use ssh_encoding::OutOfMemory;
 use std::alloc::Global;
@@ -36,10 +37,9 @@ pub(crate) struct Reply {
     pub(crate) text: Vec<u8>,
 }
 
-/// A script that was read has lanes that a session can be given, and no more files than a server can have.
+/// A script that was read has lanes that a session can be given.
 fn scripts_are_fit()
-    ensures lanes { (bytes : List ℕ) (script : Script) → script_of bytes ≡ Ok script → are_ok script.lanes ≡ true }
-    ensures files { (bytes : List ℕ) (script : Script) → script_of bytes ≡ Ok script → length script.files < 2 ^ 32 }
+    ensures { (bytes : List ℕ) (script : Script) → script_of bytes ≡ Ok script → are_ok script.lanes ≡ true }
 {}
 
 /// The bytes of a script, and one more than a script may have at most.
@@ -68,15 +68,20 @@ fn refuse(alloc: Global, line: u64, reason: Reason) -> Result<Reply, OutOfMemory
     })
 }
 
-/// The answer to the bytes of a script, over a server of its files in memory.
-fn reply_in_memory(alloc: Global, bytes: &[u8]) -> Result<Reply, OutOfMemory>
-    ensures { IfOk result (λ reply. IsAnswer RunsInMemory (script_of bytes.now) reply.status reply.text.items) }
+/// The answer to the bytes of a script, over a server of its files in memory, which is left in `kept`.
+fn reply_in_memory(
+    alloc: Global,
+    bytes: &[u8],
+    kept: &mut Option<MapServer>,
+) -> Result<Reply, OutOfMemory>
+    ensures { IfOk result (λ reply. IsAnswer (RunsInMemory kept.new) (script_of bytes.now) reply.status reply.text.items) }
 {
     match read_script(alloc, bytes) {
         Ok(script) => {
             scripts_are_known();
             scripts_are_fit();
-            let text = text_of_run(alloc, script)?;
+            scripts_may_begin();
+            let text = text_of_run(alloc, script, kept)?;
             Ok(Reply { status: RAN, text })
         }
         Err(ScriptError::OutOfMemory) => Err(OutOfMemory),
@@ -130,22 +135,23 @@ pub(crate) fn write_whole<K: Sink>(sink: &mut K, text: &[u8]) -> Result<(), Fail
 }
 
 /// Reads a script, runs it over a server of its files in memory and writes the text, or writes why it is refused. Answers the
-/// status.
+/// status, and leaves the server in `kept`.
 pub(crate) fn run_script<S: Source, K: Sink>(
     alloc: Global,
     source: &mut S,
     sink: &mut K,
+    kept: &mut Option<MapServer>,
 ) -> Result<u8, Failure>
     requires source { S.faults source.old < 2 ^ 64 - 1 }
     requires sink { K.faults sink.old < 2 ^ 64 - 1 }
-    ensures answered { IfOk result (λ status. Answered RunsInMemory status (S.left source.old) (S.left source.new) (K.written sink.old) (K.written sink.new)) }
-    ensures stopped { IfErr result (λ e. Stopped RunsInMemory e (S.left source.old) (S.left source.new) (K.written sink.old) (K.written sink.new)) }
+    ensures answered { IfOk result (λ status. Answered (RunsInMemory kept.new) status (S.left source.old) (S.left source.new) (K.written sink.old) (K.written sink.new)) }
+    ensures stopped { IfErr result (λ e. Stopped (RunsInMemory kept.new) e (S.left source.old) (S.left source.new) (K.written sink.old) (K.written sink.new)) }
     ensures source { SourceCause result (S.faults source.old) (S.faults source.new) }
     ensures sink { SinkCause result (K.faults sink.old) (K.faults sink.new) }
     ensures dial { DialCause result 0 0 }
 {
     let bytes = read_bytes(alloc, source)?;
-    let reply = reply_in_memory(alloc, &bytes)?;
+    let reply = reply_in_memory(alloc, &bytes, kept)?;
     write_whole(sink, &reply.text)?;
     Ok(reply.status)
 }

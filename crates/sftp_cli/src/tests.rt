@@ -39,7 +39,8 @@ fn ends_so(alloc: Global, wanted: &Run, dial: &mut MemoryDial) -> Result<bool, A
     let reads = Vec::from_slice(alloc, wanted.reads)?;
     let mut source = MemorySource::new(script, reads);
     let mut sink = MemorySink::new(alloc, Vec::from_slice(alloc, wanted.writes)?);
-    let status = run(alloc, &words, &mut source, &mut sink, dial);
+    let mut kept = None;
+    let status = run(alloc, &words, &mut source, &mut sink, dial, &mut kept);
     Ok(status == wanted.status && sink.bytes() == wanted.text.as_bytes())
 }
 

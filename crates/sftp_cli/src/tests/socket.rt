@@ -25,7 +25,8 @@ fn call<R: Net + Drop>(runtime: R, alloc: Global, path: &str) -> Result<(u8, usi
     let mut source = MemorySource::new(Vec::from_slice(alloc, b"lane\n")?, Vec::new(alloc));
     let mut sink = MemorySink::new(alloc, Vec::new(alloc));
     let mut dial = UnixDial::new(runtime);
-    let status = run(alloc, &words, &mut source, &mut sink, &mut dial);
+    let mut kept = None;
+    let status = run(alloc, &words, &mut source, &mut sink, &mut dial, &mut kept);
     Ok((status, sink.bytes().len()))
 }
 
