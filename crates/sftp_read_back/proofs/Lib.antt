@@ -1,0 +1,4 @@
+pub mod PathLaws
+pub mod NodeLaws
+pub mod StepLaws
+pub mod ServedSteps

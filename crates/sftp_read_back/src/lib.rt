@@ -1,0 +1,7 @@
+//! What was written is read back: over a server of files and directories in memory, what the calls of a session leave
+//! in files and get from them, whatever the requests of others between theirs.
+#![tactic(auto)]
+
+mod laws;
+
+pub use laws::{served_journals_are_runs, spared_names_stay};
