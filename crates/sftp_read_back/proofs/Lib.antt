@@ -2,3 +2,9 @@ pub mod PathLaws
 pub mod NodeLaws
 pub mod StepLaws
 pub mod ServedSteps
+pub mod HandleLaws
+pub mod MoveWords
+pub mod AskedInOrder
+pub mod StayLaws
+pub mod WriteLaws
+pub mod ListLaws

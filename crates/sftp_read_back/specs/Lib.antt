@@ -1,2 +1,3 @@
 pub mod Sparing
 pub mod Steps
+pub mod CallsAmong

@@ -4,4 +4,4 @@
 
 mod laws;
 
-pub use laws::{served_journals_are_runs, spared_names_stay};
+pub use laws::{listings_give_directories, served_journals_are_runs, spared_names_stay};
