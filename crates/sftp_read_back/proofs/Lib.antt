@@ -8,3 +8,5 @@ pub mod AskedInOrder
 pub mod StayLaws
 pub mod WriteLaws
 pub mod ListLaws
+pub mod OpenLaws
+pub mod WholeWriteLaws

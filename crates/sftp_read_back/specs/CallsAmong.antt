@@ -1,15 +1,20 @@
 -- The requests of one call among those of others, and how it ended.
-use Rattle.std.specs.Prelude.{◌≡◌, ℕ, ◌⊎◌, List, [], ◌∷◌}
-use Rattle.sftp_model.specs.Numbers.{SSH_FX_OK}
+use Rattle.std.specs.Prelude.{◌≡◌, ℕ, ◌⊎◌, true, false, List, [], ◌∷◌, Option, Some, None}
+use Rattle.sftp_model.specs.Numbers.{SSH_FX_FAILURE, SSH_FX_NO_SUCH_FILE, SSH_FX_OK}
 use Rattle.sftp_model.specs.declared.config.ServerConfig.{ServerConfig}
 use Rattle.sftp_model.specs.declared.outcome.Outcome.{Outcome}
+use Rattle.sftp_model.specs.declared.outcome.Outcome.TheVariants as outcome
 use Rattle.sftp_model.specs.declared.request.Request.{Request}
 use Rattle.sftp_model.specs.declared.slot.Facts.{Facts}
 use Rattle.sftp_model.specs.declared.slot.Move.TheVariants.{Done}
 use Rattle.sftp_model.specs.declared.slot.Site.{Site}
 use Rattle.sftp_tree.specs.Changes.{Closes, Lists}
 use Rattle.sftp_tree.specs.Components.{Name}
-use Rattle.sftp_tree.specs.FileTree.{FileTree}
+use Rattle.sftp_tree.specs.FileTree.{FileTree, bytes_of, node_at, opened_at}
+use Rattle.sftp_tree.specs.declared.node.Node.{Node}
+use Rattle.sftp_tree.specs.declared.node.Node.TheVariants as node
+use Rattle.sftp_tree.specs.declared.opened.Held.{Held}
+use Rattle.sftp_tree.specs.declared.opened.Opened.TheVariants as opened
 use Rattle.sftp_calls.specs.CallPlans.{Call, next}
 use Rattle.sftp_calls.specs.Moves.{Answers, Own, handle_of}
 use Rattle.sftp_calls.specs.OwnRequests.{Extends, IsCallSoFar, oldest_first}
@@ -68,3 +73,40 @@ pub record StandsOnDirectory (config : ServerConfig) (answers : Answers) (later 
 -- the place and the request of a step
 abbrev pub asked_by : Step → ℕ × Request
 asked_by s = (s.place, s.request)
+
+-- ---- files that are open
+
+-- opened to write, and not to append
+abbrev pub ToWrite : Held → Type 0
+ToWrite held = (held.writable ≡ true) × (held.append ≡ false)
+
+abbrev pub ToRead : Held → Type 0
+ToRead held = held.readable ≡ true
+
+-- the name has a file with these bytes, and the handle has it open in this way
+pub record IsOpenTo (way : Held → Type 0) (tree : FileTree) (name : Name) (handle bytes : List ℕ) : Type 0 where
+  pub file : ℕ
+  pub is : node_at tree name ≡ Some (node.File file)
+  pub bytes_are : bytes_of tree file ≡ bytes
+  pub held : Held
+  pub opened_is : opened_at tree handle ≡ Some (opened.File held)
+  pub same : held.file ≡ file
+  pub open_so : way held
+
+-- ---- what a whole read gives
+
+-- a whole read ends with the bytes, or has reached its bound
+abbrev pub Gives : Outcome → List ℕ → Type 0
+Gives ended bytes = (ended ≡ outcome.Bytes bytes) ⊎ (ended ≡ outcome.GivenUp)
+
+-- what an OPEN to read refuses
+abbrev pub refusal_of : Option Node → ℕ
+refusal_of None = SSH_FX_NO_SUCH_FILE
+refusal_of (Some node.Directory) = SSH_FX_FAILURE
+refusal_of (Some (node.File file)) = SSH_FX_OK
+
+-- the name has no file
+abbrev pub HasNoFile : Option Node → Type 0
+HasNoFile None = Unit {0}
+HasNoFile (Some node.Directory) = Unit {0}
+HasNoFile (Some (node.File file)) = ⊥

@@ -16,7 +16,7 @@ ghost use Rattle.sftp_calls.specs.Moves.{Answers, Own};
 ghost use Rattle.sftp_calls.specs.PathPlans.{from_directory};
 ghost use Rattle.sftp_history.specs.declared.entry.Entry.{Entry};
 ghost use Rattle.sftp_history.specs.Served.{Serves};
-ghost use Rattle.sftp_read_back.specs.CallsAmong.{HasEnded, StandsOnDirectory, asked_by};
+ghost use Rattle.sftp_read_back.specs.CallsAmong.{HasEnded, StandsOnDirectory, StandsOnName, asked_by};
 ghost use Rattle.sftp_read_back.specs.Steps.{Step, after, AllSpare, HasBytes, RunOf};
 
 /// A journal that a file machine serves is a run of the machine: its requests are the steps, each at its place.
@@ -47,4 +47,15 @@ pub fn listings_give_directories()
         → IsTree tree → StandsOnDirectory config answers later tree first steps
         → HasEnded (call.Names path bound) site facts (asked_by first ∷ later) answers (outcome.Names entries)
         → ListOnce entries }
+{}
+
+/// A whole write that ended well left a file with its bytes under its name, whatever others did between its requests
+/// and after them, as long as they spared the name.
+pub fn whole_writes_leave_their_bytes()
+    ensures { (config : ServerConfig) (answers : Answers) (name : Name) (path bytes : List ℕ) (site : Site)
+        (facts : Facts) (later : Own) (tree : FileTree) (first : Step) (steps : List Step)
+        → IsWellFormed tree → components (from_directory site path) ≡ name
+        → StandsOnName config answers name later tree first steps
+        → HasEnded (call.FsWrite path bytes) site facts (asked_by first ∷ later) answers outcome.Done
+        → HasBytes (after config tree (first ∷ steps)) name bytes }
 {}

@@ -4,4 +4,4 @@
 
 mod laws;
 
-pub use laws::{listings_give_directories, served_journals_are_runs, spared_names_stay};
+pub use laws::{listings_give_directories, served_journals_are_runs, spared_names_stay, whole_writes_leave_their_bytes};
