@@ -10,3 +10,11 @@ pub mod WriteLaws
 pub mod ListLaws
 pub mod OpenLaws
 pub mod WholeWriteLaws
+pub mod PieceLaws
+pub mod ReadLaws
+pub mod WindowReads
+pub mod WindowPieces
+pub mod WholeReadLaws
+pub mod GrantLaws
+pub mod PassingLaws
+pub mod RunLaws
