@@ -70,9 +70,9 @@ some_let_through cap len some = grind (arith, nat_tests)
 part_is : (bytes : List ℕ) (cap offset len : ℕ) → 0 < len → offset < length bytes → IsPiece bytes (offset, take (capped cap len) (drop offset bytes))
 part_is bytes cap offset len some lt = (
   (let n = some_let_through cap len some in
-  let a : length (take (capped cap len) (drop offset bytes)) ≡ min (capped cap len) (length (drop offset bytes)) = length-take (capped cap len) (drop offset bytes) in
-  let b : length (drop offset bytes) ≡ length bytes - offset = length-drop offset bytes in
-  omega (arith, n, a, b, lt)),
+      let a : length (take (capped cap len) (drop offset bytes)) ≡ min (capped cap len) (length (drop offset bytes)) = length-take (capped cap len) (drop offset bytes) in
+      let b : length (drop offset bytes) ≡ length bytes - offset = length-drop offset bytes in
+      omega (arith, n, a, b, lt)),
   (drop (capped cap len) (drop offset bytes), sym (take-append-drop (capped cap len) (drop offset bytes))),
 )
 
