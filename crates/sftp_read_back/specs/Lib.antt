@@ -1,0 +1,4 @@
+pub mod Sparing
+pub mod Steps
+pub mod CallsAmong
+pub mod GrantUses

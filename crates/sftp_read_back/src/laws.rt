@@ -1,0 +1,128 @@
+// Laws of the definitions. The functions do nothing: what they ensure holds of all values.
+ghost use Rattle.std.specs.Prelude.{◌≡◌, ◌≤◌, ℕ, Bool, List, [], ◌∷◌, ◌++◌, Option};
+ghost use Rattle.sftp_model.specs.Numbers.{SSH_FX_OK};
+ghost use Rattle.sftp_model.specs.declared.config.Choice.{Choice};
+ghost use Rattle.sftp_model.specs.declared.config.ServerConfig.{ServerConfig};
+ghost use Rattle.sftp_model.specs.declared.error.Error.TheVariants as error;
+ghost use Rattle.sftp_model.specs.declared.outcome.Outcome.{Outcome};
+ghost use Rattle.sftp_model.specs.declared.outcome.Outcome.TheVariants as outcome;
+ghost use Rattle.sftp_model.specs.declared.reply.NameEntry.{NameEntry};
+ghost use Rattle.sftp_model.specs.declared.slot.Facts.{Facts};
+ghost use Rattle.sftp_model.specs.declared.slot.Site.{Site};
+ghost use Rattle.sftp_tree.specs.Changes.{IsWellFormed};
+ghost use Rattle.sftp_tree.specs.Components.{Name, components};
+ghost use Rattle.sftp_tree.specs.FileTree.{FileTree, node_at};
+ghost use Rattle.sftp_tree.specs.NameRequests.{entries_at};
+ghost use Rattle.sftp_tree.specs.Trees.{IsTree, ListOnce};
+ghost use Rattle.sftp_calls.specs.CallPlans as call;
+ghost use Rattle.sftp_calls.specs.Moves.{Answers, Own};
+ghost use Rattle.sftp_calls.specs.PathPlans.{from_directory};
+ghost use Rattle.sftp_history.specs.declared.entry.Entry.{Entry};
+ghost use Rattle.sftp_history.specs.Served.{Serves};
+ghost use Rattle.sftp_read_back.specs.CallsAmong.{Gives, HasEnded, HasNoFile, StandsOnDirectory, StandsOnName, asked_by, refusal_of};
+ghost use Rattle.sftp_read_back.specs.GrantUses.{AllPassBy, IsCallOn, IsRunOn};
+ghost use Rattle.sftp_read_back.specs.Steps.{Step, after, AllSpare, AreServed, HasBytes, RunOf};
+
+/// A journal that a file machine serves is a run of the machine: its requests are the steps, each at its place.
+pub fn served_journals_are_runs()
+    ensures { (config : ServerConfig) (choices : List Choice) (first : FileTree) (past : List Entry) (now : FileTree)
+        → Serves config choices first past now → RunOf config choices first past now }
+{}
+
+/// Steps that spare a name leave what it has, be it a file, a directory or nothing, and the bytes of its file.
+pub fn spared_names_stay()
+    ensures node { (config : ServerConfig) (name : Name) (tree : FileTree) (steps : List Step)
+        → AllSpare config name tree steps → node_at (after config tree steps) name ≡ node_at tree name }
+    ensures bytes { (config : ServerConfig) (name : Name) (content : List ℕ) (tree : FileTree) (steps : List Step)
+        → IsWellFormed tree → AllSpare config name tree steps → HasBytes tree name content
+        → HasBytes (after config tree steps) name content }
+{}
+
+/// A listing that ends with names gives the entries that its directory had as its OPENDIR was answered, in their order;
+/// in a tree it gives each of them once.
+pub fn listings_give_directories()
+    ensures in_order { (config : ServerConfig) (answers : Answers) (path : List ℕ) (bound : ℕ) (site : Site)
+        (facts : Facts) (later : Own) (entries : List NameEntry) (tree : FileTree) (first : Step) (steps : List Step)
+        → StandsOnDirectory config answers later tree first steps
+        → HasEnded (call.Names path bound) site facts (asked_by first ∷ later) answers (outcome.Names entries)
+        → entries ≡ entries_at tree (components (from_directory site path)) }
+    ensures once { (config : ServerConfig) (answers : Answers) (path : List ℕ) (bound : ℕ) (site : Site)
+        (facts : Facts) (later : Own) (entries : List NameEntry) (tree : FileTree) (first : Step) (steps : List Step)
+        → IsTree tree → StandsOnDirectory config answers later tree first steps
+        → HasEnded (call.Names path bound) site facts (asked_by first ∷ later) answers (outcome.Names entries)
+        → ListOnce entries }
+{}
+
+/// A whole write that ended well left a file with its bytes under its name, whatever others did between its requests
+/// and after them, as long as they spared the name.
+pub fn whole_writes_leave_their_bytes()
+    ensures { (config : ServerConfig) (answers : Answers) (name : Name) (path bytes : List ℕ) (site : Site)
+        (facts : Facts) (later : Own) (tree : FileTree) (first : Step) (steps : List Step)
+        → IsWellFormed tree → components (from_directory site path) ≡ name
+        → StandsOnName config answers name later tree first steps
+        → HasEnded (call.FsWrite path bytes) site facts (asked_by first ∷ later) answers outcome.Done
+        → HasBytes (after config tree (first ∷ steps)) name bytes }
+{}
+
+/// A whole read ends with the bytes that its name's file had as it was opened, or it has reached its bound; where the
+/// name has no file, it ends with the refusal of its OPEN. Several of its READs may be under way, and others may do
+/// between them what spares the name.
+pub fn whole_reads_give_the_file()
+    ensures gives { (config : ServerConfig) (answers : Answers) (name : Name) (path bytes : List ℕ) (bound : ℕ)
+        (site : Site) (facts : Facts) (later : Own) (ended : Outcome) (tree : FileTree) (first : Step)
+        (steps : List Step) → IsWellFormed tree → HasBytes tree name bytes → 1 ≤ facts.read_len
+        → components (from_directory site path) ≡ name
+        → StandsOnName config answers name later tree first steps
+        → HasEnded (call.FsRead path bound) site facts (asked_by first ∷ later) answers ended
+        → Gives ended bytes }
+    ensures refused { (config : ServerConfig) (answers : Answers) (name : Name) (path : List ℕ) (bound : ℕ)
+        (site : Site) (facts : Facts) (later : Own) (ended : Outcome) (tree : FileTree) (first : Step)
+        (steps : List Step) → HasNoFile (node_at tree name) → 1 ≤ facts.read_len
+        → components (from_directory site path) ≡ name → first.choice.refuse ≡ SSH_FX_OK
+        → AreServed config answers tree (first ∷ steps)
+        → HasEnded (call.FsRead path bound) site facts (asked_by first ∷ later) answers ended
+        → ended ≡ outcome.Refused (error.SftpError (refusal_of (node_at tree name)) [] []) }
+{}
+
+/// What was written is read back. In a run whose requests bear handles by grants, a whole write with the first step `w`
+/// ended well, and after it a whole read with the first step `r` ended. Each other step from `w` on passes the name by.
+/// Then the read ended with the bytes of the write, or has reached its bound.
+pub fn writes_are_read_back()
+    ensures { (config : ServerConfig) (answers : Answers) (grant_of : ℕ → Option ℕ) (elsewhere : ℕ → Bool)
+        (name : Name) (tree : FileTree) (before between rest : List Step) (w r : Step)
+        (write_path read_path bytes : List ℕ) (bound : ℕ) (write_site read_site : Site)
+        (write_facts read_facts : Facts) (written read : Own) (ended : Outcome)
+        → IsWellFormed tree
+        → IsRunOn config answers grant_of elsewhere name tree (before ++ ((w ∷ between) ++ r ∷ rest))
+        → components (from_directory write_site write_path) ≡ name
+        → IsCallOn answers grant_of elsewhere name written w between
+        → HasEnded (call.FsWrite write_path bytes) write_site write_facts (asked_by w ∷ written) answers outcome.Done
+        → components (from_directory read_site read_path) ≡ name → 1 ≤ read_facts.read_len
+        → IsCallOn answers grant_of elsewhere name read r rest
+        → HasEnded (call.FsRead read_path bound) read_site read_facts (asked_by r ∷ read) answers ended
+        → Gives ended bytes }
+{}
+
+/// A whole read before which each step of the run passes its name by gives what the name had at first: the bytes of its
+/// file, unless it has reached its bound, and where it has none, the refusal of its OPEN.
+pub fn reads_give_what_was_there()
+    ensures gives { (config : ServerConfig) (answers : Answers) (grant_of : ℕ → Option ℕ) (elsewhere : ℕ → Bool)
+        (name : Name) (tree : FileTree) (before rest : List Step) (r : Step) (path bytes : List ℕ) (bound : ℕ)
+        (site : Site) (facts : Facts) (read : Own) (ended : Outcome)
+        → IsWellFormed tree → HasBytes tree name bytes
+        → IsRunOn config answers grant_of elsewhere name tree (before ++ r ∷ rest)
+        → AllPassBy answers grant_of elsewhere name before
+        → components (from_directory site path) ≡ name → 1 ≤ facts.read_len
+        → IsCallOn answers grant_of elsewhere name read r rest
+        → HasEnded (call.FsRead path bound) site facts (asked_by r ∷ read) answers ended → Gives ended bytes }
+    ensures refused { (config : ServerConfig) (answers : Answers) (grant_of : ℕ → Option ℕ) (elsewhere : ℕ → Bool)
+        (name : Name) (tree : FileTree) (before rest : List Step) (r : Step) (path : List ℕ) (bound : ℕ)
+        (site : Site) (facts : Facts) (read : Own) (ended : Outcome)
+        → IsWellFormed tree → HasNoFile (node_at tree name)
+        → IsRunOn config answers grant_of elsewhere name tree (before ++ r ∷ rest)
+        → AllPassBy answers grant_of elsewhere name before
+        → components (from_directory site path) ≡ name → 1 ≤ facts.read_len
+        → IsCallOn answers grant_of elsewhere name read r rest
+        → HasEnded (call.FsRead path bound) site facts (asked_by r ∷ read) answers ended
+        → ended ≡ outcome.Refused (error.SftpError (refusal_of (node_at tree name)) [] []) }
+{}

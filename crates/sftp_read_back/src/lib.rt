@@ -1,0 +1,11 @@
+//! What was written is read back: over a server of files and directories in memory, what the calls of a session leave
+//! in files and get from them, whatever the requests of others between theirs.
+#![tactic(auto)]
+
+mod laws;
+
+pub use laws::{
+    listings_give_directories, reads_give_what_was_there, served_journals_are_runs,
+    spared_names_stay, whole_reads_give_the_file, whole_writes_leave_their_bytes,
+    writes_are_read_back,
+};
