@@ -9,7 +9,7 @@ use Rattle.sftp_history.specs.Readings.{answer}
 use Rattle.sftp_history.specs.Grants.{is_grant, is_granted}
 use Rattle.sftp_history.specs.Ids.{Reads, IdState, Free, Pending, Replied, id_state}
 use Rattle.sftp_history.proofs.IdLaws.{reads}
-use Rattle.sftp_ties.specs.Changes.{IsBare, brought}
+use Rattle.sftp_ties.specs.Changes.{IsBare}
 use Rattle.sftp_ties.specs.Places.{is_in}
 use Rattle.sftp_ties.specs.Lanes.{AllOf, among}
 use Rattle.sftp_ties.specs.Tables.{Tabled, place_of, replied, stand}

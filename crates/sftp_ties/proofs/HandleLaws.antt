@@ -24,7 +24,6 @@ use Rattle.sftp_history.proofs.CallLaws.{asker_owns, has_place, next_submit, nex
 use Rattle.sftp_history.proofs.PlannedLaws.{planned_fits}
 use Rattle.sftp_history.proofs.RequestLaws.{answer_beyond, answer_new, answer_other}
 use Rattle.sftp_ties.specs.LaneTurns.{HandlesAreNewer}
-use Rattle.sftp_ties.specs.Changes.{brought}
 use Rattle.sftp_ties.specs.Lanes.{grant_places, is_of, ticket_places}
 use Rattle.sftp_ties.specs.Places.{is_in}
 use Rattle.sftp_ties.proofs.OrderLaws.{asked_below, newer_grants}

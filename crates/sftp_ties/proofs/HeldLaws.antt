@@ -1,5 +1,5 @@
 -- The grants of a machine's site are those that its lane holds: no invariant says it, for what a cancelled call leaves has them.
-use Rattle.std.proofs.Common.{Option, None, ◌≡◌, ℕ, List, [], ◌∷◌, Some, refl, ap, sym, ◌∙◌}
+use Rattle.std.proofs.Common.{Option, None, true, false, ◌≡◌, ℕ, List, [], ◌∷◌, Some, refl, ap, sym, ◌∙◌}
 use Rattle.sftp_model.specs.declared.slot.Facts.{Facts}
 use Rattle.sftp_model.specs.declared.slot.Slot.{Slot}
 use Rattle.sftp_model.specs.declared.slot.Slot.TheVariants.{Empty, File, Buffered}
@@ -7,7 +7,7 @@ use Rattle.sftp_model.specs.Slots.{grant_of, slot_at, with_slot, has_grant}
 use Rattle.sftp_model.specs.declared.slot.Site.{Site}
 use Rattle.sftp_calls.specs.Moves.{left_on_buffered, left_on_file, Answers, Own}
 use Rattle.sftp_calls.specs.TransferPlans.{cancelled_transfer, last_offset}
-use Rattle.sftp_calls.specs.BufferPlans.{cancelled_buf_flush, unflushed, with_deferred}
+use Rattle.sftp_calls.specs.BufferPlans.{after_writes, cancelled_buf_flush, cancelled_buf_write, unflushed, with_deferred}
 use Rattle.sftp_calls.proofs.SlotLaws.{same_set}
 use Rattle.sftp_plan.specs.Cancelling.{left_kept, left_behind}
 use Rattle.sftp_plan.specs.declared.next.Running.{Running}
@@ -47,11 +47,24 @@ flush_grants slot site facts own answers g = by_slot (slot_at site slot) refl
     by_slot (File file) at = refl
     by_slot (Buffered file buffer) at = same_set site slot file.grant (Buffered file (record buffer { deferred = unflushed answers buffer.deferred })) (ap grant_of at) refl g
 
+write_grants : (slot : ℕ) (site : Site) (facts : Facts) (answers : Answers) (g : ℕ) → has_grant (cancelled_buf_write slot site facts [] answers) g ≡ has_grant site g
+write_grants slot site facts answers g = by_slot (slot_at site slot) refl
+  where
+    by_slot : (x : Slot) → slot_at site slot ≡ x → has_grant (left_on_buffered x site (λ file buffer. with_slot site slot (after_writes facts file buffer []))) g ≡ has_grant site g
+    by_slot Empty at = refl
+    by_slot (File file) at = refl
+    by_slot (Buffered file buffer) at = same_set site slot file.grant (Buffered file buffer) (ap grant_of at) refl g
+
 -- and those of the machine's site
 pub left_grants : (r : Running) (bytes : List ℕ) (site : Site) (facts : Facts) (answers : Answers) (g : ℕ) → has_grant (left_behind r bytes site facts [] answers) g ≡ has_grant site g
 left_grants (running.Gathering place slot file got left len) bytes site facts answers g = transfer_grants slot site facts [] answers g
 left_grants (running.Writing place slot file done) bytes site facts answers g = kept_grants slot site facts [] answers g
 left_grants (running.Flushing slot) bytes site facts answers g = flush_grants slot site facts [] answers g
+left_grants (running.AwaitingRoom slot start) bytes site facts answers g = write_grants slot site facts answers g
+left_grants (running.Deferred slot count) bytes site facts answers g = write_grants slot site facts answers g
+left_grants (running.DeferringRest slot done) bytes site facts answers g = write_grants slot site facts answers g
+left_grants (running.FillingBuffer slot n offset true) bytes site facts answers g = refl
+left_grants (running.FillingBuffer slot n offset false) bytes site facts answers g = refl
 left_grants other bytes site facts answers g = refl
 
 -- within a call

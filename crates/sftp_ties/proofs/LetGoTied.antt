@@ -20,7 +20,7 @@ use Rattle.sftp_history.specs.Journals.{IsJournal, close_of}
 use Rattle.sftp_history.proofs.HolderLaws.{holds_back, may_of}
 use Rattle.sftp_ties.specs.Lanes.{AtTied, CoreTied, Held, LaneHolds, LaneTied, LaneValue, SessionTied, Ticketed, grant_places, ticket_places, grants_of}
 use Rattle.sftp_ties.specs.Letting.{Letting}
-use Rattle.sftp_ties.specs.Changes.{bare_site, closed_lane, let_go_lane, with_lane, brought}
+use Rattle.sftp_ties.specs.Changes.{bare_site, closed_lane, let_go_lane, with_lane}
 use Rattle.sftp_ties.specs.Places.{is_in, without}
 use Rattle.sftp_ties.specs.SessionTurns.{MoreDueKeeps}
 use Rattle.sftp_ties.specs.DueTurns.{NoneIsLeft}

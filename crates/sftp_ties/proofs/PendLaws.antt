@@ -8,8 +8,8 @@ use Rattle.sftp_model.specs.declared.slot.Slot.TheVariants.{Empty, File, Buffere
 use Rattle.sftp_plan.specs.declared.next.Running.{Running}
 use Rattle.sftp_plan.specs.declared.next.Next.{Next}
 use Rattle.sftp_plan.specs.Machines.{awaited}
-use Rattle.sftp_plan.specs.Buffers.{oldest, oldest_in}
-use Rattle.sftp_plan.specs.Pending.{Pends, one, pends, slot_times, slots_times, writes_times}
+use Rattle.sftp_plan.specs.Buffers.{oldest, oldest_in, reading_in}
+use Rattle.sftp_plan.specs.Pending.{Pends, maybe, one, pends, slot_times, slots_times, writes_times}
 use Rattle.sftp_ties.specs.Places.{IsRising, is_in, without}
 use Rattle.sftp_ties.specs.Lanes.{tickets_for}
 use Rattle.sftp_ties.proofs.PlaceLaws.{push_other, push_self, without_other}
@@ -31,14 +31,28 @@ slot_awaits Empty p at = absurd cc
 slot_awaits (File file) p at = absurd cc
 slot_awaits (Buffered file buffer) p at = (let some : 1 ≤ writes_times p buffer.deferred = oldest_times buffer.deferred p at in omega (arith, some))
 
-slots_await : (slots : List Slot) (k p : ℕ) → oldest_in (slice_index_or slots k Empty) ≡ Some p → 1 ≤ slots_times p slots
-slots_await [] k p at = absurd cc
-slots_await (slot ∷ slots) zero p at = (let some : 1 ≤ slot_times p slot = slot_awaits slot p at in omega (arith, some))
-slots_await (slot ∷ slots) (suc k) p at = (let some : 1 ≤ slots_times p slots = slots_await slots k p at in omega (arith, some))
+reading_times : (reading : Option ℕ) (p : ℕ) → reading ≡ Some p → 1 ≤ maybe reading p
+reading_times None p at = absurd cc
+reading_times (Some place) p at = (let here : one place p ≡ 1 = one_in place p cc in omega (arith, here))
+
+slot_reads : (x : Slot) (p : ℕ) → reading_in x ≡ Some p → 1 ≤ slot_times p x
+slot_reads Empty p at = absurd cc
+slot_reads (File file) p at = absurd cc
+slot_reads (Buffered file buffer) p at = (let some : 1 ≤ maybe buffer.reading p = reading_times buffer.reading p at in omega (arith, some))
+
+-- a slot awaits what it tells to be awaited
+slots_await : (told : Slot → Option ℕ) (slots : List Slot) (k p : ℕ) → told Empty ≡ None → ((x : Slot) → told x ≡ Some p → 1 ≤ slot_times p x) → told (slice_index_or slots k Empty) ≡ Some p → 1 ≤ slots_times p slots
+slots_await told [] k p none awaits at = absurd cc
+slots_await told (slot ∷ slots) zero p none awaits at = (let some : 1 ≤ slot_times p slot = awaits slot at in omega (arith, some))
+slots_await told (slot ∷ slots) (suc k) p none awaits at = (let some : 1 ≤ slots_times p slots = slots_await told slots k p none awaits at in omega (arith, some))
 
 -- the reply that is awaited is counted
 pub awaited_pends : (r : Running) (site : Site) (p : ℕ) → awaited r site ≡ Some p → 1 ≤ pends p (Some r) site
-awaited_pends (running.Flushing slot) site p at = slots_await site.slots slot p at
+awaited_pends (running.Flushing slot) site p at = slots_await oldest_in site.slots slot p refl (λ x. slot_awaits x p) at
+awaited_pends (running.AwaitingRoom slot start) site p at = slots_await oldest_in site.slots slot p refl (λ x. slot_awaits x p) at
+awaited_pends (running.FillingBuffer slot n offset own) site p at = slots_await reading_in site.slots slot p refl (λ x. slot_reads x p) at
+awaited_pends (running.Deferred slot count) site p at = absurd cc
+awaited_pends (running.DeferringRest slot done) site p at = absurd cc
 awaited_pends other site p at = own_awaited _ p _ at
 
 -- what is awaited has a ticket

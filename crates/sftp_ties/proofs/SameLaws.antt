@@ -13,7 +13,6 @@ use Rattle.sftp_ties.specs.Lanes.{AllOf, AtTied, GrantsTied, Held, LaneGoes, Lan
 use Rattle.sftp_ties.specs.Places.{is_in}
 use Rattle.sftp_ties.specs.Tables.{place_of}
 use Rattle.sftp_ties.specs.Dues.{AllDue, Dues}
-use Rattle.sftp_ties.specs.Changes.{brought}
 use Rattle.sftp_ties.proofs.CancelLaws.{cancel_by}
 use Rattle.sftp_ties.proofs.RunningLaws.{tied_by}
 use Rattle.sftp_model.specs.declared.reply.Reply.TheVariants as reply

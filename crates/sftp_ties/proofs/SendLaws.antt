@@ -9,7 +9,6 @@ use Rattle.sftp_history.specs.Calls.{Setting}
 use Rattle.sftp_history.specs.Ids.{IdState, Free, Pending, Replied, id_state, now_sent}
 use Rattle.sftp_ties.specs.Lanes.{CoreTied, LaneValue, SessionTied, among, grants_of, tickets_of}
 use Rattle.sftp_ties.specs.Tables.{place_of}
-use Rattle.sftp_ties.specs.Changes.{brought}
 use Rattle.sftp_ties.proofs.SessionLaws.{same_tied}
 use Rattle.sftp_ties.proofs.TableLaws.{send_tabled}
 use Rattle.sftp_ties.proofs.SameLaws.{Same}

@@ -21,7 +21,7 @@ use Rattle.sftp_history.proofs.HolderLaws.{got_more, own_asked}
 use Rattle.sftp_history.proofs.AllClosedLaws.{asker_called}
 use Rattle.sftp_ties.specs.Lanes.{CoreTied, LaneGoes, LaneTied, LaneValue, SessionTied, among, grant_places, grants_of, ticket_places, tickets_of}
 use Rattle.sftp_ties.specs.Tables.{Tabled}
-use Rattle.sftp_ties.specs.Changes.{ended_lane, with_lane, brought}
+use Rattle.sftp_ties.specs.Changes.{ended_lane, with_lane}
 use Rattle.sftp_ties.specs.Dues.{loose_of}
 use Rattle.sftp_ties.specs.Places.{with_places}
 use Rattle.sftp_ties.proofs.SameLaws.{Same, lane_same}
