@@ -1,4 +1,5 @@
 mod BufferSets
+mod Deferring
 mod Fewer
 mod Flushes
 mod Going

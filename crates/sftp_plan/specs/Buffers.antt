@@ -1,7 +1,8 @@
 -- What calls on buffered files await, and how they go on.
-use Rattle.std.specs.Prelude.{ℕ, List, [], ◌∷◌, Option, Some, None, if◌then◌else◌}
+use Rattle.std.specs.Prelude.{ℕ, ◌+◌, ◌==◌, Bool, false, List, [], ◌∷◌, drop, Option, Some, None, if◌then◌else◌}
 use Rattle.sftp_model.specs.declared.reply.Reply.{Reply}
 use Rattle.sftp_model.specs.declared.outcome.Outcome.TheVariants as outcome
+use Rattle.sftp_model.specs.declared.slot.Facts.{Facts}
 use Rattle.sftp_model.specs.declared.slot.FileAt.{FileAt}
 use Rattle.sftp_model.specs.declared.slot.Buffer.{Buffer}
 use Rattle.sftp_model.specs.declared.slot.Site.{Site}
@@ -10,10 +11,11 @@ use Rattle.sftp_model.specs.declared.slot.Slot.TheVariants.{Empty, File, Buffere
 use Rattle.sftp_model.specs.declared.slot.Move.{Move}
 use Rattle.sftp_model.specs.declared.slot.Move.TheVariants.{Done}
 use Rattle.sftp_model.specs.Slots.{with_slot}
-use Rattle.sftp_calls.specs.Moves.{Answers, on_status}
-use Rattle.sftp_calls.specs.BufferPlans.{with_deferred, flush_next, is_good, unflushed}
+use Rattle.sftp_calls.specs.Moves.{Answers, Own, further, on_status}
+use Rattle.sftp_calls.specs.BufferPlans.{after_write, ask_deferred, buffered_rest, deferrable_len, flush_next, is_good, pending, send_next, unflushed, with_deferred, written_slot}
 use Rattle.sftp_plan.specs.declared.next.Next.{Next}
 use Rattle.sftp_plan.specs.declared.next.Next.TheVariants as step
+use Rattle.sftp_plan.specs.declared.next.Running.{Running}
 use Rattle.sftp_plan.specs.declared.next.Running.TheVariants as running
 
 -- ---- deferred writes
@@ -56,3 +58,38 @@ abbrev pub left_flushed : ℕ → FileAt → Buffer → Site → List (ℕ × �
 left_flushed slot file buffer site [] r answers = with_deferred slot file buffer site []
 left_flushed slot file buffer site (write ∷ writes) r answers =
     with_deferred slot file buffer site (if is_good (Some r) then unflushed answers writes else write ∷ writes)
+
+-- ---- a buffered write
+
+-- the oldest of these writes must make way for the next
+abbrev pub must_wait : ℕ → List (ℕ × ℕ) → Bool
+must_wait limit [] = false
+must_wait limit (write ∷ writes) = pending (write ∷ writes) == limit
+
+-- the bytes that are left to write: all of them for one WRITE, and else those from `done` on
+abbrev pub rest_of : Option ℕ → List ℕ → List ℕ
+rest_of None bytes = bytes
+rest_of (Some done) bytes = drop done bytes
+
+-- a call that was asked for this many bytes by one WRITE
+abbrev pub behind_write : ℕ → Option ℕ → ℕ → Running
+behind_write slot None n = running.Deferred slot n
+behind_write slot (Some done) n = running.DeferringRest slot (done + n)
+
+-- how a write of all goes on where the window has room for a WRITE
+abbrev pub rest_sent : ℕ → FileAt → List ℕ → Facts → Own → Answers → Buffer → Site → Move
+rest_sent slot file bytes facts [] answers buffer site = ask_deferred file bytes facts answers buffer site
+rest_sent slot file bytes facts (asked ∷ later) answers buffer site =
+    buffered_rest slot (drop (deferrable_len facts bytes buffer) bytes) (further file (deferrable_len facts bytes buffer)) (after_write buffer asked.0 (deferrable_len facts bytes buffer))
+    (with_slot site slot (written_slot file buffer asked.0 (deferrable_len facts bytes buffer))) facts later answers
+
+-- and how each buffered write does
+abbrev pub sent_next : ℕ → Option ℕ → FileAt → List ℕ → Facts → Own → Answers → Buffer → Site → Move
+sent_next slot None file bytes facts own answers buffer site = send_next slot file bytes facts own answers buffer site
+sent_next slot (Some done) file bytes facts own answers buffer site = rest_sent slot file (drop done bytes) facts own answers buffer site
+
+-- after the reply to the oldest of these writes, which makes way
+abbrev pub room_made : ℕ → FileAt → Buffer → Site → List (ℕ × ℕ) → Reply → (Buffer → Site → Move) → Move
+room_made slot file buffer site [] r go = Done outcome.NoFile site
+room_made slot file buffer site (write ∷ writes) r go =
+    on_status r (with_deferred slot file buffer site writes) (go (record buffer { deferred = writes }) (with_deferred slot file buffer site writes))

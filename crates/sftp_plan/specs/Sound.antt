@@ -1,5 +1,5 @@
 -- What is known of a call that was begun, so that it can go on.
-use Rattle.std.specs.Prelude.{ℕ, ◌≡◌, ◌<◌, ◌≤◌, ◌+◌, ◌-◌, ◌^◌, List, drop, length, Option, Some, None}
+use Rattle.std.specs.Prelude.{ℕ, ◌≡◌, ◌<◌, ◌≤◌, ◌+◌, ◌-◌, ◌^◌, true, List, drop, length, Option, Some, None}
 use Rattle.sftp_model.specs.declared.reply.Reply.{Reply}
 use Rattle.sftp_model.specs.declared.reply.Reply.TheVariants as reply
 use Rattle.sftp_model.specs.declared.slot.Facts.{Facts}
@@ -9,7 +9,7 @@ use Rattle.sftp_model.specs.declared.slot.Slot.{Slot}
 use Rattle.sftp_model.specs.declared.slot.Slot.TheVariants.{File, Buffered}
 use Rattle.sftp_model.specs.Slots.{slot_at}
 use Rattle.sftp_calls.specs.TransferPlans.{part_len}
-use Rattle.sftp_calls.specs.BufferPlans.{pending}
+use Rattle.sftp_calls.specs.BufferPlans.{is_full, pending}
 use Rattle.sftp_plan.specs.declared.next.Running.{Running}
 use Rattle.sftp_plan.specs.declared.next.Running.TheVariants as running
 use Rattle.sftp_plan.specs.declared.next.Next.{Next}
@@ -51,6 +51,16 @@ abbrev pub IsKept : Option ℕ → FileAt → Site → Type 0
 IsKept None file site = Unit {0}
 IsKept (Some slot) file site = (slot < length site.slots) × (slot_at site slot ≡ File file)
 
+-- the window of a buffered file is full
+abbrev pub IsFullAt : Facts → Slot → Type 0
+IsFullAt facts (Buffered file buffer) = is_full facts buffer ≡ true
+IsFullAt facts other = Unit {0}
+
+-- so many of the bytes are done, where a call writes all of them
+abbrev pub HasDone : Option ℕ → List ℕ → Type 0
+HasDone None bytes = Unit {0}
+HasDone (Some done) bytes = done ≤ length bytes
+
 -- what is known of a begun call
 abbrev pub Sound : Running → List ℕ → Site → Facts → Type 0
 Sound (running.Ending place ends) bytes site facts = Unit {0}
@@ -64,6 +74,9 @@ Sound (running.OpeningToWrite place) bytes site facts = Unit {0}
 Sound (running.OpeningDirectory place bound) bytes site facts = Unit {0}
 Sound (running.Listing place grant got bound) bytes site facts = Unit {0}
 Sound (running.Flushing slot) bytes site facts = slot < length site.slots
+Sound (running.AwaitingRoom slot start) bytes site facts = (slot < length site.slots) × IsFullAt facts (slot_at site slot) × HasDone start bytes
+Sound (running.Deferred slot count) bytes site facts = Unit {0}
+Sound (running.DeferringRest slot done) bytes site facts = (slot < length site.slots) × (done ≤ length bytes)
 Sound (running.Copying place from to source target len) bytes site facts =
     (from < length site.slots) × (to < length site.slots) × CanMove source len × CanMove target len
 

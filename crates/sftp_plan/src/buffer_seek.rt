@@ -20,7 +20,7 @@ use std::alloc::Global;
 use std::io::SeekFrom;
 
 /// These bytes without the first `n`. Refused only for want of memory.
-fn after_first(alloc: Global, bytes: &[u8], n: u64) -> Result<ByteText, OutOfMemory>
+pub(crate) fn after_first(alloc: Global, bytes: &[u8], n: u64) -> Result<ByteText, OutOfMemory>
     ensures { IfOk result (λ rest. rest ≡ drop n bytes.now) }
 {
     if n >= bytes.len() as u64 {

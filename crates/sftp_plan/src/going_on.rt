@@ -6,6 +6,7 @@ ghost use Rattle.sftp_plan.specs.Sound.{AreWithin, Fits, Sound, Sounds};
 ghost use Rattle.sftp_plan.specs.Pending.{Pends, pends_after};
 
 use crate::buffer_flush::flush_replied;
+use crate::buffer_write::{defer_rest, room_replied};
 use crate::file_calls::copy_replied;
 use crate::gathering::content_replied;
 use crate::next::{Next, Running};
@@ -35,6 +36,9 @@ impl Running {
             Running::OpeningDirectory { place, .. } => Some(*place),
             Running::Listing { place, .. } => Some(*place),
             Running::Flushing { slot } => oldest_deferred(site, *slot),
+            Running::AwaitingRoom { slot, .. } => oldest_deferred(site, *slot),
+            Running::Deferred { .. } => None,
+            Running::DeferringRest { .. } => None,
             Running::Copying { place, .. } => Some(*place),
         }
     }
@@ -63,7 +67,7 @@ pub fn go_on(
     ensures err { OnErr result (site.new ≡ site.old) }
 {
     let Some(reply) = reply else {
-        return Ok(Next::Done(Outcome::NoFile));
+        return go_on_at_once(alloc, running, bytes, place, site, facts);
     };
     match running {
         Running::Ending { by, .. } => Ok(Next::Done(ending_told(alloc, by, reply)?)),
@@ -111,6 +115,13 @@ pub fn go_on(
             bound,
         } => names_replied(awaited, grant, got, bound, reply, place, site, facts),
         Running::Flushing { slot } => Ok(flush_replied(slot, reply, place, site, facts)),
+        Running::AwaitingRoom { slot, done } => {
+            room_replied(alloc, slot, done, reply, bytes, place, site, facts)
+        }
+        Running::Deferred { count, .. } => Ok(Next::Done(Outcome::Count(count as u64))),
+        Running::DeferringRest { slot, done } => {
+            defer_rest(alloc, slot, done, bytes, place, site, facts)
+        }
         Running::Copying {
             from,
             to,
@@ -119,5 +130,33 @@ pub fn go_on(
             len,
             ..
         } => Ok(Next::Done(copy_replied(from, to, source, target, len, reply, site))),
+    }
+}
+
+/// A call goes on that awaits no reply. Refused only for want of memory; the site is as it was then.
+fn go_on_at_once(
+    alloc: Global,
+    running: Running,
+    bytes: &[u8],
+    place: u64,
+    site: &mut Site,
+    facts: &Facts,
+) -> Result<Next, OutOfMemory>
+    requires sound { Sound running bytes.now site.old facts.now }
+    requires within { AreWithin facts.now site.old }
+    ensures goes { IfOk result (Goes (after running bytes.now site.old facts.now None)
+        place bytes.now site.new facts.now) }
+    ensures left { IfOk result (Leaves (left_after running bytes.now site.old facts.now None)
+        place bytes.now site.new facts.now) }
+    ensures sound { IfOk result (Sounds bytes.now facts.now site.old site.new) }
+    ensures pends { IfOk result (Pends (pends_after running site.old None) place site.new) }
+    ensures err { OnErr result (site.new ≡ site.old) }
+{
+    match running {
+        Running::Deferred { count, .. } => Ok(Next::Done(Outcome::Count(count as u64))),
+        Running::DeferringRest { slot, done } => {
+            defer_rest(alloc, slot, done, bytes, place, site, facts)
+        }
+        _ => Ok(Next::Done(Outcome::NoFile)),
     }
 }

@@ -4,6 +4,7 @@
 
 mod buffer_flush;
 mod buffer_seek;
+mod buffer_write;
 mod closing;
 mod file_calls;
 mod gathering;
@@ -22,6 +23,7 @@ mod writing;
 
 pub use buffer_flush::begin_buf_flush;
 pub use buffer_seek::begin_buf_seek;
+pub use buffer_write::{begin_buf_write, begin_buf_write_all, defer_rest};
 pub use closing::begin_close;
 pub use file_calls::{begin_copy, begin_meta, begin_set_len, begin_set_perm, begin_sync};
 pub use gathering::{begin_read_all, read_rest};

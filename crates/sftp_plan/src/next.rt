@@ -124,6 +124,22 @@ pub enum Running {
     Flushing {
         slot: u8,
     },
+    /// At a full window a buffered write awaits the status of the oldest deferred write: one of the call's first bytes,
+    /// or of those from `done` on.
+    AwaitingRoom {
+        slot: u8,
+        done: Option<usize>,
+    },
+    /// The WRITE of a `buf_write` was deferred, and no reply is awaited.
+    Deferred {
+        slot: u8,
+        count: u32,
+    },
+    /// A WRITE of a `buf_write_all` was deferred, and no reply is awaited: the bytes from `done` on are left.
+    DeferringRest {
+        slot: u8,
+        done: usize,
+    },
     /// A `copy-data` awaits its reply.
     Copying {
         place: u64,
