@@ -23,7 +23,7 @@ use Rattle.sftp_plan.specs.declared.buffer_write.Deferral.TheVariants as deferra
 use Rattle.sftp_plan.specs.declared.next.Next.{Next}
 use Rattle.sftp_plan.specs.declared.next.Running.{Running}
 use Rattle.sftp_plan.specs.declared.next.Running.TheVariants as running
-use Rattle.sftp_plan.specs.Buffers.{behind_write, but_oldest, must_wait, oldest, rest_of, room_made, sent_next, without_oldest}
+use Rattle.sftp_plan.specs.Buffers.{running_after, but_oldest, must_wait, oldest, rest_of, room_made, sent_next, without_oldest}
 use Rattle.sftp_plan.specs.Deferrals.{IsDeferral, settled_next, settled_site}
 use Rattle.sftp_plan.specs.Machines.{Goes, after, failure_of, filled, once, residual, with_reply}
 use Rattle.sftp_plan.specs.Cancelling.{Leaves, left_behind}
@@ -48,7 +48,7 @@ sent_first slot (Some done) file bytes facts answers buffer site = refl
 -- after its request the call has ended, or goes on with the rest
 sent_later : (slot : ℕ) (start : Option ℕ) (file : FileAt) (bytes : List ℕ) (facts : Facts) (asked : ℕ × Request) (later : Own) (answers : Answers) (buffer : Buffer) (site new : Site) → slot < length site.slots
     → new ≡ with_slot site slot (written_slot file buffer asked.0 (deferrable_len facts (rest_of start bytes) buffer))
-    → sent_next slot start file bytes facts (asked ∷ later) answers buffer site ≡ residual (behind_write slot start (deferrable_len facts (rest_of start bytes) buffer)) bytes new facts later answers
+    → sent_next slot start file bytes facts (asked ∷ later) answers buffer site ≡ residual (running_after slot start (deferrable_len facts (rest_of start bytes) buffer)) bytes new facts later answers
 sent_later slot None file bytes facts asked later answers buffer site new lt is = ap (λ (s : Site). Done (outcome.Count (deferrable_len facts bytes buffer)) s) (sym is)
 sent_later slot (Some done) file bytes facts asked later answers buffer site new lt is =
     let n : ℕ = deferrable_len facts (drop done bytes) buffer in
@@ -133,7 +133,7 @@ settled_leaves slot start file whole buffer bytes place old site new facts (defe
         ∙ (ap (λ (x : Slot). left_on_buffered x (with_slot old slot written) (λ f b. with_slot (with_slot old slot written) slot (after_writes facts f b later))) (set_at old slot written lt)
         ∙ set_twice old slot written (after_writes facts (further file len) (after_write buffer place len) later))
 
-    by_start : (x : Option ℕ) (answers : Answers) (later : Own) → cancelled_buf_write slot new facts later answers ≡ left_behind (behind_write slot x len) bytes new facts later answers
+    by_start : (x : Option ℕ) (answers : Answers) (later : Own) → cancelled_buf_write slot new facts later answers ≡ left_behind (running_after slot x len) bytes new facts later answers
     by_start None answers later = refl
     by_start (Some done) answers later = refl
 
@@ -171,7 +171,7 @@ settled_sound slot start file buffer bytes place site new facts (deferral.Asked 
     keep : Keeps facts site new
     keep = keeps_set facts site new slot (written_slot file buffer place len) (at ∙ ap (λ (x : Slot). with_slot site slot x) is.3) (written_within facts file buffer place len (omega arith) was)
 
-    by_start : (x : Option ℕ) → x ≡ start → HasDone x bytes → Sound (behind_write slot x len) bytes new facts
+    by_start : (x : Option ℕ) → x ≡ start → HasDone x bytes → Sound (running_after slot x len) bytes new facts
     by_start None same h = tt
     by_start (Some done) same h = (
       subst (λ (k : ℕ). slot < k) (sym keep.count) lt,
@@ -199,7 +199,7 @@ settled_pends before slot start file buffer bytes place site new facts (deferral
         let old : slots_times q site.slots ≤ before q = le q in
         omega (arith, set, was, grown, same, old)
 
-    by_start : (x : Option ℕ) (q : ℕ) → pends q (Some (behind_write slot x len)) new ≤ before q + one place q
+    by_start : (x : Option ℕ) (q : ℕ) → pends q (Some (running_after slot x len)) new ≤ before q + one place q
     by_start None q = more q
     by_start (Some done) q = more q
 

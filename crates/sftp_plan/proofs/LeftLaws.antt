@@ -43,4 +43,5 @@ left_came (running.Listing place grant all bound) bytes site facts later answers
 left_came (running.AwaitingRoom slot start) bytes site facts later answers p y at got = refl
 left_came (running.Deferred slot count) bytes site facts later answers p y at got = refl
 left_came (running.DeferringRest slot done) bytes site facts later answers p y at got = refl
+left_came (running.FillingBuffer slot n offset own) bytes site facts later answers p y at got = refl
 left_came (running.Copying place from to source target len) bytes site facts later answers p y at got = refl

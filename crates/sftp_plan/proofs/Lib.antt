@@ -1,9 +1,10 @@
 mod BufferSets
 mod Deferring
 mod Fewer
+mod Filling
 mod Flushes
 mod Going
-mod Keeping
+pub mod Keeping
 mod Leaving
-mod LeftLaws
+pub mod LeftLaws
 mod SlotSets

@@ -71,10 +71,10 @@ abbrev pub rest_of : Option ℕ → List ℕ → List ℕ
 rest_of None bytes = bytes
 rest_of (Some done) bytes = drop done bytes
 
--- a call that was asked for this many bytes by one WRITE
-abbrev pub behind_write : ℕ → Option ℕ → ℕ → Running
-behind_write slot None n = running.Deferred slot n
-behind_write slot (Some done) n = running.DeferringRest slot (done + n)
+-- where a call has come after a WRITE of so many bytes
+abbrev pub running_after : ℕ → Option ℕ → ℕ → Running
+running_after slot None n = running.Deferred slot n
+running_after slot (Some done) n = running.DeferringRest slot (done + n)
 
 -- how a write of all goes on where the window has room for a WRITE
 abbrev pub rest_sent : ℕ → FileAt → List ℕ → Facts → Own → Answers → Buffer → Site → Move
@@ -93,3 +93,16 @@ abbrev pub room_made : ℕ → FileAt → Buffer → Site → List (ℕ × ℕ) 
 room_made slot file buffer site [] r go = Done outcome.NoFile site
 room_made slot file buffer site (write ∷ writes) r go =
     on_status r (with_deferred slot file buffer site writes) (go (record buffer { deferred = writes }) (with_deferred slot file buffer site writes))
+
+-- ---- a buffered read
+
+-- the place of the read under way of a slot's file
+abbrev pub reading_in : Slot → Option ℕ
+reading_in Empty = None
+reading_in (File file) = None
+reading_in (Buffered file buffer) = buffer.reading
+
+-- where a slot holds a buffered file, that file has this read under way, or none
+abbrev pub with_reading : Site → ℕ → Slot → Option ℕ → Site
+with_reading site slot (Buffered file buffer) reading = with_slot site slot (Buffered file (record buffer { reading = reading }))
+with_reading site slot other reading = with_slot site slot other

@@ -1,11 +1,11 @@
 -- What a cancelled call leaves, by where its machine has come.
-use Rattle.std.specs.Prelude.{ℕ, ◌≡◌, List, ◌∷◌, Option, Some, None}
+use Rattle.std.specs.Prelude.{ℕ, ◌≡◌, List, ◌∷◌, Option, Some, None, if◌then◌else◌}
 use Rattle.sftp_model.specs.declared.reply.Reply.{Reply}
 use Rattle.sftp_model.specs.declared.slot.Facts.{Facts}
 use Rattle.sftp_model.specs.declared.slot.Site.{Site}
 use Rattle.sftp_model.specs.Slots.{slot_at}
 use Rattle.sftp_calls.specs.Moves.{Answers, Own, left_on_buffered}
-use Rattle.sftp_calls.specs.BufferPlans.{cancelled_buf_flush, cancelled_buf_write}
+use Rattle.sftp_calls.specs.BufferPlans.{cancelled_buf_flush, cancelled_buf_read, cancelled_buf_write}
 use Rattle.sftp_plan.specs.Buffers.{left_flushed}
 use Rattle.sftp_calls.specs.TransferPlans.{cancelled_transfer}
 use Rattle.sftp_calls.specs.CallPlans.{Call, cancelled}
@@ -40,6 +40,7 @@ left_behind (running.Flushing slot) bytes site facts later answers = cancelled_b
 left_behind (running.AwaitingRoom slot start) bytes site facts later answers = cancelled_buf_write slot site facts later answers
 left_behind (running.Deferred slot count) bytes site facts later answers = cancelled_buf_write slot site facts later answers
 left_behind (running.DeferringRest slot done) bytes site facts later answers = cancelled_buf_write slot site facts later answers
+left_behind (running.FillingBuffer slot n offset own) bytes site facts later answers = if own then site else cancelled_buf_read slot site facts later answers
 left_behind (running.Copying place from to source target len) bytes site facts later answers = site
 
 -- what a call leaves that is cancelled after the reply that it awaited

@@ -12,7 +12,7 @@ use Rattle.sftp_plan.specs.declared.buffer_write.Deferral.{Deferral}
 use Rattle.sftp_plan.specs.declared.buffer_write.Deferral.TheVariants as deferral
 use Rattle.sftp_plan.specs.declared.next.Next.{Next}
 use Rattle.sftp_plan.specs.declared.next.Next.TheVariants as step
-use Rattle.sftp_plan.specs.Buffers.{behind_write, rest_of}
+use Rattle.sftp_plan.specs.Buffers.{running_after, rest_of}
 use Rattle.sftp_plan.specs.Machines.{filled}
 
 -- It is the one that the plan asks for, of these bytes and at this place; or the plan refuses.
@@ -22,7 +22,7 @@ IsDeferral slot start file buffer bytes place facts (deferral.Refused o) =
 IsDeferral slot start file buffer bytes place facts (deferral.Asked a r held) =
     ((site : Site) (answers : Answers) → ask_deferred file (rest_of start bytes) facts answers buffer site ≡ Ask (filled a answers))
     × ((answers : Answers) → carried (filled a answers) ≡ deferrable_len facts (rest_of start bytes) buffer)
-    × (r ≡ behind_write slot start (deferrable_len facts (rest_of start bytes) buffer))
+    × (r ≡ running_after slot start (deferrable_len facts (rest_of start bytes) buffer))
     × (held ≡ written_slot file buffer place (deferrable_len facts (rest_of start bytes) buffer))
 
 -- what the call does with it

@@ -1,7 +1,8 @@
 -- Worked examples of what is left of the plan of a call that was begun. Writes take 2 bytes each.
-use Rattle.std.specs.Prelude.{◌≡◌, true, [], ◌∷◌, codes, Some, None, refl}
+use Rattle.std.specs.Prelude.{◌≡◌, false, true, [], ◌∷◌, codes, Some, None, refl}
 use Rattle.sftp_model.specs.declared.request.Request.TheVariants as request
 use Rattle.sftp_model.specs.declared.outcome.Outcome.TheVariants as outcome
+use Rattle.sftp_model.specs.declared.reply.Reply.TheVariants as reply
 use Rattle.sftp_model.specs.declared.slot.Move.TheVariants.{Ask, Wait, Done}
 use Rattle.sftp_model.specs.Answers.{status}
 use Rattle.sftp_model.specs.Slots.{fresh_site}
@@ -63,3 +64,52 @@ flush_refused = refl
 
 pub flush_cancelled : left_behind (running.Flushing 0) [] (buffered 5 [] ((1, 2) ∷ (2, 1) ∷ []) None) bare [] (after_handle (status 0 ∷ [])) ≡ buffered 5 [] ((2, 1) ∷ []) None
 flush_cancelled = refl
+
+-- ---- a buffered write at a full window, and after its WRITE
+
+pub room_waits : residual (running.AwaitingRoom 0 None) (codes "abc") (buffered 5 [] ((1, 2) ∷ (2, 2) ∷ []) None) bare [] (after_handle []) ≡ Wait 1
+room_waits = refl
+
+pub room_made : residual (running.AwaitingRoom 0 None) (codes "abc") (buffered 5 [] ((1, 2) ∷ (2, 2) ∷ []) None) bare [] (after_handle (status 0 ∷ [])) ≡ Ask (request.Write handle 5 (codes "ab"))
+room_made = refl
+
+pub room_refused : residual (running.AwaitingRoom 0 None) (codes "abc") (buffered 5 [] ((1, 2) ∷ (2, 2) ∷ []) None) bare [] (after_handle (status 4 ∷ [])) ≡ Done (refused_with 4) (buffered 5 [] ((2, 2) ∷ []) None)
+room_refused = refl
+
+pub room_for_rest : residual (running.AwaitingRoom 0 (Some 2)) (codes "abc") (buffered 5 [] ((1, 2) ∷ (2, 2) ∷ []) None) bare [] (after_handle (status 0 ∷ [])) ≡ Ask (request.Write handle 5 (codes "c"))
+room_for_rest = refl
+
+-- cancelled after its WRITE: the oldest status was taken, and the WRITE is deferred
+pub room_cancelled : left_behind (running.AwaitingRoom 0 None) (codes "abc") (buffered 5 [] ((1, 2) ∷ (2, 2) ∷ []) None) bare (write_at 3 5 (codes "ab") ∷ []) (after_handle (status 0 ∷ [])) ≡ buffered 7 [] ((2, 2) ∷ (3, 2) ∷ []) None
+room_cancelled = refl
+
+pub deferred_done : residual (running.Deferred 0 2) (codes "abc") (buffered 7 [] ((1, 2) ∷ []) None) bare [] (after_handle []) ≡ Done (outcome.Count 2) (buffered 7 [] ((1, 2) ∷ []) None)
+deferred_done = refl
+
+pub rest_deferred : residual (running.DeferringRest 0 2) (codes "abc") (buffered 7 [] ((1, 2) ∷ []) None) bare [] (after_handle []) ≡ Ask (request.Write handle 7 (codes "c"))
+rest_deferred = refl
+
+pub rest_done : residual (running.DeferringRest 0 3) (codes "abc") (buffered 8 [] ((1, 2) ∷ (2, 1) ∷ []) None) bare [] (after_handle []) ≡ Done outcome.Done (buffered 8 [] ((1, 2) ∷ (2, 1) ∷ []) None)
+rest_done = refl
+
+-- ---- a READ that fills a buffer
+
+pub fill_waits : residual (running.FillingBuffer 0 2 5 true) [] (buffered 5 [] [] (Some 1)) bare [] (after_handle []) ≡ Wait 1
+fill_waits = refl
+
+-- the bytes that weren't asked for stay in the buffer
+pub fill_gives : residual (running.FillingBuffer 0 2 5 true) [] (buffered 5 [] [] (Some 1)) bare [] (after_handle (reply.Content (codes "abcd") ∷ [])) ≡ Done (outcome.Bytes (codes "ab")) (buffered 7 (codes "cd") [] None)
+fill_gives = refl
+
+pub fill_ended : residual (running.FillingBuffer 0 2 5 true) [] (buffered 5 [] [] (Some 1)) bare [] (after_handle (status 1 ∷ [])) ≡ Done outcome.End (buffered 5 [] [] None)
+fill_ended = refl
+
+pub fill_refused : residual (running.FillingBuffer 0 2 5 true) [] (buffered 5 [] [] (Some 1)) bare [] (after_handle (status 4 ∷ [])) ≡ Done (refused_with 4) (buffered 5 [] [] None)
+fill_refused = refl
+
+-- cancelled: the READ stays under way, the call's own or not
+pub fill_cancelled : left_behind (running.FillingBuffer 0 2 5 true) [] (buffered 5 [] [] (Some 1)) bare [] (after_handle (reply.Content (codes "abcd") ∷ [])) ≡ buffered 5 [] [] (Some 1)
+fill_cancelled = refl
+
+pub wait_cancelled : left_behind (running.FillingBuffer 0 2 5 false) [] (buffered 5 [] [] (Some 1)) bare [] (after_handle []) ≡ buffered 5 [] [] (Some 1)
+wait_cancelled = refl

@@ -24,8 +24,8 @@ use Rattle.sftp_calls.specs.TransferPlans.{Keeping, in_slot, joined_parts, missi
 use Rattle.sftp_calls.specs.WholePlans.{entries_next, nowhere, on_names, to_replace}
 use Rattle.sftp_calls.specs.CallPlans as call
 use Rattle.sftp_calls.specs.CallPlans.{Call, next}
-use Rattle.sftp_calls.specs.BufferPlans.{buf_write_all_next}
-use Rattle.sftp_plan.specs.Buffers.{flushed_after, oldest_in, room_made, sent_next}
+use Rattle.sftp_calls.specs.BufferPlans.{buf_write_all_next, was_filled}
+use Rattle.sftp_plan.specs.Buffers.{flushed_after, oldest_in, reading_in, room_made, sent_next}
 use Rattle.sftp_plan.specs.declared.next.Asked.{Asked}
 use Rattle.sftp_plan.specs.declared.next.Asked.TheVariants as asked
 use Rattle.sftp_plan.specs.declared.next.EndsBy.{EndsBy}
@@ -67,6 +67,7 @@ awaited (running.Flushing slot) site = oldest_in (slot_at site slot)
 awaited (running.AwaitingRoom slot start) site = oldest_in (slot_at site slot)
 awaited (running.Deferred slot count) site = None
 awaited (running.DeferringRest slot done) site = None
+awaited (running.FillingBuffer slot n offset own) site = reading_in (slot_at site slot)
 awaited (running.Copying place from to source target len) site = Some place
 
 -- what a reply makes of a call that it ends
@@ -116,6 +117,8 @@ after (running.AwaitingRoom slot start) bytes site facts r later answers =
     on_buffered (slot_at site slot) site (λ file buffer. with_reply site r (λ y. room_made slot file buffer site buffer.deferred y (sent_next slot start file bytes facts later answers)))
 after (running.Deferred slot count) bytes site facts r later answers = Done (outcome.Count count) site
 after (running.DeferringRest slot done) bytes site facts r later answers = buf_write_all_next slot (drop done bytes) site facts later answers
+after (running.FillingBuffer slot n offset own) bytes site facts r later answers =
+    on_buffered (slot_at site slot) site (λ file buffer. with_reply site r (was_filled slot n file buffer site))
 after (running.Copying place from to source target len) bytes site facts r later answers =
     with_reply site r (λ y. on_status y site (Done outcome.Done (copied from to source target len site)))
 

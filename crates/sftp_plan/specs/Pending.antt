@@ -52,6 +52,7 @@ own_place (Some (running.Listing place grant got bound)) = Some place
 own_place (Some (running.Copying place from to source target len)) = Some place
 own_place (Some (running.Flushing slot)) = None
 own_place (Some (running.AwaitingRoom slot start)) = None
+own_place (Some (running.FillingBuffer slot n offset own)) = None
 own_place (Some (running.Deferred slot count)) = None
 own_place (Some (running.DeferringRest slot done)) = None
 own_place None = None

@@ -56,6 +56,16 @@ abbrev pub IsFullAt : Facts → Slot → Type 0
 IsFullAt facts (Buffered file buffer) = is_full facts buffer ≡ true
 IsFullAt facts other = Unit {0}
 
+-- a buffered file stands at this offset
+abbrev pub StandsAt : ℕ → Slot → Type 0
+StandsAt offset (Buffered file buffer) = file.offset ≡ offset
+StandsAt offset other = Unit {0}
+
+-- the bytes of a DATA from this offset on end at the greatest offset at last
+abbrev pub EndsWithin : ℕ → Reply → Type 0
+EndsWithin offset (reply.Content bytes) = length bytes ≤ (2 ^ 64 - 1) - offset
+EndsWithin offset other = Unit {0}
+
 -- so many of the bytes are done, where a call writes all of them
 abbrev pub HasDone : Option ℕ → List ℕ → Type 0
 HasDone None bytes = Unit {0}
@@ -77,13 +87,16 @@ Sound (running.Flushing slot) bytes site facts = slot < length site.slots
 Sound (running.AwaitingRoom slot start) bytes site facts = (slot < length site.slots) × IsFullAt facts (slot_at site slot) × HasDone start bytes
 Sound (running.Deferred slot count) bytes site facts = Unit {0}
 Sound (running.DeferringRest slot done) bytes site facts = (slot < length site.slots) × (done ≤ length bytes)
+Sound (running.FillingBuffer slot n offset own) bytes site facts = (slot < length site.slots) × StandsAt offset (slot_at site slot)
 Sound (running.Copying place from to source target len) bytes site facts =
     (from < length site.slots) × (to < length site.slots) × CanMove source len × CanMove target len
 
--- and of the reply that it awaits: a DATA has at most the bytes that were asked
+-- and of the reply that it awaits: a DATA has at most the bytes that were asked, and what fills a buffer was asked where
+-- its file stands
 abbrev pub Fits : Running → Option Reply → Type 0
 Fits (running.Reading place slot file len) (Some (reply.Content bytes)) = length bytes ≤ len
 Fits (running.Gathering place slot file got left len) (Some (reply.Content bytes)) = length bytes ≤ len
+Fits (running.FillingBuffer slot n offset own) (Some (reply.Content bytes)) = length bytes ≤ (2 ^ 64 - 1) - offset
 Fits other r = Unit {0}
 
 abbrev pub IsSound : List ℕ → Site → Facts → Next → Type 0

@@ -42,7 +42,13 @@ fn sought_bytes(alloc: Global, from: u64, to: u64, bytes: &[u8]) -> Result<ByteT
 
 /// A buffered file stands elsewhere, with these bytes and this read under way.
 #[tactic(auto, using(crate::proofs::SlotSets::set_twice))]
-fn rebuffer(site: &mut Site, slot: u8, file: FileAt, bytes: ByteText, reading: Option<u64>)
+pub(crate) fn rebuffer(
+    site: &mut Site,
+    slot: u8,
+    file: FileAt,
+    bytes: ByteText,
+    reading: Option<u64>,
+)
     requires { slot < length site.old.slots }
     ensures { site.new ≡ rebuffered slot site.old (slot_at site.old slot) file bytes reading }
 {

@@ -5,7 +5,7 @@ ghost use Rattle.sftp_calls.specs.CallPlans as call;
 ghost use Rattle.sftp_calls.specs.Moves.{on_buffered};
 ghost use Rattle.sftp_calls.specs.BufferPlans.{after_write, buf_write_all_next, cancelled_buf_write, pending, with_capacity};
 ghost use Rattle.sftp_plan.specs.declared.next.Running.TheVariants as running;
-ghost use Rattle.sftp_plan.specs.Buffers.{behind_write, must_wait, rest_of, sent_next};
+ghost use Rattle.sftp_plan.specs.Buffers.{running_after, must_wait, rest_of, sent_next};
 ghost use Rattle.sftp_plan.specs.Deferrals.{IsDeferral, settled_next, settled_site};
 ghost use Rattle.sftp_plan.specs.Machines.{Begins, Goes, after};
 ghost use Rattle.sftp_plan.specs.Cancelling.{BeginsLeaving, Leaves};
@@ -111,10 +111,10 @@ fn rest_of(done: Option<usize>, bytes: &[u8]) -> &[u8]
 }
 
 /// How a call goes on after a WRITE of so many bytes.
-fn behind_write(slot: u8, done: Option<usize>, len: u32, bytes: &[u8]) -> Running
+fn running_after(slot: u8, done: Option<usize>, len: u32, bytes: &[u8]) -> Running
     requires done { HasDone done bytes.now }
     requires len { len ≤ length (rest_of done bytes.now) }
-    ensures { result ≡ behind_write slot done len }
+    ensures { result ≡ running_after slot done len }
 {
     match done {
         None => Running::Deferred { slot, count: len },
@@ -162,7 +162,7 @@ fn next_deferral(
     };
     Ok(Deferral::Asked {
         asked,
-        running: behind_write(slot, done, len, bytes),
+        running: running_after(slot, done, len, bytes),
         held: Slot::Buffered(moved, after),
     })
 }

@@ -6,6 +6,7 @@ ghost use Rattle.sftp_plan.specs.Sound.{AreWithin, Fits, Sound, Sounds};
 ghost use Rattle.sftp_plan.specs.Pending.{Pends, pends_after};
 
 use crate::buffer_flush::flush_replied;
+use crate::buffer_read::filled_replied;
 use crate::buffer_write::{defer_rest, room_replied};
 use crate::file_calls::copy_replied;
 use crate::gathering::content_replied;
@@ -13,7 +14,7 @@ use crate::next::{Next, Running};
 use crate::opening::open_replied;
 use crate::reading::read_replied;
 use crate::single::ending_told;
-use crate::site::oldest_deferred;
+use crate::site::{oldest_deferred, reading_under_way};
 use crate::whole::{directory_opened, names_replied, whole_opened};
 use crate::writing::{part_replied, write_replied};
 use sftp_model::{Facts, Outcome, Reply, Site};
@@ -37,6 +38,7 @@ impl Running {
             Running::Listing { place, .. } => Some(*place),
             Running::Flushing { slot } => oldest_deferred(site, *slot),
             Running::AwaitingRoom { slot, .. } => oldest_deferred(site, *slot),
+            Running::FillingBuffer { slot, .. } => reading_under_way(site, *slot),
             Running::Deferred { .. } => None,
             Running::DeferringRest { .. } => None,
             Running::Copying { place, .. } => Some(*place),
@@ -122,6 +124,12 @@ pub fn go_on(
         Running::DeferringRest { slot, done } => {
             defer_rest(alloc, slot, done, bytes, place, site, facts)
         }
+        Running::FillingBuffer {
+            slot,
+            n,
+            offset,
+            ..
+        } => Ok(Next::Done(filled_replied(alloc, slot, n, offset, reply, site)?)),
         Running::Copying {
             from,
             to,

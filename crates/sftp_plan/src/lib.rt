@@ -3,6 +3,7 @@
 #![tactic(auto)]
 
 mod buffer_flush;
+mod buffer_read;
 mod buffer_seek;
 mod buffer_write;
 mod closing;
@@ -22,6 +23,7 @@ mod whole;
 mod writing;
 
 pub use buffer_flush::begin_buf_flush;
+pub use buffer_read::begin_buf_read;
 pub use buffer_seek::begin_buf_seek;
 pub use buffer_write::{begin_buf_write, begin_buf_write_all, defer_rest};
 pub use closing::begin_close;

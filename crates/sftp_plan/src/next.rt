@@ -140,6 +140,14 @@ pub enum Running {
         slot: u8,
         done: usize,
     },
+    /// A READ that fills the buffer from this offset on awaits its reply, for the first `n` of its bytes. It is the
+    /// call's own, or was under way.
+    FillingBuffer {
+        slot: u8,
+        n: u32,
+        offset: u64,
+        own: bool,
+    },
     /// A `copy-data` awaits its reply.
     Copying {
         place: u64,

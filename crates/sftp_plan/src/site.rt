@@ -2,7 +2,7 @@
 ghost use Rattle.std.specs.Prelude.{◌≡◌, ◌<◌, length};
 ghost use Rattle.std.specs.List.{list_any};
 ghost use Rattle.sftp_model.specs.declared.slot.Slot.TheVariants as slots;
-ghost use Rattle.sftp_plan.specs.Buffers.{oldest_in};
+ghost use Rattle.sftp_plan.specs.Buffers.{oldest_in, reading_in};
 ghost use Rattle.sftp_model.specs.Slots.{slot_at, with_slot, has_grant, slot_has};
 
 use sftp_model::{Site, Slot};
@@ -53,6 +53,27 @@ fn oldest_in(slot: &Slot) -> Option<u64>
             [] => None,
             [write, ..] => Some(write.0),
         },
+    }
+}
+
+/// The place of the read under way of the file in a slot.
+pub fn reading_under_way(site: &Site, slot: u8) -> Option<u64>
+    ensures { result ≡ reading_in (slot_at site.now slot) }
+{
+    match site.slots.as_slice().get(slot as usize) {
+        Some(held) => reading_in(held),
+        None => None,
+    }
+}
+
+/// The place of the read under way of a slot's file.
+fn reading_in(slot: &Slot) -> Option<u64>
+    ensures { result ≡ reading_in slot.now }
+{
+    match slot {
+        Slot::Empty => None,
+        Slot::File(_) => None,
+        Slot::Buffered(_, buffer) => buffer.reading,
     }
 }
 

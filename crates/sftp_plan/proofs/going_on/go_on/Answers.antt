@@ -38,3 +38,6 @@ returns-in-Flushing-clause-goes c = rw (c.in-Flushing.is, c.in-Some.is) (c.flush
 
 pub returns-in-Flushing-clause-left : goal.returns-in-Flushing-clause-left
 returns-in-Flushing-clause-left c = rw (c.in-Flushing.is, c.in-Some.is) (c.flush_replied.ensures.left c.args.bytes.now)
+
+pub returns-in_ok-filled_replied-in-FillingBuffer-clause-sound : goal.returns-in_ok-filled_replied-in-FillingBuffer-clause-sound
+returns-in_ok-filled_replied-in-FillingBuffer-clause-sound c = (c.filled_replied.ensures.sound c.args.facts.now, tt)
