@@ -1,5 +1,5 @@
 -- Sites within their bounds.
-use Rattle.std.proofs.Common.{◌≡◌, ◌∙◌, ap, refl, subst, sym, arith, ℕ, zero, suc, List, [], ◌∷◌, length}
+use Rattle.std.proofs.Common.{◌≡◌, ◌∙◌, ◌≤◌, ◌-◌, ◌^◌, ap, refl, subst, sym, arith, ℕ, zero, suc, List, [], ◌∷◌, length}
 use Rattle.std.specs.Prelude.{replicate, slice_index_or, slice_set}
 use Rattle.sftp_model.specs.declared.slot.Facts.{Facts}
 use Rattle.sftp_model.specs.declared.slot.FileAt.{FileAt}
@@ -37,8 +37,16 @@ pub one_file_within : (facts : Facts) (old new : Site) (file : FileAt) → old.s
 one_file_within facts old new file empty is =
     site_within facts old new 0 (File file) (λ k. subst (λ (slots : List Slot). IsWithin facts (slice_index_or slots k Empty)) (sym empty) (empty_within facts 16 k)) is tt
 
+-- a buffered file that has deferred nothing, with three bytes at the head of the file
+pub buffered_within : (facts : Facts) (old new : Site) (file : FileAt) (buffer : Buffer) → AreWithin facts old → new ≡ with_slot old 0 (Buffered file buffer) → buffer.deferred ≡ [] → length buffer.bytes ≡ 3 → file.offset ≡ 0 → AreWithin facts new
+buffered_within facts old new file buffer within is none three head =
+    site_within facts old new 0 (Buffered file buffer) within is (let zero : pending buffer.deferred ≡ 0 = ap pending none in omega (arith, zero), omega (arith, three, head))
+
 pub set_count_of : (old new : Site) (k n : ℕ) (x : Slot) → length old.slots ≡ n → new ≡ with_slot old k x → length new.slots ≡ n
 set_count_of old new k n x is_n is = ap (λ (s : Site). length s.slots) is ∙ set_length old.slots k x ∙ is_n
 
 pub still_within : (bytes : List ℕ) (facts : Facts) (old new : Site) (n : Next) → Sounds bytes facts old new n → AreWithin facts old → AreWithin facts new
 still_within bytes facts old new n sound within = sound.0.limit within
+
+pub still_sixteen : (bytes : List ℕ) (facts : Facts) (old new : Site) (n : Next) → Sounds bytes facts old new n → length old.slots ≡ 16 → length new.slots ≡ 16
+still_sixteen bytes facts old new n sound count = sound.0.count ∙ count

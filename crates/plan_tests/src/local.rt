@@ -45,14 +45,14 @@ fn buffers(alloc: Global) -> Result<bool, Fail> {
 
 /// A seek over the first byte of the buffer.
 fn seeks_buffered(alloc: Global) -> Result<bool, Fail> {
-    let mut site = a_buffered_site(alloc)?;
+    let mut site = a_buffered_site(alloc, &facts())?;
     let sought = begin_buf_seek(alloc, 0, SeekFrom::Current(1), &mut site)?;
     Ok(is_end(&sought, end("Count", 1)) && has_bytes(&site, b"yz"))
 }
 
 /// No buffer any more.
 fn unbuffers(alloc: Global) -> Result<bool, Fail> {
-    let mut site = a_buffered_site(alloc)?;
+    let mut site = a_buffered_site(alloc, &facts())?;
     let unbuffered = begin_unbuffer(0, &mut site);
     Ok(is_end(&unbuffered, end("Done", 0)) && offset_in(&site, 0) == Some(0))
 }

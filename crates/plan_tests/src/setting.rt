@@ -34,7 +34,9 @@ fn empty_slots(alloc: Global) -> Result<Vec<Slot>, OutOfMemory>
 }
 
 /// The file of the grant 0, open to read and write.
-fn a_file() -> FileAt {
+fn a_file() -> FileAt
+    ensures { result.offset ≡ 0 }
+{
     FileAt {
         grant: 0,
         readable: true,
@@ -57,13 +59,14 @@ pub(crate) fn a_site(alloc: Global, facts: &Facts) -> Result<Site, OutOfMemory>
 }
 
 /// The same with a buffer, which has the bytes `xyz`.
-#[tactic(auto, using(crate::proofs::Within::set_count_of))]
-pub(crate) fn a_buffered_site(alloc: Global) -> Result<Site, OutOfMemory>
-    ensures { IfOk result (λ site. length site.slots ≡ 16) }
+#[tactic(auto, using(crate::proofs::Within::set_count_of, crate::proofs::Within::buffered_within))]
+pub(crate) fn a_buffered_site(alloc: Global, facts: &Facts) -> Result<Site, OutOfMemory>
+    ensures count { IfOk result (λ site. length site.slots ≡ 16) }
+    ensures within { IfOk result (AreWithin facts.now) }
 {
     let deferred = Items::new(Vec::new(alloc));
     let bytes = ByteText::new(Vec::from_slice(alloc, b"xyz")?);
-    let mut site = a_site(alloc, &facts())?;
+    let mut site = a_site(alloc, facts)?;
     let buffer = Buffer {
         len: 8,
         bytes,
@@ -105,6 +108,52 @@ pub(crate) fn go(
         Next::Ask(_asked, running) => resume(alloc, running, told, bytes, place, site, facts),
         Next::Wait(running) => resume(alloc, running, told, bytes, place, site, facts),
         Next::Done(_outcome) => Err(Fail::new("the call has ended")),
+    }
+}
+
+/// A call that asks this goes on with no reply, and what it asks then bears the place.
+pub(crate) fn go_at_once(
+    alloc: Global,
+    next: Next,
+    row: Row,
+    bytes: &[u8],
+    place: u64,
+    site: &mut Site,
+    facts: &Facts,
+) -> Result<Next, Fail>
+    requires sound { IsSound bytes.now site.old facts.now next }
+    requires within { AreWithin facts.now site.old }
+    ensures sound { IfOk result (IsSound bytes.now site.new facts.now) }
+    ensures within { IfOk result (λ n. AreWithin facts.now site.new) }
+{
+    if !does(&next, row) {
+        return Err(Fail::new(row.word));
+    }
+    match next {
+        Next::Ask(_asked, running) => resume_at_once(alloc, running, bytes, place, site, facts),
+        Next::Wait(_running) => Err(Fail::new("the call waits")),
+        Next::Done(_outcome) => Err(Fail::new("the call has ended")),
+    }
+}
+
+/// A call goes on with no reply.
+#[tactic(auto, using(crate::proofs::Within::still_within))]
+fn resume_at_once(
+    alloc: Global,
+    running: Running,
+    bytes: &[u8],
+    place: u64,
+    site: &mut Site,
+    facts: &Facts,
+) -> Result<Next, Fail>
+    requires sound { Sound running bytes.now site.old facts.now }
+    requires within { AreWithin facts.now site.old }
+    ensures sound { IfOk result (IsSound bytes.now site.new facts.now) }
+    ensures within { IfOk result (λ n. AreWithin facts.now site.new) }
+{
+    match go_on(alloc, running, None, bytes, place, site, facts) {
+        Ok(next) => Ok(next),
+        Err(_) => Err(Fail::new("no memory to go on")),
     }
 }
 

@@ -253,6 +253,7 @@ pub(crate) fn fits(running: &Running, reply: &Reply) -> bool
     match running {
         Running::Reading { len, .. } => bytes.len() <= *len as usize,
         Running::Gathering { len, .. } => bytes.len() <= *len as usize,
+        Running::FillingBuffer { offset, .. } => bytes.len() as u64 <= u64::MAX - *offset,
         _ => true,
     }
 }
