@@ -18,3 +18,4 @@ pub mod WholeReadLaws
 pub mod GrantLaws
 pub mod PassingLaws
 pub mod RunLaws
+pub mod DeferredLaws
