@@ -18,17 +18,12 @@ use Rattle.sftp_model.specs.declared.request.Request.{Request}
 use Rattle.sftp_model.specs.declared.request.Request.TheVariants as request
 use Rattle.sftp_calls.specs.Moves.{Answers, Own}
 use Rattle.sftp_read_back.specs.CallsAmong.{ToWrite}
-use Rattle.sftp_read_back.specs.DeferredWrites.{AreWrites, AreWritten, StandAlone, carried, content_in}
+use Rattle.sftp_read_back.specs.DeferredWrites.{AreWrites, AreWritten, StandAlone, carried, content_in, places}
 use Rattle.sftp_read_back.specs.Steps.{Step, answer_to, after, AreServed}
 use Rattle.sftp_read_back.proofs.HandleLaws.{file_stays}
 use Rattle.sftp_read_back.proofs.MoveWords.{code_of}
 use Rattle.sftp_read_back.proofs.StepLaws.{reply_is, step_well_formed}
 use Rattle.sftp_read_back.proofs.WriteLaws.{step_puts}
-
--- the places of requests
-abbrev pub places : Own → List ℕ
-places [] = []
-places (asked ∷ later) = asked.0 ∷ places later
 
 -- ---- one piece written after another
 

@@ -19,3 +19,5 @@ pub mod GrantLaws
 pub mod PassingLaws
 pub mod RunLaws
 pub mod DeferredLaws
+pub mod BufferStays
+pub mod BufferLaws

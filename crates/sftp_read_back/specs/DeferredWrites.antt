@@ -21,6 +21,11 @@ abbrev pub carried : Own → List ℕ
 carried [] = []
 carried (asked ∷ later) = content_in asked.1 ++ carried later
 
+-- their places
+abbrev pub places : Own → List ℕ
+places [] = []
+places (asked ∷ later) = asked.0 ∷ places later
+
 -- each is a WRITE by the handle, the first at the offset and each after the one before it
 abbrev pub AreWrites : List ℕ → ℕ → Own → Type 0
 AreWrites handle offset [] = Unit {0}
