@@ -18,3 +18,6 @@ pub mod WholeReadLaws
 pub mod GrantLaws
 pub mod PassingLaws
 pub mod RunLaws
+pub mod DeferredLaws
+pub mod BufferStays
+pub mod BufferLaws

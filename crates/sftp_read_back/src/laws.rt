@@ -1,5 +1,5 @@
 // Laws of the definitions. The functions do nothing: what they ensure holds of all values.
-ghost use Rattle.std.specs.Prelude.{◌≡◌, ◌≤◌, ℕ, Bool, List, [], ◌∷◌, ◌++◌, Option};
+ghost use Rattle.std.specs.Prelude.{◌≡◌, ◌<◌, ◌≤◌, ℕ, Bool, List, [], ◌∷◌, ◌++◌, Option, Some, length};
 ghost use Rattle.sftp_model.specs.Numbers.{SSH_FX_OK};
 ghost use Rattle.sftp_model.specs.declared.config.Choice.{Choice};
 ghost use Rattle.sftp_model.specs.declared.config.ServerConfig.{ServerConfig};
@@ -7,19 +7,27 @@ ghost use Rattle.sftp_model.specs.declared.error.Error.TheVariants as error;
 ghost use Rattle.sftp_model.specs.declared.outcome.Outcome.{Outcome};
 ghost use Rattle.sftp_model.specs.declared.outcome.Outcome.TheVariants as outcome;
 ghost use Rattle.sftp_model.specs.declared.reply.NameEntry.{NameEntry};
+ghost use Rattle.sftp_model.specs.declared.request.Request.{Request};
+ghost use Rattle.sftp_model.specs.declared.slot.Buffer.{Buffer};
 ghost use Rattle.sftp_model.specs.declared.slot.Facts.{Facts};
+ghost use Rattle.sftp_model.specs.declared.slot.FileAt.{FileAt};
 ghost use Rattle.sftp_model.specs.declared.slot.Site.{Site};
+ghost use Rattle.sftp_model.specs.declared.slot.Slot.TheVariants.{Buffered};
+ghost use Rattle.sftp_model.specs.Slots.{slot_at};
 ghost use Rattle.sftp_tree.specs.Changes.{IsWellFormed};
 ghost use Rattle.sftp_tree.specs.Components.{Name, components};
-ghost use Rattle.sftp_tree.specs.FileTree.{FileTree, node_at};
+ghost use Rattle.sftp_tree.specs.FileTree.{FileTree, bytes_of, node_at, opened_at, put};
 ghost use Rattle.sftp_tree.specs.NameRequests.{entries_at};
+ghost use Rattle.sftp_tree.specs.declared.opened.Held.{Held};
+ghost use Rattle.sftp_tree.specs.declared.opened.Opened.TheVariants as opened;
 ghost use Rattle.sftp_tree.specs.Trees.{IsTree, ListOnce};
 ghost use Rattle.sftp_calls.specs.CallPlans as call;
 ghost use Rattle.sftp_calls.specs.Moves.{Answers, Own};
 ghost use Rattle.sftp_calls.specs.PathPlans.{from_directory};
 ghost use Rattle.sftp_history.specs.declared.entry.Entry.{Entry};
 ghost use Rattle.sftp_history.specs.Served.{Serves};
-ghost use Rattle.sftp_read_back.specs.CallsAmong.{Gives, HasEnded, HasNoFile, StandsOnDirectory, StandsOnName, asked_by, refusal_of};
+ghost use Rattle.sftp_read_back.specs.CallsAmong.{Gives, HasEnded, HasNoFile, StandsOnDirectory, StandsOnName, ToWrite, asked_by, refusal_of};
+ghost use Rattle.sftp_read_back.specs.DeferredWrites.{AreWrites, AreWritten, StandAlone, carried, places};
 ghost use Rattle.sftp_read_back.specs.GrantUses.{AllPassBy, IsCallOn, IsRunOn};
 ghost use Rattle.sftp_read_back.specs.Steps.{Step, after, AllSpare, AreServed, HasBytes, RunOf};
 
@@ -125,4 +133,32 @@ pub fn reads_give_what_was_there()
         → IsCallOn answers grant_of elsewhere name read r rest
         → HasEnded (call.FsRead path bound) site facts (asked_by r ∷ read) answers ended
         → ended ≡ outcome.Refused (error.SftpError (refusal_of (node_at tree name)) [] []) }
+{}
+
+/// WRITEs that carry the parts of some bytes after one another, each answered by a STATUS 0, leave them in the file at
+/// the offset of the first, where nothing else changes the file between them; zeros fill a gap.
+pub fn deferred_writes_are_joined()
+    ensures { (config : ServerConfig) (answers : Answers) (h : List ℕ) (held : Held) (offset : ℕ) (steps : List Step)
+        (first : ℕ × Request) (later : Own) (tree : FileTree) → IsWellFormed tree
+        → opened_at tree h ≡ Some (opened.File held) → ToWrite held → AreServed config answers tree steps
+        → StandAlone config held.file h (first ∷ later) tree steps → AreWrites h offset (first ∷ later)
+        → AreWritten answers (places (first ∷ later))
+        → bytes_of (after config tree steps) held.file
+        ≡ put (bytes_of tree held.file) offset (carried (first ∷ later)) }
+{}
+
+/// Bytes that were written to a buffered file and flushed are in the file, at the offset at which it stood; zeros fill a
+/// gap. A call writes all of them, a flush of what it left ended well, and no other request changes the file from the
+/// first of the call's WRITEs to the last.
+pub fn flushed_writes_are_in_the_file()
+    ensures { (config : ServerConfig) (answers : Answers) (slot : ℕ) (file : FileAt) (buffer : Buffer)
+        (bytes : List ℕ) (site flush_site : Site) (facts flush_facts : Facts) (own flush_own : Own) (h : List ℕ)
+        (held : Held) (tree : FileTree) (steps : List Step) → IsWellFormed tree
+        → opened_at tree h ≡ Some (opened.File held) → ToWrite held → AreServed config answers tree steps
+        → StandAlone config held.file h own tree steps → 0 < length bytes
+        → slot_at site slot ≡ Buffered file buffer
+        → (written : HasEnded (call.BufWriteAll slot bytes) site facts own answers outcome.Done)
+        → slot_at flush_site slot ≡ slot_at written.left slot
+        → HasEnded (call.BufFlush slot) flush_site flush_facts flush_own answers outcome.Done
+        → bytes_of (after config tree steps) held.file ≡ put (bytes_of tree held.file) file.offset bytes }
 {}
