@@ -1,0 +1,7 @@
+mod AskLaws
+mod Begun
+mod Polling
+mod Holding
+mod Polled
+mod TurnLaws
+mod Turned
