@@ -1,10 +1,8 @@
 -- A call that ended in a journal: what it asked and ended by, whatever came later.
 use Rattle.std.proofs.Common.{◌≡◌, ◌<◌, ◌≤◌, ◌==◌, ◌+◌, ℕ, Bool, true, false, List, [], ◌∷◌, ◌++◌, Option, Some, None, if◌then◌else◌, refl, ap, sym, ◌∙◌, subst, arith, inl, inr}
 use Rattle.std.specs.Prelude.{MatchOption}
-use Rattle.std.proofs.lemmas.Bool.{ne_eqb}
 use Rattle.std.proofs.lemmas.Bool.Decides.{eqb_tells}
 use Rattle.sftp_model.specs.declared.outcome.Outcome.{Outcome}
-use Rattle.sftp_model.specs.declared.reply.Reply.{Reply}
 use Rattle.sftp_model.specs.declared.slot.Move.TheVariants.{Done}
 use Rattle.sftp_model.specs.declared.slot.Site.{Site}
 use Rattle.sftp_calls.specs.Moves.{Own}
@@ -12,10 +10,10 @@ use Rattle.sftp_calls.specs.OwnRequests.{Extends}
 use Rattle.sftp_history.proofs.CallLaws.{ended_end, next_submit, next_take}
 use Rattle.sftp_history.proofs.CallsSoFar.{calls_so_far}
 use Rattle.sftp_history.proofs.RequestLaws.{answer_stays}
-use Rattle.sftp_history.specs.Calls.{Setting, current, move_at, move_of, next, planned, site_of}
+use Rattle.sftp_history.specs.Calls.{Setting, current, move_at, next, planned, site_of}
 use Rattle.sftp_history.specs.Grants.{orphan}
 use Rattle.sftp_history.specs.Journals.{IsJournal, IsNext, MayCome, MustClose, cancelled_end}
-use Rattle.sftp_history.specs.Readings.{answer, ended, is_by, last_cancel, own}
+use Rattle.sftp_history.specs.Readings.{answer, ended, last_cancel, own}
 use Rattle.sftp_history.specs.declared.call.Call.{Call}
 use Rattle.sftp_history.specs.declared.entry.Entry.{Entry}
 use Rattle.sftp_history.specs.declared.entry.Entry.TheVariants as entry

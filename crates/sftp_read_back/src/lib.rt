@@ -11,4 +11,4 @@ pub use laws::{
     spared_names_stay, whole_reads_give_the_file, whole_writes_leave_their_bytes,
     writes_are_read_back,
 };
-pub use rows::runs_as_worked_out;
+pub use rows::{buffered_writes_as_worked_out, listings_as_worked_out, runs_as_worked_out};
