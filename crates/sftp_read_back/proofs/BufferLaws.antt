@@ -27,7 +27,7 @@ use Rattle.sftp_tree.specs.declared.opened.Opened.TheVariants as opened
 use Rattle.sftp_calls.proofs.SlotLaws.{set_there}
 use Rattle.sftp_calls.specs.BufferPlans.{after_write, ask_deferred, buf_flush_next, buf_write_all_next, buffered_rest, deferrable_len, flush_next, is_full, taken_out, with_capacity, with_deferred, written_slot}
 use Rattle.sftp_calls.specs.CallPlans as call
-use Rattle.sftp_calls.specs.Moves.{Answers, Own, ask_write, further, handle_of, on_buffered, on_status, once_answered, refused, refuses}
+use Rattle.sftp_calls.specs.Moves.{Answers, Own, further, handle_of, on_buffered, on_status, once_answered, refused, refuses}
 use Rattle.sftp_calls.specs.OwnRequests.{Extends}
 use Rattle.sftp_read_back.specs.CallsAmong.{HasEnded, ToWrite}
 use Rattle.sftp_read_back.specs.DeferredWrites.{AreWrites, AreWritten, StandAlone, carried, content_in, places}
@@ -286,9 +286,10 @@ flushed_writes config answers slot file buffer bytes site flush_site facts flush
     let on_slot : (later : Own) → buf_write_all_next slot bytes site facts later answers ≡ buffered_rest slot bytes file buffer site facts later answers =
     λ later. ap (λ (w : Slot). on_buffered w site (λ f b. buffered_rest slot bytes f b site facts later answers)) stands in
     let done : buf_write_all_next slot bytes site facts own answers ≡ Done outcome.Done written.left = still (buf_write_all_next slot bytes site facts own written.by) written.ends (like own) in
+    let on_it : buffered_rest slot bytes file buffer site facts own answers ≡ Done outcome.Done written.left = sym (on_slot own) ∙ done in
     let w = buffer_writes slot h facts answers own bytes file buffer site written.left stands
     (follow_like_as (λ later. buf_write_all_next slot bytes site facts later answers) (λ later. buffered_rest slot bytes file buffer site facts later answers) own on_slot follow_all)
-    (bear config held.file h steps own tree stand) (sym (on_slot own) ∙ done) in
+    (bear config held.file h steps own tree stand) on_it in
     let statuses : AreWritten flush.by (places_of w.buffer.deferred) = flushed slot w.file w.buffer flush_site flush.left flush_facts flush_own flush.by (same ∙ w.there) flush.ends in
     let each : AreWritten answers (places own) = rest_of (places_of buffer.deferred) (w.written (written_now flush.by answers (places_of w.buffer.deferred) flush.stay statuses)) in
     by_own own w.asks w.all each stand

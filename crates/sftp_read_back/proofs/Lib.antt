@@ -21,3 +21,4 @@ pub mod RunLaws
 pub mod DeferredLaws
 pub mod BufferStays
 pub mod BufferLaws
+pub mod JournalCalls

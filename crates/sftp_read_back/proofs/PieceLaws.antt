@@ -1,9 +1,9 @@
 -- Pieces of some bytes, each with its offset, that don't overlap: put in order and joined they are the bytes, where one
 -- begins at the start and at the end of each that doesn't end at the end of the bytes.
-use Rattle.std.proofs.Common.{◌≡◌, ℕ, ◌+◌, ◌<◌, ◌≤◌, Bool, true, false, List, [], ◌∷◌, ◌++◌, length, drop, if◌then◌else◌, refl, ap, sym, ◌∙◌, subst, arith, inl, inr}
-use Rattle.std.specs.Prelude.{◌⊎◌, filter, flat_map, map, nat_le, cond}
+use Rattle.std.proofs.Common.{◌≡◌, ℕ, ◌+◌, ◌<◌, ◌≤◌, Bool, true, false, List, [], ◌∷◌, ◌++◌, length, drop, if◌then◌else◌, refl, ap, sym, ◌∙◌, arith, inl, inr}
+use Rattle.std.specs.Prelude.{◌⊎◌, filter, flat_map, nat_le, cond}
 use Rattle.std.proofs.lemmas.Bool.Decides.{nat_tests}
-use Rattle.std.proofs.lemmas.List.{append-nil, drop_all, drop_at, drop-drop, length-append}
+use Rattle.std.proofs.lemmas.List.{drop_all, drop_at, drop-drop, length-append}
 use Rattle.sftp_calls.specs.WindowPlans.{content_end, in_order, put_in_order}
 use Rattle.sftp_calls.proofs.Among.{Among, from_filter}
 

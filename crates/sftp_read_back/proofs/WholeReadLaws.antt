@@ -1,5 +1,5 @@
 -- What a whole read gives of a file that stays as it is, with any number of READs under way.
-use Rattle.std.proofs.Common.{◌≡◌, ℕ, ◌≤◌, ◌==◌, Bool, true, false, List, [], ◌∷◌, length, Option, Some, None, if◌then◌else◌, refl, ap, sym, ◌∙◌, subst, inl, inr}
+use Rattle.std.proofs.Common.{◌≡◌, ℕ, ◌≤◌, Bool, true, false, List, [], ◌∷◌, length, Option, Some, None, if◌then◌else◌, refl, ap, sym, ◌∙◌, subst, inl, inr}
 use Rattle.std.specs.Prelude.{◌⊎◌, map, nat_lt}
 use Rattle.sftp_model.specs.Numbers.{SSH_FX_OK}
 use Rattle.sftp_model.specs.declared.config.ServerConfig.{ServerConfig}
@@ -23,17 +23,17 @@ use Rattle.sftp_calls.specs.FilePlans.{open_request}
 use Rattle.sftp_calls.specs.Moves.{Answers, Own, ask_path, handle_of, on_handle}
 use Rattle.sftp_calls.specs.OwnRequests.{AreAsked, MayBeAnswered, oldest_first}
 use Rattle.sftp_calls.specs.PathPlans.{from_directory}
-use Rattle.sftp_calls.specs.WindowPlans.{answered_prefix, ask_more, await_first, begins, contents, ends_or, first_refusal, gap_len, gaps, go_on, least, least_end, outside, reach, reaches, to_read, unless_refused, whole_content, window_next}
+use Rattle.sftp_calls.specs.WindowPlans.{answered_prefix, ask_more, await_first, begins, contents, ends_or, first_refusal, gaps, go_on, least, least_end, outside, reaches, to_read, unless_refused, whole_content, window_next}
 use Rattle.sftp_calls.proofs.Tiles.{Distinct}
 use Rattle.sftp_history.specs.Served.{IsReply}
 use Rattle.sftp_read_back.specs.CallsAmong.{Gives, HasEnded, HasNoFile, IsOpenTo, Stand, StandsOnName, ToRead, asked_by, refusal_of}
-use Rattle.sftp_read_back.specs.Steps.{Step, answer_to, after, AreServed, HasBytes}
+use Rattle.sftp_read_back.specs.Steps.{Step, answer_to, AreServed, HasBytes}
 use Rattle.sftp_read_back.proofs.MoveWords.{is_done, outcome_of, taken_is}
 use Rattle.sftp_read_back.proofs.OpenLaws.{open_is, opens_to_read, refuses_open, step_opens}
 use Rattle.sftp_read_back.proofs.ReadLaws.{AreParts, AreReads, reads_parts}
 use Rattle.sftp_read_back.proofs.StepLaws.{served_before, step_well_formed}
 use Rattle.sftp_read_back.proofs.WindowPieces.{LieApart, all_joined, no_refusal, prefix_parts, tiled_apart}
-use Rattle.sftp_read_back.proofs.WindowReads.{ReadsAsked, StartsAtStart, may_reads, reads_asked, reads_by_handle}
+use Rattle.sftp_read_back.proofs.WindowReads.{ReadsAsked, StartsAtStart, reads_asked, reads_by_handle}
 
 -- ---- how the plan ends
 

@@ -1,6 +1,6 @@
 -- The bytes that a whole read joins are those of its file, where each of its READs brought a part of them.
 use Rattle.std.proofs.Common.{◌≡◌, ◌<◌, ◌≤◌, ◌+◌, ◌==◌, ℕ, Bool, true, false, List, [], ◌∷◌, length, Option, Some, None, if◌then◌else◌, refl, sym, ap, subst, ◌∙◌, inl, inr, arith}
-use Rattle.std.specs.Prelude.{◌⊎◌, ◌&&◌, ◌||◌, cond, filter, is_some, map, nat_lt, not}
+use Rattle.std.specs.Prelude.{◌⊎◌, ◌||◌, cond, filter, is_some, map, nat_lt, not}
 use Rattle.std.specs.List.{list_any}
 use Rattle.std.proofs.lemmas.Bool.{eq-eqb}
 use Rattle.std.proofs.lemmas.Bool.Decides.{nat_tests}
@@ -12,7 +12,7 @@ use Rattle.sftp_calls.specs.Moves.{Answers, Own}
 use Rattle.sftp_calls.specs.WindowPlans.{answered_prefix, answered_then, begins, content_end, contents, first_refusal, gaps, least_end, outside, whole_content}
 use Rattle.sftp_calls.proofs.Among.{Among, MadeOf, among_map, from_filter, from_map, into_filter, least_among}
 use Rattle.sftp_calls.proofs.SpanLaws.{end_begins}
-use Rattle.sftp_calls.proofs.Spans.{HasSpan, extent_of, prefix_span, span_read}
+use Rattle.sftp_calls.proofs.Spans.{HasSpan, prefix_span, span_read}
 use Rattle.sftp_calls.proofs.Tiles.{Distinct, Tiled}
 use Rattle.sftp_calls.proofs.WindowAsks.{Gap, is_gap, is_gap_of}
 use Rattle.sftp_read_back.proofs.PieceLaws.{AreApart, BeginsAt, IsPiece, Piece, StandApart, filtered_apart, pieces_join}

@@ -1,5 +1,5 @@
 -- The OPEN and the READs of a whole read, as its plan asked them.
-use Rattle.std.proofs.Common.{◌≡◌, ◌<◌, ◌≤◌, ◌+◌, ◌*◌, ℕ, List, [], ◌∷◌, Option, Some, None, refl, sym, ap, subst, ◌∙◌, inl, inr, arith}
+use Rattle.std.proofs.Common.{◌≡◌, ◌≤◌, ◌+◌, ◌*◌, ℕ, List, [], ◌∷◌, Option, Some, None, refl, sym, ap, subst, ◌∙◌, inl, inr, arith}
 use Rattle.std.specs.Prelude.{◌++◌, ◌⊎◌, IfSome, length, map}
 use Rattle.std.proofs.Math.Nat.{suc-mul}
 use Rattle.sftp_model.specs.Answers.{MayAnswer}
@@ -21,7 +21,7 @@ use Rattle.sftp_calls.proofs.AskedReads.{may_oldest}
 use Rattle.sftp_calls.proofs.OpenSteps.{windowed_added}
 use Rattle.sftp_calls.proofs.WindowAsks.{AfterAll, Asking, AtGap, asking, ends_no_ask}
 use Rattle.sftp_calls.proofs.WindowSteps.{Windowed, none_windowed, windowed_later}
-use Rattle.sftp_read_back.proofs.ReadLaws.{AreReads, IsRead}
+use Rattle.sftp_read_back.proofs.ReadLaws.{AreReads}
 
 -- ---- replies that may answer
 

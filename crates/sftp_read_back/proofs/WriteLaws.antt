@@ -1,7 +1,6 @@
 -- What a WRITE leaves that is answered by STATUS 0.
-use Rattle.std.proofs.Common.{◌≡◌, ℕ, ◌+◌, ◌-◌, Bool, true, false, List, [], ◌∷◌, ◌++◌, length, take, drop, Some, None, if◌then◌else◌, refl, ap, sym, ◌∙◌, subst, arith}
-use Rattle.std.specs.Prelude.{◌<◌, max, replicate}
-use Rattle.std.specs.Str.{bytes_eq}
+use Rattle.std.proofs.Common.{◌≡◌, ℕ, ◌+◌, ◌-◌, Bool, true, false, List, [], ◌++◌, length, drop, Some, if◌then◌else◌, refl, ap, sym, ◌∙◌, subst, arith}
+use Rattle.std.specs.Prelude.{max, replicate}
 use Rattle.std.proofs.lemmas.Bool.{eq-eqb}
 use Rattle.std.proofs.lemmas.List.{append-nil, take_all, drop_all, get_or-set_same}
 use Rattle.sftp_model.specs.Numbers.{SSH_FX_FAILURE, SSH_FX_OK}
@@ -10,8 +9,6 @@ use Rattle.sftp_model.specs.declared.config.ServerConfig.{ServerConfig}
 use Rattle.sftp_model.specs.declared.request.Request.{Request}
 use Rattle.sftp_model.specs.declared.request.Request.TheVariants as request
 use Rattle.sftp_tree.proofs.LossLaws.{name_has}
-use Rattle.sftp_tree.proofs.NameLaws.{handles_tell}
-use Rattle.sftp_tree.proofs.PairLaws.{found_has}
 use Rattle.sftp_tree.specs.Changes.{Closes, IsWellFormed}
 use Rattle.sftp_tree.specs.Components.{Name}
 use Rattle.sftp_tree.specs.FileTree.{FileTree, bytes_of, is_over, opened_at, put, resized, size_of, with_bytes}

@@ -4,3 +4,4 @@ pub mod CallsAmong
 pub mod GrantUses
 pub mod ReadBackRows
 pub mod DeferredWrites
+pub mod OtherRows

@@ -2,7 +2,7 @@
 use Rattle.std.specs.Prelude.{◌≡◌, ◌≢◌, ℕ, zero, suc, ◌+◌, ◌==◌, ◌⊎◌, Bool, true, false, ◌&&◌, List, [], ◌∷◌, ◌++◌, codes, take, drop, Option, Some, None, if◌then◌else◌, slice_get, slice_index_or, refl}
 use Rattle.std.proofs.Common.{ap, sym, ◌∙◌, subst, arith, inl, inr}
 use Rattle.std.proofs.lemmas.Bool.Decides.{nat_tests}
-use Rattle.ssh_encoding.specs.Writing.{string, uint32, uint64}
+use Rattle.ssh_encoding.specs.Writing.{string, uint32}
 use Rattle.sftp_model.specs.Frames.{attributes, no_attributes, request_body}
 use Rattle.sftp_model.specs.Numbers.{POSIX_RENAME, SSH_FXF_CREAT, SSH_FXF_WRITE}
 use Rattle.sftp_model.specs.Slots.{fresh_site}
@@ -20,7 +20,6 @@ use Rattle.sftp_calls.specs.CallPlans as call
 use Rattle.sftp_calls.specs.FilePlans.{open_request}
 use Rattle.sftp_calls.specs.Moves.{Answers, Own}
 use Rattle.sftp_calls.specs.OwnRequests.{Extends}
-use Rattle.sftp_calls.specs.PathPlans.{from_directory}
 use Rattle.sftp_calls.specs.PlanWords.{facts}
 use Rattle.sftp_calls.specs.WholePlans.{to_replace}
 use Rattle.sftp_calls.specs.WindowPlans.{to_read}
@@ -176,7 +175,7 @@ the_grant : (n g : ℕ) → (let o : Option ℕ = Some n in o) ≡ Some g → n 
 the_grant n g e = cc
 
 -- replies that were taken stay
-extends_more : (xs ys : List Reply) → Extends (λ place. slice_get xs place) (λ place. slice_get (xs ++ ys) place)
+pub extends_more : (xs ys : List Reply) → Extends (λ place. slice_get xs place) (λ place. slice_get (xs ++ ys) place)
 extends_more [] ys place r e = absurd cc
 extends_more (x ∷ xs) ys zero r e = e
 extends_more (x ∷ xs) ys (suc place) r e = extends_more xs ys place r e

@@ -1,5 +1,5 @@
 // Laws of the definitions. The functions do nothing: what they ensure holds of all values.
-ghost use Rattle.std.specs.Prelude.{◌≡◌, ◌<◌, ◌≤◌, ℕ, Bool, List, [], ◌∷◌, ◌++◌, Option, Some, length};
+ghost use Rattle.std.specs.Prelude.{◌≡◌, ◌<◌, ◌≤◌, ℕ, Bool, List, [], ◌∷◌, ◌++◌, None, Option, Some, length};
 ghost use Rattle.sftp_model.specs.Numbers.{SSH_FX_OK};
 ghost use Rattle.sftp_model.specs.declared.config.Choice.{Choice};
 ghost use Rattle.sftp_model.specs.declared.config.ServerConfig.{ServerConfig};
@@ -24,7 +24,13 @@ ghost use Rattle.sftp_tree.specs.Trees.{IsTree, ListOnce};
 ghost use Rattle.sftp_calls.specs.CallPlans as call;
 ghost use Rattle.sftp_calls.specs.Moves.{Answers, Own};
 ghost use Rattle.sftp_calls.specs.PathPlans.{from_directory};
+ghost use Rattle.sftp_history.specs.declared.call.Call.{Call};
 ghost use Rattle.sftp_history.specs.declared.entry.Entry.{Entry};
+ghost use Rattle.sftp_history.specs.declared.entry.Entry.TheVariants as entry;
+ghost use Rattle.sftp_history.specs.declared.event.Event.TheVariants.{End};
+ghost use Rattle.sftp_history.specs.Calls.{Setting, current, planned, site_of};
+ghost use Rattle.sftp_history.specs.Journals.{IsJournal};
+ghost use Rattle.sftp_history.specs.Readings.{answer, ended, last_cancel, own};
 ghost use Rattle.sftp_history.specs.Served.{Serves};
 ghost use Rattle.sftp_read_back.specs.CallsAmong.{Gives, HasEnded, HasNoFile, StandsOnDirectory, StandsOnName, ToWrite, asked_by, refusal_of};
 ghost use Rattle.sftp_read_back.specs.DeferredWrites.{AreWrites, AreWritten, StandAlone, carried, places};
@@ -35,6 +41,17 @@ ghost use Rattle.sftp_read_back.specs.Steps.{Step, after, AllSpare, AreServed, H
 pub fn served_journals_are_runs()
     ensures { (config : ServerConfig) (choices : List Choice) (first : FileTree) (past : List Entry) (now : FileTree)
         → Serves config choices first past now → RunOf config choices first past now }
+{}
+
+/// A call of a lane that ended by its plan made the requests that its plan asked by the replies of then, and by these it
+/// ended, whatever came after its end.
+pub fn ended_calls_went_by_their_plans()
+    ensures { (s : Setting) (past more : List Entry) (lane : ℕ) (c : Call) (o : Outcome)
+        → IsJournal s (more ++ entry.Event (End lane (ended past lane) o) ∷ past) → last_cancel past ≡ None
+        → current s past lane ≡ Some c
+        → HasEnded (planned c) (site_of s past lane) s.facts
+        (own (more ++ entry.Event (End lane (ended past lane) o) ∷ past) lane (ended past lane))
+        (answer (more ++ entry.Event (End lane (ended past lane) o) ∷ past)) o }
 {}
 
 /// Steps that spare a name leave what it has, be it a file, a directory or nothing, and the bytes of its file.
