@@ -42,7 +42,7 @@ stand_submit past by id r (a ∷ requests) st =
 -- ---- replies
 
 -- a reply that was taken may answer its request
-reply_may : (s : Setting) (past : List Entry) (place : ℕ) (q : Reply) (x : Asked) → IsJournal s past → answer past place ≡ Some q → asked_at past place ≡ Some x → may_answer x.request q ≡ true
+pub reply_may : (s : Setting) (past : List Entry) (place : ℕ) (q : Reply) (x : Asked) → IsJournal s past → answer past place ≡ Some q → asked_at past place ≡ Some x → may_answer x.request q ≡ true
 reply_may s [] place q x j got is = absurd cc
 reply_may s (entry.Event (Submit by id r) ∷ past) place q x j got is =
     elim (eqb_tells place (asked past)) [

@@ -22,7 +22,7 @@ use Rattle.sftp_plan.proofs.SlotSets.{set_at, set_twice}
 -- ---- the same offset, from either site
 
 -- where the slot holds this file, the offset asked last is set
-transfer_of : (slot : ℕ) (site : Site) (facts : Facts) (file : FileAt) (own : Own) (answers : Answers) → slot_at site slot ≡ File file
+pub transfer_of : (slot : ℕ) (site : Site) (facts : Facts) (file : FileAt) (own : Own) (answers : Answers) → slot_at site slot ≡ File file
     → cancelled_transfer slot site facts own answers ≡ with_slot site slot (File (record file { offset = last_offset file.offset own }))
 transfer_of slot site facts file own answers at = ap (λ (x : Slot). left_on_file x site (λ f. with_slot site slot (File (record f { offset = last_offset f.offset own })))) at
 

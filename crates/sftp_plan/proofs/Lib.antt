@@ -1,3 +1,4 @@
+mod Asking
 mod BufferSets
 mod Deferring
 mod Fewer
@@ -7,4 +8,5 @@ mod Going
 pub mod Keeping
 mod Leaving
 pub mod LeftLaws
+pub mod OwnLaws
 mod SlotSets

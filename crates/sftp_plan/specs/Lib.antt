@@ -4,5 +4,6 @@ pub mod Cancelling
 pub mod Deferrals
 pub mod Sound
 pub mod Pending
+pub mod Asking
 pub mod MachineRows
 pub mod Seeks

@@ -1,11 +1,14 @@
 //! `close`: the slot is emptied, and the last slot of a file sends its CLOSE.
-ghost use Rattle.std.specs.Prelude.{[], ◌<◌, length, Some, None};
+ghost use Rattle.std.specs.Prelude.{[], ◌≡◌, ◌<◌, true, length, Some, None};
+ghost use Rattle.sftp_model.specs.declared.slot.Site.{Site as SiteValue};
+ghost use Rattle.sftp_model.specs.Slots.{has_grant};
 ghost use Rattle.sftp_calls.specs.CallPlans as call;
 ghost use Rattle.sftp_calls.specs.FilePlans.{close_grant_next};
 ghost use Rattle.sftp_plan.specs.Machines.{Begins, Goes};
 ghost use Rattle.sftp_plan.specs.Cancelling.{BeginsLeaving, Leaves, NeverWaits};
 ghost use Rattle.sftp_plan.specs.Sound.{Sounds};
 ghost use Rattle.sftp_plan.specs.Pending.{Pends, pends_idle};
+ghost use Rattle.sftp_plan.specs.Asking.{Asks};
 
 use crate::next::{Asked, EndsBy, Next, Running};
 use crate::site::{holds_grant, set_slot, slot_of};
@@ -18,6 +21,7 @@ pub fn begin_close(slot: u8, place: u64, site: &mut Site, facts: &Facts) -> Next
     ensures left { BeginsLeaving (call.Close slot) place site.old site.new facts.now result }
     ensures sound { Sounds [] facts.now site.old site.new result }
     ensures pends { Pends (pends_idle site.old) place site.new result }
+    ensures asks { Asks None place site.old result }
 {
     let grant = match slot_of(site, slot) {
         Slot::Empty => return Next::Done(Outcome::NoFile),
@@ -35,6 +39,7 @@ fn close_grant(grant: u64, place: u64, site: &Site, facts: &Facts) -> Next
     ensures left { Leaves (λ own answers. site.now) place [] site.now facts.now result }
     ensures sound { Sounds [] facts.now site.now site.now result }
     ensures pends { Pends (pends_idle site.now) place site.now result }
+    ensures grants { (old : SiteValue) → has_grant old grant ≡ true → Asks None place old result }
 {
     if holds_grant(site, grant) {
         return Next::Done(Outcome::Done);

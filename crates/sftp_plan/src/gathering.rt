@@ -1,5 +1,5 @@
 //! `read_all`: what is missing after what was got, again and again.
-ghost use Rattle.std.specs.Prelude.{◌≡◌, ◌<◌, [], ◌∷◌, ◌++◌, length, List, ℕ, Some, None, IfOk, OnErr};
+ghost use Rattle.std.specs.Prelude.{◌≡◌, ◌<◌, [], ◌∷◌, ◌++◌, length, List, ℕ, Option, Some, None, IfOk, OnErr};
 ghost use Rattle.sftp_model.specs.declared.reply.Reply.TheVariants as reply;
 ghost use Rattle.sftp_model.specs.declared.slot.Site.{Site as SiteValue};
 ghost use Rattle.sftp_calls.specs.CallPlans as call;
@@ -9,6 +9,7 @@ ghost use Rattle.sftp_plan.specs.Machines.{Begins, Goes, after, content_after};
 ghost use Rattle.sftp_plan.specs.Cancelling.{AsksOffset, BeginsLeaving, Leaves, left_kept};
 ghost use Rattle.sftp_plan.specs.Sound.{CanMove, HasRoom, IsKept, Sounds};
 ghost use Rattle.sftp_plan.specs.Pending.{Pends, pends_after, pends_idle};
+ghost use Rattle.sftp_plan.specs.Asking.{AsksOn, HasGrant};
 
 use crate::next::{Asked, Next, Running};
 use crate::replies::{refused, status_refusal};
@@ -37,6 +38,8 @@ pub fn read_rest(
         → Sounds bytes facts.now site site result }
     ensures pends { (site : SiteValue) → Pends (pends_idle site) place site result }
     ensures asks { AsksOffset result }
+    ensures grants { (site : SiteValue) (opened : Option ℕ) → HasGrant site opened file.grant
+        → AsksOn opened place site result }
 {
     if left == 0 {
         return Next::Done(Outcome::Bytes(got));
@@ -128,6 +131,7 @@ fn content_came(
     ensures sound { (bytes : List ℕ) → IfOk result (Sounds bytes facts.now site.old site.new) }
     ensures pends { IfOk result (Pends (pends_after (running.Gathering awaited slot file got left len) site.old
         (Some (reply.Content content))) place site.new) }
+    ensures asks { IfOk result (AsksOn None place site.old) }
     ensures err { OnErr result (site.new ≡ site.old) }
 {
     let count = content.len() as u64;
@@ -167,6 +171,7 @@ pub(crate) fn content_replied(
     ensures sound { (bytes : List ℕ) → IfOk result (Sounds bytes facts.now site.old site.new) }
     ensures pends { IfOk result (Pends (pends_after (running.Gathering awaited slot file got left len) site.old
         (Some reply)) place site.new) }
+    ensures asks { IfOk result (AsksOn None place site.old) }
     ensures err { OnErr result (site.new ≡ site.old) }
 {
     match reply {

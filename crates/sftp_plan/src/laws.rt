@@ -1,5 +1,5 @@
 // Laws of what is left of a plan. The functions do nothing: what they ensure holds of all values.
-ghost use Rattle.std.specs.Prelude.{◌≡◌, ℕ, List, Some, None};
+ghost use Rattle.std.specs.Prelude.{◌≡◌, ◌≢◌, ℕ, List, [], Some, None};
 ghost use Rattle.sftp_model.specs.declared.reply.Reply.{Reply};
 ghost use Rattle.sftp_model.specs.declared.slot.Facts.{Facts};
 ghost use Rattle.sftp_model.specs.declared.slot.Site.{Site};
@@ -7,6 +7,8 @@ ghost use Rattle.sftp_calls.specs.Moves.{Answers, Own};
 ghost use Rattle.sftp_plan.specs.declared.next.Running.{Running};
 ghost use Rattle.sftp_plan.specs.Cancelling.{left_after, left_behind};
 ghost use Rattle.sftp_plan.specs.Machines.{after, awaited, idle, residual};
+ghost use Rattle.sftp_plan.specs.Pending.{own_place};
+ghost use Rattle.sftp_plan.specs.Sound.{Sound};
 
 /// A call that was begun goes on by the reply that it awaits: it waits while that is missing, and else goes on after
 /// it; a call that awaits none goes on at once.
@@ -28,4 +30,11 @@ pub fn cancelled_calls_leave_by_awaited_replies()
         (answers : Answers) (place : ℕ) (r : Reply) → awaited running site ≡ Some place → answers place ≡ Some r
         → left_behind running bytes site facts later answers
         ≡ left_after running bytes site facts (Some r) later answers }
+{}
+
+/// A call that is cancelled while it awaits the reply to a request of its own leaves its site as it is.
+pub fn own_calls_leave_their_site()
+    ensures { (running : Running) (bytes : List ℕ) (site : Site) (facts : Facts) (answers : Answers)
+        → own_place (Some running) ≢ None → Sound running bytes site facts
+        → left_behind running bytes site facts [] answers ≡ site }
 {}

@@ -30,7 +30,10 @@ pub use closing::begin_close;
 pub use file_calls::{begin_copy, begin_meta, begin_set_len, begin_set_perm, begin_sync};
 pub use gathering::{begin_read_all, read_rest};
 pub use going_on::go_on;
-pub use laws::{calls_go_on_by_awaited_replies, cancelled_calls_leave_by_awaited_replies};
+pub use laws::{
+    calls_go_on_by_awaited_replies, cancelled_calls_leave_by_awaited_replies,
+    own_calls_leave_their_site,
+};
 pub use local_calls::{begin_buffer, begin_clone, begin_cwd, begin_seek, begin_unbuffer, sought};
 pub use next::{Asked, EndsBy, Next, Running};
 pub use opening::{begin_open, opened_file};

@@ -8,6 +8,7 @@ ghost use Rattle.sftp_plan.specs.Machines.{Begins};
 ghost use Rattle.sftp_plan.specs.Cancelling.{BeginsLeaving};
 ghost use Rattle.sftp_plan.specs.Sound.{Keeps, Sounds};
 ghost use Rattle.sftp_plan.specs.Pending.{Fewer, Pends, pends_idle};
+ghost use Rattle.sftp_plan.specs.Asking.{Asks};
 
 use crate::next::{Asked, Next, Running};
 use crate::replies::{refused, status_refusal};
@@ -61,6 +62,7 @@ pub fn begin_open(
         place site.now site.now facts.now) }
     ensures sound { IfOk result (Sounds [] facts.now site.now site.now) }
     ensures pends { IfOk result (Pends (pends_idle site.now) place site.now) }
+    ensures asks { IfOk result (Asks None place site.now) }
 {
     let path = RemotePath::new(Vec::from_slice(alloc, path)?);
     let request = open_request(path, flags);

@@ -8,6 +8,7 @@ ghost use Rattle.sftp_plan.specs.Machines.{Begins};
 ghost use Rattle.sftp_plan.specs.Cancelling.{BeginsLeaving};
 ghost use Rattle.sftp_plan.specs.Sound.{HasRoom, Keeps, Sounds};
 ghost use Rattle.sftp_plan.specs.Pending.{Fewer, Pends, pends_idle};
+ghost use Rattle.sftp_plan.specs.Asking.{Asks};
 
 use crate::next::{Asked, Next, Running};
 use crate::replies::{refused, status_refusal};
@@ -25,6 +26,7 @@ pub fn begin_read(slot: u8, n: u32, place: u64, site: &Site, facts: &Facts) -> N
     ensures left { BeginsLeaving (call.Read slot n) place site.now site.now facts.now result }
     ensures sound { Sounds [] facts.now site.now site.now result }
     ensures pends { Pends (pends_idle site.now) place site.now result }
+    ensures asks { Asks None place site.now result }
 {
     let Slot::File(file) = slot_of(site, slot) else {
         return Next::Done(Outcome::NoFile);

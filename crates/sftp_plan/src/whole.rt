@@ -12,6 +12,7 @@ ghost use Rattle.sftp_plan.specs.Machines.{Begins, Goes, after};
 ghost use Rattle.sftp_plan.specs.Cancelling.{BeginsLeaving, Leaves};
 ghost use Rattle.sftp_plan.specs.Sound.{Sounds};
 ghost use Rattle.sftp_plan.specs.Pending.{Pends, pends_after, pends_idle};
+ghost use Rattle.sftp_plan.specs.Asking.{AsksOn, opened_after};
 
 use crate::next::{Asked, Next, Running};
 use crate::opening::{open_request, opened_file};
@@ -81,6 +82,7 @@ pub(crate) fn whole_opened(
         place bytes.now site.now facts.now) }
     ensures sound { IfOk result (Sounds bytes.now facts.now site.now site.now) }
     ensures pends { IfOk result (Pends (pends_after (running.OpeningToWrite grant) site.now (Some reply)) place site.now) }
+    ensures asks { IfOk result (AsksOn (opened_after (running.OpeningToWrite grant) (Some reply)) place site.now) }
 {
     match reply {
         Reply::Handle(_handle) => {
@@ -132,6 +134,7 @@ fn list_rest(grant: u64, got: Items<NameEntry>, bound: u32, place: u64) -> Next
     ensures sound { (site : SiteValue) (facts : FactsValue) (bytes : List ℕ)
         → Sounds bytes facts site site result }
     ensures pends { (site : SiteValue) → Pends (pends_idle site) place site result }
+    ensures asks { (site : SiteValue) → AsksOn (Some grant) place site result }
 {
     if bound == 0 {
         return Next::Done(Outcome::GivenUp);
@@ -172,6 +175,7 @@ pub(crate) fn directory_opened(
     ensures sound { (bytes : List ℕ) → Sounds bytes facts.now site.now site.now result }
     ensures pends { Pends (pends_after (running.OpeningDirectory grant bound) site.now
         (Some reply)) place site.now result }
+    ensures asks { AsksOn (opened_after (running.OpeningDirectory grant bound) (Some reply)) place site.now result }
 {
     match reply {
         Reply::Handle(_handle) => list_rest(grant, no_entries(alloc), bound, place),
@@ -213,6 +217,7 @@ fn names_came(
     ensures sound { (bytes : List ℕ) → IfOk result (Sounds bytes facts.now site.now site.now) }
     ensures pends { IfOk result (Pends (pends_after (running.Listing awaited grant got bound) site.now
         (Some (reply.Names names))) place site.now) }
+    ensures asks { IfOk result (AsksOn (Some grant) place site.now) }
 {
     if names.as_slice().is_empty() {
         return Ok(Next::Done(Outcome::Names(got)));
@@ -240,6 +245,7 @@ pub(crate) fn names_replied(
         place bytes site.now facts.now) }
     ensures sound { (bytes : List ℕ) → IfOk result (Sounds bytes facts.now site.now site.now) }
     ensures pends { IfOk result (Pends (pends_after (running.Listing awaited grant got bound) site.now (Some reply)) place site.now) }
+    ensures asks { IfOk result (AsksOn (Some grant) place site.now) }
 {
     match reply {
         Reply::Names(names) => names_came(awaited, grant, got, bound, names, place, site, facts),

@@ -1,5 +1,5 @@
 //! `write`, `write_all` and `write_parts`: each WRITE after the STATUS of OK to the one before.
-ghost use Rattle.std.specs.Prelude.{◌≡◌, ◌<◌, ◌≤◌, length, drop, List, ℕ, Some, None, IfOk, OnErr};
+ghost use Rattle.std.specs.Prelude.{◌≡◌, ◌<◌, ◌≤◌, length, drop, List, ℕ, Option, Some, None, IfOk, OnErr};
 ghost use Rattle.sftp_model.specs.declared.slot.Facts.{Facts as FactsValue};
 ghost use Rattle.sftp_model.specs.declared.slot.Move.TheVariants.{Done};
 ghost use Rattle.sftp_model.specs.declared.slot.Site.{Site as SiteValue};
@@ -10,6 +10,7 @@ ghost use Rattle.sftp_plan.specs.Machines.{Begins, Goes, after, keep_in};
 ghost use Rattle.sftp_plan.specs.Cancelling.{AsksOffset, BeginsLeaving, Leaves, left_kept};
 ghost use Rattle.sftp_plan.specs.Sound.{CanMove, HasSlot, IsKept, Keeps, Sounds};
 ghost use Rattle.sftp_plan.specs.Pending.{Fewer, Pends, pends_after, pends_idle};
+ghost use Rattle.sftp_plan.specs.Asking.{AsksOn, HasFile, opened_after};
 
 use crate::next::{Asked, Next, Running};
 use crate::replies::{failure, refused};
@@ -122,6 +123,8 @@ pub fn write_rest(
         → IfOk result (Sounds bytes.now facts.now site site) }
     ensures pends { (site : SiteValue) → IfOk result (Pends (pends_idle site) place site) }
     ensures asks { IfOk result AsksOffset }
+    ensures grants { (site : SiteValue) (opened : Option ℕ) → HasFile site opened slot file
+        → IfOk result (AsksOn opened place site) }
 {
     let rest = &bytes[done..];
     if rest.is_empty() {
@@ -227,6 +230,7 @@ pub(crate) fn part_replied(
         place bytes.now site.new facts.now) }
     ensures sound { IfOk result (Sounds bytes.now facts.now site.old site.new) }
     ensures pends { IfOk result (Pends (pends_after (running.Writing awaited slot file done) site.old (Some reply)) place site.new) }
+    ensures asks { IfOk result (AsksOn (opened_after (running.Writing awaited slot file done) (Some reply)) place site.old) }
     ensures err { OnErr result (site.new ≡ site.old) }
 {
     if let Some(outcome) = failure(reply) {

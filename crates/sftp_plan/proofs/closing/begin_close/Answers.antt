@@ -1,8 +1,9 @@
-use Rattle.std.proofs.Common.{◌≡◌, sym, ◌∙◌, refl, []}
+use Rattle.std.proofs.Common.{◌≡◌, sym, ◌∙◌, ap, refl, []}
 use Rattle.sftp_model.specs.declared.slot.Slot.TheVariants.{Empty, File, Buffered}
-use Rattle.sftp_model.specs.Slots.{slot_at, with_slot}
+use Rattle.sftp_model.specs.Slots.{has_grant, slot_at, with_slot}
 use Rattle.sftp_calls.specs.FilePlans.{close_slot_next, close_grant_next}
 use Rattle.sftp_plan.specs.Pending.{pends_idle}
+use Rattle.sftp_plan.proofs.Asking.{buffered_held, file_held}
 use Rattle.sftp_plan.proofs.Going.{goes_as}
 use Rattle.sftp_plan.proofs.Keeping.{keeps_set}
 use Rattle.sftp_plan.proofs.Fewer.{fewer_set, pends_less}
@@ -24,3 +25,9 @@ pub returns-clause-pends : goal.returns-clause-pends
 returns-clause-pends c =
     let fewer = fewer_set c.args.site.now c.set_slot.new.site c.args.slot Empty c.set_slot.ensures c.requires (λ q. refl) in
     pends_less (pends_idle c.set_slot.new.site) (pends_idle c.args.site.now) c.args.place c.set_slot.new.site c.close_grant.result (λ q. fewer.each q) c.close_grant.ensures.pends
+
+pub returns-clause-asks : goal.returns-clause-asks
+returns-clause-asks c = c.close_grant.ensures.grants c.args.site.now (elim c.match-slot_of.branch [
+  | in-File w ↦ ap (has_grant c.args.site.now) w.grant-is ∙ file_held c.args.site.now c.args.slot w.in-File.file (sym c.slot_of.ensures ∙ w.in-File.is)
+  | in-Buffered w ↦ ap (has_grant c.args.site.now) w.grant-is ∙ buffered_held c.args.site.now c.args.slot w.in-Buffered.file w.in-Buffered.field-1 (sym c.slot_of.ensures ∙ w.in-Buffered.is)
+])

@@ -1,4 +1,5 @@
-use Rattle.std.proofs.Common.{◌≡◌, ◌+◌, ◌-◌, rules, length, Some}
+use Rattle.std.proofs.Common.{◌≡◌, ◌+◌, ◌-◌, rules, length, inl, Some, None}
+use Rattle.sftp_plan.proofs.Asking.{file_held}
 use Rattle.sftp_plan.proofs.Going.{content_goes}
 use Rattle.sftp_plan.proofs.Leaving.{leaves_moved}
 use Rattle.sftp_plan.proofs.Fewer.{kept_pends}
@@ -25,3 +26,6 @@ returns-clause-sound c bytes = (
 pub returns-clause-pends : goal.returns-clause-pends
 returns-clause-pends c =
     kept_pends (Some c.args.slot) c.args.awaited c.args.file (c.args.file.offset + c.len-count.result) c.args.place c.args.site.now c.set_slot.new.site c.read_rest-next.result c.requires.kept c.set_slot.ensures (c.read_rest-next.ensures.pends c.set_slot.new.site)
+
+pub returns-clause-asks : goal.returns-clause-asks
+returns-clause-asks c = c.read_rest-next.ensures.grants c.args.site.now None (inl (file_held c.args.site.now c.args.slot c.args.file c.requires.kept.1))

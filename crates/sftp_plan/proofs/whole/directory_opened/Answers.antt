@@ -16,3 +16,6 @@ returns-in-Handle-clause-sound c bytes = c.list_rest.ensures.sound c.args.site.n
 pub returns-in-Handle-clause-pends : goal.returns-in-Handle-clause-pends
 returns-in-Handle-clause-pends c = pends_less (pends_idle c.args.site.now) (pends_after (running.OpeningDirectory c.args.grant c.args.bound) c.args.site.now (Some c.args.reply)) c.args.place c.args.site.now c.list_rest.result
     (λ q. taken_off (one c.args.grant q) (slots_times q c.args.site.now.slots)) (c.list_rest.ensures.pends c.args.site.now)
+
+pub returns-in-Handle-clause-asks : goal.returns-in-Handle-clause-asks
+returns-in-Handle-clause-asks c = rw c.in-Handle.is (c.list_rest.ensures.asks c.args.site.now)

@@ -1,4 +1,5 @@
-use Rattle.std.proofs.Common.{Some}
+use Rattle.std.proofs.Common.{ap, sym, Some}
+use Rattle.sftp_model.specs.declared.slot.FileAt.{FileAt}
 use Rattle.sftp_plan.specs.declared.next.Running.TheVariants as running
 use Rattle.sftp_plan.specs.Pending.{one, pends_after, pends_idle, slots_times}
 use Rattle.sftp_plan.proofs.Fewer.{pends_if_ok, taken_off}
@@ -13,3 +14,6 @@ returns-in-Handle-clause-left c = c.write_rest.ensures.left c.args.site.now tt
 pub returns-in-Handle-clause-pends : goal.returns-in-Handle-clause-pends
 returns-in-Handle-clause-pends c = pends_if_ok (pends_idle c.args.site.now) (pends_after (running.OpeningToWrite c.args.grant) c.args.site.now (Some c.args.reply)) c.args.place c.args.site.now c.write_rest.result
     (λ q. taken_off (one c.args.grant q) (slots_times q c.args.site.now.slots)) (c.write_rest.ensures.pends c.args.site.now)
+
+pub returns-in-Handle-clause-asks : goal.returns-in-Handle-clause-asks
+returns-in-Handle-clause-asks c = rw c.in-Handle.is (c.write_rest.ensures.grants c.args.site.now (Some c.args.grant) (ap (λ (f : FileAt). Some f.grant) (sym c.file_to_replace-file.ensures)))

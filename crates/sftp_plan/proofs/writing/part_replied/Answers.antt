@@ -1,6 +1,9 @@
 use Rattle.std.proofs.Common.{◌≡◌, ◌+◌, sym, ◌∙◌, ap, drop, min}
 use Rattle.std.proofs.lemmas.List.{length-drop}
 use Rattle.sftp_calls.specs.TransferPlans.{part_len}
+use Rattle.sftp_plan.specs.declared.next.Running.TheVariants as running
+use Rattle.sftp_plan.specs.Asking.{opened_by}
+use Rattle.sftp_plan.proofs.Asking.{kept_has}
 use Rattle.sftp_plan.proofs.Going.{part_goes}
 use Rattle.sftp_plan.proofs.Leaving.{leaves_moved}
 use Rattle.sftp_plan.proofs.Fewer.{kept_pends}
@@ -25,3 +28,7 @@ returns-clause-sound c = (
 
 pub returns-clause-pends : goal.returns-clause-pends
 returns-clause-pends c = kept_pends c.args.slot c.args.awaited c.args.file (c.args.file.offset + c.min-len.result) c.args.place c.args.site.now c.keep.new.site c.in_ok-next.next c.requires.kept c.keep.ensures (c.in_ok-next.ensures.pends c.keep.new.site)
+
+pub returns-clause-asks : goal.returns-clause-asks
+returns-clause-asks c = c.in_ok-next.ensures.grants c.args.site.now (opened_by (running.Writing c.args.awaited c.args.slot c.args.file c.args.done))
+    (kept_has c.args.slot c.args.file (c.args.file.offset + c.min-len.result) c.args.site.now c.args.awaited c.args.done c.requires.kept)
