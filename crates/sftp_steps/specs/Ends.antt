@@ -1,0 +1,149 @@
+-- Calls are cancelled and end, grants that are due are closed, and lanes are let go.
+use Rattle.std.specs.Prelude.{◌≡◌, ◌≢◌, ◌⊎◌, ◌<◌, ◌^◌, ◌==◌, ℕ, true, false, List, [], ◌∷◌, length, Some, None, slice_get, is_some}
+use Rattle.std.specs.List.{list_any}
+use Rattle.sftp_model.specs.Slots.{grant_of, slot_has}
+use Rattle.sftp_model.specs.declared.request.Request.TheVariants as request
+use Rattle.sftp_model.specs.declared.reply.Reply.TheVariants as reply
+use Rattle.sftp_model.specs.declared.slot.Site.{Site}
+use Rattle.sftp_model.specs.declared.slot.Slot.{Slot}
+use Rattle.sftp_core.specs.Core.{Core, abandoned, after_poll, at, released, reply_in}
+use Rattle.sftp_core.specs.Grant.{GrantValue}
+use Rattle.sftp_plan.specs.declared.next.Running.{Running}
+use Rattle.sftp_plan.specs.Cancelling.{left_behind}
+use Rattle.sftp_plan.specs.Machines.{bytes_of}
+use Rattle.sftp_history.specs.declared.call.Call.{Call}
+use Rattle.sftp_history.specs.declared.event.Event.TheVariants.{Cancel, Submit}
+use Rattle.sftp_history.specs.declared.event.Owner.TheVariants as owner
+use Rattle.sftp_history.specs.declared.entry.Entry.{Entry}
+use Rattle.sftp_history.specs.declared.entry.Entry.TheVariants as entry
+use Rattle.sftp_history.specs.Readings.{answer, was_let_go}
+use Rattle.sftp_history.specs.Calls.{Setting, current, planned}
+use Rattle.sftp_history.specs.Grants.{IsSettled, closed, is_one_of, letting_go, orphan}
+use Rattle.sftp_history.specs.Journals.{IsNext, MustClose, cancelled_end}
+use Rattle.sftp_history.specs.Steady.{Good}
+use Rattle.sftp_history.specs.Turns.{ClosesTo, begun_but}
+use Rattle.sftp_ties.specs.Changes.{closed_lane, ended_lane, granted_lane, let_go_lane, spent_lane, with_lane}
+use Rattle.sftp_ties.specs.Dues.{loose_of}
+use Rattle.sftp_ties.specs.Lanes.{Held, LaneValue, SessionTied, Ticketed, grant_places}
+use Rattle.sftp_ties.specs.Letting.{Letting}
+use Rattle.sftp_ties.specs.Places.{is_in}
+use Rattle.sftp_steps.specs.Rest.{AtRest, Between, Counted, LaneAsks, opened_in, weigh}
+
+-- ---- the grant that is due next
+
+-- the CLOSE of a grant that the session released
+abbrev pub close_entry : GrantValue → Entry
+close_entry grant = entry.Event (Submit owner.Close grant.id (request.Close grant.handle))
+
+-- the core once it was released, and nobody awaits the reply
+abbrev pub let_go : Core → GrantValue → Core
+let_go core grant = abandoned (released core grant) grant.id
+
+-- The grant at index k of a lane, which is due next, is closed.
+pub record Closes (s : Setting) (past : List Entry) (core : Core) (lanes : ℕ → LaneValue) (begun : List ℕ) (lane k : ℕ) (g : Held) (rest : List ℕ) : Type 0 where
+  pub due : orphan s past ≡ Some g.place
+  pub must : MustClose past g.place (close_entry g.grant)
+  pub next : IsNext s past (close_entry g.grant)
+  pub between : Between s (close_entry g.grant ∷ past) (let_go core g.grant) (with_lane lanes lane (closed_lane (lanes lane) k)) begun rest
+  pub work : weigh (let_go core g.grant) < weigh core
+
+-- So it is, unless the lane runs a call that opened the grant: such a call has it still.
+abbrev pub DueGrantsAreClosed : Type 0
+DueGrantsAreClosed = (s : Setting) (past : List Entry) (core : Core) (lanes : ℕ → LaneValue) (begun : List ℕ) (lane k : ℕ) (g : Held) (rest : List ℕ) → Between s past core lanes begun (g.place ∷ rest) → letting_go s past ≡ None → lane < length s.lanes
+    → slice_get (lanes lane).grants k ≡ Some g → g.grant.id < 2 ^ 32 → opened_in (lanes lane).running ≢ Some g.place → Closes s past core lanes begun lane k g rest
+
+-- Where none is due, the session is at rest.
+abbrev pub NoneDueIsRest : Type 0
+NoneDueIsRest = (s : Setting) (past : List Entry) (core : Core) (lanes : ℕ → LaneValue) (begun : List ℕ) → Between s past core lanes begun [] → letting_go s past ≡ None → AtRest s past core lanes begun
+
+-- ---- a cancel
+
+-- the call of a lane is cancelled, and has ended
+abbrev pub cancelled_past : List Entry → ℕ → List Entry
+cancelled_past past lane = cancelled_end (entry.Event (Cancel lane) ∷ past) lane ∷ entry.Event (Cancel lane) ∷ past
+
+-- The call of a lane was cancelled, and these grants of the lane are due then.
+pub record Cancels (s : Setting) (past : List Entry) (core : Core) (lanes : ℕ → LaneValue) (begun : List ℕ) (lane : ℕ) (v : LaneValue) : Type 0 where
+  pub first : IsNext s past (entry.Event (Cancel lane))
+  pub second : IsNext s (entry.Event (Cancel lane) ∷ past) (cancelled_end (entry.Event (Cancel lane) ∷ past) lane)
+  pub between : Between s (cancelled_past past lane) core (with_lane lanes lane v) (begun_but begun lane) (loose_of v.site (grant_places v.grants))
+
+-- the ticket that the call awaited is dropped: its reply is missing, or brings no handle
+pub record Drops (core new : Core) (v now : LaneValue) : Type 0 where
+  pub k : ℕ
+  pub ticket : Ticketed
+  pub here : slice_get v.tickets k ≡ Some ticket
+  pub ungranted : (handle : List ℕ) → reply_in (at core ticket.ticket) ≢ Some (reply.Handle handle)
+  pub left : new ≡ abandoned core ticket.ticket
+  pub lane : now ≡ ended_lane (spent_lane v k None v.site) v.site
+
+-- the HANDLE that it awaited had come: it is polled, and is a grant of the lane
+pub record Polls (core new : Core) (v now : LaneValue) : Type 0 where
+  pub k : ℕ
+  pub ticket : Ticketed
+  pub handle : List ℕ
+  pub here : slice_get v.tickets k ≡ Some ticket
+  pub came : reply_in (at core ticket.ticket) ≡ Some (reply.Handle handle)
+  pub left : new ≡ after_poll core ticket.ticket
+  pub lane : now ≡ ended_lane (granted_lane v k ticket handle None v.site) v.site
+
+-- A lane gives up what its call awaits.
+pub data GivesUp (core new : Core) (v now : LaneValue) : Type 0 where
+  Dropped : Drops core new v now → GivesUp core new v now
+  Polled : Polls core new v now → GivesUp core new v now
+
+-- what the lane's call leaves that is cancelled from here is what its slots have
+abbrev pub LeavesSite : List Entry → Setting → Call → LaneValue → Type 0
+LeavesSite past s c v = (r : Running) → v.running ≡ Some r → left_behind r (bytes_of (planned c)) v.site s.facts [] (answer past) ≡ v.site
+
+-- A begun call is cancelled.
+abbrev pub CancelsKeepSessions : Type 0
+CancelsKeepSessions = (s : Setting) (past : List Entry) (core new : Core) (lanes : ℕ → LaneValue) (begun : List ℕ) (lane : ℕ) (c : Call) (now : LaneValue) → AtRest s past core lanes begun → lane < length s.lanes → current s past lane ≡ Some c
+    → list_any (λ l. l == lane) begun ≡ true → LeavesSite past s c (lanes lane) → GivesUp core new (lanes lane) now → Cancels s past new lanes begun lane now
+
+-- ---- a lane is let go
+
+-- A lane is being let go: of the slots that it had these are left.
+pub record LettingGo (s : Setting) (past : List Entry) (core : Core) (lanes : ℕ → LaneValue) (begun : List ℕ) (lane : ℕ) (rest : List Slot) : Type 0 where
+  pub good : Good s past begun
+  pub site : Site
+  pub letting : Letting s past site rest
+  pub tied : SessionTied s past core lanes (grant_places (lanes lane).grants)
+  pub counted : Counted past core
+  pub asks : (w : ℕ) → w < length s.lanes → LaneAsks past w (lanes w)
+  pub begins : (w : ℕ) → w < length s.lanes → list_any (λ l. l == w) begun ≡ true → is_some (lanes w).running ≡ true
+  -- a grant of these slots that the lane has no more has its CLOSE
+  pub gone : (g : ℕ) → list_any (slot_has g) rest ≡ true → is_in g (grant_places (lanes lane).grants) ≡ false → is_one_of (closed s past) g ≡ true
+  -- the journal before the lane was let go
+  pub from : List Entry
+  pub plain : IsSettled s from
+  pub over : current s from lane ≡ None
+  pub closes : ClosesTo s (entry.LetGo lane ∷ from) past
+
+-- It begins with all the slots of a lane that has no call left.
+abbrev pub LettingGoBegins : Type 0
+LettingGoBegins = (s : Setting) (past : List Entry) (core : Core) (lanes : ℕ → LaneValue) (begun : List ℕ) (lane : ℕ) → AtRest s past core lanes begun → lane < length s.lanes → current s past lane ≡ None → was_let_go past lane ≡ false
+    → IsNext s past (entry.LetGo lane) × LettingGo s (entry.LetGo lane ∷ past) core (with_lane lanes lane (let_go_lane (lanes lane))) begun lane (lanes lane).site.slots
+
+-- the slot's grant stays: it has none, a later slot has it, or the lane has it no more
+abbrev pub StaysOpen : List Held → Slot → List Slot → Type 0
+StaysOpen grants slot rest = (g : ℕ) → grant_of slot ≡ Some g → (list_any (slot_has g) rest ≡ true) ⊎ (is_in g (grant_places grants) ≡ false)
+
+abbrev pub SlotsArePassed : Type 0
+SlotsArePassed = (s : Setting) (past : List Entry) (core : Core) (lanes : ℕ → LaneValue) (begun : List ℕ) (lane : ℕ) (slot : Slot) (rest : List Slot) → LettingGo s past core lanes begun lane (slot ∷ rest) → StaysOpen (lanes lane).grants slot rest
+    → LettingGo s past core lanes begun lane rest
+
+-- The grant of a slot, at index k of the lane's, is closed, and the slot is passed.
+pub record ClosesSlot (s : Setting) (past : List Entry) (core : Core) (lanes : ℕ → LaneValue) (begun : List ℕ) (lane k : ℕ) (g : Held) (rest : List Slot) : Type 0 where
+  pub due : orphan s past ≡ Some g.place
+  pub must : MustClose past g.place (close_entry g.grant)
+  pub next : IsNext s past (close_entry g.grant)
+  pub letting : LettingGo s (close_entry g.grant ∷ past) (let_go core g.grant) (with_lane lanes lane (closed_lane (lanes lane) k)) begun lane rest
+
+abbrev pub SlotsAreClosed : Type 0
+SlotsAreClosed = (s : Setting) (past : List Entry) (core : Core) (lanes : ℕ → LaneValue) (begun : List ℕ) (lane k : ℕ) (g : Held) (slot : Slot) (rest : List Slot) → LettingGo s past core lanes begun lane (slot ∷ rest) → lane < length s.lanes
+    → grant_of slot ≡ Some g.place → list_any (slot_has g.place) rest ≡ false → slice_get (lanes lane).grants k ≡ Some g → g.grant.id < 2 ^ 32 → ClosesSlot s past core lanes begun lane k g rest
+
+-- Where no slot is left, the session is at rest.
+abbrev pub LettingGoEnds : Type 0
+LettingGoEnds = (s : Setting) (past : List Entry) (core : Core) (lanes : ℕ → LaneValue) (begun : List ℕ) (lane : ℕ) → LettingGo s past core lanes begun lane [] → AtRest s past core lanes begun

@@ -1,0 +1,66 @@
+-- A session of lanes between two entries of its journal, and at rest.
+use Rattle.std.specs.Prelude.{◌≡◌, ◌<◌, ◌+◌, ◌*◌, ◌==◌, ℕ, true, List, [], Option, Some, None, length, is_some}
+use Rattle.std.specs.List.{list_any}
+use Rattle.sftp_model.specs.declared.reply.Reply.{Reply}
+use Rattle.sftp_model.specs.Answers.{may_answer}
+use Rattle.sftp_core.specs.Core.{Core}
+use Rattle.sftp_core.specs.Table.{count, is_owing, is_sent, is_waiting}
+use Rattle.sftp_plan.specs.declared.next.Running.{Running}
+use Rattle.sftp_plan.specs.Asking.{opened_by}
+use Rattle.sftp_plan.specs.Pending.{own_place}
+use Rattle.sftp_plan.specs.Sound.{Fits}
+use Rattle.sftp_history.specs.declared.entry.Entry.{Entry}
+use Rattle.sftp_history.specs.Readings.{Asked, asked_at, awaited, unanswered}
+use Rattle.sftp_history.specs.Calls.{Setting}
+use Rattle.sftp_history.specs.Grants.{is_asked_by, orphan}
+use Rattle.sftp_history.specs.Steady.{Good}
+use Rattle.sftp_ties.specs.Dues.{Dues}
+use Rattle.sftp_ties.specs.Lanes.{LaneValue, SessionTied, grant_places, ticket_places}
+use Rattle.sftp_ties.specs.Places.{is_in}
+
+-- ---- counts
+
+-- the core counts what the journal counts
+pub record Counted (past : List Entry) (core : Core) : Type 0 where
+  pub waiting : count is_waiting core.table ≡ unanswered past
+  pub sent : count is_sent core.table ≡ awaited past
+
+-- what the replies to come still make a session do: a handle that may come, or has come, is to be closed
+abbrev pub weigh : Core → ℕ
+weigh core = count is_waiting core.table + 2 * count is_owing core.table
+
+-- ---- what a lane's call awaits
+
+-- the grant that a call opened itself, and that no slot has
+abbrev pub opened_in : Option Running → Option ℕ
+opened_in None = None
+opened_in (Some r) = opened_by r
+
+-- the reply fits the call that awaits it
+abbrev pub RunFits : Option Running → Reply → Type 0
+RunFits None y = Unit {0}
+RunFits (Some r) y = Fits r (Some y)
+
+-- A lane's call awaits the reply to its own last request, and the lane has no other ticket.
+pub record LaneAsks (past : List Entry) (lane : ℕ) (v : LaneValue) : Type 0 where
+  pub current : (p : ℕ) → own_place v.running ≡ Some p → is_asked_by (asked_at past p) lane v.ended ≡ true
+  pub own : (r : Running) → v.running ≡ Some r → is_some (own_place (Some r)) ≡ true
+  pub only : (p : ℕ) → is_in p (ticket_places v.tickets) ≡ true → own_place v.running ≡ Some p
+  pub keeps : (g : ℕ) → opened_in v.running ≡ Some g → is_in g (grant_places v.grants) ≡ true
+  pub fits : (p : ℕ) (a : Asked) (y : Reply) → own_place v.running ≡ Some p → asked_at past p ≡ Some a → may_answer a.request y ≡ true → RunFits v.running y
+
+-- ---- the session
+
+-- Core and lanes are what the journal says, and these grants are due for their CLOSE.
+pub record Between (s : Setting) (past : List Entry) (core : Core) (lanes : ℕ → LaneValue) (begun : List ℕ) (dues : List ℕ) : Type 0 where
+  pub good : Good s past begun
+  pub due : Dues s past dues
+  pub tied : SessionTied s past core lanes dues
+  pub counted : Counted past core
+  pub asks : (lane : ℕ) → lane < length s.lanes → LaneAsks past lane (lanes lane)
+  pub begins : (lane : ℕ) → lane < length s.lanes → list_any (λ l. l == lane) begun ≡ true → is_some (lanes lane).running ≡ true
+
+-- and none is due
+pub record AtRest (s : Setting) (past : List Entry) (core : Core) (lanes : ℕ → LaneValue) (begun : List ℕ) : Type 0 where
+  pub between : Between s past core lanes begun []
+  pub settled : orphan s past ≡ None
