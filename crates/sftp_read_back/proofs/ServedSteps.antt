@@ -20,7 +20,7 @@ use Rattle.sftp_read_back.specs.Steps.{Step, after, AreServed, HasPlace, AreDist
 
 -- ---- no two requests have one place
 
-abbrev HasRequest : Own → ℕ → Type 0
+abbrev pub HasRequest : Own → ℕ → Type 0
 HasRequest [] place = ⊥
 HasRequest (r ∷ requests) place = (r.0 ≡ place) ⊎ HasRequest requests place
 

@@ -5,3 +5,7 @@ pub mod GrantUses
 pub mod ReadBackRows
 pub mod DeferredWrites
 pub mod OtherRows
+pub mod Bearing
+pub mod InJournals
+pub mod BearingRows
+pub mod InJournalRows

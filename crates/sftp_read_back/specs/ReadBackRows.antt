@@ -115,7 +115,7 @@ read = own 9 ∷ own 10 ∷ own 12 ∷ own 13 ∷ own 14 ∷ []
 -- ---- words
 
 -- two names that are told apart
-apart : (a b : Name) → same_name a b ≡ false → same_name b b ≡ true → a ≢ b
+pub apart : (a b : Name) → same_name a b ≡ false → same_name b b ≡ true → a ≢ b
 apart a b differ same e = absurd (let both : false ≡ true = sym differ ∙ (ap (λ (w : Name). same_name w b) e ∙ same) in cc)
 
 -- a place that no step has

@@ -1,5 +1,5 @@
 // Worked runs. The functions do nothing: what they ensure is computed.
-ghost use Rattle.std.specs.Prelude.{◌≡◌, [], ◌∷◌, None, codes};
+ghost use Rattle.std.specs.Prelude.{◌≡◌, [], ◌∷◌, None, Some, codes, drop};
 ghost use Rattle.sftp_model.specs.Numbers.{POSIX_RENAME};
 ghost use Rattle.sftp_model.specs.Slots.{fresh_site};
 ghost use Rattle.sftp_model.specs.declared.outcome.Outcome.TheVariants as outcome;
@@ -8,6 +8,19 @@ ghost use Rattle.sftp_tree.specs.FileTree.{bytes_of};
 ghost use Rattle.sftp_tree.specs.RowWords.{config};
 ghost use Rattle.sftp_calls.specs.CallPlans as call;
 ghost use Rattle.sftp_calls.specs.PlanWords.{buffered, handle, offering};
+ghost use Rattle.sftp_model.specs.declared.request.Request.TheVariants as request;
+ghost use Rattle.sftp_history.specs.declared.event.Owner.TheVariants as owner;
+ghost use Rattle.sftp_history.specs.Journals.{IsJournal};
+ghost use Rattle.sftp_history.specs.RowWords.{handle as granted_handle, send, submit};
+ghost use Rattle.sftp_history.specs.Readings.{answer};
+ghost use Rattle.sftp_history.specs.Served.{Serves};
+ghost use Rattle.sftp_calls.specs.FilePlans.{open_request};
+ghost use Rattle.sftp_calls.specs.WholePlans.{to_replace};
+ghost use Rattle.sftp_calls.specs.WindowPlans.{to_read};
+ghost use Rattle.sftp_read_back.specs.InJournals.{AloneOn, InTurn, IsOfLane, KeepsOff, LaneFirst, LaneInTurn, PassesAt};
+ghost use Rattle.sftp_read_back.specs.InJournalRows.{left_there, made_then_read, makes_then_reads};
+ghost use Rattle.sftp_read_back.specs.Bearing.{BearsGrant, ClosesAt, UsesAt, UsesGrant, grant_at};
+ghost use Rattle.sftp_read_back.specs.BearingRows.{read_again, reads_twice};
 ghost use Rattle.sftp_read_back.specs.CallsAmong.{HasEnded, StandsOnDirectory, asked_by};
 ghost use Rattle.sftp_read_back.specs.DeferredWrites.{StandAlone};
 ghost use Rattle.sftp_read_back.specs.GrantUses.{IsCallOn, IsRunOn};
@@ -44,4 +57,53 @@ pub fn buffered_writes_as_worked_out()
     ensures flush_ended { HasEnded (call.BufFlush 0) (buffered 4 [] ((1, 2) ∷ (2, 1) ∷ []) None) offering
         [] write_answers outcome.Done }
     ensures left { bytes_of (after (config 0) hello_open writes) 0 ≡ codes "habco" }
+{}
+
+/// A journal in which a handle is granted, closed and granted again: each READ bears that of the grant that is open, and
+/// neither behind the CLOSE nor from another lane does a request bear a grant's.
+pub fn grants_as_worked_out()
+    ensures run { IsJournal reads_twice read_again }
+    ensures first { UsesAt reads_twice read_again 2 0 }
+    ensures close { ClosesAt reads_twice read_again 3 0 }
+    ensures second { UsesAt reads_twice read_again 5 4 }
+    ensures grant { UsesGrant reads_twice read_again 5 (owner.Call 0 4) (granted_handle 7) }
+    ensures others { grant_at reads_twice read_again 6 ≡ Some 1 }
+    ensures path { grant_at reads_twice read_again 4 ≡ None }
+    ensures next { BearsGrant reads_twice (drop 1 read_again) (owner.Call 1 1) (request.Read (granted_handle 8) 0 4)
+        (granted_handle 8) }
+    ensures closed { BearsGrant reads_twice (drop 6 read_again) (owner.Call 0 3)
+        (request.Read (granted_handle 7) 0 4) (granted_handle 7) → ⊥ }
+    ensures foreign { BearsGrant reads_twice read_again (owner.Call 1 2) (request.Read (granted_handle 7) 0 4)
+        (granted_handle 7) → ⊥ }
+{}
+
+/// A journal that meets all that a read of what was written asks for: a lane makes a file and then opens it to read, as
+/// a whole write of no bytes and a whole read do, while another one asks for another name. Requests that remove the name
+/// or write by its handle don't pass it by.
+pub fn served_journals_as_worked_out()
+    ensures run { IsJournal makes_then_reads made_then_read }
+    ensures served { Serves (config 0) [] empty made_then_read left_there }
+    ensures turn { InTurn makes_then_reads made_then_read name 3 (0, 0) (0, open_request to_replace (codes "a")) []
+        (0, 1) (2, open_request to_read (codes "a")) [] }
+    ensures off { KeepsOff made_then_read name 1 }
+    ensures not_off { KeepsOff made_then_read name 0 → ⊥ }
+    ensures lane { LaneInTurn makes_then_reads made_then_read name 0 0 (0, open_request to_replace (codes "a")) []
+        1 (2, open_request to_read (codes "a")) [] }
+    ensures not_others { IsOfLane made_then_read name 1 → ⊥ }
+    ensures first { LaneFirst makes_then_reads made_then_read name 0 0 (0, open_request to_replace (codes "a")) [] }
+    ensures not_first { LaneFirst makes_then_reads made_then_read name 0 1 (2, open_request to_read (codes "a")) [] → ⊥ }
+    ensures alone { AloneOn makes_then_reads made_then_read name 1 (0, 0) (0, open_request to_replace (codes "a")) [] }
+    ensures not_alone { AloneOn makes_then_reads made_then_read name 3 (0, 1) (2, open_request to_read (codes "a")) [] → ⊥ }
+    ensures written { HasEnded (call.FsWrite (codes "a") []) fresh_site makes_then_reads.facts
+        ((0, open_request to_replace (codes "a")) ∷ []) (answer made_then_read) outcome.Done }
+    ensures read { HasEnded (call.FsRead (codes "a") 0) fresh_site makes_then_reads.facts
+        ((2, open_request to_read (codes "a")) ∷ []) (answer made_then_read) outcome.GivenUp }
+    ensures passes { PassesAt makes_then_reads made_then_read name 1 }
+    ensures removes { PassesAt makes_then_reads
+        (submit 1 1 1 (request.Remove (codes "a")) ∷ made_then_read) name 3 → ⊥ }
+    ensures writes { PassesAt makes_then_reads
+        (submit 0 2 0 (request.Write (granted_handle 8) 0 (codes "z")) ∷ made_then_read) name 3 → ⊥ }
+    ensures between { InTurn makes_then_reads (send ∷ submit 0 1 2 (open_request to_read (codes "a"))
+        ∷ submit 1 0 1 (request.Remove (codes "a")) ∷ submit 0 0 0 (open_request to_replace (codes "a")) ∷ [])
+        name 3 (0, 0) (0, open_request to_replace (codes "a")) [] (0, 1) (2, open_request to_read (codes "a")) [] → ⊥ }
 {}
