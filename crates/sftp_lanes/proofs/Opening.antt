@@ -1,8 +1,7 @@
 -- An opened session of lanes: what it is before a lane has done anything.
-use Rattle.std.proofs.Common.{◌≡◌, ◌==◌, ℕ, zero, suc, Bool, true, false, List, [], ◌∷◌, ◌++◌, Option, Some, None, refl, ap, sym, ◌∙◌, subst, arith, inl, inr, if◌then◌else◌}
-use Rattle.std.specs.Prelude.{◌&&◌, ◌+◌, length, replicate, slice_index_or, Result, Ok, Err}
+use Rattle.std.proofs.Common.{◌≡◌, ◌==◌, ℕ, zero, suc, Bool, true, false, List, [], ◌∷◌, Option, Some, None, refl, ap, sym, ◌∙◌, subst, arith, inl, inr, if◌then◌else◌}
+use Rattle.std.specs.Prelude.{◌&&◌, ◌+◌, IfSome, length, Result, Ok, Err}
 use Rattle.std.specs.FinMap.{get-empty}
-use Rattle.std.specs.List.{list_any}
 use Rattle.std.specs.Ordering.{nat_cmp}
 use Rattle.sftp_model.specs.declared.config.Limits.{Limits}
 use Rattle.sftp_model.specs.declared.flags.Extensions.{Extensions}
@@ -10,13 +9,9 @@ use Rattle.sftp_model.specs.declared.frame_error.FrameError.{FrameError}
 use Rattle.sftp_model.specs.declared.reply.Reply.{Reply}
 use Rattle.sftp_model.specs.declared.reply.Reply.TheVariants as reply
 use Rattle.sftp_model.specs.declared.request.Request.TheVariants as request
-use Rattle.sftp_model.specs.declared.slot.Site.{Site}
-use Rattle.sftp_model.specs.declared.slot.Slot.{Slot}
-use Rattle.sftp_model.specs.declared.slot.Slot.TheVariants.{Empty}
-use Rattle.sftp_model.specs.declared.answers.Expected.{Expected}
-use Rattle.sftp_model.specs.Answers.{expected_of, is_handle}
+use Rattle.sftp_model.specs.declared.slot.Facts.{Facts}
+use Rattle.sftp_model.specs.Answers.{is_handle}
 use Rattle.sftp_model.specs.ReplyReadings.{limits_at}
-use Rattle.sftp_model.specs.Slots.{fresh_site, slot_at}
 use Rattle.sftp_core.specs.declared.info.Info.{Info}
 use Rattle.sftp_core.specs.declared.options.SftpOptions.{SftpOptions}
 use Rattle.sftp_core.specs.declared.tokens.Taken.{Taken}
@@ -25,87 +20,68 @@ use Rattle.sftp_core.specs.Core.{Core, at, handed_out}
 use Rattle.sftp_core.specs.Take.{Read, TakenFrom, limits_in, limits_read, take_refusal, taken}
 use Rattle.sftp_core.specs.Info.{hello_of, info_with, offers_limits}
 use Rattle.sftp_core.specs.Table.{brings, count, is_sent, is_waiting}
-use Rattle.sftp_file.specs.Files.{FileValue}
-use Rattle.sftp_history.specs.declared.call.Call.{Call}
-use Rattle.sftp_history.specs.declared.call.Call.TheVariants as call
 use Rattle.sftp_history.specs.declared.call.Lane.{Lane}
 use Rattle.sftp_history.specs.declared.event.Event.TheVariants.{Take}
 use Rattle.sftp_history.specs.declared.event.Owner.TheVariants as owner
 use Rattle.sftp_history.specs.declared.entry.Entry.{Entry}
 use Rattle.sftp_history.specs.declared.entry.Entry.TheVariants as entry
-use Rattle.sftp_history.specs.Calls.{Setting, added, current, held_by, held_site, site_of}
-use Rattle.sftp_history.specs.Grants.{is_one_of, closed, first_or}
+use Rattle.sftp_history.specs.Calls.{Setting, added}
+use Rattle.sftp_history.specs.Grants.{first_or, orphan}
 use Rattle.sftp_history.specs.Ids.{Free, Pending, id_state, now_replied, now_sent}
 use Rattle.sftp_history.specs.Lanes.{are_ok}
-use Rattle.sftp_history.specs.Readings.{Asked, answer, awaited, ended, own, unanswered, unsent}
-use Rattle.sftp_history.specs.Steady.{Good, Still}
+use Rattle.sftp_history.specs.Readings.{Asked, answer, asked, awaited, unanswered, unsent}
+use Rattle.sftp_history.specs.Steady.{Good}
 use Rattle.sftp_history.specs.Runs.{queried}
 use Rattle.sftp_history.specs.Settings.{greeting, limits_told, limits_of, read_limits}
 use Rattle.sftp_driver.specs.declared.session.Phase.{Phase}
 use Rattle.sftp_driver.specs.declared.session.Phase.TheVariants.{Failed, Open}
 use Rattle.sftp_driver.specs.Session.{IsFixed}
 use Rattle.sftp_driver.proofs.Bare.{GoesOn, idle_awaited, idle_unanswered, limits_in_core, may_take, takes_limits}
-use Rattle.sftp_driver.specs.NoLanes.{IsIdle as IsQuiet, IsOpen, asked_core, idle_core, offered}
-use Rattle.sftp_lanes.specs.declared.lane.LaneState.{LaneState}
-use Rattle.sftp_lanes.specs.declared.lane.Running.{Running}
-use Rattle.sftp_lanes.specs.declared.lanes.Lanes.{Lanes}
-use Rattle.sftp_lanes.specs.Counted.{Counted}
-use Rattle.sftp_lanes.proofs.HeldLaws.{due_of_still}
-use Rattle.sftp_lanes.specs.Seen.{AreFreshStates, IsFreshState, IsInPhase, IsSession, IsUntouched, facts_by, setting_by}
-use Rattle.sftp_lanes.specs.Session.{IsTied}
-use Rattle.sftp_lanes.specs.SoFar.{HasRoom, StaysSoFar}
+use Rattle.sftp_driver.specs.NoLanes.{IsIdle as IsQuiet, IsOpen, asked_core, asked_past, idle_core, offered}
+use Rattle.sftp_ties.specs.Changes.{Unbegun, fresh_lane}
+use Rattle.sftp_ties.specs.Lanes.{CoreTied, LaneValue}
+use Rattle.sftp_ties.specs.Tables.{stand}
+use Rattle.sftp_ties.proofs.StartLaws.{start_dues, start_tied, unbegun_send, unbegun_setup, unbegun_start, unbegun_take}
+use Rattle.sftp_steps.specs.Rest.{AtRest, Counted, LaneAsks}
+use Rattle.sftp_work.specs.declared.lanes.Lanes.{Lanes}
+use Rattle.sftp_work.specs.Fresh.{AreFresh, IsUntouched}
+use Rattle.sftp_work.specs.SoFar.{HasRoom, StaysSoFar}
+use Rattle.sftp_work.specs.Working.{IsWorking, lane_in, past_of}
+use Rattle.sftp_lanes.specs.Seen.{IsInPhase, IsSession, facts_by, setting_by}
 use Rattle.sftp_lanes.proofs.FaultLaws.{so_far}
-use Rattle.sftp_lanes.specs.Tables.{replied, slots_of, stand}
-use Rattle.sftp_lanes.specs.Tied.{CoreTied, LaneTied, RunTied, SlotTied}
-use Rattle.sftp_lanes.specs.Working.{IsWorking, past_of}
 
 -- ---- lanes that have done nothing
 
-pub more_fresh : (states : List LaneState) (state : LaneState) → AreFreshStates states → IsFreshState state → AreFreshStates (states ++ state ∷ [])
-more_fresh [] state all is zero s e = let same : state ≡ s = cc in subst IsFreshState same is
-more_fresh [] state all is (suc k) s e = absurd cc
-more_fresh (x ∷ states) state all is zero s e = all 0 s e
-more_fresh (x ∷ states) state all is (suc k) s e = more_fresh states state (λ j. all (suc j)) is k s e
+fresh_in : (states : List LaneValue) (lane : ℕ) → AreFresh states → lane_in states lane ≡ fresh_lane
+fresh_in [] lane all = refl
+fresh_in (v ∷ states) zero all = all 0 v refl
+fresh_in (v ∷ states) (suc lane) all = fresh_in states lane (λ k. all (suc k))
 
-same_at : {A : Type 0} (n k : ℕ) (x : A) → slice_index_or (replicate n x) k x ≡ x
-same_at zero k x = refl
-same_at (suc n) zero x = refl
-same_at (suc n) (suc k) x = same_at n k x
-
-held_idle : (c : Option Call) (site : Site) → held_by c [] site ≡ site
-held_idle None site = refl
-held_idle (Some (call.OpenFile slot flags path)) site = refl
-held_idle (Some (call.Read slot n)) site = refl
-held_idle (Some (call.Close slot)) site = refl
+fresh_asks : (past : List Entry) (lane : ℕ) → LaneAsks past lane fresh_lane
+fresh_asks past lane = record { current = λ p e. absurd cc; own = λ r e. absurd cc; only = λ p e. absurd cc; keeps = λ g e. absurd cc; fits = λ p a y e is may. absurd cc }
 
 -- ---- journals in which no lane has done anything
 
 -- no lane has done anything, and nothing is granted, queued or unanswered
 pub record IsIdle (s : Setting) (past : List Entry) : Type 0 where
   pub good : Good s past []
-  pub still : Still s past
-  pub unclosed : closed s past ≡ []
+  pub settled : orphan s past ≡ None
+  pub unbegun : Unbegun s past
   pub unsent : [] ≡ unsent past
-  pub free : (ends : ℕ → ℕ) (slots : ℕ → List Slot) (id : ℕ) → stand ends slots [] (id_state past id) ≡ None
+  pub free : (id : ℕ) → stand (λ p. false) (λ p. false) (id_state past id) ≡ None
   pub unanswered : 0 ≡ unanswered past
   pub awaited : 0 ≡ awaited past
-  pub ended : (lane : ℕ) → ended past lane ≡ 0
-  pub own : (lane call : ℕ) → own past lane call ≡ []
-  pub site : (lane : ℕ) → site_of s past lane ≡ fresh_site
   pub unadded : (lane : ℕ) → added past lane ≡ []
 
 pub nothing : (s : Setting) → s.limits ≡ false → IsIdle s []
 nothing s none = record {
   good = record { run = tt; calm = refl; ready = rw none refl; unkept = refl; cancels = λ lane h. absurd cc };
-  still = record { settled = refl; plain = refl };
-  unclosed = refl;
+  settled = refl;
+  unbegun = unbegun_start s;
   unsent = refl;
-  free = λ ends slots id. refl;
+  free = λ id. refl;
   unanswered = refl;
   awaited = refl;
-  ended = λ lane. refl;
-  own = λ lane call. refl;
-  site = λ lane. refl;
   unadded = λ lane. refl;
 }
 
@@ -122,23 +98,13 @@ none_and : (g h c : Bool) → g ≡ false → first_or None (g && h && c) 0 ≡ 
 none_and true h c e = absurd cc
 none_and false h c e = refl
 
-no_stand : (kind : Expected) (r : Reply) (users : ℕ) → brings r ≡ None → replied false kind r users ≡ None
-no_stand kind (reply.Handle handle) users e = absurd cc
-no_stand kind (reply.Status code message language) users e = refl
-no_stand kind (reply.Version version extensions) users e = refl
-no_stand kind (reply.Content bytes) users e = refl
-no_stand kind (reply.Names names) users e = refl
-no_stand kind (reply.Attrs attrs) users e = refl
-no_stand kind (reply.Extended content) users e = refl
-
 -- the query for limits
 abbrev query : Asked
 query = record { by = owner.Setup; id = 0; request = request.LimitsQuery }
 
-free_told : (b : Bool) (r : Reply) (ends : ℕ → ℕ) (slots : ℕ → List Slot) → brings r ≡ None
-    → stand ends slots [] (if b then now_replied r (now_sent (if b then Pending 0 query false else Free)) else now_sent (if b then Pending 0 query false else Free)) ≡ None
-free_told true r ends slots e = no_stand (expected_of request.LimitsQuery) r 0 e
-free_told false r ends slots e = refl
+free_told : (b : Bool) (r : Reply) → stand (λ p. false) (λ p. false) (if b then now_replied r (now_sent (if b then Pending 0 query false else Free)) else now_sent (if b then Pending 0 query false else Free)) ≡ None
+free_told true r = refl
+free_told false r = refl
 
 pub told : (s : Setting) (r : Reply) → s.limits ≡ true → GoesOn r → IsIdle s (entry.Event (Take 0 r) ∷ queried 0)
 told s r offered goes =
@@ -150,35 +116,16 @@ told s r offered goes =
         unkept = refl;
         cancels = λ lane h. absurd cc;
       };
-      still = record { settled = none_and (is_handle r) _ _ bare; plain = none_and (is_handle r) _ _ bare };
-      unclosed = refl;
+      settled = none_and (is_handle r) _ _ bare;
+      unbegun = unbegun_take s (queried 0) 0 r bare (unbegun_send s asked_past (unbegun_setup s [] 0 request.LimitsQuery (unbegun_start s)));
       unsent = refl;
-      free = λ ends slots id. free_told (0 == id) r ends slots goes.bare;
+      free = λ id. free_told (0 == id) r;
       unanswered = refl;
       awaited = refl;
-      ended = λ lane. refl;
-      own = λ lane call. refl;
-      site = λ lane. refl;
       unadded = λ lane. refl;
     }
 
 -- ---- lanes and core
-
-held_fresh : (s : Setting) (past : List Entry) (lane : ℕ) → IsIdle s past → held_site s past lane ≡ fresh_site
-held_fresh s past lane idle =
-    ap (λ requests. held_by (current s past lane) requests (site_of s past lane)) (idle.own lane (ended past lane)) ∙ held_idle (current s past lane) (site_of s past lane) ∙ idle.site lane
-
-lane_fresh : (s : Setting) (past : List Entry) (lane : ℕ) (state : LaneState) → IsIdle s past → IsFreshState state → LaneTied s past lane state
-lane_fresh s past lane state idle f =
-    let site : held_site s past lane ≡ fresh_site = held_fresh s past lane idle in record {
-      ends = f.none ∙ sym (idle.ended lane);
-      sixteen = ap length f.empty;
-      slots = ap (λ (x : Site). length x.slots) site;
-      each = λ k. subst (λ (x : List (Option FileValue)). SlotTied past lane (slice_index_or x k None) (slot_at (held_site s past lane) k)) (sym f.empty)
-          (subst (λ (o : Option FileValue). SlotTied past lane o (slot_at (held_site s past lane) k)) (sym (same_at 16 k None))
-          (ap (λ (x : Site). slot_at x k) site ∙ same_at 16 k Empty));
-      runs = subst (λ (x : Running). RunTied s past lane state.slots.items x) (sym f.idle) (idle.own lane (ended past lane));
-    }
 
 core_idle : (s : Setting) (past : List Entry) (options : SftpOptions) (info : Info) (core : Core) → IsIdle s past → s.facts.read_len ≡ info.read_len → core ≡ idle_core options info → CoreTied s past core
 core_idle s past options info core idle len calm = record {
@@ -190,22 +137,6 @@ core_idle s past options info core idle len calm = record {
   queue = ap (λ (x : Core). x.queue) calm ∙ idle.unsent;
 }
 
-tied : (s : Setting) (past : List Entry) (options : SftpOptions) (info : Info) (core : Core) (states : List LaneState) (begun : List ℕ) → IsIdle s past → s.facts.read_len ≡ info.read_len → core ≡ idle_core options info
-    → length states ≡ length s.lanes → AreFreshStates states → begun ≡ [] → IsTied s past core states begun
-tied s past options info core states begun idle len calm count each none = record {
-  still = idle.still;
-  rest = record {
-    good = subst (λ (x : List ℕ). Good s past x) (sym none) idle.good;
-    due = due_of_still s past idle.still;
-    gone = λ g is. absurd (let not_one : is_one_of (closed s past) g ≡ false = ap (λ c. is_one_of c g) idle.unclosed in cc);
-    work = core_idle s past options info core idle len calm;
-    table = λ id. ap (λ (x : Core). at x id) calm ∙ get-empty nat_cmp id ∙ sym (idle.free (ended past) (slots_of s past) id);
-    count = count;
-    each = λ lane state is. lane_fresh s past lane state idle (each lane state is);
-    runs = λ lane state is here. absurd (let not_begun : list_any (λ x. x == lane) begun ≡ false = ap (list_any (λ x. x == lane)) none in cc);
-  };
-}
-
 counted : (s : Setting) (past : List Entry) (options : SftpOptions) (info : Info) (core : Core) → IsIdle s past → IsOpen options core past → Counted past core
 counted s past options info core idle o =
     let waits : count is_waiting core.table + hello_of core.phase ≡ 0 = idle_unanswered options core past o in
@@ -214,25 +145,56 @@ counted s past options info core idle o =
     let a = idle.awaited in
     record { waiting = omega (arith, waits, w); sent = omega (arith, sends, a) }
 
+-- a session whose lanes have done nothing is at rest
+at_rest : (s : Setting) (past : List Entry) (options : SftpOptions) (info : Info) (core : Core) (states : List LaneValue) (begun : List ℕ) → IsIdle s past → s.facts.read_len ≡ info.read_len → core ≡ idle_core options info → IsOpen options core past
+    → AreFresh states → begun ≡ [] → AtRest s past core (lane_in states) begun
+at_rest s past options info core states begun idle len calm o each none =
+    let lanes_are : lane_in states ≡ (λ lane. fresh_lane) = (λ i lane. fresh_in states lane each i) in
+    subst (λ (x : ℕ → LaneValue). AtRest s past core x begun) (sym lanes_are)
+    (subst (λ (x : List ℕ). AtRest s past core (λ lane. fresh_lane) x) (sym none)
+    (record {
+      between = record {
+        good = idle.good;
+        due = start_dues s past idle.unbegun;
+        tied = start_tied s past core idle.unbegun (core_idle s past options info core idle len calm) (λ id. ap (λ (x : Core). at x id) calm ∙ get-empty nat_cmp id ∙ sym (idle.free id));
+        counted = counted s past options info core idle o;
+        asks = λ lane lt. fresh_asks past lane;
+        begins = λ lane lt is. absurd cc;
+      };
+      settled = idle.settled;
+    }))
+
 -- ---- the opened session
 
 -- a frame changes no lane
-pub still_untouched : (lanes : List Lane) (info : Option Info) (old new : Lanes) → new ≡ record old { core = new.core; journal = new.journal } → IsUntouched lanes info old → IsUntouched lanes None new
-still_untouched lanes info old new is u = rw is (record { calls = u.calls; untold = refl; begun = u.begun; count = u.count; each = u.each })
+pub still_untouched : (lanes : List Lane) (old new : Lanes) → new ≡ record old { core = new.core; journal = new.journal } → asked (past_of new) ≡ asked (past_of old) → IsUntouched lanes old → IsUntouched lanes new
+still_untouched lanes old new is same u =
+    record {
+      calls = ap (λ (x : Lanes). x.calls) is ∙ u.calls;
+      asked = ap (λ (x : Lanes). x.asked) is ∙ u.asked ∙ sym same;
+      begun = ap (λ (x : Lanes). x.begun.items) is ∙ u.begun;
+      count = ap (λ (x : Lanes). length x.states.items) is ∙ u.count;
+      each = subst AreFresh (sym (ap (λ (x : Lanes). x.states.items) is)) u.each;
+    }
+
+-- and no more does what plans go by
+pub facts_untouched : (lanes : List Lane) (old : Lanes) (facts : Facts) → IsUntouched lanes old → IsUntouched lanes (record old { facts = facts })
+facts_untouched lanes old facts u = record { calls = u.calls; asked = u.asked; begun = u.begun; count = u.count; each = u.each }
+
+-- what was told is what plans go by
+pub facts_told : (facts : Facts) (options : SftpOptions) (extensions : Extensions) (known : Option Info) (info : Info) → IfSome known (λ k. facts ≡ facts_by options extensions (Some k)) → known ≡ Some info → facts ≡ facts_by options extensions (Some info)
+facts_told facts options extensions known info told is = subst (λ (o : Option Info). IfSome o (λ k. facts ≡ facts_by options extensions (Some k))) is told
 
 -- no lane has done anything, and this is known of the server
-pub opened_working : (lanes : List Lane) (options : SftpOptions) (version : Option Reply) (info : Info) (known : Option Info) (w : Lanes) → are_ok lanes ≡ true → known ≡ Some info → w.core ≡ idle_core options info
-    → IsQuiet (past_of w) → IsUntouched lanes None w → IsIdle (setting_by lanes options version known) (past_of w) → IsInPhase lanes options version known w Open
-opened_working lanes options version info known w ok is calm quiet u idle =
+pub opened_working : (lanes : List Lane) (options : SftpOptions) (version : Option Reply) (info : Info) (known : Option Info) (w : Lanes) → are_ok lanes ≡ true → known ≡ Some info → w.facts ≡ facts_by options (offered version) (Some info)
+    → w.core ≡ idle_core options info → IsQuiet (past_of w) → IsUntouched lanes w → IsIdle (setting_by lanes options version known) (past_of w) → IsInPhase lanes options version known w Open
+opened_working lanes options version info known w ok is goes_by calm quiet u idle =
     let s : Setting = setting_by lanes options version known in
     let o : IsOpen options w.core (past_of w) = record { info = info; calm = calm; idle = quiet } in
-    let len : s.facts.read_len ≡ info.read_len = ap (λ (k : Option Info). (facts_by options (offered version) k).read_len) is in
+    let facts_are : s.facts ≡ facts_by options (offered version) (Some info) = ap (facts_by options (offered version)) is in
     record {
-      calls = u.calls;
-      ok = ap are_ok u.calls ∙ ok;
-      tied = tied s (past_of w) options info w.core w.states.items w.begun.items idle len calm u.count u.each u.begun;
-      counted = counted s (past_of w) options info w.core idle o;
-      unadded = idle.unadded;
+      stands = record { calls = u.calls; ok = ap are_ok u.calls ∙ ok; facts = goes_by ∙ sym facts_are; asked = u.asked; count = u.count; unadded = idle.unadded };
+      rest = at_rest s (past_of w) options info w.core w.states.items w.begun.items idle (ap (λ (f : Facts). f.read_len) facts_are) calm o u.each u.begun;
     }
 
 -- what VERSION and the limits fix
@@ -276,22 +238,20 @@ info_came options extensions core new read gives r is none t reads =
     t.leaves ∙ (λ i. taken (is i) (same i)) ∙ limits_in_core options extensions 0 r (takes_limits options extensions 0 r right)
 
 -- the server doesn't tell its limits
-pub opens_at_once : (lanes : List Lane) (options : SftpOptions) (version : Option Reply) (old known : Option Info) (extensions : Extensions) (w : Lanes) → are_ok lanes ≡ true → version ≡ Some (greeting extensions)
-    → offers_limits extensions ≡ false → known ≡ Some (info_with extensions None options) → w.core ≡ idle_core options (info_with extensions None options) → past_of w ≡ [] → IsUntouched lanes old w
-    → IsInPhase lanes options version known w Open
-opens_at_once lanes options version old known extensions w ok told none is calm past u =
+pub opens_at_once : (lanes : List Lane) (options : SftpOptions) (version : Option Reply) (known : Option Info) (extensions : Extensions) (w : Lanes) → are_ok lanes ≡ true → version ≡ Some (greeting extensions)
+    → offers_limits extensions ≡ false → known ≡ Some (info_with extensions None options) → w.facts ≡ facts_by options (offered version) (Some (info_with extensions None options)) → w.core ≡ idle_core options (info_with extensions None options)
+    → past_of w ≡ [] → IsUntouched lanes w → IsInPhase lanes options version known w Open
+opens_at_once lanes options version known extensions w ok told none is goes_by calm past u =
     let s : Setting = setting_by lanes options version known in
-    opened_working lanes options version (info_with extensions None options) known w ok is calm (inl past) (record { calls = u.calls; untold = refl; begun = u.begun; count = u.count; each = u.each })
-    (subst (IsIdle s) (sym past) (nothing s (ap (λ v. offers_limits (offered v)) told ∙ none)))
+    opened_working lanes options version (info_with extensions None options) known w ok is goes_by calm (inl past) u (subst (IsIdle s) (sym past) (nothing s (ap (λ v. offers_limits (offered v)) told ∙ none)))
 
 -- the server told its limits
-pub opens_told : (lanes : List Lane) (options : SftpOptions) (version : Option Reply) (old known : Option Info) (extensions : Extensions) (limits : Option Limits) (r : Reply) (w : Lanes) → are_ok lanes ≡ true
-    → version ≡ Some (greeting extensions) → offers_limits extensions ≡ true → known ≡ Some (info_with extensions limits options) → w.core ≡ idle_core options (info_with extensions limits options) → GoesOn r
-    → past_of w ≡ entry.Event (Take 0 r) ∷ queried 0 → IsUntouched lanes old w → IsInPhase lanes options version known w Open
-opens_told lanes options version old known extensions limits r w ok came_with some is calm goes past u =
+pub opens_told : (lanes : List Lane) (options : SftpOptions) (version : Option Reply) (known : Option Info) (extensions : Extensions) (limits : Option Limits) (r : Reply) (w : Lanes) → are_ok lanes ≡ true
+    → version ≡ Some (greeting extensions) → offers_limits extensions ≡ true → known ≡ Some (info_with extensions limits options) → w.facts ≡ facts_by options (offered version) (Some (info_with extensions limits options))
+    → w.core ≡ idle_core options (info_with extensions limits options) → GoesOn r → past_of w ≡ entry.Event (Take 0 r) ∷ queried 0 → IsUntouched lanes w → IsInPhase lanes options version known w Open
+opens_told lanes options version known extensions limits r w ok came_with some is goes_by calm goes past u =
     let s : Setting = setting_by lanes options version known in
-    opened_working lanes options version (info_with extensions limits options) known w ok is calm (inr (r, past)) (record { calls = u.calls; untold = refl; begun = u.begun; count = u.count; each = u.each })
-    (subst (IsIdle s) (sym past) (told s r (ap (λ v. offers_limits (offered v)) came_with ∙ some) goes))
+    opened_working lanes options version (info_with extensions limits options) known w ok is goes_by calm (inr (r, past)) u (subst (IsIdle s) (sym past) (told s r (ap (λ v. offers_limits (offered v)) came_with ∙ some) goes))
 
 -- what was taken
 pub same_limits : (id k : ℕ) (r other : Reply) → taken_of.Limits id r ≡ taken_of.Limits k other → (id ≡ k) × (r ≡ other)

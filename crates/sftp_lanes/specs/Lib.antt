@@ -1,12 +1,2 @@
-pub mod Tables
-pub mod Tied
-pub mod Moves
-pub mod Session
-pub mod Counted
-pub mod Working
-pub mod Noting
-pub mod SoFar
 pub mod Seen
 pub mod Reported
-pub mod Awaited
-pub mod Letting

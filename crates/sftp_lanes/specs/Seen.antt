@@ -1,9 +1,8 @@
 -- What is seen of a session of lanes, and what it is in each phase.
-use Rattle.std.specs.Prelude.{◌≡◌, ℕ, true, List, [], length, Option, Some, None, replicate, slice_get}
+use Rattle.std.specs.Prelude.{◌≡◌, true, List, [], length, Option, Some, None}
 use Rattle.sftp_model.specs.declared.flags.Extensions.{Extensions}
 use Rattle.sftp_model.specs.declared.reply.Reply.{Reply}
 use Rattle.sftp_model.specs.declared.slot.Facts.{Facts}
-use Rattle.sftp_core.specs.Core.{fresh}
 use Rattle.sftp_core.specs.Info.{offers_limits}
 use Rattle.sftp_core.specs.declared.info.Info.{Info}
 use Rattle.sftp_core.specs.declared.options.SftpOptions.{SftpOptions}
@@ -17,11 +16,10 @@ use Rattle.sftp_driver.specs.declared.session.Phase.{Phase}
 use Rattle.sftp_driver.specs.declared.session.Phase.TheVariants.{Fresh, Greeted, Asking, Queried, Open, Failed}
 use Rattle.sftp_driver.specs.NoLanes.{IsBare, offered}
 use Rattle.sftp_driver.specs.Session.{Given}
-use Rattle.sftp_lanes.specs.declared.lane.LaneState.{LaneState}
-use Rattle.sftp_lanes.specs.declared.lane.Running.TheVariants as running
-use Rattle.sftp_lanes.specs.declared.lanes.Lanes.{Lanes}
-use Rattle.sftp_lanes.specs.SoFar.{HasRoom, IsSoFar}
-use Rattle.sftp_lanes.specs.Working.{IsWorking, past_of}
+use Rattle.sftp_work.specs.declared.lanes.Lanes.{Lanes}
+use Rattle.sftp_work.specs.Fresh.{IsUntouched}
+use Rattle.sftp_work.specs.SoFar.{HasRoom, IsSoFar}
+use Rattle.sftp_work.specs.Working.{IsWorking, past_of}
 
 -- the lanes that were handed in, the options, how far the opening has come, VERSION and what is known of the server once
 -- they were told, and what the lanes work with
@@ -59,38 +57,18 @@ setting_at s = setting_by s.lanes s.options s.version s.info
 
 -- ---- before the session is open
 
--- a lane that has done nothing
-pub record IsFreshState (state : LaneState) : Type 0 where
-  pub idle : state.running ≡ running.Idle
-  pub none : state.ended ≡ 0
-  pub empty : state.slots.items ≡ replicate 16 None
-
-abbrev pub AreFreshStates : List LaneState → Type 0
-AreFreshStates states = (lane : ℕ) (state : LaneState) → slice_get states lane ≡ Some state → IsFreshState state
-
 -- no lane has done anything, and nothing is known of the server but its VERSION
-pub record IsUntouched (lanes : List Lane) (info : Option Info) (w : Lanes) : Type 0 where
-  pub calls : w.calls ≡ lanes
-  pub untold : info ≡ None
-  pub begun : w.begun.items ≡ []
-  pub count : length w.states.items ≡ length lanes
-  pub each : AreFreshStates w.states.items
-
--- lanes that have done nothing, with a core whose hello stands in the queue
-pub record IsMade (lanes : List Lane) (options : SftpOptions) (w : Lanes) : Type 0 where
-  pub core : w.core ≡ fresh options
-  pub past : past_of w ≡ []
-  pub untouched : IsUntouched lanes None w
-  pub room : HasRoom w
+abbrev pub IsUntold : List Lane → Option Info → Lanes → Type 0
+IsUntold lanes info w = (info ≡ None) × IsUntouched lanes w
 
 -- ---- once it is
 
 -- what a session is in each phase
 abbrev pub IsInPhase : List Lane → SftpOptions → Option Reply → Option Info → Lanes → Phase → Type 0
-IsInPhase lanes options version info w Fresh = IsBare options version (past_of w) w.core Fresh × IsUntouched lanes info w
-IsInPhase lanes options version info w Greeted = IsBare options version (past_of w) w.core Greeted × IsUntouched lanes info w
-IsInPhase lanes options version info w Asking = IsBare options version (past_of w) w.core Asking × IsUntouched lanes info w
-IsInPhase lanes options version info w Queried = IsBare options version (past_of w) w.core Queried × IsUntouched lanes info w
+IsInPhase lanes options version info w Fresh = IsBare options version (past_of w) w.core Fresh × IsUntold lanes info w
+IsInPhase lanes options version info w Greeted = IsBare options version (past_of w) w.core Greeted × IsUntold lanes info w
+IsInPhase lanes options version info w Asking = IsBare options version (past_of w) w.core Asking × IsUntold lanes info w
+IsInPhase lanes options version info w Queried = IsBare options version (past_of w) w.core Queried × IsUntold lanes info w
 IsInPhase lanes options version info w Open = IsWorking (setting_by lanes options version info) w
 IsInPhase lanes options version info w Failed = IsSoFar (setting_by lanes options version info) w.core.fault (past_of w)
 

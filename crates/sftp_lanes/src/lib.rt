@@ -1,20 +1,10 @@
-//! A session that runs lanes: each lane makes its calls by the states of `sftp_file`, over one core, and the session keeps
-//! a journal of what happened.
+//! A session that runs lanes: it is opened, its lanes work on over one core, and it reports what its journal has.
 #![tactic(auto)]
 
-mod cancelling;
-mod closing;
-mod counts;
 mod driver;
-mod fresh;
-mod keeping;
-mod lane;
-mod lanes;
-mod letting;
-mod noting;
 mod report;
 mod session;
-mod taking;
+mod telling;
 
 pub use driver::run_lanes;
 pub use session::Session;

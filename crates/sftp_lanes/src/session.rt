@@ -1,26 +1,24 @@
 // A session of lanes: its opening, and each call of its lanes.
-ghost use Rattle.std.specs.Prelude.{◌≡◌, ◌∷◌, [], None, Some, true, IfOk, reverse};
+ghost use Rattle.std.specs.Prelude.{◌≡◌, [], None, Some, true, IfOk, reverse};
 ghost use Rattle.std.specs.Option.{unwrap_or};
 ghost use Rattle.sftp_core.specs.Core.{failed_with};
-ghost use Rattle.sftp_core.specs.Info.{offers_limits as offers};
 ghost use Rattle.sftp_history.specs.Lanes.{are_ok};
-ghost use Rattle.sftp_driver.specs.NoLanes.{offered, asked_past};
 ghost use Rattle.sftp_history.specs.Readings.{outcomes_of as of_lane, was_let_go};
 ghost use Rattle.sftp_history.specs.declared.entry.Entry.TheVariants as entry;
 ghost use Rattle.sftp_history.specs.Journals.{IsJournal, IsNext};
 ghost use Rattle.sftp_driver.specs.declared.session.Phase.TheVariants as phases;
 ghost use Rattle.sftp_lanes.specs.Seen.{IsNew, Reports, setting_at};
-ghost use Rattle.sftp_lanes.specs.SoFar.{kept_in, kept_past};
-ghost use Rattle.sftp_lanes.specs.Working.{past_of};
+ghost use Rattle.sftp_work.specs.SoFar.{kept_in, kept_past};
+ghost use Rattle.sftp_work.specs.Working.{past_of};
 
-use crate::lanes::Lanes;
 use crate::report::{events_of, lets_go, outcomes_below, outcomes_of};
-use bitflags::Flags;
+use crate::telling::{offers_limits, query_entry, tell};
 use sftp_core::{Chunk, Fault, Info, SftpOptions, TakeError, Taken};
 use sftp_driver::{Phase, RunsLanes, Stepped};
-use sftp_history::{Entry, Event, Lane, Outcome, Owner, Report};
-use sftp_model::{Extensions, Reply, Request, TryCopy};
+use sftp_history::{Entry, Event, Lane, Outcome, Report};
+use sftp_model::Reply;
 use sftp_values::Items;
+use sftp_work::Lanes;
 use ssh_encoding::OutOfMemory;
 use std::alloc::Global;
 use std::marker::Model;
@@ -41,7 +39,7 @@ pub struct Session<'a> {
 
 impl<'a> Model for Session<'a> {
     ghost use Rattle.std.specs.Coded.{codes};
-    ghost use Rattle.sftp_lanes.specs.contracts.lanes.Lanes as of_lanes;
+    ghost use Rattle.sftp_work.specs.contracts.lanes.Lanes as of_lanes;
     ghost use Rattle.sftp_lanes.specs.Seen.{Seen, IsSession};
 
     ghost Value = { Seen };
@@ -150,30 +148,9 @@ impl<'a> Session<'a> {
     }
 }
 
-/// Whether a VERSION offers the query for limits.
-fn offers_limits(reply: &Reply) -> bool
-    ensures { result ≡ offers (offered (Some reply.now)) }
-{
-    match reply {
-        Reply::Version { extensions, .. } => extensions.contains(Extensions::LIMITS),
-        _ => false,
-    }
-}
-
-/// The query for limits was submitted.
-fn query_entry() -> Entry
-    ensures { result ∷ [] ≡ asked_past }
-{
-    Entry::Event(Event::Submit {
-        owner: Owner::Setup,
-        id: 0,
-        request: Request::LimitsQuery,
-    })
-}
-
 impl<'a> RunsLanes for Session<'a> {
     ghost use Rattle.sftp_lanes.specs.Seen.{given_of, setting_at};
-    ghost use Rattle.sftp_lanes.specs.Working.{stage_of, work_of};
+    ghost use Rattle.sftp_work.specs.Working.{stage_of, work_of};
 
     ghost given = { λ s. given_of s };
 
@@ -198,11 +175,12 @@ impl<'a> RunsLanes for Session<'a> {
             Ok(Taken::Version(reply)) => {
                 if offers_limits(&reply) {
                     self.work.journal.push(query_entry()).unwrap();
+                    self.work.asked += 1;
                     self.phase = Phase::Asking;
                     self.version = Some(reply);
                     return Ok(true);
                 }
-                self.info = self.work.core.info();
+                self.info = tell(&mut self.work, &self.options);
                 self.phase = Phase::Open;
                 self.version = Some(reply);
                 Ok(false)
@@ -227,11 +205,11 @@ impl<'a> RunsLanes for Session<'a> {
     fn take_limits(&mut self, body: &[u8]) -> Result<(), TakeError> {
         match self.work.take_frame(body) {
             Ok(Taken::Limits { id, reply }) => {
+                self.info = tell(&mut self.work, &self.options);
                 self.work
                     .journal
                     .push(Entry::Event(Event::Take { id, reply }))
                     .unwrap();
-                self.info = self.work.core.info();
                 self.phase = Phase::Open;
                 Ok(())
             }
@@ -265,7 +243,7 @@ impl<'a> RunsLanes for Session<'a> {
     }
 
     fn let_go(&mut self, lane: u32) -> Result<(), OutOfMemory> {
-        match self.work.let_go(lane) {
+        match self.work.let_go(self.alloc, lane) {
             Ok(()) => Ok(()),
             Err(e) => {
                 self.phase = Phase::Failed;

@@ -1,6 +1,6 @@
 use Rattle.std.proofs.Common.{◌≡◌}
 use Rattle.sftp_lanes.specs.Seen.{given, setting_at}
-use Rattle.sftp_lanes.specs.Working.{past_of}
+use Rattle.sftp_work.specs.Working.{past_of}
 use Rattle.sftp_lanes.proofs.Reporting.{reported, reported_stops}
 use Rattle.sftp_lanes.proofs.driver.run_lanes.Goals as goal
 

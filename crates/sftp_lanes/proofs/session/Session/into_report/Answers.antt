@@ -1,5 +1,5 @@
 use Rattle.std.proofs.Common.{arith}
-use Rattle.sftp_lanes.proofs.Counting.{few_lanes}
+use Rattle.sftp_work.proofs.CallsLaws.{few_lanes}
 use Rattle.sftp_lanes.proofs.session.Session.into_report.Goals as goal
 
 pub overflow_cast-lanes : goal.overflow_cast-lanes

@@ -1,7 +1,7 @@
 use Rattle.sftp_history.specs.Calls.{Setting}
 use Rattle.sftp_lanes.specs.Seen.{setting_by}
 use Rattle.sftp_driver.specs.declared.session.Phase.TheVariants.{Open}
-use Rattle.sftp_lanes.proofs.FaultLaws.{left_so_far}
+use Rattle.sftp_work.proofs.FaultLaws.{left_so_far}
 use Rattle.sftp_lanes.proofs.Opening.{fails_by, in_phase, works_on}
 use Rattle.sftp_lanes.proofs.session.SessionRunsLanes.cancel.Goals as goal
 

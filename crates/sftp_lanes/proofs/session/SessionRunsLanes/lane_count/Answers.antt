@@ -1,5 +1,5 @@
 use Rattle.std.proofs.Common.{arith}
-use Rattle.sftp_lanes.proofs.Counting.{few_lanes}
+use Rattle.sftp_work.proofs.CallsLaws.{few_lanes}
 use Rattle.sftp_lanes.proofs.session.SessionRunsLanes.lane_count.Goals as goal
 
 pub overflow_cast-result : goal.overflow_cast-result

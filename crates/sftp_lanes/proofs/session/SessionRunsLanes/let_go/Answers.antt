@@ -1,8 +1,18 @@
+use Rattle.std.proofs.Common.{◌≡◌, subst}
 use Rattle.sftp_history.specs.Calls.{Setting}
-use Rattle.sftp_lanes.specs.Seen.{setting_by}
-use Rattle.sftp_lanes.proofs.FaultLaws.{left_so_far}
+use Rattle.sftp_driver.specs.declared.session.Phase.TheVariants.{Open}
+use Rattle.sftp_lanes.specs.Seen.{IsInPhase, setting_by}
+use Rattle.sftp_work.specs.Working.{IsWorking}
+use Rattle.sftp_work.proofs.FaultLaws.{left_so_far}
 use Rattle.sftp_lanes.proofs.Opening.{fails_by, works_on}
 use Rattle.sftp_lanes.proofs.session.SessionRunsLanes.let_go.Goals as goal
+
+pub let_go-requires-clause-done : goal.let_go-requires-clause-done
+let_go-requires-clause-done c =
+    let s : Setting = setting_by c.self.inside.lanes.now c.self.inside.options c.self.inside.version c.self.inside.info in
+    let is_open : c.self.inside.phase ≡ Open = rw (← c.self.view_is) at c.requires.open in
+    let working : IsWorking s c.self.inside.work = subst (IsInPhase c.self.inside.lanes.now c.self.inside.options c.self.inside.version c.self.inside.info c.self.inside.work) is_open c.self.invariant.now in
+    (s, (working, (rw (← c.self.view_is) at c.requires.done, rw (← c.self.view_is) at c.requires.holds)))
 
 pub invariant_of-self : goal.invariant_of-self
 invariant_of-self c =

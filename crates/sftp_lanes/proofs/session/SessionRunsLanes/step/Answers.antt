@@ -1,6 +1,6 @@
 use Rattle.sftp_history.specs.Calls.{Setting}
 use Rattle.sftp_lanes.specs.Seen.{setting_by}
-use Rattle.sftp_lanes.proofs.FaultLaws.{left_so_far}
+use Rattle.sftp_work.proofs.FaultLaws.{left_so_far}
 use Rattle.sftp_lanes.proofs.Opening.{fails_by, works_on}
 use Rattle.sftp_lanes.proofs.session.SessionRunsLanes.step.Goals as goal
 

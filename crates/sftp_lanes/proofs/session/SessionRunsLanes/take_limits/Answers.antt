@@ -1,4 +1,4 @@
-use Rattle.std.proofs.Common.{◌≡◌, ◌∙◌, ◌∷◌, [], ◌++◌, sym, refl, ap, subst, rules, List, Option, None}
+use Rattle.std.proofs.Common.{◌≡◌, ◌∙◌, ◌∷◌, [], ◌++◌, sym, refl, ap, subst, rules, List, Option}
 use Rattle.std.specs.Prelude.{reverse}
 use Rattle.std.proofs.lemmas.List.{reverse-append}
 use Rattle.sftp_model.specs.declared.reply.Reply.{Reply}
@@ -11,15 +11,16 @@ use Rattle.sftp_history.specs.declared.event.Event.TheVariants.{Take}
 use Rattle.sftp_history.specs.declared.entry.Entry.{Entry}
 use Rattle.sftp_history.specs.declared.entry.Entry.TheVariants as entry
 use Rattle.sftp_history.specs.Journals.{MayTake}
+use Rattle.sftp_history.specs.Readings.{asked}
 use Rattle.sftp_history.specs.Runs.{queried}
-use Rattle.sftp_driver.specs.declared.session.Phase.TheVariants.{Queried}
+use Rattle.sftp_driver.specs.declared.session.Phase.TheVariants.{Open, Queried}
 use Rattle.sftp_driver.specs.NoLanes.{offered}
 use Rattle.sftp_driver.specs.Session.{IsLater}
 use Rattle.sftp_driver.proofs.Bare.{came, may_take, opened_later, queried_first}
-use Rattle.sftp_lanes.specs.Seen.{setting_by}
-use Rattle.sftp_lanes.specs.declared.lanes.Lanes.{Lanes}
-use Rattle.sftp_lanes.proofs.FaultLaws.{refused_so_far}
-use Rattle.sftp_lanes.proofs.Opening.{fails_by, in_phase, info_came, is_fixed, limits_are, opens_told, same_limits, still_untouched}
+use Rattle.sftp_lanes.specs.Seen.{IsInPhase, setting_by}
+use Rattle.sftp_work.specs.declared.lanes.Lanes.{Lanes}
+use Rattle.sftp_work.proofs.FaultLaws.{refused_so_far}
+use Rattle.sftp_lanes.proofs.Opening.{facts_told, facts_untouched, fails_by, in_phase, info_came, is_fixed, limits_are, opens_told, same_limits, still_untouched}
 use Rattle.sftp_lanes.proofs.session.SessionRunsLanes.take_limits.Goals as goal
 
 pub invariant_of-self : goal.invariant_of-self
@@ -36,13 +37,16 @@ invariant_of-self c =
     let past : reverse c.push.new.self.items ≡ entry.Event (Take c.in-Ok-Limits.id c.in-Ok-Limits.reply) ∷ reverse c.self.inside.work.journal.items = ap reverse pushed ∙ reverse-append c.self.inside.work.journal.items one in
     let all : reverse c.push.new.self.items ≡ entry.Event (Take 0 t.reply) ∷ queried 0 = past ∙ (λ i. entry.Event (Take (zero i) (same i)) ∷ q.1.3 i) in
     let calm = info_came _ q.0 _ _ _ _ t.reply q.1.2 c.in-Ok-Limits.ensures.only c.in-Ok-Limits.ensures.ok t.reads in
-    let known = c.info-self-inside.ensures.value ∙ ap (λ (k : Core). info_of k.phase) calm in
-    let now : Lanes = record c.take_frame.new.self { journal = c.push.new.self } in
-    let u = still_untouched _ _ _ c.take_frame.new.self c.take_frame.ensures.rest f.1 in
+    let tells = c.tell-self-inside in
+    let known = tells.ensures.info ∙ ap (λ (k : Core). info_of k.phase) calm in
+    let facts = facts_told tells.new.work.facts c.self.inside.options (offered c.self.inside.version) _ _ (tells.ensures.facts (offered c.self.inside.version)) known in
+    let before : Lanes = record c.take_frame.new.self { journal = c.push.new.self } in
+    let still = still_untouched c.self.inside.lanes.now c.self.inside.work before (λ i. record (c.take_frame.ensures.rest i) { journal = c.push.new.self }) (ap asked past) f.1.1 in
     record {
       ok = c.self.invariant.ok;
       room = search rules;
-      now = opens_told _ _ _ None _ q.0 (limits_in t.reply) t.reply now c.self.invariant.ok q.1.0 q.1.1 known calm t.goes all (record { calls = u.calls; untold = u.untold; begun = u.begun; count = u.count; each = u.each });
+      now = subst (λ (x : Lanes). IsInPhase c.self.inside.lanes.now c.self.inside.options c.self.inside.version tells.result (record x { journal = c.push.new.self }) Open) (sym tells.ensures.rest)
+          (opens_told _ _ _ _ q.0 (limits_in t.reply) t.reply (record before { facts = tells.new.work.facts }) c.self.invariant.ok q.1.0 q.1.1 known facts calm t.goes all (facts_untouched _ before tells.new.work.facts still));
     }
 
 pub invariant_of-self-in-Err : goal.invariant_of-self-in-Err
@@ -79,7 +83,7 @@ returns-in-Ok-Limits-clause-later c =
     let pushed : c.push.new.self.items ≡ c.self.inside.work.journal.items ++ one = search rules in
     let past : reverse c.push.new.self.items ≡ entry.Event (Take c.in-Ok-Limits.id c.in-Ok-Limits.reply) ∷ reverse c.self.inside.work.journal.items = ap reverse pushed ∙ reverse-append c.self.inside.work.journal.items one in
     let all : reverse c.push.new.self.items ≡ entry.Event (Take 0 t.reply) ∷ queried 0 = past ∙ (λ i. entry.Event (Take (zero i) (same i)) ∷ q.1.3 i) in
-    let s : Setting = setting_by c.self.inside.lanes.now c.self.inside.options c.self.inside.version c.info-self-inside.result in
+    let s : Setting = setting_by c.self.inside.lanes.now c.self.inside.options c.self.inside.version c.tell-self-inside.result in
     subst (IsLater s []) (sym all) (opened_later s t.reply (ap (λ (v : Option Reply). offers_limits (offered v)) q.1.0 ∙ q.1.1) t.goes)
 
 pub returns-in-Ok-Limits-clause-fixed : goal.returns-in-Ok-Limits-clause-fixed
@@ -96,8 +100,8 @@ returns-in-Ok-Limits-clause-fixed c =
     let past : reverse c.push.new.self.items ≡ entry.Event (Take c.in-Ok-Limits.id c.in-Ok-Limits.reply) ∷ reverse c.self.inside.work.journal.items = ap reverse pushed ∙ reverse-append c.self.inside.work.journal.items one in
     let all : reverse c.push.new.self.items ≡ entry.Event (Take 0 t.reply) ∷ queried 0 = past ∙ (λ i. entry.Event (Take (zero i) (same i)) ∷ q.1.3 i) in
     let calm = info_came _ q.0 _ _ _ _ t.reply q.1.2 c.in-Ok-Limits.ensures.only c.in-Ok-Limits.ensures.ok t.reads in
-    let known = c.info-self-inside.ensures.value ∙ ap (λ (k : Core). info_of k.phase) calm in
-    is_fixed c.self.inside.lanes.now c.self.inside.options q.0 (limits_in t.reply) c.self.inside.version c.info-self-inside.result (reverse c.push.new.self.items) q.1.0 known (limits_are (offers_limits q.0) (reverse c.push.new.self.items) t.reply q.1.1 all)
+    let known = c.tell-self-inside.ensures.info ∙ ap (λ (k : Core). info_of k.phase) calm in
+    is_fixed c.self.inside.lanes.now c.self.inside.options q.0 (limits_in t.reply) c.self.inside.version c.tell-self-inside.result (reverse c.push.new.self.items) q.1.0 known (limits_are (offers_limits q.0) (reverse c.push.new.self.items) t.reply q.1.1 all)
 
 pub returns-in-Err : goal.returns-in-Err
 returns-in-Err c =

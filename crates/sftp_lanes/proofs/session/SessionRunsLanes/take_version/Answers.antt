@@ -1,16 +1,20 @@
-use Rattle.std.proofs.Common.{◌≡◌, ◌∙◌, ◌++◌, ◌∷◌, [], sym, ap, rules, true, false, Some, None}
+use Rattle.std.proofs.Common.{◌≡◌, ◌∙◌, ◌++◌, ◌+◌, ◌∷◌, [], sym, ap, rules, subst, true, false, Some, None}
 use Rattle.std.specs.Prelude.{reverse}
 use Rattle.sftp_model.specs.declared.reply.Reply.{Reply}
 use Rattle.sftp_core.specs.declared.tokens.Taken.TheVariants as taken_of
 use Rattle.sftp_core.specs.Core.{Core}
 use Rattle.sftp_core.specs.Info.{info_of, info_with, offers_limits}
+use Rattle.sftp_history.specs.Readings.{asked}
 use Rattle.sftp_history.specs.Settings.{greeting}
-use Rattle.sftp_driver.specs.declared.session.Phase.TheVariants.{Greeted}
+use Rattle.sftp_driver.specs.declared.session.Phase.TheVariants.{Greeted, Open}
 use Rattle.sftp_driver.specs.NoLanes.{idle_core, offered}
 use Rattle.sftp_driver.proofs.Bare.{asked_is, greets, opened_idle}
-use Rattle.sftp_lanes.proofs.FaultLaws.{refused_so_far}
-use Rattle.sftp_lanes.proofs.Opening.{fails_by, in_phase, opens_at_once, same_version, still_untouched}
-use Rattle.sftp_lanes.proofs.Stepping.{pushed}
+use Rattle.sftp_work.proofs.FaultLaws.{refused_so_far}
+use Rattle.sftp_work.specs.declared.lanes.Lanes.{Lanes}
+use Rattle.sftp_work.specs.SoFar.{HasRoom}
+use Rattle.sftp_lanes.specs.Seen.{IsInPhase}
+use Rattle.sftp_lanes.proofs.Opening.{facts_told, facts_untouched, fails_by, in_phase, opens_at_once, same_version, still_untouched}
+use Rattle.sftp_work.proofs.Entries.{pushed}
 use Rattle.sftp_lanes.proofs.session.SessionRunsLanes.take_version.Goals as goal
 
 pub invariant_of-self : goal.invariant_of-self
@@ -22,11 +26,12 @@ invariant_of-self c =
     let some : offers_limits v.extensions ≡ true = ap (λ (r : Reply). offers_limits (offered (Some r))) (sym same) ∙ sym c.offers_limits.ensures ∙ c.if-offers_limits.true in
     let items : c.push.new.self.items ≡ c.take_frame.new.self.journal.items ++ c.query_entry.result ∷ [] = search rules in
     let past = ap reverse items ∙ pushed c.take_frame.new.self.journal.items c.query_entry.result ∙ ap (λ w. c.query_entry.result ∷ w) (ap reverse c.in-Ok-Version.ensures.journal ∙ f.0.2) ∙ c.query_entry.ensures in
-    let u = still_untouched _ _ _ c.take_frame.new.self c.take_frame.ensures.rest f.1 in
+    let u = still_untouched _ _ c.take_frame.new.self c.take_frame.ensures.rest (ap (λ xs. asked (reverse xs)) c.in-Ok-Version.ensures.journal) f.1.1 in
+    let none : c.take_frame.new.self.asked ≡ 0 = u.asked ∙ ap asked (ap reverse c.in-Ok-Version.ensures.journal ∙ f.0.2) in
     record {
       ok = c.self.invariant.ok;
       room = search rules;
-      now = ((v.extensions, (ap Some same, some, asked_is _ v.extensions _ v.leaves some, past)), record { calls = u.calls; untold = f.1.untold; begun = u.begun; count = u.count; each = u.each });
+      now = ((v.extensions, (ap Some same, some, asked_is _ v.extensions _ v.leaves some, past)), (f.1.0, record { calls = u.calls; asked = ap (λ n. n + 1) none ∙ sym (ap asked past); begun = u.begun; count = u.count; each = u.each }));
     }
 
 pub invariant_of-self-in-Ok-Version : goal.invariant_of-self-in-Ok-Version
@@ -37,11 +42,16 @@ invariant_of-self-in-Ok-Version c =
     let same : c.in-Ok-Version.reply ≡ greeting v.extensions = same_version _ _ (sym named ∙ v.tells) in
     let none : offers_limits v.extensions ≡ false = ap (λ (r : Reply). offers_limits (offered (Some r))) (sym same) ∙ sym c.offers_limits.ensures ∙ c.if-offers_limits.false in
     let calm : c.take_frame.new.self.core ≡ idle_core c.self.inside.options (info_with v.extensions None c.self.inside.options) = opened_idle _ v.extensions _ v.leaves none in
-    let known = c.info-self-inside.ensures.value ∙ ap (λ (k : Core). info_of k.phase) calm in
+    let t = c.tell-self-inside in
+    let known = t.ensures.info ∙ ap (λ (k : Core). info_of k.phase) calm in
+    let facts = facts_told t.new.work.facts c.self.inside.options (offered (Some c.in-Ok-Version.reply)) _ _ (t.ensures.facts (offered (Some c.in-Ok-Version.reply))) known in
+    let now : Lanes = record c.take_frame.new.self { facts = t.new.work.facts } in
+    let u = facts_untouched _ c.take_frame.new.self t.new.work.facts (still_untouched _ _ c.take_frame.new.self c.take_frame.ensures.rest (ap (λ xs. asked (reverse xs)) c.in-Ok-Version.ensures.journal) f.1.1) in
     record {
       ok = c.self.invariant.ok;
-      room = c.take_frame.ensures.room;
-      now = opens_at_once _ _ _ None _ v.extensions c.take_frame.new.self c.self.invariant.ok (ap Some same) none known calm (ap reverse c.in-Ok-Version.ensures.journal ∙ f.0.2) (still_untouched _ _ _ c.take_frame.new.self c.take_frame.ensures.rest f.1);
+      room = subst HasRoom (sym t.ensures.rest) c.take_frame.ensures.room;
+      now = subst (λ (x : Lanes). IsInPhase c.self.inside.lanes.now c.self.inside.options (Some c.in-Ok-Version.reply) t.result x Open) (sym t.ensures.rest)
+          (opens_at_once _ _ _ _ v.extensions now c.self.invariant.ok (ap Some same) none known facts calm (ap reverse c.in-Ok-Version.ensures.journal ∙ f.0.2) u);
     }
 
 pub invariant_of-self-in-Err : goal.invariant_of-self-in-Err

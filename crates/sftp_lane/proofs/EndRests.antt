@@ -1,0 +1,134 @@
+-- A call that waits, or has ended, leaves its session at rest, but for the grants that are due then.
+use Rattle.std.proofs.Common.{arith, ◌≡◌, ◌≢◌, ◌<◌, ◌≤◌, ◌==◌, ℕ, Bool, true, false, List, [], ◌∷◌, Option, Some, None, refl, ap, sym, ◌∙◌, subst, inl, inr, ◌||◌, if◌then◌else◌}
+use Rattle.std.specs.Prelude.{length, is_some}
+use Rattle.std.specs.List.{list_any}
+use Rattle.std.proofs.lemmas.Bool.Decides.{eqb_tells}
+use Rattle.sftp_model.specs.declared.outcome.Outcome.{Outcome}
+use Rattle.sftp_model.specs.declared.slot.Move.TheVariants.{Wait}
+use Rattle.sftp_core.specs.Core.{Core}
+use Rattle.sftp_plan.specs.Pending.{own_place}
+use Rattle.sftp_history.specs.declared.event.Event.TheVariants.{End}
+use Rattle.sftp_history.specs.declared.entry.Entry.{Entry}
+use Rattle.sftp_history.specs.declared.entry.Entry.TheVariants as entry
+use Rattle.sftp_history.specs.Readings.{answer, asked, ended, own}
+use Rattle.sftp_history.specs.Calls.{Setting, has_waited, is_wait, move_of}
+use Rattle.sftp_history.specs.Journals.{IsNext, is_some_asked, may_cancel}
+use Rattle.sftp_history.specs.Steady.{Good}
+use Rattle.sftp_history.specs.Turns.{begun_but, begun_with}
+use Rattle.sftp_history.proofs.CallLaws.{may_next}
+use Rattle.sftp_history.proofs.CountLaws.{some_unanswered}
+use Rattle.sftp_history.proofs.RunLaws.{begun_more, but_begun, end_good}
+use Rattle.sftp_ties.specs.Changes.{ended_lane, with_lane}
+use Rattle.sftp_ties.specs.Lanes.{LaneValue, ticket_places}
+use Rattle.sftp_ties.specs.Places.{is_in}
+use Rattle.sftp_ties.proofs.HoldLaws.{ticket_index}
+use Rattle.sftp_ties.proofs.LaneLaws.{replies_agree}
+use Rattle.sftp_ties.proofs.OrderLaws.{asked_below}
+use Rattle.sftp_ties.proofs.PlaceLaws.{at_in}
+use Rattle.sftp_ties.proofs.SessionLaws.{each_with}
+use Rattle.sftp_steps.specs.Rest.{AtRest, Counted, LaneAsks, weigh}
+use Rattle.sftp_lane.specs.Holding.{TurnTied}
+use Rattle.sftp_lane.specs.Rests.{Ended, Waits}
+use Rattle.sftp_lane.specs.Turning.{TurnWaits}
+use Rattle.sftp_lane.specs.declared.lane.Moved.TheVariants as moved
+use Rattle.sftp_lane.proofs.AskRests.{Midway}
+use Rattle.sftp_lane.proofs.Holding.{with_here}
+
+-- ---- an end
+
+-- a lane whose call has ended awaits nothing
+ended_asks : (past : List Entry) (lane : ℕ) (v : LaneValue) → v.running ≡ None → ((p : ℕ) → is_in p (ticket_places v.tickets) ≡ false) → LaneAsks past lane v
+ended_asks past lane v idle none =
+    record {
+      current = λ p mine. absurd (let clash : ◌≡◌ {A = Option ℕ} None (Some p) = sym (ap own_place idle) ∙ mine in cc);
+      own = λ r is. absurd (let clash : None ≡ Some r = sym idle ∙ is in cc);
+      only = λ p has. absurd (let clash : false ≡ true = sym (none p) ∙ has in cc);
+      keeps = λ g opens. absurd (let clash : ◌≡◌ {A = Option ℕ} None (Some g) = rw idle at opens in cc);
+      fits = λ p b y mine there may. absurd (let clash : ◌≡◌ {A = Option ℕ} None (Some p) = sym (ap own_place idle) ∙ mine in cc);
+    }
+
+-- an end of a call asks nothing
+end_asks : (past : List Entry) (l c w : ℕ) (o : Outcome) (v : LaneValue) → LaneAsks past w v → LaneAsks (entry.Event (End l c o) ∷ past) w v
+end_asks past l c w o v a = record { current = a.current; own = a.own; only = a.only; keeps = a.keeps; fits = a.fits }
+
+pub ended_rests : (s : Setting) (past : List Entry) (core c new : Core) (lanes : ℕ → LaneValue) (begun : List ℕ) (lane : ℕ) (now : LaneValue) (o : Outcome) → AtRest s past core lanes begun → lane < length s.lanes → Midway past core c → new ≡ c
+    → ((p : ℕ) → is_in p (ticket_places now.tickets) ≡ false) → TurnTied s past new (with_lane lanes lane) lane now (moved.Ended o) → Ended s past core new (with_lane lanes lane (ended_lane now now.site)) begun lane now o
+ended_rests s past core c new lanes begun lane now o h there m same none t =
+    let b = h.between in
+    let e : Entry = entry.Event (End lane (ended past lane) o) in
+    let next : IsNext s past e = may_next s past e b.good.calm h.settled (refl, (now.site, t.move), b.good.ready) in
+    let good : Good s (e ∷ past) (begun_but begun lane) = end_good s past begun lane o b.good.run b.good.ready b.good.unkept b.good.cancels next in
+    let both = t.tied good.run in
+    record {
+      move = t.move;
+      next = next;
+      work = subst (λ (x : Core). weigh x ≤ weigh core) (sym same) m.work;
+      between = record {
+        good = good;
+        due = both.0;
+        tied = both.1;
+        counted = subst (λ (x : Core). Counted (e ∷ past) x) (sym same) (record { waiting = m.counted.waiting; sent = m.counted.sent });
+        asks = λ w lt. each_with (λ n v. LaneAsks (e ∷ past) n v) lanes lane (ended_lane now now.site) (length s.lanes) (ended_asks (e ∷ past) lane (ended_lane now now.site) refl none)
+            (λ n less ne. end_asks past lane (ended past lane) n o (lanes n) (b.asks n less)) w lt;
+        begins = λ w lt any. (let old = but_begun begun lane w any in begins w lt old.0 old.1);
+      };
+    }
+  where
+    begins : (w : ℕ) → w < length s.lanes → lane ≢ w → list_any (λ l. l == w) begun ≡ true → is_some (with_lane lanes lane (ended_lane now now.site) w).running ≡ true
+    begins w lt ne any = elim (eqb_tells lane w) [ inl t ↦ absurd (ne t.1) | inr t ↦ rw t.0 (h.between.begins w lt any) ]
+
+-- ---- a call that waits
+
+wait_left : (a b : Bool) → a ≡ true → (a || b) ≡ true
+wait_left true b e = refl
+wait_left false b e = absurd cc
+
+wait_right : (a b : Bool) → b ≡ true → (a || b) ≡ true
+wait_right true b e = refl
+wait_right false b e = e
+
+waits_now : (s : Setting) (past : List Entry) (lane place : ℕ) → move_of s past lane ≡ Some (Wait place) → has_waited s past lane ≡ true
+waits_now s [] lane place e = ap is_wait e
+waits_now s (entry.Event (End l c o) ∷ past) lane place e = wait_left (is_wait (move_of s (entry.Event (End l c o) ∷ past) lane)) (if l == lane then false else has_waited s past lane) (ap is_wait e)
+waits_now s (e ∷ past) lane place w = wait_left (is_wait (move_of s (e ∷ past) lane)) (has_waited s past lane) (ap is_wait w)
+
+waiting_good : (s : Setting) (past : List Entry) (begun : List ℕ) (lane place : ℕ) → Good s past begun → move_of s past lane ≡ Some (Wait place) → Good s past (begun_with begun lane)
+waiting_good s past begun lane place g move =
+    record {
+      run = g.run;
+      calm = g.calm;
+      ready = g.ready;
+      unkept = g.unkept;
+      cancels = λ l any. begun_more lane l begun (may_cancel s past l ≡ true)
+          (λ is. subst (λ (n : ℕ). may_cancel s past n ≡ true) is (wait_right (is_some_asked (own past lane (ended past lane))) (has_waited s past lane) (waits_now s past lane place move))) (λ old. g.cancels l old) any;
+    }
+
+pub waits_rest : (s : Setting) (past : List Entry) (core new : Core) (lanes : ℕ → LaneValue) (begun : List ℕ) (lane : ℕ) (now : LaneValue) → AtRest s past core lanes begun → lane < length s.lanes → TurnWaits core new (lanes lane) now moved.Waits
+    → TurnTied s past new (with_lane lanes lane) lane now moved.Waits → Waits s past core new (with_lane lanes lane now) begun lane
+waits_rest s past core new lanes begun lane now h there x t =
+    let b = h.between in
+    let v : LaneValue = lanes lane in
+    let a : LaneAsks past lane v = b.asks lane there in
+    let has : is_in x.ticket.place (ticket_places v.tickets) ≡ true = at_in (ticket_places v.tickets) x.k x.ticket.place (ticket_index v.tickets x.k x.ticket x.here) in
+    let below : x.ticket.place < asked past = asked_below past x.ticket.place lane v.ended (a.current x.ticket.place (a.only x.ticket.place has)) in
+    let missing : answer past x.ticket.place ≡ None = sym (replies_agree s past core lanes [] lane x.k x.ticket b.tied there x.here) ∙ x.missing in
+    let runs : is_some now.running ≡ true = ap (λ (y : LaneValue). is_some y.running) x.same ∙ ap is_some x.was in
+    record {
+      place = t.0.0;
+      move = t.0.1;
+      unanswered = some_unanswered past x.ticket.place below missing;
+      work = subst (λ (y : Core). weigh y ≤ weigh core) (sym x.core) (omega arith);
+      rest = record {
+        settled = h.settled;
+        between = record {
+          good = waiting_good s past begun lane t.0.0 b.good t.0.1;
+          due = b.due;
+          tied = t.1;
+          counted = subst (λ (y : Core). Counted past y) (sym x.core) b.counted;
+          asks = λ w lt. each_with (λ n y. LaneAsks past n y) lanes lane now (length s.lanes) (subst (λ (y : LaneValue). LaneAsks past lane y) (sym x.same) a) (λ n less ne. b.asks n less) w lt;
+          begins = λ w lt any. begun_more lane w begun (is_some (with_lane lanes lane now w).running ≡ true)
+              (λ is. subst (λ (n : ℕ). is_some (with_lane lanes lane now n).running ≡ true) is (ap (λ (y : LaneValue). is_some y.running) (with_here lanes lane now) ∙ runs))
+              (λ old. each_with (λ n y. list_any (λ l. l == n) begun ≡ true → is_some y.running ≡ true) lanes lane now (length s.lanes) (λ y. runs) (λ n less ne y. b.begins n less y) w lt old) any;
+        };
+      };
+    }

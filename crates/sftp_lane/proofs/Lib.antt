@@ -1,0 +1,14 @@
+mod AskLaws
+mod Begun
+mod Polling
+pub mod Holding
+mod Polled
+mod TurnLaws
+pub mod Turned
+pub mod Awaiting
+mod AskRests
+mod EndRests
+pub mod Rests
+mod Loose
+mod GivenUp
+mod LettingGo

@@ -1,0 +1,112 @@
+use Rattle.std.proofs.Common.{rules, ◌≡◌, ap, subst, sym, ◌∙◌, refl, ℕ, List, Option, Some, None}
+use Rattle.std.specs.Prelude.{slice_get}
+use Rattle.sftp_model.specs.declared.reply.Reply.{Reply}
+use Rattle.sftp_model.specs.declared.slot.Site.{Site}
+use Rattle.sftp_plan.specs.declared.next.Next.{Next}
+use Rattle.sftp_plan.specs.Machines.{awaited}
+use Rattle.sftp_plan.specs.Sound.{Fits}
+use Rattle.sftp_plan.specs.Asking.{Asks, AsksOn, opened_after}
+use Rattle.sftp_ties.specs.Lanes.{Held, LaneValue, Ticketed, ticket_places}
+use Rattle.sftp_ties.specs.Places.{is_in}
+use Rattle.sftp_lane.specs.Tokens.{AreGrants, Spent}
+use Rattle.sftp_lane.specs.Turning.{MayAsk, Waiting, WentOn}
+use Rattle.sftp_lane.specs.declared.tokens.Tokens.{Tokens}
+use Rattle.sftp_lane.proofs.AskLaws.{first_of, held_after, held_first, may_ask, turned_replied}
+use Rattle.sftp_lane.proofs.lane.LaneState.turn.Goals as goal
+
+pub settle-requires-clause-may : goal.settle-requires-clause-may
+settle-requires-clause-may c =
+    let v : LaneValue = c.args.self.now in
+    let n : Next = c.in_ok-next.next in
+    let grants : c.reserve-2.new.self.items ≡ v.grants = search rules in
+    let site : c.self.inside.site ≡ v.site = ap (λ (x : LaneValue). x.site) c.self.view_is in
+    let asks : Asks None c.args.place v.site n = subst (λ (x : Site). Asks None c.args.place x n) site c.in_ok-next.ensures.asks in
+    subst (λ (gs : List Held). MayAsk gs n) (sym grants) (may_ask None c.args.place v.site v.grants n asks (held_first v c.requires.holds))
+
+pub reply-requires-clause-awaited : goal.reply-requires-clause-awaited
+reply-requires-clause-awaited c =
+    let v : LaneValue = c.args.self.now in
+    let tickets : c.reserve.new.self.items ≡ v.tickets = search rules in
+    let was : v.running ≡ Some c.in-Some.running = search rules in
+    let looks : awaited c.in-Some.running v.site ≡ Some c.in-Some-awaited.awaited = search rules in
+    ap (λ (ts : List Ticketed). is_in c.in-Some-awaited.awaited (ticket_places ts)) tickets ∙ c.requires.awaits c.in-Some.running c.in-Some-awaited.awaited was looks
+
+pub returns-in_default-reply-clause-turned : goal.returns-in_default-reply-clause-turned
+returns-in_default-reply-clause-turned c =
+    let v : LaneValue = c.args.self.now in
+    let tickets : c.reserve.new.self.items ≡ v.tickets = search rules in
+    let grants : c.reserve-2.new.self.items ≡ v.grants = search rules in
+    let was : v.running ≡ Some c.in-Some.running = search rules in
+    let looks : awaited c.in-Some.running v.site ≡ Some c.in-Some-awaited.awaited = search rules in
+    let site : c.self.inside.site ≡ v.site = ap (λ (x : LaneValue). x.site) c.self.view_is in
+    let ended : c.self.inside.ended ≡ v.ended = ap (λ (x : LaneValue). x.ended) c.self.view_is in
+    let m = c.reply.ensures.missing c.in_default-reply.is in
+    let stays = c.reply.ensures.waits c.in_default-reply.is in
+    Waiting (record {
+      running = c.in-Some.running;
+      k = m.0;
+      ticket = m.1.0;
+      was = was;
+      looks = looks ∙ ap (λ (n : ℕ). Some n) (sym m.1.1.1);
+      here = ap (λ (ts : List Ticketed). slice_get ts m.0) (sym tickets) ∙ m.1.1.0;
+      missing = m.1.1.2;
+      is = refl;
+      core = stays.0;
+      same = λ i. record {
+        running = sym was i;
+        site = site i;
+        tickets = (ap (λ (x : Tokens). x.tickets.items) stays.1 ∙ tickets) i;
+        grants = (ap (λ (x : Tokens). x.grants.items) stays.1 ∙ grants) i;
+        ended = ended i;
+      };
+    })
+
+pub resume-requires-2-clause-fits : goal.resume-requires-2-clause-fits
+resume-requires-2-clause-fits c =
+    let v : LaneValue = c.args.self.now in
+    let tickets : c.reserve.new.self.items ≡ v.tickets = search rules in
+    let was : v.running ≡ Some c.in-Some.running = search rules in
+    let looks : awaited c.in-Some.running v.site ≡ Some c.in-Some-awaited.awaited = search rules in
+    let spent = c.in-Some-reply.ensures.came in
+    subst (λ (o : Option Reply). Fits c.in-Some.running o) spent.came
+    (c.requires.fits spent.k (record { place = c.in-Some-awaited.awaited; ticket = spent.ticket }) c.in-Some.running (ap (λ (ts : List Ticketed). slice_get ts spent.k) (sym tickets) ∙ spent.here) was looks)
+
+pub settle-requires-2-clause-held : goal.settle-requires-2-clause-held
+settle-requires-2-clause-held c =
+    let grants : c.reserve-2.new.self.items ≡ c.args.self.now.grants = search rules in
+    λ k g got. c.reply.ensures.held (subst (λ (gs : List Held). AreGrants c.args.core.now gs) (sym grants) c.requires.held) k g got
+
+pub settle-requires-2-clause-may : goal.settle-requires-2-clause-may
+settle-requires-2-clause-may c =
+    let v : LaneValue = c.args.self.now in
+    let tickets : c.reserve.new.self.items ≡ v.tickets = search rules in
+    let grants : c.reserve-2.new.self.items ≡ v.grants = search rules in
+    let was : v.running ≡ Some c.in-Some.running = search rules in
+    let looks : awaited c.in-Some.running v.site ≡ Some c.in-Some-awaited.awaited = search rules in
+    let site : c.self.inside.site ≡ v.site = ap (λ (x : LaneValue). x.site) c.self.view_is in
+    let spent : Spent c.args.core.now c.reply.new.core v.tickets c.reply.new.self.tickets.items v.grants c.reply.new.self.grants.items c.in-Some-awaited.awaited c.in-Some-reply.reply =
+    subst (λ (ts : List Ticketed). Spent c.args.core.now c.reply.new.core ts c.reply.new.self.tickets.items v.grants c.reply.new.self.grants.items c.in-Some-awaited.awaited c.in-Some-reply.reply) tickets
+    (subst (λ (gs : List Held). Spent c.args.core.now c.reply.new.core c.reserve.new.self.items c.reply.new.self.tickets.items gs c.reply.new.self.grants.items c.in-Some-awaited.awaited c.in-Some-reply.reply) grants c.in-Some-reply.ensures.came) in
+    let asks : AsksOn (opened_after c.in-Some.running (Some c.in-Some-reply.reply)) c.args.place v.site c.in_ok-next-3.next =
+    subst (λ (x : Site). AsksOn (opened_after c.in-Some.running (Some c.in-Some-reply.reply)) c.args.place x c.in_ok-next-3.next) site (c.in_ok-next-3.ensures.asks (c.requires.own c.in-Some.running was)) in
+    subst (λ (gs : List Held). MayAsk gs c.in_ok-next-3.next) (sym spent.now)
+    (may_ask _ _ _ _ c.in_ok-next-3.next (first_of _ _ _ c.in_ok-next-3.next asks)
+    (held_after v c.in-Some.running c.in-Some-reply.reply c.in-Some-awaited.awaited spent.ticket was looks c.requires.holds))
+
+pub returns-clause-turned : goal.returns-clause-turned
+returns-clause-turned c =
+    let v : LaneValue = c.args.self.now in
+    let tickets : c.reserve.new.self.items ≡ v.tickets = search rules in
+    let grants : c.reserve-2.new.self.items ≡ v.grants = search rules in
+    let was : v.running ≡ Some c.in-Some.running = search rules in
+    let looks : awaited c.in-Some.running v.site ≡ Some c.in-Some-awaited.awaited = search rules in
+    let site : c.self.inside.site ≡ v.site = ap (λ (x : LaneValue). x.site) c.self.view_is in
+    let spent : Spent c.args.core.now c.reply.new.core v.tickets c.reply.new.self.tickets.items v.grants c.reply.new.self.grants.items c.in-Some-awaited.awaited c.in-Some-reply.reply =
+    subst (λ (ts : List Ticketed). Spent c.args.core.now c.reply.new.core ts c.reply.new.self.tickets.items v.grants c.reply.new.self.grants.items c.in-Some-awaited.awaited c.in-Some-reply.reply) tickets
+    (subst (λ (gs : List Held). Spent c.args.core.now c.reply.new.core c.reserve.new.self.items c.reply.new.self.tickets.items gs c.reply.new.self.grants.items c.in-Some-awaited.awaited c.in-Some-reply.reply) grants c.in-Some-reply.ensures.came) in
+    let went : WentOn c.in-Some.running (Some c.in-Some-reply.reply) c.args.call.now c.args.facts.now c.args.place v.site c.resume-2.new.site c.in_ok-next-3.next =
+    subst (λ (x : Site). WentOn c.in-Some.running (Some c.in-Some-reply.reply) c.args.call.now c.args.facts.now c.args.place x c.resume-2.new.site c.in_ok-next-3.next) site c.in_ok-next-3.ensures.went in
+    let asks : AsksOn (opened_after c.in-Some.running (Some c.in-Some-reply.reply)) c.args.place v.site c.in_ok-next-3.next =
+    subst (λ (x : Site). AsksOn (opened_after c.in-Some.running (Some c.in-Some-reply.reply)) c.args.place x c.in_ok-next-3.next) site (c.in_ok-next-3.ensures.asks (c.requires.own c.in-Some.running was)) in
+    turned_replied c.args.call.now c.args.facts.now c.args.place c.args.core.now c.reply.new.core c.settle-2.new.core v _ c.in-Some.running c.in-Some-awaited.awaited c.in-Some-reply.reply c.reply.new.self.tickets.items c.reply.new.self.grants.items c.in_ok-next-3.next c.settle-2.result
+    was looks spent went asks (ap (λ (x : LaneValue). x.ended) c.self.view_is) c.settle-2.ensures.settled

@@ -1,0 +1,4 @@
+pub mod Tokens
+pub mod Turning
+pub mod Holding
+pub mod Rests

@@ -1,0 +1,72 @@
+-- What a turn of a lane leaves of a session at rest.
+use Rattle.std.specs.Prelude.{◌≡◌, ◌<◌, ◌≤◌, ◌+◌, ◌^◌, ℕ, List, ◌∷◌, length, Some}
+use Rattle.sftp_model.specs.declared.outcome.Outcome.{Outcome}
+use Rattle.sftp_model.specs.declared.request.Request.{Request}
+use Rattle.sftp_model.specs.declared.slot.Move.TheVariants.{Ask, Wait, Done}
+use Rattle.sftp_core.specs.Core.{Core}
+use Rattle.sftp_history.specs.declared.call.Call.{Call}
+use Rattle.sftp_history.specs.declared.event.Event.TheVariants.{End}
+use Rattle.sftp_history.specs.declared.entry.Entry.{Entry}
+use Rattle.sftp_history.specs.declared.entry.Entry.TheVariants as entry
+use Rattle.sftp_history.specs.Readings.{asked, ended, unanswered}
+use Rattle.sftp_history.specs.Calls.{Setting, current, move_of}
+use Rattle.sftp_history.specs.Journals.{IsFree, IsNext}
+use Rattle.sftp_history.specs.Turns.{begun_but, begun_with}
+use Rattle.sftp_ties.specs.Changes.{ended_lane, with_lane}
+use Rattle.sftp_ties.specs.Dues.{loose_of}
+use Rattle.sftp_ties.specs.Lanes.{LaneValue, grant_places}
+use Rattle.sftp_ties.specs.Running.{own_request}
+use Rattle.sftp_steps.specs.Rest.{AtRest, Between, weigh}
+use Rattle.sftp_lane.specs.Turning.{AllFit, HoldsNamed, IsOwnRun, Turned}
+use Rattle.sftp_lane.specs.declared.lane.Moved.{Moved}
+use Rattle.sftp_lane.specs.declared.lane.Moved.TheVariants as moved
+
+-- the call waits for a reply
+pub record Waits (s : Setting) (past : List Entry) (core new : Core) (lanes : ℕ → LaneValue) (begun : List ℕ) (lane : ℕ) : Type 0 where
+  pub place : ℕ
+  pub move : move_of s past lane ≡ Some (Wait place)
+  pub rest : AtRest s past new lanes (begun_with begun lane)
+  pub work : weigh new ≤ weigh core
+  pub unanswered : 0 < unanswered past
+
+-- a request was submitted
+pub record Asked (s : Setting) (past : List Entry) (core new : Core) (lanes : ℕ → LaneValue) (begun : List ℕ) (lane id : ℕ) (r : Request) : Type 0 where
+  pub move : move_of s past lane ≡ Some (Ask r)
+  pub free : IsFree past id
+  pub next : IsNext s past (own_request past lane id r)
+  pub rest : AtRest s (own_request past lane id r ∷ past) new lanes (begun_with begun lane)
+  pub work : weigh new ≤ weigh core + 3
+
+-- the call ended, and the lane's grants that no slot has are due
+pub record Ended (s : Setting) (past : List Entry) (core new : Core) (lanes : ℕ → LaneValue) (begun : List ℕ) (lane : ℕ) (now : LaneValue) (o : Outcome) : Type 0 where
+  pub move : move_of s past lane ≡ Some (Done o now.site)
+  pub next : IsNext s past (entry.Event (End lane (ended past lane) o))
+  pub between : Between s (entry.Event (End lane (ended past lane) o) ∷ past) new lanes (begun_but begun lane) (loose_of now.site (grant_places now.grants))
+  pub work : weigh new ≤ weigh core
+
+-- What a turn was is the lane's move. `now` is the lane behind it, which has one more call behind it where one ended.
+abbrev pub Leaves : Setting → List Entry → Core → Core → (ℕ → LaneValue) → List ℕ → ℕ → LaneValue → Moved → Type 0
+Leaves s past core new lanes begun lane now moved.Waits = Waits s past core new (with_lane lanes lane now) begun lane
+Leaves s past core new lanes begun lane now moved.Went = ⊥
+Leaves s past core new lanes begun lane now (moved.Asked id r) = Asked s past core new (with_lane lanes lane now) begun lane id r
+Leaves s past core new lanes begun lane now (moved.Ended o) = Ended s past core new (with_lane lanes lane (ended_lane now now.site)) begun lane now o
+
+-- ids have at most 32 bits
+abbrev pub IsSmall : Moved → Type 0
+IsSmall (moved.Asked id r) = id < 2 ^ 32
+IsSmall other = Unit {0}
+
+-- A turn of a lane leaves the session at rest, but for the grants that are due.
+abbrev pub TurnsLeaveRest : Type 0
+TurnsLeaveRest = (s : Setting) (past : List Entry) (core new : Core) (lanes : ℕ → LaneValue) (begun : List ℕ) (lane : ℕ) (c : Call) (now : LaneValue) (m : Moved) → AtRest s past core lanes begun → lane < length s.lanes → current s past lane ≡ Some c
+    → IsSmall m → Turned c s.facts (asked past) core new (lanes lane) now m → Leaves s past core new lanes begun lane now m
+
+-- what a turn asks for of what its call awaits
+pub record AwaitsOwn (core : Core) (v : LaneValue) : Type 0 where
+  pub fits : AllFit core v.tickets v.running v.site
+  pub own : IsOwnRun v.running
+  pub holds : HoldsNamed v
+
+-- A lane of a session at rest may have its turn.
+abbrev pub LanesAwaitOwn : Type 0
+LanesAwaitOwn = (s : Setting) (past : List Entry) (core : Core) (lanes : ℕ → LaneValue) (begun : List ℕ) (lane : ℕ) (c : Call) → AtRest s past core lanes begun → lane < length s.lanes → current s past lane ≡ Some c → AwaitsOwn core (lanes lane)

@@ -1,0 +1,59 @@
+// What a server tells as a session opens.
+ghost use Rattle.std.specs.Prelude.{◌≡◌, ◌∷◌, [], Some, IfSome};
+ghost use Rattle.sftp_model.specs.declared.flags.Extensions.{Extensions as ExtensionsValue};
+ghost use Rattle.sftp_core.specs.Info.{info_of, offers_limits as offers};
+ghost use Rattle.sftp_driver.specs.NoLanes.{offered, asked_past};
+ghost use Rattle.sftp_lanes.specs.Seen.{facts_by};
+
+use bitflags::Flags;
+use sftp_core::{Info, SftpOptions};
+use sftp_history::{Entry, Event, Owner};
+use sftp_model::{Extensions, Facts, Reply, Request};
+use sftp_work::Lanes;
+
+/// Whether a VERSION offers the query for limits.
+pub(crate) fn offers_limits(reply: &Reply) -> bool
+    ensures { result ≡ offers (offered (Some reply.now)) }
+{
+    match reply {
+        Reply::Version { extensions, .. } => extensions.contains(Extensions::LIMITS),
+        _ => false,
+    }
+}
+
+/// The query for limits was submitted.
+pub(crate) fn query_entry() -> Entry
+    ensures { result ∷ [] ≡ asked_past }
+{
+    Entry::Event(Event::Submit {
+        owner: Owner::Setup,
+        id: 0,
+        request: Request::LimitsQuery,
+    })
+}
+
+/// What plans go by where this is known of the server.
+fn facts_by(info: &Info, options: &SftpOptions) -> Facts
+    ensures { (extensions : ExtensionsValue) → result ≡ facts_by options.now extensions (Some info.now) }
+{
+    Facts {
+        extensions: info.extensions,
+        read_len: info.read_len,
+        write_len: info.write_len,
+        write_limit: options.get_tokio_compat_file_write_limit() as u64,
+        read_window: 1,
+    }
+}
+
+/// What is known of the server, which plans go by from now on.
+pub(crate) fn tell(work: &mut Lanes, options: &SftpOptions) -> Option<Info>
+    ensures info { result ≡ info_of work.old.core.phase }
+    ensures rest { work.new ≡ record work.old { facts = work.new.facts } }
+    ensures facts { (extensions : ExtensionsValue) → IfSome result (λ info. work.new.facts ≡ facts_by options.now extensions (Some info)) }
+{
+    let info = work.core.info();
+    if let Some(known) = &info {
+        work.facts = facts_by(known, options);
+    }
+    info
+}

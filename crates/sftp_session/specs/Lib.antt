@@ -1,3 +1,0 @@
-pub mod Tokens
-pub mod Turning
-pub mod Holding

@@ -1,0 +1,79 @@
+-- The calls of a session that were all handed in, and numbers that are small.
+use Rattle.std.proofs.Common.{◌≡◌, ◌<◌, ◌≤◌, ◌+◌, ◌^◌, ℕ, zero, suc, Bool, true, false, List, [], ◌∷◌, ◌++◌, length, Some, refl, ap, sym, ◌∙◌, arith}
+use Rattle.std.specs.Prelude.{◌&&◌, slice_get, nat_lt}
+use Rattle.std.specs.List.{list_all, sum_by}
+use Rattle.std.proofs.lemmas.Bool.Decides.{nat_tests}
+use Rattle.std.proofs.lemmas.List.{append-nil}
+use Rattle.std.proofs.lemmas.List.Sums.{sum_by-cons}
+use Rattle.sftp_history.specs.declared.call.Call.{Call}
+use Rattle.sftp_history.specs.declared.call.Lane.{Lane}
+use Rattle.sftp_history.specs.declared.entry.Entry.{Entry}
+use Rattle.sftp_history.specs.Readings.{ended}
+use Rattle.sftp_history.specs.Calls.{Setting, added, calls_of, current}
+use Rattle.sftp_history.specs.Lanes.{is_within, weight, lane_weight, are_ok}
+
+-- the calls of a lane are those that were handed in
+pub current_is : (s : Setting) (past : List Entry) (lane : ℕ) → added past lane ≡ [] → current s past lane ≡ slice_get (calls_of (slice_get s.lanes lane)) (ended past lane)
+current_is s past lane none =
+    ap (λ more. slice_get (calls_of (slice_get s.lanes lane) ++ more) (ended past lane)) none ∙ ap (λ calls. slice_get calls (ended past lane)) (append-nil (calls_of (slice_get s.lanes lane)))
+
+-- ---- lanes that a session can be given
+
+both : (a b : Bool) → (a && b) ≡ true → (a ≡ true) × (b ≡ true)
+both true b e = (refl, e)
+both false b e = absurd cc
+
+pub all_at : {A : Type 0} (f : A → Bool) (xs : List A) (k : ℕ) (x : A) → list_all f xs ≡ true → slice_get xs k ≡ Some x → f x ≡ true
+all_at f [] k x e is = absurd cc
+all_at f (y ∷ xs) zero x e is = let same : y ≡ x = cc in ap f (sym same) ∙ (both (f y) (list_all f xs) e).0
+all_at f (y ∷ xs) (suc k) x e is = all_at f xs k x (both (f y) (list_all f xs) e).1 is
+
+pub call_within : (lanes : List Lane) (k j : ℕ) (lane : Lane) (c : Call) → are_ok lanes ≡ true → slice_get lanes k ≡ Some lane → slice_get lane.calls j ≡ Some c → is_within c ≡ true
+call_within lanes k j lane c ok at_lane at_call =
+    all_at is_within lane.calls j c (all_at (λ (l : Lane). list_all is_within l.calls) lanes k lane (both (list_all (λ (l : Lane). list_all is_within l.calls) lanes) _ ok).0 at_lane) at_call
+
+one_of : (a b rest all : ℕ) → all ≡ a + rest → a ≡ b → b ≤ all
+one_of a b rest all sum e = omega (arith, sum, e)
+
+more_of : (a rest b all : ℕ) → all ≡ b + rest → a ≤ rest → a ≤ all
+more_of a rest b all sum le = omega (arith, sum, le)
+
+two_more : (total n all : ℕ) → all ≡ 2 + total → total ≡ n + n → all ≡ suc n + suc n
+two_more total n all sum e = omega (arith, sum, e)
+
+sum_at : (lanes : List Lane) (k : ℕ) (lane : Lane) → slice_get lanes k ≡ Some lane → lane_weight lane ≤ sum_by lane_weight lanes
+sum_at [] k lane is = absurd cc
+sum_at (x ∷ lanes) zero lane is = let same : lane_weight x ≡ lane_weight lane = ap lane_weight (let e : x ≡ lane = cc in e) in one_of (lane_weight x) (lane_weight lane) (sum_by lane_weight lanes) _ (sum_by-cons lane_weight x lanes) same
+sum_at (x ∷ lanes) (suc k) lane is = more_of (lane_weight lane) (sum_by lane_weight lanes) (lane_weight x) _ (sum_by-cons lane_weight x lanes) (sum_at lanes k lane is)
+
+calls_weigh : (calls : List Call) → sum_by weight calls ≡ length calls + length calls
+calls_weigh [] = refl
+calls_weigh (c ∷ calls) = two_more (sum_by weight calls) (length calls) _ (sum_by-cons weight c calls) (calls_weigh calls)
+
+below_limit : (n : ℕ) → nat_lt n (2 ^ 31) ≡ true → n < 2 ^ 31
+below_limit n e = grind (arith, nat_tests)
+
+few_calls : (total n all : ℕ) → all < 2 ^ 31 → 1 + total ≤ all → total ≡ n + n → n < 2 ^ 31
+few_calls total n all less part twice = omega (arith, less, part, twice)
+
+-- a lane has few calls
+pub calls_few : (lanes : List Lane) (k : ℕ) (lane : Lane) → are_ok lanes ≡ true → slice_get lanes k ≡ Some lane → length lane.calls < 2 ^ 31
+calls_few lanes k lane ok is =
+    let less : sum_by lane_weight lanes < 2 ^ 31 = below_limit (sum_by lane_weight lanes) (both (list_all (λ (l : Lane). list_all is_within l.calls) lanes) _ ok).1 in
+    let part = sum_at lanes k lane is in
+    few_calls (sum_by weight lane.calls) (length lane.calls) (sum_by lane_weight lanes) less part (calls_weigh lane.calls)
+
+-- ---- lanes are few
+
+lanes_weigh : (lanes : List Lane) → length lanes ≤ sum_by lane_weight lanes
+lanes_weigh [] = omega arith
+lanes_weigh (lane ∷ lanes) =
+    let rest = lanes_weigh lanes in
+    let step : sum_by lane_weight (lane ∷ lanes) ≡ 1 + sum_by weight lane.calls + sum_by lane_weight lanes = sum_by-cons lane_weight lane lanes in
+    omega (arith, rest, step)
+
+pub few_lanes : (lanes : List Lane) → are_ok lanes ≡ true → length lanes < 2 ^ 31
+few_lanes lanes ok =
+    let weigh = lanes_weigh lanes in
+    let light : sum_by lane_weight lanes < 2 ^ 31 = below_limit (sum_by lane_weight lanes) (both (list_all (λ (l : Lane). list_all is_within l.calls) lanes) _ ok).1 in
+    omega (arith, weigh, light)

@@ -1,0 +1,16 @@
+pub mod CallsLaws
+pub mod CancellingLaws
+pub mod ClosingLaws
+pub mod Contents
+pub mod Counting
+pub mod Entries
+pub mod Exchanges
+pub mod FaultLaws
+pub mod FreshLaws
+pub mod Leaving
+pub mod LeftLaws
+pub mod LettingLaws
+pub mod NotingLaws
+pub mod Refusals
+pub mod Remaining
+pub mod TurningLaws

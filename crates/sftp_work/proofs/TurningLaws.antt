@@ -1,0 +1,153 @@
+-- A lane of a session at rest may have its turn, and what it was is to be noted.
+use Rattle.std.proofs.Common.{◌≡◌, ◌<◌, ◌≤◌, ◌+◌, ℕ, true, List, [], ◌∷◌, Option, Some, refl, ap, sym, ◌∙◌, subst, arith}
+use Rattle.std.specs.Prelude.{length, slice_get, slice_index_or}
+use Rattle.std.proofs.lemmas.List.{length-append}
+use Rattle.std.proofs.lemmas.Option.{slice_get_within}
+use Rattle.sftp_model.specs.declared.reply.Reply.{Reply}
+use Rattle.sftp_model.specs.declared.reply.Reply.TheVariants as reply
+use Rattle.sftp_model.specs.declared.slot.Facts.{Facts}
+use Rattle.sftp_core.specs.Core.{Core}
+use Rattle.sftp_plan.specs.declared.next.Asked.{Asked}
+use Rattle.sftp_plan.specs.declared.next.Asked.TheVariants as ask
+use Rattle.sftp_plan.specs.declared.next.Next.{Next}
+use Rattle.sftp_plan.specs.declared.next.Next.TheVariants as step
+use Rattle.sftp_plan.specs.declared.next.Running.{Running}
+use Rattle.sftp_history.specs.declared.call.Call.{Call}
+use Rattle.sftp_history.specs.declared.call.Lane.{Lane}
+use Rattle.sftp_history.specs.Calls.{Setting, calls_of, current}
+use Rattle.sftp_history.specs.Lanes.{is_within}
+use Rattle.sftp_history.specs.Readings.{asked, ended}
+use Rattle.sftp_ties.specs.Lanes.{Held, LaneValue, Ticketed}
+use Rattle.sftp_ties.specs.Places.{without}
+use Rattle.sftp_lane.specs.Rests.{AwaitsOwn, IsSmall}
+use Rattle.sftp_lane.specs.Holding.{MayGoOn}
+use Rattle.sftp_lane.specs.Tokens.{AreGrants, AreTickets, grants_with}
+use Rattle.sftp_lane.specs.Turning.{AllFit, Asks, HasAwaited, HoldsNamed, IsOpen, IsOwnRun, IsSafe, Settles, Turned, Begun, Replied, Unreplied, Waiting}
+use Rattle.sftp_lane.specs.declared.lane.Moved.{Moved}
+use Rattle.sftp_lane.specs.declared.lane.Moved.TheVariants as moved
+use Rattle.sftp_lane.proofs.Awaiting.{lanes_await}
+use Rattle.sftp_lane.proofs.Rests.{turns_leave}
+use Rattle.sftp_lane.proofs.Turned.{lanes_may}
+use Rattle.sftp_work.specs.Noting.{Turning, call_in, turned_in}
+use Rattle.sftp_work.specs.Working.{Contents, Works, lane_in}
+use Rattle.sftp_work.proofs.CallsLaws.{call_within, current_is}
+use Rattle.sftp_work.proofs.ClosingLaws.{fewer_grants}
+use Rattle.sftp_work.proofs.Contents.{state_at}
+use Rattle.sftp_work.proofs.NotingLaws.{AtCall, at_call, ends_at, state_is, within_states}
+
+-- ---- what a turn leaves of the lane
+
+-- the number of its call is the same
+pub turned_same : (c : Call) (facts : Facts) (place : ℕ) (core new : Core) (v now : LaneValue) (m : Moved) → Turned c facts place core new v now m → now.ended ≡ v.ended
+turned_same c facts place core new v now m (Begun x) = x.ended
+turned_same c facts place core new v now m (Replied x) = x.ended
+turned_same c facts place core new v now m (Unreplied x) = x.ended
+turned_same c facts place core new v now m (Waiting x) = ap (λ (y : LaneValue). y.ended) x.same
+
+without_short : (gs : List Held) (k : ℕ) (g : Held) → slice_get gs k ≡ Some g → length (without k gs) ≤ length gs
+without_short gs k g here = (let less = fewer_grants gs k (slice_get_within gs k g here) in omega (arith, less))
+
+asked_short : (core new : Core) (tickets now : List Ticketed) (gs held : List Held) (place : ℕ) (a : Asked) (id : ℕ) (r : _) → Asks core new tickets now gs held place a id r → length held ≤ length gs
+asked_short core new tickets now gs held place (ask.Close g) id r x = subst (λ (hs : List Held). length hs ≤ length gs) (sym x.kept) (without_short gs x.k (record { place = g; grant = x.grant }) x.here)
+asked_short core new tickets now gs held place a id r x = subst (λ (hs : List Held). length hs ≤ length gs) (sym x.kept) (omega arith)
+
+settled_short : (core new : Core) (tickets now : List Ticketed) (gs held : List Held) (running : Option Running) (place : ℕ) (n : Next) (m : Moved) → Settles core new tickets now gs held running place n m → length held ≤ length gs
+settled_short core new tickets now gs held running place (step.Ask a r) (moved.Asked id q) x = asked_short core new tickets now gs held place a id q x.0
+settled_short core new tickets now gs held running place (step.Ask a r) moved.Waits x = absurd x
+settled_short core new tickets now gs held running place (step.Ask a r) moved.Went x = absurd x
+settled_short core new tickets now gs held running place (step.Ask a r) (moved.Ended o) x = absurd x
+settled_short core new tickets now gs held running place (step.Wait r) m x = subst (λ (hs : List Held). length hs ≤ length gs) (sym x.0.kept) (omega arith)
+settled_short core new tickets now gs held running place (step.Done o) m x = subst (λ (hs : List Held). length hs ≤ length gs) (sym x.0.kept) (omega arith)
+
+one_more : (gs : List Held) (place ticket : ℕ) (y : Reply) → length (grants_with gs place ticket y) ≤ length gs + 1
+one_more gs place ticket (reply.Handle handle) = (let more = length-append gs ((record { place = place; grant = record { id = ticket; handle = handle } }) ∷ []) in omega (arith, more))
+one_more gs place ticket y = omega arith
+
+-- and it has one grant more at the most
+pub turned_grants : (c : Call) (facts : Facts) (place : ℕ) (core new : Core) (v now : LaneValue) (m : Moved) → Turned c facts place core new v now m → length now.grants ≤ length v.grants + 1
+turned_grants c facts place core new v now m (Begun x) = (let short = settled_short core new v.tickets now.tickets v.grants now.grants now.running place x.answer m x.settles in omega (arith, short))
+turned_grants c facts place core new v now m (Replied x) =
+    (let short = settled_short x.between new x.tickets now.tickets x.grants now.grants now.running place x.answer m x.settles in
+    let more = one_more v.grants x.awaits x.spent.ticket x.reply in
+    let same : length x.grants ≡ length (grants_with v.grants x.awaits x.spent.ticket x.reply) = ap length x.spent.now in omega (arith, short, more, same))
+turned_grants c facts place core new v now m (Unreplied x) = (let short = settled_short core new v.tickets now.tickets v.grants now.grants now.running place x.answer m x.settles in omega (arith, short))
+turned_grants c facts place core new v now m (Waiting x) = (let same : length now.grants ≡ length v.grants = ap (λ (y : LaneValue). length y.grants) x.same in omega (arith, same))
+
+-- ---- the lane before it
+
+pub there_at : (s : Setting) (c : Contents) (lane : ℕ) (call : Call) → Works s c → AtCall c lane call → lane < length s.lanes
+there_at s c lane call w a = (let within = within_states c lane call a in let count = w.stands.count in omega (arith, within, count))
+
+pub current_at : (s : Setting) (c : Contents) (lane : ℕ) (call : Call) → Works s c → AtCall c lane call → current s c.past lane ≡ Some call
+current_at s c lane call w a =
+    (let lane_is : slice_get s.lanes lane ≡ Some a.calls = ap (λ (ls : List Lane). slice_get ls lane) (sym w.stands.calls) ∙ a.lane_is in
+    let number : ended c.past lane ≡ a.state.ended = sym (ends_at s lane c w (there_at s c lane call w a)) ∙ ap (λ (v : LaneValue). v.ended) (state_is c lane call a) in
+    current_is s c.past lane (w.stands.unadded lane) ∙ ap (λ (o : Option Lane). slice_get (calls_of o) (ended c.past lane)) lane_is ∙ ap (slice_get a.calls.calls) number ∙ a.call_is)
+
+-- what a turn asks for
+pub record MayTurn (s : Setting) (c : Contents) (lane : ℕ) (call : Call) : Type 0 where
+  pub call_within : is_within call ≡ true
+  pub goes : MayGoOn call s.facts c.core (lane_in c.states lane)
+  pub own : AwaitsOwn c.core (lane_in c.states lane)
+
+pub may_turn : (s : Setting) (c : Contents) (lane : ℕ) (call : Call) → Works s c → AtCall c lane call → MayTurn s c lane call
+may_turn s c lane call w a =
+    (let there = there_at s c lane call w a in
+    let is = current_at s c lane call w a in
+    record {
+      call_within = call_within c.calls lane a.state.ended a.calls call w.stands.ok a.lane_is a.call_is;
+      goes = lanes_may s c.past c.core (lane_in c.states) [] lane call w.rest.between.tied there is;
+      own = lanes_await s c.past c.core (lane_in c.states) c.begun lane call w.rest there is;
+    })
+
+-- ---- the turn that is to be noted
+
+pub turning : (s : Setting) (c : Contents) (lane : ℕ) (call : Call) (new : Core) (now : LaneValue) (m : Moved) → Works s c → call_in c.calls c.states lane ≡ Some call → Turned call c.facts c.asked c.core new (lane_in c.states lane) now m → IsSmall m
+    → Turning s lane c (turned_in c lane new now) m
+turning s c lane call new now m w calls t small =
+    let a = at_call c lane call calls in
+    let there = there_at s c lane call w a in
+    let turned : Turned call s.facts (asked c.past) c.core new (lane_in c.states lane) now m =
+    subst (λ (f : Facts). Turned call f (asked c.past) c.core new (lane_in c.states lane) now m) w.stands.facts (subst (λ (n : ℕ). Turned call c.facts n c.core new (lane_in c.states lane) now m) w.stands.asked t) in
+    record {
+      works = w;
+      there = there;
+      call = call;
+      calls = calls;
+      new = new;
+      now = now;
+      is = refl;
+      small = small;
+      same = turned_same call c.facts c.asked c.core new (lane_in c.states lane) now m t;
+      leaves = turns_leave s c.past c.core new (lane_in c.states) c.begun lane call now m w.rest there (current_at s c lane call w a) small turned;
+    }
+
+-- ---- what a call of the code asks for
+
+-- what a turn of the lane at hand asks for
+pub record MayHave (call : Call) (facts : Facts) (core : Core) (v : LaneValue) : Type 0 where
+  pub call_within : is_within call ≡ true
+  pub counted : AreTickets core v.tickets
+  pub held : AreGrants core v.grants
+  pub ready : IsOpen core
+  pub safe : IsSafe call facts v.running v.site
+  pub fits : AllFit core v.tickets v.running v.site
+  pub awaits : HasAwaited v
+  pub own : IsOwnRun v.running
+  pub holds : HoldsNamed v
+
+pub may_have : (s : Setting) (c : Contents) (lane : ℕ) (call : Call) (v : LaneValue) → Works s c → call_in c.calls c.states lane ≡ Some call → v ≡ slice_index_or c.states lane v → MayHave call c.facts c.core v
+may_have s c lane call v w some value =
+    (let a = at_call c lane call some in
+    let m = may_turn s c lane call w a in
+    subst (λ (y : LaneValue). MayHave call c.facts c.core y) (sym (state_at c.states lane v (within_states c lane call a) value)) (record {
+      call_within = m.call_within;
+      counted = m.goes.counted;
+      held = m.goes.held;
+      ready = m.goes.ready;
+      safe = subst (λ (f : Facts). IsSafe call f (lane_in c.states lane).running (lane_in c.states lane).site) (sym w.stands.facts) m.goes.safe;
+      fits = m.own.fits;
+      awaits = m.goes.awaits;
+      own = m.own.own;
+      holds = m.own.holds;
+    }))

@@ -1,0 +1,6 @@
+pub mod Working
+pub mod SoFar
+pub mod Fresh
+pub mod Closing
+pub mod Noting
+pub mod Letting

@@ -1,0 +1,72 @@
+-- What is noted of a lane's turn.
+use Rattle.std.specs.Prelude.{◌≡◌, ◌<◌, ◌+◌, ℕ, List, ◌∷◌, length, Option, Some, None, slice_get, slice_set}
+use Rattle.sftp_core.specs.Core.{Core}
+use Rattle.sftp_history.specs.declared.call.Call.{Call}
+use Rattle.sftp_history.specs.declared.call.Lane.{Lane}
+use Rattle.sftp_history.specs.declared.event.Event.TheVariants.{End, Submit}
+use Rattle.sftp_history.specs.declared.event.Owner.TheVariants as owner
+use Rattle.sftp_history.specs.declared.entry.Entry.TheVariants as entry
+use Rattle.sftp_history.specs.Calls.{Setting}
+use Rattle.sftp_history.specs.Turns.{begun_but, begun_with}
+use Rattle.sftp_model.specs.declared.outcome.Outcome.{Outcome}
+use Rattle.sftp_model.specs.declared.request.Request.{Request}
+use Rattle.sftp_driver.specs.declared.session.Stepped.{Stepped}
+use Rattle.sftp_ties.specs.Changes.{ended_lane}
+use Rattle.sftp_ties.specs.Lanes.{LaneValue}
+use Rattle.sftp_lane.specs.Rests.{IsSmall, Leaves}
+use Rattle.sftp_lane.specs.declared.lane.Moved.{Moved}
+use Rattle.sftp_work.specs.declared.lanes.Lanes.{Lanes}
+use Rattle.sftp_work.specs.Working.{Contents, StepsIn, Works, contents_of, lane_in}
+
+-- ---- the call of a lane
+
+-- the call of a lane by its number, where there is one
+abbrev pub call_by : Option Lane → Option LaneValue → Option Call
+call_by None state = None
+call_by (Some lane) None = None
+call_by (Some lane) (Some v) = slice_get lane.calls v.ended
+
+abbrev pub call_in : List Lane → List LaneValue → ℕ → Option Call
+call_in lanes states lane = call_by (slice_get lanes lane) (slice_get states lane)
+
+-- ---- entries
+
+-- a request of a lane's call was submitted
+abbrev pub asked_in : Contents → ℕ → ℕ → ℕ → Request → Contents
+asked_in c lane n id r =
+    record c { past = entry.Event (Submit (owner.Call lane n) id r) ∷ c.past; asked = c.asked + 1; begun = begun_with c.begun lane }
+
+-- a lane's call ended
+abbrev pub ended_in : Contents → ℕ → ℕ → Outcome → Contents
+ended_in c lane n o =
+    record c {
+      past = entry.Event (End lane n o) ∷ c.past;
+      states = slice_set c.states lane (ended_lane (lane_in c.states lane) (lane_in c.states lane).site);
+      begun = begun_but c.begun lane;
+    }
+
+-- ---- a turn that was not noted yet
+
+-- the lane had its turn: it has another value, and the core is another
+abbrev pub turned_in : Contents → ℕ → Core → LaneValue → Contents
+turned_in c lane new now = record c { core = new; states = slice_set c.states lane now }
+
+-- A lane of a session at rest had this turn, which the journal doesn't show yet.
+pub record Turning (s : Setting) (lane : ℕ) (old c : Contents) (m : Moved) : Type 0 where
+  pub works : Works s old
+  pub there : lane < length s.lanes
+  pub call : Call
+  pub calls : call_in old.calls old.states lane ≡ Some call
+  pub new : Core
+  pub now : LaneValue
+  pub is : c ≡ turned_in old lane new now
+  pub small : IsSmall m
+  pub same : now.ended ≡ (lane_in old.states lane).ended
+  pub leaves : Leaves s old.past old.core new (lane_in old.states) old.begun lane now m
+
+abbrev pub IsTurning : ℕ → Lanes → Moved → Type 0
+IsTurning lane w m = (s : Setting) × ((old : Contents) × Turning s lane old (contents_of w) m)
+
+-- behind its note it is a step
+abbrev pub Noted : Setting → ℕ → Contents → Contents → Contents → Moved → Stepped → Type 0
+Noted s lane old c new m event = Turning s lane old c m → StepsIn s lane old new event

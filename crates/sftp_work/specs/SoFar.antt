@@ -1,0 +1,44 @@
+-- What the journal of a session is in every phase, also once it has failed.
+use Rattle.std.specs.Prelude.{◌≡◌, ◌<◌, List, [], ◌∷◌, Option, Some, None, vec_len, vec_capacity}
+use Rattle.sftp_model.specs.declared.error.Fault.{Fault}
+use Rattle.sftp_history.specs.declared.entry.Entry.{Entry}
+use Rattle.sftp_history.specs.declared.entry.Entry.TheVariants as entry
+use Rattle.sftp_history.specs.Calls.{Setting}
+use Rattle.sftp_history.specs.Journals.{IsJournal, IsNext}
+use Rattle.sftp_work.specs.declared.lanes.Lanes.{Lanes}
+use Rattle.sftp_work.specs.Working.{past_of}
+
+-- the fault that a journal keeps
+abbrev pub kept_in : List Entry → Option Fault
+kept_in [] = None
+kept_in (entry.Kept fault ∷ past) = Some fault
+kept_in (_ ∷ past) = kept_in past
+
+-- the journal once a fault came: it has one entry more where none was kept
+abbrev pub kept_past : Option Fault → Fault → List Entry → List Entry
+kept_past None fault past = entry.Kept fault ∷ past
+kept_past (Some first) fault past = past
+
+-- the journal once a frame was refused: it has the fault that the refusal keeps, where it keeps one
+abbrev pub refused_past : Option Fault → List Entry → List Entry
+refused_past None past = past
+refused_past (Some fault) past = entry.Kept fault ∷ past
+
+-- The journal is a run so far. It has the kept fault, and where none is kept a fault may come next.
+pub record IsSoFar (s : Setting) (fault : Option Fault) (past : List Entry) : Type 0 where
+  pub run : IsJournal s past
+  pub kept : fault ≡ kept_in past
+  pub next : fault ≡ None → (first : Fault) → IsNext s past (entry.Kept first)
+
+-- there is room for the entry of a fault, where none is kept
+abbrev pub HasRoom : Lanes → Type 0
+HasRoom w = w.core.fault ≡ None → vec_len w.journal < vec_capacity w.journal
+
+-- whatever the journal was a run so far of, it is one now
+abbrev pub StaysSoFar : Lanes → Lanes → Type 0
+StaysSoFar old new = (s : Setting) → IsSoFar s old.core.fault (past_of old) → IsSoFar s new.core.fault (past_of new)
+
+-- what a call leaves where there was no memory: the journal and the kept fault are as before
+pub record IsLeft (old new : Lanes) : Type 0 where
+  pub past : past_of new ≡ past_of old
+  pub fault : new.core.fault ≡ old.core.fault

@@ -1,0 +1,61 @@
+// All that the slots of a lane hold is let go.
+ghost use Rattle.std.specs.Prelude.{◌≡◌, ◌<◌, ◌+◌, ℕ, List, false, None, OnErr, OnOk, length, vec_len, vec_capacity};
+ghost use Rattle.sftp_history.specs.Calls.{Setting, current};
+ghost use Rattle.sftp_history.specs.Readings.{was_let_go};
+ghost use Rattle.sftp_history.specs.declared.entry.Entry.{Entry as EntryValue};
+ghost use Rattle.sftp_work.specs.Letting.{IsDone, IsLetting, LetGo};
+ghost use Rattle.sftp_work.specs.SoFar.{HasRoom, IsLeft};
+ghost use Rattle.sftp_work.specs.Working.{IsWorking, LetsLaneGo, contents_of, lane_in, past_of};
+
+use crate::closing::add_entry;
+use crate::lanes::Lanes;
+use crate::stepping::entries_for;
+use sftp_history::Entry;
+use sftp_lane::empty_slots;
+use sftp_model::Slot;
+use ssh_encoding::OutOfMemory;
+use std::alloc::Global;
+
+impl Lanes {
+    /// Closes the grants of slots that a lane had, one slot after another: each whose grant no later slot has.
+    fn close_slots(&mut self, lane: u32, slots: &[Slot])
+        requires letting { IsLetting lane self.old slots.now }
+        requires room { vec_len self.old.journal + length (lane_in self.old.states.items lane).grants < vec_capacity self.old.journal }
+        ensures let_go { (s : Setting) (before : List EntryValue) → LetGo s before lane (contents_of self.old) (contents_of self.new) slots.now }
+        ensures room { vec_len self.new.journal < vec_capacity self.new.journal }
+    {
+        let mut rest = slots;
+        loop {
+            match rest {
+                [] => return,
+                [slot, later @ ..] => {
+                    if let Some(k) = self.states[lane as usize].closing(slot, later) {
+                        self.close(lane, k);
+                    }
+                    rest = later;
+                }
+            }
+        }
+    }
+
+    /// Lets go of all that the slots of a lane hold, where the lane is there. Refused for want of memory.
+    pub fn let_go(&mut self, alloc: Global, lane: u32) -> Result<(), OutOfMemory>
+        requires done { IsDone lane self.old }
+        requires room { HasRoom self.old }
+        ensures lets_go { (s : Setting) → IsWorking s self.old → current s (past_of self.old) lane ≡ None → was_let_go (past_of self.old) lane ≡ false
+            → OnOk result (LetsLaneGo s lane self.old self.new) }
+        ensures left { OnErr result (IsLeft self.old self.new) }
+        ensures room { HasRoom self.new }
+    {
+        if lane as usize >= self.states.len() {
+            return Ok(());
+        }
+        let empty = empty_slots(alloc)?;
+        let state = &mut self.states[lane as usize];
+        self.journal.reserve(entries_for(state.grant_count())?)?;
+        let slots = state.empty(empty);
+        add_entry(&mut self.journal, Entry::LetGo { lane });
+        self.close_slots(lane, slots.as_slice());
+        Ok(())
+    }
+}

@@ -1,0 +1,21 @@
+//! The lanes of an open session at work: each goes on by the plan machine of its call over one core, and what happens is
+//! noted in one journal. What is sent and taken, cancels, and lanes that are let go keep what core and lanes are by the
+//! journal.
+#![tactic(auto)]
+
+mod cancelling;
+mod closing;
+mod counts;
+mod keeping;
+mod lanes;
+mod letting;
+mod noting;
+mod stepping;
+mod taking;
+
+pub use lanes::Lanes;
+pub use sftp_core::{Chunk, Core, Fault, SftpOptions, TakeError, Taken};
+pub use sftp_driver::Stepped;
+pub use sftp_history::{Entry, Lane};
+pub use sftp_model::Facts;
+pub use ssh_encoding::OutOfMemory;

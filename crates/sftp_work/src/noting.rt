@@ -1,0 +1,144 @@
+// What is noted of a lane's turn.
+ghost use Rattle.std.specs.Prelude.{◌≡◌, ◌<◌, ◌≤◌, ◌+◌, ◌^◌, ◌∷◌, ◌++◌, [], length, slice_get, vec_len, vec_capacity};
+ghost use Rattle.std.specs.Option.{option_copied};
+ghost use Rattle.sftp_history.specs.Calls.{Setting};
+ghost use Rattle.sftp_history.specs.Turns.{begun_but, begun_with};
+ghost use Rattle.sftp_work.specs.Noting.{IsTurning, Noted, asked_in, call_in, ended_in};
+ghost use Rattle.sftp_work.specs.Working.{Contents, contents_of, lane_in};
+
+use crate::closing::add_entry;
+use crate::lanes::Lanes;
+use sftp_driver::Stepped;
+use sftp_history::{Call, Entry, Event, Lane, Owner};
+use sftp_lane::{LaneState, Moved};
+use sftp_model::{Outcome, Request};
+
+/// The lane with a number.
+fn lane_at(lanes: &[Lane], k: usize) -> Option<&Lane>
+    ensures { option_copied result ≡ slice_get lanes.now k }
+{
+    lanes.get(k)
+}
+
+/// The state with a number.
+fn state_at(states: &[LaneState], k: usize) -> Option<&LaneState>
+    ensures { option_copied result ≡ slice_get states.now k }
+{
+    states.get(k)
+}
+
+/// The call with a number.
+fn call_at(calls: &[Call], k: usize) -> Option<&Call>
+    ensures { option_copied result ≡ slice_get calls.now k }
+{
+    calls.get(k)
+}
+
+/// The current call of a lane.
+pub(crate) fn current_call<'a>(
+    lanes: &'a [Lane],
+    states: &[LaneState],
+    lane: u32,
+) -> Option<&'a Call>
+    ensures { option_copied result ≡ call_in lanes.now states.now lane }
+{
+    let calls = lane_at(lanes, lane as usize)?;
+    let state = state_at(states, lane as usize)?;
+    call_at(calls.calls.as_slice(), state.ended() as usize)
+}
+
+/// Takes a lane out of those that were begun.
+pub(crate) fn leave(begun: &mut Vec<u32>, lane: u32)
+    ensures { begun.new.items ≡ begun_but begun.old.items lane }
+{
+    let mut k = 0;
+    while k < begun.len() {
+        if begun[k] == lane {
+            begun.remove(k);
+        } else {
+            k += 1;
+        }
+    }
+}
+
+impl Lanes {
+    /// The call of a lane is begun.
+    fn begin(&mut self, lane: u32)
+        requires { vec_len self.old.begun < vec_capacity self.old.begun }
+        ensures rest { self.new ≡ record self.old { begun = self.new.begun } }
+        ensures begun { self.new.begun.items ≡ begun_with self.old.begun.items lane }
+    {
+        if !self.begun.contains(&lane) {
+            self.begun.push(lane).unwrap();
+        }
+    }
+
+    /// A request of a lane's call was submitted.
+    fn note_asked(&mut self, lane: u32, call: u32, id: u32, request: Request)
+        requires journal { vec_len self.old.journal < vec_capacity self.old.journal }
+        requires begun { vec_len self.old.begun < vec_capacity self.old.begun }
+        requires counted { self.old.asked ≤ vec_len self.old.journal }
+        ensures noted { contents_of self.new ≡ asked_in (contents_of self.old) lane call id request }
+        ensures len { vec_len self.new.journal ≡ vec_len self.old.journal + 1 }
+        ensures capacity { vec_capacity self.old.journal ≤ vec_capacity self.new.journal }
+    {
+        add_entry(
+            &mut self.journal,
+            Entry::Event(Event::Submit {
+                owner: Owner::Call { lane, call },
+                id,
+                request,
+            }),
+        );
+        self.asked += 1;
+        self.begin(lane);
+    }
+
+    /// The call of a lane has ended.
+    pub(crate) fn note_ended(&mut self, lane: u32, call: u32, outcome: Outcome)
+        requires there { lane < length self.old.states.items }
+        requires few { (lane_in self.old.states.items lane).ended < 2 ^ 31 }
+        requires room { vec_len self.old.journal < vec_capacity self.old.journal }
+        ensures noted { contents_of self.new ≡ ended_in (contents_of self.old) lane call outcome }
+        ensures len { vec_len self.new.journal ≡ vec_len self.old.journal + 1 }
+        ensures capacity { vec_capacity self.old.journal ≤ vec_capacity self.new.journal }
+    {
+        add_entry(
+            &mut self.journal,
+            Entry::Event(Event::End {
+                lane,
+                call,
+                outcome,
+            }),
+        );
+        self.states[lane as usize].end_call();
+        leave(&mut self.begun, lane);
+    }
+
+    /// What a lane's turn was is noted, and the grants are closed that are due then.
+    pub(crate) fn note(&mut self, lane: u32, call: u32, moved: Moved) -> Stepped
+        requires turning { IsTurning lane self.old moved }
+        requires number { (lane_in self.old.states.items lane).ended ≡ call }
+        requires journal { vec_len self.old.journal + length (lane_in self.old.states.items lane).grants + 1 < vec_capacity self.old.journal }
+        requires begun { vec_len self.old.begun < vec_capacity self.old.begun }
+        ensures noted { (s : Setting) (old : Contents) → Noted s lane old (contents_of self.old) (contents_of self.new) moved result }
+        ensures room { vec_len self.new.journal < vec_capacity self.new.journal }
+    {
+        match moved {
+            Moved::Waits => {
+                self.begin(lane);
+                Stepped::Nothing
+            }
+            Moved::Went => unreachable!(),
+            Moved::Asked { id, request } => {
+                self.note_asked(lane, call, id, request);
+                Stepped::Submitted
+            }
+            Moved::Ended { outcome } => {
+                self.note_ended(lane, call, outcome);
+                self.close_loose(lane);
+                Stepped::Ended
+            }
+        }
+    }
+}
