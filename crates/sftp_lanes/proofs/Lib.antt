@@ -1,3 +1,4 @@
 pub mod FaultLaws
 pub mod Opening
 pub mod Reporting
+mod OutcomeLaws

@@ -1,6 +1,7 @@
 // What a session reports of its journal.
-ghost use Rattle.std.specs.Prelude.{◌≡◌, IfOk, reverse};
+ghost use Rattle.std.specs.Prelude.{◌≡◌, [], IfOk, OnOk, replicate, reverse};
 ghost use Rattle.sftp_history.specs.Readings.{outcomes_below as below, outcomes_of as of_lane, trace_of, was_let_go};
+ghost use Rattle.sftp_lanes.specs.Reported.{with_ended, with_outcome};
 
 use sftp_history::{Entry, Event, Outcome};
 use sftp_model::TryCopy;
@@ -47,7 +48,52 @@ pub(crate) fn outcomes_of(
     Ok(Items::new(outcomes))
 }
 
-/// The outcomes of the first lanes.
+/// So many empty lists.
+fn empty_lists(alloc: Global, count: u32) -> Result<Items<Items<Outcome>>, OutOfMemory>
+    ensures { IfOk result (λ lists. lists ≡ replicate count []) }
+{
+    let mut lists = Vec::with_capacity(alloc, count as usize)?;
+    for _ in 0..count {
+        lists.push_reserved(Items::new(Vec::new(alloc)));
+    }
+    Ok(Items::new(lists))
+}
+
+/// Adds an outcome to the list of its lane, where that lane has one.
+fn add_outcome(
+    alloc: Global,
+    lists: &mut Items<Items<Outcome>>,
+    lane: u32,
+    outcome: &Outcome,
+) -> Result<(), OutOfMemory>
+    ensures { OnOk result (lists.new ≡ with_outcome lists.old lane outcome.now) }
+{
+    let lane = lane as usize;
+    if lane >= lists.as_slice().len() {
+        return Ok(());
+    }
+    let copy = outcome.try_copy(alloc)?;
+    let mut list = lists.replace(lane, Items::new(Vec::new(alloc))).into_vec();
+    list.push(copy)?;
+    lists.set(lane, Items::new(list));
+    Ok(())
+}
+
+/// Adds the outcome that an entry tells, where it is the end of a call.
+fn add_ended(
+    alloc: Global,
+    lists: &mut Items<Items<Outcome>>,
+    entry: &Entry,
+) -> Result<(), OutOfMemory>
+    ensures { OnOk result (lists.new ≡ with_ended lists.old entry.now) }
+{
+    match entry {
+        Entry::Event(Event::End { lane, outcome, .. }) => add_outcome(alloc, lists, *lane, outcome),
+        _ => Ok(()),
+    }
+}
+
+/// The outcomes of the first lanes, in one pass over the journal.
 pub(crate) fn outcomes_below(
     alloc: Global,
     journal: &[Entry],
@@ -55,11 +101,11 @@ pub(crate) fn outcomes_below(
 ) -> Result<Items<Items<Outcome>>, OutOfMemory>
     ensures { IfOk result (λ outcomes. outcomes ≡ below (reverse journal.now) count) }
 {
-    let mut lanes = Vec::new(alloc);
-    for lane in 0..count {
-        lanes.push(outcomes_of(alloc, journal, lane)?)?;
+    let mut lists = empty_lists(alloc, count)?;
+    for entry in journal {
+        add_ended(alloc, &mut lists, entry)?;
     }
-    Ok(Items::new(lanes))
+    Ok(lists)
 }
 
 /// Whether a journal lets a lane go.
