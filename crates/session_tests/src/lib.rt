@@ -12,4 +12,6 @@ mod script;
 #[cfg(test)]
 mod served;
 #[cfg(test)]
+mod shapes;
+#[cfg(test)]
 mod text;

@@ -28,11 +28,11 @@ asked_range other site facts past answers fits k so_far = tt
 
 pub asked_good : (c : Call) (site : Site) (facts : Facts) (past : Own) (answers : Answers) → FitsCall c → FitsFacts facts → IsCallSoFar c site facts past answers
     → IsGood (situation c site facts (oldest_first past) answers) (next c site facts (oldest_first past) answers)
-asked_good c site facts past answers fits k so_far = next_good c site facts (oldest_first past) answers fits (asked_range c site facts past answers fits k so_far)
+asked_good c site facts past answers fits k so_far = next_good c site facts (oldest_first past) answers (asked_range c site facts past answers fits k so_far)
 
 pub asked_may : (c : Call) (site : Site) (facts : Facts) (past : Own) (answers : Answers) (r : Request) → FitsCall c → FitsFacts facts → IsCallSoFar c site facts past answers → next c site facts (oldest_first past) answers ≡ Ask r
     → IsGoodAsk (situation c site facts (oldest_first past) answers) r
-asked_may c site facts past answers r fits k so_far is = asks_good c site facts (oldest_first past) answers r fits (asked_range c site facts past answers fits k so_far) is
+asked_may c site facts past answers r fits k so_far is = asks_good c site facts (oldest_first past) answers r (asked_range c site facts past answers fits k so_far) is
 
 pub asked_fit : (c : Call) (site : Site) (facts : Facts) (past : Own) (answers : Answers) (r : Request) → FitsCall c → FitsFacts facts → HandlesFit answers → IsCallSoFar c site facts past answers
     → next c site facts (oldest_first past) answers ≡ Ask r → FitsRequest r × AsksWithinReply r

@@ -63,8 +63,9 @@ one_extended name path n le = omega (arith, le, in_extended name 0 (string path)
 
 -- ---- the law
 
--- the handles of a situation have at most 256 bytes, and its lengths are those that one frame can bring
+-- the numbers of a situation fit, its handles have at most 256 bytes, and its lengths are those that one frame can bring
 pub record FitsSituation (s : Situation) : Type 0 where
+  pub numbers : s.numbers
   pub grants : (place : ℕ) → FitsHandle (handle_of (s.answers place))
   pub closed : (handle : List ℕ) → s.closes handle → FitsHandle handle
   pub read_len : s.facts.read_len ≤ MAX_TRANSFER_LEN
@@ -81,16 +82,16 @@ unfolding request_body
 ask_fits s (request.Init version) f g = absurd g
 ask_fits s request.LimitsQuery f g = absurd g
 ask_fits s (request.Close handle) f g = f.closed handle g
-ask_fits s (request.OpenFile path flags attrs) f g = (open_path path (uint32 flags.0) (attributes attrs) MAX_BODY_LEN (short (request.OpenFile path flags attrs) g.3), g.1, subst FitsAttributes (sym g.2) none_fit)
+ask_fits s (request.OpenFile path flags attrs) f g = (open_path path (uint32 flags.0) (attributes attrs) MAX_BODY_LEN (short (request.OpenFile path flags attrs) g.3), g.1 f.numbers, subst FitsAttributes (sym g.2) none_fit)
 ask_fits s (request.Opendir path) f g = one_path 11 path MAX_BODY_LEN (short (request.Opendir path) g.1)
 ask_fits s (request.Read handle offset len) f g = (handle_fits s handle f g.0, omega (arith, g.1), omega (arith, g.2, f.read_len))
 ask_fits s (request.Write handle offset content) f g = (handle_fits s handle f g.0, omega (arith, g.1), omega (arith, g.2, f.write_len))
 ask_fits s (request.Fstat handle) f g = handle_fits s handle f g
 ask_fits s (request.Fsync handle) f g = handle_fits s handle f g
 ask_fits s (request.Readdir handle) f g = handle_fits s handle f g
-ask_fits s (request.Fsetstat handle attrs) f g = (handle_fits s handle f g.0, g.1)
+ask_fits s (request.Fsetstat handle attrs) f g = (handle_fits s handle f g.0, g.1 f.numbers)
 ask_fits s (request.CopyData from from_offset len to to_offset) f g = (handle_fits s from f g.0, omega (arith, g.2), omega (arith, g.2), handle_fits s to f g.1, omega (arith, g.3))
-ask_fits s (request.Setstat path attrs) f g = (first_path 9 path (attributes attrs) MAX_BODY_LEN (short (request.Setstat path attrs) g.1), g.0)
+ask_fits s (request.Setstat path attrs) f g = (first_path 9 path (attributes attrs) MAX_BODY_LEN (short (request.Setstat path attrs) g.1), g.0 f.numbers)
 ask_fits s (request.Mkdir path attrs) f g = (first_path 14 path (attributes attrs) MAX_BODY_LEN (short (request.Mkdir path attrs) g.1), subst FitsAttributes (sym g.0) none_fit)
 ask_fits s (request.Lstat path) f g = one_path 7 path MAX_BODY_LEN (short (request.Lstat path) g)
 ask_fits s (request.Remove path) f g = one_path 13 path MAX_BODY_LEN (short (request.Remove path) g)
@@ -114,12 +115,12 @@ closes_fit : (c : Call) (site : Site) (own : Own) (answers : Answers) → Handle
 closes_fit (call.Close slot) site own answers f handle c = subst FitsHandle (sym c.bears) (f c.grant)
 closes_fit other site own answers f handle c = absurd c
 
-situation_fits : (c : Call) (site : Site) (facts : Facts) (own : Own) (answers : Answers) → FitsFacts facts → HandlesFit answers → FitsSituation (situation c site facts own answers)
-situation_fits c site facts own answers k f = record { grants = f; closed = closes_fit c site own answers f; read_len = k.read_len.1; write_len = k.write_len.1 }
+situation_fits : (c : Call) (site : Site) (facts : Facts) (own : Own) (answers : Answers) → FitsCall c → FitsFacts facts → HandlesFit answers → FitsSituation (situation c site facts own answers)
+situation_fits c site facts own answers fits k f = record { numbers = fits; grants = f; closed = closes_fit c site own answers f; read_len = k.read_len.1; write_len = k.write_len.1 }
 
 pub requests_fit : (c : Call) (site : Site) (facts : Facts) (own : Own) (answers : Answers) (r : Request) → FitsCall c → FitsFacts facts → HandlesFit answers → WithinRange c site facts own answers
     → next c site facts own answers ≡ Ask r → FitsRequest r × AsksWithinReply r
 requests_fit c site facts own answers r fits k f w is =
-    let good : IsGoodAsk (situation c site facts own answers) r = asks_good c site facts own answers r fits w is in
-    let s : FitsSituation (situation c site facts own answers) = situation_fits c site facts own answers k f in
+    let good : IsGoodAsk (situation c site facts own answers) r = asks_good c site facts own answers r w is in
+    let s : FitsSituation (situation c site facts own answers) = situation_fits c site facts own answers fits k f in
     (ask_fits (situation c site facts own answers) r s good, ask_within_reply (situation c site facts own answers) r s good)

@@ -37,7 +37,7 @@ emptied s slot = set_within s s.site slot Empty (λ g h. inl h) (λ g e. absurd 
 
 -- ---- open
 
-pub open_good : (s : Situation) (slot : ℕ) (flags : OpenFlags) (path : List ℕ) → FitsSet flags.0 → ((g : ℕ) → IsBrought s.own s.answers g → s.brought g) → IsGood s (open_next slot flags path s.site s.facts s.own s.answers)
+pub open_good : (s : Situation) (slot : ℕ) (flags : OpenFlags) (path : List ℕ) → (s.numbers → FitsSet flags.0) → ((g : ℕ) → IsBrought s.own s.answers g → s.brought g) → IsGood s (open_next slot flags path s.site s.facts s.own s.answers)
 open_good s slot flags path fits brings = by_own s.own refl
   where
     by_handle : (p : ℕ) (r : Reply) → ((handle : List ℕ) → r ≡ reply.Handle handle → s.brought p) → IsGood s (opened slot flags s.site p r)
@@ -71,18 +71,18 @@ close_good s slot closes = by_slot (slot_at s.site slot) refl
 
 -- ---- attributes, sync
 
-set_good : (s : Situation) (slot : ℕ) (attrs : FileAttrs) → FitsAttributes attrs → IsGood s (set_next slot attrs s.site s.facts s.own s.answers)
+set_good : (s : Situation) (slot : ℕ) (attrs : FileAttrs) → (s.numbers → FitsAttributes attrs) → IsGood s (set_next slot attrs s.site s.facts s.own s.answers)
 set_good s slot attrs fits = on_file_good s slot _ (λ file st.
     replied s s.own (ask_set attrs file s.site s.answers) (done_by s.site)
     (λ e. either (IsGood s) (not file.writable) (refuses kind.NotWritable s.site) (Ask (request.Fsetstat (handle_of (s.answers file.grant)) attrs)) (λ x. as_begun s outcome.NoFile)
     (λ x. (held_handle s file.grant (stands_held s slot s.site file.grant st), fits)))
     (λ r. by_status (IsGood s) r s.site (Done outcome.Done s.site) (as_begun s) (as_begun s outcome.Done)))
 
-pub set_len_good : (s : Situation) (slot n : ℕ) → FitsLong n → IsGood s (set_len_next slot n s.site s.facts s.own s.answers)
-set_len_good s slot n fits = set_good s slot (set_attributes (Some n) None) (fitting (Some n) None fits)
+pub set_len_good : (s : Situation) (slot n : ℕ) → (s.numbers → FitsLong n) → IsGood s (set_len_next slot n s.site s.facts s.own s.answers)
+set_len_good s slot n fits = set_good s slot (set_attributes (Some n) None) (λ k. fitting (Some n) None (fits k))
 
 pub set_perm_good : (s : Situation) (slot mode : ℕ) → IsGood s (set_perm_next slot mode s.site s.facts s.own s.answers)
-set_perm_good s slot mode = set_good s slot (set_attributes None (Some mode)) (fitting None (Some mode) tt)
+set_perm_good s slot mode = set_good s slot (set_attributes None (Some mode)) (λ k. fitting None (Some mode) tt)
 
 pub meta_good : (s : Situation) (slot : ℕ) → IsGood s (meta_next slot s.site s.facts s.own s.answers)
 meta_good s slot = on_file_good s slot _ (λ file st.

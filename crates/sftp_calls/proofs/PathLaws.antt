@@ -47,8 +47,8 @@ fitting size (Some m) fits = record { size = fits; id = tt; permissions = small 
 
 -- ---- the calls
 
-pub set_stat_good : (s : Situation) (path : List ℕ) (size mode : Option ℕ) → IfSome size FitsLong → IsGood s (set_stat_next path size mode s.site s.facts s.own s.answers)
-set_stat_good s path size mode fits = done_good s s.own (request.Setstat (from_directory s.site path) (set_attributes size mode)) (λ e. (fitting size mode fits, e))
+pub set_stat_good : (s : Situation) (path : List ℕ) (size mode : Option ℕ) → (s.numbers → IfSome size FitsLong) → IsGood s (set_stat_next path size mode s.site s.facts s.own s.answers)
+set_stat_good s path size mode fits = done_good s s.own (request.Setstat (from_directory s.site path) (set_attributes size mode)) (λ e. (λ k. fitting size mode (fits k), e))
 
 pub remove_good : (s : Situation) (path : List ℕ) → IsGood s (remove_next path s.site s.facts s.own s.answers)
 remove_good s path = done_good s s.own (request.Remove (from_directory s.site path)) (λ e. e)

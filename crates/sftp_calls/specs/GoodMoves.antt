@@ -16,9 +16,11 @@ use Rattle.sftp_calls.specs.Moves.{Answers, Own, handle_of, is_too_long}
 use Rattle.sftp_calls.specs.CallPlans as call
 use Rattle.sftp_calls.specs.CallPlans.{Call, next}
 
--- What a law is said of: the call's own requests, what it may close and what it brought, and what it began with.
+-- What a law is said of: the call's own requests, that its numbers fit, what it may close and what it brought, and what
+-- it began with.
 pub record Situation : Type 1 where
   pub own : Own
+  pub numbers : Type 0
   pub closes : List ℕ → Type 0
   pub brought : ℕ → Type 0
   pub site : Site
@@ -35,23 +37,23 @@ pub record IsHeldHandle (s : Situation) (handle : List ℕ) : Type 0 where
   pub held : IsHeld s grant
   pub bears : handle ≡ handle_of (s.answers grant)
 
--- A request that a call may ask. Its handles are held, its lengths within the facts, its offsets within the range and
--- its paths within a frame; a handle is asked for by the call's first request alone; a CLOSE comes where the call may,
+-- A request that a call may ask. Its handles are held, its lengths within the facts, its offsets within the range, its
+-- paths within a frame, and its flags and attributes fit where the numbers of the call do; a handle is asked for by the call's first request alone; a CLOSE comes where the call may,
 -- and a hello or a query for limits never.
 abbrev pub IsGoodAsk : Situation → Request → Type 0
 IsGoodAsk s (request.Init version) = ⊥
 IsGoodAsk s request.LimitsQuery = ⊥
 IsGoodAsk s (request.Close handle) = s.closes handle
-IsGoodAsk s (request.OpenFile path flags attrs) = (s.own ≡ []) × FitsSet flags.0 × (attrs ≡ no_attributes) × (is_too_long (request.OpenFile path flags attrs) ≡ false)
+IsGoodAsk s (request.OpenFile path flags attrs) = (s.own ≡ []) × (s.numbers → FitsSet flags.0) × (attrs ≡ no_attributes) × (is_too_long (request.OpenFile path flags attrs) ≡ false)
 IsGoodAsk s (request.Opendir path) = (s.own ≡ []) × (is_too_long (request.Opendir path) ≡ false)
 IsGoodAsk s (request.Read handle offset len) = IsHeldHandle s handle × (offset + len < 2 ^ 64) × (len ≤ s.facts.read_len)
 IsGoodAsk s (request.Write handle offset content) = IsHeldHandle s handle × (offset + length content < 2 ^ 64) × (length content ≤ s.facts.write_len)
 IsGoodAsk s (request.Fstat handle) = IsHeldHandle s handle
 IsGoodAsk s (request.Fsync handle) = IsHeldHandle s handle
 IsGoodAsk s (request.Readdir handle) = IsHeldHandle s handle
-IsGoodAsk s (request.Fsetstat handle attrs) = IsHeldHandle s handle × FitsAttributes attrs
+IsGoodAsk s (request.Fsetstat handle attrs) = IsHeldHandle s handle × (s.numbers → FitsAttributes attrs)
 IsGoodAsk s (request.CopyData from from_offset len to to_offset) = IsHeldHandle s from × IsHeldHandle s to × (from_offset + len < 2 ^ 64) × (to_offset + len < 2 ^ 64)
-IsGoodAsk s (request.Setstat path attrs) = FitsAttributes attrs × (is_too_long (request.Setstat path attrs) ≡ false)
+IsGoodAsk s (request.Setstat path attrs) = (s.numbers → FitsAttributes attrs) × (is_too_long (request.Setstat path attrs) ≡ false)
 IsGoodAsk s (request.Mkdir path attrs) = (attrs ≡ no_attributes) × (is_too_long (request.Mkdir path attrs) ≡ false)
 IsGoodAsk s r = is_too_long r ≡ false
 
@@ -97,9 +99,6 @@ brings (call.FsWrite path bytes) own answers grant = IsBrought own answers grant
 brings (call.Names path bound) own answers grant = IsBrought own answers grant
 brings other own answers grant = ⊥
 
-abbrev pub situation : Call → Site → Facts → Own → Answers → Situation
-situation c site facts own answers = record { own = own; closes = closes c site own answers; brought = brings c own answers; site = site; facts = facts; answers = answers }
-
 -- the numbers of a call fit their fields
 abbrev pub FitsCall : Call → Type 0
 FitsCall (call.OpenFile slot flags path) = FitsSet flags.0
@@ -107,6 +106,9 @@ FitsCall (call.SetLen slot n) = FitsLong n
 FitsCall (call.SetStat path size mode) = IfSome size FitsLong
 FitsCall (call.FsRead path bound) = FitsNumber bound
 FitsCall other = Unit {0}
+
+abbrev pub situation : Call → Site → Facts → Own → Answers → Situation
+situation c site facts own answers = record { own = own; numbers = FitsCall c; closes = closes c site own answers; brought = brings c own answers; site = site; facts = facts; answers = answers }
 
 -- a READ that the call asks next keeps within the range
 abbrev pub ReadsWithin : Facts → Move → Type 0

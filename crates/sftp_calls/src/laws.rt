@@ -22,7 +22,7 @@ pub fn moves_are_good()
         → FitsFacts facts → IsCallSoFar c site facts past answers
         → IsGood (situation c site facts (oldest_first past) answers)
         (next c site facts (oldest_first past) answers) }
-    ensures ranged { (c : Call) (site : Site) (facts : Facts) (own : Own) (answers : Answers) → FitsCall c
+    ensures ranged { (c : Call) (site : Site) (facts : Facts) (own : Own) (answers : Answers)
         → WithinRange c site facts own answers
         → IsGood (situation c site facts own answers) (next c site facts own answers) }
 {}
@@ -30,7 +30,7 @@ pub fn moves_are_good()
 /// A plan waits only for a reply that was not taken.
 pub fn plans_wait_for_missing_replies()
     ensures { (c : Call) (site : Site) (facts : Facts) (own : Own) (answers : Answers) (place : ℕ)
-        → FitsCall c → next c site facts own answers ≡ Wait place → answers place ≡ None }
+        → next c site facts own answers ≡ Wait place → answers place ≡ None }
 {}
 
 /// What a call asks bears handles that its lane holds or that the call was granted, within lengths and offsets.
@@ -40,14 +40,14 @@ pub fn requests_may_be_asked()
         → next c site facts (oldest_first past) answers ≡ Ask r
         → IsGoodAsk (situation c site facts (oldest_first past) answers) r }
     ensures ranged { (c : Call) (site : Site) (facts : Facts) (own : Own) (answers : Answers) (r : Request)
-        → FitsCall c → WithinRange c site facts own answers → next c site facts own answers ≡ Ask r
+        → WithinRange c site facts own answers → next c site facts own answers ≡ Ask r
         → IsGoodAsk (situation c site facts own answers) r }
 {}
 
 /// A call that ends leaves no grant but those that its lane held and the one that the call was granted.
 pub fn ends_leave_held_grants()
     ensures { (c : Call) (site : Site) (facts : Facts) (own : Own) (answers : Answers) (o : Outcome) (after : Site)
-        → FitsCall c → next c site facts own answers ≡ Done o after
+        → next c site facts own answers ≡ Done o after
         → HoldsWithin (situation c site facts own answers) after }
 {}
 

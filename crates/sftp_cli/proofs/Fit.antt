@@ -1,5 +1,5 @@
 -- A script that was read has lanes that a session can be given.
-use Rattle.std.proofs.Common.{◌≡◌, ◌<◌, ◌≤◌, ◌^◌, ℕ, ◌+◌, Bool, true, false, List, [], ◌∷◌, ◌++◌, Result, Ok, Err, if◌then◌else◌, refl, ◌∙◌, subst, arith, length}
+use Rattle.std.proofs.Common.{◌≡◌, ◌<◌, ◌≤◌, ℕ, ◌+◌, Bool, true, false, List, [], ◌∷◌, ◌++◌, Result, Ok, Err, if◌then◌else◌, refl, ◌∙◌, subst, arith, length}
 use Rattle.std.specs.Prelude.{◌==◌, not, ◌&&◌, nat_lt, nat_le, is_some, codes, Option, Some, None}
 use Rattle.std.specs.List.{list_all, sum_by}
 use Rattle.std.specs.Str.{bytes_eq}
@@ -11,13 +11,14 @@ use Rattle.sftp_core.specs.declared.options.SftpOptions.{SftpOptions}
 use Rattle.sftp_tree.specs.Components.{components}
 use Rattle.sftp_history.specs.declared.call.Lane.{Lane}
 use Rattle.sftp_history.specs.declared.call.Call.{Call}
+use Rattle.sftp_history.specs.declared.call.Call.TheVariants as call
 use Rattle.sftp_history.specs.declared.reason.Reason.{Reason}
 use Rattle.sftp_history.specs.declared.reason.Reason.TheVariants as reason
 use Rattle.sftp_history.specs.declared.script.Script.{Script}
 use Rattle.sftp_history.specs.declared.turn.Turn.{Turn}
-use Rattle.sftp_history.specs.Lanes.{is_slot, is_within, weight, lane_weight, weight_limit, are_ok}
-use Rattle.sftp_history.specs.Lines.{with_front, lines_of, words_of, is_comment, number_of, within, number_in, bytes_in, flags_in}
-use Rattle.sftp_history.specs.Scripts.{Draft, empty_script, no_word, one_word, two_words, three_words, four_words, unless_said, greatest_u32, greatest_u64, path_in, content_in, meets_file, meets_dir, refusal_in, option_in, option_line, extension_in, with_extension, ext_line, limits_line, cut_line, server_line, file_line, dir_line, choice_line, pick_line, with_lane, call_at_end, slot_in, open_call, read_call, close_call, in_lane, lane_turn, line_by, line_of, read_line, go_on, read_lines, MAX_SCRIPT_LEN, script_of}
+use Rattle.sftp_history.specs.Lanes.{is_long, is_slot, is_some_long, is_within, weight, lane_weight, weight_limit, are_ok}
+use Rattle.sftp_history.specs.Lines.{with_front, lines_of, words_of, is_comment, map_ok, number_of, within, number_in, bytes_in, flags_in}
+use Rattle.sftp_history.specs.Scripts.{Draft, empty_script, no_word, one_word, two_words, three_words, four_words, unless_said, greatest_u32, greatest_u64, path_in, content_in, meets_file, meets_dir, refusal_in, option_in, option_line, extension_in, with_extension, ext_line, limits_line, cut_line, server_line, file_line, dir_line, choice_line, pick_line, with_lane, call_at_end, slot_in, number_u32, number_u64, mode_in, some_in, position_in, seek_call, one, two, three, slot_call, path_call, or_else, call_in, in_lane, call_line, lane_turn, line_by, line_of, read_line, go_on, read_lines, MAX_SCRIPT_LEN, script_of}
 
 -- each call of a lane is within its ranges
 abbrev lane_ok : Lane → Bool
@@ -80,74 +81,7 @@ four_fine n f (a ∷ b ∷ c ∷ []) h = record { is = tt }
 four_fine n f (a ∷ b ∷ c ∷ e ∷ []) h = h a b c e
 four_fine n f (a ∷ b ∷ c ∷ e ∷ g ∷ words) h = record { is = tt }
 
--- ---- calls
-
--- a call that was read names slots that are there
-abbrev IsCall : Result Call Reason → Type 0
-IsCall (Ok c) = is_within c ≡ true
-IsCall (Err why) = Unit {0}
-
-record Named (r : Result Call Reason) : Type 0 where
-  is : IsCall r
-
--- so does a slot
-abbrev IsThere : Result ℕ Reason → Type 0
-IsThere (Ok slot) = is_slot slot ≡ true
-IsThere (Err why) = Unit {0}
-
-record There (r : Result ℕ Reason) : Type 0 where
-  is : IsThere r
-
-below_slots : (n : ℕ) → (nat_le 0 n && nat_le n 15) ≡ true → nat_lt n 16 ≡ true
-below_slots n e = grind (arith, nat_tests)
-
-slot_if : (b : Bool) (n : ℕ) → (b ≡ true → is_slot n ≡ true) → There (if b then Ok n else Err reason.Range)
-slot_if true n h = record { is = h refl }
-slot_if false n h = record { is = tt }
-
-slot_within : (o : Option ℕ) → There (within 0 15 o)
-slot_within None = record { is = tt }
-slot_within (Some n) = slot_if (nat_le 0 n && nat_le n 15) n (below_slots n)
-
-slot_there : (word : List ℕ) → There (slot_in word)
-slot_there word = slot_within (number_of word)
-
-bind_named : {A : Type 0} (m : Result A Reason) (f : A → Result Call Reason) → ((x : A) → Named (f x)) → Named (m >>= f)
-bind_named (Ok x) f h = h x
-bind_named (Err why) f h = record { is = tt }
-
-slot_named : (m : Result ℕ Reason) (f : ℕ → Result Call Reason) → There m → ((slot : ℕ) → is_slot slot ≡ true → Named (f slot)) → Named (m >>= f)
-slot_named (Ok slot) f t h = h slot t.is
-slot_named (Err why) f t h = record { is = tt }
-
-open_named : (a b c : List ℕ) → Named (open_call a b c)
-open_named a b c = slot_named (slot_in a) _ (slot_there a) (λ slot t. bind_named (flags_in b) _ (λ flags. bind_named (bytes_in c) _ (λ path. record { is = t })))
-
-read_named : (a b : List ℕ) → Named (read_call a b)
-read_named a b = slot_named (slot_in a) _ (slot_there a) (λ slot t. bind_named (number_in 0 greatest_u32 b) _ (λ n. record { is = t }))
-
-close_named : (a : List ℕ) → Named (close_call a)
-close_named a = slot_named (slot_in a) _ (slot_there a) (λ slot t. record { is = t })
-
-one_named : (f : List ℕ → Result Call Reason) (words : List (List ℕ)) → ((a : List ℕ) → Named (f a)) → Named (one_word f words)
-one_named f [] h = record { is = tt }
-one_named f (a ∷ []) h = h a
-one_named f (a ∷ b ∷ words) h = record { is = tt }
-
-two_named : (f : List ℕ → List ℕ → Result Call Reason) (words : List (List ℕ)) → ((a b : List ℕ) → Named (f a b)) → Named (two_words f words)
-two_named f [] h = record { is = tt }
-two_named f (a ∷ []) h = record { is = tt }
-two_named f (a ∷ b ∷ []) h = h a b
-two_named f (a ∷ b ∷ c ∷ words) h = record { is = tt }
-
-three_named : (f : List ℕ → List ℕ → List ℕ → Result Call Reason) (words : List (List ℕ)) → ((a b c : List ℕ) → Named (f a b c)) → Named (three_words f words)
-three_named f [] h = record { is = tt }
-three_named f (a ∷ []) h = record { is = tt }
-three_named f (a ∷ b ∷ []) h = record { is = tt }
-three_named f (a ∷ b ∷ c ∷ []) h = h a b c
-three_named f (a ∷ b ∷ c ∷ e ∷ words) h = record { is = tt }
-
--- ---- a call at the end
+-- ---- tests
 
 both_true : (a b : Bool) → a ≡ true → b ≡ true → (a && b) ≡ true
 both_true true b h k = k
@@ -156,6 +90,186 @@ both_true false b h k = absurd cc
 first_true : (a b : Bool) → (a && b) ≡ true → (a ≡ true) × (b ≡ true)
 first_true true b h = (refl, h)
 first_true false b h = absurd cc
+
+-- ---- calls
+
+-- what was read passes a test, or it is refused
+abbrev IsSo : {A : Type 0} → (A → Bool) → Result A Reason → Type 0
+IsSo test (Ok x) = test x ≡ true
+IsSo test (Err why) = Unit {0}
+
+record So {A : Type 0} (test : A → Bool) (r : Result A Reason) : Type 0 where
+  is : IsSo test r
+
+bind_so : {A B : Type 0} (p : A → Bool) (q : B → Bool) (m : Result A Reason) (f : A → Result B Reason) → So p m → ((x : A) → p x ≡ true → So q (f x)) → So q (m >>= f)
+bind_so p q (Ok x) f m h = h x m.is
+bind_so p q (Err why) f m h = record { is = tt }
+
+-- a test that all pass
+abbrev all : {A : Type 0} → A → Bool
+all x = true
+
+any_read : {A : Type 0} (r : Result A Reason) → So all r
+any_read (Ok x) = record { is = refl }
+any_read (Err why) = record { is = tt }
+
+any : {A : Type 0} (read : List ℕ → Result A Reason) (word : List ℕ) → So all (read word)
+any read word = any_read (read word)
+
+-- ---- fields
+
+if_so : (test : ℕ → Bool) (b : Bool) (n : ℕ) → (b ≡ true → test n ≡ true) → So test (if b then Ok n else Err reason.Range)
+if_so test true n h = record { is = h refl }
+if_so test false n h = record { is = tt }
+
+within_so : (test : ℕ → Bool) (least most : ℕ) (o : Option ℕ) → ((n : ℕ) → (nat_le least n && nat_le n most) ≡ true → test n ≡ true) → So test (within least most o)
+within_so test least most None h = record { is = tt }
+within_so test least most (Some n) h = if_so test (nat_le least n && nat_le n most) n (h n)
+
+below_slots : (n : ℕ) → (nat_le 0 n && nat_le n 15) ≡ true → is_slot n ≡ true
+below_slots n e = grind (arith, nat_tests)
+
+below_long : (n : ℕ) → (nat_le 0 n && nat_le n greatest_u64) ≡ true → is_long n ≡ true
+below_long n e = grind (arith, nat_tests)
+
+from_one : (n : ℕ) → (nat_le 1 n && nat_le n greatest_u32) ≡ true → nat_le 1 n ≡ true
+from_one n e = (first_true (nat_le 1 n) (nat_le n greatest_u32) e).0
+
+a_slot : (word : List ℕ) → So is_slot (slot_in word)
+a_slot word = within_so is_slot 0 15 (number_of word) below_slots
+
+a_long : (word : List ℕ) → So is_long (number_u64 word)
+a_long word = within_so is_long 0 greatest_u64 (number_of word) below_long
+
+a_bound : (word : List ℕ) → So (nat_le 1) (number_in 1 greatest_u32 word)
+a_bound word = within_so (nat_le 1) 1 greatest_u32 (number_of word) from_one
+
+a_size : (word : List ℕ) → So is_some_long (some_in number_u64 word)
+a_size word = by_word (bytes_eq word (codes "-")) (number_u64 word) (a_long word)
+  where
+    by_word : (b : Bool) (n : Result ℕ Reason) → So is_long n → So is_some_long (if b then Ok None else map_ok Some n)
+    by_word true n k = record { is = refl }
+    by_word false (Ok n) k = record { is = k.is }
+    by_word false (Err why) k = record { is = tt }
+
+-- ---- calls by their fields
+
+made_one : {A : Type 0} (p : A → Bool) (made : A → Call) (x : Result A Reason) → So p x → ((x : A) → p x ≡ true → is_within (made x) ≡ true) → So is_within (map_ok made x)
+made_one p made (Ok x) s h = record { is = h x s.is }
+made_one p made (Err why) s h = record { is = tt }
+
+made_two : {A B : Type 0} (p : A → Bool) (q : B → Bool) (made : A → B → Call) (x : Result A Reason) (y : Result B Reason) → So p x → So q y
+    → ((x : A) (y : B) → p x ≡ true → q y ≡ true → is_within (made x y) ≡ true) → So is_within (map_ok (λ (p : A × B). made p.0 p.1) (x >>= λ x. y >>= λ y. Ok (x, y)))
+made_two p q made (Ok x) (Ok y) s t h = record { is = h x y s.is t.is }
+made_two p q made (Ok x) (Err why) s t h = record { is = tt }
+made_two p q made (Err why) y s t h = record { is = tt }
+
+made_three : {A B C : Type 0} (p : A → Bool) (q : B → Bool) (r : C → Bool) (made : A → B → C → Call) (x : Result A Reason) (y : Result B Reason) (z : Result C Reason) → So p x → So q y → So r z
+    → ((x : A) (y : B) (z : C) → p x ≡ true → q y ≡ true → r z ≡ true → is_within (made x y z) ≡ true) → So is_within (map_ok (λ (p : A × B × C). made p.0 p.1 p.2) (x >>= λ x. y >>= λ y. z >>= λ z. Ok (x, y, z)))
+made_three p q r made (Ok x) (Ok y) (Ok z) s t u h = record { is = h x y z s.is t.is u.is }
+made_three p q r made (Ok x) (Ok y) (Err why) s t u h = record { is = tt }
+made_three p q r made (Ok x) (Err why) z s t u h = record { is = tt }
+made_three p q r made (Err why) y z s t u h = record { is = tt }
+
+one_so : {A : Type 0} (p : A → Bool) (first : List ℕ → Result A Reason) (made : A → Call) (words : List (List ℕ)) → ((a : List ℕ) → So p (first a))
+    → ((x : A) → p x ≡ true → is_within (made x) ≡ true) → So is_within (one first made words)
+one_so p first made [] f h = record { is = tt }
+one_so p first made (a ∷ []) f h = made_one p made (first a) (f a) h
+one_so p first made (a ∷ b ∷ words) f h = record { is = tt }
+
+two_so : {A B : Type 0} (p : A → Bool) (q : B → Bool) (first : List ℕ → Result A Reason) (second : List ℕ → Result B Reason) (made : A → B → Call) (words : List (List ℕ))
+    → ((a : List ℕ) → So p (first a)) → ((a : List ℕ) → So q (second a)) → ((x : A) (y : B) → p x ≡ true → q y ≡ true → is_within (made x y) ≡ true) → So is_within (two first second made words)
+two_so p q first second made [] f g h = record { is = tt }
+two_so p q first second made (a ∷ []) f g h = record { is = tt }
+two_so p q first second made (a ∷ b ∷ []) f g h = made_two p q made (first a) (second b) (f a) (g b) h
+two_so p q first second made (a ∷ b ∷ c ∷ words) f g h = record { is = tt }
+
+three_so : {A B C : Type 0} (p : A → Bool) (q : B → Bool) (r : C → Bool) (first : List ℕ → Result A Reason) (second : List ℕ → Result B Reason) (third : List ℕ → Result C Reason) (made : A → B → C → Call)
+    (words : List (List ℕ)) → ((a : List ℕ) → So p (first a)) → ((a : List ℕ) → So q (second a)) → ((a : List ℕ) → So r (third a))
+    → ((x : A) (y : B) (z : C) → p x ≡ true → q y ≡ true → r z ≡ true → is_within (made x y z) ≡ true) → So is_within (three first second third made words)
+three_so p q r first second third made [] f g i h = record { is = tt }
+three_so p q r first second third made (a ∷ []) f g i h = record { is = tt }
+three_so p q r first second third made (a ∷ b ∷ []) f g i h = record { is = tt }
+three_so p q r first second third made (a ∷ b ∷ c ∷ []) f g i h = made_three p q r made (first a) (second b) (third c) (f a) (g b) (i c) h
+three_so p q r first second third made (a ∷ b ∷ c ∷ e ∷ words) f g i h = record { is = tt }
+
+-- the shapes that several calls have
+slot_alone : (made : ℕ → Call) (words : List (List ℕ)) → ((x : ℕ) → is_slot x ≡ true → is_within (made x) ≡ true) → So is_within (one slot_in made words)
+slot_alone made words h = one_so is_slot slot_in made words a_slot h
+
+slot_first : {B : Type 0} (second : List ℕ → Result B Reason) (made : ℕ → B → Call) (words : List (List ℕ)) → ((x : ℕ) (y : B) → is_slot x ≡ true → is_within (made x y) ≡ true) → So is_within (two slot_in second made words)
+slot_first second made words h = two_so is_slot all slot_in second made words a_slot (any second) (λ x y s t. h x y s)
+
+text_alone : (made : List ℕ → Call) (words : List (List ℕ)) → ((x : List ℕ) → is_within (made x) ≡ true) → So is_within (one bytes_in made words)
+text_alone made words h = one_so all bytes_in made words (any bytes_in) (λ x s. h x)
+
+texts : (made : List ℕ → List ℕ → Call) (words : List (List ℕ)) → ((x y : List ℕ) → is_within (made x y) ≡ true) → So is_within (two bytes_in bytes_in made words)
+texts made words h = two_so all all bytes_in bytes_in made words (any bytes_in) (any bytes_in) (λ x y s t. h x y)
+
+a_seek : (words : List (List ℕ)) → So is_within (three_words seek_call words)
+a_seek [] = record { is = tt }
+a_seek (a ∷ []) = record { is = tt }
+a_seek (a ∷ b ∷ []) = record { is = tt }
+a_seek (a ∷ b ∷ c ∷ []) =
+    bind_so is_slot is_within (slot_in a) (λ slot. position_in b c >>= λ to. Ok (call.Seek slot to)) (a_slot a) (λ slot s.
+    bind_so all is_within (position_in b c) (λ to. Ok (call.Seek slot to)) (any (position_in b) c) (λ to t. record { is = s }))
+a_seek (a ∷ b ∷ c ∷ e ∷ words) = record { is = tt }
+
+-- ---- the tables of calls
+
+-- a call that was read is within its ranges, where the line is one
+abbrev IsCall : Option (Result Call Reason) → Type 0
+IsCall None = Unit {0}
+IsCall (Some read) = So is_within read
+
+record Named (r : Option (Result Call Reason)) : Type 0 where
+  is : IsCall r
+
+if_named : (b : Bool) (read : Result Call Reason) (more : Option (Result Call Reason)) → So is_within read → Named more → Named (if b then Some read else more)
+if_named true read more s h = record { is = s }
+if_named false read more s h = h
+
+slots_named : (word : List ℕ) (words : List (List ℕ)) → Named (slot_call word words)
+slots_named word words =
+    if_named (bytes_eq word (codes "open")) _ _ (three_so is_slot all all slot_in flags_in bytes_in call.OpenFile words a_slot (any flags_in) (any bytes_in) (λ x y z s t u. s))
+    (if_named (bytes_eq word (codes "read")) _ _ (slot_first number_u32 call.Read words (λ x y s. s))
+    (if_named (bytes_eq word (codes "read_all")) _ _ (slot_first number_u32 call.ReadAll words (λ x y s. s))
+    (if_named (bytes_eq word (codes "write")) _ _ (slot_first bytes_in call.Write words (λ x y s. s))
+    (if_named (bytes_eq word (codes "write_all")) _ _ (slot_first bytes_in call.WriteAll words (λ x y s. s))
+    (if_named (bytes_eq word (codes "seek")) _ _ (a_seek words)
+    (if_named (bytes_eq word (codes "set_len")) _ _ (two_so is_slot is_long slot_in number_u64 call.SetLen words a_slot a_long (λ x y s t. both_true (is_slot x) (is_long y) s t))
+    (if_named (bytes_eq word (codes "set_perm")) _ _ (slot_first mode_in call.SetPerm words (λ x y s. s))
+    (if_named (bytes_eq word (codes "meta")) _ _ (slot_alone call.Meta words (λ x s. s))
+    (if_named (bytes_eq word (codes "sync")) _ _ (slot_alone call.Sync words (λ x s. s))
+    (if_named (bytes_eq word (codes "copy")) _ _ (three_so is_slot is_slot all slot_in slot_in number_u64 call.Copy words a_slot a_slot (any number_u64) (λ x y z s t u. both_true (is_slot x) (is_slot y) s t))
+    (if_named (bytes_eq word (codes "clone")) _ _ (two_so is_slot is_slot slot_in slot_in call.CloneFile words a_slot a_slot (λ x y s t. both_true (is_slot x) (is_slot y) s t))
+    (if_named (bytes_eq word (codes "close")) _ _ (slot_alone call.Close words (λ x s. s)) (record { is = tt })))))))))))))
+
+paths_named : (word : List ℕ) (words : List (List ℕ)) → Named (path_call word words)
+paths_named word words =
+    if_named (bytes_eq word (codes "fs_write")) _ _ (texts call.FsWrite words (λ x y. refl))
+    (if_named (bytes_eq word (codes "list")) _ _ (two_so all (nat_le 1) bytes_in (number_in 1 greatest_u32) call.List words (any bytes_in) a_bound (λ x y s t. t))
+    (if_named (bytes_eq word (codes "stat")) _ _ (text_alone call.Stat words (λ x. refl))
+    (if_named (bytes_eq word (codes "lstat")) _ _ (text_alone call.Lstat words (λ x. refl))
+    (if_named (bytes_eq word (codes "set_stat")) _ _ (three_so all is_some_long all bytes_in (some_in number_u64) (some_in mode_in) call.SetStat words (any bytes_in) a_size (any (some_in mode_in)) (λ x y z s t u. t))
+    (if_named (bytes_eq word (codes "remove")) _ _ (text_alone call.Remove words (λ x. refl))
+    (if_named (bytes_eq word (codes "mkdir")) _ _ (text_alone call.Mkdir words (λ x. refl))
+    (if_named (bytes_eq word (codes "rmdir")) _ _ (text_alone call.Rmdir words (λ x. refl))
+    (if_named (bytes_eq word (codes "rename")) _ _ (texts call.Rename words (λ x y. refl))
+    (if_named (bytes_eq word (codes "hard_link")) _ _ (texts call.HardLink words (λ x y. refl))
+    (if_named (bytes_eq word (codes "symlink")) _ _ (texts call.Symlink words (λ x y. refl))
+    (if_named (bytes_eq word (codes "read_link")) _ _ (text_alone call.ReadLink words (λ x. refl))
+    (if_named (bytes_eq word (codes "canonicalize")) _ _ (text_alone call.Canonicalize words (λ x. refl))
+    (if_named (bytes_eq word (codes "cwd")) _ _ (text_alone call.Cwd words (λ x. refl)) (record { is = tt }))))))))))))))
+
+or_named : (first second : Option (Result Call Reason)) → Named first → Named second → Named (or_else first second)
+or_named None second h k = k
+or_named (Some read) second h k = record { is = h.is }
+
+calls_named : (word : List ℕ) (words : List (List ℕ)) → Named (call_in word words)
+calls_named word words = or_named (slot_call word words) (path_call word words) (slots_named word words) (paths_named word words)
+
+-- ---- a call at the end
 
 lane_ends : (lane : Lane) (c : Call) → lane_ok lane ≡ true → is_within c ≡ true → list_all is_within (lane.calls ++ c ∷ []) ≡ true
 lane_ends lane c h k = list_all-append is_within lane.calls (c ∷ []) ∙ both_true (lane_ok lane) (is_within c && true) h (both_true (is_within c) true k refl)
@@ -185,7 +299,7 @@ lanes_count (lane ∷ next ∷ lanes) c =
 
 -- ---- lines
 
-call_fine : (n : ℕ) (d : Draft) (read : Result Call Reason) → Has n d → Named read → Fine (n + 1) (read >>= λ c. Ok (record d { script = record d.script { lanes = call_at_end d.script.lanes c } }))
+call_fine : (n : ℕ) (d : Draft) (read : Result Call Reason) → Has n d → So is_within read → Fine (n + 1) (read >>= λ c. Ok (record d { script = record d.script { lanes = call_at_end d.script.lanes c } }))
 call_fine n d (Ok c) k named = record {
   is = record {
     ok = lanes_end d.script.lanes c k.ok named.is;
@@ -194,9 +308,13 @@ call_fine n d (Ok c) k named = record {
 }
 call_fine n d (Err why) k named = record { is = tt }
 
-lane_fine : (n : ℕ) (d : Draft) (lanes : List Lane) (read : Result Call Reason) → Has n d → Named read → Fine (n + 1) (in_lane d lanes read)
+lane_fine : (n : ℕ) (d : Draft) (lanes : List Lane) (read : Result Call Reason) → Has n d → So is_within read → Fine (n + 1) (in_lane d lanes read)
 lane_fine n d [] read k named = record { is = tt }
 lane_fine n d (lane ∷ lanes) read k named = call_fine n d read k named
+
+calls_fine : (n : ℕ) (d : Draft) (read : Option (Result Call Reason)) → Has n d → Named read → Fine (n + 1) (call_line d read)
+calls_fine n d None k named = record { is = tt }
+calls_fine n d (Some read) k named = lane_fine n d d.script.lanes read k named.is
 
 begun_fine : (n : ℕ) (d : Draft) → Has n d → Has (n + 1) (with_lane d)
 begun_fine n d k = record {
@@ -245,7 +363,7 @@ line_fine n d word words k =
     (if_fine (n + 1) (bytes_eq word (codes "pick")) _ _ (one_fine (n + 1) (pick_line d) words (λ a. bind_fine (n + 1) (number_in 0 greatest_u32 a) _ (λ x. record { is = m })))
     (if_fine (n + 1) (bytes_eq word (codes "lane")) _ _ (no_fine (n + 1) (with_lane d) words (begun_fine n d k)) (if_fine (n + 1) (bytes_eq word (codes "step")) _ _ (one_fine (n + 1) _ words (λ a. turn_fine (n + 1) d _ a m)) (if_fine (n + 1) (bytes_eq word (codes "cancel")) _ _ (one_fine (n + 1) _ words (λ a. turn_fine (n + 1) d _ a m))
     (if_fine (n + 1) (bytes_eq word (codes "flush")) _ _ (no_fine (n + 1) _ words m) (if_fine (n + 1) (bytes_eq word (codes "take")) _ _ (no_fine (n + 1) _ words m)
-    (if_fine (n + 1) (bytes_eq word (codes "open")) _ _ (lane_fine n d d.script.lanes _ k (three_named open_call words open_named)) (if_fine (n + 1) (bytes_eq word (codes "read")) _ _ (lane_fine n d d.script.lanes _ k (two_named read_call words read_named)) (if_fine (n + 1) (bytes_eq word (codes "close")) _ _ (lane_fine n d d.script.lanes _ k (one_named close_call words close_named)) (record { is = tt }))))))))))))))
+    (calls_fine n d (call_in word words) k (calls_named word words))))))))))))
 
 words_fine : (n : ℕ) (d : Draft) (words : List (List ℕ)) → Has n d → Fine (n + 1) (line_of d words)
 words_fine n d [] k = record { is = more n d.script.lanes k }

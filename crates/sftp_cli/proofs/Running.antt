@@ -74,11 +74,11 @@ cause_of (error.UnsupportedExtension set) h = h
 cause_of (error.IOError kind) h = h
 cause_of (error.BackgroundTaskFailure fault) h = h
 
-pub only_for_memory : (lanes : List Lane) (options : SftpOptions) (old now : Serving) (e : Error) → IsUnopened old.first → old.log ≡ [] → now.first ≡ old.first
+pub only_for_memory : (lanes : List Lane) (options : SftpOptions) (old now : Serving) (e : Error) → are_ok lanes ≡ true → IsUnopened old.first → old.log ≡ [] → now.first ≡ old.first
     → IsServing now.first now.now now.log now.ended → Told (Ends (record { lanes = lanes; options = options }) now.ended e) (Some old.log) (Some now.log) → Cause {T = Report} 0 0 (Err e) → e ≡ error.OutOfMemory
-only_for_memory lanes options old now e new none same serving ends why =
+only_for_memory lanes options old now e ok new none same serving ends why =
     let given : Given = record { lanes = lanes; options = options } in
-    stops_for_memory given now e (subst IsUnopened (sym same) new) serving (from_empty (Ends given now.ended e) old.log now.log none ends) (cause_of e why)
+    stops_for_memory given now e ok (subst IsUnopened (sym same) new) serving (from_empty (Ends given now.ended e) old.log now.log none ends) (cause_of e why)
 
 -- the text that was made of the report
 pub text_is : (lanes : List Lane) (options : SftpOptions) (turns : List Turn) (server : Serving) (report : Report) (r : Result (Vec ℕ Global) OutOfMemory) → IsServedReport lanes options turns server report

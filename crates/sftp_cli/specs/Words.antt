@@ -20,6 +20,18 @@ help_text =
     ++ codes "1 where the session failed, 2 for a script or words that can't be used, 3 where the\n"
     ++ codes "input failed, 4 where the output failed, 5 where memory ran out, and 6 where nothing\n"
     ++ codes "answers at PATH.\n"
+    ++ codes "\n"
+    ++ codes "A script has a command a line. lane begins a list of calls that run one after another; all\n"
+    ++ codes "lanes run at once. Paths and bytes are hexadecimal, or - for none. These lines write a file\n"
+    ++ codes "and read it:\n"
+    ++ codes "\n"
+    ++ codes "  lane\n"
+    ++ codes "  fs_write 61 68656c6c6f\n"
+    ++ codes "  open 0 r 61\n"
+    ++ codes "  read_all 0 5\n"
+    ++ codes "  close 0\n"
+    ++ codes "\n"
+    ++ codes "docs/sftp_cli.1 names all lines, and docs/SPEC.md says what each of them means.\n"
 
 -- what `--version` writes
 unfoldable pub version_text : List ℕ

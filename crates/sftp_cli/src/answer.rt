@@ -20,6 +20,18 @@ files that are left are written to standard output. The status is 0 where all wa
 1 where the session failed, 2 for a script or words that can't be used, 3 where the
 input failed, 4 where the output failed, 5 where memory ran out, and 6 where nothing
 answers at PATH.
+
+A script has a command a line. lane begins a list of calls that run one after another; all
+lanes run at once. Paths and bytes are hexadecimal, or - for none. These lines write a file
+and read it:
+
+  lane
+  fs_write 61 68656c6c6f
+  open 0 r 61
+  read_all 0 5
+  close 0
+
+docs/sftp_cli.1 names all lines, and docs/SPEC.md says what each of them means.
 "
 }
 

@@ -17,3 +17,4 @@ pub mod RunLaws
 pub mod TextLaws
 pub mod WholeRunLaws
 pub mod NoRuns
+pub mod WithinLaws

@@ -1,6 +1,8 @@
--- What the laws of the plans say of a lane's calls. A further call is one line of `planned_fits`.
+-- What the laws of the plans say of a lane's calls. A further call whose numbers have a range is one line of `planned_fits`.
 use Rattle.std.proofs.Common.{◌≡◌, ◌≤◌, ◌+◌, ◌++◌, ℕ, zero, suc, Bool, true, false, List, [], ◌∷◌, Option, Some, None, refl, ap, sym, ◌∙◌, subst, arith, if◌then◌else◌, inl, inr}
-use Rattle.std.specs.Prelude.{◌⊎◌, ◌||◌, ◌&&◌, slice_set, slice_index_or}
+use Rattle.std.specs.Prelude.{◌⊎◌, ◌||◌, ◌&&◌, IfSome, slice_set, slice_index_or}
+use Rattle.std.proofs.lemmas.Bool.{and_parts}
+use Rattle.std.proofs.lemmas.Bool.Decides.{nat_tests}
 use Rattle.std.specs.List.{list_any}
 use Rattle.sftp_model.specs.declared.outcome.Outcome.{Outcome}
 use Rattle.sftp_model.specs.declared.outcome.Outcome.TheVariants as outcome
@@ -12,7 +14,7 @@ use Rattle.sftp_model.specs.declared.slot.Move.TheVariants.{Ask, Done}
 use Rattle.sftp_model.specs.declared.slot.Site.{Site}
 use Rattle.sftp_model.specs.declared.slot.Slot.{Slot}
 use Rattle.sftp_model.specs.declared.slot.Slot.TheVariants.{Empty, File, Buffered}
-use Rattle.sftp_model.specs.Fits.{FitsSet}
+use Rattle.sftp_model.specs.Fits.{FitsLong, FitsSet}
 use Rattle.sftp_model.specs.Slots.{slot_at, with_slot, slot_has, has_grant}
 use Rattle.sftp_calls.specs.Moves.{Answers, Own, once_answered, done_by}
 use Rattle.sftp_calls.specs.FilePlans.{close_slot_next}
@@ -26,6 +28,7 @@ use Rattle.sftp_file.specs.declared.open_options.OpenOptions.{OpenOptions}
 use Rattle.sftp_file.specs.OpenOptions.{flags_of}
 use Rattle.sftp_history.specs.declared.call.Call.{Call}
 use Rattle.sftp_history.specs.declared.call.Call.TheVariants as call
+use Rattle.sftp_history.specs.Lanes.{is_long, is_slot, is_some_long, is_within}
 use Rattle.sftp_history.specs.Calls.{planned, next, cancelled, held_by, move_at}
 
 -- ---- the numbers of a call fit their fields
@@ -48,9 +51,18 @@ flags_fit o =
     let m = making_le o.create_new (o.create && o.truncate) o.create in
     omega (arith, r, w, a, m)
 
-pub planned_fits : (c : Call) → FitsCall (planned c)
-planned_fits (call.OpenFile slot flags path) = flags_fit flags
-planned_fits other = tt
+long_fits : (n : ℕ) → is_long n ≡ true → FitsLong n
+long_fits n e = grind (arith, nat_tests)
+
+size_fits : (size : Option ℕ) → is_some_long size ≡ true → IfSome size FitsLong
+size_fits None e = tt
+size_fits (Some n) e = long_fits n e
+
+pub planned_fits : (c : Call) → is_within c ≡ true → FitsCall (planned c)
+planned_fits (call.OpenFile slot flags path) e = flags_fit flags
+planned_fits (call.SetLen slot n) e = long_fits n (and_parts (is_slot slot) (is_long n) e).1
+planned_fits (call.SetStat path size perm) e = size_fits size e
+planned_fits other e = tt
 
 -- ---- what a call holds
 
@@ -105,7 +117,7 @@ LeavesHeld c own site answers g = (has_grant (held_by (Some c) own site) g ≡ t
 
 pub done_has : (c : Call) (site : Site) (facts : Facts) (own : Own) (answers : Answers) (g : ℕ) (o : Outcome) (left : Site) → next c site facts own answers ≡ Done o left → has_grant left g ≡ true → LeavesHeld c own site answers g
 done_has c site facts own answers g o left is h =
-    elim (done_holds (planned c) site facts own answers o left (planned_fits c) is g h) [
+    elim (done_holds (planned c) site facts own answers o left is g h) [
       | inl was ↦ inl (still c own is was)
       | inr came ↦ inr (brought_first (planned c) own answers g came)
     ]
@@ -135,7 +147,7 @@ pub asks_close : (c : Option Call) (site : Site) (facts : Facts) (own : Own) (an
 asks_close None site facts own answers handle e = absurd cc
 asks_close (Some c) site facts own answers handle e =
     let is : next c site facts own answers ≡ Ask (request.Close handle) = cc e in
-    by_call c (asks_good (planned c) site facts own answers (request.Close handle) (planned_fits c) (close_within (planned c) site facts own answers handle is) is)
+    by_call c (asks_good (planned c) site facts own answers (request.Close handle) (close_within (planned c) site facts own answers handle is) is)
   where
     by_call : (d : Call) → closes (planned d) site own answers handle → AsksClose (Some d) site own answers handle
     by_call (call.Close slot) may = (slot, (refl, may))

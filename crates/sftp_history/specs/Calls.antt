@@ -32,7 +32,31 @@ pub record Setting : Type 0 where
 abbrev pub planned : Call → plan.Call
 planned (call.OpenFile slot flags path) = plan.OpenFile slot (flags_of flags) path
 planned (call.Read slot n) = plan.Read slot n
+planned (call.ReadAll slot n) = plan.ReadAll slot n
+planned (call.Write slot bytes) = plan.Write slot bytes
+planned (call.WriteAll slot bytes) = plan.WriteAll slot bytes
+planned (call.Seek slot position) = plan.Seek slot position
+planned (call.SetLen slot n) = plan.SetLen slot n
+planned (call.SetPerm slot perm) = plan.SetPerm slot perm
+planned (call.Meta slot) = plan.Meta slot
+planned (call.Sync slot) = plan.Sync slot
+planned (call.Copy from to n) = plan.Copy from to n
+planned (call.CloneFile from to) = plan.CloneFile from to
 planned (call.Close slot) = plan.Close slot
+planned (call.FsWrite path bytes) = plan.FsWrite path bytes
+planned (call.List path bound) = plan.Names path bound
+planned (call.Stat path) = plan.Stat path
+planned (call.Lstat path) = plan.Lstat path
+planned (call.SetStat path size perm) = plan.SetStat path size perm
+planned (call.Remove path) = plan.Remove path
+planned (call.Mkdir path) = plan.Mkdir path
+planned (call.Rmdir path) = plan.Rmdir path
+planned (call.Rename old to) = plan.Rename old to
+planned (call.HardLink old to) = plan.HardLink old to
+planned (call.Symlink src dst) = plan.Symlink src dst
+planned (call.ReadLink path) = plan.ReadLink path
+planned (call.Canonicalize path) = plan.Canonicalize path
+planned (call.Cwd path) = plan.Cwd path
 
 -- the next move of a call
 abbrev pub next : Call → Site → Facts → Plan

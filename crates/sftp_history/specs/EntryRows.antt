@@ -105,7 +105,7 @@ unfolding request_body attributes string uint32
 with_added_is = (
   (refl, refl, (omega arith, refl), refl, refl),
   (
-    (omega arith, refl),
+    (omega arith, refl, refl),
     (
       (refl, (_, refl), refl),
       (
@@ -135,6 +135,11 @@ added_late = λ h. let e = h.1 in absurd cc
 pub added_nowhere : IsNext (setting_with ([] ∷ [])) ([]) (entry.Added 1 (call.Close 0)) → ⊥
 unfolding request_body attributes string uint32
 added_nowhere = λ h. let lt : 1 < 1 = h.0 in absurd (omega arith)
+
+-- a call of a slot that isn't there
+pub added_out_of_range : IsNext (setting_with ([] ∷ [])) ([]) (entry.Added 0 (call.Close 16)) → ⊥
+unfolding request_body attributes string uint32
+added_out_of_range = λ h. let e = h.2 in absurd cc
 
 -- ---- kept faults
 

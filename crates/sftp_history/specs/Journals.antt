@@ -16,6 +16,7 @@ use Rattle.sftp_history.specs.declared.event.Owner.TheVariants as owner
 use Rattle.sftp_history.specs.declared.event.Event.TheVariants.{Submit, Send, Take, Cancel, End}
 use Rattle.sftp_history.specs.declared.entry.Entry.{Entry}
 use Rattle.sftp_history.specs.declared.entry.Entry.TheVariants as entry
+use Rattle.sftp_history.specs.Lanes.{is_within}
 use Rattle.sftp_history.specs.Readings.{Asked, asked, asked_at, answer, bearer, sent, awaiting, own, ended, last_cancel, was_let_go, was_kept, unanswered}
 use Rattle.sftp_history.specs.Calls.{Setting, current, move_of, has_waited}
 use Rattle.sftp_history.specs.Grants.{orphan}
@@ -103,7 +104,7 @@ MayCome s past (entry.Event (Take id r)) = MayTake past id r × (was_kept past �
 MayCome s past (entry.Event (Cancel lane)) = (current s past lane ≢ None) × (may_cancel s past lane ≡ true) × (opened s past ≡ true)
 MayCome s past (entry.Event (End lane call o)) =
     (call ≡ ended past lane) × ((site : _) × (move_of s past lane ≡ Some (Done o site))) × (opened s past ≡ true)
-MayCome s past (entry.Added lane c) = (lane < length s.lanes) × (was_let_go past lane ≡ false)
+MayCome s past (entry.Added lane c) = (lane < length s.lanes) × (was_let_go past lane ≡ false) × (is_within c ≡ true)
 MayCome s past (entry.LetGo lane) = (lane < length s.lanes) × (current s past lane ≡ None) × (was_let_go past lane ≡ false)
 MayCome s past (entry.Kept fault) = was_kept past ≡ false
 

@@ -1,5 +1,5 @@
 -- Which lanes a session can be given: each call is within its ranges, and all together are few.
-use Rattle.std.specs.Prelude.{ℕ, ◌+◌, ◌^◌, Bool, ◌&&◌, List, nat_lt}
+use Rattle.std.specs.Prelude.{ℕ, ◌+◌, ◌^◌, Bool, true, ◌&&◌, List, Option, Some, None, nat_le, nat_lt}
 use Rattle.std.specs.List.{list_all, sum_by}
 use Rattle.sftp_history.specs.declared.call.Call.{Call}
 use Rattle.sftp_history.specs.declared.call.Call.TheVariants as call
@@ -9,11 +9,33 @@ use Rattle.sftp_history.specs.declared.call.Lane.{Lane}
 abbrev pub is_slot : ℕ → Bool
 is_slot slot = nat_lt slot 16
 
--- the slots that a call names are there
+-- a number of 64 bits
+abbrev pub is_long : ℕ → Bool
+is_long n = nat_lt n (2 ^ 64)
+
+-- a number of 64 bits, where there is one
+abbrev pub is_some_long : Option ℕ → Bool
+is_some_long None = true
+is_some_long (Some n) = is_long n
+
+-- the slots that a call names are there, a bound is not 0, and a size has 64 bits
 abbrev pub is_within : Call → Bool
 is_within (call.OpenFile slot flags path) = is_slot slot
 is_within (call.Read slot n) = is_slot slot
+is_within (call.ReadAll slot n) = is_slot slot
+is_within (call.Write slot bytes) = is_slot slot
+is_within (call.WriteAll slot bytes) = is_slot slot
+is_within (call.Seek slot position) = is_slot slot
+is_within (call.SetLen slot n) = is_slot slot && is_long n
+is_within (call.SetPerm slot perm) = is_slot slot
+is_within (call.Meta slot) = is_slot slot
+is_within (call.Sync slot) = is_slot slot
+is_within (call.Copy from to n) = is_slot from && is_slot to
+is_within (call.CloneFile from to) = is_slot from && is_slot to
 is_within (call.Close slot) = is_slot slot
+is_within (call.List path bound) = nat_le 1 bound
+is_within (call.SetStat path size perm) = is_some_long size
+is_within of_paths = true
 
 -- what a call counts
 abbrev pub weight : Call → ℕ

@@ -21,6 +21,7 @@ pub mod ServedRows
 pub mod Lines
 pub mod Scripts
 pub mod ScriptRows
+pub mod CallLineRows
 pub mod Texts
 pub mod TextRows
 pub mod SettingRows

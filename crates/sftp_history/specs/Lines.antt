@@ -1,5 +1,5 @@
 -- Lines, words, and what single words spell.
-use Rattle.std.specs.Prelude.{ℕ, ◌+◌, ◌-◌, ◌*◌, ◌==◌, Bool, true, false, not, ◌&&◌, List, [], ◌∷◌, codes, Option, Some, None, Result, Ok, Err, nat_le, if◌then◌else◌}
+use Rattle.std.specs.Prelude.{ℕ, zero, suc, ℤ, pos, negsuc, ◌^◌, ◌+◌, ◌-◌, ◌*◌, ◌==◌, Bool, true, false, not, ◌&&◌, List, [], ◌∷◌, codes, Option, Some, None, Result, Ok, Err, nat_le, if◌then◌else◌}
 use Rattle.std.specs.Str.{bytes_eq}
 use Rattle.sftp_file.specs.declared.open_options.OpenOptions.{OpenOptions}
 use Rattle.sftp_file.specs.OpenOptions.{nothing_chosen}
@@ -60,6 +60,23 @@ within least most (Some n) = if nat_le least n && nat_le n most then Ok n else E
 -- a number from `least` to `most`
 abbrev pub number_in : ℕ → ℕ → List ℕ → Result ℕ Reason
 number_in least most word = within least most (number_of word)
+
+-- what was read, in another form
+abbrev pub map_ok : {A B : Type 0} → (A → B) → Result A Reason → Result B Reason
+map_ok f (Ok x) = Ok (f x)
+map_ok f (Err why) = Err why
+
+-- a number below 0, or 0
+abbrev pub minus : ℕ → ℤ
+minus zero = pos 0
+minus (suc n) = negsuc n
+
+-- a number of 64 bits that `-` may lead
+abbrev pub signed_in : List ℕ → Result ℤ Reason
+signed_in [] = Err reason.Number
+signed_in (b ∷ digits) =
+    if b == 45 then map_ok minus (number_in 0 (2 ^ 63) digits)
+    else map_ok pos (number_in 0 (2 ^ 63 - 1) (b ∷ digits))
 
 -- ---- bytes
 

@@ -1,8 +1,10 @@
 -- Which bytes read as a script, and which line of the others is the first that does not, and why.
-use Rattle.std.specs.Prelude.{ℕ, ◌+◌, ◌-◌, ◌^◌, ◌==◌, Bool, true, false, not, ◌&&◌, ◌||◌, List, [], ◌∷◌, ◌++◌, length, map, codes, Some, None, Result, Ok, Err, is_some, nat_le, nat_lt, if◌then◌else◌}
+use Rattle.std.specs.Prelude.{ℕ, ◌+◌, ◌-◌, ◌^◌, ◌==◌, Bool, true, false, not, ◌&&◌, ◌||◌, List, [], ◌∷◌, ◌++◌, length, map, codes, Option, Some, None, Result, Ok, Err, is_some, nat_le, nat_lt, if◌then◌else◌}
 use Rattle.std.specs.Int.RustNames.{bit_or}
 use Rattle.std.specs.List.{list_all, list_any, sum_by}
 use Rattle.std.specs.Str.{bytes_eq}
+use Rattle.std.specs.declared.io.traits.SeekFrom.{SeekFrom}
+use Rattle.std.specs.declared.io.traits.SeekFrom.TheVariants as position
 use Rattle.ssh_encoding.specs.Reading.{◌>>=◌}
 use Rattle.sftp_core.specs.declared.options.SftpOptions.{SftpOptions}
 use Rattle.sftp_core.specs.Options.{default_options}
@@ -20,7 +22,7 @@ use Rattle.sftp_history.specs.declared.reason.Reason.TheVariants as reason
 use Rattle.sftp_history.specs.declared.script.Script.{Script}
 use Rattle.sftp_history.specs.declared.turn.Turn.{Turn}
 use Rattle.sftp_history.specs.declared.turn.Turn.TheVariants as turn
-use Rattle.sftp_history.specs.Lines.{lines_of, words_of, is_comment, number_in, bytes_in, flags_in}
+use Rattle.sftp_history.specs.Lines.{lines_of, words_of, is_comment, map_ok, number_in, signed_in, bytes_in, flags_in}
 
 -- what was read so far: the script, and which options it names, by the order of their table
 pub record Draft : Type 0 where
@@ -221,29 +223,111 @@ with_turn d t = record d { script = record d.script { turns = d.script.turns ++ 
 abbrev pub slot_in : List ℕ → Result ℕ Reason
 slot_in word = number_in 0 15 word
 
--- the words of `open`
-abbrev pub open_call : List ℕ → List ℕ → List ℕ → Result Call Reason
-open_call a b c = do
-  slot ← slot_in a
-  flags ← flags_in b
-  path ← bytes_in c
-  Ok (call.OpenFile slot flags path)
+-- a number of 32 bits, and one of 64
+abbrev pub number_u32 : List ℕ → Result ℕ Reason
+number_u32 word = number_in 0 greatest_u32 word
 
--- the words of `read`
-abbrev pub read_call : List ℕ → List ℕ → Result Call Reason
-read_call a b = do
-  slot ← slot_in a
-  n ← number_in 0 greatest_u32 b
-  Ok (call.Read slot n)
+abbrev pub number_u64 : List ℕ → Result ℕ Reason
+number_u64 word = number_in 0 greatest_u64 word
 
--- the word of `close`
-abbrev pub close_call : List ℕ → Result Call Reason
-close_call a = slot_in a >>= λ slot. Ok (call.Close slot)
+-- the bits of a mode
+abbrev pub mode_in : List ℕ → Result ℕ Reason
+mode_in word = number_in 0 65535 word
+
+-- `-` for none, or what a word spells
+abbrev pub some_in : (List ℕ → Result ℕ Reason) → List ℕ → Result (Option ℕ) Reason
+some_in read word = if bytes_eq word (codes "-") then Ok None else map_ok Some (read word)
+
+-- where a seek leads, by its kind and its number
+abbrev pub position_in : List ℕ → List ℕ → Result SeekFrom Reason
+position_in kind word =
+    if bytes_eq kind (codes "start") then map_ok position.Start (number_u64 word)
+    else if bytes_eq kind (codes "cur") then map_ok position.Current (signed_in word)
+    else if bytes_eq kind (codes "end") then map_ok position.End (signed_in word)
+    else Err reason.Mode
+
+-- the words of `seek`
+abbrev pub seek_call : List ℕ → List ℕ → List ℕ → Result Call Reason
+seek_call a b c = do
+  slot ← slot_in a
+  to ← position_in b c
+  Ok (call.Seek slot to)
+
+-- two fields, of which each has its reading
+abbrev pub pair : {A B : Type 0} → (List ℕ → Result A Reason) → (List ℕ → Result B Reason) → List (List ℕ) → Result (A × B) Reason
+pair first second words = two_words (λ a b. first a >>= λ x. second b >>= λ y. Ok (x, y)) words
+
+-- three fields
+abbrev pub triple : {A B C : Type 0} → (List ℕ → Result A Reason) → (List ℕ → Result B Reason) → (List ℕ → Result C Reason) → List (List ℕ) → Result (A × B × C) Reason
+triple first second third words = three_words (λ a b c. first a >>= λ x. second b >>= λ y. third c >>= λ z. Ok (x, y, z)) words
+
+-- a call of one field
+abbrev pub one : {A : Type 0} → (List ℕ → Result A Reason) → (A → Call) → List (List ℕ) → Result Call Reason
+one first made words = map_ok made (one_word first words)
+
+-- a call of two fields
+abbrev pub two : {A B : Type 0} → (List ℕ → Result A Reason) → (List ℕ → Result B Reason) → (A → B → Call) → List (List ℕ) → Result Call Reason
+two first second made words = map_ok (λ p. made p.0 p.1) (pair first second words)
+
+-- a call of three fields
+abbrev pub three : {A B C : Type 0} → (List ℕ → Result A Reason) → (List ℕ → Result B Reason) → (List ℕ → Result C Reason) → (A → B → C → Call) → List (List ℕ) → Result Call Reason
+three first second third made words = map_ok (λ p. made p.0 p.1 p.2) (triple first second third words)
+
+-- a call on a slot, by its first word and the words behind it
+abbrev pub slot_call : List ℕ → List (List ℕ) → Option (Result Call Reason)
+slot_call word words =
+    if bytes_eq word (codes "open") then Some (three slot_in flags_in bytes_in call.OpenFile words)
+    else if bytes_eq word (codes "read") then Some (two slot_in number_u32 call.Read words)
+    else if bytes_eq word (codes "read_all") then Some (two slot_in number_u32 call.ReadAll words)
+    else if bytes_eq word (codes "write") then Some (two slot_in bytes_in call.Write words)
+    else if bytes_eq word (codes "write_all") then Some (two slot_in bytes_in call.WriteAll words)
+    else if bytes_eq word (codes "seek") then Some (three_words seek_call words)
+    else if bytes_eq word (codes "set_len") then Some (two slot_in number_u64 call.SetLen words)
+    else if bytes_eq word (codes "set_perm") then Some (two slot_in mode_in call.SetPerm words)
+    else if bytes_eq word (codes "meta") then Some (one slot_in call.Meta words)
+    else if bytes_eq word (codes "sync") then Some (one slot_in call.Sync words)
+    else if bytes_eq word (codes "copy") then Some (three slot_in slot_in number_u64 call.Copy words)
+    else if bytes_eq word (codes "clone") then Some (two slot_in slot_in call.CloneFile words)
+    else if bytes_eq word (codes "close") then Some (one slot_in call.Close words)
+    else None
+
+-- a call on a path or two
+abbrev pub path_call : List ℕ → List (List ℕ) → Option (Result Call Reason)
+path_call word words =
+    if bytes_eq word (codes "fs_write") then Some (two bytes_in bytes_in call.FsWrite words)
+    else if bytes_eq word (codes "list") then Some (two bytes_in (number_in 1 greatest_u32) call.List words)
+    else if bytes_eq word (codes "stat") then Some (one bytes_in call.Stat words)
+    else if bytes_eq word (codes "lstat") then Some (one bytes_in call.Lstat words)
+    else if bytes_eq word (codes "set_stat") then Some (three bytes_in (some_in number_u64) (some_in mode_in) call.SetStat words)
+    else if bytes_eq word (codes "remove") then Some (one bytes_in call.Remove words)
+    else if bytes_eq word (codes "mkdir") then Some (one bytes_in call.Mkdir words)
+    else if bytes_eq word (codes "rmdir") then Some (one bytes_in call.Rmdir words)
+    else if bytes_eq word (codes "rename") then Some (two bytes_in bytes_in call.Rename words)
+    else if bytes_eq word (codes "hard_link") then Some (two bytes_in bytes_in call.HardLink words)
+    else if bytes_eq word (codes "symlink") then Some (two bytes_in bytes_in call.Symlink words)
+    else if bytes_eq word (codes "read_link") then Some (one bytes_in call.ReadLink words)
+    else if bytes_eq word (codes "canonicalize") then Some (one bytes_in call.Canonicalize words)
+    else if bytes_eq word (codes "cwd") then Some (one bytes_in call.Cwd words)
+    else None
+
+-- the one, or else the other
+abbrev pub or_else : {A : Type 0} → Option A → Option A → Option A
+or_else None other = other
+or_else (Some x) other = Some x
+
+-- a call by its first word and the words behind it
+abbrev pub call_in : List ℕ → List (List ℕ) → Option (Result Call Reason)
+call_in word words = or_else (slot_call word words) (path_call word words)
 
 -- a call belongs to the lane begun last
 abbrev pub in_lane : Draft → List Lane → Result Call Reason → Result Draft Reason
 in_lane d [] read = Err reason.Lane
 in_lane d (lane ∷ lanes) read = read >>= λ c. Ok (with_call d c)
+
+-- a line that is a call, or nothing that is known
+abbrev pub call_line : Draft → Option (Result Call Reason) → Result Draft Reason
+call_line d None = Err reason.Word
+call_line d (Some read) = in_lane d d.script.lanes read
 
 -- a turn of a lane, which need not be there
 abbrev pub lane_turn : Draft → (ℕ → Turn) → List ℕ → Result Draft Reason
@@ -265,10 +349,7 @@ line_by d word words =
     else if bytes_eq word (codes "cancel") then one_word (lane_turn d (λ n. turn.Cancel n)) words
     else if bytes_eq word (codes "flush") then no_word (with_turn d turn.Flush) words
     else if bytes_eq word (codes "take") then no_word (with_turn d turn.Take) words
-    else if bytes_eq word (codes "open") then in_lane d d.script.lanes (three_words open_call words)
-    else if bytes_eq word (codes "read") then in_lane d d.script.lanes (two_words read_call words)
-    else if bytes_eq word (codes "close") then in_lane d d.script.lanes (one_word close_call words)
-    else Err reason.Word
+    else call_line d (call_in word words)
 
 -- a line by its words
 abbrev pub line_of : Draft → List (List ℕ) → Result Draft Reason

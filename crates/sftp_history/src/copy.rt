@@ -14,7 +14,85 @@ impl TryCopy for Call {
                 path: path.try_copy(alloc)?,
             }),
             Call::Read { slot, n } => Ok(Call::Read { slot: *slot, n: *n }),
+            Call::ReadAll { slot, n } => Ok(Call::ReadAll { slot: *slot, n: *n }),
+            Call::Write { slot, bytes } => Ok(Call::Write {
+                slot: *slot,
+                bytes: bytes.try_copy(alloc)?,
+            }),
+            Call::WriteAll { slot, bytes } => Ok(Call::WriteAll {
+                slot: *slot,
+                bytes: bytes.try_copy(alloc)?,
+            }),
+            Call::Seek { slot, position } => Ok(Call::Seek {
+                slot: *slot,
+                position: *position,
+            }),
+            Call::SetLen { slot, n } => Ok(Call::SetLen { slot: *slot, n: *n }),
+            Call::SetPerm { slot, perm } => Ok(Call::SetPerm {
+                slot: *slot,
+                perm: *perm,
+            }),
+            Call::Meta { slot } => Ok(Call::Meta { slot: *slot }),
+            Call::Sync { slot } => Ok(Call::Sync { slot: *slot }),
+            Call::Copy { from, to, n } => Ok(Call::Copy {
+                from: *from,
+                to: *to,
+                n: *n,
+            }),
+            Call::CloneFile { from, to } => Ok(Call::CloneFile {
+                from: *from,
+                to: *to,
+            }),
             Call::Close { slot } => Ok(Call::Close { slot: *slot }),
+            Call::FsWrite { path, bytes } => Ok(Call::FsWrite {
+                path: path.try_copy(alloc)?,
+                bytes: bytes.try_copy(alloc)?,
+            }),
+            Call::List { path, bound } => Ok(Call::List {
+                path: path.try_copy(alloc)?,
+                bound: *bound,
+            }),
+            Call::Stat { path } => Ok(Call::Stat {
+                path: path.try_copy(alloc)?,
+            }),
+            Call::Lstat { path } => Ok(Call::Lstat {
+                path: path.try_copy(alloc)?,
+            }),
+            Call::SetStat { path, size, perm } => Ok(Call::SetStat {
+                path: path.try_copy(alloc)?,
+                size: *size,
+                perm: *perm,
+            }),
+            Call::Remove { path } => Ok(Call::Remove {
+                path: path.try_copy(alloc)?,
+            }),
+            Call::Mkdir { path } => Ok(Call::Mkdir {
+                path: path.try_copy(alloc)?,
+            }),
+            Call::Rmdir { path } => Ok(Call::Rmdir {
+                path: path.try_copy(alloc)?,
+            }),
+            Call::Rename { old, to } => Ok(Call::Rename {
+                old: old.try_copy(alloc)?,
+                to: to.try_copy(alloc)?,
+            }),
+            Call::HardLink { old, to } => Ok(Call::HardLink {
+                old: old.try_copy(alloc)?,
+                to: to.try_copy(alloc)?,
+            }),
+            Call::Symlink { src, dst } => Ok(Call::Symlink {
+                src: src.try_copy(alloc)?,
+                dst: dst.try_copy(alloc)?,
+            }),
+            Call::ReadLink { path } => Ok(Call::ReadLink {
+                path: path.try_copy(alloc)?,
+            }),
+            Call::Canonicalize { path } => Ok(Call::Canonicalize {
+                path: path.try_copy(alloc)?,
+            }),
+            Call::Cwd { path } => Ok(Call::Cwd {
+                path: path.try_copy(alloc)?,
+            }),
         }
     }
 }

@@ -1,11 +1,11 @@
 ghost use Rattle.std.specs.Prelude.{◌≡◌, ◌+◌, ◌^◌, min, take};
 ghost use Rattle.std.specs.List.{list_all, sum_by};
-ghost use Rattle.sftp_history.specs.Lanes.{is_within, weight, lane_weight, are_ok};
+ghost use Rattle.sftp_history.specs.Lanes.{is_long, is_within, weight, lane_weight, are_ok};
 
 use crate::call::{Call, Lane};
 
-/// Whether a session can be given these lanes: each slot is below 16, and the number of lanes and 2 for each
-/// call are below 2147483648.
+/// Whether a session can be given these lanes: each slot is below 16, each bound at least 1, and the number of lanes and
+/// 2 for each call are below 2147483648.
 #[tactic(auto, using(crate::proofs::Weights::limited_below))]
 pub fn lanes_ok(lanes: &[Lane]) -> bool
     ensures { result ≡ are_ok lanes.now }
@@ -30,14 +30,34 @@ fn lane_is_within(lane: &Lane) -> bool
         .all(|call| is_call_within(call))
 }
 
-/// Whether a call names slots that are there.
+/// Whether a size is one of 64 bits, as each is.
+fn is_long(_n: u64) -> bool
+    ensures { result ≡ is_long _n }
+{
+    true
+}
+
+/// Whether a call names slots that are there, and no bound of 0.
 fn is_call_within(call: &Call) -> bool
     ensures { result ≡ is_within call.now }
 {
     match call {
         Call::OpenFile { slot, .. } => *slot < 16,
         Call::Read { slot, .. } => *slot < 16,
+        Call::ReadAll { slot, .. } => *slot < 16,
+        Call::Write { slot, .. } => *slot < 16,
+        Call::WriteAll { slot, .. } => *slot < 16,
+        Call::Seek { slot, .. } => *slot < 16,
+        Call::SetLen { slot, n } => *slot < 16 && is_long(*n),
+        Call::SetPerm { slot, .. } => *slot < 16,
+        Call::Meta { slot } => *slot < 16,
+        Call::Sync { slot } => *slot < 16,
+        Call::Copy { from, to, .. } => *from < 16 && *to < 16,
+        Call::CloneFile { from, to } => *from < 16 && *to < 16,
         Call::Close { slot } => *slot < 16,
+        Call::List { bound, .. } => 1 <= *bound,
+        Call::SetStat { size, .. } => size.is_none_or(is_long),
+        _ => true,
     }
 }
 

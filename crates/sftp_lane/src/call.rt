@@ -10,7 +10,13 @@ ghost use Rattle.sftp_lane.specs.Turning.{Began, IsSafe, WentOn};
 
 use sftp_history::Call;
 use sftp_model::{Facts, Reply, Site};
-use sftp_plan::{Next, Running, begin_close, begin_open, begin_read, go_on};
+use sftp_plan::{
+    Next, Running, begin_canonicalize, begin_clone, begin_close, begin_copy, begin_cwd,
+    begin_fs_write, begin_hard_link, begin_list, begin_lstat, begin_meta, begin_mkdir, begin_open,
+    begin_read, begin_read_all, begin_read_link, begin_remove, begin_rename, begin_rmdir,
+    begin_seek, begin_set_len, begin_set_perm, begin_set_stat, begin_stat, begin_symlink,
+    begin_sync, begin_write, begin_write_all, go_on,
+};
 use ssh_encoding::OutOfMemory;
 use std::alloc::Global;
 
@@ -19,9 +25,20 @@ pub(crate) fn bytes_of(call: &Call) -> &[u8]
     ensures { result.now ≡ bytes_of (planned call.now) }
 {
     match call {
-        Call::OpenFile { .. } => &[],
-        Call::Read { .. } => &[],
-        Call::Close { .. } => &[],
+        Call::Write { bytes, .. } => bytes.as_slice(),
+        Call::WriteAll { bytes, .. } => bytes.as_slice(),
+        Call::FsWrite { bytes, .. } => bytes.as_slice(),
+        _ => &[],
+    }
+}
+
+/// A mode of sixteen bits as one of thirty-two, where there is one.
+fn mode_of(perm: Option<u16>) -> Option<u32>
+    ensures { result ≡ perm }
+{
+    match perm {
+        Some(perm) => Some(perm as u32),
+        None => None,
     }
 }
 
@@ -53,7 +70,96 @@ pub(crate) fn begin(
             )
         }
         Call::Read { slot, n } => Ok(begin_read(*slot, *n, place, site, facts)),
+        Call::ReadAll { slot, n } => Ok(begin_read_all(
+            alloc, *slot, *n as u64, place, site, facts,
+        )),
+        Call::Write { slot, bytes } => begin_write(
+            alloc,
+            *slot,
+            bytes.as_slice(),
+            place,
+            site,
+            facts,
+        ),
+        Call::WriteAll { slot, bytes } => begin_write_all(
+            alloc,
+            *slot,
+            bytes.as_slice(),
+            place,
+            site,
+            facts,
+        ),
+        Call::Seek { slot, position } => Ok(Next::Done(begin_seek(*slot, *position, site))),
+        Call::SetLen { slot, n } => Ok(begin_set_len(*slot, *n, place, site, facts)),
+        Call::SetPerm { slot, perm } => Ok(begin_set_perm(*slot, *perm as u32, place, site, facts)),
+        Call::Meta { slot } => Ok(begin_meta(*slot, place, site, facts)),
+        Call::Sync { slot } => Ok(begin_sync(*slot, place, site, facts)),
+        Call::Copy { from, to, n } => Ok(begin_copy(*from, *to, *n, place, site, facts)),
+        Call::CloneFile { from, to } => Ok(Next::Done(begin_clone(*from, *to, site))),
         Call::Close { slot } => Ok(begin_close(*slot, place, site, facts)),
+        Call::FsWrite { path, bytes } => begin_fs_write(
+            alloc,
+            path.as_slice(),
+            bytes.as_slice(),
+            place,
+            site,
+            facts,
+        ),
+        Call::List { path, bound } => begin_list(
+            alloc,
+            path.as_slice(),
+            *bound,
+            place,
+            site,
+            facts,
+        ),
+        Call::Stat { path } => begin_stat(alloc, path.as_slice(), place, site, facts),
+        Call::Lstat { path } => begin_lstat(alloc, path.as_slice(), place, site, facts),
+        Call::SetStat { path, size, perm } => begin_set_stat(
+            alloc,
+            path.as_slice(),
+            *size,
+            mode_of(*perm),
+            place,
+            site,
+            facts,
+        ),
+        Call::Remove { path } => begin_remove(alloc, path.as_slice(), place, site, facts),
+        Call::Mkdir { path } => begin_mkdir(alloc, path.as_slice(), place, site, facts),
+        Call::Rmdir { path } => begin_rmdir(alloc, path.as_slice(), place, site, facts),
+        Call::Rename { old, to } => begin_rename(
+            alloc,
+            old.as_slice(),
+            to.as_slice(),
+            place,
+            site,
+            facts,
+        ),
+        Call::HardLink { old, to } => begin_hard_link(
+            alloc,
+            old.as_slice(),
+            to.as_slice(),
+            place,
+            site,
+            facts,
+        ),
+        Call::Symlink { src, dst } => begin_symlink(
+            alloc,
+            src.as_slice(),
+            dst.as_slice(),
+            place,
+            site,
+            facts,
+        ),
+        Call::ReadLink { path } => begin_read_link(alloc, path.as_slice(), place, site, facts),
+        Call::Canonicalize { path } => begin_canonicalize(
+            alloc,
+            path.as_slice(),
+            place,
+            site,
+            facts,
+        ),
+        Call::Cwd { path } => Ok(Next::Done(begin_cwd(alloc, path.as_slice(), site)?)),
     }
 }
 

@@ -13,7 +13,7 @@ use crate::lane::LaneState;
 use crate::tokens::{Granted, grant_at};
 use sftp_core::Core;
 use sftp_model::{Handle, Site, Slot};
-use sftp_plan::site::holds_grant;
+use sftp_plan::site::{holds_grant, some_has};
 
 /// Which grant is the first that no slot has.
 fn loose_at(grants: &[Granted], site: &Site) -> Option<usize>
@@ -34,24 +34,6 @@ fn grant_of(slot: &Slot) -> Option<u64>
         Slot::File(file) => Some(file.grant),
         Slot::Buffered(file, _) => Some(file.grant),
     }
-}
-
-/// Whether a slot has the grant of this place.
-fn slot_has(slot: &Slot, grant: u64) -> bool
-    ensures { result ≡ slot_has grant slot.now }
-{
-    match slot {
-        Slot::Empty => false,
-        Slot::File(file) => file.grant == grant,
-        Slot::Buffered(file, _) => file.grant == grant,
-    }
-}
-
-/// Whether some of these slots has the grant of this place.
-fn some_has(slots: &[Slot], grant: u64) -> bool
-    ensures { result ≡ list_any (slot_has grant) slots.now }
-{
-    slots.iter().any(|slot| slot_has(slot, grant))
 }
 
 impl LaneState {

@@ -12,6 +12,7 @@ use Rattle.sftp_model.specs.declared.request.Request.TheVariants as request
 use Rattle.sftp_model.specs.declared.slot.Facts.{Facts}
 use Rattle.sftp_model.specs.Answers.{is_handle}
 use Rattle.sftp_model.specs.ReplyReadings.{limits_at}
+use Rattle.sftp_calls.specs.GoodMoves.{FitsFacts}
 use Rattle.sftp_core.specs.declared.info.Info.{Info}
 use Rattle.sftp_core.specs.declared.options.SftpOptions.{SftpOptions}
 use Rattle.sftp_core.specs.declared.tokens.Taken.{Taken}
@@ -185,15 +186,19 @@ facts_untouched lanes old facts u = record { calls = u.calls; asked = u.asked; b
 pub facts_told : (facts : Facts) (options : SftpOptions) (extensions : Extensions) (known : Option Info) (info : Info) → IfSome known (λ k. facts ≡ facts_by options extensions (Some k)) → known ≡ Some info → facts ≡ facts_by options extensions (Some info)
 facts_told facts options extensions known info told is = subst (λ (o : Option Info). IfSome o (λ k. facts ≡ facts_by options extensions (Some k))) is told
 
+-- and plans may go by it
+pub fit_told : (facts : Facts) (known : Option Info) (info : Info) → IfSome known (λ k. FitsFacts facts) → known ≡ Some info → FitsFacts facts
+fit_told facts known info fit is = subst (λ (o : Option Info). IfSome o (λ k. FitsFacts facts)) is fit
+
 -- no lane has done anything, and this is known of the server
 pub opened_working : (lanes : List Lane) (options : SftpOptions) (version : Option Reply) (info : Info) (known : Option Info) (w : Lanes) → are_ok lanes ≡ true → known ≡ Some info → w.facts ≡ facts_by options (offered version) (Some info)
-    → w.core ≡ idle_core options info → IsQuiet (past_of w) → IsUntouched lanes w → IsIdle (setting_by lanes options version known) (past_of w) → IsInPhase lanes options version known w Open
-opened_working lanes options version info known w ok is goes_by calm quiet u idle =
+    → FitsFacts w.facts → w.core ≡ idle_core options info → IsQuiet (past_of w) → IsUntouched lanes w → IsIdle (setting_by lanes options version known) (past_of w) → IsInPhase lanes options version known w Open
+opened_working lanes options version info known w ok is goes_by fit calm quiet u idle =
     let s : Setting = setting_by lanes options version known in
     let o : IsOpen options w.core (past_of w) = record { info = info; calm = calm; idle = quiet } in
     let facts_are : s.facts ≡ facts_by options (offered version) (Some info) = ap (facts_by options (offered version)) is in
     record {
-      stands = record { calls = u.calls; ok = ap are_ok u.calls ∙ ok; facts = goes_by ∙ sym facts_are; asked = u.asked; count = u.count; unadded = idle.unadded };
+      stands = record { calls = u.calls; ok = ap are_ok u.calls ∙ ok; facts = goes_by ∙ sym facts_are; fit = subst FitsFacts (goes_by ∙ sym facts_are) fit; asked = u.asked; count = u.count; unadded = idle.unadded };
       rest = at_rest s (past_of w) options info w.core w.states.items w.begun.items idle (ap (λ (f : Facts). f.read_len) facts_are) calm o u.each u.begun;
     }
 
@@ -239,19 +244,19 @@ info_came options extensions core new read gives r is none t reads =
 
 -- the server doesn't tell its limits
 pub opens_at_once : (lanes : List Lane) (options : SftpOptions) (version : Option Reply) (known : Option Info) (extensions : Extensions) (w : Lanes) → are_ok lanes ≡ true → version ≡ Some (greeting extensions)
-    → offers_limits extensions ≡ false → known ≡ Some (info_with extensions None options) → w.facts ≡ facts_by options (offered version) (Some (info_with extensions None options)) → w.core ≡ idle_core options (info_with extensions None options)
+    → offers_limits extensions ≡ false → known ≡ Some (info_with extensions None options) → w.facts ≡ facts_by options (offered version) (Some (info_with extensions None options)) → FitsFacts w.facts → w.core ≡ idle_core options (info_with extensions None options)
     → past_of w ≡ [] → IsUntouched lanes w → IsInPhase lanes options version known w Open
-opens_at_once lanes options version known extensions w ok told none is goes_by calm past u =
+opens_at_once lanes options version known extensions w ok told none is goes_by fit calm past u =
     let s : Setting = setting_by lanes options version known in
-    opened_working lanes options version (info_with extensions None options) known w ok is goes_by calm (inl past) u (subst (IsIdle s) (sym past) (nothing s (ap (λ v. offers_limits (offered v)) told ∙ none)))
+    opened_working lanes options version (info_with extensions None options) known w ok is goes_by fit calm (inl past) u (subst (IsIdle s) (sym past) (nothing s (ap (λ v. offers_limits (offered v)) told ∙ none)))
 
 -- the server told its limits
 pub opens_told : (lanes : List Lane) (options : SftpOptions) (version : Option Reply) (known : Option Info) (extensions : Extensions) (limits : Option Limits) (r : Reply) (w : Lanes) → are_ok lanes ≡ true
     → version ≡ Some (greeting extensions) → offers_limits extensions ≡ true → known ≡ Some (info_with extensions limits options) → w.facts ≡ facts_by options (offered version) (Some (info_with extensions limits options))
-    → w.core ≡ idle_core options (info_with extensions limits options) → GoesOn r → past_of w ≡ entry.Event (Take 0 r) ∷ queried 0 → IsUntouched lanes w → IsInPhase lanes options version known w Open
-opens_told lanes options version known extensions limits r w ok came_with some is goes_by calm goes past u =
+    → FitsFacts w.facts → w.core ≡ idle_core options (info_with extensions limits options) → GoesOn r → past_of w ≡ entry.Event (Take 0 r) ∷ queried 0 → IsUntouched lanes w → IsInPhase lanes options version known w Open
+opens_told lanes options version known extensions limits r w ok came_with some is goes_by fit calm goes past u =
     let s : Setting = setting_by lanes options version known in
-    opened_working lanes options version (info_with extensions limits options) known w ok is goes_by calm (inr (r, past)) u (subst (IsIdle s) (sym past) (told s r (ap (λ v. offers_limits (offered v)) came_with ∙ some) goes))
+    opened_working lanes options version (info_with extensions limits options) known w ok is goes_by fit calm (inr (r, past)) u (subst (IsIdle s) (sym past) (told s r (ap (λ v. offers_limits (offered v)) came_with ∙ some) goes))
 
 -- what was taken
 pub same_limits : (id k : ℕ) (r other : Reply) → taken_of.Limits id r ≡ taken_of.Limits k other → (id ≡ k) × (r ≡ other)

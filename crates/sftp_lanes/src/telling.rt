@@ -1,7 +1,8 @@
 // What a server tells as a session opens.
 ghost use Rattle.std.specs.Prelude.{◌≡◌, ◌∷◌, [], Some, IfSome};
 ghost use Rattle.sftp_model.specs.declared.flags.Extensions.{Extensions as ExtensionsValue};
-ghost use Rattle.sftp_core.specs.Info.{info_of, offers_limits as offers};
+ghost use Rattle.sftp_calls.specs.GoodMoves.{FitsFacts};
+ghost use Rattle.sftp_core.specs.Info.{HasLengths, info_of, offers_limits as offers};
 ghost use Rattle.sftp_driver.specs.NoLanes.{offered, asked_past};
 ghost use Rattle.sftp_lanes.specs.Seen.{facts_by};
 
@@ -32,15 +33,17 @@ pub(crate) fn query_entry() -> Entry
     })
 }
 
-/// What plans go by where this is known of the server.
+/// What plans go by where this is known of the server: lengths, a limit and a window that they may go by.
 fn facts_by(info: &Info, options: &SftpOptions) -> Facts
-    ensures { (extensions : ExtensionsValue) → result ≡ facts_by options.now extensions (Some info.now) }
+    requires lengths { HasLengths info.now }
+    ensures value { (extensions : ExtensionsValue) → result ≡ facts_by options.now extensions (Some info.now) }
+    ensures fit { FitsFacts result }
 {
     Facts {
         extensions: info.extensions,
         read_len: info.read_len,
         write_len: info.write_len,
-        write_limit: options.get_tokio_compat_file_write_limit() as u64,
+        write_limit: 1.max(options.get_tokio_compat_file_write_limit() as u64),
         read_window: 1,
     }
 }
@@ -50,6 +53,7 @@ pub(crate) fn tell(work: &mut Lanes, options: &SftpOptions) -> Option<Info>
     ensures info { result ≡ info_of work.old.core.phase }
     ensures rest { work.new ≡ record work.old { facts = work.new.facts } }
     ensures facts { (extensions : ExtensionsValue) → IfSome result (λ info. work.new.facts ≡ facts_by options.now extensions (Some info)) }
+    ensures fit { IfSome result (λ info. FitsFacts work.new.facts) }
 {
     let info = work.core.info();
     if let Some(known) = &info {

@@ -1,9 +1,10 @@
 -- What is asked bears grants that the lane has, and its reply fits.
-use Rattle.std.proofs.Common.{◌≡◌, ◌≤◌, ◌||◌, ◌∙◌, true, false, ℕ, zero, suc, List, [], ◌∷◌, length, Option, Some, None, inl, inr, ap, refl, sym, subst, arith}
-use Rattle.std.specs.Prelude.{nat_lt, nat_le, slice_index_or}
+use Rattle.std.proofs.Common.{◌≡◌, ◌≤◌, ◌||◌, ◌∙◌, true, false, ℕ, zero, suc, List, [], ◌∷◌, length, Option, Some, None, Ok, Err, inl, inr, ap, refl, sym, subst, arith}
+use Rattle.std.specs.Prelude.{IfOk, Result, nat_lt, nat_le, slice_index_or}
 use Rattle.std.specs.List.{list_any}
 use Rattle.std.proofs.lemmas.Bool.{eq-eqb, and_parts, or_cases, or_left, or_right}
 use Rattle.std.proofs.lemmas.Bool.Decides.{nat_tests}
+use Rattle.ssh_encoding.specs.declared.out_of_memory.OutOfMemory.{OutOfMemory}
 use Rattle.sftp_model.specs.declared.flags.OpenFlags.{OpenFlags}
 use Rattle.sftp_model.specs.declared.request.Request.{Request}
 use Rattle.sftp_model.specs.declared.request.Request.TheVariants as request
@@ -21,6 +22,7 @@ use Rattle.sftp_calls.specs.FilePlans.{open_request}
 use Rattle.sftp_calls.specs.Moves.{handle_of}
 use Rattle.sftp_plan.specs.declared.next.Asked.TheVariants as asked
 use Rattle.sftp_plan.specs.declared.next.EndsBy.TheVariants as by
+use Rattle.sftp_plan.specs.declared.next.Next.{Next}
 use Rattle.sftp_plan.specs.declared.next.Next.TheVariants as step
 use Rattle.sftp_plan.specs.declared.next.Running.TheVariants as running
 use Rattle.sftp_plan.specs.Asking.{Asks, AsksOn, HasFile, HasGrant, opened_by}
@@ -79,6 +81,17 @@ read_asks place slot len file site at = record {
 -- the CLOSE of a grant that some slot had
 pub close_asks : (place grant : ℕ) (site : Site) → has_grant site grant ≡ true → Asks None place site (step.Ask (asked.Close grant) (running.Ending place by.Status))
 close_asks place grant site has = record { call = tt; named = inl has; awaits = refl; keeps = λ grant e. absurd cc; fits = λ answers y may. tt }
+
+-- what may go on with a call may begin one
+pub asks_first : (opened : Option ℕ) (place : ℕ) (site : Site) (n : Next) → AsksOn opened place site n → Asks opened place site n
+asks_first opened place site (step.Ask a r) asks = asks.0
+asks_first opened place site (step.Wait r) asks = asks
+asks_first opened place site (step.Done o) asks = tt
+
+-- of what is refused only for want of memory
+pub asks_first_if_ok : (opened : Option ℕ) (place : ℕ) (site : Site) (n : Result Next OutOfMemory) → IfOk n (AsksOn opened place site) → IfOk n (Asks opened place site)
+asks_first_if_ok opened place site (Ok n) asks = asks_first opened place site n asks
+asks_first_if_ok opened place site (Err e) asks = asks
 
 -- ---- how a call goes on
 

@@ -10,6 +10,7 @@ ghost use Rattle.sftp_plan.specs.Machines.{Begins};
 ghost use Rattle.sftp_plan.specs.Cancelling.{BeginsLeaving};
 ghost use Rattle.sftp_plan.specs.Sound.{CanMove, Keeps, Sounds};
 ghost use Rattle.sftp_plan.specs.Pending.{Fewer, Pends, pends_idle};
+ghost use Rattle.sftp_plan.specs.Asking.{Asks};
 
 use crate::next::{Asked, EndsBy, Next, Running};
 use crate::replies::{failure, refused, unsupported};
@@ -24,6 +25,7 @@ pub fn begin_set_len(slot: u8, n: u64, place: u64, site: &Site, facts: &Facts) -
     ensures left { BeginsLeaving (call.SetLen slot n) place site.now site.now facts.now result }
     ensures sound { Sounds [] facts.now site.now site.now result }
     ensures pends { Pends (pends_idle site.now) place site.now result }
+    ensures asks { Asks None place site.now result }
 {
     let Slot::File(file) = slot_of(site, slot) else {
         return Next::Done(Outcome::NoFile);
@@ -47,6 +49,7 @@ pub fn begin_set_perm(slot: u8, mode: u32, place: u64, site: &Site, facts: &Fact
     ensures left { BeginsLeaving (call.SetPerm slot mode) place site.now site.now facts.now result }
     ensures sound { Sounds [] facts.now site.now site.now result }
     ensures pends { Pends (pends_idle site.now) place site.now result }
+    ensures asks { Asks None place site.now result }
 {
     let Slot::File(file) = slot_of(site, slot) else {
         return Next::Done(Outcome::NoFile);
@@ -70,6 +73,7 @@ pub fn begin_meta(slot: u8, place: u64, site: &Site, facts: &Facts) -> Next
     ensures left { BeginsLeaving (call.Meta slot) place site.now site.now facts.now result }
     ensures sound { Sounds [] facts.now site.now site.now result }
     ensures pends { Pends (pends_idle site.now) place site.now result }
+    ensures asks { Asks None place site.now result }
 {
     let Slot::File(file) = slot_of(site, slot) else {
         return Next::Done(Outcome::NoFile);
@@ -91,6 +95,7 @@ pub fn begin_sync(slot: u8, place: u64, site: &Site, facts: &Facts) -> Next
     ensures left { BeginsLeaving (call.Sync slot) place site.now site.now facts.now result }
     ensures sound { Sounds [] facts.now site.now site.now result }
     ensures pends { Pends (pends_idle site.now) place site.now result }
+    ensures asks { Asks None place site.now result }
 {
     let Slot::File(file) = slot_of(site, slot) else {
         return Next::Done(Outcome::NoFile);
@@ -116,6 +121,7 @@ pub fn begin_copy(from: u8, to: u8, len: u64, place: u64, site: &Site, facts: &F
     ensures left { BeginsLeaving (call.Copy from to len) place site.now site.now facts.now result }
     ensures sound { Sounds [] facts.now site.now site.now result }
     ensures pends { Pends (pends_idle site.now) place site.now result }
+    ensures asks { Asks None place site.now result }
 {
     if from == to {
         return Next::Done(Outcome::NoFile);

@@ -9,7 +9,7 @@ ghost use Rattle.sftp_plan.specs.Machines.{Begins, Goes, after, content_after};
 ghost use Rattle.sftp_plan.specs.Cancelling.{AsksOffset, BeginsLeaving, Leaves, left_kept};
 ghost use Rattle.sftp_plan.specs.Sound.{CanMove, HasRoom, IsKept, Sounds};
 ghost use Rattle.sftp_plan.specs.Pending.{Pends, pends_after, pends_idle};
-ghost use Rattle.sftp_plan.specs.Asking.{AsksOn, HasGrant};
+ghost use Rattle.sftp_plan.specs.Asking.{Asks, AsksOn, HasGrant};
 
 use crate::next::{Asked, Next, Running};
 use crate::replies::{refused, status_refusal};
@@ -90,6 +90,7 @@ pub fn begin_read_all(
     ensures left { BeginsLeaving (call.ReadAll slot n) place site.now site.now facts.now result }
     ensures sound { Sounds [] facts.now site.now site.now result }
     ensures pends { Pends (pends_idle site.now) place site.now result }
+    ensures asks { Asks None place site.now result }
 {
     let Slot::File(file) = slot_of(site, slot) else {
         return Next::Done(Outcome::NoFile);

@@ -1,11 +1,12 @@
 //! Calls of one path or two. A relative path is joined to the working directory.
-ghost use Rattle.std.specs.Prelude.{◌≡◌, [], Some, IfOk};
+ghost use Rattle.std.specs.Prelude.{◌≡◌, [], Some, None, IfOk};
 ghost use Rattle.sftp_calls.specs.CallPlans as call;
 ghost use Rattle.sftp_calls.specs.PathPlans.{canonical_request, rename_request};
 ghost use Rattle.sftp_plan.specs.Machines.{Begins};
 ghost use Rattle.sftp_plan.specs.Cancelling.{BeginsLeaving};
 ghost use Rattle.sftp_plan.specs.Sound.{Sounds};
 ghost use Rattle.sftp_plan.specs.Pending.{Pends, pends_idle};
+ghost use Rattle.sftp_plan.specs.Asking.{Asks};
 
 use crate::next::{EndsBy, Next};
 use crate::replies::unsupported;
@@ -27,6 +28,7 @@ pub fn begin_stat(
         place site.now site.now facts.now) }
     ensures sound { IfOk result (Sounds [] facts.now site.now site.now) }
     ensures pends { IfOk result (Pends (pends_idle site.now) place site.now) }
+    ensures asks { IfOk result (Asks None place site.now) }
 {
     let path = site.directory.join(alloc, path)?;
     let request = Request::Stat { path };
@@ -46,6 +48,7 @@ pub fn begin_lstat(
         place site.now site.now facts.now) }
     ensures sound { IfOk result (Sounds [] facts.now site.now site.now) }
     ensures pends { IfOk result (Pends (pends_idle site.now) place site.now) }
+    ensures asks { IfOk result (Asks None place site.now) }
 {
     let path = site.directory.join(alloc, path)?;
     let request = Request::Lstat { path };
@@ -68,6 +71,7 @@ pub fn begin_set_stat(
         place site.now site.now facts.now) }
     ensures sound { IfOk result (Sounds [] facts.now site.now site.now) }
     ensures pends { IfOk result (Pends (pends_idle site.now) place site.now) }
+    ensures asks { IfOk result (Asks None place site.now) }
 {
     let path = site.directory.join(alloc, path)?;
     let request = Request::Setstat {
@@ -90,6 +94,7 @@ pub fn begin_remove(
         place site.now site.now facts.now) }
     ensures sound { IfOk result (Sounds [] facts.now site.now site.now) }
     ensures pends { IfOk result (Pends (pends_idle site.now) place site.now) }
+    ensures asks { IfOk result (Asks None place site.now) }
 {
     let path = site.directory.join(alloc, path)?;
     let request = Request::Remove { path };
@@ -109,6 +114,7 @@ pub fn begin_mkdir(
         place site.now site.now facts.now) }
     ensures sound { IfOk result (Sounds [] facts.now site.now site.now) }
     ensures pends { IfOk result (Pends (pends_idle site.now) place site.now) }
+    ensures asks { IfOk result (Asks None place site.now) }
 {
     let path = site.directory.join(alloc, path)?;
     let request = Request::Mkdir {
@@ -131,6 +137,7 @@ pub fn begin_rmdir(
         place site.now site.now facts.now) }
     ensures sound { IfOk result (Sounds [] facts.now site.now site.now) }
     ensures pends { IfOk result (Pends (pends_idle site.now) place site.now) }
+    ensures asks { IfOk result (Asks None place site.now) }
 {
     let path = site.directory.join(alloc, path)?;
     let request = Request::Rmdir { path };
@@ -150,6 +157,7 @@ pub fn begin_read_link(
         place site.now site.now facts.now) }
     ensures sound { IfOk result (Sounds [] facts.now site.now site.now) }
     ensures pends { IfOk result (Pends (pends_idle site.now) place site.now) }
+    ensures asks { IfOk result (Asks None place site.now) }
 {
     let path = site.directory.join(alloc, path)?;
     let request = Request::Readlink { path };
@@ -180,6 +188,7 @@ pub fn begin_canonicalize(
         place site.now site.now facts.now) }
     ensures sound { IfOk result (Sounds [] facts.now site.now site.now) }
     ensures pends { IfOk result (Pends (pends_idle site.now) place site.now) }
+    ensures asks { IfOk result (Asks None place site.now) }
 {
     let path = site.directory.join(alloc, path)?;
     let request = canonical_request(path, facts);
@@ -211,6 +220,7 @@ pub fn begin_rename(
         place site.now site.now facts.now) }
     ensures sound { IfOk result (Sounds [] facts.now site.now site.now) }
     ensures pends { IfOk result (Pends (pends_idle site.now) place site.now) }
+    ensures asks { IfOk result (Asks None place site.now) }
 {
     let old = site.directory.join(alloc, old)?;
     let to = site.directory.join(alloc, to)?;
@@ -233,6 +243,7 @@ pub fn begin_symlink(
         place site.now site.now facts.now) }
     ensures sound { IfOk result (Sounds [] facts.now site.now site.now) }
     ensures pends { IfOk result (Pends (pends_idle site.now) place site.now) }
+    ensures asks { IfOk result (Asks None place site.now) }
 {
     let src = site.directory.join(alloc, src)?;
     let dst = site.directory.join(alloc, dst)?;
@@ -255,6 +266,7 @@ pub fn begin_hard_link(
         place site.now site.now facts.now) }
     ensures sound { IfOk result (Sounds [] facts.now site.now site.now) }
     ensures pends { IfOk result (Pends (pends_idle site.now) place site.now) }
+    ensures asks { IfOk result (Asks None place site.now) }
 {
     if !offers(facts, Extensions::HARDLINK) {
         return Ok(Next::Done(unsupported(Extensions::HARDLINK)));

@@ -1,5 +1,5 @@
 //! Calls of one request that change no slot: the reply ends them.
-ghost use Rattle.std.specs.Prelude.{◌≡◌, [], Some, IfOk};
+ghost use Rattle.std.specs.Prelude.{◌≡◌, [], Some, None, IfOk};
 ghost use Rattle.sftp_model.specs.declared.slot.Move.TheVariants.{Done};
 ghost use Rattle.sftp_model.specs.declared.slot.Site.{Site as SiteValue};
 ghost use Rattle.sftp_calls.specs.Moves.{ask_path, by_reply, is_too_long, offers, told_by, done_by};
@@ -8,6 +8,7 @@ ghost use Rattle.sftp_plan.specs.Machines.{Goes, ended_by};
 ghost use Rattle.sftp_plan.specs.Cancelling.{Leaves};
 ghost use Rattle.sftp_plan.specs.Sound.{Sounds};
 ghost use Rattle.sftp_plan.specs.Pending.{Pends, pends_idle};
+ghost use Rattle.sftp_plan.specs.Asking.{Asks, IsPlain};
 
 use crate::next::{Asked, EndsBy, Next, Running};
 use crate::replies::{refused, status_refusal};
@@ -53,6 +54,7 @@ pub fn ask_path(request: Request, by: EndsBy, place: u64, site: &Site, facts: &F
     ensures left { Leaves (λ own answers. site.now) place [] site.now facts.now result }
     ensures sound { Sounds [] facts.now site.now site.now result }
     ensures pends { Pends (pends_idle site.now) place site.now result }
+    ensures asks { IsPlain request → Asks None place site.now result }
 {
     if is_too_long(&request) {
         return Next::Done(refused(IoKind::PathTooLong));

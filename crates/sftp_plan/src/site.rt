@@ -81,11 +81,11 @@ fn reading_in(slot: &Slot) -> Option<u64>
 pub fn holds_grant(site: &Site, grant: u64) -> bool
     ensures { result ≡ has_grant site.now grant }
 {
-    has_grant(site.slots.as_slice(), grant)
+    some_has(site.slots.as_slice(), grant)
 }
 
 /// Whether a slot has the grant of this place.
-fn slot_has(slot: &Slot, grant: u64) -> bool
+pub fn slot_has(slot: &Slot, grant: u64) -> bool
     ensures { result ≡ slot_has grant slot.now }
 {
     match slot {
@@ -96,7 +96,7 @@ fn slot_has(slot: &Slot, grant: u64) -> bool
 }
 
 /// Whether some of these slots has the grant of this place.
-fn has_grant(slots: &[Slot], grant: u64) -> bool
+pub fn some_has(slots: &[Slot], grant: u64) -> bool
     ensures { result ≡ list_any (slot_has grant) slots.now }
 {
     slots.iter().any(|slot| slot_has(slot, grant))

@@ -12,7 +12,7 @@ ghost use Rattle.sftp_plan.specs.Machines.{Begins, Goes, after};
 ghost use Rattle.sftp_plan.specs.Cancelling.{BeginsLeaving, Leaves};
 ghost use Rattle.sftp_plan.specs.Sound.{Sounds};
 ghost use Rattle.sftp_plan.specs.Pending.{Pends, pends_after, pends_idle};
-ghost use Rattle.sftp_plan.specs.Asking.{AsksOn, opened_after};
+ghost use Rattle.sftp_plan.specs.Asking.{Asks, AsksOn, opened_after};
 
 use crate::next::{Asked, Next, Running};
 use crate::opening::{open_request, opened_file};
@@ -57,6 +57,7 @@ pub fn begin_fs_write(
         place site.now site.now facts.now) }
     ensures sound { IfOk result (Sounds bytes.now facts.now site.now site.now) }
     ensures pends { IfOk result (Pends (pends_idle site.now) place site.now) }
+    ensures asks { IfOk result (Asks None place site.now) }
 {
     let path = site.directory.join(alloc, path)?;
     let request = open_request(path, to_replace());
@@ -113,6 +114,7 @@ pub fn begin_list(
         place site.now site.now facts.now) }
     ensures sound { IfOk result (Sounds [] facts.now site.now site.now) }
     ensures pends { IfOk result (Pends (pends_idle site.now) place site.now) }
+    ensures asks { IfOk result (Asks None place site.now) }
 {
     let path = site.directory.join(alloc, path)?;
     let request = Request::Opendir { path };

@@ -10,7 +10,7 @@ ghost use Rattle.sftp_plan.specs.Machines.{Begins, Goes, after, keep_in};
 ghost use Rattle.sftp_plan.specs.Cancelling.{AsksOffset, BeginsLeaving, Leaves, left_kept};
 ghost use Rattle.sftp_plan.specs.Sound.{CanMove, HasSlot, IsKept, Keeps, Sounds};
 ghost use Rattle.sftp_plan.specs.Pending.{Fewer, Pends, pends_after, pends_idle};
-ghost use Rattle.sftp_plan.specs.Asking.{AsksOn, HasFile, opened_after};
+ghost use Rattle.sftp_plan.specs.Asking.{Asks, AsksOn, HasFile, opened_after};
 
 use crate::next::{Asked, Next, Running};
 use crate::replies::{failure, refused};
@@ -45,6 +45,7 @@ pub fn begin_write(
         place site.now site.now facts.now) }
     ensures sound { IfOk result (Sounds bytes.now facts.now site.now site.now) }
     ensures pends { IfOk result (Pends (pends_idle site.now) place site.now) }
+    ensures asks { IfOk result (Asks None place site.now) }
 {
     let Slot::File(file) = slot_of(site, slot) else {
         return Ok(Next::Done(Outcome::NoFile));
@@ -169,6 +170,7 @@ pub fn begin_write_all(
         place site.now site.now facts.now) }
     ensures sound { IfOk result (Sounds bytes.now facts.now site.now site.now) }
     ensures pends { IfOk result (Pends (pends_idle site.now) place site.now) }
+    ensures asks { IfOk result (Asks None place site.now) }
 {
     let Slot::File(file) = slot_of(site, slot) else {
         return Ok(Next::Done(Outcome::NoFile));
@@ -193,6 +195,7 @@ pub fn begin_write_parts(
         place site.now site.now facts.now) }
     ensures sound { IfOk result (Sounds bytes.now facts.now site.now site.now) }
     ensures pends { IfOk result (Pends (pends_idle site.now) place site.now) }
+    ensures asks { IfOk result (Asks None place site.now) }
 {
     begin_write_all(alloc, slot, bytes, place, site, facts)
 }

@@ -37,7 +37,7 @@ use Rattle.sftp_history.proofs.ClosedLaws.{IsClosing, closing, gone_loose, lane_
 use Rattle.sftp_history.proofs.GrantLaws.{any_passes, below_none, first_passes}
 use Rattle.sftp_history.proofs.HolderLaws.{may_of, own_asked, slots_owned}
 use Rattle.sftp_history.proofs.LetGoLaws.{granted_below}
-use Rattle.sftp_history.proofs.PlannedLaws.{AsksClose, asks_close, planned_fits}
+use Rattle.sftp_history.proofs.PlannedLaws.{AsksClose, asks_close}
 use Rattle.sftp_read_back.specs.Bearing.{Bears, BearsGrant, MayUse, brought, held_with, used_in}
 
 -- ---- handles
@@ -60,8 +60,7 @@ grant_came (Some other) h is e = absurd cc
 -- no call of a lane is a whole read, which alone might ask past the range
 planned_within : (c : Call) (site : Site) (facts : Facts) (own : Own) (answers : Answers) → WithinRange (planned c) site facts own answers
 planned_within (call.OpenFile slot flags path) site facts own answers = tt
-planned_within (call.Read slot n) site facts own answers = tt
-planned_within (call.Close slot) site facts own answers = tt
+planned_within other site facts own answers = tt
 
 -- a request that may be asked bears a handle that is held, unless it is a CLOSE
 good_bears : (t : Situation) (r : Request) (h : List ℕ) → is_close r ≡ false → IsGoodAsk t r → Bears r h → IsHeldHandle t h
@@ -116,7 +115,7 @@ held_handle s past lane n id r h j plain b = by_call (current s past lane) refl 
     by_call (Some c) at is =
         let asks : next c (site_of s past lane) s.facts mine (answer past) ≡ Ask r = cc is in
         let w = good_bears (situation (planned c) (site_of s past lane) s.facts mine (answer past)) r h plain
-        (asks_good (planned c) (site_of s past lane) s.facts mine (answer past) r (planned_fits c) (planned_within c (site_of s past lane) s.facts mine (answer past)) asks) b
+        (asks_good (planned c) (site_of s past lane) s.facts mine (answer past) r (planned_within c (site_of s past lane) s.facts mine (answer past)) asks) b
         in (
           w.grant,
           elim w.held [

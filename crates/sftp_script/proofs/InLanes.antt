@@ -1,26 +1,52 @@
--- A call where there is a lane, and where there is none.
-use Rattle.std.proofs.Common.{◌≡◌, ◌≢◌, ◌∷◌, [], List, refl, ap}
-use Rattle.std.specs.Prelude.{Result, Ok, Err}
+-- A line of a call where there is a lane, and where there is none.
+use Rattle.std.proofs.Common.{◌≡◌, ◌≢◌, ◌∷◌, [], List, true, false, refl}
+use Rattle.std.specs.Prelude.{Option, Some, None, Result, Ok, Err, is_some}
+use Rattle.ssh_encoding.specs.Reading.{◌>>=◌}
 use Rattle.sftp_history.specs.declared.call.Call.{Call}
 use Rattle.sftp_history.specs.declared.call.Lane.{Lane}
 use Rattle.sftp_history.specs.declared.reason.Reason.{Reason}
 use Rattle.sftp_history.specs.declared.reason.Reason.TheVariants as reason
 use Rattle.sftp_script.specs.declared.error.LineError.{LineError}
 use Rattle.sftp_script.specs.declared.error.LineError.TheVariants as line
-use Rattle.sftp_script.specs.Refusals.{Refuses}
-use Rattle.sftp_history.specs.Scripts.{Draft, in_lane, with_call}
+use Rattle.sftp_script.specs.Refusals.{Refuses, RefusesCall}
+use Rattle.sftp_history.specs.Lines.{map_ok}
+use Rattle.sftp_history.specs.Scripts.{Draft, call_line, in_lane, or_else, with_call}
 
-pub no_lane : (d : Draft) (lanes : List Lane) (read : Result Call Reason) → lanes ≡ [] → in_lane d lanes read ≡ Err reason.Lane
-no_lane d lanes read none = ap (λ (l : List Lane). in_lane d l read) none
+-- fields that are refused refuse their call
+pub fields_refuse : {A B : Type 0} (f : A → B) (read : Result A Reason) (e : LineError) → Refuses read e → Refuses (map_ok f read) e
+fields_refuse f read line.OutOfMemory refused = tt
+fields_refuse f read (line.Refused why) refused = rw refused refl
 
-pub lane_refused : (d : Draft) (lanes : List Lane) (read : Result Call Reason) (why : Reason) → lanes ≢ [] → read ≡ Err why → in_lane d lanes read ≡ Err why
-lane_refused d [] read why some e = absurd (some refl)
-lane_refused d (lane ∷ lanes) read why some e = rw e refl
+-- what is refused is a call
+pub refused_call : (read : Option (Result Call Reason)) (e : LineError) → RefusesCall read e → is_some read ≡ true
+refused_call None e refused = absurd refused
+refused_call (Some read) e refused = refl
 
-pub lane_read : (d : Draft) (lanes : List Lane) (read : Result Call Reason) (c : Call) → lanes ≢ [] → read ≡ Ok c → in_lane d lanes read ≡ Ok (with_call d c)
-lane_read d [] read c some e = absurd (some refl)
-lane_read d (lane ∷ lanes) read c some e = rw e refl
+-- the one of two tables that refuses
+pub first_refuses : (first second : Option (Result Call Reason)) (e : LineError) → RefusesCall first e → RefusesCall (or_else first second) e
+first_refuses None second e refused = absurd refused
+first_refuses (Some read) second e refused = refused
 
-pub lane_refuses : (d : Draft) (lanes : List Lane) (read : Result Call Reason) (e : LineError) → lanes ≢ [] → Refuses read e → Refuses (in_lane d lanes read) e
-lane_refuses d lanes read line.OutOfMemory some refused = tt
-lane_refuses d lanes read (line.Refused why) some refused = lane_refused d lanes read why some refused
+-- ---- without a lane
+
+pub no_lane : (d : Draft) (read : Option (Result Call Reason)) → d.script.lanes ≡ [] → is_some read ≡ true → call_line d read ≡ Err reason.Lane
+no_lane d None none is = absurd cc
+no_lane d (Some read) none is = rw none refl
+
+pub no_call : (d : Draft) (read : Option (Result Call Reason)) → is_some read ≡ false → call_line d read ≡ Err reason.Word
+no_call d None is = refl
+no_call d (Some read) is = absurd cc
+
+-- ---- in a lane
+
+in_some : (d : Draft) (lanes : List Lane) (read : Result Call Reason) → lanes ≢ [] → in_lane d lanes read ≡ (read >>= λ c. Ok (with_call d c))
+in_some d [] read some = absurd (some refl)
+in_some d (lane ∷ lanes) read some = refl
+
+pub call_read : (d : Draft) (read : Option (Result Call Reason)) (c : Call) → d.script.lanes ≢ [] → read ≡ Some (Ok c) → call_line d read ≡ Ok (with_call d c)
+call_read d read c some e = rw (e, in_some d d.script.lanes (Ok c) some) refl
+
+pub call_refuses : (d : Draft) (read : Option (Result Call Reason)) (e : LineError) → d.script.lanes ≢ [] → RefusesCall read e → Refuses (call_line d read) e
+call_refuses d None e some refused = absurd refused
+call_refuses d (Some read) line.OutOfMemory some refused = tt
+call_refuses d (Some read) (line.Refused why) some refused = rw (in_some d d.script.lanes read some, refused) refl

@@ -1,5 +1,5 @@
 -- What each line of a script keeps, the whole script keeps.
-use Rattle.std.proofs.Common.{◌≡◌, ℕ, ◌+◌, Bool, true, false, List, [], ◌∷◌, Result, Ok, Err, if◌then◌else◌, refl, subst}
+use Rattle.std.proofs.Common.{◌≡◌, ℕ, ◌+◌, Bool, true, false, List, [], ◌∷◌, Option, Some, None, Result, Ok, Err, if◌then◌else◌, refl, subst}
 use Rattle.std.specs.Prelude.{nat_lt, length, codes}
 use Rattle.std.specs.Str.{bytes_eq}
 use Rattle.ssh_encoding.specs.Reading.{◌>>=◌}
@@ -13,7 +13,7 @@ use Rattle.sftp_history.specs.declared.reason.Reason.TheVariants as reason
 use Rattle.sftp_history.specs.declared.script.Script.{Script}
 use Rattle.sftp_history.specs.declared.turn.Turn.{Turn}
 use Rattle.sftp_history.specs.Lines.{lines_of, words_of, is_comment, number_in}
-use Rattle.sftp_history.specs.Scripts.{Draft, empty_script, no_word, one_word, two_words, four_words, unless_said, greatest_u32, refusal_in, option_line, server_line, file_line, dir_line, choice_line, pick_line, in_lane, lane_turn, line_by, line_of, read_line, go_on, read_lines, MAX_SCRIPT_LEN, script_of}
+use Rattle.sftp_history.specs.Scripts.{Draft, empty_script, no_word, one_word, two_words, four_words, unless_said, greatest_u32, refusal_in, option_line, server_line, file_line, dir_line, choice_line, pick_line, in_lane, call_in, call_line, lane_turn, line_by, line_of, read_line, go_on, read_lines, MAX_SCRIPT_LEN, script_of}
 
 -- a fact of what choices, picks, lanes and turns leave alone
 abbrev pub Fact : Type 1
@@ -78,6 +78,10 @@ lane_keeps : {F : Fact} (d : Draft) (lanes : List Lane) (read : Result Call Reas
 lane_keeps d [] read k = record { is = tt }
 lane_keeps d (lane ∷ lanes) read k = bind_keeps read _ (λ c e. record { is = k })
 
+call_keeps : {F : Fact} (d : Draft) (read : Option (Result Call Reason)) → Holds F d.script → Keeps F (call_line d read)
+call_keeps d None k = record { is = tt }
+call_keeps d (Some read) k = lane_keeps d d.script.lanes read k
+
 turn_keeps : {F : Fact} (d : Draft) (of_lane : ℕ → Turn) (word : List ℕ) → Holds F d.script → Keeps F (lane_turn d of_lane word)
 turn_keeps d of_lane word k = bind_keeps (number_in 0 greatest_u32 word) _ (λ n e. record { is = k })
 
@@ -96,9 +100,7 @@ line_keeps by d word words k =
     (if_keeps (bytes_eq word (codes "cancel")) _ _ (one_keeps _ words (λ a. turn_keeps d _ a k))
     (if_keeps (bytes_eq word (codes "flush")) _ _ (no_keeps _ words k)
     (if_keeps (bytes_eq word (codes "take")) _ _ (no_keeps _ words k)
-    (if_keeps (bytes_eq word (codes "open")) _ _ (lane_keeps d d.script.lanes _ k)
-    (if_keeps (bytes_eq word (codes "read")) _ _ (lane_keeps d d.script.lanes _ k)
-    (if_keeps (bytes_eq word (codes "close")) _ _ (lane_keeps d d.script.lanes _ k) (record { is = tt }))))))))))))))
+    (call_keeps d (call_in word words) k)))))))))))
 
 words_keep : {F : Fact} → KeptByLines F → (d : Draft) (words : List (List ℕ)) → Holds F d.script → Keeps F (line_of d words)
 words_keep by d [] k = record { is = k }

@@ -1,5 +1,6 @@
 -- What an error says of the reading that it stands for.
-use Rattle.std.specs.Prelude.{ℕ, ◌≡◌, ⊤, Result, Err}
+use Rattle.std.specs.Prelude.{ℕ, ◌≡◌, ⊤, Option, None, Some, Result, Err}
+use Rattle.sftp_history.specs.declared.call.Call.{Call}
 use Rattle.sftp_history.specs.declared.reason.Reason.{Reason}
 use Rattle.sftp_history.specs.declared.script.Script.{Script}
 use Rattle.sftp_script.specs.declared.error.LineError.{LineError}
@@ -11,6 +12,11 @@ use Rattle.sftp_script.specs.declared.error.ScriptError.TheVariants as script
 abbrev pub Refuses : {A : Type 0} → Result A Reason → LineError → Type 0
 Refuses reading line.OutOfMemory = ⊤
 Refuses reading (line.Refused why) = reading ≡ Err why
+
+-- the same of a call, where the line is one
+abbrev pub RefusesCall : Option (Result Call Reason) → LineError → Type 0
+RefusesCall None e = ⊥
+RefusesCall (Some reading) e = Refuses reading e
 
 -- the same of a whole script, where a line's number stands beside the reason
 abbrev pub RefusesScript : Result Script (ℕ × Reason) → ScriptError → Type 0

@@ -1,109 +1,219 @@
 // The lines of calls.
-ghost use Rattle.std.specs.Prelude.{◌≡◌, Ok, IfOk, OnOk, IfErr, MatchResult, Err};
+ghost use Rattle.std.specs.Prelude.{◌≡◌, Ok, IfOk, OnOk, IfErr, is_some};
+ghost use Rattle.std.specs.Option.{option_map};
 ghost use Rattle.sftp_history.specs.Lines.{words_of};
-ghost use Rattle.sftp_history.specs.Scripts.{in_lane, open_call, read_call, close_call, one_word, two_words, three_words};
-ghost use Rattle.sftp_script.specs.Refusals.{Refuses};
+ghost use Rattle.sftp_history.specs.Scripts.{call_in, call_line, path_call, slot_call};
+ghost use Rattle.sftp_script.specs.Refusals.{Refuses, RefusesCall};
 
 use crate::draft::Draft;
 use crate::error::LineError;
-use crate::flags::flags_in;
-use crate::hex::bytes_in;
-use crate::number::{number_from, slot_in};
-use crate::words::{one_word, three_words, two_words};
+use crate::shapes::{
+    one_slot, one_text, slot_and_bytes, slot_and_long, slot_and_mode, slot_and_number,
+    slot_and_position, slot_flags_and_path, text_and_bound, text_size_and_mode, two_slots,
+    two_slots_and_number, two_texts,
+};
 use sftp_history::{Call, Reason};
 use std::alloc::Global;
 
-/// Opens the file at a path.
-fn open_file(alloc: Global, slot: &[u8], flags: &[u8], path: &[u8]) -> Result<Call, LineError>
-    ensures ok { IfOk result (λ call. open_call slot.now flags.now path.now ≡ Ok call) }
-    ensures refused { IfErr result (λ e. Refuses (open_call slot.now flags.now path.now) e) }
+const OPEN: &[u8] = b"open";
+
+const READ: &[u8] = b"read";
+
+const READ_ALL: &[u8] = b"read_all";
+
+const WRITE: &[u8] = b"write";
+
+const WRITE_ALL: &[u8] = b"write_all";
+
+const SEEK: &[u8] = b"seek";
+
+const SET_LEN: &[u8] = b"set_len";
+
+const SET_PERM: &[u8] = b"set_perm";
+
+const META: &[u8] = b"meta";
+
+const SYNC: &[u8] = b"sync";
+
+const COPY: &[u8] = b"copy";
+
+const CLONE: &[u8] = b"clone";
+
+const CLOSE: &[u8] = b"close";
+
+const FS_WRITE: &[u8] = b"fs_write";
+
+const LIST: &[u8] = b"list";
+
+const STAT: &[u8] = b"stat";
+
+const LSTAT: &[u8] = b"lstat";
+
+const SET_STAT: &[u8] = b"set_stat";
+
+const REMOVE: &[u8] = b"remove";
+
+const MKDIR: &[u8] = b"mkdir";
+
+const RMDIR: &[u8] = b"rmdir";
+
+const RENAME: &[u8] = b"rename";
+
+const HARD_LINK: &[u8] = b"hard_link";
+
+const SYMLINK: &[u8] = b"symlink";
+
+const READ_LINK: &[u8] = b"read_link";
+
+const CANONICALIZE: &[u8] = b"canonicalize";
+
+const CWD: &[u8] = b"cwd";
+
+/// A call on a slot, by the first word and the words behind it.
+#[tactic(auto, using(crate::proofs::InLanes::fields_refuse))]
+fn slot_call(alloc: Global, word: &[u8], line: &[u8]) -> Result<Option<Call>, LineError>
+    ensures ok { IfOk result (λ call. slot_call word.now (words_of line.now) ≡ option_map (λ c. Ok c) call) }
+    ensures refused { IfErr result (λ e. RefusesCall (slot_call word.now (words_of line.now)) e) }
 {
-    let slot = slot_in(slot)?;
-    let flags = flags_in(flags)?;
-    let path = bytes_in(alloc, path)?;
-    Ok(Call::OpenFile { slot, flags, path })
+    if word == OPEN {
+        let (slot, flags, path) = slot_flags_and_path(alloc, line)?;
+        Ok(Some(Call::OpenFile { slot, flags, path }))
+    } else if word == READ {
+        let (slot, n) = slot_and_number(line)?;
+        Ok(Some(Call::Read { slot, n }))
+    } else if word == READ_ALL {
+        let (slot, n) = slot_and_number(line)?;
+        Ok(Some(Call::ReadAll { slot, n }))
+    } else if word == WRITE {
+        let (slot, bytes) = slot_and_bytes(alloc, line)?;
+        Ok(Some(Call::Write { slot, bytes }))
+    } else if word == WRITE_ALL {
+        let (slot, bytes) = slot_and_bytes(alloc, line)?;
+        Ok(Some(Call::WriteAll { slot, bytes }))
+    } else if word == SEEK {
+        let (slot, position) = slot_and_position(line)?;
+        Ok(Some(Call::Seek { slot, position }))
+    } else if word == SET_LEN {
+        let (slot, n) = slot_and_long(line)?;
+        Ok(Some(Call::SetLen { slot, n }))
+    } else if word == SET_PERM {
+        let (slot, perm) = slot_and_mode(line)?;
+        Ok(Some(Call::SetPerm { slot, perm }))
+    } else if word == META {
+        let slot = one_slot(line)?;
+        Ok(Some(Call::Meta { slot }))
+    } else if word == SYNC {
+        let slot = one_slot(line)?;
+        Ok(Some(Call::Sync { slot }))
+    } else if word == COPY {
+        let (from, to, n) = two_slots_and_number(line)?;
+        Ok(Some(Call::Copy { from, to, n }))
+    } else if word == CLONE {
+        let (from, to) = two_slots(line)?;
+        Ok(Some(Call::CloneFile { from, to }))
+    } else if word == CLOSE {
+        let slot = one_slot(line)?;
+        Ok(Some(Call::Close { slot }))
+    } else {
+        Ok(None)
+    }
 }
 
-/// Reads from a slot's file.
-fn read_file(slot: &[u8], n: &[u8]) -> Result<Call, Reason>
-    ensures { MatchResult result (λ call. read_call slot.now n.now ≡ Ok call) (λ e. read_call slot.now n.now ≡ Err e) }
+/// A call on a path or two, by the first word and the words behind it.
+#[tactic(auto, using(crate::proofs::InLanes::fields_refuse))]
+fn path_call(alloc: Global, word: &[u8], line: &[u8]) -> Result<Option<Call>, LineError>
+    ensures ok { IfOk result (λ call. path_call word.now (words_of line.now) ≡ option_map (λ c. Ok c) call) }
+    ensures refused { IfErr result (λ e. RefusesCall (path_call word.now (words_of line.now)) e) }
 {
-    let slot = slot_in(slot)?;
-    let n = number_from(0, n)?;
-    Ok(Call::Read { slot, n })
+    if word == FS_WRITE {
+        let (path, bytes) = two_texts(alloc, line)?;
+        Ok(Some(Call::FsWrite { path, bytes }))
+    } else if word == LIST {
+        let (path, bound) = text_and_bound(alloc, line)?;
+        Ok(Some(Call::List { path, bound }))
+    } else if word == STAT {
+        let path = one_text(alloc, line)?;
+        Ok(Some(Call::Stat { path }))
+    } else if word == LSTAT {
+        let path = one_text(alloc, line)?;
+        Ok(Some(Call::Lstat { path }))
+    } else if word == SET_STAT {
+        let (path, size, perm) = text_size_and_mode(alloc, line)?;
+        Ok(Some(Call::SetStat { path, size, perm }))
+    } else if word == REMOVE {
+        let path = one_text(alloc, line)?;
+        Ok(Some(Call::Remove { path }))
+    } else if word == MKDIR {
+        let path = one_text(alloc, line)?;
+        Ok(Some(Call::Mkdir { path }))
+    } else if word == RMDIR {
+        let path = one_text(alloc, line)?;
+        Ok(Some(Call::Rmdir { path }))
+    } else if word == RENAME {
+        let (old, to) = two_texts(alloc, line)?;
+        Ok(Some(Call::Rename { old, to }))
+    } else if word == HARD_LINK {
+        let (old, to) = two_texts(alloc, line)?;
+        Ok(Some(Call::HardLink { old, to }))
+    } else if word == SYMLINK {
+        let (src, dst) = two_texts(alloc, line)?;
+        Ok(Some(Call::Symlink { src, dst }))
+    } else if word == READ_LINK {
+        let path = one_text(alloc, line)?;
+        Ok(Some(Call::ReadLink { path }))
+    } else if word == CANONICALIZE {
+        let path = one_text(alloc, line)?;
+        Ok(Some(Call::Canonicalize { path }))
+    } else if word == CWD {
+        let path = one_text(alloc, line)?;
+        Ok(Some(Call::Cwd { path }))
+    } else {
+        Ok(None)
+    }
 }
 
-/// The words behind `open`.
-#[tactic(auto, using(crate::proofs::Counts::not_three))]
-fn open_call(alloc: Global, line: &[u8]) -> Result<Call, LineError>
-    ensures ok { IfOk result (λ call. three_words open_call (words_of line.now) ≡ Ok call) }
-    ensures refused { IfErr result (λ e. Refuses (three_words open_call (words_of line.now)) e) }
+/// A call, by the first word and the words behind it.
+#[tactic(auto, using(crate::proofs::InLanes::first_refuses))]
+fn call_in(alloc: Global, word: &[u8], line: &[u8]) -> Result<Option<Call>, LineError>
+    ensures ok { IfOk result (λ call. call_in word.now (words_of line.now) ≡ option_map (λ c. Ok c) call) }
+    ensures refused { IfErr result (λ e. RefusesCall (call_in word.now (words_of line.now)) e) }
 {
-    let (slot, flags, path) = three_words(line)?;
-    open_file(alloc, slot, flags, path)
+    match slot_call(alloc, word, line)? {
+        Some(call) => Ok(Some(call)),
+        None => path_call(alloc, word, line),
+    }
 }
 
-/// The words behind `read`.
-#[tactic(auto, using(crate::proofs::Counts::not_two))]
-fn read_call(line: &[u8]) -> Result<Call, Reason>
-    ensures { MatchResult result (λ call. two_words read_call (words_of line.now) ≡ Ok call) (λ e. two_words read_call (words_of line.now) ≡ Err e) }
+/// Whether a line is a call.
+#[tactic(auto, using(crate::proofs::InLanes::refused_call))]
+fn is_call(alloc: Global, word: &[u8], line: &[u8]) -> bool
+    ensures { result ≡ is_some (call_in word.now (words_of line.now)) }
 {
-    let (slot, n) = two_words(line)?;
-    read_file(slot, n)
+    match call_in(alloc, word, line) {
+        Ok(call) => call.is_some(),
+        Err(_) => true,
+    }
 }
 
-/// The word behind `close`.
-#[tactic(auto, using(crate::proofs::Counts::not_one))]
-fn close_call(line: &[u8]) -> Result<Call, Reason>
-    ensures { MatchResult result (λ call. one_word close_call (words_of line.now) ≡ Ok call) (λ e. one_word close_call (words_of line.now) ≡ Err e) }
+/// A line of a call, in the lane begun last.
+#[tactic(auto, using(crate::proofs::InLanes::no_lane, crate::proofs::InLanes::no_call, crate::proofs::InLanes::call_read, crate::proofs::InLanes::call_refuses))]
+pub(crate) fn call_line(
+    alloc: Global,
+    draft: &mut Draft,
+    word: &[u8],
+    line: &[u8],
+) -> Result<(), LineError>
+    ensures ok { OnOk result (call_line draft.old (call_in word.now (words_of line.now)) ≡ Ok draft.new) }
+    ensures refused { IfErr result (λ e. Refuses (call_line draft.old (call_in word.now (words_of line.now))) e) }
 {
-    let word = one_word(line)?;
-    let slot = slot_in(word)?;
-    Ok(Call::Close { slot })
-}
-
-/// A line of `open`, in the lane begun last.
-#[tactic(auto, using(crate::proofs::InLanes::no_lane, crate::proofs::InLanes::lane_refused, crate::proofs::InLanes::lane_read, crate::proofs::InLanes::lane_refuses))]
-pub(crate) fn open_line(alloc: Global, draft: &mut Draft, line: &[u8]) -> Result<(), LineError>
-    ensures ok { OnOk result (in_lane draft.old draft.old.script.lanes (three_words open_call (words_of line.now)) ≡ Ok draft.new) }
-    ensures refused { IfErr result (λ e. Refuses (in_lane draft.old draft.old.script.lanes (three_words open_call (words_of line.now))) e) }
-{
-    if draft.has_no_lane() {
+    if draft.has_no_lane() && is_call(alloc, word, line) {
         return Err(LineError::Refused(Reason::Lane));
     }
-    match open_call(alloc, line) {
-        Ok(call) => {
+    match call_in(alloc, word, line)? {
+        Some(call) => {
             draft.add_call(call)?;
             Ok(())
         }
-        Err(e) => Err(e),
+        None => Err(LineError::Refused(Reason::Word)),
     }
-}
-
-/// A line of `read`, in the lane begun last.
-#[tactic(auto, using(crate::proofs::InLanes::no_lane, crate::proofs::InLanes::lane_refused, crate::proofs::InLanes::lane_read))]
-pub(crate) fn read_file_line(draft: &mut Draft, line: &[u8]) -> Result<(), LineError>
-    ensures ok { OnOk result (in_lane draft.old draft.old.script.lanes (two_words read_call (words_of line.now)) ≡ Ok draft.new) }
-    ensures refused { IfErr result (λ e. Refuses (in_lane draft.old draft.old.script.lanes (two_words read_call (words_of line.now))) e) }
-{
-    if draft.has_no_lane() {
-        return Err(LineError::Refused(Reason::Lane));
-    }
-    let call = read_call(line)?;
-    draft.add_call(call)?;
-    Ok(())
-}
-
-/// A line of `close`, in the lane begun last.
-#[tactic(auto, using(crate::proofs::InLanes::no_lane, crate::proofs::InLanes::lane_refused, crate::proofs::InLanes::lane_read))]
-pub(crate) fn close_line(draft: &mut Draft, line: &[u8]) -> Result<(), LineError>
-    ensures ok { OnOk result (in_lane draft.old draft.old.script.lanes (one_word close_call (words_of line.now)) ≡ Ok draft.new) }
-    ensures refused { IfErr result (λ e. Refuses (in_lane draft.old draft.old.script.lanes (one_word close_call (words_of line.now))) e) }
-{
-    if draft.has_no_lane() {
-        return Err(LineError::Refused(Reason::Lane));
-    }
-    let call = close_call(line)?;
-    draft.add_call(call)?;
-    Ok(())
 }

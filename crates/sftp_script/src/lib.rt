@@ -12,8 +12,10 @@ mod lines;
 mod names;
 mod number;
 mod options;
+mod position;
 mod script;
 mod server;
+mod shapes;
 mod words;
 
 pub use error::ScriptError;

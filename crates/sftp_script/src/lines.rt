@@ -6,7 +6,7 @@ ghost use Rattle.sftp_history.specs.Scripts.{path_in, content_in, may_add, file_
 ghost use Rattle.sftp_tree.specs.Components.{components};
 ghost use Rattle.sftp_script.specs.Refusals.{Refuses};
 
-use crate::calls::{close_line, open_line, read_file_line};
+use crate::calls::call_line;
 use crate::draft::Draft;
 use crate::error::LineError;
 use crate::hex::bytes_in;
@@ -42,12 +42,6 @@ const CANCEL: &[u8] = b"cancel";
 const FLUSH: &[u8] = b"flush";
 
 const TAKE: &[u8] = b"take";
-
-const OPEN: &[u8] = b"open";
-
-const READ: &[u8] = b"read";
-
-const CLOSE: &[u8] = b"close";
 
 /// A path of a name that may be there, and the name.
 fn path_in(alloc: Global, word: &[u8]) -> Result<(ByteText, Items<ByteText>), LineError>
@@ -241,14 +235,8 @@ fn line_by(alloc: Global, draft: &mut Draft, word: &[u8], line: &[u8]) -> Result
         turn_line(draft, Turn::Flush, line)
     } else if word == TAKE {
         turn_line(draft, Turn::Take, line)
-    } else if word == OPEN {
-        open_line(alloc, draft, line)
-    } else if word == READ {
-        read_file_line(draft, line)
-    } else if word == CLOSE {
-        close_line(draft, line)
     } else {
-        Err(LineError::Refused(Reason::Word))
+        call_line(alloc, draft, word, line)
     }
 }
 

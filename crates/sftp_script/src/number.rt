@@ -1,9 +1,10 @@
 // Numbers in decimal digits.
 ghost use Rattle.std.specs.Prelude.{◌≡◌, ◌≤◌, ◌^◌, min, IfOk};
 ghost use Rattle.std.specs.Option.{option_map};
-ghost use Rattle.sftp_history.specs.Lines.{number_of, number_in};
-ghost use Rattle.sftp_history.specs.Scripts.{greatest_u32, slot_in};
+ghost use Rattle.sftp_history.specs.Lines.{minus, number_of, number_in, signed_in};
+ghost use Rattle.sftp_history.specs.Scripts.{greatest_u32, mode_in, number_u64, slot_in, some_in};
 
+use crate::hex::NOTHING;
 use sftp_history::Reason;
 
 /// A number over each range of 64 bits, which stands for all that are as great or greater.
@@ -60,4 +61,57 @@ pub(crate) fn slot_in(word: &[u8]) -> Result<u8, Reason>
 {
     let n = number_in(0, 15, word)?;
     Ok(n as u8)
+}
+
+/// The bits of a mode.
+pub(crate) fn mode_in(word: &[u8]) -> Result<u16, Reason>
+    ensures { result ≡ mode_in word.now }
+{
+    let n = number_in(0, u64::from(u16::MAX), word)?;
+    Ok(n as u16)
+}
+
+/// A number below 0, or 0.
+fn minus(n: u64) -> i64
+    requires { n ≤ 2 ^ 63 }
+    ensures { result ≡ minus n }
+{
+    if n == 0 { 0 } else { -((n - 1) as i64) - 1 }
+}
+
+/// A number of 64 bits that `-` may lead.
+pub(crate) fn signed_in(word: &[u8]) -> Result<i64, Reason>
+    ensures { result ≡ signed_in word.now }
+{
+    match word {
+        [] => Err(Reason::Number),
+        [b'-', digits @ ..] => {
+            let n = number_in(0, 1 << 63, digits)?;
+            Ok(minus(n))
+        }
+        _ => {
+            let n = number_in(0, i64::MAX as u64, word)?;
+            Ok(n as i64)
+        }
+    }
+}
+
+/// A size, or none.
+pub(crate) fn some_size_in(word: &[u8]) -> Result<Option<u64>, Reason>
+    ensures { result ≡ some_in number_u64 word.now }
+{
+    if word == NOTHING {
+        return Ok(None);
+    }
+    Ok(Some(number_in(0, u64::MAX, word)?))
+}
+
+/// The bits of a mode, or none.
+pub(crate) fn some_mode_in(word: &[u8]) -> Result<Option<u16>, Reason>
+    ensures { result ≡ some_in mode_in word.now }
+{
+    if word == NOTHING {
+        return Ok(None);
+    }
+    Ok(Some(mode_in(word)?))
 }

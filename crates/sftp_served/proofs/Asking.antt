@@ -26,6 +26,8 @@ use Rattle.sftp_history.specs.Calls.{Setting, planned, next, current, site_of, m
 use Rattle.sftp_history.specs.Journals.{IsJournal}
 use Rattle.sftp_history.proofs.CallsSoFar.{calls_so_far}
 use Rattle.sftp_history.proofs.PlannedLaws.{planned_fits}
+use Rattle.sftp_history.proofs.WithinLaws.{calls_ok, current_within}
+use Rattle.sftp_history.specs.Lanes.{are_ok}
 
 -- neither the hello nor the query for limits
 abbrev pub IsOrdinary : Request → Type 0
@@ -97,8 +99,8 @@ closes_fit : (c : plan.Call) (site : Site) (requests : Own) (answers : Answers) 
 closes_fit (plan.Close slot) site requests answers f handle c = subst FitsHandle (sym c.bears) (f c.grant)
 closes_fit other site requests answers f handle c = absurd c
 
-situation_fits : (c : plan.Call) (site : Site) (facts : Facts) (requests : Own) (answers : Answers) → LensFit facts → HandlesFit answers → FitsSituation (situation c site facts requests answers)
-situation_fits c site facts requests answers k f = record { grants = f; closed = closes_fit c site requests answers f; read_len = k.read_len; write_len = k.write_len }
+situation_fits : (c : plan.Call) (site : Site) (facts : Facts) (requests : Own) (answers : Answers) → good.FitsCall c → LensFit facts → HandlesFit answers → FitsSituation (situation c site facts requests answers)
+situation_fits c site facts requests answers fits k f = record { numbers = fits; grants = f; closed = closes_fit c site requests answers f; read_len = k.read_len; write_len = k.write_len }
 
 good_fits : (s : Situation) (r : Request) → FitsSituation s → IsGoodAsk s r → FitsCall r
 good_fits s r k g = record { ordinary = ordinary r g; fits = ask_fits s r k g; within = ask_within_reply s r k g; short = good_short s r k (ask_fits s r k g) g }
@@ -122,10 +124,11 @@ range_unread : (c : plan.Call) (site : Site) (facts : Facts) (requests : Own) (a
 range_unread (plan.FsRead path bound) site facts requests answers r is h = subst (ReadsWithin facts) (sym is) h
 range_unread other site facts requests answers r is h = tt
 
--- what a lane's call asks may be asked in the situation of some call
+-- what a lane's call asks may be asked in its situation
 record AsksWell (s : Setting) (past : List Entry) (lane : ℕ) (r : Request) : Type 0 where
-  call : plan.Call
-  good : IsGoodAsk (situation call (site_of s past lane) s.facts (own past lane (ended past lane)) (answer past)) r
+  call : Call
+  now : current s past lane ≡ Some call
+  good : IsGoodAsk (situation (planned call) (site_of s past lane) s.facts (own past lane (ended past lane)) (answer past)) r
 
 asks_well : (s : Setting) (past : List Entry) (lane : ℕ) (r : Request)
     → ((c : Call) → current s past lane ≡ Some c → next c (site_of s past lane) s.facts (own past lane (ended past lane)) (answer past) ≡ Ask r → WithinRange (planned c) (site_of s past lane) s.facts (own past lane (ended past lane)) (answer past))
@@ -136,19 +139,22 @@ asks_well s past lane r within e = by_call (current s past lane) refl e
     by_call None at e = absurd cc
     by_call (Some c) at e =
         let is : next c (site_of s past lane) s.facts (own past lane (ended past lane)) (answer past) ≡ Ask r = cc e in
-        record { call = planned c; good = asks_good (planned c) (site_of s past lane) s.facts (own past lane (ended past lane)) (answer past) r (planned_fits c) (within c at is) is }
+        record { call = c; now = at; good = asks_good (planned c) (site_of s past lane) s.facts (own past lane (ended past lane)) (answer past) r (within c at is) is }
 
-pub asks_fit : (s : Setting) (past : List Entry) (lane : ℕ) (r : Request) → IsJournal s past → HandlesFit (answer past) → LensFit s.facts → move_of s past lane ≡ Some (Ask r) → FitsCall r
-asks_fit s past lane r j h k e =
+pub asks_fit : (s : Setting) (past : List Entry) (lane : ℕ) (r : Request) → are_ok s.lanes ≡ true → IsJournal s past → HandlesFit (answer past) → LensFit s.facts → move_of s past lane ≡ Some (Ask r) → FitsCall r
+asks_fit s past lane r ok j h k e =
     let a : AsksWell s past lane r = asks_well s past lane r within e in
-    good_fits _ r (situation_fits a.call (site_of s past lane) s.facts (own past lane (ended past lane)) (answer past) k h) a.good
+    good_fits _ r (situation_fits (planned a.call) (site_of s past lane) s.facts (own past lane (ended past lane)) (answer past) (fits a.call a.now) k h) a.good
   where
+    fits : (c : Call) → current s past lane ≡ Some c → good.FitsCall (planned c)
+    fits c at = planned_fits c (current_within s past lane c (calls_ok s.lanes ok) j at)
+
     within : (c : Call) → current s past lane ≡ Some c → next c (site_of s past lane) s.facts (own past lane (ended past lane)) (answer past) ≡ Ask r
         → WithinRange (planned c) (site_of s past lane) s.facts (own past lane (ended past lane)) (answer past)
     within c at is =
         let g : GoesByPlan s past lane c = calls_so_far s past lane c j at in
         subst (λ (o : Own). WithinRange (planned c) (site_of s past lane) s.facts o (answer past)) g.are
-        (range_so_far (planned c) (site_of s past lane) s.facts g.requests (answer past) (planned_fits c) k g.so_far)
+        (range_so_far (planned c) (site_of s past lane) s.facts g.requests (answer past) (fits c at) k g.so_far)
 
 -- the request asks for a handle
 abbrev pub asks_handle : Request → Bool
@@ -161,7 +167,7 @@ pub asks_first : (s : Setting) (past : List Entry) (lane : ℕ) (r : Request) �
 asks_first s past lane r e asks =
     let a : AsksWell s past lane r =
     asks_well s past lane r (λ c at is. range_unread (planned c) (site_of s past lane) s.facts (own past lane (ended past lane)) (answer past) r is (unread r asks)) e in
-    first (situation a.call (site_of s past lane) s.facts (own past lane (ended past lane)) (answer past)) r a.good asks
+    first (situation (planned a.call) (site_of s past lane) s.facts (own past lane (ended past lane)) (answer past)) r a.good asks
   where
     unread : (q : Request) → asks_handle q ≡ true → ReadsWithin s.facts (Ask q)
     unread (request.Read handle offset len) e = absurd cc

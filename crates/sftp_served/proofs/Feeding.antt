@@ -1,5 +1,5 @@
 -- What a server does with pieces that join to good frames.
-use Rattle.std.proofs.Common.{◌≡◌, ◌<◌, ◌≤◌, ◌==◌, ℕ, suc, false, List, [], ◌∷◌, ◌++◌, length, None, refl, ap, sym, ◌∙◌, subst, append_assoc, arith, inl, inr}
+use Rattle.std.proofs.Common.{◌≡◌, ◌<◌, ◌≤◌, ◌==◌, ℕ, false, List, [], ◌∷◌, ◌++◌, length, None, refl, ap, sym, ◌∙◌, subst, append_assoc, arith, inl, inr}
 use Rattle.std.specs.Prelude.{◌⊎◌}
 use Rattle.std.proofs.lemmas.Bool.Decides.{nat_tests}
 use Rattle.std.proofs.lemmas.List.{append-nil}
@@ -13,7 +13,7 @@ use Rattle.sftp_model.specs.Numbers.{MAX_BODY_LEN}
 use Rattle.sftp_machine.specs.WaitingFrames.{WaitingFrames, turned}
 use Rattle.sftp_map_server.specs.Serving.{Absorbs, AllShort, Desk, Gives, GivesSome, IsServed, Said, Server, all_left, all_said, behind, both, nothing, step, with_said}
 use Rattle.sftp_served.specs.ServingLinks.{IsOne}
-use Rattle.sftp_served.proofs.Strings.{frames_front, no_fault, no_faults, no_frame, nothing_missing, one_string}
+use Rattle.sftp_served.proofs.Strings.{frames_front, no_faults, no_frame, nothing_missing, one_string}
 
 -- ---- lists of bodies
 

@@ -1,5 +1,5 @@
 -- The handles of a journal are numbered by its grants.
-use Rattle.std.proofs.Common.{◌≡◌, ◌≢◌, ◌<◌, ◌≤◌, ℕ, suc, ◌+◌, Bool, true, false, List, [], ◌∷◌, Option, Some, None, is_none, refl, ap, sym, ◌∙◌, subst, arith, if◌then◌else◌, inl, inr}
+use Rattle.std.proofs.Common.{◌≡◌, ◌≢◌, ◌<◌, ℕ, suc, ◌+◌, Bool, true, false, List, [], ◌∷◌, Option, Some, None, is_none, refl, ap, sym, ◌∙◌, subst, arith, if◌then◌else◌, inl, inr}
 use Rattle.std.proofs.lemmas.Bool.{cases_lt}
 use Rattle.std.proofs.lemmas.Bool.Decides.{eqb_tells}
 use Rattle.ssh_encoding.specs.Writing.{uint32}
@@ -27,7 +27,7 @@ use Rattle.sftp_served.proofs.Sound.{FitsBy, IsSound}
 use Rattle.sftp_served.proofs.Replying.{next_desk, reply_to}
 use Rattle.sftp_served.proofs.Owing.{desk_of, due, due_new, due_old, due_there, query_by, tells_of}
 use Rattle.sftp_served.proofs.Showing.{AnswersBy}
-use Rattle.sftp_served.proofs.Serving.{Ran, after_query, called, done_at, fewer, grants_behind, moves, ran_all}
+use Rattle.sftp_served.proofs.Serving.{Ran, after_query, called, done_at, fewer, moves, ran_all}
 
 -- the reply came that is due
 abbrev Came : Option Reply → Option (Asked × Reply) → Type 0

@@ -1,11 +1,10 @@
 -- Which reply a server gives next, and what it owes behind that.
-use Rattle.std.proofs.Common.{◌≡◌, ◌≢◌, ◌<◌, ◌≤◌, ◌==◌, ◌%◌, ℕ, zero, suc, ◌+◌, Bool, true, false, not, List, [], ◌∷◌, ◌++◌, length, drop, map, Option, Some, None, Ok, is_none, refl, ap, sym, ◌∙◌, subst, arith, if◌then◌else◌, inl, inr}
+use Rattle.std.proofs.Common.{◌≡◌, ◌<◌, ◌==◌, ◌%◌, ℕ, zero, suc, Bool, true, false, not, List, [], ◌∷◌, ◌++◌, length, drop, map, Option, Some, None, Ok, is_none, refl, ap, sym, ◌∙◌, subst, arith}
 use Rattle.std.specs.Prelude.{◌&&◌, slice_get, slice_index_or, MatchBool}
 use Rattle.std.specs.List.{remove}
 use Rattle.std.proofs.lemmas.Bool.Decides.{nat_tests}
 use Rattle.std.proofs.lemmas.List.{append-nil, drop-drop, length-append, length-map}
 use Rattle.std.proofs.lemmas.Nat.{mod_below}
-use Rattle.ssh_encoding.specs.Writing.{string}
 use Rattle.sftp_wire.proofs.Lengths.{length-string}
 use Rattle.sftp_model.specs.declared.reply.Reply.{Reply}
 use Rattle.sftp_model.specs.Frames.{reply_body, reply_frame}
@@ -17,7 +16,7 @@ use Rattle.sftp_history.specs.declared.entry.Entry.TheVariants as entry
 use Rattle.sftp_history.specs.Calls.{Setting}
 use Rattle.sftp_history.specs.Journals.{IsJournal, MayReply}
 use Rattle.sftp_history.specs.Readings.{Asked, answer, asked_at, awaited, bearer, sent}
-use Rattle.sftp_history.specs.Served.{bears_query, is_query, is_waiting, picked, taken, those_below, waiting}
+use Rattle.sftp_history.specs.Served.{bears_query, is_query, picked, taken, those_below}
 use Rattle.sftp_history.proofs.CountLaws.{count_some}
 use Rattle.sftp_history.proofs.JournalLaws.{unanswered_borne}
 use Rattle.sftp_history.proofs.RequestLaws.{answer_new, answer_other, sent_asked}

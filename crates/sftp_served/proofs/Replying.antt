@@ -1,5 +1,5 @@
 -- What the machine's server replies to requests that fit, and what it has then.
-use Rattle.std.proofs.Common.{◌≡◌, ◌<◌, ◌≤◌, ◌^◌, ℕ, zero, suc, ◌+◌, Bool, true, false, List, [], ◌∷◌, length, drop, Option, Some, None, Result, Ok, is_some, if◌then◌else◌, refl, ap, sym, ◌∙◌, subst, arith, inl, inr, lit<}
+use Rattle.std.proofs.Common.{◌≡◌, ◌<◌, ◌≤◌, ◌^◌, ℕ, zero, suc, Bool, true, false, List, [], ◌∷◌, length, drop, Option, Some, None, Result, Ok, is_some, if◌then◌else◌, refl, ap, sym, ◌∙◌, subst, arith, inl, inr, lit<}
 use Rattle.std.specs.Prelude.{nat_le, nat_lt, not, ◌&&◌, ◌⊎◌, IfSome}
 use Rattle.std.specs.Int.RustNames.{bit_and, bit_or}
 use Rattle.std.specs.Result.{result_ok}
@@ -12,7 +12,7 @@ use Rattle.sftp_model.specs.declared.reply.Reply.{Reply}
 use Rattle.sftp_model.specs.declared.reply.Reply.TheVariants as reply
 use Rattle.sftp_model.specs.declared.request.Request.{Request}
 use Rattle.sftp_model.specs.declared.request.Request.TheVariants as request
-use Rattle.sftp_model.specs.Answers.{IsAfterHello, expected_of, is_handle, may_answer, status}
+use Rattle.sftp_model.specs.Answers.{IsAfterHello, expected_of, may_answer, status}
 use Rattle.sftp_model.specs.Fits.{FitsLimits}
 use Rattle.sftp_model.specs.Numbers.{MAX_BODY_LEN, MAX_TRANSFER_LEN}
 use Rattle.sftp_model.specs.declared.flags.Extensions.{Extensions}
@@ -26,11 +26,10 @@ use Rattle.sftp_history.specs.declared.event.Owner.{Owner}
 use Rattle.sftp_wire.proofs.Lengths.{lengths}
 use Rattle.sftp_history.specs.Journals.{goes_on, is_read}
 use Rattle.sftp_history.specs.Readings.{Asked}
-use Rattle.sftp_tree.specs.FileTree.{FileTree}
 use Rattle.sftp_tree.specs.FitTrees.{GivesWithin, IsFit}
 use Rattle.sftp_tree.specs.HandleRequests.{Answer, capped}
 use Rattle.sftp_tree.specs.TreeAnswers.{apply, first_choice, limits_reply}
-use Rattle.sftp_machine.specs.MachineState.{MAX_HANDLES, MachineState, answer, numbered_handle, with_grant, with_tree}
+use Rattle.sftp_machine.specs.MachineState.{MachineState, answer, numbered_handle, with_grant, with_tree}
 use Rattle.sftp_machine.proofs.ReplyLaws.{fit_left, reply_answers, reply_fits, reply_within}
 use Rattle.sftp_map_server.specs.Serving.{Desk, Said, at_once, gives_within, heed, id_of, is_hello, is_query, later, nothing, over_at, respond, spent, step, told_bits, version_reply}
 use Rattle.sftp_map_server.proofs.Bounds.{limits_within}

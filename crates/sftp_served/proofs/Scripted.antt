@@ -1,5 +1,5 @@
 -- A script that was read names known extensions alone.
-use Rattle.std.proofs.Common.{◌≡◌, ◌<◌, ℕ, zero, suc, ◌+◌, Bool, true, false, List, [], ◌∷◌, Result, Ok, Err, if◌then◌else◌, refl, subst, arith, inl, inr}
+use Rattle.std.proofs.Common.{◌≡◌, ◌<◌, ℕ, zero, suc, ◌+◌, Bool, true, false, List, [], ◌∷◌, Option, Some, None, Result, Ok, Err, if◌then◌else◌, refl, subst, arith, inl, inr}
 use Rattle.std.specs.Prelude.{◌==◌, not, ◌&&◌, nat_lt, length, is_some, codes}
 use Rattle.std.specs.Int.RustNames.{bit_or}
 use Rattle.std.specs.Str.{bytes_eq}
@@ -13,7 +13,7 @@ use Rattle.sftp_history.specs.declared.reason.Reason.TheVariants as reason
 use Rattle.sftp_history.specs.declared.script.Script.{Script}
 use Rattle.sftp_history.specs.declared.turn.Turn.{Turn}
 use Rattle.sftp_history.specs.Lines.{lines_of, words_of, is_comment, number_in}
-use Rattle.sftp_history.specs.Scripts.{Draft, empty_script, no_word, one_word, two_words, four_words, unless_said, greatest_u32, greatest_u64, path_in, content_in, meets_file, meets_dir, refusal_in, option_in, option_line, extension_in, with_extension, ext_line, limits_line, cut_line, server_line, file_line, dir_line, choice_line, pick_line, in_lane, lane_turn, line_by, line_of, read_line, go_on, read_lines, MAX_SCRIPT_LEN, script_of}
+use Rattle.sftp_history.specs.Scripts.{Draft, empty_script, no_word, one_word, two_words, four_words, unless_said, greatest_u32, greatest_u64, path_in, content_in, meets_file, meets_dir, refusal_in, option_in, option_line, extension_in, with_extension, ext_line, limits_line, cut_line, server_line, file_line, dir_line, choice_line, pick_line, in_lane, call_in, call_line, lane_turn, line_by, line_of, read_line, go_on, read_lines, MAX_SCRIPT_LEN, script_of}
 use Rattle.sftp_served.proofs.Replying.{lt_or_is, both_of, is_less}
 
 -- what was read names known extensions, or it is refused
@@ -64,6 +64,10 @@ four_known f (a ∷ b ∷ c ∷ e ∷ g ∷ words) h = record { is = tt }
 lane_known : (d : Draft) (lanes : List Lane) (read : Result Call Reason) → IsKnown (Ok d) → Known (in_lane d lanes read)
 lane_known d [] read k = record { is = tt }
 lane_known d (lane ∷ lanes) read k = bind_known read _ (λ c. record { is = k })
+
+call_known : (d : Draft) (read : Option (Result Call Reason)) → IsKnown (Ok d) → Known (call_line d read)
+call_known d None k = record { is = tt }
+call_known d (Some read) k = lane_known d d.script.lanes read k
 
 -- ---- extensions: a bit that is added, tried for each of 32 sets
 
@@ -133,7 +137,7 @@ line_known d word words k =
     (if_known (bytes_eq word (codes "pick")) _ _ (one_known (pick_line d) words (λ a. bind_known (number_in 0 greatest_u32 a) _ (λ x. record { is = k })))
     (if_known (bytes_eq word (codes "lane")) _ _ (no_known _ words k) (if_known (bytes_eq word (codes "step")) _ _ (one_known _ words (λ a. turn_known d _ a k)) (if_known (bytes_eq word (codes "cancel")) _ _ (one_known _ words (λ a. turn_known d _ a k))
     (if_known (bytes_eq word (codes "flush")) _ _ (no_known _ words k) (if_known (bytes_eq word (codes "take")) _ _ (no_known _ words k)
-    (if_known (bytes_eq word (codes "open")) _ _ (lane_known d d.script.lanes _ k) (if_known (bytes_eq word (codes "read")) _ _ (lane_known d d.script.lanes _ k) (if_known (bytes_eq word (codes "close")) _ _ (lane_known d d.script.lanes _ k) (record { is = tt }))))))))))))))
+    (call_known d (call_in word words) k)))))))))))
 
 words_known : (d : Draft) (words : List (List ℕ)) → IsKnown (Ok d) → Known (line_of d words)
 words_known d [] k = record { is = k }

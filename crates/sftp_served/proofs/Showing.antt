@@ -1,5 +1,5 @@
 -- A log that shows a journal, and is that of a server: what the server owes then.
-use Rattle.std.proofs.Common.{◌≡◌, ◌<◌, ◌≤◌, ◌+◌, ℕ, Bool, true, false, not, List, [], ◌∷◌, ◌++◌, length, map, Option, Some, None, Ok, is_none, refl, ap, sym, ◌∙◌, subst, arith, if◌then◌else◌, inl, inr}
+use Rattle.std.proofs.Common.{◌≡◌, ◌<◌, ◌≤◌, ℕ, Bool, true, false, not, List, [], ◌∷◌, ◌++◌, length, Option, Some, None, Ok, is_none, refl, ap, sym, ◌∙◌, subst, arith, if◌then◌else◌, inl, inr}
 use Rattle.std.specs.Prelude.{◌&&◌}
 use Rattle.std.proofs.lemmas.Bool.Decides.{eqb_tells}
 use Rattle.std.proofs.lemmas.List.{append-nil}
@@ -27,7 +27,7 @@ use Rattle.sftp_history.specs.Shown.{IsFrameOf, Shows, hello_frame}
 use Rattle.sftp_history.proofs.CallLaws.{next_take}
 use Rattle.sftp_history.proofs.CountLaws.{count_pos}
 use Rattle.sftp_history.proofs.RequestLaws.{answer_beyond, asked_other, sent_asked}
-use Rattle.sftp_map_server.specs.Serving.{AllShort, Desk, Gives, GivesSome, IsServed, Said, Server, both, nothing, opened, step, told_bits, version_reply, with_said}
+use Rattle.sftp_map_server.specs.Serving.{AllShort, Desk, GivesSome, IsServed, Said, Server, both, nothing, opened, step, told_bits, version_reply, with_said}
 use Rattle.sftp_map_server.proofs.Bounds.{version_within}
 use Rattle.sftp_served.specs.ServingLinks.{IsAllowed, IsVersion}
 use Rattle.sftp_served.proofs.Strings.{one_string}

@@ -26,6 +26,7 @@ use Rattle.sftp_history.specs.Grants.{orphan}
 use Rattle.sftp_history.specs.Journals.{IsJournal, MayCome, MustClose, cancelled_end}
 use Rattle.sftp_history.proofs.JournalLaws.{submit_free}
 use Rattle.sftp_history.specs.Shown.{Shows, IsFrameOf}
+use Rattle.sftp_history.specs.Lanes.{are_ok}
 use Rattle.sftp_served.proofs.Asking.{FitsCall, LensFit, close_call, asks_fit}
 
 -- by its owner: the query for limits is asked only of a server that tells them
@@ -96,11 +97,11 @@ shows_takes hello (_ ∷ past) first log sh = shows_takes hello past first log s
 
 -- ---- each entry
 
-may_fits : (s : Setting) (tells : Bool) (past : List Entry) (by : Owner) (id : ℕ) (r : Request) → (s.limits ≡ true → tells ≡ true) → IsJournal s past → HandlesFit (answer past) → LensFit s.facts
+may_fits : (s : Setting) (tells : Bool) (past : List Entry) (by : Owner) (id : ℕ) (r : Request) → (s.limits ≡ true → tells ≡ true) → are_ok s.lanes ≡ true → IsJournal s past → HandlesFit (answer past) → LensFit s.facts
     → MayCome s past (entry.Event (Submit by id r)) → FitsBy tells by r
-may_fits s tells past (owner.Call lane call) id r t j h k may = asks_fit s past lane r j h k may.1
-may_fits s tells past owner.Setup id r t j h k may = (may.2, t may.0)
-may_fits s tells past owner.Close id r t j h k may = absurd may
+may_fits s tells past (owner.Call lane call) id r t ok j h k may = asks_fit s past lane r ok j h k may.1
+may_fits s tells past owner.Setup id r t ok j h k may = (may.2, t may.0)
+may_fits s tells past owner.Close id r t ok j h k may = absurd may
 
 close_fits : (tells : Bool) (past : List Entry) (grant id : ℕ) (by : Owner) (r : Request) → HandlesFit (answer past) → MustClose past grant (entry.Event (Submit by id r)) → FitsBy tells by r
 close_fits tells past grant id by r h must =
@@ -108,17 +109,17 @@ close_fits tells past grant id by r h must =
     let asked_is : r ≡ request.Close (handle_of (answer past grant)) = cc (must.1.1) in
     subst (λ (o : Owner). FitsBy tells o r) (sym is) (handle_of (answer past grant), asked_is, h grant)
 
-fits_next : (s : Setting) (tells : Bool) (past : List Entry) (by : Owner) (id : ℕ) (r : Request) (c g : Option ℕ) → (s.limits ≡ true → tells ≡ true) → IsJournal s past → HandlesFit (answer past) → LensFit s.facts
+fits_next : (s : Setting) (tells : Bool) (past : List Entry) (by : Owner) (id : ℕ) (r : Request) (c g : Option ℕ) → (s.limits ≡ true → tells ≡ true) → are_ok s.lanes ≡ true → IsJournal s past → HandlesFit (answer past) → LensFit s.facts
     → MatchOption c (MatchOption g (MayCome s past (entry.Event (Submit by id r))) (λ grant. MustClose past grant (entry.Event (Submit by id r)))) (λ lane. entry.Event (Submit by id r) ≡ cancelled_end past lane)
     → FitsBy tells by r
-fits_next s tells past by id r (Some lane) g t j h k due = absurd cc
-fits_next s tells past by id r None (Some grant) t j h k due = close_fits tells past grant id by r h due
-fits_next s tells past by id r None None t j h k due = may_fits s tells past by id r t j h k due
+fits_next s tells past by id r (Some lane) g t ok j h k due = absurd cc
+fits_next s tells past by id r None (Some grant) t ok j h k due = close_fits tells past grant id by r h due
+fits_next s tells past by id r None None t ok j h k due = may_fits s tells past by id r t ok j h k due
 
 -- each request of a run so far fits
-pub sound : (s : Setting) (tells : Bool) (past : List Entry) → (s.limits ≡ true → tells ≡ true) → LensFit s.facts → IsJournal s past → TakesFit past → IsSound tells past
-sound s tells [] t k j f = tt
-sound s tells (entry.Event (Submit by id r) ∷ past) t k j f =
-    ((submit_free s past by id r j.0).0, fits_next s tells past by id r (last_cancel past) (orphan s past) t j.1 (grants_fit past f) k j.0, sound s tells past t k j.1 f)
-sound s tells (entry.Event (Take id r) ∷ past) t k j f = sound s tells past t k j.1 f.1
-sound s tells (_ ∷ past) t k j f = sound s tells past t k j.1 f
+pub sound : (s : Setting) (tells : Bool) (past : List Entry) → (s.limits ≡ true → tells ≡ true) → are_ok s.lanes ≡ true → LensFit s.facts → IsJournal s past → TakesFit past → IsSound tells past
+sound s tells [] t ok k j f = tt
+sound s tells (entry.Event (Submit by id r) ∷ past) t ok k j f =
+    ((submit_free s past by id r j.0).0, fits_next s tells past by id r (last_cancel past) (orphan s past) t ok j.1 (grants_fit past f) k j.0, sound s tells past t ok k j.1 f)
+sound s tells (entry.Event (Take id r) ∷ past) t ok k j f = sound s tells past t ok k j.1 f.1
+sound s tells (_ ∷ past) t ok k j f = sound s tells past t ok k j.1 f

@@ -42,6 +42,7 @@ use Rattle.sftp_map_server.specs.Serving.{Desk, IsServed, Server, opened, told_b
 use Rattle.sftp_served.specs.ServingLinks.{GivesGood, IsAllowed, IsOne, IsVersion, Read, ServesLanes}
 use Rattle.sftp_served.proofs.Strings.{no_fault, nothing_missing, one_string}
 use Rattle.sftp_served.proofs.Feeding.{Given as GivenBy, got_front, one_frame, one_part, still_turned}
+use Rattle.sftp_history.specs.Lanes.{are_ok}
 use Rattle.sftp_served.proofs.Sound.{IsSound, shows_takes, sound}
 use Rattle.sftp_served.proofs.Replying.{told_right}
 use Rattle.sftp_served.proofs.Owing.{tells_of}
@@ -64,13 +65,13 @@ len_some None len = omega arith
 len_some (Some most) len = omega arith
 
 -- each request of a session that the server greeted fits
-pub sound_at : (lanes : List Lane) (options : SftpOptions) (extensions : Extensions) (f : Desk) (picks : List ℕ) (past : List Entry) (log : List Piece) (now : Server) → IsFirst f
+pub sound_at : (lanes : List Lane) (options : SftpOptions) (extensions : Extensions) (f : Desk) (picks : List ℕ) (past : List Entry) (log : List Piece) (now : Server) → IsFirst f → are_ok lanes ≡ true
     → IsJournal (setting_of lanes options extensions past) past → Shows (greeting extensions) past [] log → IsServed (opened f picks) log now → IsSound (tells_of f) past
-sound_at lanes options extensions f picks past log now first j shown served =
+sound_at lanes options extensions f picks past log now first ok j shown served =
     let is = shows_version f picks (greeting extensions) past log now first shown served in
     let same : extensions ≡ record { 0 = told_bits f.machine.config.extensions.0 f.machine.config.limits } = cc in
     let told = (told_right f.machine.config.extensions.0 f.machine.config.limits first.known).1 in
-    sound (setting_of lanes options extensions past) (tells_of f) past (λ e. sym told ∙ (ap offers_limits (sym same) ∙ e)) (record { some = len_some options.max_read_len _; read_len = len_within options.max_read_len _; write_len = len_within options.max_write_len _; read_window = omega arith }) j (shows_takes (greeting extensions) past [] log shown)
+    sound (setting_of lanes options extensions past) (tells_of f) past (λ e. sym told ∙ (ap offers_limits (sym same) ∙ e)) ok (record { some = len_some options.max_read_len _; read_len = len_within options.max_read_len _; write_len = len_within options.max_write_len _; read_window = omega arith }) j (shows_takes (greeting extensions) past [] log shown)
 
 -- ---- what a link gives that serves
 
@@ -206,10 +207,10 @@ came f picks good ended mid after bytes now can served none got one =
     good_by good ended g.0 now bytes none r (g.1.1 r.whole)
 
 -- a server in memory serves
-pub serves_lanes : (given : Given) (f : Desk) (picks : List ℕ) (ended : Bool) (log : List Piece) (now : Server) → IsFirst f → IsServed (opened f picks) log now → (ended ≡ true → (turned now.output).ready ≡ []) → ServesLanes given log ended
-serves_lanes given f picks ended log now first served none = record {
+pub serves_lanes : (given : Given) (f : Desk) (picks : List ℕ) (ended : Bool) (log : List Piece) (now : Server) → IsFirst f → are_ok given.lanes ≡ true → IsServed (opened f picks) log now → (ended ≡ true → (turned now.output).ready ≡ []) → ServesLanes given log ended
+serves_lanes given f picks ended log now first ok served none = record {
   greets = λ before bytes was_sent got one. came f picks IsVersion ended before log bytes now (λ m v. hello_ready f picks before m first was_sent v) served none got one;
   replies = λ extensions past before bytes j shown some got one.
       came f picks (IsAllowed past) ended before log bytes now
-      (λ m v. ready (setting_of given.lanes given.options extensions past) f picks (greeting extensions) past before m first j (sound_at given.lanes given.options extensions f picks past before m first j shown v) shown v some) served none got one;
+      (λ m v. ready (setting_of given.lanes given.options extensions past) f picks (greeting extensions) past before m first j (sound_at given.lanes given.options extensions f picks past before m first ok j shown v) shown v some) served none got one;
 }

@@ -67,14 +67,14 @@ served_from server new serving =
     subst (λ (w : Server). IsServed w server.log server.now) here serving.served
 
 -- the server serves the lanes of any session
-pub server_serves : (given : Given) (server : Serving) → IsUnopened server.first → IsServing server.first server.now server.log server.ended → ServesLanes given server.log server.ended
-server_serves given server new serving =
-    serves_lanes given server.first.desk server.first.output.picks server.ended server.log server.now (first_is server.first new) (served_from server new serving) serving.end
+pub server_serves : (given : Given) (server : Serving) → are_ok given.lanes ≡ true → IsUnopened server.first → IsServing server.first server.now server.log server.ended → ServesLanes given server.log server.ended
+server_serves given server ok new serving =
+    serves_lanes given server.first.desk server.first.output.picks server.ended server.log server.now (first_is server.first new) ok (served_from server new serving) serving.end
 
 -- a run stops only for want of memory
-pub stops_for_memory : (given : Given) (server : Serving) (e : Error) → IsUnopened server.first → IsServing server.first server.now server.log server.ended
+pub stops_for_memory : (given : Given) (server : Serving) (e : Error) → are_ok given.lanes ≡ true → IsUnopened server.first → IsServing server.first server.now server.log server.ended
     → Ends given server.ended e [] server.log → Cause {T = Unit {0}} 0 0 (Err e) → e ≡ error.OutOfMemory
-stops_for_memory given server e new serving ends why = only_memory given server.ended e server.log (server_serves given server new serving) ends why
+stops_for_memory given server e ok new serving ends why = only_memory given server.ended e server.log (server_serves given server ok new serving) ends why
 
 -- what the replies of a journal are to which the log bears witness
 pub record IsAnswered (first : Server) (past : List Entry) (left : FileTree) : Type 0 where
@@ -84,13 +84,13 @@ pub record IsAnswered (first : Server) (past : List Entry) (left : FileTree) : T
 
 -- a journal that the log shows is served, where calls submitted fewer requests than there are handles
 journal_is_served : (lanes : List Lane) (options : SftpOptions) (extensions : Extensions) (past : List Entry) (server : Serving) → IsUnopened server.first → IsServing server.first server.now server.log server.ended
-    → IsJournal (setting_of lanes options extensions past) past → called past < MAX_HANDLES → Shows (greeting extensions) past [] server.log → IsAnswered server.first past server.now.desk.machine.tree
-journal_is_served lanes options extensions past server new serving j few shows =
+    → are_ok lanes ≡ true → IsJournal (setting_of lanes options extensions past) past → called past < MAX_HANDLES → Shows (greeting extensions) past [] server.log → IsAnswered server.first past server.now.desk.machine.tree
+journal_is_served lanes options extensions past server new serving ok j few shows =
     let first = first_is server.first new in
     let f : Desk = server.first.desk in
     let picks : List ℕ = server.first.output.picks in
     let served = served_from server new serving in
-    let sound = sound_at lanes options extensions f picks past server.log server.now first j shows served in
+    let sound = sound_at lanes options extensions f picks past server.log server.now first ok j shows served in
     let d : Desk = greeted_at f in
     let o = shows_served (setting_of lanes options extensions past) f picks (greeting extensions) past server.log server.now first j sound shows served in
     let none : d.machine.grants ≡ 0 = ap (λ (w : Server). w.desk.machine.grants) new.is in
@@ -121,5 +121,5 @@ run_is_served given version s turns past server new serving ok run fixed shown =
     let whole : IsRun is turns past = subst (λ (t : Setting). IsRun t turns past) fixed.1.1 run in
     let j : IsJournal is past = runs_are_journals is turns past whole in
     let few = run_calls is turns past whole j ok in
-    let a = journal_is_served given.lanes given.options fixed.0 past server new serving j few shows in
+    let a = journal_is_served given.lanes given.options fixed.0 past server new serving ok j few shows in
     record { serves = a.serves; by_picks = a.by_picks; numbered = a.numbered (subst (λ (w : List Entry). unanswered w ≡ 0) whole.1.1 whole.1.0.answered) }

@@ -20,9 +20,9 @@ ghost use Rattle.sftp_map_server.specs.Serving.{Serving, IsServing, version_repl
 ghost use Rattle.sftp_served.specs.ServingLinks.{ServesLanes};
 ghost use Rattle.sftp_served.specs.Unopened.{IsServedRun, IsUnopened};
 
-/// Over a server that nothing was sent to, whoever runs a session as `run_session` does is told what the server offers,
-/// has its replies from one sequential run of the file machine in the order that the picks say, under handles that are
-/// numbered by the grants, and stops only for want of memory.
+/// Over a server that nothing was sent to, whoever runs a session as `run_session` does is told what the server offers, and
+/// where the lanes are ok, has its replies from one sequential run of the file machine in the order that the picks say, under
+/// handles that are numbered by the grants, and stops only for want of memory.
 pub fn runs_are_served()
     ensures version { (given : Given) (version : Option Reply) (s : Setting) (past : List Entry) (server : Serving)
         → IsUnopened server.first
@@ -34,17 +34,17 @@ pub fn runs_are_served()
         → IsServing server.first server.now server.log server.ended → are_ok given.lanes ≡ true → IsRun s turns past
         → IsFixed given version past s → Told (Showing version past) (Some []) (Some server.log)
         → IsServedRun server.first past server.now.desk.machine.tree }
-    ensures only { (given : Given) (server : Serving) (e : Error) → IsUnopened server.first
+    ensures only { (given : Given) (server : Serving) (e : Error) → are_ok given.lanes ≡ true → IsUnopened server.first
         → IsServing server.first server.now server.log server.ended → Ends given server.ended e [] server.log
         → Cause {T = Unit {0}} 0 0 (Err e) → e ≡ error.OutOfMemory }
 {}
 
 /// Over any link that serves the lanes of a session, whoever runs the session as `run_session` does stops only for want of
-/// memory, where the link counted no fault; and the server in memory is such a link.
+/// memory, where the link counted no fault; and the server in memory is such a link where the lanes are ok.
 pub fn links_that_serve_end_well()
     ensures only { (given : Given) (ended : Bool) (e : Error) (log : List Piece) → ServesLanes given log ended
         → Ends given ended e [] log → Cause {T = Unit {0}} 0 0 (Err e) → e ≡ error.OutOfMemory }
-    ensures server { (given : Given) (server : Serving) → IsUnopened server.first
+    ensures server { (given : Given) (server : Serving) → are_ok given.lanes ≡ true → IsUnopened server.first
         → IsServing server.first server.now server.log server.ended → ServesLanes given server.log server.ended }
 {}
 

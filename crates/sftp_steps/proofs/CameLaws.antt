@@ -28,7 +28,6 @@ use Rattle.sftp_history.specs.Grants.{orphan}
 use Rattle.sftp_history.specs.Journals.{IsJournal, IsNext, MayCome, MustClose, cancelled_end, goes_on, is_opened, opened}
 use Rattle.sftp_history.proofs.CallLaws.{next_by, next_submit}
 use Rattle.sftp_history.proofs.JournalLaws.{submit_free}
-use Rattle.sftp_history.proofs.PlannedLaws.{planned_fits}
 
 abbrev pub is_limits : Expected → Bool
 is_limits expected.Limits = true
@@ -60,7 +59,7 @@ move_asks s past lane r e = false_from_ne_true (is_limits (expected_of r)) (λ l
     by_call limits (Some c) is =
         let asks : next c (site_of s past lane) s.facts mine (answer past) ≡ Ask r = cc is in
         good_limits (situation (planned c) (site_of s past lane) s.facts mine (answer past)) r limits
-        (asks_good (planned c) (site_of s past lane) s.facts mine (answer past) r (planned_fits c) (limits_within (planned c) (site_of s past lane) s.facts mine (answer past) r limits asks) asks)
+        (asks_good (planned c) (site_of s past lane) s.facts mine (answer past) r (limits_within (planned c) (site_of s past lane) s.facts mine (answer past) r limits asks) asks)
 
 -- ---- each request
 

@@ -21,7 +21,6 @@ use Rattle.sftp_history.specs.Calls.{Setting, current, move_at, next, planned, s
 use Rattle.sftp_history.specs.Grants.{is_asked_by, is_grant, is_granted}
 use Rattle.sftp_history.specs.Journals.{IsJournal, MayReply}
 use Rattle.sftp_history.proofs.CallLaws.{asker_owns, has_place, next_submit, next_take, own_fresh}
-use Rattle.sftp_history.proofs.PlannedLaws.{planned_fits}
 use Rattle.sftp_history.proofs.RequestLaws.{answer_beyond, answer_new, answer_other}
 use Rattle.sftp_ties.specs.LaneTurns.{HandlesAreNewer}
 use Rattle.sftp_ties.specs.Lanes.{grant_places, is_of, ticket_places}
@@ -93,7 +92,7 @@ handle_first s past lane n id r j e = by_call (current s past lane) (next_submit
     by_call (Some c) is =
         let asks : next c (site_of s past lane) s.facts mine (answer past) ≡ Ask r = cc is in
         good_first (planned c) (site_of s past lane) s.facts mine (answer past) r e
-        (asks_good (planned c) (site_of s past lane) s.facts mine (answer past) r (planned_fits c) (handle_within (planned c) (site_of s past lane) s.facts mine (answer past) r e asks) asks)
+        (asks_good (planned c) (site_of s past lane) s.facts mine (answer past) r (handle_within (planned c) (site_of s past lane) s.facts mine (answer past) r e asks) asks)
 
 -- a call's request for a handle stands before its others
 first_stands : (s : Setting) (past : List Entry) (lane c p q : ℕ) (a : Asked) → IsJournal s past → asked_at past p ≡ Some a → expected_of a.request ≡ expected.Handle → is_asked_by (asked_at past p) lane c ≡ true → is_asked_by (asked_at past q) lane c ≡ true → p ≤ q

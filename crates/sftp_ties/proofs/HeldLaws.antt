@@ -21,12 +21,6 @@ use Rattle.sftp_ties.proofs.CancelLaws.{cancel_leaves}
 use Rattle.sftp_plan.specs.declared.next.Running.TheVariants as running
 use Rattle.sftp_history.specs.declared.call.Call.TheVariants as call
 
--- what a cancelled call leaves has the grants that it holds, whatever the call
-pub cancelled_grants : (c : Call) (site : Site) (facts : Facts) (own : Own) (answers : Answers) (g : ℕ) → has_grant (cancelled c site facts own answers) g ≡ has_grant (given_up c own site) g
-cancelled_grants (call.Close slot) site facts [] answers g = refl
-cancelled_grants (call.Close slot) site facts (asked ∷ later) answers g = refl
-cancelled_grants other site facts own answers g = refl
-
 transfer_grants : (slot : ℕ) (site : Site) (facts : Facts) (own : Own) (answers : Answers) (g : ℕ) → has_grant (cancelled_transfer slot site facts own answers) g ≡ has_grant site g
 transfer_grants slot site facts own answers g = by_slot (slot_at site slot) refl
   where
@@ -34,6 +28,14 @@ transfer_grants slot site facts own answers g = by_slot (slot_at site slot) refl
     by_slot Empty at = refl
     by_slot (File file) at = same_set site slot file.grant (File (record file { offset = last_offset file.offset own })) (ap grant_of at) refl g
     by_slot (Buffered file buffer) at = refl
+
+-- what a cancelled call leaves has the grants that it holds, whatever the call
+pub cancelled_grants : (c : Call) (site : Site) (facts : Facts) (own : Own) (answers : Answers) (g : ℕ) → has_grant (cancelled c site facts own answers) g ≡ has_grant (given_up c own site) g
+cancelled_grants (call.Close slot) site facts [] answers g = refl
+cancelled_grants (call.Close slot) site facts (asked ∷ later) answers g = refl
+cancelled_grants (call.ReadAll slot n) site facts own answers g = transfer_grants slot site facts own answers g
+cancelled_grants (call.WriteAll slot bytes) site facts own answers g = transfer_grants slot site facts own answers g
+cancelled_grants other site facts own answers g = refl
 
 kept_grants : (slot : Option ℕ) (site : Site) (facts : Facts) (own : Own) (answers : Answers) (g : ℕ) → has_grant (left_kept slot site facts own answers) g ≡ has_grant site g
 kept_grants None site facts own answers g = refl

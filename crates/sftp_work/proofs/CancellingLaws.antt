@@ -110,7 +110,7 @@ cancelling s lane c new now w there begun gives =
       is = call.1;
       cancelled = x;
       closing = record {
-        stands = record { calls = w.stands.calls; ok = w.stands.ok; facts = w.stands.facts; asked = w.stands.asked; count = length-set c.states lane now ∙ w.stands.count; unadded = w.stands.unadded };
+        stands = record { calls = w.stands.calls; ok = w.stands.ok; facts = w.stands.facts; fit = w.stands.fit; asked = w.stands.asked; count = length-set c.states lane now ∙ w.stands.count; unadded = w.stands.unadded };
         there = there;
         plain = refl;
         idle = ap (λ (y : LaneValue). y.running) here ∙ gives_idle c.core new (lane_in c.states lane) now gives;

@@ -41,6 +41,7 @@ stands_on s c lane k g t =
       calls = t.calls;
       ok = t.ok;
       facts = t.facts;
+      fit = t.fit;
       asked = ap (λ (n : ℕ). n + 1) t.asked;
       count = length-set c.states lane (closed_lane (lane_in c.states lane) k) ∙ t.count;
       unadded = t.unadded;
@@ -53,7 +54,7 @@ there_in s before lane c h = (let there = h.there in let count = h.stands.count 
 pub record Goes (s : Setting) (before : List Entry) (lane : ℕ) (old new : Contents) : Type 0 where
   pub closing : Closing s before lane new
   pub begun : new.begun ≡ old.begun
-  pub left : lanes_left new.past new.calls 0 ≡ lanes_left old.past old.calls 0
+  pub left : lanes_left new.facts new.past new.calls 0 ≡ lanes_left old.facts old.past old.calls 0
   pub work : weigh new.core ≤ weigh old.core
 
 pub goes_self : (s : Setting) (before : List Entry) (lane : ℕ) (c : Contents) → Closing s before lane c → Goes s before lane c c
@@ -81,7 +82,7 @@ goes_next s before lane k c g h here first small =
         later = inr (x.next, h.later);
       };
       begun = refl;
-      left = close_left c.past c.calls 0 g.grant.id (request.Close g.grant.handle);
+      left = close_left c.facts c.past c.calls 0 g.grant.id (request.Close g.grant.handle);
       work = (let less = x.work in omega (arith, less));
     }
 

@@ -53,12 +53,12 @@ hands_unsent s c w some =
     let all = unsent_count c.past in
     let fewer : sent c.past < asked c.past = less (length (unsent c.past)) (sent c.past) (asked c.past) left all in
     let x = sends_keep s c.past c.core (lane_in c.states) c.begun w.rest fewer in
-    let same = lanes_same (entry.Event Send ∷ c.past) c.past c.calls 0 (λ m. refl) (λ m k. refl) in
+    let same = lanes_same c.facts (entry.Event Send ∷ c.past) c.past c.calls 0 (λ m. refl) (λ m k. refl) in
     let t = w.stands in
     record {
       hands = ((grind (arith, nat_tests)), refl, refl, x.rest.settled, x.next);
       work = (λ i. same i + x.work i);
-      working = record { stands = record { calls = t.calls; ok = t.ok; facts = t.facts; asked = t.asked; count = t.count; unadded = t.unadded }; rest = x.rest };
+      working = record { stands = record { calls = t.calls; ok = t.ok; facts = t.facts; fit = t.fit; asked = t.asked; count = t.count; unadded = t.unadded }; rest = x.rest };
     }
   where
     less : (n a b : ℕ) → n ≢ 0 → n + a ≡ b → a < b
@@ -136,16 +136,16 @@ take_by : (s : Setting) (c : Contents) (id : ℕ) (r : Reply) (now : List Entry)
     → TakesIn s (Ok (Some id, r)) c (taken_to c id r now n)
 take_by s c id r now n w x counts same_added =
     let mid : List Entry = entry.Event (Take id r) ∷ c.past in
-    let left = closes_left s mid now x.closes c.calls 0 ∙ lanes_same mid c.past c.calls 0 (λ m. refl) (λ m k. refl) in
+    let left = closes_left s c.facts mid now x.closes c.calls 0 ∙ lanes_same c.facts mid c.past c.calls 0 (λ m. refl) (λ m k. refl) in
     let t = w.stands in
     record {
       takes = (id, (r, (refl, x.may, refl, (x.closes, x.rest.settled))));
       later = later_on s c.past mid now (inr (x.next, later_self s c.past)) (closes_later s mid now x.closes refl);
       working = record {
-        stands = record { calls = t.calls; ok = t.ok; facts = t.facts; asked = counts; count = t.count; unadded = λ lane. same_added lane ∙ t.unadded lane };
+        stands = record { calls = t.calls; ok = t.ok; facts = t.facts; fit = t.fit; asked = counts; count = t.count; unadded = λ lane. same_added lane ∙ t.unadded lane };
         rest = x.rest;
       };
-      less = less_work (lanes_left c.past c.calls 0) (lanes_left now c.calls 0) (weigh (take_leaves c.core id r (at c.core id))) (weigh c.core) left x.work;
+      less = less_work (lanes_left c.facts c.past c.calls 0) (lanes_left c.facts now c.calls 0) (weigh (take_leaves c.core id r (at c.core id))) (weigh c.core) left x.work;
     }
 
 take_kept : (s : Setting) (c : Contents) (id : ℕ) (r : Reply) → Works s c → (x : IsAwaited c.core id r) → (x.wanted ≡ true) ⊎ (brings r ≡ None) → TakesIn s (Ok (Some id, r)) c (taken_to c id r (entry.Event (Take id r) ∷ c.past) c.asked)

@@ -1,29 +1,30 @@
 -- What the lanes have left to do, and how a journal goes on by CLOSEs.
-use Rattle.std.proofs.Common.{◌≡◌, ◌+◌, ◌*◌, ◌-◌, ◌∙◌, ◌∷◌, [], ℕ, suc, List, None, refl, ap, sym, subst, inl, inr, if◌then◌else◌, length}
+use Rattle.std.proofs.Common.{◌≡◌, ◌+◌, ◌∙◌, ◌∷◌, [], ℕ, suc, List, None, refl, ap, sym, subst, inl, inr, drop, length}
+use Rattle.sftp_model.specs.declared.slot.Facts.{Facts}
 use Rattle.sftp_history.specs.declared.call.Lane.{Lane}
 use Rattle.sftp_history.specs.declared.entry.Entry.{Entry}
 use Rattle.sftp_history.specs.Calls.{Setting}
-use Rattle.sftp_history.specs.Journals.{close_of, is_some_asked}
+use Rattle.sftp_history.specs.Journals.{close_of}
 use Rattle.sftp_history.specs.Readings.{ended, last_cancel, own}
 use Rattle.sftp_history.specs.Turns.{ClosesTo}
 use Rattle.sftp_history.proofs.CallLaws.{due_next}
 use Rattle.sftp_driver.specs.Session.{IsLater}
-use Rattle.sftp_work.specs.Working.{lane_left, lanes_left}
+use Rattle.sftp_work.specs.Working.{calls_left, lane_left, lanes_left}
 
 -- ---- what is left
 
 -- a lane of which no call ended or asked
-pub lane_same : (now past : List Entry) (lane : Lane) (n : ℕ) → ended now n ≡ ended past n → ((c : ℕ) → own now n c ≡ own past n c) → lane_left now lane n ≡ lane_left past lane n
-lane_same now past lane n ends asks =
+pub lane_same : (facts : Facts) (now past : List Entry) (lane : Lane) (n : ℕ) → ended now n ≡ ended past n → ((c : ℕ) → own now n c ≡ own past n c) → lane_left facts now lane n ≡ lane_left facts past lane n
+lane_same facts now past lane n ends asks =
     let mine : own now n (ended now n) ≡ own past n (ended past n) = asks (ended now n) ∙ ap (own past n) ends in
-    (λ i. 5 * (length lane.calls - ends i) - (if is_some_asked (mine i) then 4 else 0))
+    (λ i. calls_left facts (drop (ends i) lane.calls) (length (mine i)))
 
 -- and all lanes, of none of which a call ended or asked
-pub lanes_same : (now past : List Entry) (lanes : List Lane) (n : ℕ) → ((m : ℕ) → ended now m ≡ ended past m) → ((m c : ℕ) → own now m c ≡ own past m c) → lanes_left now lanes n ≡ lanes_left past lanes n
-lanes_same now past [] n ends asks = refl
-lanes_same now past (lane ∷ lanes) n ends asks =
-    let here = lane_same now past lane n (ends n) (asks n) in
-    let rest = lanes_same now past lanes (suc n) ends asks in
+pub lanes_same : (facts : Facts) (now past : List Entry) (lanes : List Lane) (n : ℕ) → ((m : ℕ) → ended now m ≡ ended past m) → ((m c : ℕ) → own now m c ≡ own past m c) → lanes_left facts now lanes n ≡ lanes_left facts past lanes n
+lanes_same facts now past [] n ends asks = refl
+lanes_same facts now past (lane ∷ lanes) n ends asks =
+    let here = lane_same facts now past lane n (ends n) (asks n) in
+    let rest = lanes_same facts now past lanes (suc n) ends asks in
     (λ i. here i + rest i)
 
 -- ---- CLOSEs
@@ -41,9 +42,9 @@ closes_later s before (e ∷ past) (inl same) calm = inl same
 closes_later s before (e ∷ past) (inr c) calm = inr (due_next s past c.0.0 e (closes_calm s before past c.1 calm) c.0.1.0 c.0.1.1, closes_later s before past c.1 calm)
 
 -- they are of no lane's call
-pub closes_left : (s : Setting) (before now : List Entry) → ClosesTo s before now → (lanes : List Lane) (n : ℕ) → lanes_left now lanes n ≡ lanes_left before lanes n
-closes_left s before [] same lanes n = ap (λ (w : List Entry). lanes_left w lanes n) (sym same)
-closes_left s before (e ∷ past) (inl same) lanes n = ap (λ (w : List Entry). lanes_left w lanes n) (sym same)
-closes_left s before (e ∷ past) (inr c) lanes n =
-    ap (λ (x : Entry). lanes_left (x ∷ past) lanes n) c.0.1.1.1.1
-    ∙ lanes_same (close_of past c.0.0 c.0.1.1.0 ∷ past) past lanes n (λ m. refl) (λ m k. refl) ∙ closes_left s before past c.1 lanes n
+pub closes_left : (s : Setting) (facts : Facts) (before now : List Entry) → ClosesTo s before now → (lanes : List Lane) (n : ℕ) → lanes_left facts now lanes n ≡ lanes_left facts before lanes n
+closes_left s facts before [] same lanes n = ap (λ (w : List Entry). lanes_left facts w lanes n) (sym same)
+closes_left s facts before (e ∷ past) (inl same) lanes n = ap (λ (w : List Entry). lanes_left facts w lanes n) (sym same)
+closes_left s facts before (e ∷ past) (inr c) lanes n =
+    ap (λ (x : Entry). lanes_left facts (x ∷ past) lanes n) c.0.1.1.1.1
+    ∙ lanes_same facts (close_of past c.0.0 c.0.1.1.0 ∷ past) past lanes n (λ m. refl) (λ m k. refl) ∙ closes_left s facts before past c.1 lanes n

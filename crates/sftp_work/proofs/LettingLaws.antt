@@ -44,6 +44,7 @@ letting_closes s before lane k c g slot rest h grant none here small =
         calls = h.stands.calls;
         ok = h.stands.ok;
         facts = h.stands.facts;
+        fit = h.stands.fit;
         asked = ap (λ (n : ℕ). n + 1) h.stands.asked;
         count = length-set c.states lane (closed_lane v k) ∙ h.stands.count;
         unadded = h.stands.unadded;
@@ -70,7 +71,7 @@ letting_starts s lane c w there none held =
     let v : LaneValue = lane_in c.states lane in
     let x = letting_begins s c.past c.core (lane_in c.states) c.begun lane w.rest there none held in
     record {
-      stands = record { calls = w.stands.calls; ok = w.stands.ok; facts = w.stands.facts; asked = w.stands.asked; count = length-set c.states lane (let_go_lane v) ∙ w.stands.count; unadded = w.stands.unadded };
+      stands = record { calls = w.stands.calls; ok = w.stands.ok; facts = w.stands.facts; fit = w.stands.fit; asked = w.stands.asked; count = length-set c.states lane (let_go_lane v) ∙ w.stands.count; unadded = w.stands.unadded };
       there = there;
       going = subst (λ (f : ℕ → LaneValue). LettingGo s (entry.LetGo lane ∷ c.past) c.core f c.begun lane v.site.slots) (sym (lane_set c.states lane (let_go_lane v) lt)) x.1;
       closes = inl refl;

@@ -1,3 +1,4 @@
+pub mod BufferLaws
 pub mod CallsLaws
 pub mod CancellingLaws
 pub mod ClosingLaws

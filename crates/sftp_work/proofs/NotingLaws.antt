@@ -1,20 +1,26 @@
 -- What is noted of a lane's turn is a step.
-use Rattle.std.proofs.Common.{◌≡◌, ◌<◌, ◌≤◌, ◌+◌, ◌^◌, ℕ, List, ◌∷◌, Option, Some, None, refl, ap, sym, ◌∙◌, subst, arith, inl, inr}
+use Rattle.std.proofs.Common.{◌≡◌, ◌<◌, ◌≤◌, ◌+◌, ◌^◌, ℕ, List, ◌∷◌, Option, Some, None, true, refl, ap, sym, ◌∙◌, subst, arith, inl, inr}
 use Rattle.std.specs.Prelude.{length, reverse, slice_get, slice_set}
 use Rattle.std.proofs.lemmas.List.{length-set}
 use Rattle.std.proofs.lemmas.Option.{get_or_from_slice_get, slice_get_within}
 use Rattle.sftp_model.specs.declared.outcome.Outcome.{Outcome}
 use Rattle.sftp_model.specs.declared.request.Request.{Request}
+use Rattle.sftp_model.specs.declared.slot.Facts.{Facts}
 use Rattle.sftp_model.specs.declared.slot.Move.{Move}
+use Rattle.sftp_calls.specs.GoodMoves.{FitsCall}
+use Rattle.sftp_calls.specs.RequestCounts.{work as most_requests}
 use Rattle.sftp_history.specs.declared.call.Call.{Call}
 use Rattle.sftp_history.specs.declared.call.Lane.{Lane}
 use Rattle.sftp_history.specs.declared.event.Event.TheVariants.{End}
 use Rattle.sftp_history.specs.declared.entry.Entry.{Entry}
 use Rattle.sftp_history.specs.declared.entry.Entry.TheVariants as entry
-use Rattle.sftp_history.specs.Calls.{Setting}
-use Rattle.sftp_history.specs.Readings.{ended}
+use Rattle.sftp_history.specs.Calls.{Setting, calls_of, current, planned}
+use Rattle.sftp_history.specs.Readings.{ended, own}
 use Rattle.sftp_history.specs.Turns.{begun_but, begun_with}
 use Rattle.sftp_history.proofs.CallLaws.{own_fresh}
+use Rattle.sftp_history.specs.Lanes.{are_ok}
+use Rattle.sftp_history.proofs.PlannedLaws.{planned_fits}
+use Rattle.sftp_history.proofs.WithinLaws.{calls_ok, current_within}
 use Rattle.sftp_driver.specs.Session.{StepsTo}
 use Rattle.sftp_driver.specs.declared.session.Stepped.TheVariants as stepped
 use Rattle.sftp_driver.proofs.Journals.{later_on, later_self}
@@ -30,10 +36,10 @@ use Rattle.sftp_lane.proofs.Holding.{with_again}
 use Rattle.sftp_work.specs.Closing.{Closing, IsClosed}
 use Rattle.sftp_work.specs.Noting.{Turning, asked_in, call_by, call_in, ended_in, turned_in}
 use Rattle.sftp_work.specs.Working.{Contents, Stands, StepsIn, Works, lane_in, lanes_left, stage_in}
-use Rattle.sftp_work.proofs.CallsLaws.{calls_few}
+use Rattle.sftp_work.proofs.CallsLaws.{calls_few, current_is}
 use Rattle.sftp_work.proofs.ClosingLaws.{counted_in}
 use Rattle.sftp_work.proofs.Contents.{lane_set, set_here}
-use Rattle.sftp_work.proofs.Remaining.{asked_left, asks_once, ended_left}
+use Rattle.sftp_work.proofs.Remaining.{asked_left, asks_within, ended_left}
 
 -- ---- the lane of a turn
 
@@ -63,9 +69,28 @@ within_states c lane call a = slice_get_within c.states lane a.state a.here
 pub ends_at : (s : Setting) (lane : ℕ) (c : Contents) → Works s c → lane < length s.lanes → (lane_in c.states lane).ended ≡ ended c.past lane
 ends_at s lane c w there = (w.rest.between.tied.each lane there).ends
 
-more_calls : (s : Setting) (lane : ℕ) (c : Contents) (call : Call) → Works s c → lane < length s.lanes → (a : AtCall c lane call) → ended c.past lane < length a.calls.calls
-more_calls s lane c call w there a =
-    subst (λ (n : ℕ). n < length a.calls.calls) (sym (ap (λ (v : LaneValue). v.ended) (state_is c lane call a)) ∙ ends_at s lane c w there) (slice_get_within a.calls.calls a.state.ended call a.call_is)
+pub there_at : (s : Setting) (c : Contents) (lane : ℕ) (call : Call) → Works s c → AtCall c lane call → lane < length s.lanes
+there_at s c lane call w a = (let within = within_states c lane call a in let count = w.stands.count in omega (arith, within, count))
+
+-- it stands behind those that have ended
+call_here : (s : Setting) (c : Contents) (lane : ℕ) (call : Call) → Works s c → (a : AtCall c lane call) → slice_get a.calls.calls (ended c.past lane) ≡ Some call
+call_here s c lane call w a =
+    (let number : ended c.past lane ≡ a.state.ended = sym (ends_at s lane c w (there_at s c lane call w a)) ∙ ap (λ (v : LaneValue). v.ended) (state_is c lane call a) in ap (slice_get a.calls.calls) number ∙ a.call_is)
+
+more_calls : (s : Setting) (c : Contents) (lane : ℕ) (call : Call) → Works s c → (a : AtCall c lane call) → ended c.past lane < length a.calls.calls
+more_calls s c lane call w a = slice_get_within a.calls.calls (ended c.past lane) call (call_here s c lane call w a)
+
+-- and is the lane's current call by the journal
+pub current_at : (s : Setting) (c : Contents) (lane : ℕ) (call : Call) → Works s c → AtCall c lane call → current s c.past lane ≡ Some call
+current_at s c lane call w a =
+    (let lane_is : slice_get s.lanes lane ≡ Some a.calls = ap (λ (ls : List Lane). slice_get ls lane) (sym w.stands.calls) ∙ a.lane_is in
+    current_is s c.past lane (w.stands.unadded lane) ∙ ap (λ (o : Option Lane). slice_get (calls_of o) (ended c.past lane)) lane_is ∙ call_here s c lane call w a)
+
+-- its numbers fit their fields
+call_fits : (s : Setting) (c : Contents) (lane : ℕ) (call : Call) → Works s c → AtCall c lane call → FitsCall (planned call)
+call_fits s c lane call w a =
+    (let ok : are_ok s.lanes ≡ true = ap are_ok (sym w.stands.calls) ∙ w.stands.ok in
+    planned_fits call (current_within s c.past lane call (calls_ok s.lanes ok) w.rest.between.good.run (current_at s c lane call w a)))
 
 -- ---- the three kinds of turn
 
@@ -82,7 +107,7 @@ waits_in s lane old c t =
       steps = subst (λ (m : Option Move). StepsTo s lane (stage_in old) (stage_in made) m stepped.Nothing) (sym x.move) (refl, refl);
       later = later_self s old.past;
       working = record {
-        stands = record { calls = t.works.stands.calls; ok = t.works.stands.ok; facts = t.works.stands.facts; asked = t.works.stands.asked; count = turned_stands s old lane t.now t.works.stands; unadded = t.works.stands.unadded };
+        stands = record { calls = t.works.stands.calls; ok = t.works.stands.ok; facts = t.works.stands.facts; fit = t.works.stands.fit; asked = t.works.stands.asked; count = turned_stands s old lane t.now t.works.stands; unadded = t.works.stands.unadded };
         rest = subst (λ (f : ℕ → LaneValue). AtRest s old.past t.new f (begun_with old.begun lane)) (sym (lane_set old.states lane t.now lt)) x.rest;
       };
       less = (let work = x.work in omega (arith, work));
@@ -99,15 +124,18 @@ asked_step s lane id r old c t =
     let x : Asked s old.past old.core t.new (with_lane (lane_in old.states) lane t.now) old.begun lane id r = t.leaves in
     let now : List Entry = own_request old.past lane id r ∷ old.past in
     let made : Contents = asked_in (turned_in old lane t.new t.now) lane (ended old.past lane) id r in
-    let left = asked_left old.past old.calls lane id r a.calls a.lane_is (more_calls s lane old t.call t.works t.there a) (asks_once s old.past lane r x.move) in
+    let fewer : length (own old.past lane (ended old.past lane)) < most_requests (planned t.call) old.facts =
+    subst (λ (f : Facts). length (own old.past lane (ended old.past lane)) < most_requests (planned t.call) f) (sym t.works.stands.facts)
+    (asks_within s old.past lane t.call r (call_fits s old lane t.call t.works a) t.works.stands.fit t.works.rest.between.good.run (current_at s old lane t.call t.works a) x.move) in
+    let left = asked_left old.facts old.past old.calls lane id r a.calls t.call a.lane_is (call_here s old lane t.call t.works a) fewer in
     subst (λ (y : Contents). StepsIn s lane old (asked_in y lane (ended old.past lane) id r) stepped.Submitted) (sym t.is) (record {
       steps = subst (λ (m : Option Move). StepsTo s lane (stage_in old) (stage_in made) m stepped.Submitted) (sym x.move) (refl, refl, (id, (x.free, (inl refl, x.rest.settled))));
       later = inr (x.next, later_self s old.past);
       working = record {
-        stands = record { calls = t.works.stands.calls; ok = t.works.stands.ok; facts = t.works.stands.facts; asked = ap (λ (n : ℕ). n + 1) t.works.stands.asked; count = turned_stands s old lane t.now t.works.stands; unadded = t.works.stands.unadded };
+        stands = record { calls = t.works.stands.calls; ok = t.works.stands.ok; facts = t.works.stands.facts; fit = t.works.stands.fit; asked = ap (λ (n : ℕ). n + 1) t.works.stands.asked; count = turned_stands s old lane t.now t.works.stands; unadded = t.works.stands.unadded };
         rest = subst (λ (f : ℕ → LaneValue). AtRest s now t.new f (begun_with old.begun lane)) (sym (lane_set old.states lane t.now lt)) x.rest;
       };
-      less = less_asked (lanes_left old.past old.calls 0) (lanes_left now old.calls 0) (weigh old.core) (weigh t.new) left x.work;
+      less = less_asked (lanes_left old.facts old.past old.calls 0) (lanes_left old.facts now old.calls 0) (weigh old.core) (weigh t.new) left x.work;
       waits = λ e some. absurd cc;
     })
 
@@ -127,7 +155,7 @@ ended_closing s lane o old c t =
     lane_set mid lane last mid_lt ∙ ap (λ (f : ℕ → LaneValue). with_lane f lane last) (lane_set old.states lane t.now lt) ∙ with_again (lane_in old.states) lane t.now last ∙ ap (with_lane (lane_in old.states) lane) last_is in
     let last_here : lane_in (slice_set mid lane last) lane ≡ ended_lane t.now t.now.site = set_here mid lane last mid_lt ∙ last_is in
     subst (λ (y : Contents). Closing s now lane (ended_in y lane (ended old.past lane) o)) (sym t.is) (record {
-      stands = record { calls = t.works.stands.calls; ok = t.works.stands.ok; facts = t.works.stands.facts; asked = t.works.stands.asked; count = length-set mid lane last ∙ turned_stands s old lane t.now t.works.stands; unadded = t.works.stands.unadded };
+      stands = record { calls = t.works.stands.calls; ok = t.works.stands.ok; facts = t.works.stands.facts; fit = t.works.stands.fit; asked = t.works.stands.asked; count = length-set mid lane last ∙ turned_stands s old lane t.now t.works.stands; unadded = t.works.stands.unadded };
       there = t.there;
       plain = refl;
       idle = ap (λ (v : LaneValue). v.running) last_here;
@@ -148,12 +176,12 @@ ended_step s lane o old c new t closed =
     let x : Ended s old.past old.core t.new (with_lane (lane_in old.states) lane (ended_lane t.now t.now.site)) old.begun lane t.now o = t.leaves in
     let made : Contents = ended_in (turned_in old lane t.new t.now) lane (ended old.past lane) o in
     let y : IsClosed s now made new = subst (λ (z : Contents). IsClosed s now (ended_in z lane (ended old.past lane) o) new) t.is closed in
-    let left = ended_left old.past old.calls lane o a.calls a.lane_is (more_calls s lane old t.call t.works t.there a) (own_fresh s old.past lane (ended old.past lane + 1) t.works.rest.between.good.run (omega arith)) in
+    let left = ended_left old.facts old.past old.calls lane o a.calls t.call a.lane_is (call_here s old lane t.call t.works a) (own_fresh s old.past lane (ended old.past lane + 1) t.works.rest.between.good.run (omega arith)) in
     record {
       steps = subst (λ (m : Option Move). StepsTo s lane (stage_in old) (stage_in new) m stepped.Ended) (sym x.move) (refl, y.begun, (y.closes, y.works.rest.settled));
       later = later_on s old.past now new.past (inr (x.next, later_self s old.past)) y.later;
       working = y.works;
-      less = less_ended (lanes_left old.past old.calls 0) (lanes_left now old.calls 0) (weigh old.core) (weigh t.new) (weigh new.core) (lanes_left new.past new.calls 0) left y.left y.work x.work;
+      less = less_ended (lanes_left old.facts old.past old.calls 0) (lanes_left old.facts now old.calls 0) (weigh old.core) (weigh t.new) (weigh new.core) (lanes_left new.facts new.past new.calls 0) left y.left y.work x.work;
       waits = λ e some. absurd cc;
     }
 
@@ -172,7 +200,7 @@ turning_number s lane old c m t =
 pub turning_few : (s : Setting) (lane : ℕ) (old c : Contents) (m : Moved) → Turning s lane old c m → (lane_in c.states lane).ended < 2 ^ 31
 turning_few s lane old c m t =
     (let a = at_call old lane t.call t.calls in
-    let more = more_calls s lane old t.call t.works t.there a in
+    let more = more_calls s old lane t.call t.works a in
     let few = calls_few old.calls lane a.calls t.works.stands.ok a.lane_is in
     let number = turning_number s lane old c m t in
     omega (arith, more, few, number))

@@ -1,63 +1,52 @@
 -- What is left to do, as a journal goes on.
-use Rattle.std.proofs.Common.{◌≡◌, ◌≢◌, ◌<◌, ◌≤◌, ◌+◌, ◌-◌, ◌*◌, ℕ, zero, suc, Bool, true, false, List, [], ◌∷◌, ◌++◌, Option, Some, None, refl, ap, sym, ◌∙◌, subst, arith, if◌then◌else◌, ne_eqb}
-use Rattle.std.specs.Prelude.{length, slice_get}
+use Rattle.std.proofs.Common.{◌≡◌, ◌≢◌, ◌<◌, ◌≤◌, ◌+◌, ◌-◌, ◌*◌, ℕ, zero, suc, List, [], ◌∷◌, Option, Some, refl, ap, sym, ◌∙◌, subst, arith, ne_eqb}
+use Rattle.std.specs.Prelude.{drop, length, slice_get}
+use Rattle.std.proofs.lemmas.List.{length-append}
 use Rattle.sftp_model.specs.declared.outcome.Outcome.{Outcome}
 use Rattle.sftp_model.specs.declared.request.Request.{Request}
 use Rattle.sftp_model.specs.declared.slot.Facts.{Facts}
+use Rattle.sftp_model.specs.declared.slot.Move.{Move}
 use Rattle.sftp_model.specs.declared.slot.Move.TheVariants.{Ask}
-use Rattle.sftp_model.specs.declared.slot.Site.{Site}
-use Rattle.sftp_model.specs.declared.slot.Slot.{Slot}
-use Rattle.sftp_model.specs.declared.slot.Slot.TheVariants.{Buffered, Empty, File}
-use Rattle.sftp_model.specs.Slots.{slot_at, with_slot}
-use Rattle.sftp_calls.specs.FilePlans.{close_slot_next}
-use Rattle.sftp_calls.specs.Moves.{Answers, Own}
-use Rattle.sftp_calls.specs.RequestCounts.{AsksBelow}
-use Rattle.sftp_calls.proofs.CountLaws.{on_granted, once_at_most}
-use Rattle.sftp_calls.proofs.MoveLaws.{at_file, by_content, by_status}
+use Rattle.sftp_calls.specs.GoodMoves.{FitsCall, FitsFacts}
+use Rattle.sftp_calls.specs.Moves.{Own}
+use Rattle.sftp_calls.specs.OwnRequests.{oldest_first}
+use Rattle.sftp_calls.specs.RequestCounts.{AsksBelow, work as most_requests}
+use Rattle.sftp_calls.proofs.AskedLaws.{asked_work}
+use Rattle.sftp_calls.proofs.AskedReads.{oldest_length}
 use Rattle.sftp_history.specs.declared.call.Call.{Call}
-use Rattle.sftp_history.specs.declared.call.Call.TheVariants as call
 use Rattle.sftp_history.specs.declared.call.Lane.{Lane}
 use Rattle.sftp_history.specs.declared.event.Event.TheVariants.{End, Submit}
 use Rattle.sftp_history.specs.declared.event.Owner.TheVariants as owner
 use Rattle.sftp_history.specs.declared.entry.Entry.{Entry}
 use Rattle.sftp_history.specs.declared.entry.Entry.TheVariants as entry
 use Rattle.sftp_history.specs.Readings.{answer, ended, own}
-use Rattle.sftp_history.specs.Calls.{Setting, current, move_at, move_of, next, site_of}
-use Rattle.sftp_history.specs.Journals.{is_some_asked}
+use Rattle.sftp_history.specs.Calls.{Setting, current, move_at, move_of, next, planned, site_of}
+use Rattle.sftp_history.specs.Journals.{IsJournal}
 use Rattle.sftp_history.proofs.CallLaws.{ended_end, ended_other, own_other, own_submit}
-use Rattle.sftp_work.specs.Working.{lane_left, lanes_left}
+use Rattle.sftp_history.proofs.CallsSoFar.{calls_so_far}
+use Rattle.sftp_work.specs.Working.{calls_left, lane_left, lanes_left}
+use Rattle.sftp_work.proofs.BufferLaws.{buffers_within}
 
--- ---- a call asks once
+-- ---- a call asks within its work
 
-close_below : (slot : ℕ) (site : Site) (own : Own) (answers : Answers) (x : Slot) → AsksBelow (length own) 1 (close_slot_next slot site own answers x)
-close_below slot site own answers Empty = tt
-close_below slot site own answers (File file) = once_at_most _ _ own answers (λ r. by_status (AsksBelow (length own) 1) r (with_slot site slot Empty) _ (λ o. tt) tt)
-close_below slot site own answers (Buffered file buffer) = once_at_most _ _ own answers (λ r. by_status (AsksBelow (length own) 1) r (with_slot site slot Empty) _ (λ o. tt) tt)
-
-asks_below : (c : Call) (site : Site) (facts : Facts) (own : Own) (answers : Answers) → AsksBelow (length own) 1 (next c site facts own answers)
-asks_below (call.OpenFile slot flags path) site facts own answers = once_at_most _ _ own answers (λ r. on_granted (AsksBelow (length own) 1) r site _ (λ o. tt) (λ h. tt))
-asks_below (call.Read slot n) site facts own answers =
-    at_file (AsksBelow (length own) 1) (slot_at site slot) site _ (λ o. tt) (λ file is. once_at_most _ _ own answers (λ r. by_content (AsksBelow (length own) 1) r site _ _ (λ o. tt) tt (λ bytes. tt)))
-asks_below (call.Close slot) site facts own answers = close_below slot site own answers (slot_at site slot)
-
-none_of : (own : Own) → length own < 1 → own ≡ []
-none_of [] lt = refl
-none_of (a ∷ own) lt = absurd (omega (arith, lt))
-
-pub asks_once : (s : Setting) (past : List Entry) (lane : ℕ) (r : Request) → move_of s past lane ≡ Some (Ask r) → own past lane (ended past lane) ≡ []
-asks_once s past lane r e = by_call (current s past lane) e
-  where
-    by_call : (o : Option Call) → move_at o (site_of s past lane) s.facts (own past lane (ended past lane)) (answer past) ≡ Some (Ask r) → own past lane (ended past lane) ≡ []
-    by_call None e = absurd cc
-    by_call (Some c) e =
-        (let is : next c (site_of s past lane) s.facts (own past lane (ended past lane)) (answer past) ≡ Ask r = cc in
-        none_of (own past lane (ended past lane)) (subst (AsksBelow (length (own past lane (ended past lane))) 1) is (asks_below c (site_of s past lane) s.facts (own past lane (ended past lane)) (answer past))))
+-- where a lane's call asks, it has made fewer requests than it makes at most
+pub asks_within : (s : Setting) (past : List Entry) (lane : ℕ) (c : Call) (r : Request) → FitsCall (planned c) → FitsFacts s.facts → IsJournal s past → current s past lane ≡ Some c → move_of s past lane ≡ Some (Ask r)
+    → length (own past lane (ended past lane)) < most_requests (planned c) s.facts
+asks_within s past lane c r fits fit j is move =
+    let requests : Own = own past lane (ended past lane) in
+    let plan : Own → Move = λ o. next c (site_of s past lane) s.facts o (answer past) in
+    let goes = calls_so_far s past lane c j is in
+    let moves : move_at (Some c) (site_of s past lane) s.facts requests (answer past) ≡ Some (Ask r) = ap (λ (x : Option Call). move_at x (site_of s past lane) s.facts requests (answer past)) (sym is) ∙ move in
+    let asks : plan (oldest_first goes.requests) ≡ Ask r = ap plan goes.are ∙ (let now : plan requests ≡ Ask r = cc moves in now) in
+    let below = asked_work (planned c) (site_of s past lane) s.facts goes.requests (answer past) fits fit (buffers_within s past lane fit j) goes.so_far in
+    let fewer : length goes.requests < most_requests (planned c) s.facts = subst (AsksBelow (length goes.requests) (most_requests (planned c) s.facts)) asks below in
+    subst (λ (n : ℕ). n < most_requests (planned c) s.facts) (sym (oldest_length goes.requests) ∙ ap length goes.are) fewer
 
 -- ---- sums
 
-pub left_alike : (past now : List Entry) (lanes : List Lane) (n : ℕ) → ((l : Lane) (m : ℕ) → lane_left now l m ≡ lane_left past l m) → lanes_left now lanes n ≡ lanes_left past lanes n
-left_alike past now [] n same = refl
-left_alike past now (l ∷ lanes) n same = λ i. same l n i + left_alike past now lanes (suc n) same i
+pub left_alike : (facts : Facts) (past now : List Entry) (lanes : List Lane) (n : ℕ) → ((l : Lane) (m : ℕ) → lane_left facts now l m ≡ lane_left facts past l m) → lanes_left facts now lanes n ≡ lanes_left facts past lanes n
+left_alike facts past now [] n same = refl
+left_alike facts past now (l ∷ lanes) n same = λ i. same l n i + left_alike facts past now lanes (suc n) same i
 
 less_here : (a b c d e : ℕ) → b + e ≤ a → c ≡ d → b + c + e ≤ a + d
 less_here a b c d e le same = omega (arith, le, same)
@@ -66,72 +55,90 @@ less_there : (a b c d e : ℕ) → b ≡ a → c + e ≤ d → b + c + e ≤ a +
 less_there a b c d e same le = omega (arith, same, le)
 
 -- where one lane has less left by so much, all have
-pub left_less : (past now : List Entry) (lanes : List Lane) (n k m d : ℕ) (lane : Lane) → slice_get lanes k ≡ Some lane → n + k ≡ m → ((l : Lane) (w : ℕ) → m ≢ w → lane_left now l w ≡ lane_left past l w) → lane_left now lane m + d ≤ lane_left past lane m
-    → lanes_left now lanes n + d ≤ lanes_left past lanes n
-left_less past now [] n k m d lane here sum others less = absurd cc
-left_less past now (l ∷ lanes) n zero m d lane here sum others less =
+pub left_less : (facts : Facts) (past now : List Entry) (lanes : List Lane) (n k m d : ℕ) (lane : Lane) → slice_get lanes k ≡ Some lane → n + k ≡ m → ((l : Lane) (w : ℕ) → m ≢ w → lane_left facts now l w ≡ lane_left facts past l w)
+    → lane_left facts now lane m + d ≤ lane_left facts past lane m → lanes_left facts now lanes n + d ≤ lanes_left facts past lanes n
+left_less facts past now [] n k m d lane here sum others less = absurd cc
+left_less facts past now (l ∷ lanes) n zero m d lane here sum others less =
     (let is : l ≡ lane = cc in
     let at_n : m ≡ n = omega (arith, sum) in
-    less_here (lane_left past l n) (lane_left now l n) (lanes_left now lanes (suc n)) (lanes_left past lanes (suc n)) d
-    (subst (λ (x : Lane). lane_left now x n + d ≤ lane_left past x n) (sym is) (subst (λ (w : ℕ). lane_left now lane w + d ≤ lane_left past lane w) at_n less))
+    less_here (lane_left facts past l n) (lane_left facts now l n) (lanes_left facts now lanes (suc n)) (lanes_left facts past lanes (suc n)) d
+    (subst (λ (x : Lane). lane_left facts now x n + d ≤ lane_left facts past x n) (sym is) (subst (λ (w : ℕ). lane_left facts now lane w + d ≤ lane_left facts past lane w) at_n less))
     (rest lanes (suc n) (omega (arith, sum))))
   where
-    rest : (xs : List Lane) (w : ℕ) → m < w → lanes_left now xs w ≡ lanes_left past xs w
+    rest : (xs : List Lane) (w : ℕ) → m < w → lanes_left facts now xs w ≡ lanes_left facts past xs w
     rest [] w lt = refl
     rest (x ∷ xs) w lt = λ i. others x w (λ e. omega (arith, e, lt)) i + rest xs (suc w) (omega (arith, lt)) i
-left_less past now (l ∷ lanes) n (suc k) m d lane here sum others less =
-    less_there (lane_left past l n) (lane_left now l n) (lanes_left now lanes (suc n)) (lanes_left past lanes (suc n)) d (others l n (λ e. omega (arith, e, sum)))
-    (left_less past now lanes (suc n) k m d lane here (omega (arith, sum)) others less)
+left_less facts past now (l ∷ lanes) n (suc k) m d lane here sum others less =
+    less_there (lane_left facts past l n) (lane_left facts now l n) (lanes_left facts now lanes (suc n)) (lanes_left facts past lanes (suc n)) d (others l n (λ e. omega (arith, e, sum)))
+    (left_less facts past now lanes (suc n) k m d lane here (omega (arith, sum)) others less)
 
 -- ---- entries
 
 -- a CLOSE of the session leaves what the lanes have to do
-pub close_left : (past : List Entry) (lanes : List Lane) (n id : ℕ) (r : Request) → lanes_left (entry.Event (Submit owner.Close id r) ∷ past) lanes n ≡ lanes_left past lanes n
-close_left past lanes n id r = left_alike past (entry.Event (Submit owner.Close id r) ∷ past) lanes n (λ l m. refl)
+pub close_left : (facts : Facts) (past : List Entry) (lanes : List Lane) (n id : ℕ) (r : Request) → lanes_left facts (entry.Event (Submit owner.Close id r) ∷ past) lanes n ≡ lanes_left facts past lanes n
+close_left facts past lanes n id r = left_alike facts past (entry.Event (Submit owner.Close id r) ∷ past) lanes n (λ l m. refl)
 
-abbrev left_of : ℕ → Own → ℕ
-left_of calls requests = 5 * calls - (if is_some_asked requests then 4 else 0)
+-- the calls from this one on are it and those behind it
+drop_at : {A : Type 0} (xs : List A) (n : ℕ) (x : A) → slice_get xs n ≡ Some x → drop n xs ≡ x ∷ drop (suc n) xs
+drop_at [] n x is = absurd cc
+drop_at (y ∷ xs) zero x is = let same : y ≡ x = cc in ap (λ z. z ∷ xs) same
+drop_at (y ∷ xs) (suc n) x is = drop_at xs n x is
 
-some_last : (requests : Own) (a : ℕ × Request) → is_some_asked (requests ++ a ∷ []) ≡ true
-some_last [] a = refl
-some_last (b ∷ requests) a = refl
+asked_sum : (most made rest : ℕ) → made < most → 1 + 4 * (most - (made + 1)) + rest + 4 ≤ 1 + 4 * (most - made) + rest
+asked_sum most made rest lt = omega (arith, lt)
 
-asked_by : (calls : ℕ) (before now : Own) → 1 ≤ calls → before ≡ [] → is_some_asked now ≡ true → left_of calls now + 4 ≤ left_of calls before
-asked_by calls before now some none asked = rw (none, asked) (omega (arith, some))
+-- a call with one request more has four less to do
+asked_by : (facts : Facts) (calls rest : List Call) (c : Call) (made now : ℕ) → calls ≡ c ∷ rest → now ≡ made + 1 → made < most_requests (planned c) facts → calls_left facts calls now + 4 ≤ calls_left facts calls made
+asked_by facts calls rest c made now is more lt =
+    subst (λ (xs : List Call). calls_left facts xs now + 4 ≤ calls_left facts xs made) (sym is)
+    (subst (λ (n : ℕ). calls_left facts (c ∷ rest) n + 4 ≤ calls_left facts (c ∷ rest) made) (sym more) (asked_sum (most_requests (planned c) facts) made (calls_left facts rest 0) lt))
 
--- a request of a lane's call makes four less
-pub asked_left : (past : List Entry) (lanes : List Lane) (lane id : ℕ) (r : Request) (l : Lane) → slice_get lanes lane ≡ Some l → ended past lane < length l.calls → own past lane (ended past lane) ≡ []
-    → lanes_left (entry.Event (Submit (owner.Call lane (ended past lane)) id r) ∷ past) lanes 0 + 4 ≤ lanes_left past lanes 0
-asked_left past lanes lane id r l here more none = left_less past now lanes 0 lane lane 4 l here (omega arith) others mine
+-- so a request of a lane's call makes four less
+pub asked_left : (facts : Facts) (past : List Entry) (lanes : List Lane) (lane id : ℕ) (r : Request) (l : Lane) (c : Call) → slice_get lanes lane ≡ Some l → slice_get l.calls (ended past lane) ≡ Some c
+    → length (own past lane (ended past lane)) < most_requests (planned c) facts → lanes_left facts (entry.Event (Submit (owner.Call lane (ended past lane)) id r) ∷ past) lanes 0 + 4 ≤ lanes_left facts past lanes 0
+asked_left facts past lanes lane id r l c here at fewer = left_less facts past now lanes 0 lane lane 4 l here (omega arith) others mine
   where
+    n : ℕ
+    n = ended past lane
+
     now : List Entry
-    now = entry.Event (Submit (owner.Call lane (ended past lane)) id r) ∷ past
+    now = entry.Event (Submit (owner.Call lane n) id r) ∷ past
 
-    others : (x : Lane) (w : ℕ) → lane ≢ w → lane_left now x w ≡ lane_left past x w
-    others x w ne = ap (left_of (length x.calls - ended past w)) (own_other past (owner.Call lane (ended past lane)) id r w (ended past w) (rw (ne_eqb lane w ne) refl))
+    others : (x : Lane) (w : ℕ) → lane ≢ w → lane_left facts now x w ≡ lane_left facts past x w
+    others x w ne = ap (λ (o : Own). calls_left facts (drop (ended past w) x.calls) (length o)) (own_other past (owner.Call lane n) id r w (ended past w) (rw (ne_eqb lane w ne) refl))
 
-    mine : lane_left now l lane + 4 ≤ lane_left past l lane
-    mine = asked_by (length l.calls - ended past lane) (own past lane (ended past lane)) (own now lane (ended past lane)) (omega (arith, more)) none
-        (ap is_some_asked (own_submit past lane (ended past lane) id r) ∙ some_last (own past lane (ended past lane)) (_, r))
+    one_more : length (own now lane n) ≡ length (own past lane n) + 1
+    one_more = ap length (own_submit past lane n id r) ∙ length-append (own past lane n) (_ ∷ [])
 
-ended_by : (calls n m : ℕ) (before now : Own) → n < calls → m ≡ n + 1 → now ≡ [] → left_of (calls - m) now + 1 ≤ left_of (calls - n) before
-ended_by calls n m before now lt more none = rw (none, more) (by_asked (is_some_asked before))
+    mine : lane_left facts now l lane + 4 ≤ lane_left facts past l lane
+    mine = asked_by facts (drop n l.calls) (drop (suc n) l.calls) c (length (own past lane n)) (length (own now lane n)) (drop_at l.calls n c at) one_more fewer
+
+ended_sum : (most made rest : ℕ) → rest + 1 ≤ 1 + 4 * (most - made) + rest
+ended_sum most made rest = omega arith
+
+-- the calls behind a call have one less to do, where the next one has made no request
+ended_by : (facts : Facts) (calls rest : List Call) (c : Call) (made now : ℕ) → calls ≡ c ∷ rest → now ≡ 0 → calls_left facts rest now + 1 ≤ calls_left facts calls made
+ended_by facts calls rest c made now is none =
+    subst (λ (xs : List Call). calls_left facts rest now + 1 ≤ calls_left facts xs made) (sym is)
+    (subst (λ (n : ℕ). calls_left facts rest n + 1 ≤ calls_left facts (c ∷ rest) made) (sym none) (ended_sum (most_requests (planned c) facts) made (calls_left facts rest 0)))
+
+-- so its end makes one less
+pub ended_left : (facts : Facts) (past : List Entry) (lanes : List Lane) (lane : ℕ) (o : Outcome) (l : Lane) (c : Call) → slice_get lanes lane ≡ Some l → slice_get l.calls (ended past lane) ≡ Some c
+    → own (entry.Event (End lane (ended past lane) o) ∷ past) lane (ended past lane + 1) ≡ [] → lanes_left facts (entry.Event (End lane (ended past lane) o) ∷ past) lanes 0 + 1 ≤ lanes_left facts past lanes 0
+ended_left facts past lanes lane o l c here at none = left_less facts past now lanes 0 lane lane 1 l here (omega arith) others mine
   where
-    by_asked : (b : Bool) → 5 * (calls - (n + 1)) - 0 + 1 ≤ 5 * (calls - n) - (if b then 4 else 0)
-    by_asked true = omega (arith, lt)
-    by_asked false = omega (arith, lt)
+    n : ℕ
+    n = ended past lane
 
--- and its end makes one less
-pub ended_left : (past : List Entry) (lanes : List Lane) (lane : ℕ) (o : Outcome) (l : Lane) → slice_get lanes lane ≡ Some l → ended past lane < length l.calls → own (entry.Event (End lane (ended past lane) o) ∷ past) lane (ended past lane + 1) ≡ []
-    → lanes_left (entry.Event (End lane (ended past lane) o) ∷ past) lanes 0 + 1 ≤ lanes_left past lanes 0
-ended_left past lanes lane o l here more none = left_less past now lanes 0 lane lane 1 l here (omega arith) others mine
-  where
     now : List Entry
-    now = entry.Event (End lane (ended past lane) o) ∷ past
+    now = entry.Event (End lane n o) ∷ past
 
-    others : (x : Lane) (w : ℕ) → lane ≢ w → lane_left now x w ≡ lane_left past x w
-    others x w ne = ap (λ (n : ℕ). left_of (length x.calls - n) (own past w n)) (ended_other past lane (ended past lane) w o ne)
+    others : (x : Lane) (w : ℕ) → lane ≢ w → lane_left facts now x w ≡ lane_left facts past x w
+    others x w ne = ap (λ (k : ℕ). calls_left facts (drop k x.calls) (length (own past w k))) (ended_other past lane n w o ne)
 
-    mine : lane_left now l lane + 1 ≤ lane_left past l lane
-    mine = ended_by (length l.calls) (ended past lane) (ended now lane) (own past lane (ended past lane)) (own past lane (ended now lane)) more (ended_end past lane (ended past lane) o)
-        (ap (own past lane) (ended_end past lane (ended past lane) o) ∙ none)
+    behind : suc n ≡ ended now lane
+    behind = (let more = ended_end past lane n o in omega (arith, more))
+
+    mine : lane_left facts now l lane + 1 ≤ lane_left facts past l lane
+    mine = ended_by facts (drop n l.calls) (drop (ended now lane) l.calls) c (length (own past lane n)) (length (own now lane (ended now lane))) (drop_at l.calls n c at ∙ ap (λ (k : ℕ). c ∷ drop k l.calls) behind)
+        (ap (λ (k : ℕ). length (own now lane k)) (ended_end past lane n o) ∙ ap length none)

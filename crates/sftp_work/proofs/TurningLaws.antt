@@ -1,5 +1,5 @@
 -- A lane of a session at rest may have its turn, and what it was is to be noted.
-use Rattle.std.proofs.Common.{◌≡◌, ◌<◌, ◌≤◌, ◌+◌, ℕ, true, List, [], ◌∷◌, Option, Some, refl, ap, sym, ◌∙◌, subst, arith}
+use Rattle.std.proofs.Common.{◌≡◌, ◌≤◌, ◌+◌, ℕ, true, List, [], ◌∷◌, Option, Some, refl, ap, sym, subst, arith}
 use Rattle.std.specs.Prelude.{length, slice_get, slice_index_or}
 use Rattle.std.proofs.lemmas.List.{length-append}
 use Rattle.std.proofs.lemmas.Option.{slice_get_within}
@@ -13,8 +13,7 @@ use Rattle.sftp_plan.specs.declared.next.Next.{Next}
 use Rattle.sftp_plan.specs.declared.next.Next.TheVariants as step
 use Rattle.sftp_plan.specs.declared.next.Running.{Running}
 use Rattle.sftp_history.specs.declared.call.Call.{Call}
-use Rattle.sftp_history.specs.declared.call.Lane.{Lane}
-use Rattle.sftp_history.specs.Calls.{Setting, calls_of, current}
+use Rattle.sftp_history.specs.Calls.{Setting}
 use Rattle.sftp_history.specs.Lanes.{is_within}
 use Rattle.sftp_history.specs.Readings.{asked, ended}
 use Rattle.sftp_ties.specs.Lanes.{Held, LaneValue, Ticketed}
@@ -30,10 +29,10 @@ use Rattle.sftp_lane.proofs.Rests.{turns_leave}
 use Rattle.sftp_lane.proofs.Turned.{lanes_may}
 use Rattle.sftp_work.specs.Noting.{Turning, call_in, turned_in}
 use Rattle.sftp_work.specs.Working.{Contents, Works, lane_in}
-use Rattle.sftp_work.proofs.CallsLaws.{call_within, current_is}
+use Rattle.sftp_work.proofs.CallsLaws.{call_within}
 use Rattle.sftp_work.proofs.ClosingLaws.{fewer_grants}
 use Rattle.sftp_work.proofs.Contents.{state_at}
-use Rattle.sftp_work.proofs.NotingLaws.{AtCall, at_call, ends_at, state_is, within_states}
+use Rattle.sftp_work.proofs.NotingLaws.{AtCall, at_call, current_at, there_at, within_states}
 
 -- ---- what a turn leaves of the lane
 
@@ -74,15 +73,6 @@ turned_grants c facts place core new v now m (Unreplied x) = (let short = settle
 turned_grants c facts place core new v now m (Waiting x) = (let same : length now.grants ≡ length v.grants = ap (λ (y : LaneValue). length y.grants) x.same in omega (arith, same))
 
 -- ---- the lane before it
-
-pub there_at : (s : Setting) (c : Contents) (lane : ℕ) (call : Call) → Works s c → AtCall c lane call → lane < length s.lanes
-there_at s c lane call w a = (let within = within_states c lane call a in let count = w.stands.count in omega (arith, within, count))
-
-pub current_at : (s : Setting) (c : Contents) (lane : ℕ) (call : Call) → Works s c → AtCall c lane call → current s c.past lane ≡ Some call
-current_at s c lane call w a =
-    (let lane_is : slice_get s.lanes lane ≡ Some a.calls = ap (λ (ls : List Lane). slice_get ls lane) (sym w.stands.calls) ∙ a.lane_is in
-    let number : ended c.past lane ≡ a.state.ended = sym (ends_at s lane c w (there_at s c lane call w a)) ∙ ap (λ (v : LaneValue). v.ended) (state_is c lane call a) in
-    current_is s c.past lane (w.stands.unadded lane) ∙ ap (λ (o : Option Lane). slice_get (calls_of o) (ended c.past lane)) lane_is ∙ ap (slice_get a.calls.calls) number ∙ a.call_is)
 
 -- what a turn asks for
 pub record MayTurn (s : Setting) (c : Contents) (lane : ℕ) (call : Call) : Type 0 where

@@ -50,7 +50,7 @@ pub record IsClosed (s : Setting) (before : List Entry) (old new : Contents) : T
   pub closes : ClosesTo s before new.past
   pub later : IsLater s before new.past
   pub begun : new.begun ≡ old.begun
-  pub left : lanes_left new.past new.calls 0 ≡ lanes_left old.past old.calls 0
+  pub left : lanes_left new.facts new.past new.calls 0 ≡ lanes_left old.facts old.past old.calls 0
   pub work : weigh new.core ≤ weigh old.core
 
 abbrev pub Closed : Setting → List Entry → ℕ → Contents → Contents → Type 0

@@ -1,13 +1,15 @@
 -- The lanes of an open session, and what each call does to them.
-use Rattle.std.specs.Prelude.{◌≡◌, ◌≢◌, ◌<◌, ◌+◌, ◌*◌, ◌-◌, ℕ, suc, Bool, true, false, reverse, List, [], ◌∷◌, length, Option, None, Result, if◌then◌else◌, slice_index_or}
+use Rattle.std.specs.Prelude.{◌≡◌, ◌≢◌, ◌<◌, ◌+◌, ◌*◌, ◌-◌, ℕ, suc, Bool, true, false, reverse, List, [], ◌∷◌, drop, length, Option, None, Result, slice_index_or}
 use Rattle.sftp_model.specs.declared.frame_error.FrameError.{FrameError}
 use Rattle.sftp_model.specs.declared.reply.Reply.{Reply}
 use Rattle.sftp_model.specs.declared.slot.Facts.{Facts}
 use Rattle.sftp_core.specs.Core.{Core}
+use Rattle.sftp_calls.specs.GoodMoves.{FitsFacts}
+use Rattle.sftp_calls.specs.RequestCounts.{work as most_requests}
+use Rattle.sftp_history.specs.declared.call.Call.{Call}
 use Rattle.sftp_history.specs.declared.call.Lane.{Lane}
 use Rattle.sftp_history.specs.declared.entry.Entry.{Entry}
-use Rattle.sftp_history.specs.Calls.{Setting, added, current, move_of}
-use Rattle.sftp_history.specs.Journals.{is_some_asked}
+use Rattle.sftp_history.specs.Calls.{Setting, added, current, move_of, planned}
 use Rattle.sftp_history.specs.Lanes.{are_ok}
 use Rattle.sftp_history.specs.Readings.{asked, ended, own, unanswered}
 use Rattle.sftp_history.specs.Turns.{Stage}
@@ -40,7 +42,7 @@ abbrev pub stage_in : Contents → Stage
 stage_in c = record { past = c.past; begun = c.begun }
 
 abbrev pub stage_of : Lanes → Stage
-stage_of w = record { past = past_of w; begun = w.begun.items }
+stage_of w = stage_in (contents_of w)
 
 -- a lane by its number
 abbrev pub lane_in : List LaneValue → ℕ → LaneValue
@@ -48,20 +50,26 @@ lane_in states lane = slice_index_or states lane fresh_lane
 
 -- ---- what is left to do
 
--- what a lane has left to do: each call counts five, and four of them for its request
-abbrev pub lane_left : List Entry → Lane → ℕ → ℕ
-lane_left past lane n = 5 * (length lane.calls - ended past n) - (if is_some_asked (own past n (ended past n)) then 4 else 0)
+-- What these calls have left to do, where the first of them has made so many requests. Each call counts one for its end, and
+-- four for each request that it may still make, since a request makes the core weigh three more at the most.
+abbrev pub calls_left : Facts → List Call → ℕ → ℕ
+calls_left facts [] made = 0
+calls_left facts (c ∷ calls) made = 1 + 4 * (most_requests (planned c) facts - made) + calls_left facts calls 0
+
+-- what a lane has left to do: its calls that have not ended, and the requests that the first of them has made
+abbrev pub lane_left : Facts → List Entry → Lane → ℕ → ℕ
+lane_left facts past lane n = calls_left facts (drop (ended past n) lane.calls) (length (own past n (ended past n)))
 
 -- and these lanes have, of which the first has this number
-abbrev pub lanes_left : List Entry → List Lane → ℕ → ℕ
-lanes_left past [] n = 0
-lanes_left past (lane ∷ lanes) n = lane_left past lane n + lanes_left past lanes (suc n)
+abbrev pub lanes_left : Facts → List Entry → List Lane → ℕ → ℕ
+lanes_left facts past [] n = 0
+lanes_left facts past (lane ∷ lanes) n = lane_left facts past lane n + lanes_left facts past lanes (suc n)
 
 abbrev pub work_in : Contents → ℕ
-work_in c = lanes_left c.past c.calls 0 + weigh c.core
+work_in c = lanes_left c.facts c.past c.calls 0 + weigh c.core
 
 abbrev pub work_of : Lanes → ℕ
-work_of w = lanes_left (past_of w) w.calls 0 + weigh w.core
+work_of w = work_in (contents_of w)
 
 -- ---- the lanes
 
@@ -70,6 +78,7 @@ pub record Stands (s : Setting) (c : Contents) : Type 0 where
   pub calls : c.calls ≡ s.lanes
   pub ok : are_ok c.calls ≡ true
   pub facts : c.facts ≡ s.facts
+  pub fit : FitsFacts s.facts
   pub asked : c.asked ≡ asked c.past
   pub count : length c.states ≡ length s.lanes
   pub unadded : (lane : ℕ) → added c.past lane ≡ []

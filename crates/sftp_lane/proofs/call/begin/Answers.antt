@@ -1,7 +1,69 @@
-use Rattle.sftp_lane.proofs.Begun.{open_began}
+use Rattle.std.proofs.Common.{ℕ, List, ap, sym, ◌∙◌}
+use Rattle.sftp_calls.specs.CallPlans as plan
+use Rattle.sftp_history.specs.Calls.{planned}
+use Rattle.sftp_lane.proofs.Begun.{begun_if, begun_local}
 use Rattle.sftp_lane.proofs.call.begin.Goals as goal
 
 pub returns-in-OpenFile-clause-began : goal.returns-in-OpenFile-clause-began
 returns-in-OpenFile-clause-began c =
-    open_began c.in-OpenFile.slot c.in-OpenFile.flags c.flags.result c.in-OpenFile.path c.as_slice.result.now c.args.place c.args.site.now c.args.facts.now c.args.call.now c.begin_open.result c.in-OpenFile.is c.flags.ensures c.as_slice.ensures
+    begun_if _ _ _ _ _ _ _ (ap planned c.in-OpenFile.is ∙ (λ i. plan.OpenFile c.in-OpenFile.slot (sym c.flags.ensures i) (sym c.as_slice.ensures i)))
     c.begin_open.ensures.goes c.begin_open.ensures.left c.begin_open.ensures.sound c.begin_open.ensures.pends
+
+pub returns-in-List-clause-began : goal.returns-in-List-clause-began
+returns-in-List-clause-began c = begun_if _ _ _ _ _ _ _ (ap planned c.in-List.is ∙ ap (λ (p : List ℕ). plan.Names p c.in-List.bound) (sym c.as_slice-in-List.ensures)) c.begin_list.ensures.goes c.begin_list.ensures.left c.begin_list.ensures.sound c.begin_list.ensures.pends
+
+pub returns-in-Stat-clause-began : goal.returns-in-Stat-clause-began
+returns-in-Stat-clause-began c = begun_if _ _ _ _ _ _ _ (ap planned c.in-Stat.is ∙ ap (plan.Stat) (sym c.as_slice-in-Stat.ensures)) c.begin_stat.ensures.goes c.begin_stat.ensures.left c.begin_stat.ensures.sound c.begin_stat.ensures.pends
+
+pub returns-in-Lstat-clause-began : goal.returns-in-Lstat-clause-began
+returns-in-Lstat-clause-began c = begun_if _ _ _ _ _ _ _ (ap planned c.in-Lstat.is ∙ ap (plan.Lstat) (sym c.as_slice-in-Lstat.ensures)) c.begin_lstat.ensures.goes c.begin_lstat.ensures.left c.begin_lstat.ensures.sound c.begin_lstat.ensures.pends
+
+pub returns-in-Remove-clause-began : goal.returns-in-Remove-clause-began
+returns-in-Remove-clause-began c = begun_if _ _ _ _ _ _ _ (ap planned c.in-Remove.is ∙ ap (plan.Remove) (sym c.as_slice-in-Remove.ensures)) c.begin_remove.ensures.goes c.begin_remove.ensures.left c.begin_remove.ensures.sound c.begin_remove.ensures.pends
+
+pub returns-in-Mkdir-clause-began : goal.returns-in-Mkdir-clause-began
+returns-in-Mkdir-clause-began c = begun_if _ _ _ _ _ _ _ (ap planned c.in-Mkdir.is ∙ ap (plan.Mkdir) (sym c.as_slice-in-Mkdir.ensures)) c.begin_mkdir.ensures.goes c.begin_mkdir.ensures.left c.begin_mkdir.ensures.sound c.begin_mkdir.ensures.pends
+
+pub returns-in-Rmdir-clause-began : goal.returns-in-Rmdir-clause-began
+returns-in-Rmdir-clause-began c = begun_if _ _ _ _ _ _ _ (ap planned c.in-Rmdir.is ∙ ap (plan.Rmdir) (sym c.as_slice-in-Rmdir.ensures)) c.begin_rmdir.ensures.goes c.begin_rmdir.ensures.left c.begin_rmdir.ensures.sound c.begin_rmdir.ensures.pends
+
+pub returns-in-ReadLink-clause-began : goal.returns-in-ReadLink-clause-began
+returns-in-ReadLink-clause-began c = begun_if _ _ _ _ _ _ _ (ap planned c.in-ReadLink.is ∙ ap (plan.ReadLink) (sym c.as_slice-in-ReadLink.ensures)) c.begin_read_link.ensures.goes c.begin_read_link.ensures.left c.begin_read_link.ensures.sound c.begin_read_link.ensures.pends
+
+pub returns-in-Canonicalize-clause-began : goal.returns-in-Canonicalize-clause-began
+returns-in-Canonicalize-clause-began c = begun_if _ _ _ _ _ _ _ (ap planned c.in-Canonicalize.is ∙ ap (plan.Canonicalize) (sym c.as_slice-in-Canonicalize.ensures)) c.begin_canonicalize.ensures.goes c.begin_canonicalize.ensures.left c.begin_canonicalize.ensures.sound c.begin_canonicalize.ensures.pends
+
+pub returns-in-SetStat-clause-began : goal.returns-in-SetStat-clause-began
+returns-in-SetStat-clause-began c =
+    begun_if _ _ _ _ _ _ _ (ap planned c.in-SetStat.is ∙ (λ i. plan.SetStat (sym c.as_slice-in-SetStat.ensures i) c.in-SetStat.size (sym c.mode_of.ensures i)))
+    c.begin_set_stat.ensures.goes c.begin_set_stat.ensures.left c.begin_set_stat.ensures.sound c.begin_set_stat.ensures.pends
+
+pub returns-in-FsWrite-clause-began : goal.returns-in-FsWrite-clause-began
+returns-in-FsWrite-clause-began c =
+    begun_if _ _ _ _ _ _ _ (ap planned c.in-FsWrite.is ∙ (λ i. plan.FsWrite (sym c.as_slice-in-FsWrite.ensures i) (sym c.as_slice-in-FsWrite-2.ensures i)))
+    c.begin_fs_write.ensures.goes c.begin_fs_write.ensures.left c.begin_fs_write.ensures.sound c.begin_fs_write.ensures.pends
+
+pub returns-in-Rename-clause-began : goal.returns-in-Rename-clause-began
+returns-in-Rename-clause-began c =
+    begun_if _ _ _ _ _ _ _ (ap planned c.in-Rename.is ∙ (λ i. plan.Rename (sym c.as_slice-in-Rename.ensures i) (sym c.as_slice-in-Rename-2.ensures i)))
+    c.begin_rename.ensures.goes c.begin_rename.ensures.left c.begin_rename.ensures.sound c.begin_rename.ensures.pends
+
+pub returns-in-HardLink-clause-began : goal.returns-in-HardLink-clause-began
+returns-in-HardLink-clause-began c =
+    begun_if _ _ _ _ _ _ _ (ap planned c.in-HardLink.is ∙ (λ i. plan.HardLink (sym c.as_slice-in-HardLink.ensures i) (sym c.as_slice-in-HardLink-2.ensures i)))
+    c.begin_hard_link.ensures.goes c.begin_hard_link.ensures.left c.begin_hard_link.ensures.sound c.begin_hard_link.ensures.pends
+
+pub returns-in-Symlink-clause-began : goal.returns-in-Symlink-clause-began
+returns-in-Symlink-clause-began c =
+    begun_if _ _ _ _ _ _ _ (ap planned c.in-Symlink.is ∙ (λ i. plan.Symlink (sym c.as_slice-in-Symlink.ensures i) (sym c.as_slice-in-Symlink-2.ensures i)))
+    c.begin_symlink.ensures.goes c.begin_symlink.ensures.left c.begin_symlink.ensures.sound c.begin_symlink.ensures.pends
+
+pub returns-in-Seek-clause-began : goal.returns-in-Seek-clause-began
+returns-in-Seek-clause-began c = begun_local _ _ _ _ _ _ _ (ap planned c.in-Seek.is) (c.begin_seek.ensures.goes c.args.place c.args.facts.now) (c.begin_seek.ensures.sound c.args.facts.now) c.begin_seek.ensures.pends
+
+pub returns-in-CloneFile-clause-began : goal.returns-in-CloneFile-clause-began
+returns-in-CloneFile-clause-began c = begun_local _ _ _ _ _ _ _ (ap planned c.in-CloneFile.is) (c.begin_clone.ensures.goes c.args.place c.args.facts.now) (c.begin_clone.ensures.sound c.args.facts.now) c.begin_clone.ensures.pends
+
+pub returns-in_ok-begin_cwd-in-Cwd-clause-began : goal.returns-in_ok-begin_cwd-in-Cwd-clause-began
+returns-in_ok-begin_cwd-in-Cwd-clause-began c =
+    begun_local _ _ _ _ _ _ _ (ap planned c.in-Cwd.is ∙ ap plan.Cwd (sym c.as_slice-in-Cwd.ensures)) (c.in_ok-begin_cwd-in-Cwd.ensures.goes c.args.place c.args.facts.now) (c.begin_cwd.ensures.sound c.args.facts.now) c.begin_cwd.ensures.pends

@@ -1,7 +1,8 @@
-use Rattle.std.proofs.Common.{sym, ◌∙◌, []}
+use Rattle.std.proofs.Common.{sym, ◌∙◌, [], None, inl}
 use Rattle.sftp_model.specs.Slots.{slot_at}
 use Rattle.sftp_calls.specs.TransferPlans.{missing_next}
 use Rattle.sftp_plan.specs.Machines.{Goes}
+use Rattle.sftp_plan.proofs.Asking.{asks_first, file_held}
 use Rattle.sftp_plan.proofs.Going.{on_file_goes}
 use Rattle.sftp_plan.proofs.gathering.begin_read_all.Goals as goal
 
@@ -19,3 +20,6 @@ returns-clause-sound c = c.read_rest.ensures.sound c.args.site.now [] (c.require
 
 pub returns-clause-pends : goal.returns-clause-pends
 returns-clause-pends c = c.read_rest.ensures.pends c.args.site.now
+
+pub returns-clause-asks : goal.returns-clause-asks
+returns-clause-asks c = asks_first None c.args.place c.args.site.now c.read_rest.result (c.read_rest.ensures.grants c.args.site.now None (inl (file_held c.args.site.now c.args.slot c.in-File.file (sym c.slot_of.ensures ∙ c.in-File.is))))

@@ -1,6 +1,7 @@
-use Rattle.std.proofs.Common.{sym, ◌∙◌}
+use Rattle.std.proofs.Common.{sym, ◌∙◌, None, inl}
 use Rattle.sftp_model.specs.Slots.{slot_at}
 use Rattle.sftp_calls.specs.TransferPlans.{in_slot, rest_next}
+use Rattle.sftp_plan.proofs.Asking.{asks_first_if_ok, file_held}
 use Rattle.sftp_plan.proofs.Going.{on_file_if_ok}
 use Rattle.sftp_plan.proofs.writing.begin_write_all.Goals as goal
 
@@ -16,3 +17,6 @@ returns-clause-sound c = c.write_rest.ensures.sound c.args.site.now (c.requires,
 
 pub returns-clause-pends : goal.returns-clause-pends
 returns-clause-pends c = c.write_rest.ensures.pends c.args.site.now
+
+pub returns-clause-asks : goal.returns-clause-asks
+returns-clause-asks c = asks_first_if_ok None c.args.place c.args.site.now c.write_rest.result (c.write_rest.ensures.grants c.args.site.now None (inl (file_held c.args.site.now c.args.slot c.in-File.file (sym c.slot_of.ensures ∙ c.in-File.is))))

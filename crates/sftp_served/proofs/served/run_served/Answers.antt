@@ -29,5 +29,5 @@ pub returns-in-Err-clause-only : goal.returns-in-Err-clause-only
 returns-in-Err-clause-only g c =
     let same = c.in-Err.ensures.service in
     let given = g.X.RunsLanes.given c.args.session.now in
-    stops_for_memory given c.run_session.new.link c.in-Err.error (subst IsUnopened (sym same) c.requires.unopened) c.is_ended-ended-in-Err.ensures.serving
+    stops_for_memory given c.run_session.new.link c.in-Err.error c.requires.lanes (subst IsUnopened (sym same) c.requires.unopened) c.is_ended-ended-in-Err.ensures.serving
     (subst (λ (w : List Piece). Ends given c.run_session.new.link.ended c.in-Err.error w c.run_session.new.link.log) c.requires.quiet c.in-Err.ensures.stops) c.in-Err.ensures.cause

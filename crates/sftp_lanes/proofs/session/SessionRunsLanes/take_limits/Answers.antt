@@ -20,7 +20,7 @@ use Rattle.sftp_driver.proofs.Bare.{came, may_take, opened_later, queried_first}
 use Rattle.sftp_lanes.specs.Seen.{IsInPhase, setting_by}
 use Rattle.sftp_work.specs.declared.lanes.Lanes.{Lanes}
 use Rattle.sftp_work.proofs.FaultLaws.{refused_so_far}
-use Rattle.sftp_lanes.proofs.Opening.{facts_told, facts_untouched, fails_by, in_phase, info_came, is_fixed, limits_are, opens_told, same_limits, still_untouched}
+use Rattle.sftp_lanes.proofs.Opening.{facts_told, facts_untouched, fails_by, fit_told, in_phase, info_came, is_fixed, limits_are, opens_told, same_limits, still_untouched}
 use Rattle.sftp_lanes.proofs.session.SessionRunsLanes.take_limits.Goals as goal
 
 pub invariant_of-self : goal.invariant_of-self
@@ -40,13 +40,14 @@ invariant_of-self c =
     let tells = c.tell-self-inside in
     let known = tells.ensures.info ∙ ap (λ (k : Core). info_of k.phase) calm in
     let facts = facts_told tells.new.work.facts c.self.inside.options (offered c.self.inside.version) _ _ (tells.ensures.facts (offered c.self.inside.version)) known in
+    let fit = fit_told tells.new.work.facts _ _ tells.ensures.fit known in
     let before : Lanes = record c.take_frame.new.self { journal = c.push.new.self } in
     let still = still_untouched c.self.inside.lanes.now c.self.inside.work before (λ i. record (c.take_frame.ensures.rest i) { journal = c.push.new.self }) (ap asked past) f.1.1 in
     record {
       ok = c.self.invariant.ok;
       room = search rules;
       now = subst (λ (x : Lanes). IsInPhase c.self.inside.lanes.now c.self.inside.options c.self.inside.version tells.result (record x { journal = c.push.new.self }) Open) (sym tells.ensures.rest)
-          (opens_told _ _ _ _ q.0 (limits_in t.reply) t.reply (record before { facts = tells.new.work.facts }) c.self.invariant.ok q.1.0 q.1.1 known facts calm t.goes all (facts_untouched _ before tells.new.work.facts still));
+          (opens_told _ _ _ _ q.0 (limits_in t.reply) t.reply (record before { facts = tells.new.work.facts }) c.self.invariant.ok q.1.0 q.1.1 known facts fit calm t.goes all (facts_untouched _ before tells.new.work.facts still));
     }
 
 pub invariant_of-self-in-Err : goal.invariant_of-self-in-Err

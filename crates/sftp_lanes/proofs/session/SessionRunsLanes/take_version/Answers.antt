@@ -13,7 +13,7 @@ use Rattle.sftp_work.proofs.FaultLaws.{refused_so_far}
 use Rattle.sftp_work.specs.declared.lanes.Lanes.{Lanes}
 use Rattle.sftp_work.specs.SoFar.{HasRoom}
 use Rattle.sftp_lanes.specs.Seen.{IsInPhase}
-use Rattle.sftp_lanes.proofs.Opening.{facts_told, facts_untouched, fails_by, in_phase, opens_at_once, same_version, still_untouched}
+use Rattle.sftp_lanes.proofs.Opening.{facts_told, facts_untouched, fails_by, fit_told, in_phase, opens_at_once, same_version, still_untouched}
 use Rattle.sftp_work.proofs.Entries.{pushed}
 use Rattle.sftp_lanes.proofs.session.SessionRunsLanes.take_version.Goals as goal
 
@@ -45,13 +45,14 @@ invariant_of-self-in-Ok-Version c =
     let t = c.tell-self-inside in
     let known = t.ensures.info ∙ ap (λ (k : Core). info_of k.phase) calm in
     let facts = facts_told t.new.work.facts c.self.inside.options (offered (Some c.in-Ok-Version.reply)) _ _ (t.ensures.facts (offered (Some c.in-Ok-Version.reply))) known in
+    let fit = fit_told t.new.work.facts _ _ t.ensures.fit known in
     let now : Lanes = record c.take_frame.new.self { facts = t.new.work.facts } in
     let u = facts_untouched _ c.take_frame.new.self t.new.work.facts (still_untouched _ _ c.take_frame.new.self c.take_frame.ensures.rest (ap (λ xs. asked (reverse xs)) c.in-Ok-Version.ensures.journal) f.1.1) in
     record {
       ok = c.self.invariant.ok;
       room = subst HasRoom (sym t.ensures.rest) c.take_frame.ensures.room;
       now = subst (λ (x : Lanes). IsInPhase c.self.inside.lanes.now c.self.inside.options (Some c.in-Ok-Version.reply) t.result x Open) (sym t.ensures.rest)
-          (opens_at_once _ _ _ _ v.extensions now c.self.invariant.ok (ap Some same) none known facts calm (ap reverse c.in-Ok-Version.ensures.journal ∙ f.0.2) u);
+          (opens_at_once _ _ _ _ v.extensions now c.self.invariant.ok (ap Some same) none known facts fit calm (ap reverse c.in-Ok-Version.ensures.journal ∙ f.0.2) u);
     }
 
 pub invariant_of-self-in-Err : goal.invariant_of-self-in-Err
