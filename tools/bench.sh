@@ -1,6 +1,7 @@
 #!/bin/sh
-# Measures how the time and the memory of the core alone, and of a run, grow with the requests in flight, and how long many small
-# files take over OpenSSH's server beside `sftp -b`. It prints tables, is no part of the gate, and takes half an hour or more.
+# Measures how the time and the memory of the core alone, and of a run, grow with the requests in flight, how long many small
+# files take over OpenSSH's server beside `sftp -b`, and how long some files of a few kilobytes take up and down. It prints tables,
+# is no part of the gate, and takes half an hour or more.
 #
 #     tools/bench.sh [FIRST] [LAST]     requests in flight, doubled from FIRST to LAST: from 5000 to 40000
 #
@@ -46,6 +47,32 @@ def script(paths, files=""):
         lines += [f"step {lane}" for lane in lanes] + ["flush"] + ["take"] * len(paths)
         lines += [f"step {lane}" for lane in lanes]
     return "\n".join(lines) + "\n"
+
+
+# so many files of so many bytes go up and down: as many as one script may hold
+BULK, BYTES = 1000, 8000
+
+
+def in_turns(calls, phases):
+    """Lanes of these calls, all in flight at once; each phase is a step of every lane and what is taken then."""
+    lanes = range(len(calls))
+    lines = ["option max_pending_requests 65535"]
+    for lane in calls:
+        lines += ["lane"] + lane
+    for takes in phases:
+        lines += [f"step {lane}" for lane in lanes] + ["flush"] + ["take"] * (len(calls) if takes else 0)
+    return "\n".join(lines) + "\n"
+
+
+def up(paths):
+    """An OPEN, a WRITE and a CLOSE for each path."""
+    return in_turns([[f"fs_write {digits(path)} " + "61" * BYTES] for path in paths], [True, True, True])
+
+
+def down(paths):
+    """An OPEN, a READ and a CLOSE for each path."""
+    calls = [[f"open 0 r {digits(path)}", f"read_all 0 {BYTES}", "close 0"] for path in paths]
+    return in_turns(calls, [True, False, True, False, True, False])
 
 
 def measure(command, text):
@@ -121,7 +148,7 @@ def row(words, result, before):
     told = "failed, or over the limit" if result is None else f"{result[0]:10.2f} s {result[1]:9.1f} MiB"
     if result and before:
         told += f"   x {result[0] / before[0]:.2f} time, x {result[1] / before[1]:.2f} memory"
-    print(f"{words:32} {told}", flush=True)
+    print(f"{words:42} {told}", flush=True)
     return result
 
 
@@ -156,4 +183,16 @@ for late in (False, True):
         batch = "".join(f"get {name} /dev/null\n" for name in names[:n])
         through = f"socat - UNIX-CONNECT:{path}"
         before = row(f"{n} files, sftp -b", measure(["sftp", "-q", "-b", "-", "-D", through], batch), before)
+    sent = [os.path.join(folder.name, f"bulk{k}") for k in range(BULK)]
+    local = os.path.join(folder.name, "local")
+    with open(local, "w") as f:
+        f.write("a" * BYTES)
+    bulk = f"{BULK} files of {BYTES} bytes"
+    row(f"{bulk} up", measure([PROGRAM, "unix", path], up(sent)), None)
+    row(f"{bulk} down", measure([PROGRAM, "unix", path], down(sent)), None)
+    for words, batch in (
+        ("up", "".join(f"put {local} {name}\n" for name in sent)),
+        ("down", "".join(f"get {name} /dev/null\n" for name in sent)),
+    ):
+        row(f"{bulk} {words}, sftp -b", measure(["sftp", "-q", "-b", "-", "-D", through], batch), None)
 END

@@ -71,6 +71,15 @@ compare script-of-16777217-bytes "$room/too_long" "$room/refused"
 tr '\0' '#' </dev/zero | run script
 compare script-without-an-end "$room/too_long" "$room/refused"
 
+# a path whose request would be a byte longer than a frame may be
+printf 'lane 0 call 0 refused io PathTooLong\n' >"$room/path_too_long"
+{
+    printf 'lane\nstat '
+    yes 61 | head -n 1048567 | tr -d '\n'
+    printf '\n'
+} | run script
+compare stat-of-a-path-over-the-longest "$room/path_too_long" "$room/done"
+
 if [ "$found" -eq 0 ]; then
     echo "cases: there are no scripts in $scripts"
     failed=$((failed + 1))

@@ -1,10 +1,15 @@
 #!/bin/sh
-# Runs the program over OpenSSH's SFTP server: opens, reads and closes a real file, and compares what it prints.
-# The server and socat are installed where that can be done; without them this says so and passes.
+# Runs the program over OpenSSH's SFTP server: each call that this server knows, files up and down, and a long listing; and compares
+# what it prints, and the real files, with what is wanted. The server and socat are installed where that can be done; without them
+# this says so and passes.
 set -u
 cd "$(dirname "$0")/.." || exit 1
 
-program=$PWD/crates/sftp_cli/out/sftp_cli
+case ${1-} in
+'' | /*) program=${1-} ;;
+*) program=$PWD/$1 ;;
+esac
+program=${program:-$PWD/crates/sftp_cli/out/sftp_cli}
 server=/usr/lib/openssh/sftp-server
 
 if ! [ -x "$server" ] || ! command -v socat >/dev/null; then
@@ -20,6 +25,7 @@ if ! [ -x "$program" ]; then
 fi
 
 room=$(mktemp -d) || exit 1
+room=$(cd "$room" && pwd -P)
 socat "UNIX-LISTEN:$room/socket,fork" "EXEC:$server" 2>/dev/null &
 listener=$!
 trap 'kill $listener 2>/dev/null; rm -rf "$room"' EXIT
@@ -28,19 +34,51 @@ while ! [ -S "$room/socket" ] && [ $tries -lt 100 ]; do
     sleep 0.1
     tries=$((tries + 1))
 done
+passed=0
+failed=0
 
 # the hexadecimal digits of what standard input holds
 hex() {
     od -An -v -tx1 | tr -d ' \n'
 }
 
-printf hello >"$room/file"
-path=$(printf %s "$room/file" | hex)
-missing=$(printf %s "$room/missing" | hex)
+# those of a name in the room
+at() {
+    printf %s "$room/$1" | hex
+}
 
-# the frames of the read, and the outcomes: what the server says of itself and its handles is its own
+# runs a script over the server, and keeps its text and the lines of its outcomes
+run() {
+    timeout 60 "$program" unix "$room/socket" <"$room/script" >"$room/text"
+    status=$?
+    grep '^lane' "$room/text" >"$room/outcomes"
+}
+
+# says what a part showed
+tell() {
+    if [ "$2" -eq 0 ]; then
+        passed=$((passed + 1))
+        return
+    fi
+    failed=$((failed + 1))
+    echo "interop: $1: FAILED, status $status; the outcomes:"
+    cut -c1-200 "$room/outcomes"
+}
+
+# ---- a file is read; what the server says of itself and its handles is its own
+
+printf hello >"$room/file"
+cat >"$room/script" <<END
+lane
+open 0 r $(at file)
+read 0 100
+read 0 1
+close 0
+lane
+open 0 r $(at missing)
+read 0 1
+END
 cat >"$room/wanted" <<END
-< data 0000000568656c6c6f
 lane 0 call 0 opened
 lane 0 call 1 read 68656c6c6f
 lane 0 call 2 end
@@ -48,14 +86,134 @@ lane 0 call 3 done
 lane 1 call 0 refused sftp 2
 lane 1 call 1 nofile
 END
-printf 'lane\nopen 0 r %s\nread 0 100\nread 0 1\nclose 0\nlane\nopen 0 r %s\nread 0 1\n' "$path" "$missing" |
-    "$program" unix "$room/socket" >"$room/text"
-status=$?
-grep -e '^< data' -e '^lane' "$room/text" >"$room/got"
+run
+[ $status -eq 0 ] && diff "$room/wanted" "$room/outcomes" && grep -q '^< data 0000000568656c6c6f$' "$room/text"
+tell 'a file is opened, read and closed' $?
 
-if [ $status -ne 0 ] || ! diff "$room/wanted" "$room/got"; then
-    echo "interop: FAILED over OpenSSH's server, status $status; all that was printed:"
-    cat "$room/text"
-    exit 1
-fi
-echo "interop: a file was opened, read and closed over OpenSSH's server"
+# ---- each call; of attributes only that they were told, and of a listing only which names it has
+
+cat >"$room/script" <<END
+lane
+mkdir $(at d)
+cwd $(at d)
+fs_write 61 68656c6c6f
+open 0 rw $(at d/a)
+read_all 0 5
+write 0 20776f726c64
+write_all 0 21
+meta 0
+set_len 0 8
+set_perm 0 384
+sync 0
+seek 0 start 0
+read 0 100
+clone 0 1
+seek 1 cur -2
+read 1 3
+open 2 rwc $(at d/b)
+seek 0 start 0
+copy 0 2 5
+close 0
+close 1
+close 2
+stat 61
+lstat 61
+set_stat 62 2 -
+hard_link 61 63
+symlink 61 73
+read_link 73
+canonicalize 73
+rename 62 65
+remove 63
+remove 73
+mkdir 78
+rmdir 78
+list - 100
+stat 78
+END
+cat >"$room/wanted" <<END
+lane 0 call 0 done
+lane 0 call 1 done
+lane 0 call 2 done
+lane 0 call 3 opened
+lane 0 call 4 read 68656c6c6f
+lane 0 call 5 count 6
+lane 0 call 6 done
+lane 0 call 7 meta
+lane 0 call 8 done
+lane 0 call 9 done
+lane 0 call 10 done
+lane 0 call 11 count 0
+lane 0 call 12 read 68656c6c6f20776f
+lane 0 call 13 done
+lane 0 call 14 count 6
+lane 0 call 15 read 776f
+lane 0 call 16 opened
+lane 0 call 17 count 0
+lane 0 call 18 done
+lane 0 call 19 done
+lane 0 call 20 done
+lane 0 call 21 done
+lane 0 call 22 meta
+lane 0 call 23 meta
+lane 0 call 24 done
+lane 0 call 25 done
+lane 0 call 26 done
+lane 0 call 27 path $(at d/a)
+lane 0 call 28 path $(at d/a)
+lane 0 call 29 done
+lane 0 call 30 done
+lane 0 call 31 done
+lane 0 call 32 done
+lane 0 call 33 done
+lane 0 call 34 names
+lane 0 call 35 refused sftp 2
+END
+run
+names=$(sed -n 's/^lane 0 call 34 names//p' "$room/outcomes" | tr ' ' '\n' | sort | tr -d '\n')
+sed -e 's/ meta .*/ meta/' -e 's/ names.*/ names/' "$room/outcomes" >"$room/got"
+[ $status -eq 0 ] && diff "$room/wanted" "$room/got" && [ "$names" = 2e2e2e6165 ] &&
+    [ "$(cat "$room/d/a")" = 'hello wo' ] && [ "$(cat "$room/d/e")" = he ] && [ "$(ls "$room/d" | tr '\n' ' ')" = 'a e ' ] &&
+    [ "$(stat -c %a "$room/d/a")" = 600 ]
+tell 'each call' $?
+
+# ---- files go up and come down whole, in two lanes at once
+
+mkdir "$room/up"
+for size in 0 1 255 262144 8000000; do
+    head -c $size /dev/urandom >"$room/source"
+    content=$(hex <"$room/source")
+    {
+        echo lane
+        echo "fs_write $(at up/whole) ${content:--}"
+        echo "open 0 r $(at up/whole)"
+        echo "read_all 0 $size"
+        echo "stat $(at up/whole)"
+        echo lane
+        echo "open 0 wc $(at up/parts)"
+        echo "write_all 0 6162"
+        echo "close 0"
+    } >"$room/script"
+    run
+    printf 'lane 0 call 2 read %s\n' "${content:--}" >"$room/wanted"
+    grep '^lane 0 call 2 ' "$room/outcomes" >"$room/got"
+    [ $status -eq 0 ] && cmp "$room/wanted" "$room/got" && cmp "$room/source" "$room/up/whole" && [ "$(cat "$room/up/parts")" = ab ]
+    tell "a file of $size bytes" $?
+done
+
+# ---- a listing of 1,000 entries and the two that stand for the directory and its parent
+
+mkdir "$room/many"
+(cd "$room/many" && seq 1000 | xargs touch)
+printf 'lane\nlist %s 1000\n' "$(at many)" >"$room/script"
+run
+sed -n 's/^lane 0 call 0 names //p' "$room/outcomes" | tr ' ' '\n' | sort >"$room/got"
+{
+    printf '2e\n2e2e\n'
+    seq 1000 | while read -r name; do printf '%s\n' "$(printf %s "$name" | hex)"; done
+} | sort >"$room/wanted"
+[ $status -eq 0 ] && cmp "$room/wanted" "$room/got"
+tell 'a listing of 1,000 entries' $?
+
+echo "interop over OpenSSH's server: $passed passed, $failed failed"
+[ "$failed" -eq 0 ]
