@@ -25,8 +25,11 @@ pub mod OpenSteps
 pub mod AskedReads
 pub mod AskedLaws
 pub mod CallRows
+pub mod LeftSites
+pub mod LeftCalls
 pub mod LimitLaws
 pub mod LimitWrites
-pub mod LimitCalls
 pub mod LimitBuffers
 pub mod LimitEnds
+pub mod ReadAsks
+pub mod ReadEnds

@@ -1,28 +1,24 @@
--- That for buffered files, whole files and listings.
-use Rattle.std.proofs.Common.{◌≡◌, ◌≤◌, ◌-◌, ◌==◌, ℕ, Bool, true, false, List, [], ◌∷◌, Option, Some, None, refl, sym, subst, arith, if◌then◌else◌}
-use Rattle.std.specs.Prelude.{◌++◌, length, min, max, not, take, drop, nat_lt}
+-- Calls on buffered files leave the deferred writes within the limit.
+use Rattle.std.proofs.Common.{◌≡◌, ◌≤◌, ◌==◌, ℕ, Bool, true, false, List, [], ◌∷◌, Option, Some, None, refl, sym, subst, arith, if◌then◌else◌}
+use Rattle.std.specs.Prelude.{length, min, max, not, take, drop}
 use Rattle.sftp_model.specs.declared.outcome.Outcome.TheVariants as outcome
 use Rattle.sftp_model.specs.declared.error.IoKind.TheVariants as kind
-use Rattle.sftp_model.specs.declared.reply.NameEntry.{NameEntry}
 use Rattle.sftp_model.specs.declared.reply.Reply.{Reply}
-use Rattle.sftp_model.specs.declared.request.Request.TheVariants as request
 use Rattle.sftp_model.specs.declared.slot.Facts.{Facts}
 use Rattle.sftp_model.specs.declared.slot.Move.{Move}
-use Rattle.sftp_model.specs.declared.slot.Move.TheVariants.{Ask, Done}
+use Rattle.sftp_model.specs.declared.slot.Move.TheVariants.{Done}
 use Rattle.sftp_model.specs.declared.slot.FileAt.{FileAt}
 use Rattle.sftp_model.specs.declared.slot.Buffer.{Buffer}
 use Rattle.sftp_model.specs.declared.slot.Slot.TheVariants.{Buffered}
 use Rattle.sftp_model.specs.declared.slot.Site.{Site}
 use Rattle.sftp_model.specs.Slots.{slot_at, with_slot}
-use Rattle.sftp_calls.specs.Moves.{Answers, Own, Plan, ask_read, refuses, on_buffered, further}
+use Rattle.sftp_calls.specs.Moves.{Answers, Own, ask_read, refuses, on_buffered, further}
 use Rattle.sftp_calls.specs.BufferPlans.{pending, sought_slot, sought_buffer, given, without_reading, was_filled, fill_next, from_buffer, buf_read_file_next, with_deferred, flush_next, is_good, unflushed}
-use Rattle.sftp_calls.specs.WholePlans.{once_opened, entries_next}
-use Rattle.sftp_calls.specs.WindowPlans.{first_refusal, least, least_end, gaps, contents, await_first, ask_more, go_on, reaches, ends_or, unless_refused, window_next}
 use Rattle.sftp_calls.specs.RequestCounts.{EachHasByte, IsWithinLimit, BuffersWithin, LeavesWithin}
-use Rattle.sftp_calls.proofs.MoveLaws.{either, by_status, by_refusal, by_content, at_buffered}
-use Rattle.sftp_calls.proofs.CountLaws.{answered_in, on_granted, on_entries}
+use Rattle.sftp_calls.proofs.MoveLaws.{either, by_status, by_content, at_buffered}
+use Rattle.sftp_calls.proofs.CountLaws.{answered_in}
 use Rattle.sftp_calls.proofs.LimitLaws.{within_set}
-use Rattle.sftp_calls.proofs.LimitCalls.{once_leaves, read_leaves}
+use Rattle.sftp_calls.proofs.LeftSites.{once_leaves, read_leaves}
 
 pub buffer_leaves : (facts : Facts) (site : Site) (slot : ℕ) (go : FileAt → Buffer → Move) → BuffersWithin facts site → ((file : FileAt) (buffer : Buffer) → IsWithinLimit facts buffer → LeavesWithin facts (go file buffer)) → LeavesWithin facts (on_buffered (slot_at site slot) site go)
 buffer_leaves facts site slot go b goes = at_buffered (LeavesWithin facts) (slot_at site slot) site go (λ o. b) (λ file buffer at. goes file buffer (b slot file buffer at))
@@ -55,7 +51,7 @@ fill_leaves : (facts : Facts) (slot n : ℕ) (file : FileAt) (buffer : Buffer) (
     → LeavesWithin facts (fill_next slot n file buffer site facts reading own answers)
 fill_leaves facts slot n file buffer site (Some place) own answers w b = answered_in (LeavesWithin facts) answers place (answers place) _ refl tt (λ r is. filled_leaves facts slot n file buffer site r w b)
 fill_leaves facts slot n file buffer site None own answers w b =
-    once_leaves facts (ask_read file (min (max n buffer.len) facts.read_len) site answers) (was_filled slot n file buffer site) own answers (read_leaves facts file (min (max n buffer.len) facts.read_len) site answers b)
+    once_leaves (BuffersWithin facts) (ask_read file (min (max n buffer.len) facts.read_len) site answers) (was_filled slot n file buffer site) own answers (read_leaves (BuffersWithin facts) file (min (max n buffer.len) facts.read_len) site answers b)
     (λ r. filled_leaves facts slot n file buffer site r w b)
 
 from_leaves : (facts : Facts) (slot n : ℕ) (file : FileAt) (buffer : Buffer) (site : Site) (bytes : List ℕ) (own : Own) (answers : Answers) → IsWithinLimit facts buffer → BuffersWithin facts site
@@ -94,45 +90,3 @@ pub unflushed_leaves : (facts : Facts) (site : Site) (slot : ℕ) (file : FileAt
 unflushed_leaves facts site slot file buffer answers w b =
     let u : (pending (unflushed answers buffer.deferred) ≤ facts.write_limit) × EachHasByte (unflushed answers buffer.deferred) = unflushed_within facts.write_limit answers buffer.deferred w.within w.each in
     within_set facts site slot (Buffered file (record buffer { deferred = unflushed answers buffer.deferred })) (record { within = u.0; each = u.1 }) b
-
--- ---- whole files and listings
-
-pub opened_leaves : (facts : Facts) (first : Move) (site : Site) (go : ℕ → List ℕ → Plan) (own : Own) (answers : Answers) → BuffersWithin facts site → LeavesWithin facts first
-    → ((place : ℕ) (handle : List ℕ) (later : Own) → LeavesWithin facts (go place handle later answers)) → LeavesWithin facts (once_opened first site go own answers)
-opened_leaves facts first site go [] answers b asks goes = asks
-opened_leaves facts first site go (asked ∷ later) answers b asks goes =
-    answered_in (LeavesWithin facts) answers asked.0 (answers asked.0) _ refl tt (λ r is. on_granted (LeavesWithin facts) r site _ (λ o. b) (λ handle. goes asked.0 handle later))
-
-pub entries_leave : (facts : Facts) (handle : List ℕ) (got : List NameEntry) (bound : ℕ) (site : Site) (own : Own) (answers : Answers) → BuffersWithin facts site → LeavesWithin facts (entries_next handle got bound site own answers)
-entries_leave facts handle got bound site [] answers b = either (LeavesWithin facts) (bound == 0) (Done outcome.GivenUp site) (Ask (request.Readdir handle)) (λ e. b) (λ e. tt)
-entries_leave facts handle got bound site (asked ∷ later) answers b =
-    answered_in (LeavesWithin facts) answers asked.0 (answers asked.0) _ refl tt (λ r is. on_entries (LeavesWithin facts) r site (Done (outcome.Names got) site) _ (λ o. b) b
-    (λ entries. entries_leave facts handle (got ++ entries) (bound - 1) site later answers b))
-
-awaits_leave : (facts : Facts) (waiting : Own) (site : Site) → BuffersWithin facts site → LeavesWithin facts (await_first waiting site)
-awaits_leave facts [] site b = b
-awaits_leave facts (asked ∷ later) site b = tt
-
-more_leaves : (facts : Facts) (handle : List ℕ) (reads : Own) (replies : List (ℕ × Reply)) (waiting : Own) (site : Site) (gap end : Option ℕ) → BuffersWithin facts site → LeavesWithin facts (ask_more handle reads replies waiting site facts gap end)
-more_leaves facts handle reads replies waiting site (Some p) end b = tt
-more_leaves facts handle reads replies waiting site None None b = tt
-more_leaves facts handle reads replies waiting site None (Some end) b = awaits_leave facts waiting site b
-
-ends_leave : (facts : Facts) (missing : List ℕ) (replies : List (ℕ × Reply)) (waiting : Own) (site : Site) (end : Option ℕ) (other : Move) → BuffersWithin facts site → LeavesWithin facts other → LeavesWithin facts (ends_or missing replies waiting site end other)
-ends_leave facts [] replies [] site (Some end) other b goes = b
-ends_leave facts [] replies [] site None other b goes = goes
-ends_leave facts [] replies (asked ∷ later) site end other b goes = goes
-ends_leave facts (p ∷ ps) replies waiting site end other b goes = goes
-
-pub window_leaves : (facts : Facts) (handle : List ℕ) (bound : Option ℕ) (reads : Own) (replies : List (ℕ × Reply)) (waiting : Own) (site : Site) → BuffersWithin facts site → LeavesWithin facts (window_next handle bound reads replies waiting site facts)
-window_leaves facts handle bound reads replies waiting site b = by_refused (first_refusal replies)
-  where
-    goes : LeavesWithin facts (go_on handle bound reads replies waiting site facts)
-    goes =
-        either (LeavesWithin facts) (reaches bound (length (contents replies))) (Done outcome.GivenUp site) _ (λ e. b)
-        (λ e. either (LeavesWithin facts) (nat_lt (length waiting) facts.read_window) (ask_more handle reads replies waiting site facts (least (gaps reads replies waiting)) (least_end replies)) (await_first waiting site)
-        (λ f. more_leaves facts handle reads replies waiting site (least (gaps reads replies waiting)) (least_end replies) b) (λ f. awaits_leave facts waiting site b))
-
-    by_refused : (o : Option (ℕ × Reply)) → LeavesWithin facts (unless_refused o site (ends_or (gaps reads replies waiting) replies waiting site (least_end replies) (go_on handle bound reads replies waiting site facts)))
-    by_refused None = ends_leave facts (gaps reads replies waiting) replies waiting site (least_end replies) (go_on handle bound reads replies waiting site facts) b goes
-    by_refused (Some got) = by_refusal (LeavesWithin facts) got.1 site (λ o. b)

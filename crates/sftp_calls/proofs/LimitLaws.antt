@@ -33,7 +33,7 @@ to_slots facts site k w = by_slot (slot_at site k) refl
     by_slot (File file) is = tt
     by_slot (Buffered file buffer) is = w k file buffer is
 
-set_cases : (P : Slot → Type 0) (slots : List Slot) (k j : ℕ) (x : Slot) → P (slice_index_or slots j Empty) → P x → P (slice_index_or (slice_set slots k x) j Empty)
+pub set_cases : (P : Slot → Type 0) (slots : List Slot) (k j : ℕ) (x : Slot) → P (slice_index_or slots j Empty) → P x → P (slice_index_or (slice_set slots k x) j Empty)
 set_cases P [] k j x old new = old
 set_cases P (slot ∷ slots) zero zero x old new = new
 set_cases P (slot ∷ slots) zero (suc j) x old new = old

@@ -22,16 +22,12 @@ use Rattle.sftp_calls.specs.OwnRequests.{oldest_first, AreAsked}
 use Rattle.sftp_calls.specs.BufferPlans.{pending, deferrable_len, ask_deferred, after_write, written_slot, send_next, buf_write_file_next, buf_write_next, buffered_rest, buf_write_all_next, carried, freed}
 use Rattle.sftp_calls.specs.RequestCounts.{IsWithinLimit, BuffersWithin, LeavesWithin}
 use Rattle.sftp_calls.proofs.MoveLaws.{either}
+use Rattle.sftp_calls.proofs.LeftSites.{write_leaves}
 use Rattle.sftp_calls.proofs.LimitLaws.{within_set, freed_within, by_capacity, some_deferrable, written_within, Carries}
 
 -- ---- what is asked, and what is left where nothing is
 
-pub write_leaves : (facts : Facts) (file : FileAt) (bytes : List ℕ) (site : Site) (answers : Answers) → BuffersWithin facts site → LeavesWithin facts (ask_write file bytes site answers)
-write_leaves facts file bytes site answers b =
-    either (LeavesWithin facts) (not file.writable) (refuses kind.NotWritable site) _ (λ e. b)
-    (λ e. either (LeavesWithin facts) (overflows file.offset (length bytes)) (refuses kind.OffsetOverflow site) (Ask (request.Write (handle_of (answers file.grant)) file.offset bytes)) (λ o. b) (λ o. tt))
-
-asks_same : (q r : Request) → Ask q ≡ Ask r → q ≡ r
+pub asks_same : (q r : Request) → Ask q ≡ Ask r → q ≡ r
 asks_same q r e = cc
 
 write_carries : (file : FileAt) (bytes : List ℕ) (site : Site) (answers : Answers) (r : Request) → ask_write file bytes site answers ≡ Ask r → carried r ≡ length bytes
@@ -53,10 +49,10 @@ deferred_carries file bytes facts answers b x r e =
 filled : (bytes : List ℕ) → (length bytes == 0) ≡ false → 1 ≤ length bytes
 filled bytes e = grind (arith, nat_tests)
 
-no_done : (o : Outcome) (x : Site) (r : Request) → Done o x ≡ Ask r → ⊥
+pub no_done : (o : Outcome) (x : Site) (r : Request) → Done o x ≡ Ask r → ⊥
 no_done o x r e = absurd cc
 
-no_wait : (place : ℕ) (r : Request) → Wait place ≡ Ask r → ⊥
+pub no_wait : (place : ℕ) (r : Request) → Wait place ≡ Ask r → ⊥
 no_wait place r e = absurd cc
 
 -- the first bytes of a buffer's WRITE, where there are some
@@ -95,7 +91,7 @@ rest_leaves slot bytes file buffer site facts [] answers limit w b c =
     either (LeavesWithin facts) (length bytes == 0) (Done outcome.Done site) _ (λ z. b)
     (λ z. either (LeavesWithin facts) (not file.writable) (refuses kind.NotWritable site) _ (λ n. b)
     (λ n. by_capacity (LeavesWithin facts) slot file buffer site facts answers (ask_deferred file bytes facts answers) limit w b (λ p. tt) (λ o x h. h)
-    (λ x h. write_leaves facts file (take (deferrable_len facts bytes (freed facts buffer)) bytes) x answers h)))
+    (λ x h. write_leaves (BuffersWithin facts) file (take (deferrable_len facts bytes (freed facts buffer)) bytes) x answers h)))
 rest_leaves slot bytes file buffer site facts (asked ∷ later) answers limit w b c =
     by_capacity (LeavesWithin facts) slot file buffer site facts answers _ limit w b (λ p. tt) (λ o x h. h)
     (λ x h. rest_leaves slot (drop (deferrable_len facts bytes (freed facts buffer)) bytes) (further file (deferrable_len facts bytes (freed facts buffer))) (after_write (freed facts buffer) asked.0 (deferrable_len facts bytes (freed facts buffer)))
@@ -121,7 +117,7 @@ sent_leaves slot bytes file buffer site facts own answers len limit w b =
     (λ z. by_capacity (LeavesWithin facts) slot file buffer site facts answers (send_next slot file bytes facts own answers) limit w b (λ p. tt) (λ o x h. h) (λ x h. by_own own x h (first_some facts bytes buffer len limit w (filled bytes z)))))
   where
     by_own : (o : Own) (x : Site) → BuffersWithin facts x → 1 ≤ deferrable_len facts bytes (freed facts buffer) → LeavesWithin facts (send_next slot file bytes facts o answers (freed facts buffer) x)
-    by_own [] x h some = write_leaves facts file (take (deferrable_len facts bytes (freed facts buffer)) bytes) x answers h
+    by_own [] x h some = write_leaves (BuffersWithin facts) file (take (deferrable_len facts bytes (freed facts buffer)) bytes) x answers h
     by_own (asked ∷ later) x h some =
         within_set facts x slot (written_slot file (freed facts buffer) asked.0 (deferrable_len facts bytes (freed facts buffer))) (next_within facts slot bytes file buffer x asked.0 limit w some) h
 

@@ -8,7 +8,9 @@ pub mod WindowPlans
 pub mod CallPlans
 pub mod GoodMoves
 pub mod OwnRequests
+pub mod Ends
 pub mod RequestCounts
+pub mod ReadsUnderWay
 pub mod PlanWords
 pub mod PathPlanRows
 pub mod FilePlanRows

@@ -2,7 +2,7 @@
 use Rattle.std.specs.Prelude.{ℕ, suc, ◌≡◌, ◌<◌, ◌≤◌, ◌+◌, List, [], ◌∷◌, length}
 use Rattle.sftp_model.specs.declared.slot.Facts.{Facts}
 use Rattle.sftp_model.specs.declared.slot.Move.{Move}
-use Rattle.sftp_model.specs.declared.slot.Move.TheVariants.{Ask, Done}
+use Rattle.sftp_model.specs.declared.slot.Move.TheVariants.{Ask}
 use Rattle.sftp_model.specs.declared.slot.FileAt.{FileAt}
 use Rattle.sftp_model.specs.declared.slot.Buffer.{Buffer}
 use Rattle.sftp_model.specs.declared.slot.Site.{Site}
@@ -12,6 +12,7 @@ use Rattle.sftp_calls.specs.TransferPlans.{joined_parts}
 use Rattle.sftp_calls.specs.BufferPlans.{pending}
 use Rattle.sftp_calls.specs.CallPlans as call
 use Rattle.sftp_calls.specs.CallPlans.{Call, next}
+use Rattle.sftp_calls.specs.Ends.{Leaves}
 
 -- where the move asks, the first number is below the second
 abbrev pub AsksBelow : ℕ → ℕ → Move → Type 0
@@ -55,5 +56,4 @@ BuffersWithin facts site = (slot : ℕ) (file : FileAt) (buffer : Buffer) → sl
 
 -- a call that ends leaves its buffers so
 abbrev pub LeavesWithin : Facts → Move → Type 0
-LeavesWithin facts (Done ended after) = BuffersWithin facts after
-LeavesWithin facts other = Unit {0}
+LeavesWithin facts move = Leaves (BuffersWithin facts) move

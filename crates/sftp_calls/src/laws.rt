@@ -14,6 +14,7 @@ ghost use Rattle.sftp_calls.specs.WindowPlans.{fs_read_next};
 ghost use Rattle.sftp_calls.specs.CallPlans.{Call, next, cancelled};
 ghost use Rattle.sftp_calls.specs.GoodMoves.{IsGood, IsGoodAsk, HoldsWithin, HoldsNoMore, FitsCall, FitsFacts, HandlesFit, ReadsWithin, WithinRange, situation};
 ghost use Rattle.sftp_calls.specs.OwnRequests.{oldest_first, AreAsked, MayBeAnswered, IsCallSoFar};
+ghost use Rattle.sftp_calls.specs.ReadsUnderWay.{Requests, AreAt, ReadsStand};
 ghost use Rattle.sftp_calls.specs.RequestCounts.{AsksBelow, BuffersWithin, LeavesWithin, work};
 
 /// Each move of a call is good.
@@ -83,6 +84,17 @@ pub fn buffers_keep_their_limit()
     ensures cancelled { (c : Call) (site : Site) (facts : Facts) (past : Own) (answers : Answers) → FitsFacts facts
         → BuffersWithin facts site → IsCallSoFar c site facts past answers
         → BuffersWithin facts (cancelled c site facts (oldest_first past) answers) }
+{}
+
+/// Where a READ is under way for a buffered file, the buffer has no bytes, and the request is a READ at the file's
+/// offset within the range of offsets: a call that ends, and one that is cancelled, leaves it so where it began so.
+pub fn reads_stand_at_their_files()
+    ensures ended { (requests : Requests) (c : Call) (site : Site) (facts : Facts) (own : Own) (answers : Answers)
+        (o : Outcome) (after : Site) → ReadsStand requests site → next c site facts own answers ≡ Done o after
+        → ReadsStand requests after }
+    ensures cancelled { (requests : Requests) (c : Call) (site : Site) (facts : Facts) (past : Own)
+        (answers : Answers) → AreAsked (next c site facts) past answers → AreAt requests (oldest_first past)
+        → ReadsStand requests site → ReadsStand requests (cancelled c site facts (oldest_first past) answers) }
 {}
 
 /// A whole read without a bound, too, asks READs within the range of offsets and the session's read length, as long

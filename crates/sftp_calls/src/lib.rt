@@ -7,7 +7,8 @@ mod rows;
 
 pub use laws::{
     buffers_keep_their_limit, calls_make_so_many_requests, cancelled_calls_leave_held_grants,
-    ends_leave_held_grants, moves_are_good, plans_wait_for_missing_replies, requests_fit_frames,
-    requests_may_be_asked, unbounded_reads_keep_within_range,
+    ends_leave_held_grants, moves_are_good, plans_wait_for_missing_replies,
+    reads_stand_at_their_files, requests_fit_frames, requests_may_be_asked,
+    unbounded_reads_keep_within_range,
 };
 pub use rows::calls_as_worked_out;
