@@ -1,4 +1,4 @@
--- What a call leaves of a site, for any such property: a law says no more than what calls that change a buffer leave.
+-- What a call leaves of a site, for any such property: the calls that change a buffer are left to each law.
 use Rattle.std.proofs.Common.{◌==◌, [], Some, None, refl}
 use Rattle.sftp_model.specs.Numbers.{HARDLINK}
 use Rattle.sftp_model.specs.declared.outcome.Outcome.TheVariants as outcome
@@ -18,7 +18,7 @@ use Rattle.sftp_calls.specs.CallPlans as call
 use Rattle.sftp_calls.specs.CallPlans.{Call, next, cancelled}
 use Rattle.sftp_calls.specs.Ends.{Leaves}
 use Rattle.sftp_calls.proofs.MoveLaws.{either, at_buffered}
-use Rattle.sftp_calls.proofs.LeftSites.{KeptByPlain, path_leaves, path_done_leaves, link_leaves, path_told_leaves, path_named_leaves, file_leaves, set_file, open_leaves, close_leaves, set_leaves, meta_leaves, sync_leaves, copy_leaves, seek_leaves, was_read_leaves, missing_leaves, was_written_leaves, parts_leave, opened_leaves, entries_leave, window_leaves, transfer_left, close_left}
+use Rattle.sftp_calls.proofs.LeftSites.{IsKept, path_leaves, path_done_leaves, link_leaves, path_told_leaves, path_named_leaves, file_leaves, set_file, open_leaves, close_leaves, set_leaves, meta_leaves, sync_leaves, copy_leaves, seek_leaves, was_read_leaves, missing_leaves, was_written_leaves, parts_leave, opened_leaves, entries_leave, window_leaves, transfer_left, close_left}
 
 -- the calls that change a buffer
 abbrev pub ChangesBuffer : Call → Type 0
@@ -29,7 +29,7 @@ ChangesBuffer (call.BufFlush slot) = Unit {0}
 ChangesBuffer (call.BufSeek slot position) = Unit {0}
 ChangesBuffer other = ⊥
 
-pub call_leaves : (P : Site → Type 0) (k : KeptByPlain P) (c : Call) (site : Site) (facts : Facts) (own : Own) (answers : Answers) → P site → (ChangesBuffer c → Leaves P (next c site facts own answers)) → Leaves P (next c site facts own answers)
+pub call_leaves : (P : Site → Type 0) (k : IsKept P) (c : Call) (site : Site) (facts : Facts) (own : Own) (answers : Answers) → P site → (ChangesBuffer c → Leaves P (next c site facts own answers)) → Leaves P (next c site facts own answers)
 call_leaves P k (call.OpenFile slot flags path) site facts own answers b rest = open_leaves P k slot flags path site own answers b
 call_leaves P k (call.Read slot n) site facts own answers b rest = file_leaves P site slot _ b (λ file. was_read_leaves P k facts slot n file site own answers b)
 call_leaves P k (call.ReadAll slot n) site facts own answers b rest = file_leaves P site slot _ b (λ file. missing_leaves P k facts slot file [] n site own answers b)
@@ -71,7 +71,7 @@ call_leaves P k (call.ReadLink path) site facts own answers b rest = path_named_
 call_leaves P k (call.Canonicalize path) site facts own answers b rest = path_named_leaves P _ site own answers b
 call_leaves P k (call.Cwd path) site facts own answers b rest = k.moved site path b
 
-pub cancelled_leaves : (P : Site → Type 0) (k : KeptByPlain P) (c : Call) (site : Site) (facts : Facts) (own : Own) (answers : Answers) → P site → (ChangesBuffer c → P (cancelled c site facts own answers)) → P (cancelled c site facts own answers)
+pub cancelled_leaves : (P : Site → Type 0) (k : IsKept P) (c : Call) (site : Site) (facts : Facts) (own : Own) (answers : Answers) → P site → (ChangesBuffer c → P (cancelled c site facts own answers)) → P (cancelled c site facts own answers)
 cancelled_leaves P k (call.ReadAll slot n) site facts own answers b rest = transfer_left P k slot site facts own answers b
 cancelled_leaves P k (call.WriteAll slot bytes) site facts own answers b rest = transfer_left P k slot site facts own answers b
 cancelled_leaves P k (call.WriteParts slot parts) site facts own answers b rest = transfer_left P k slot site facts own answers b

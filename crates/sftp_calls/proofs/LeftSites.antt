@@ -1,4 +1,4 @@
--- What the moves of plans leave of a site, for any property of sites that slots without anything under way keep.
+-- What the moves of plans leave of a site, for any property of sites that slots which await nothing keep.
 use Rattle.std.proofs.Common.{◌≡◌, ◌+◌, ◌-◌, ◌==◌, ℕ, List, [], ◌∷◌, Option, Some, None, refl, if◌then◌else◌}
 use Rattle.std.specs.Prelude.{◌++◌, length, min, not, drop, pos, negsuc, nat_le, nat_lt}
 use Rattle.std.specs.declared.io.traits.SeekFrom.{SeekFrom}
@@ -35,14 +35,14 @@ use Rattle.sftp_calls.proofs.CountLaws.{answered_in, on_granted, on_entries}
 
 -- ---- slots that are set
 
--- nothing is under way for what the slot holds
-abbrev pub IsPlain : Slot → Type 0
-IsPlain (Buffered file buffer) = (buffer.deferred ≡ []) × (buffer.reading ≡ None)
-IsPlain other = Unit {0}
+-- the slot awaits no reply: no status was deferred, and no READ is under way
+abbrev pub AwaitsNothing : Slot → Type 0
+AwaitsNothing (Buffered file buffer) = (buffer.deferred ≡ []) × (buffer.reading ≡ None)
+AwaitsNothing other = Unit {0}
 
--- a site where such a slot is set keeps the property, and so it does with another directory
-pub record KeptByPlain (P : Site → Type 0) : Type 0 where
-  pub set : (site : Site) (slot : ℕ) (x : Slot) → IsPlain x → P site → P (with_slot site slot x)
+-- a site keeps the property where such a slot is set, and with another directory
+pub record IsKept (P : Site → Type 0) : Type 0 where
+  pub set : (site : Site) (slot : ℕ) (x : Slot) → AwaitsNothing x → P site → P (with_slot site slot x)
   pub moved : (site : Site) (path : List ℕ) → P site → P (record site { directory = path })
 
 -- ---- one request
@@ -82,15 +82,15 @@ path_named_leaves P r site own answers b = once_leaves P (ask_path r site) (name
 pub file_leaves : (P : Site → Type 0) (site : Site) (slot : ℕ) (go : FileAt → Move) → P site → ((file : FileAt) → Leaves P (go file)) → Leaves P (on_file (slot_at site slot) site go)
 file_leaves P site slot go b goes = at_file (Leaves P) (slot_at site slot) site go (λ o. b) (λ file at. goes file)
 
-pub set_file : (P : Site → Type 0) (k : KeptByPlain P) (site : Site) (slot : ℕ) (file : FileAt) → P site → P (with_slot site slot (File file))
+pub set_file : (P : Site → Type 0) (k : IsKept P) (site : Site) (slot : ℕ) (file : FileAt) → P site → P (with_slot site slot (File file))
 set_file P k site slot file b = k.set site slot (File file) tt b
 
-pub open_leaves : (P : Site → Type 0) (k : KeptByPlain P) (slot : ℕ) (flags : OpenFlags) (path : List ℕ) (site : Site) (own : Own) (answers : Answers) → P site → Leaves P (by_reply (ask_path (open_request flags path) site) (opened slot flags site (first_place own)) own answers)
+pub open_leaves : (P : Site → Type 0) (k : IsKept P) (slot : ℕ) (flags : OpenFlags) (path : List ℕ) (site : Site) (own : Own) (answers : Answers) → P site → Leaves P (by_reply (ask_path (open_request flags path) site) (opened slot flags site (first_place own)) own answers)
 open_leaves P k slot flags path site own answers b =
     once_leaves P (ask_path (open_request flags path) site) (opened slot flags site (first_place own)) own answers (path_leaves P (open_request flags path) site b)
     (λ r. on_granted (Leaves P) r site _ (λ o. b) (λ handle. set_file P k site slot (opened_file flags (first_place own)) b))
 
-pub close_leaves : (P : Site → Type 0) (k : KeptByPlain P) (slot : ℕ) (site : Site) (own : Own) (answers : Answers) (x : Slot) → P site → Leaves P (close_slot_next slot site own answers x)
+pub close_leaves : (P : Site → Type 0) (k : IsKept P) (slot : ℕ) (site : Site) (own : Own) (answers : Answers) (x : Slot) → P site → Leaves P (close_slot_next slot site own answers x)
 close_leaves P k slot site own answers x b = by_slot x
   where
     emptied : P (with_slot site slot Empty)
@@ -120,7 +120,7 @@ sync_leaves P facts file site own answers b = once_leaves P (ask_sync file site 
     (either (Leaves P) (not (offers facts FSYNC)) (refuses_extension FSYNC site) _ (λ e. b)
     (λ e. either (Leaves P) (not file.writable) (refuses kind.NotWritable site) (Ask (request.Fsync (handle_of (answers file.grant)))) (λ n. b) (λ n. tt))) (λ r. done_leaves P site site outcome.Done r b b)
 
-pub copy_leaves : (P : Site → Type 0) (k : KeptByPlain P) (facts : Facts) (from to n : ℕ) (site : Site) (own : Own) (answers : Answers) (source target : FileAt) → P site → Leaves P (copy_files_next from to n site facts own answers source target)
+pub copy_leaves : (P : Site → Type 0) (k : IsKept P) (facts : Facts) (from to n : ℕ) (site : Site) (own : Own) (answers : Answers) (source target : FileAt) → P site → Leaves P (copy_files_next from to n site facts own answers source target)
 copy_leaves P k facts from to n site own answers source target b = once_leaves P (ask_copy source target n site facts answers) _ own answers
     (either (Leaves P) (not (offers facts COPY_DATA)) (refuses_extension COPY_DATA site) _ (λ e. b)
     (λ e. either (Leaves P) (not target.writable) (refuses kind.NotWritable site) _ (λ f. b)
@@ -147,19 +147,19 @@ write_leaves P file bytes site answers b =
     either (Leaves P) (not file.writable) (refuses kind.NotWritable site) _ (λ e. b)
     (λ e. either (Leaves P) (overflows file.offset (length bytes)) (refuses kind.OffsetOverflow site) (Ask (request.Write (handle_of (answers file.grant)) file.offset bytes)) (λ o. b) (λ o. tt))
 
-pub was_read_leaves : (P : Site → Type 0) (k : KeptByPlain P) (facts : Facts) (slot n : ℕ) (file : FileAt) (site : Site) (own : Own) (answers : Answers) → P site → Leaves P (by_reply (read_first file n site facts answers) (was_read slot file site) own answers)
+pub was_read_leaves : (P : Site → Type 0) (k : IsKept P) (facts : Facts) (slot n : ℕ) (file : FileAt) (site : Site) (own : Own) (answers : Answers) → P site → Leaves P (by_reply (read_first file n site facts answers) (was_read slot file site) own answers)
 was_read_leaves P k facts slot n file site own answers b = once_leaves P (read_first file n site facts answers) (was_read slot file site) own answers
     (either (Leaves P) (n == 0) (Done outcome.End site) (ask_read file (min n facts.read_len) site answers) (λ z. b) (λ z. read_leaves P file (min n facts.read_len) site answers b))
     (λ r. by_content (Leaves P) r site (Done outcome.End site) _ (λ o. b) b (λ bytes. set_file P k site slot (further file (length bytes)) b))
 
-pub missing_leaves : (P : Site → Type 0) (k : KeptByPlain P) (facts : Facts) (slot : ℕ) (file : FileAt) (got : List ℕ) (n : ℕ) (site : Site) (own : Own) (answers : Answers) → P site → Leaves P (missing_next slot file got n site facts own answers)
+pub missing_leaves : (P : Site → Type 0) (k : IsKept P) (facts : Facts) (slot : ℕ) (file : FileAt) (got : List ℕ) (n : ℕ) (site : Site) (own : Own) (answers : Answers) → P site → Leaves P (missing_next slot file got n site facts own answers)
 missing_leaves P k facts slot file got n site [] answers b =
     either (Leaves P) (n == 0) (Done (outcome.Bytes got) site) (ask_read file (min n facts.read_len) site answers) (λ z. b) (λ z. read_leaves P file (min n facts.read_len) site answers b)
 missing_leaves P k facts slot file got n site (asked ∷ later) answers b =
     answered_in (Leaves P) answers asked.0 (answers asked.0) _ refl tt (λ r is. by_content (Leaves P) r site (refuses kind.UnexpectedEof site) _ (λ o. b) b
     (λ bytes. missing_leaves P k facts slot (further file (length bytes)) _ _ (with_slot site slot (File (further file (length bytes)))) later answers (set_file P k site slot (further file (length bytes)) b)))
 
-pub was_written_leaves : (P : Site → Type 0) (k : KeptByPlain P) (facts : Facts) (slot : ℕ) (bytes : List ℕ) (file : FileAt) (site : Site) (own : Own) (answers : Answers) → P site
+pub was_written_leaves : (P : Site → Type 0) (k : IsKept P) (facts : Facts) (slot : ℕ) (bytes : List ℕ) (file : FileAt) (site : Site) (own : Own) (answers : Answers) → P site
     → Leaves P (by_reply (write_first file bytes site facts answers) (was_written slot file (part_len facts bytes) site) own answers)
 was_written_leaves P k facts slot bytes file site own answers b = once_leaves P (write_first file bytes site facts answers) (was_written slot file (part_len facts bytes) site) own answers
     (either (Leaves P) (length bytes == 0) (Done (outcome.Count 0) site) _ (λ z. b) (λ z. write_leaves P file (next_part facts bytes) site answers b))
@@ -227,9 +227,9 @@ on_buffer_left P site Empty go b goes = b
 on_buffer_left P site (File file) go b goes = b
 on_buffer_left P site (Buffered file buffer) go b goes = goes file buffer refl
 
-pub transfer_left : (P : Site → Type 0) (k : KeptByPlain P) (slot : ℕ) (site : Site) (facts : Facts) (own : Own) (answers : Answers) → P site → P (cancelled_transfer slot site facts own answers)
+pub transfer_left : (P : Site → Type 0) (k : IsKept P) (slot : ℕ) (site : Site) (facts : Facts) (own : Own) (answers : Answers) → P site → P (cancelled_transfer slot site facts own answers)
 transfer_left P k slot site facts own answers b = on_file_left P site (slot_at site slot) _ b (λ file. set_file P k site slot (record file { offset = last_offset file.offset own }) b)
 
-pub close_left : (P : Site → Type 0) (k : KeptByPlain P) (slot : ℕ) (site : Site) (facts : Facts) (own : Own) (answers : Answers) → P site → P (cancelled_close slot site facts own answers)
+pub close_left : (P : Site → Type 0) (k : IsKept P) (slot : ℕ) (site : Site) (facts : Facts) (own : Own) (answers : Answers) → P site → P (cancelled_close slot site facts own answers)
 close_left P k slot site facts [] answers b = b
 close_left P k slot site facts (asked ∷ later) answers b = k.set site slot Empty tt b

@@ -15,20 +15,20 @@ use Rattle.sftp_calls.specs.GoodMoves.{FitsFacts}
 use Rattle.sftp_calls.specs.OwnRequests.{oldest_first, IsCallSoFar}
 use Rattle.sftp_calls.specs.RequestCounts.{EachHasByte, BuffersWithin, LeavesWithin}
 use Rattle.sftp_calls.proofs.MoveLaws.{either, at_buffered}
-use Rattle.sftp_calls.proofs.LeftSites.{IsPlain, KeptByPlain, seek_leaves, on_buffer_left}
+use Rattle.sftp_calls.proofs.LeftSites.{AwaitsNothing, IsKept, seek_leaves, on_buffer_left}
 use Rattle.sftp_calls.proofs.LeftCalls.{ChangesBuffer, call_leaves, cancelled_leaves}
 use Rattle.sftp_calls.proofs.LimitLaws.{SlotWithin, within_set, carried_within}
 use Rattle.sftp_calls.proofs.LimitWrites.{all_carry, one_carries, sent_leaves, rest_leaves}
 use Rattle.sftp_calls.proofs.LimitBuffers.{buffer_leaves, sought_leaves, buf_read_leaves, reading_leaves, flush_leaves, unflushed_leaves}
 
-plain_within : (facts : Facts) (x : Slot) → IsPlain x → SlotWithin facts x
-plain_within facts Empty plain = tt
-plain_within facts (File file) plain = tt
-plain_within facts (Buffered file buffer) plain =
-    record { within = subst (λ (writes : List (ℕ × ℕ)). pending writes ≤ facts.write_limit) (sym plain.0) (omega arith); each = subst EachHasByte (sym plain.0) tt }
+idle_within : (facts : Facts) (x : Slot) → AwaitsNothing x → SlotWithin facts x
+idle_within facts Empty idle = tt
+idle_within facts (File file) idle = tt
+idle_within facts (Buffered file buffer) idle =
+    record { within = subst (λ (writes : List (ℕ × ℕ)). pending writes ≤ facts.write_limit) (sym idle.0) (omega arith); each = subst EachHasByte (sym idle.0) tt }
 
-within_kept : (facts : Facts) → KeptByPlain (BuffersWithin facts)
-within_kept facts = record { set = λ site slot x plain b. within_set facts site slot x (plain_within facts x plain) b; moved = λ site path b. b }
+within_kept : (facts : Facts) → IsKept (BuffersWithin facts)
+within_kept facts = record { set = λ site slot x idle b. within_set facts site slot x (idle_within facts x idle) b; moved = λ site path b. b }
 
 pub ended_within : (c : Call) (site : Site) (facts : Facts) (past : Own) (answers : Answers) → FitsFacts facts → BuffersWithin facts site → IsCallSoFar c site facts past answers → LeavesWithin facts (next c site facts (oldest_first past) answers)
 ended_within c site facts past answers k b s = call_leaves (BuffersWithin facts) (within_kept facts) c site facts (oldest_first past) answers b (of_buffer c s)

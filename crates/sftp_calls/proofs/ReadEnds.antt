@@ -24,7 +24,7 @@ use Rattle.sftp_calls.specs.OwnRequests.{oldest_first, AreAsked}
 use Rattle.sftp_calls.specs.ReadsUnderWay.{Requests, AreAt, IsReadAt, ReadsStand}
 use Rattle.sftp_calls.proofs.MoveLaws.{either, by_status, by_content, at_buffered}
 use Rattle.sftp_calls.proofs.CountLaws.{answered_in}
-use Rattle.sftp_calls.proofs.LeftSites.{IsPlain, KeptByPlain, once_leaves, read_leaves, write_leaves, seek_leaves, on_buffer_left}
+use Rattle.sftp_calls.proofs.LeftSites.{AwaitsNothing, IsKept, once_leaves, read_leaves, write_leaves, seek_leaves, on_buffer_left}
 use Rattle.sftp_calls.proofs.LeftCalls.{ChangesBuffer, call_leaves, cancelled_leaves}
 use Rattle.sftp_calls.proofs.LimitLaws.{set_cases}
 use Rattle.sftp_calls.proofs.ReadAsks.{first_asked, buf_read_asks}
@@ -52,13 +52,13 @@ slot_set requests site slot x new b =
 none_reading : (requests : Requests) (file : FileAt) (buffer : Buffer) → buffer.reading ≡ None → SlotStands requests (Buffered file buffer)
 none_reading requests file buffer none p reading = absurd cc
 
-plain_stands : (requests : Requests) (x : Slot) → IsPlain x → SlotStands requests x
-plain_stands requests Empty plain = tt
-plain_stands requests (File file) plain = tt
-plain_stands requests (Buffered file buffer) plain = none_reading requests file buffer plain.1
+idle_stands : (requests : Requests) (x : Slot) → AwaitsNothing x → SlotStands requests x
+idle_stands requests Empty idle = tt
+idle_stands requests (File file) idle = tt
+idle_stands requests (Buffered file buffer) idle = none_reading requests file buffer idle.1
 
-stand_kept : (requests : Requests) → KeptByPlain (ReadsStand requests)
-stand_kept requests = record { set = λ site slot x plain b. slot_set requests site slot x (plain_stands requests x plain) b; moved = λ site path b. record { each = b.each } }
+stand_kept : (requests : Requests) → IsKept (ReadsStand requests)
+stand_kept requests = record { set = λ site slot x idle b. slot_set requests site slot x (idle_stands requests x idle) b; moved = λ site path b. record { each = b.each } }
 
 -- what a plan leaves where a slot holds a buffered file
 on_buffer_leaves : (requests : Requests) (site : Site) (slot : ℕ) (go : FileAt → Buffer → Move) → ReadsStand requests site

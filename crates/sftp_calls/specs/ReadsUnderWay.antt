@@ -1,4 +1,4 @@
--- The READs that are under way for buffered files: each stands at its file's offset, in front of an empty buffer.
+-- The READs that are under way for buffered files: each begins at its file's offset, and the buffer is empty.
 use Rattle.std.specs.Prelude.{ℕ, ◌≡◌, ◌<◌, ◌+◌, ◌^◌, List, [], ◌∷◌, Option, Some}
 use Rattle.sftp_model.specs.declared.request.Request.{Request}
 use Rattle.sftp_model.specs.declared.request.Request.TheVariants as request

@@ -18,3 +18,4 @@ pub mod TextLaws
 pub mod WholeRunLaws
 pub mod NoRuns
 pub mod WithinLaws
+pub mod ReadsLaws

@@ -1,6 +1,7 @@
 pub mod Same
 pub mod Lanes
 pub mod Readings
+pub mod Submitted
 pub mod Calls
 pub mod Settings
 pub mod Grants

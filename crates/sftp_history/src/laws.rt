@@ -1,17 +1,25 @@
 // Laws of the definitions. The functions do nothing: what they ensure holds of all values.
-ghost use Rattle.std.specs.Prelude.{◌≡◌, ◌≢◌, ◌<◌, ◌≤◌, ℕ, true, false, List, [], ◌∷◌, Some, None};
+ghost use Rattle.std.specs.Prelude.{◌≡◌, ◌≢◌, ◌<◌, ◌≤◌, ◌-◌, ◌^◌, ℕ, true, false, List, [], ◌∷◌, length, Some, None};
 ghost use Rattle.sftp_model.specs.declared.reply.Reply.{Reply};
+ghost use Rattle.sftp_model.specs.declared.reply.Reply.TheVariants.{Content};
+ghost use Rattle.sftp_model.specs.declared.slot.FileAt.{FileAt};
+ghost use Rattle.sftp_model.specs.declared.slot.Buffer.{Buffer};
+ghost use Rattle.sftp_model.specs.declared.slot.Slot.TheVariants.{Buffered};
+ghost use Rattle.sftp_model.specs.Answers.{may_answer};
+ghost use Rattle.sftp_model.specs.Slots.{slot_at};
+ghost use Rattle.sftp_calls.specs.ReadsUnderWay.{ReadsStand};
 ghost use Rattle.sftp_history.specs.declared.call.Call.{Call};
 ghost use Rattle.sftp_history.specs.declared.entry.Entry.{Entry};
 ghost use Rattle.sftp_history.specs.declared.entry.Entry.TheVariants as entry;
 ghost use Rattle.sftp_history.specs.declared.event.Event.TheVariants.{Take};
 ghost use Rattle.sftp_history.specs.Readings.{Asked, answer, asked_at, bearer};
-ghost use Rattle.sftp_history.specs.Calls.{Setting, current, GoesByPlan};
+ghost use Rattle.sftp_history.specs.Calls.{Setting, current, GoesByPlan, site_of};
 ghost use Rattle.sftp_history.specs.Ids.{id_state, Reads};
 ghost use Rattle.sftp_history.specs.Journals.{IsJournal, IsOver, MayTake};
 ghost use Rattle.sftp_history.specs.Grants.{IsSettled};
 ghost use Rattle.sftp_history.specs.Grants.{orphan, is_grant, is_held, is_one_of, closed};
 ghost use Rattle.sftp_history.specs.Closes.{granted_handles, closed_handles, times, AreClosed, closes_of};
+ghost use Rattle.sftp_history.specs.Submitted.{submitted_at};
 ghost use Rattle.sftp_history.specs.Runs.{IsRun};
 ghost use Rattle.sftp_history.specs.Turns.{Stage, ClosesTo};
 ghost use Rattle.sftp_history.specs.declared.turn.Turn.{Turn};
@@ -75,4 +83,15 @@ pub fn handles_are_closed()
     ensures so_far { (s : Setting) (past : List Entry) (handle : List ℕ) → IsJournal s past
         → times handle (closed_handles past) ≤ times handle (granted_handles past) }
     ensures all { (s : Setting) (turns : List Turn) (past : List Entry) → IsRun s turns past → AreClosed past }
+{}
+
+/// In a run so far the buffer has no bytes where a READ is under way for a lane's buffered file, and the request is a
+/// READ at the file's offset: so the bytes of a DATA that may answer it end within the range of offsets.
+pub fn reads_under_way_fit()
+    ensures stand { (s : Setting) (past : List Entry) (lane : ℕ) → IsJournal s past
+        → ReadsStand (submitted_at past) (site_of s past lane) }
+    ensures fits { (s : Setting) (past : List Entry) (lane k p : ℕ) (file : FileAt) (buffer : Buffer) (a : Asked)
+        (bytes : List ℕ) → IsJournal s past → slot_at (site_of s past lane) k ≡ Buffered file buffer
+        → buffer.reading ≡ Some p → asked_at past p ≡ Some a → may_answer a.request (Content bytes) ≡ true
+        → length bytes ≤ (2 ^ 64 - 1) - file.offset }
 {}

@@ -22,7 +22,7 @@ pub use event::{Event, Owner};
 pub use lanes::lanes_ok;
 pub use laws::{
     calls_go_by_their_plans, grants_are_closed_once, handles_are_closed, ids_are_read,
-    ids_name_requests, letting_go_settles, replies_stay, runs_are_journals,
+    ids_name_requests, letting_go_settles, reads_under_way_fit, replies_stay, runs_are_journals,
 };
 pub use reason::Reason;
 pub use report::Report;
