@@ -79,7 +79,7 @@ fn writings(rt: HostRuntime) -> Result<(), Fail> {
 
 /// Reads at most so many bytes, with this place for a READ.
 #[tactic(auto, using(crate::proofs::Within::still_within, crate::proofs::Within::still_sixteen))]
-fn reads(alloc: Global, n: u32, place: u64, site: &mut Site, facts: &Facts) -> Result<Next, Fail>
+fn reads(alloc: Global, n: u64, place: u64, site: &mut Site, facts: &Facts) -> Result<Next, Fail>
     requires count { length site.old.slots ≡ 16 }
     requires within { AreWithin facts.now site.old }
     ensures count { IfOk result (λ next. length site.new.slots ≡ 16) }

@@ -24,6 +24,16 @@ fs_write 62 776f726c64
 list - 9
 stat 62
 rename 62 63
+lane
+open 0 rw 61
+buffer 0 4
+buf_write 0 7879
+buf_flush 0
+buf_seek 0 start 0
+buf_read 0 1
+buf_read 0 9
+unbuffer 0
+close 0
 ";
 
 const WANTED: &[u8] = b"> open 00000001610000000300000000
@@ -60,6 +70,14 @@ const WANTED: &[u8] = b"> open 00000001610000000300000000
 < attrs 000000010000000000000005
 > rename 00000003642f6200000003642f63
 < status 000000000000000000000000
+> open 00000001610000000300000000
+< handle 0000000400000003
+> write 00000004000000030000000000000000000000027879
+< status 000000000000000000000000
+> read 0000000400000003000000000000000000000004
+< data 000000027879
+> close 0000000400000003
+< status 000000000000000000000000
 lane 0 call 0 opened
 lane 0 call 1 read 68656c6c6f
 lane 0 call 2 done
@@ -76,6 +94,15 @@ lane 1 call 2 done
 lane 1 call 3 names 62
 lane 1 call 4 meta 000000010000000000000005
 lane 1 call 5 done
+lane 2 call 0 opened
+lane 2 call 1 done
+lane 2 call 2 count 2
+lane 2 call 3 done
+lane 2 call 4 count 0
+lane 2 call 5 read 78
+lane 2 call 6 read 79
+lane 2 call 7 done
+lane 2 call 8 done
 ";
 
 /// The text of what the lanes of a script did over a server of its files.

@@ -1,4 +1,5 @@
 pub mod Files
+pub mod FitCounts
 pub mod Fit
 pub mod Running
 pub mod Ending

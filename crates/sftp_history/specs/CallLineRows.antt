@@ -25,11 +25,21 @@ pub calls_on_slots :
     ∷ call.SetLen 3 18446744073709551615 ∷ call.SetPerm 4 65535 ∷ call.Meta 5 ∷ call.Sync 6 ∷ call.Copy 7 8 0 ∷ call.CloneFile 9 10 ∷ call.Close 11 ∷ [])
 calls_on_slots = refl
 
+pub writes_of_parts :
+    in_lane (codes "write_parts 0 61 6263" ∷ codes "write_parts 1 -" ∷ codes "write_parts 15 0a - fF" ∷ [])
+    ≡ lane_of (call.WriteParts 0 (codes "a" ∷ codes "bc" ∷ []) ∷ call.WriteParts 1 ([] ∷ []) ∷ call.WriteParts 15 ((10 ∷ []) ∷ [] ∷ (255 ∷ []) ∷ []) ∷ [])
+writes_of_parts = refl
+
 pub seeks :
     in_lane (codes "seek 0 start 18446744073709551615" ∷ codes "seek 1 cur 7" ∷ codes "seek 2 cur -7" ∷ codes "seek 3 end -0" ∷ codes "seek 4 end -9223372036854775808" ∷ [])
     ≡ lane_of (call.Seek 0 (position.Start 18446744073709551615) ∷ call.Seek 1 (position.Current (pos 7)) ∷ call.Seek 2 (position.Current (negsuc 6))
     ∷ call.Seek 3 (position.End (pos 0)) ∷ call.Seek 4 (position.End (negsuc (2 ^ 63 - 1))) ∷ [])
 seeks = refl
+
+pub calls_on_buffered_files :
+    in_lane (codes "buffer 0 1" ∷ codes "buffer 15 1048576" ∷ codes "unbuffer 1" ∷ codes "buf_read 2 18446744073709551615" ∷ codes "buf_write 3 0aFf" ∷ codes "buf_write_all 4 -" ∷ codes "buf_flush 5" ∷ codes "buf_seek 6 cur -7" ∷ [])
+    ≡ lane_of (call.Buffer 0 1 ∷ call.Buffer 15 1048576 ∷ call.Unbuffer 1 ∷ call.BufRead 2 18446744073709551615 ∷ call.BufWrite 3 (10 ∷ 255 ∷ []) ∷ call.BufWriteAll 4 [] ∷ call.BufFlush 5 ∷ call.BufSeek 6 (position.Current (negsuc 6)) ∷ [])
+calls_on_buffered_files = refl
 
 pub calls_on_paths :
     in_lane (codes "fs_write 61 62" ∷ codes "list - 1" ∷ codes "stat 61" ∷ codes "lstat 61" ∷ codes "set_stat 61 - -" ∷ codes "set_stat 61 0 65535" ∷ codes "remove 61" ∷ codes "mkdir 61" ∷ codes "rmdir 61"
@@ -49,6 +59,21 @@ no_call = refl
 
 pub too_many_words : in_lane (codes "stat 61 62" ∷ []) ≡ Err (2, reason.Count)
 too_many_words = refl
+
+pub write_of_no_part : in_lane (codes "write_parts 0" ∷ []) ≡ Err (2, reason.Count)
+write_of_no_part = refl
+
+pub no_slot_and_no_part : in_lane (codes "write_parts" ∷ []) ≡ Err (2, reason.Count)
+no_slot_and_no_part = refl
+
+pub second_part_misspelled : in_lane (codes "write_parts 0 61 6" ∷ []) ≡ Err (2, reason.Hex)
+second_part_misspelled = refl
+
+pub parts_of_a_slot_first : in_lane (codes "write_parts 16 6" ∷ []) ≡ Err (2, reason.Range)
+parts_of_a_slot_first = refl
+
+pub no_parts_of_a_slot : in_lane (codes "write_parts 16" ∷ []) ≡ Err (2, reason.Count)
+no_parts_of_a_slot = refl
 
 pub seek_of_no_kind : in_lane (codes "seek 0 begin x" ∷ []) ≡ Err (2, reason.Mode)
 seek_of_no_kind = refl
@@ -70,6 +95,12 @@ too_far_back = refl
 
 pub list_of_nothing : in_lane (codes "list 61 0" ∷ []) ≡ Err (2, reason.Range)
 list_of_nothing = refl
+
+pub buffer_of_nothing : in_lane (codes "buffer 0 0" ∷ []) ≡ Err (2, reason.Range)
+buffer_of_nothing = refl
+
+pub buffer_too_long : in_lane (codes "buffer 0 1048577" ∷ []) ≡ Err (2, reason.Range)
+buffer_too_long = refl
 
 pub mode_too_great : in_lane (codes "set_perm 0 65536" ∷ []) ≡ Err (2, reason.Range)
 mode_too_great = refl

@@ -1,5 +1,5 @@
 -- Which lanes a session can be given: each call is within its ranges, and all together are few.
-use Rattle.std.specs.Prelude.{ℕ, ◌+◌, ◌^◌, Bool, true, ◌&&◌, List, Option, Some, None, nat_le, nat_lt}
+use Rattle.std.specs.Prelude.{ℕ, ◌+◌, ◌^◌, Bool, true, ◌&&◌, List, length, Option, Some, None, nat_le, nat_lt}
 use Rattle.std.specs.List.{list_all, sum_by}
 use Rattle.sftp_history.specs.declared.call.Call.{Call}
 use Rattle.sftp_history.specs.declared.call.Call.TheVariants as call
@@ -18,13 +18,14 @@ abbrev pub is_some_long : Option ℕ → Bool
 is_some_long None = true
 is_some_long (Some n) = is_long n
 
--- the slots that a call names are there, a bound is not 0, and a size has 64 bits
+-- the slots that a call names are there, a bound or a length is not 0, and a size has 64 bits
 abbrev pub is_within : Call → Bool
 is_within (call.OpenFile slot flags path) = is_slot slot
 is_within (call.Read slot n) = is_slot slot
 is_within (call.ReadAll slot n) = is_slot slot
 is_within (call.Write slot bytes) = is_slot slot
 is_within (call.WriteAll slot bytes) = is_slot slot
+is_within (call.WriteParts slot parts) = is_slot slot
 is_within (call.Seek slot position) = is_slot slot
 is_within (call.SetLen slot n) = is_slot slot && is_long n
 is_within (call.SetPerm slot perm) = is_slot slot
@@ -33,13 +34,22 @@ is_within (call.Sync slot) = is_slot slot
 is_within (call.Copy from to n) = is_slot from && is_slot to
 is_within (call.CloneFile from to) = is_slot from && is_slot to
 is_within (call.Close slot) = is_slot slot
+is_within (call.Buffer slot len) = is_slot slot && nat_le 1 len
+is_within (call.Unbuffer slot) = is_slot slot
+is_within (call.BufRead slot n) = is_slot slot
+is_within (call.BufWrite slot bytes) = is_slot slot
+is_within (call.BufWriteAll slot bytes) = is_slot slot
+is_within (call.BufFlush slot) = is_slot slot
+is_within (call.BufSeek slot position) = is_slot slot
 is_within (call.List path bound) = nat_le 1 bound
 is_within (call.SetStat path size perm) = is_some_long size
 is_within of_paths = true
 
--- what a call counts
+-- what a call counts: the WRITEs of a buffered file may be as many as its bytes, and all be under way when it has ended
 abbrev pub weight : Call → ℕ
-weight c = 2
+weight (call.BufWrite slot bytes) = 2 + length bytes
+weight (call.BufWriteAll slot bytes) = 2 + length bytes
+weight other = 2
 
 -- what a lane counts: itself and its calls
 abbrev pub lane_weight : Lane → ℕ

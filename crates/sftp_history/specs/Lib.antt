@@ -29,3 +29,4 @@ pub mod SettingRows
 pub mod CloseRows
 pub mod ClosesRows
 pub mod Steady
+pub mod CountRows

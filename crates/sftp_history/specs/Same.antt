@@ -119,6 +119,21 @@ number_text x y = (x.0 == y.0) && same_text x.1.0 y.1.0
 number_text_decides : (x y : ℕ × (List ℕ × Unit {0})) → Decides (number_text x y) (x ≡ y)
 number_text_decides = first ◌==◌ text Decides-eqb text_decides
 
+abbrev same_texts : List (List ℕ) → List (List ℕ) → Bool
+same_texts = pointwise same_text
+
+abbrev texts : List (List ℕ) × Unit {0} → List (List ℕ) × Unit {0} → Bool
+texts x y = same_texts x.0 y.0
+
+texts_decide : (x y : List (List ℕ) × Unit {0}) → Decides (texts x y) (x ≡ y)
+texts_decide = last same_texts (items_decides same_text bytes_decides)
+
+abbrev number_texts : ℕ × (List (List ℕ) × Unit {0}) → ℕ × (List (List ℕ) × Unit {0}) → Bool
+number_texts x y = (x.0 == y.0) && same_texts x.1.0 y.1.0
+
+number_texts_decides : (x y : ℕ × (List (List ℕ) × Unit {0})) → Decides (number_texts x y) (x ≡ y)
+number_texts_decides = first ◌==◌ texts Decides-eqb texts_decide
+
 abbrev text_number : List ℕ × (ℕ × Unit {0}) → List ℕ × (ℕ × Unit {0}) → Bool
 text_number x y = same_text x.0 y.0 && (x.1.0 == y.1.0)
 
@@ -161,10 +176,10 @@ set_stat_fields_decides = first same_text (λ x y. same_option x.0 y.0 && option
 -- ---- Call, variant by variant, and Lane
 
 abbrev call_tests : Each Bool call.the_parts
-call_tests = (open_fields, (two_numbers, (two_numbers, (number_text, (number_text, (seek_fields, (two_numbers, (two_numbers, (number, (number, (three_numbers, (two_numbers, (number, (two_texts, (text_number, (text, (text, (set_stat_fields, (text, (text, (text, (two_texts, (two_texts, (two_texts, (text, (text, (text, tt)))))))))))))))))))))))))))
+call_tests = (open_fields, (two_numbers, (two_numbers, (number_text, (number_text, (number_texts, (seek_fields, (two_numbers, (two_numbers, (number, (number, (three_numbers, (two_numbers, (number, (two_numbers, (number, (two_numbers, (number_text, (number_text, (number, (seek_fields, (two_texts, (text_number, (text, (text, (set_stat_fields, (text, (text, (text, (two_texts, (two_texts, (two_texts, (text, (text, (text, tt)))))))))))))))))))))))))))))))))))
 
 call_tests_decide : EachDecides call.the_parts call_tests
-call_tests_decide = (open_fields_decides, (two_numbers_decides, (two_numbers_decides, (number_text_decides, (number_text_decides, (seek_fields_decides, (two_numbers_decides, (two_numbers_decides, (number_decides, (number_decides, (three_numbers_decides, (two_numbers_decides, (number_decides, (two_texts_decides, (text_number_decides, (text_decides, (text_decides, (set_stat_fields_decides, (text_decides, (text_decides, (text_decides, (two_texts_decides, (two_texts_decides, (two_texts_decides, (text_decides, (text_decides, (text_decides, tt)))))))))))))))))))))))))))
+call_tests_decide = (open_fields_decides, (two_numbers_decides, (two_numbers_decides, (number_text_decides, (number_text_decides, (number_texts_decides, (seek_fields_decides, (two_numbers_decides, (two_numbers_decides, (number_decides, (number_decides, (three_numbers_decides, (two_numbers_decides, (number_decides, (two_numbers_decides, (number_decides, (two_numbers_decides, (number_text_decides, (number_text_decides, (number_decides, (seek_fields_decides, (two_texts_decides, (text_number_decides, (text_decides, (text_decides, (set_stat_fields_decides, (text_decides, (text_decides, (text_decides, (two_texts_decides, (two_texts_decides, (two_texts_decides, (text_decides, (text_decides, (text_decides, tt)))))))))))))))))))))))))))))))))))
 
 pub call_decides : (a b : Call) → Decides (same_call.ghosts.eq a b) (a ≡ b)
 call_decides a b = decides_by _ (values_one call.enum a b) (λ e. ap call.as_values e) (choice_decides call.the_parts call_tests call_tests_decide (call.as_values a) (call.as_values b))

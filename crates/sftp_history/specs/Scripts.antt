@@ -246,12 +246,16 @@ position_in kind word =
     else if bytes_eq kind (codes "end") then map_ok position.End (signed_in word)
     else Err reason.Mode
 
--- the words of `seek`
-abbrev pub seek_call : List ℕ → List ℕ → List ℕ → Result Call Reason
-seek_call a b c = do
+-- the words of a seek
+abbrev pub seek_in : List ℕ → List ℕ → List ℕ → Result (ℕ × SeekFrom) Reason
+seek_in a b c = do
   slot ← slot_in a
   to ← position_in b c
-  Ok (call.Seek slot to)
+  Ok (slot, to)
+
+-- the length of a buffer
+abbrev pub buffer_len : List ℕ → Result ℕ Reason
+buffer_len word = number_in 1 1048576 word
 
 -- two fields, of which each has its reading
 abbrev pub pair : {A B : Type 0} → (List ℕ → Result A Reason) → (List ℕ → Result B Reason) → List (List ℕ) → Result (A × B) Reason
@@ -273,6 +277,20 @@ two first second made words = map_ok (λ p. made p.0 p.1) (pair first second wor
 abbrev pub three : {A B C : Type 0} → (List ℕ → Result A Reason) → (List ℕ → Result B Reason) → (List ℕ → Result C Reason) → (A → B → C → Call) → List (List ℕ) → Result Call Reason
 three first second third made words = map_ok (λ p. made p.0 p.1 p.2) (triple first second third words)
 
+-- a call that is a seek
+abbrev pub seek : (ℕ → SeekFrom → Call) → List (List ℕ) → Result Call Reason
+seek made words = map_ok (λ p. made p.0 p.1) (three_words seek_in words)
+
+-- each of these words by its reading, in their order, up to the first refusal
+abbrev pub each_in : {A : Type 0} → (List ℕ → Result A Reason) → List (List ℕ) → Result (List A) Reason
+each_in read [] = Ok []
+each_in read (word ∷ words) = read word >>= λ x. each_in read words >>= λ xs. Ok (x ∷ xs)
+
+-- a slot, and one part or more
+abbrev pub parts_in : List (List ℕ) → Result (ℕ × List (List ℕ)) Reason
+parts_in (a ∷ b ∷ words) = slot_in a >>= λ slot. each_in bytes_in (b ∷ words) >>= λ parts. Ok (slot, parts)
+parts_in words = Err reason.Count
+
 -- a call on a slot, by its first word and the words behind it
 abbrev pub slot_call : List ℕ → List (List ℕ) → Option (Result Call Reason)
 slot_call word words =
@@ -281,7 +299,8 @@ slot_call word words =
     else if bytes_eq word (codes "read_all") then Some (two slot_in number_u32 call.ReadAll words)
     else if bytes_eq word (codes "write") then Some (two slot_in bytes_in call.Write words)
     else if bytes_eq word (codes "write_all") then Some (two slot_in bytes_in call.WriteAll words)
-    else if bytes_eq word (codes "seek") then Some (three_words seek_call words)
+    else if bytes_eq word (codes "write_parts") then Some (map_ok (λ p. call.WriteParts p.0 p.1) (parts_in words))
+    else if bytes_eq word (codes "seek") then Some (seek call.Seek words)
     else if bytes_eq word (codes "set_len") then Some (two slot_in number_u64 call.SetLen words)
     else if bytes_eq word (codes "set_perm") then Some (two slot_in mode_in call.SetPerm words)
     else if bytes_eq word (codes "meta") then Some (one slot_in call.Meta words)
@@ -289,6 +308,18 @@ slot_call word words =
     else if bytes_eq word (codes "copy") then Some (three slot_in slot_in number_u64 call.Copy words)
     else if bytes_eq word (codes "clone") then Some (two slot_in slot_in call.CloneFile words)
     else if bytes_eq word (codes "close") then Some (one slot_in call.Close words)
+    else None
+
+-- a call on the buffered file in a slot, or that makes one
+abbrev pub buffer_call : List ℕ → List (List ℕ) → Option (Result Call Reason)
+buffer_call word words =
+    if bytes_eq word (codes "buffer") then Some (two slot_in buffer_len call.Buffer words)
+    else if bytes_eq word (codes "unbuffer") then Some (one slot_in call.Unbuffer words)
+    else if bytes_eq word (codes "buf_read") then Some (two slot_in number_u64 call.BufRead words)
+    else if bytes_eq word (codes "buf_write") then Some (two slot_in bytes_in call.BufWrite words)
+    else if bytes_eq word (codes "buf_write_all") then Some (two slot_in bytes_in call.BufWriteAll words)
+    else if bytes_eq word (codes "buf_flush") then Some (one slot_in call.BufFlush words)
+    else if bytes_eq word (codes "buf_seek") then Some (seek call.BufSeek words)
     else None
 
 -- a call on a path or two
@@ -317,7 +348,7 @@ or_else (Some x) other = Some x
 
 -- a call by its first word and the words behind it
 abbrev pub call_in : List ℕ → List (List ℕ) → Option (Result Call Reason)
-call_in word words = or_else (slot_call word words) (path_call word words)
+call_in word words = or_else (slot_call word words) (or_else (buffer_call word words) (path_call word words))
 
 -- a call belongs to the lane begun last
 abbrev pub in_lane : Draft → List Lane → Result Call Reason → Result Draft Reason

@@ -32,6 +32,11 @@ pub enum Call {
         slot: u8,
         bytes: ByteText,
     },
+    /// Writes the bytes of all parts, one part after another, to the file in a slot, from its offset on.
+    WriteParts {
+        slot: u8,
+        parts: Items<ByteText>,
+    },
     /// Sets the offset of the file in a slot.
     Seek {
         slot: u8,
@@ -69,6 +74,40 @@ pub enum Call {
     /// Empties a slot, and closes its file where no other slot has it.
     Close {
         slot: u8,
+    },
+    /// Makes the file in a slot a buffered one, which reads at least `len` bytes at once.
+    Buffer {
+        slot: u8,
+        len: u32,
+    },
+    /// Makes the buffered file in a slot a plain one: what is buffered is dropped, and no status is awaited.
+    Unbuffer {
+        slot: u8,
+    },
+    /// Reads at most `n` bytes of the buffered file in a slot: those that are buffered, or else those of a READ.
+    BufRead {
+        slot: u8,
+        n: u64,
+    },
+    /// Writes bytes to the buffered file in a slot, as many as one request may carry, and doesn't await its status.
+    BufWrite {
+        slot: u8,
+        bytes: ByteText,
+    },
+    /// Writes all of the bytes to the buffered file in a slot, and awaits a status only where too many bytes are under
+    /// way.
+    BufWriteAll {
+        slot: u8,
+        bytes: ByteText,
+    },
+    /// Awaits the statuses of the writes to the buffered file in a slot, up to the first refusal.
+    BufFlush {
+        slot: u8,
+    },
+    /// Sets the offset of the buffered file in a slot.
+    BufSeek {
+        slot: u8,
+        position: SeekFrom,
     },
     /// Makes or empties the file at a path, and writes all of the bytes to it.
     FsWrite {

@@ -23,6 +23,10 @@ impl TryCopy for Call {
                 slot: *slot,
                 bytes: bytes.try_copy(alloc)?,
             }),
+            Call::WriteParts { slot, parts } => Ok(Call::WriteParts {
+                slot: *slot,
+                parts: parts.try_copy(alloc)?,
+            }),
             Call::Seek { slot, position } => Ok(Call::Seek {
                 slot: *slot,
                 position: *position,
@@ -44,6 +48,25 @@ impl TryCopy for Call {
                 to: *to,
             }),
             Call::Close { slot } => Ok(Call::Close { slot: *slot }),
+            Call::Buffer { slot, len } => Ok(Call::Buffer {
+                slot: *slot,
+                len: *len,
+            }),
+            Call::Unbuffer { slot } => Ok(Call::Unbuffer { slot: *slot }),
+            Call::BufRead { slot, n } => Ok(Call::BufRead { slot: *slot, n: *n }),
+            Call::BufWrite { slot, bytes } => Ok(Call::BufWrite {
+                slot: *slot,
+                bytes: bytes.try_copy(alloc)?,
+            }),
+            Call::BufWriteAll { slot, bytes } => Ok(Call::BufWriteAll {
+                slot: *slot,
+                bytes: bytes.try_copy(alloc)?,
+            }),
+            Call::BufFlush { slot } => Ok(Call::BufFlush { slot: *slot }),
+            Call::BufSeek { slot, position } => Ok(Call::BufSeek {
+                slot: *slot,
+                position: *position,
+            }),
             Call::FsWrite { path, bytes } => Ok(Call::FsWrite {
                 path: path.try_copy(alloc)?,
                 bytes: bytes.try_copy(alloc)?,

@@ -1,11 +1,12 @@
-ghost use Rattle.std.specs.Prelude.{◌≡◌, ◌+◌, ◌^◌, min, take};
+ghost use Rattle.std.specs.Prelude.{◌≡◌, ◌+◌, ◌^◌, length, min, take};
 ghost use Rattle.std.specs.List.{list_all, sum_by};
 ghost use Rattle.sftp_history.specs.Lanes.{is_long, is_within, weight, lane_weight, are_ok};
 
 use crate::call::{Call, Lane};
 
-/// Whether a session can be given these lanes: each slot is below 16, each bound at least 1, and the number of lanes and
-/// 2 for each call are below 2147483648.
+/// Whether a session can be given these lanes: each slot is below 16, each bound and each length of a buffer at least 1,
+/// and the number of lanes, 2 for each call, and the bytes of each `BufWrite` and `BufWriteAll` are together below
+/// 2147483648.
 #[tactic(auto, using(crate::proofs::Weights::limited_below))]
 pub fn lanes_ok(lanes: &[Lane]) -> bool
     ensures { result ≡ are_ok lanes.now }
@@ -37,7 +38,7 @@ fn is_long(_n: u64) -> bool
     true
 }
 
-/// Whether a call names slots that are there, and no bound of 0.
+/// Whether a call names slots that are there, and no bound or length of 0.
 fn is_call_within(call: &Call) -> bool
     ensures { result ≡ is_within call.now }
 {
@@ -47,6 +48,7 @@ fn is_call_within(call: &Call) -> bool
         Call::ReadAll { slot, .. } => *slot < 16,
         Call::Write { slot, .. } => *slot < 16,
         Call::WriteAll { slot, .. } => *slot < 16,
+        Call::WriteParts { slot, .. } => *slot < 16,
         Call::Seek { slot, .. } => *slot < 16,
         Call::SetLen { slot, n } => *slot < 16 && is_long(*n),
         Call::SetPerm { slot, .. } => *slot < 16,
@@ -55,17 +57,35 @@ fn is_call_within(call: &Call) -> bool
         Call::Copy { from, to, .. } => *from < 16 && *to < 16,
         Call::CloneFile { from, to } => *from < 16 && *to < 16,
         Call::Close { slot } => *slot < 16,
+        Call::Buffer { slot, len } => *slot < 16 && 1 <= *len,
+        Call::Unbuffer { slot } => *slot < 16,
+        Call::BufRead { slot, .. } => *slot < 16,
+        Call::BufWrite { slot, .. } => *slot < 16,
+        Call::BufWriteAll { slot, .. } => *slot < 16,
+        Call::BufFlush { slot } => *slot < 16,
+        Call::BufSeek { slot, .. } => *slot < 16,
         Call::List { bound, .. } => 1 <= *bound,
         Call::SetStat { size, .. } => size.is_none_or(is_long),
         _ => true,
     }
 }
 
-/// What a call counts.
-fn weight_of(_call: &Call) -> u32
-    ensures { result ≡ weight _call.now }
+/// What a call of these bytes counts, or 2147483648 where it is more.
+fn weight_of_bytes(bytes: &[u8]) -> u32
+    ensures { result ≡ min (2 + length bytes.now) (2 ^ 31) }
 {
-    2
+    (bytes.len() as u64).saturating_add(2).min(0x8000_0000) as u32
+}
+
+/// What a call counts, or 2147483648 where it is more.
+fn weight_of(call: &Call) -> u32
+    ensures { result ≡ min (weight call.now) (2 ^ 31) }
+{
+    match call {
+        Call::BufWrite { bytes, .. } => weight_of_bytes(bytes.as_slice()),
+        Call::BufWriteAll { bytes, .. } => weight_of_bytes(bytes.as_slice()),
+        _ => 2,
+    }
 }
 
 /// A sum, or 2147483648 where it is more.

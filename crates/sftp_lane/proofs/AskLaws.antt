@@ -19,7 +19,7 @@ use Rattle.sftp_plan.specs.declared.next.Next.TheVariants as step
 use Rattle.sftp_plan.specs.declared.next.Running.{Running}
 use Rattle.sftp_plan.specs.declared.next.Running.TheVariants as running
 use Rattle.sftp_plan.specs.Machines.{awaited}
-use Rattle.sftp_plan.specs.Asking.{Asks as AsksFirst, AsksOn, HasGrant, IsNoClose, IsPlain, Names, opened_after}
+use Rattle.sftp_plan.specs.Asking.{BeginsAsking, GoesOnAsking, HasGrant, IsNoClose, IsPlain, Names, opened_after}
 use Rattle.sftp_history.specs.declared.call.Call.{Call}
 use Rattle.sftp_history.specs.Grants.{is_close}
 use Rattle.sftp_ties.specs.Lanes.{Held, LaneValue, Ticketed, grant_places}
@@ -71,7 +71,7 @@ last_gives core g here = ap (release_gives g) (one_user core g here)
 -- ---- a turn whose reply came
 
 pub turned_replied : (c : Call) (facts : Facts) (place : ℕ) (core between new : Core) (v now : LaneValue) (r : Running) (p : ℕ) (y : Reply) (tickets : List Ticketed) (grants : List Held) (n : Next) (o : Result Moved OutOfMemory) → v.running ≡ Some r
-    → awaited r v.site ≡ Some p → Spent core between v.tickets tickets v.grants grants p y → WentOn r (Some y) c facts place v.site now.site n → AsksOn (opened_after r (Some y)) place v.site n → now.ended ≡ v.ended
+    → awaited r v.site ≡ Some p → Spent core between v.tickets tickets v.grants grants p y → WentOn r (Some y) c facts place v.site now.site n → GoesOnAsking (opened_after r (Some y)) place v.site now.site n → now.ended ≡ v.ended
     → IfOk o (λ m. Settles between new tickets now.tickets grants now.grants now.running place n m) → IfOk o (λ m. Turned c facts place core new v now m)
 turned_replied c facts place core between new v now r p y tickets grants n (Err e) was looks spent ran asks ended settles = settles
 turned_replied c facts place core between new v now r p y tickets grants n (Ok m) was looks spent ran asks ended settles =
@@ -129,21 +129,21 @@ named_each Has (ask.Fsync h) g n has = one Has h g n has
 named_each Has (ask.CopyData from x len to y) g n has = two Has from to g n has
 
 -- the request of a call that may name what these grants are
-pub may_ask : (opened : Option ℕ) (place : ℕ) (site : Site) (grants : List Held) (n : Next) → AsksFirst opened place site n → ((g : ℕ) → HasGrant site opened g → is_in g (grant_places grants) ≡ true) → MayAsk grants n
-may_ask opened place site grants (step.Ask a r) x held = (λ g has. held g (named_each (HasGrant site opened) a g x.named has), x.call)
-may_ask opened place site grants (step.Wait r) x held = absurd x
-may_ask opened place site grants (step.Done o) x held = tt
+pub may_ask : (opened : Option ℕ) (place : ℕ) (old new : Site) (grants : List Held) (n : Next) → BeginsAsking opened place old new n → ((g : ℕ) → HasGrant old opened g → is_in g (grant_places grants) ≡ true) → MayAsk grants n
+may_ask opened place old new grants (step.Ask a r) x held = (λ g has. held g (named_each (HasGrant old opened) a g x.named has), x.call)
+may_ask opened place old new grants (step.Wait r) x held = tt
+may_ask opened place old new grants (step.Done o) x held = tt
 
-pub first_of : (opened : Option ℕ) (place : ℕ) (site : Site) (n : Next) → AsksOn opened place site n → AsksFirst opened place site n
-first_of opened place site (step.Ask a r) x = x.0
-first_of opened place site (step.Wait r) x = x
-first_of opened place site (step.Done o) x = x
+pub may_ask_on : (opened : Option ℕ) (place : ℕ) (old new : Site) (grants : List Held) (n : Next) → GoesOnAsking opened place old new n → ((g : ℕ) → HasGrant old opened g → is_in g (grant_places grants) ≡ true) → MayAsk grants n
+may_ask_on opened place old new grants (step.Ask a r) x held = (λ g has. held g (named_each (HasGrant old opened) a g x.0.named has), x.0.call)
+may_ask_on opened place old new grants (step.Wait r) x held = tt
+may_ask_on opened place old new grants (step.Done o) x held = tt
 
-pub closes_nothing : (opened : Option ℕ) (place : ℕ) (site : Site) (n : Next) → AsksOn opened place site n → ClosesNothing n
-closes_nothing opened place site (step.Ask (ask.Close g) r) x = absurd x.1
-closes_nothing opened place site (step.Ask a r) x = tt
-closes_nothing opened place site (step.Wait r) x = tt
-closes_nothing opened place site (step.Done o) x = tt
+pub closes_nothing : (opened : Option ℕ) (place : ℕ) (old new : Site) (n : Next) → GoesOnAsking opened place old new n → ClosesNothing n
+closes_nothing opened place old new (step.Ask (ask.Close g) r) x = absurd x.1
+closes_nothing opened place old new (step.Ask a r) x = tt
+closes_nothing opened place old new (step.Wait r) x = tt
+closes_nothing opened place old new (step.Done o) x = tt
 
 -- ---- the grants that a call may name after a reply
 
@@ -176,3 +176,13 @@ held_after v r y p ticket was looks held g (inr e) = opened_held v r y p ticket 
 pub held_first : (v : LaneValue) → HoldsNamed v → (g : ℕ) → HasGrant v.site None g → is_in g (grant_places v.grants) ≡ true
 held_first v held g (inl has) = held g (inl has)
 held_first v held g (inr e) = absurd cc
+
+-- where it goes on without a reply it may name what it might before
+pub held_on : (v : LaneValue) (r : Running) → v.running ≡ Some r → HoldsNamed v → (g : ℕ) → HasGrant v.site (opened_after r None) g → is_in g (grant_places v.grants) ≡ true
+held_on v r was held g (inl has) = held g (inl has)
+held_on v r was held g (inr e) = held g (inr (ap opened_in was ∙ (sym (nothing_opens r) ∙ e)))
+  where
+    nothing_opens : (x : Running) → opened_after x None ≡ opened_in (Some x)
+    nothing_opens (running.OpeningToWrite place) = refl
+    nothing_opens (running.OpeningDirectory place bound) = refl
+    nothing_opens x = refl

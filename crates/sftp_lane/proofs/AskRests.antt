@@ -1,5 +1,5 @@
 -- A request of a lane leaves its session at rest.
-use Rattle.std.proofs.Common.{◌≡◌, ◌≢◌, ◌<◌, ◌≤◌, ◌+◌, ◌==◌, ◌^◌, ℕ, Bool, true, false, List, [], ◌∷◌, ◌++◌, Option, Some, None, refl, ap, sym, ◌∙◌, subst, arith, inl, inr}
+use Rattle.std.proofs.Common.{◌≡◌, ◌≢◌, ◌<◌, ◌≤◌, ◌+◌, ◌==◌, ◌^◌, ℕ, Bool, true, List, [], ◌∷◌, ◌++◌, ◌⊎◌, Option, Some, None, refl, ap, sym, ◌∙◌, subst, arith, inl, inr}
 use Rattle.std.specs.Prelude.{length, slice_get, is_some}
 use Rattle.std.specs.List.{list_any}
 use Rattle.std.proofs.lemmas.Bool.Decides.{eqb_tells}
@@ -12,16 +12,15 @@ use Rattle.sftp_model.specs.declared.slot.Site.{Site}
 use Rattle.sftp_core.specs.Core.{Core, at, queued_last}
 use Rattle.sftp_core.specs.declared.place.Place.{Place}
 use Rattle.sftp_core.specs.declared.place.Place.TheVariants.{Waiting, Granted}
+use Rattle.sftp_calls.specs.Moves.{Answers}
 use Rattle.sftp_plan.specs.declared.next.Asked.{Asked as Ask_of}
 use Rattle.sftp_plan.specs.declared.next.Asked.TheVariants as ask
 use Rattle.sftp_plan.specs.declared.next.Running.{Running}
-use Rattle.sftp_plan.specs.Asking.{AsksOwn}
+use Rattle.sftp_plan.specs.Asking.{AsksOrDefers, AwaitsOrDefers, IsTransfer}
 use Rattle.sftp_plan.specs.Machines.{filled}
 use Rattle.sftp_plan.specs.Pending.{own_place}
 use Rattle.sftp_history.specs.declared.event.Owner.TheVariants as owner
-use Rattle.sftp_history.specs.declared.event.Event.TheVariants.{Submit}
 use Rattle.sftp_history.specs.declared.entry.Entry.{Entry}
-use Rattle.sftp_history.specs.declared.entry.Entry.TheVariants as entry
 use Rattle.sftp_history.specs.Readings.{Asked, answer, asked, asked_at, awaiting, ended}
 use Rattle.sftp_history.specs.Calls.{Setting}
 use Rattle.sftp_history.specs.Grants.{is_asked_by}
@@ -42,11 +41,12 @@ use Rattle.sftp_ties.specs.Tables.{Tabled, stand}
 use Rattle.sftp_ties.proofs.AskLaws.{ask_dues}
 use Rattle.sftp_ties.proofs.DueLaws.{none_next}
 use Rattle.sftp_ties.proofs.HoldLaws.{ticket_push}
-use Rattle.sftp_ties.proofs.OrderLaws.{asked_below}
 use Rattle.sftp_ties.proofs.PlaceLaws.{push_other}
 use Rattle.sftp_ties.proofs.RestLaws.{none_due_is_settled}
 use Rattle.sftp_ties.proofs.SessionLaws.{each_with}
-use Rattle.sftp_steps.specs.Rest.{AtRest, Counted, LaneAsks, RunFits, opened_in, weigh}
+use Rattle.sftp_steps.specs.Rest.{AtRest, Counted, IsTransferAt, LaneAsks, RunFits, awaited_in, is_transfer, opened_in, weigh}
+use Rattle.sftp_steps.proofs.AskedLaws.{asks_on}
+use Rattle.sftp_steps.proofs.TransferLaws.{place_below}
 use Rattle.sftp_steps.proofs.CountedLaws.{counted_ask, counted_close, released_is, weigh_ask, weigh_close}
 use Rattle.sftp_lane.specs.Tokens.{Bears}
 use Rattle.sftp_lane.specs.Turning.{Releases, Submits}
@@ -77,11 +77,17 @@ pub record Midway (past : List Entry) (core c : Core) : Type 0 where
 pub midway_self : (past : List Entry) (core : Core) → Counted past core → Midway past core core
 midway_self past core counted = record { counted = counted; work = omega arith; waits = λ id e sent wanted is. is }
 
+filled_transfers : (a : Ask_of) (answers : Answers) → IsTransfer a → is_transfer (filled a answers) ≡ true
+filled_transfers (ask.Read grant offset len) answers t = refl
+filled_transfers (ask.Write grant offset content) answers t = refl
+filled_transfers other answers t = absurd t
+
 -- a request is under way under a free id, and a reply that may answer it may answer what was asked
 pub record Under (past : List Entry) (core new : Core) (lane id : ℕ) (a : Ask_of) (q : Request) : Type 0 where
   pub free : awaiting past id ≡ None
   pub counted : Counted (own_request past lane id q ∷ past) new
   pub work : weigh new ≤ weigh core + 3
+  pub transfers : IsTransfer a → is_transfer q ≡ true
   pub answers : (y : Reply) → may_answer q y ≡ true → may_answer (filled a (answer past)) y ≡ true
 
 pub submitted_under : (s : Setting) (past : List Entry) (core c new : Core) (lanes : ℕ → LaneValue) (lane id : ℕ) (tickets now : List Ticketed) (grants held : List Held) (a : Ask_of) (q : Request) → SessionTied s past core lanes [] → Midway past core c → Bears grants (answer past)
@@ -92,6 +98,7 @@ submitted_under s past core c new lanes lane id tickets now grants held a q h m 
           (λ e sent wanted is. let clash : ◌≡◌ {A = Option Place} None (Some (Waiting e sent wanted)) = sym x.free ∙ m.waits id e sent wanted is in cc);
       counted = subst (Counted (own_request past lane id q ∷ past)) (sym x.core) (counted_ask past c (owner.Call lane (ended past lane)) id q true x.free m.counted);
       work = (let more : weigh new ≤ weigh c + 3 = subst (λ (y : Core). weigh y ≤ weigh c + 3) (sym x.core) (weigh_ask c id q true x.free) in let less = m.work in omega (arith, more, less));
+      transfers = λ t. ap is_transfer (x.filled (answer past) bears) ∙ filled_transfers a (answer past) t;
       answers = λ y may. ap (λ (r : Request). may_answer r y) (sym (x.filled (answer past) bears)) ∙ may;
     }
 
@@ -107,17 +114,16 @@ released_under s past core new lanes lane g id tickets now grants held q h count
       counted = subst (Counted (own_request past lane id q ∷ past)) (sym queued)
           (subst (λ (r : Request). Counted (own_request past lane id r ∷ past) (queued_last core id (request.Close x.grant.handle) true)) (sym x.is) (counted_close past core (owner.Call lane (ended past lane)) id x.grant.handle 1 true there counted));
       work = (let less : weigh new < weigh core = subst (λ (y : Core). weigh y < weigh core) (sym queued) (weigh_close core id x.grant.handle 1 true there) in omega (arith, less));
+      transfers = λ t. absurd t;
       answers = λ y may. ap (λ (r : Request). may_answer r y) (sym x.is) ∙ may;
     })
 
 -- ---- what its lane awaits then
 
--- the place of the new request is the only one
-only_new : (places : List ℕ) (new p : ℕ) → ((q : ℕ) → is_in q places ≡ false) → is_in p (places ++ new ∷ []) ≡ true → p ≡ new
-only_new places new p none has = elim (eqb_tells new p) [
-  | inl t ↦ sym t.1
-  | inr t ↦ absurd (let other : is_in p (places ++ new ∷ []) ≡ is_in p places = push_other places new p (λ e. t.1 (sym e)) in let clash : false ≡ true = sym (none p) ∙ (sym other ∙ has) in cc)
-]
+-- a call goes on with the reply to what it asks, or with none of its own
+own_here : (o : Option ℕ) (p place : ℕ) (a : Ask_of) → o ≡ Some p → AwaitsOrDefers o place a → p ≡ place
+own_here None p place a is awaits = absurd cc
+own_here (Some q) p place a is awaits = (let same : q ≡ p = cc in sym same ∙ awaits)
 
 asked_here : (past : List Entry) (lane id : ℕ) (q : Request) → is_asked_by (asked_at (own_request past lane id q ∷ past) (asked past)) lane (ended past lane) ≡ true
 asked_here past lane id q = ap (λ x. is_asked_by x lane (ended past lane)) (asked_new past (owner.Call lane (ended past lane)) id q) ∙ both
@@ -128,52 +134,46 @@ asked_here past lane id q = ap (λ x. is_asked_by x lane (ended past lane)) (ask
       | inr t ↦ absurd (t.1 refl)
     ]
 
-pub asks_new : (past : List Entry) (core new : Core) (lane id : ℕ) (tickets : List Ticketed) (v : LaneValue) (opened : Option ℕ) (site : Site) (a : Ask_of) (r : Running) (q : Request) → Under past core new lane id a q → AsksOwn opened (asked past) site a r
-    → ((p : ℕ) → is_in p (ticket_places tickets) ≡ false) → ((g : ℕ) → opened ≡ Some g → is_in g (grant_places v.grants) ≡ true) → v.running ≡ Some r → v.tickets ≡ tickets ++ (record { place = asked past; ticket = id }) ∷ [] → v.ended ≡ ended past lane
+pub asks_new : (past : List Entry) (core new : Core) (lane id : ℕ) (tickets : List Ticketed) (v : LaneValue) (opened : Option ℕ) (old : Site) (a : Ask_of) (r : Running) (q : Request) → Under past core new lane id a q → AsksOrDefers opened (asked past) old v.site a r
+    → ((p : ℕ) → is_in p (ticket_places tickets) ≡ true → IsTransferAt past p) → ((g : ℕ) → opened ≡ Some g → is_in g (grant_places v.grants) ≡ true) → v.running ≡ Some r → v.tickets ≡ tickets ++ (record { place = asked past; ticket = id }) ∷ [] → v.ended ≡ ended past lane
     → LaneAsks (own_request past lane id q ∷ past) lane v
-asks_new past core new lane id tickets v opened site a r q u x none held was pushed ends =
+asks_new past core new lane id tickets v opened old a r q u x others held was pushed ends =
     record {
-      current = λ p mine. subst (λ (n : ℕ). is_asked_by (asked_at (own_request past lane id q ∷ past) n) lane v.ended ≡ true) (place_is p mine)
-          (ap (is_asked_by (asked_at (own_request past lane id q ∷ past) (asked past)) lane) ends ∙ asked_here past lane id q);
-      own = λ y is. (let same : r ≡ y = (let e : ◌≡◌ {A = Option Running} (Some r) (Some y) = sym was ∙ is in cc) in subst (λ (z : Running). is_some (own_place (Some z)) ≡ true) same (ap is_some x.awaits));
-      only = λ p has. mine_is ∙ ap (λ (n : ℕ). Some n) (sym (only_new (ticket_places tickets) (asked past) p none (ap (is_in p) (sym (ap ticket_places pushed ∙ ticket_push tickets (record { place = asked past; ticket = id }))) ∙ has)));
+      current = λ p mine. subst (λ (n : ℕ). is_asked_by (asked_at now n) lane v.ended ≡ true) (sym (own_here (own_place (Some r)) p (asked past) a (ap own_place (sym was) ∙ mine) x.awaits))
+          (ap (is_asked_by (asked_at now (asked past)) lane) ends ∙ asked_here past lane id q);
+      only = λ p has. elim (eqb_tells p (asked past)) [
+        | inl t ↦ subst (λ (n : ℕ). (own_place v.running ≡ Some n) ⊎ IsTransferAt now n) (sym t.1) (new_ticket (own_place (Some r)) refl x.awaits)
+        | inr t ↦ inr (old_ticket p (sym (push_other (ticket_places tickets) (asked past) p t.1) ∙ (ap (is_in p) (sym (ap ticket_places pushed ∙ ticket_push tickets (record { place = asked past; ticket = id }))) ∙ has)))
+      ];
       keeps = λ g opens. held g (x.keeps g (ap opened_in (sym was) ∙ opens));
-      fits = λ p b y mine there may. fits p b y mine there may;
+      fits = λ p b y looks there may. fits p b y (x.looks p (ap (λ (o : Option Running). awaited_in o v.site) (sym was) ∙ looks)) there may;
     }
   where
-    mine_is : own_place v.running ≡ Some (asked past)
-    mine_is = ap own_place was ∙ x.awaits
+    now : List Entry
+    now = own_request past lane id q ∷ past
 
-    place_is : (p : ℕ) → own_place v.running ≡ Some p → asked past ≡ p
-    place_is p mine = (let e : ◌≡◌ {A = Option ℕ} (Some (asked past)) (Some p) = sym mine_is ∙ mine in cc)
+    is_new : Asked
+    is_new = record { by = owner.Call lane (ended past lane); id = id; request = q }
 
-    fits : (p : ℕ) (b : Asked) (y : Reply) → own_place v.running ≡ Some p → asked_at (own_request past lane id q ∷ past) p ≡ Some b → may_answer b.request y ≡ true → RunFits v.running y
-    fits p b y mine there may =
-        (let here : ◌≡◌ {A = Option Asked} (Some (record { by = owner.Call lane (ended past lane); id = id; request = q })) (Some b) =
-        sym (asked_new past (owner.Call lane (ended past lane)) id q) ∙ (ap (asked_at (own_request past lane id q ∷ past)) (place_is p mine) ∙ there) in
-        let is : q ≡ b.request = (let one : (◌≡◌ {A = Asked} (record { by = owner.Call lane (ended past lane); id = id; request = q }) b) = cc in ap (λ (z : Asked). z.request) one) in
+    new_ticket : (o : Option ℕ) → own_place (Some r) ≡ o → AwaitsOrDefers o (asked past) a → (own_place v.running ≡ Some (asked past)) ⊎ IsTransferAt now (asked past)
+    new_ticket None is awaits = inr (record { asked = is_new; here = asked_new past (owner.Call lane (ended past lane)) id q; transfers = u.transfers awaits })
+    new_ticket (Some p) is awaits = inl (ap own_place was ∙ (is ∙ ap (λ (n : ℕ). Some n) awaits))
+
+    old_ticket : (p : ℕ) → is_in p (ticket_places tickets) ≡ true → IsTransferAt now p
+    old_ticket p has = (let t = others p has in record { asked = t.asked; here = asked_other past (owner.Call lane (ended past lane)) id p q (place_below past p t.asked t.here) ∙ t.here; transfers = t.transfers })
+
+    fits : (p : ℕ) (b : Asked) (y : Reply) → p ≡ asked past → asked_at now p ≡ Some b → may_answer b.request y ≡ true → RunFits v.running y
+    fits p b y place there may =
+        (let here : ◌≡◌ {A = Option Asked} (Some is_new) (Some b) = sym (asked_new past (owner.Call lane (ended past lane)) id q) ∙ (ap (asked_at now) (sym place) ∙ there) in
+        let is : q ≡ b.request = (let one : (◌≡◌ {A = Asked} is_new b) = cc in ap (λ (z : Asked). z.request) one) in
         subst (λ (z : Option Running). RunFits z y) (sym was) (x.fits (answer past) y (u.answers y (ap (λ (z : Request). may_answer z y) is ∙ may))))
-
--- the other lanes await what they awaited
-pub asks_other : (past : List Entry) (by : _) (id w : ℕ) (q : Request) (v : LaneValue) → LaneAsks past w v → LaneAsks (entry.Event (Submit by id q) ∷ past) w v
-asks_other past by id w q v a =
-    record {
-      current = λ p mine. ap (λ x. is_asked_by x w v.ended) (same p mine) ∙ a.current p mine;
-      own = a.own;
-      only = a.only;
-      keeps = a.keeps;
-      fits = λ p b y mine there may. a.fits p b y mine (sym (same p mine) ∙ there) may;
-    }
-  where
-    same : (p : ℕ) → own_place v.running ≡ Some p → asked_at (entry.Event (Submit by id q) ∷ past) p ≡ asked_at past p
-    same p mine = asked_other past by id p q (asked_below past p w v.ended (a.current p mine))
 
 -- ---- the session
 
-pub asked_rests : (s : Setting) (past : List Entry) (core new : Core) (lanes : ℕ → LaneValue) (begun : List ℕ) (lane id : ℕ) (now : LaneValue) (tickets : List Ticketed) (opened : Option ℕ) (site : Site) (a : Ask_of) (r : Running) (q : Request) → AtRest s past core lanes begun → lane < length s.lanes
-    → Under past core new lane id a q → AsksOwn opened (asked past) site a r → ((p : ℕ) → is_in p (ticket_places tickets) ≡ false) → ((g : ℕ) → opened ≡ Some g → is_in g (grant_places now.grants) ≡ true) → now.running ≡ Some r
+pub asked_rests : (s : Setting) (past : List Entry) (core new : Core) (lanes : ℕ → LaneValue) (begun : List ℕ) (lane id : ℕ) (now : LaneValue) (tickets : List Ticketed) (opened : Option ℕ) (old : Site) (a : Ask_of) (r : Running) (q : Request) → AtRest s past core lanes begun → lane < length s.lanes
+    → Under past core new lane id a q → AsksOrDefers opened (asked past) old now.site a r → ((p : ℕ) → is_in p (ticket_places tickets) ≡ true → IsTransferAt past p) → ((g : ℕ) → opened ≡ Some g → is_in g (grant_places now.grants) ≡ true) → now.running ≡ Some r
     → now.tickets ≡ tickets ++ (record { place = asked past; ticket = id }) ∷ [] → now.ended ≡ (lanes lane).ended → id < 2 ^ 32 → TurnTied s past new (with_lane lanes lane) lane now (moved.Asked id q) → IsAsked s past core new (with_lane lanes lane now) begun lane id q
-asked_rests s past core new lanes begun lane id now tickets opened site a r q h there u x none held was pushed same small t =
+asked_rests s past core new lanes begun lane id now tickets opened old a r q h there u x others held was pushed same small t =
     let b = h.between in
     let e : Entry = own_request past lane id q in
     let free : IsFree past id = (small, u.free) in
@@ -194,8 +194,8 @@ asked_rests s past core new lanes begun lane id now tickets opened site a r q h 
           due = due;
           tied = t.1 good.run;
           counted = u.counted;
-          asks = λ w lt. each_with (λ n v. LaneAsks (e ∷ past) n v) lanes lane now (length s.lanes) (asks_new past core new lane id tickets now opened site a r q u x none held was pushed ends)
-              (λ n less ne. asks_other past (owner.Call lane (ended past lane)) id n q (lanes n) (b.asks n less)) w lt;
+          asks = λ w lt. each_with (λ n v. LaneAsks (e ∷ past) n v) lanes lane now (length s.lanes) (asks_new past core new lane id tickets now opened old a r q u x others held was pushed ends)
+              (λ n less ne. asks_on past (e ∷ past) n (lanes n) (λ p below. asked_other past (owner.Call lane (ended past lane)) id p q below) (b.tied.each n less).goes.awaits (b.asks n less)) w lt;
           begins = λ w lt any. begun_more lane w begun (is_some (with_lane lanes lane now w).running ≡ true)
               (λ is. subst (λ (n : ℕ). is_some (with_lane lanes lane now n).running ≡ true) is (ap (λ (v : LaneValue). is_some v.running) (with_here lanes lane now) ∙ ap is_some was))
               (λ old. each_with (λ n v. list_any (λ l. l == n) begun ≡ true → is_some v.running ≡ true) lanes lane now (length s.lanes) (λ y. ap is_some was) (λ n less ne y. b.begins n less y) w lt old) any;

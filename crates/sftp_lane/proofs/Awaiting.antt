@@ -1,6 +1,6 @@
--- What a lane of a session at rest awaits is the reply to its call's own request, and its slots' grants are its own.
-use Rattle.std.proofs.Common.{◌≡◌, ◌≢◌, ◌<◌, ℕ, Bool, true, false, List, [], Option, Some, None, refl, ap, sym, ◌∙◌, subst, arith, inl, inr}
-use Rattle.std.specs.Prelude.{length, is_some}
+-- What a lane of a session at rest awaits, and that its slots' grants are its own.
+use Rattle.std.proofs.Common.{◌≡◌, ◌<◌, ℕ, Bool, true, false, List, [], Option, Some, None, refl, ap, sym, ◌∙◌, subst, arith, inl, inr}
+use Rattle.std.specs.Prelude.{length}
 use Rattle.sftp_model.specs.Answers.{may_answer}
 use Rattle.sftp_model.specs.Slots.{has_grant}
 use Rattle.sftp_model.specs.declared.reply.Reply.{Reply}
@@ -25,10 +25,11 @@ use Rattle.sftp_ties.proofs.HoldLaws.{held_unclosed, of_in, ticket_index}
 use Rattle.sftp_ties.proofs.LaneLaws.{replies_agree, slots_agree}
 use Rattle.sftp_ties.proofs.OrderLaws.{asked_before}
 use Rattle.sftp_ties.proofs.PlaceLaws.{at_in}
-use Rattle.sftp_steps.specs.Rest.{LaneAsks, RunFits}
-use Rattle.sftp_lane.specs.Turning.{AllFit, HoldsNamed, IsOwnRun}
+use Rattle.sftp_steps.specs.Rest.{LaneAsks, RunFits, awaited_in}
+use Rattle.sftp_steps.proofs.TransferLaws.{transfer_ungranted}
+use Rattle.sftp_lane.specs.Turning.{AllFit, HoldsNamed}
 use Rattle.sftp_lane.specs.Holding.{HandlesAreAwaited}
-use Rattle.sftp_lane.specs.Rests.{LanesAwaitOwn}
+use Rattle.sftp_lane.specs.Rests.{LanesAwaitReplies}
 
 -- ---- what is awaited
 
@@ -50,38 +51,27 @@ own_awaited (running.Deferred slot count) site p e = absurd cc
 own_awaited (running.DeferringRest slot done) site p e = absurd cc
 own_awaited (running.FillingBuffer slot n offset own) site p e = absurd cc
 
--- then the call awaits one
-pub awaits_some : (r : Running) (site : Site) → own_place (Some r) ≢ None → awaited r site ≢ None
-awaits_some r site own none = by_place (own_place (Some r)) refl
+-- where the call awaits none, it awaits none of its own
+pub none_own : (r : Running) (site : Site) → awaited r site ≡ None → own_place (Some r) ≡ None
+none_own r site none = by_place (own_place (Some r)) refl
   where
-    by_place : (o : Option ℕ) → own_place (Some r) ≡ o → ⊥
-    by_place None is = own is
-    by_place (Some p) is = (let clash : ◌≡◌ {A = Option ℕ} None (Some p) = sym none ∙ own_awaited r site p is in cc)
+    by_place : (o : Option ℕ) → own_place (Some r) ≡ o → o ≡ None
+    by_place None is = refl
+    by_place (Some p) is = absurd (let clash : ◌≡◌ {A = Option ℕ} None (Some p) = sym none ∙ own_awaited r site p is in cc)
 
--- such a place
-some_place : (o : Option ℕ) → is_some o ≡ true → (p : ℕ) × (o ≡ Some p)
-some_place (Some p) e = (p, refl)
-some_place None e = absurd cc
-
--- and no other
-pub awaited_own : (r : Running) (site : Site) (p : ℕ) → is_some (own_place (Some r)) ≡ true → awaited r site ≡ Some p → own_place (Some r) ≡ Some p
-awaited_own r site p some looks =
-    (let q = some_place (own_place (Some r)) some in
-    let same : ◌≡◌ {A = Option ℕ} (Some q.0) (Some p) = sym (own_awaited r site q.0 q.1) ∙ looks in q.1 ∙ same)
-
-pub own_run : (past : List Entry) (lane : ℕ) (v : LaneValue) → LaneAsks past lane v → IsOwnRun v.running
-own_run past lane v a r was none = (let some : is_some (own_place (Some r)) ≡ true = a.own r was in let clash : false ≡ true = sym (ap is_some none) ∙ some in absurd cc)
-
--- a ticket of the lane is that of the request that its current call awaits
-pub handles_awaited : (past : List Entry) (lane : ℕ) (v : LaneValue) → LaneAsks past lane v → v.ended ≡ ended past lane → HandlesAreAwaited past lane v
-handles_awaited past lane v a same p has granted = (current_is, by_running v.running refl (a.only p has))
+-- a HANDLE is the reply to the request that the lane's current call awaits
+pub handles_awaited : (s : Setting) (past : List Entry) (lane : ℕ) (v : LaneValue) → IsJournal s past → LaneAsks past lane v → v.ended ≡ ended past lane → HandlesAreAwaited past lane v
+handles_awaited s past lane v j a same p has granted = elim (a.only p has) [
+  | inl mine ↦ (current_is mine, by_running v.running refl mine)
+  | inr t ↦ absurd (let clash : false ≡ true = sym (transfer_ungranted s past p j t) ∙ granted in cc)
+]
   where
-    current_is : is_unended_asker past lane p ≡ true
-    current_is = ap (is_asked_by (asked_at past p) lane) (sym same) ∙ a.current p (a.only p has)
+    current_is : own_place v.running ≡ Some p → is_unended_asker past lane p ≡ true
+    current_is mine = ap (is_asked_by (asked_at past p) lane) (sym same) ∙ a.current p mine
 
-    by_running : (x : Option Running) → v.running ≡ x → own_place x ≡ Some p → (r : Running) × ((v.running ≡ Some r) × (awaited r v.site ≡ Some p))
-    by_running None is e = absurd cc
-    by_running (Some r) is e = (r, (is, own_awaited r v.site p e))
+    by_running : (x : Option Running) → v.running ≡ x → own_place v.running ≡ Some p → (r : Running) × ((v.running ≡ Some r) × (awaited r v.site ≡ Some p))
+    by_running None is e = absurd (let clash : ◌≡◌ {A = Option ℕ} None (Some p) = sym (ap own_place is) ∙ e in cc)
+    by_running (Some r) is e = (r, (is, own_awaited r v.site p (ap own_place (sym is) ∙ e)))
 
 -- ---- what came fits
 
@@ -91,20 +81,19 @@ nothing_fits (running.Gathering place slot file got left len) = tt
 nothing_fits (running.FillingBuffer slot n offset own) = tt
 nothing_fits r = tt
 
-fits_by : (s : Setting) (past : List Entry) (lane : ℕ) (v : LaneValue) (r : Running) (p : ℕ) (o : Option Reply) → IsJournal s past → LaneTied s past lane v [] → LaneAsks past lane v → v.running ≡ Some r → own_place (Some r) ≡ Some p → is_in p (ticket_places v.tickets) ≡ true
+fits_by : (s : Setting) (past : List Entry) (lane : ℕ) (v : LaneValue) (r : Running) (p : ℕ) (o : Option Reply) → IsJournal s past → LaneTied s past lane v [] → LaneAsks past lane v → v.running ≡ Some r → awaited r v.site ≡ Some p → is_in p (ticket_places v.tickets) ≡ true
     → answer past p ≡ o → Fits r o
-fits_by s past lane v r p None j l a was mine has is = nothing_fits r
-fits_by s past lane v r p (Some y) j l a was mine has is =
+fits_by s past lane v r p None j l a was looks has is = nothing_fits r
+fits_by s past lane v r p (Some y) j l a was looks has is =
     (let asks = of_in past lane (ticket_places v.tickets) p l.holds.tied_of has in
     let may : may_answer asks.0.request y ≡ true = reply_may s past p y asks.0 j is asks.1.0 in
-    subst (λ (x : Option Running). RunFits x y) was (a.fits p asks.0 y (ap own_place was ∙ mine) asks.1.0 may))
+    subst (λ (x : Option Running). RunFits x y) was (a.fits p asks.0 y (ap (λ (x : Option Running). awaited_in x v.site) was ∙ looks) asks.1.0 may))
 
 pub all_fit : (s : Setting) (past : List Entry) (core : Core) (lanes : ℕ → LaneValue) (lane : ℕ) → IsJournal s past → SessionTied s past core lanes [] → lane < length s.lanes → LaneAsks past lane (lanes lane) → AllFit core (lanes lane).tickets (lanes lane).running (lanes lane).site
 all_fit s past core lanes lane j h there a k t r got was looks =
     (let v : LaneValue = lanes lane in
-    let mine : own_place (Some r) ≡ Some t.place = awaited_own r v.site t.place (a.own r was) looks in
     let has : is_in t.place (ticket_places v.tickets) ≡ true = at_in (ticket_places v.tickets) k t.place (ticket_index v.tickets k t got) in
-    fits_by s past lane v r t.place (reply_in (at core t.ticket)) j (h.each lane there) a was mine has (sym (replies_agree s past core lanes [] lane k t h there got)))
+    fits_by s past lane v r t.place (reply_in (at core t.ticket)) j (h.each lane there) a was looks has (sym (replies_agree s past core lanes [] lane k t h there got)))
 
 -- ---- the grants of its slots
 
@@ -121,11 +110,13 @@ slot_held s past lane g v j there l a has = by_in (is_in g (grant_places v.grant
     mine : (is_grant past g ≡ true) × ((call : ℕ) × ((call < ended past lane) × (is_asked_by (asked_at past g) lane call ≡ true)))
     mine = slots_owned s past lane g j (held_less (current s past lane) (own past lane (ended past lane)) (site_of s past lane) g held)
 
-    -- it is no ticket, for that would be one of the current call
+    -- it is no ticket, for that would be one of the current call, or of a READ or a WRITE
     never : is_in g (ticket_places v.tickets) ≡ true → ⊥
-    never ticket =
-        (let asks : is_asked_by (asked_at past g) lane (ended past lane) ≡ true = ap (is_asked_by (asked_at past g) lane) (sym l.ends) ∙ a.current g (a.only g ticket) in
-        let before : g < g = asked_before s past lane mine.1.0 (ended past lane) g g j mine.1.1.1 asks mine.1.1.0 in omega (arith, before))
+    never ticket = elim (a.only g ticket) [
+      | inl own ↦ (let asks : is_asked_by (asked_at past g) lane (ended past lane) ≡ true = ap (is_asked_by (asked_at past g) lane) (sym l.ends) ∙ a.current g own in
+          let before : g < g = asked_before s past lane mine.1.0 (ended past lane) g g j mine.1.1.1 asks mine.1.1.0 in omega (arith, before))
+      | inr t ↦ (let clash : false ≡ true = sym (transfer_ungranted s past g j t) ∙ mine.0 in cc)
+    ]
 
     by_in : (b : Bool) → is_in g (grant_places v.grants) ≡ b → is_in g (grant_places v.grants) ≡ true
     by_in true is = is
@@ -135,12 +126,11 @@ pub holds_named : (s : Setting) (past : List Entry) (lane : ℕ) (v : LaneValue)
 holds_named s past lane v j there l a g (inl has) = slot_held s past lane g v j there l a has
 holds_named s past lane v j there l a g (inr opened) = a.keeps g opened
 
-pub lanes_await : LanesAwaitOwn
+pub lanes_await : LanesAwaitReplies
 lanes_await s past core lanes begun lane c h there is =
     (let b = h.between in
     let a : LaneAsks past lane (lanes lane) = b.asks lane there in
     record {
       fits = all_fit s past core lanes lane b.good.run b.tied there a;
-      own = own_run past lane (lanes lane) a;
       holds = holds_named s past lane (lanes lane) b.good.run there (b.tied.each lane there) a;
     })

@@ -1,5 +1,5 @@
 -- What begins a call of a lane is what begins the call of the plans that it is.
-use Rattle.std.proofs.Common.{◌≡◌, ℕ, subst, sym, Ok, Err}
+use Rattle.std.proofs.Common.{◌≡◌, ℕ, subst, sym, None, Ok, Err}
 use Rattle.std.specs.Prelude.{IfOk, Result}
 use Rattle.ssh_encoding.specs.declared.out_of_memory.OutOfMemory.{OutOfMemory}
 use Rattle.sftp_model.specs.declared.outcome.Outcome.{Outcome}
@@ -8,6 +8,8 @@ use Rattle.sftp_model.specs.declared.slot.Site.{Site}
 use Rattle.sftp_calls.specs.CallPlans as plan
 use Rattle.sftp_plan.specs.declared.next.Next.{Next}
 use Rattle.sftp_plan.specs.declared.next.Next.TheVariants as step
+use Rattle.sftp_plan.specs.Asking.{Asks, BeginsAsking}
+use Rattle.sftp_plan.proofs.OwnAsking.{own_begins}
 use Rattle.sftp_plan.specs.Machines.{Begins, Goes, bytes_of}
 use Rattle.sftp_plan.specs.Cancelling.{BeginsLeaving, Leaves}
 use Rattle.sftp_plan.specs.Sound.{Keeps, Sounds}
@@ -36,3 +38,8 @@ begun_if c p place old new facts (Ok n) is goes left sound pends = begun c p pla
 pub begun_local : (c : Call) (p : plan.Call) (place : ℕ) (old new : Site) (facts : Facts) (o : Outcome) → planned c ≡ p → Begins p place old new facts (step.Done o) → Keeps facts old new → Fewer old new
     → Began c facts place old new (step.Done o)
 begun_local c p place old new facts o is goes keeps fewer = begun c p place old new facts (step.Done o) is goes tt (keeps, tt) fewer.each
+
+-- a call of own requests asks what any call may ask
+pub asks_if : (place : ℕ) (old new : Site) (n : Result Next OutOfMemory) → IfOk n (Asks None place old) → IfOk n (BeginsAsking None place old new)
+asks_if place old new (Err e) asks = asks
+asks_if place old new (Ok n) asks = own_begins None place old new n asks

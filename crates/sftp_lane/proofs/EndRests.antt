@@ -21,14 +21,16 @@ use Rattle.sftp_history.proofs.RunLaws.{begun_more, but_begun, end_good}
 use Rattle.sftp_ties.specs.Changes.{ended_lane, with_lane}
 use Rattle.sftp_ties.specs.Lanes.{LaneValue, ticket_places}
 use Rattle.sftp_ties.specs.Places.{is_in}
-use Rattle.sftp_ties.proofs.HoldLaws.{ticket_index}
+use Rattle.sftp_ties.proofs.HoldLaws.{of_in, ticket_index}
 use Rattle.sftp_ties.proofs.LaneLaws.{replies_agree}
-use Rattle.sftp_ties.proofs.OrderLaws.{asked_below}
+use Rattle.sftp_steps.proofs.TransferLaws.{place_below}
 use Rattle.sftp_ties.proofs.PlaceLaws.{at_in}
 use Rattle.sftp_ties.proofs.SessionLaws.{each_with}
-use Rattle.sftp_steps.specs.Rest.{AtRest, Counted, LaneAsks, weigh}
+use Rattle.sftp_steps.specs.Rest.{AtRest, Counted, IsTransferAt, LaneAsks, awaited_in, weigh}
+use Rattle.sftp_steps.proofs.AskedLaws.{asks_on}
+use Rattle.sftp_plan.specs.declared.next.Running.{Running}
 use Rattle.sftp_lane.specs.Holding.{TurnTied}
-use Rattle.sftp_lane.specs.Rests.{Ended, Waits}
+use Rattle.sftp_lane.specs.Rests.{Ended, Goes, Waits}
 use Rattle.sftp_lane.specs.Turning.{TurnWaits}
 use Rattle.sftp_lane.specs.declared.lane.Moved.TheVariants as moved
 use Rattle.sftp_lane.proofs.AskRests.{Midway}
@@ -36,24 +38,19 @@ use Rattle.sftp_lane.proofs.Holding.{with_here}
 
 -- ---- an end
 
--- a lane whose call has ended awaits nothing
-ended_asks : (past : List Entry) (lane : ℕ) (v : LaneValue) → v.running ≡ None → ((p : ℕ) → is_in p (ticket_places v.tickets) ≡ false) → LaneAsks past lane v
-ended_asks past lane v idle none =
+-- a lane whose call has ended awaits what its slots await
+ended_asks : (past : List Entry) (lane : ℕ) (v : LaneValue) → v.running ≡ None → ((p : ℕ) → is_in p (ticket_places v.tickets) ≡ true → IsTransferAt past p) → LaneAsks past lane v
+ended_asks past lane v idle others =
     record {
       current = λ p mine. absurd (let clash : ◌≡◌ {A = Option ℕ} None (Some p) = sym (ap own_place idle) ∙ mine in cc);
-      own = λ r is. absurd (let clash : None ≡ Some r = sym idle ∙ is in cc);
-      only = λ p has. absurd (let clash : false ≡ true = sym (none p) ∙ has in cc);
+      only = λ p has. inr (others p has);
       keeps = λ g opens. absurd (let clash : ◌≡◌ {A = Option ℕ} None (Some g) = rw idle at opens in cc);
-      fits = λ p b y mine there may. absurd (let clash : ◌≡◌ {A = Option ℕ} None (Some p) = sym (ap own_place idle) ∙ mine in cc);
+      fits = λ p b y looks there may. absurd (let clash : ◌≡◌ {A = Option ℕ} None (Some p) = sym (ap (λ (o : Option Running). awaited_in o v.site) idle) ∙ looks in cc);
     }
 
--- an end of a call asks nothing
-end_asks : (past : List Entry) (l c w : ℕ) (o : Outcome) (v : LaneValue) → LaneAsks past w v → LaneAsks (entry.Event (End l c o) ∷ past) w v
-end_asks past l c w o v a = record { current = a.current; own = a.own; only = a.only; keeps = a.keeps; fits = a.fits }
-
 pub ended_rests : (s : Setting) (past : List Entry) (core c new : Core) (lanes : ℕ → LaneValue) (begun : List ℕ) (lane : ℕ) (now : LaneValue) (o : Outcome) → AtRest s past core lanes begun → lane < length s.lanes → Midway past core c → new ≡ c
-    → ((p : ℕ) → is_in p (ticket_places now.tickets) ≡ false) → TurnTied s past new (with_lane lanes lane) lane now (moved.Ended o) → Ended s past core new (with_lane lanes lane (ended_lane now now.site)) begun lane now o
-ended_rests s past core c new lanes begun lane now o h there m same none t =
+    → ((p : ℕ) → is_in p (ticket_places now.tickets) ≡ true → IsTransferAt past p) → TurnTied s past new (with_lane lanes lane) lane now (moved.Ended o) → Ended s past core new (with_lane lanes lane (ended_lane now now.site)) begun lane now o
+ended_rests s past core c new lanes begun lane now o h there m same others t =
     let b = h.between in
     let e : Entry = entry.Event (End lane (ended past lane) o) in
     let next : IsNext s past e = may_next s past e b.good.calm h.settled (refl, (now.site, t.move), b.good.ready) in
@@ -68,8 +65,8 @@ ended_rests s past core c new lanes begun lane now o h there m same none t =
         due = both.0;
         tied = both.1;
         counted = subst (λ (x : Core). Counted (e ∷ past) x) (sym same) (record { waiting = m.counted.waiting; sent = m.counted.sent });
-        asks = λ w lt. each_with (λ n v. LaneAsks (e ∷ past) n v) lanes lane (ended_lane now now.site) (length s.lanes) (ended_asks (e ∷ past) lane (ended_lane now now.site) refl none)
-            (λ n less ne. end_asks past lane (ended past lane) n o (lanes n) (b.asks n less)) w lt;
+        asks = λ w lt. each_with (λ n v. LaneAsks (e ∷ past) n v) lanes lane (ended_lane now now.site) (length s.lanes) (ended_asks (e ∷ past) lane (ended_lane now now.site) refl (λ p has. let t = others p has in record { asked = t.asked; here = t.here; transfers = t.transfers }))
+            (λ n less ne. asks_on past (e ∷ past) n (lanes n) (λ p below. refl) (b.tied.each n less).goes.awaits (b.asks n less)) w lt;
         begins = λ w lt any. (let old = but_begun begun lane w any in begins w lt old.0 old.1);
       };
     }
@@ -110,7 +107,8 @@ waits_rest s past core new lanes begun lane now h there x t =
     let v : LaneValue = lanes lane in
     let a : LaneAsks past lane v = b.asks lane there in
     let has : is_in x.ticket.place (ticket_places v.tickets) ≡ true = at_in (ticket_places v.tickets) x.k x.ticket.place (ticket_index v.tickets x.k x.ticket x.here) in
-    let below : x.ticket.place < asked past = asked_below past x.ticket.place lane v.ended (a.current x.ticket.place (a.only x.ticket.place has)) in
+    let mine = of_in past lane (ticket_places v.tickets) x.ticket.place (b.tied.each lane there).holds.tied_of has in
+    let below : x.ticket.place < asked past = place_below past x.ticket.place mine.0 mine.1.0 in
     let missing : answer past x.ticket.place ≡ None = sym (replies_agree s past core lanes [] lane x.k x.ticket b.tied there x.here) ∙ x.missing in
     let runs : is_some now.running ≡ true = ap (λ (y : LaneValue). is_some y.running) x.same ∙ ap is_some x.was in
     record {
@@ -129,6 +127,27 @@ waits_rest s past core new lanes begun lane now h there x t =
           begins = λ w lt any. begun_more lane w begun (is_some (with_lane lanes lane now w).running ≡ true)
               (λ is. subst (λ (n : ℕ). is_some (with_lane lanes lane now n).running ≡ true) is (ap (λ (y : LaneValue). is_some y.running) (with_here lanes lane now) ∙ runs))
               (λ old. each_with (λ n y. list_any (λ l. l == n) begun ≡ true → is_some y.running ≡ true) lanes lane now (length s.lanes) (λ y. runs) (λ n less ne y. b.begins n less y) w lt old) any;
+        };
+      };
+    }
+
+-- ---- a call that goes on without an entry
+
+pub goes_rest : (s : Setting) (past : List Entry) (core c new : Core) (lanes : ℕ → LaneValue) (begun : List ℕ) (lane : ℕ) (now : LaneValue) (r : Running) → AtRest s past core lanes begun → lane < length s.lanes → Midway past core c → new ≡ c → now.running ≡ Some r → LaneAsks past lane now
+    → TurnTied s past new (with_lane lanes lane) lane now moved.Went → Goes s past core new (with_lane lanes lane now) begun
+goes_rest s past core c new lanes begun lane now r h there m same was asks t =
+    let b = h.between in
+    record {
+      work = subst (λ (x : Core). weigh x ≤ weigh core) (sym same) m.work;
+      rest = record {
+        settled = h.settled;
+        between = record {
+          good = b.good;
+          due = b.due;
+          tied = t;
+          counted = subst (λ (x : Core). Counted past x) (sym same) m.counted;
+          asks = λ w lt. each_with (λ n y. LaneAsks past n y) lanes lane now (length s.lanes) asks (λ n less ne. b.asks n less) w lt;
+          begins = λ w lt any. each_with (λ n y. list_any (λ l. l == n) begun ≡ true → is_some y.running ≡ true) lanes lane now (length s.lanes) (λ y. ap is_some was) (λ n less ne y. b.begins n less y) w lt any;
         };
       };
     }

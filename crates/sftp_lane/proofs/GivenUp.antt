@@ -8,7 +8,11 @@ use Rattle.sftp_core.specs.Core.{Core, abandon_leaves, at, poll_leaves, reply_in
 use Rattle.sftp_core.specs.Table.{brings}
 use Rattle.sftp_core.specs.declared.place.Place.{Place}
 use Rattle.sftp_core.specs.declared.place.Place.TheVariants.{Waiting, Answered, Granted}
-use Rattle.sftp_steps.specs.Ends.{Dropped, GivesUp, Polled}
+use Rattle.sftp_model.specs.declared.slot.Facts.{Facts}
+use Rattle.sftp_model.specs.declared.slot.Site.{Site}
+use Rattle.sftp_plan.specs.Pending.{Fewer, own_place}
+use Rattle.sftp_plan.specs.Sound.{Keeps as Stays}
+use Rattle.sftp_steps.specs.Ends.{Dropped, GivesUp, Kept, Polled}
 use Rattle.sftp_ties.specs.Lanes.{Held, LaneValue, Ticketed, ticket_places}
 use Rattle.sftp_ties.specs.Places.{IsAbove, IsRising, is_in}
 use Rattle.sftp_ties.proofs.HoldLaws.{ticket_index, ticket_without}
@@ -86,14 +90,25 @@ place_gone old new before after grants held place rising x =
 -- ---- the lane
 
 -- its call has ended then
-pub gives_up : (core new : Core) (v now : LaneValue) (place : ℕ) → IsGivenUp core new v.tickets now.tickets v.grants now.grants place → now.running ≡ None → now.site ≡ v.site → now.ended ≡ v.ended + 1 → GivesUp core new v now
-gives_up core new v now place x running site ended = by_how x.how
+pub gives_up : (core new : Core) (v now : LaneValue) (place : ℕ) → own_place v.running ≡ Some place → IsGivenUp core new v.tickets now.tickets v.grants now.grants place → now.running ≡ None → now.site ≡ v.site → now.ended ≡ v.ended + 1 → GivesUp core new v now
+gives_up core new v now place own x running site ended = by_how x.how
   where
     ticket : Ticketed
     ticket = record { place = place; ticket = x.ticket }
 
     by_how : IsDropped core new x.ticket v.grants now.grants ⊎ IsPolled core new place x.ticket v.grants now.grants → GivesUp core new v now
     by_how (inl d) =
-        Dropped (record { k = x.k; ticket = ticket; here = x.here; ungranted = d.0; left = d.1.0; lane = λ i. record { running = running i; site = site i; tickets = x.rest i; grants = d.1.1 i; ended = ended i } })
+        Dropped (record { k = x.k; ticket = ticket; here = x.here; own = own; ungranted = d.0; left = d.1.0; lane = λ i. record { running = running i; site = site i; tickets = x.rest i; grants = d.1.1 i; ended = ended i } })
     by_how (inr p) =
-        Polled (record { k = x.k; ticket = ticket; handle = p.0; here = x.here; came = p.1.0; left = p.1.1.0; lane = λ i. record { running = running i; site = site i; tickets = x.rest i; grants = p.1.1.1 i; ended = ended i } })
+        Polled (record { k = x.k; ticket = ticket; handle = p.0; here = x.here; own = own; came = p.1.0; left = p.1.1.0; lane = λ i. record { running = running i; site = site i; tickets = x.rest i; grants = p.1.1.1 i; ended = ended i } })
+
+-- where it awaited no reply to a request of its own
+pub keeps_all : (core new : Core) (v now : LaneValue) → own_place v.running ≡ None → new ≡ core → now.running ≡ None → now.tickets ≡ v.tickets → now.grants ≡ v.grants → now.ended ≡ v.ended + 1 → Fewer v.site now.site → ((facts : Facts) → Stays facts v.site now.site) → GivesUp core new v now
+keeps_all core new v now none left running tickets grants ended fewer stays =
+    Kept (record { none = none; left = left; lane = λ i. record { running = running i; site = now.site; tickets = tickets i; grants = grants i; ended = ended i }; fewer = fewer; stays = stays })
+
+pub fewer_self : (site : Site) → Fewer site site
+fewer_self site = record { each = λ q. omega arith }
+
+pub stays_self : (facts : Facts) (site : Site) → Stays facts site site
+stays_self facts site = record { count = refl; limit = λ within. within }

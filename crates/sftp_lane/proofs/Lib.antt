@@ -9,6 +9,9 @@ pub mod Awaiting
 mod AskRests
 mod EndRests
 pub mod Rests
+pub mod WentLaws
+mod Forgotten
+mod Flushed
 mod Loose
 mod GivenUp
 mod LettingGo

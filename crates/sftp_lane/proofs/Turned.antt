@@ -156,7 +156,7 @@ replied_by s past core new lanes lane call now m h there j calm d is only x =
     (settled s past (after_poll core t.ticket) new after lane now x.answer m p d j calm
     (subst (λ (y : LaneValue). (q : ℕ) → is_in q (ticket_places y.tickets) ≡ true → is_grant past q ≡ false) here none)
     (x.ended ∙ ap (λ (y : LaneValue). y.ended) here)
-    (subst (λ (y : LaneValue). GoesOn s past lane (ticket_places y.tickets) now.site x.answer) here goes) (closes_nothing _ _ _ x.answer x.asks)
+    (subst (λ (y : LaneValue). GoesOn s past lane (ticket_places y.tickets) now.site x.answer) here goes) (closes_nothing _ _ _ _ x.answer x.asks)
     (subst (λ (y : LaneValue). Settles (after_poll core t.ticket) new y.tickets now.tickets y.grants now.grants now.running (asked past) x.answer m) here settles))
 
 -- no reply is awaited, so no HANDLE is
@@ -194,7 +194,7 @@ turns_keep s past core new lanes lane c now m h there j calm d is only (Begun x)
 turns_keep s past core new lanes lane c now m h there j calm d is only (Replied x) = replied_by s past core new lanes lane c now m h there j calm d is only x
 turns_keep s past core new lanes lane c now m h there j calm d is only (Unreplied x) =
     settled s past core new lanes lane now x.answer m (holds_of s past core lanes lane [] h there) d j calm (none_awaited past lane (lanes lane) x.running only x.was x.looks) x.ended
-    (unreplied_lane s past lane (lanes lane) [] c x.running now.site x.answer (h.each lane there) is x.was x.looks (step_of s past c _ _ _ (lanes lane).site now.site x.answer x.ran)) (closes_nothing _ _ _ x.answer x.asks) x.settles
+    (unreplied_lane s past lane (lanes lane) [] c x.running now.site x.answer (h.each lane there) is x.was x.looks (step_of s past c _ _ _ (lanes lane).site now.site x.answer x.ran)) (closes_nothing _ _ _ _ x.answer x.asks) x.settles
 turns_keep s past core new lanes lane c now m h there j calm d is only (Waiting x) = waiting_by s past core new lanes lane c now m h there is x
 
 -- ---- what a turn asks for

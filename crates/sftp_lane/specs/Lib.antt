@@ -2,3 +2,4 @@ pub mod Tokens
 pub mod Turning
 pub mod Holding
 pub mod Rests
+pub mod AwaitingRows

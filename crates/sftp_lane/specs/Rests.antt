@@ -1,5 +1,5 @@
 -- What a turn of a lane leaves of a session at rest.
-use Rattle.std.specs.Prelude.{◌≡◌, ◌<◌, ◌≤◌, ◌+◌, ◌^◌, ℕ, List, ◌∷◌, length, Some}
+use Rattle.std.specs.Prelude.{◌≡◌, ◌<◌, ◌≤◌, ◌+◌, ◌^◌, ℕ, true, List, ◌∷◌, length, Some, is_some}
 use Rattle.sftp_model.specs.declared.outcome.Outcome.{Outcome}
 use Rattle.sftp_model.specs.declared.request.Request.{Request}
 use Rattle.sftp_model.specs.declared.slot.Move.TheVariants.{Ask, Wait, Done}
@@ -16,8 +16,9 @@ use Rattle.sftp_ties.specs.Changes.{ended_lane, with_lane}
 use Rattle.sftp_ties.specs.Dues.{loose_of}
 use Rattle.sftp_ties.specs.Lanes.{LaneValue, grant_places}
 use Rattle.sftp_ties.specs.Running.{own_request}
-use Rattle.sftp_steps.specs.Rest.{AtRest, Between, weigh}
-use Rattle.sftp_lane.specs.Turning.{AllFit, HoldsNamed, IsOwnRun, Turned}
+use Rattle.sftp_model.specs.declared.slot.Facts.{Facts}
+use Rattle.sftp_steps.specs.Rest.{AtRest, Between, awaited_in, weigh}
+use Rattle.sftp_lane.specs.Turning.{AllFit, HoldsNamed, Turned}
 use Rattle.sftp_lane.specs.declared.lane.Moved.{Moved}
 use Rattle.sftp_lane.specs.declared.lane.Moved.TheVariants as moved
 
@@ -28,6 +29,11 @@ pub record Waits (s : Setting) (past : List Entry) (core new : Core) (lanes : �
   pub rest : AtRest s past new lanes (begun_with begun lane)
   pub work : weigh new ≤ weigh core
   pub unanswered : 0 < unanswered past
+
+-- the call went on without an entry
+pub record Goes (s : Setting) (past : List Entry) (core new : Core) (lanes : ℕ → LaneValue) (begun : List ℕ) : Type 0 where
+  pub rest : AtRest s past new lanes begun
+  pub work : weigh new ≤ weigh core
 
 -- a request was submitted
 pub record Asked (s : Setting) (past : List Entry) (core new : Core) (lanes : ℕ → LaneValue) (begun : List ℕ) (lane id : ℕ) (r : Request) : Type 0 where
@@ -47,7 +53,7 @@ pub record Ended (s : Setting) (past : List Entry) (core new : Core) (lanes : �
 -- What a turn was is the lane's move. `now` is the lane behind it, which has one more call behind it where one ended.
 abbrev pub Leaves : Setting → List Entry → Core → Core → (ℕ → LaneValue) → List ℕ → ℕ → LaneValue → Moved → Type 0
 Leaves s past core new lanes begun lane now moved.Waits = Waits s past core new (with_lane lanes lane now) begun lane
-Leaves s past core new lanes begun lane now moved.Went = ⊥
+Leaves s past core new lanes begun lane now moved.Went = Goes s past core new (with_lane lanes lane now) begun
 Leaves s past core new lanes begun lane now (moved.Asked id r) = Asked s past core new (with_lane lanes lane now) begun lane id r
 Leaves s past core new lanes begun lane now (moved.Ended o) = Ended s past core new (with_lane lanes lane (ended_lane now now.site)) begun lane now o
 
@@ -62,11 +68,20 @@ TurnsLeaveRest = (s : Setting) (past : List Entry) (core new : Core) (lanes : �
     → IsSmall m → Turned c s.facts (asked past) core new (lanes lane) now m → Leaves s past core new lanes begun lane now m
 
 -- what a turn asks for of what its call awaits
-pub record AwaitsOwn (core : Core) (v : LaneValue) : Type 0 where
+pub record AwaitsReplies (core : Core) (v : LaneValue) : Type 0 where
   pub fits : AllFit core v.tickets v.running v.site
-  pub own : IsOwnRun v.running
   pub holds : HoldsNamed v
 
 -- A lane of a session at rest may have its turn.
-abbrev pub LanesAwaitOwn : Type 0
-LanesAwaitOwn = (s : Setting) (past : List Entry) (core : Core) (lanes : ℕ → LaneValue) (begun : List ℕ) (lane : ℕ) (c : Call) → AtRest s past core lanes begun → lane < length s.lanes → current s past lane ≡ Some c → AwaitsOwn core (lanes lane)
+abbrev pub LanesAwaitReplies : Type 0
+LanesAwaitReplies = (s : Setting) (past : List Entry) (core : Core) (lanes : ℕ → LaneValue) (begun : List ℕ) (lane : ℕ) (c : Call) → AtRest s past core lanes begun → lane < length s.lanes → current s past lane ≡ Some c → AwaitsReplies core (lanes lane)
+
+-- ---- turns without an entry
+
+-- the lane's call goes on with a reply
+abbrev pub AwaitsOne : LaneValue → Type 0
+AwaitsOne v = is_some (awaited_in v.running v.site) ≡ true
+
+-- A call that went on without an entry awaits a reply then; where it awaited one before, that ticket is spent.
+abbrev pub WentTurnsAreFew : Type 0
+WentTurnsAreFew = (c : Call) (facts : Facts) (place : ℕ) (core new : Core) (v now : LaneValue) → Turned c facts place core new v now moved.Went → AwaitsOne now × (length now.tickets ≤ length v.tickets) × (AwaitsOne v → length now.tickets < length v.tickets)

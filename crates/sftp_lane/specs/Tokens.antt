@@ -1,8 +1,11 @@
 -- What a lane holds of a core, by its lists of tickets and grants.
-use Rattle.std.specs.Prelude.{◌≡◌, ◌≢◌, ◌⊎◌, ℕ, List, [], ◌∷◌, ◌++◌, Some, slice_get, true}
+use Rattle.std.specs.Prelude.{◌≡◌, ◌≢◌, ◌⊎◌, ◌==◌, ◌||◌, ℕ, Bool, List, [], ◌∷◌, ◌++◌, Option, Some, None, slice_get, true, false}
+use Rattle.std.specs.List.{list_any}
 use Rattle.sftp_model.specs.declared.reply.Reply.{Reply}
 use Rattle.sftp_model.specs.declared.reply.Reply.TheVariants as reply
 use Rattle.sftp_model.specs.declared.request.Request.{Request}
+use Rattle.sftp_model.specs.declared.slot.Slot.{Slot}
+use Rattle.sftp_model.specs.declared.slot.Slot.TheVariants.{Buffered}
 use Rattle.sftp_core.specs.Core.{Core, abandoned, after_poll, at, is_ticket, reply_in}
 use Rattle.sftp_core.specs.declared.place.Place.TheVariants.{Granted}
 use Rattle.sftp_calls.specs.Moves.{Answers}
@@ -60,6 +63,10 @@ pub record IsGivenUp (old new : Core) (before after : List Ticketed) (grants hel
   pub rest : after ≡ without k before
   pub how : IsDropped old new ticket grants held ⊎ IsPolled old new place ticket grants held
 
+-- these replies are what the core has for each ticket
+abbrev pub TellReplies : Core → List Ticketed → Answers → Type 0
+TellReplies core tickets answers = (k : ℕ) (t : Ticketed) → slice_get tickets k ≡ Some t → reply_in (at core t.ticket) ≡ answers t.place
+
 -- ---- what is asked
 
 -- the replies say of each grant which handle it has
@@ -73,3 +80,15 @@ IsFilledBy grants a r = (answers : Answers) → Bears grants answers → r ≡ f
 -- each grant that a request names is one of these
 abbrev pub NamesHeld : List Held → Asked → Type 0
 NamesHeld grants a = (g : ℕ) → is_in g (grants_named a) ≡ true → is_in g (grant_places grants) ≡ true
+
+-- ---- what slots await
+
+-- the place, where there is one, is this one
+abbrev pub is_place : ℕ → Option ℕ → Bool
+is_place place None = false
+is_place place (Some reading) = reading == place
+
+-- the file in a slot awaits the reply to this place
+abbrev pub slot_awaits : ℕ → Slot → Bool
+slot_awaits place (Buffered file buffer) = is_place place buffer.reading || list_any (λ write. write.0 == place) buffer.deferred
+slot_awaits place other = false

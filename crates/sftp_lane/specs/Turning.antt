@@ -1,5 +1,5 @@
 -- What one turn of a lane makes of the lane and its core, whatever the call.
-use Rattle.std.specs.Prelude.{◌≡◌, ◌≢◌, ℕ, List, [], ◌∷◌, ◌++◌, length, Option, Some, None, slice_get, true, false, IsSome}
+use Rattle.std.specs.Prelude.{◌≡◌, ◌≤◌, ℕ, List, [], ◌∷◌, ◌++◌, length, Option, Some, None, slice_get, true, false, IsSome}
 use Rattle.sftp_model.specs.declared.reply.Reply.{Reply}
 use Rattle.sftp_model.specs.declared.request.Request.{Request}
 use Rattle.sftp_model.specs.declared.slot.Facts.{Facts}
@@ -7,27 +7,36 @@ use Rattle.sftp_model.specs.declared.slot.Site.{Site}
 use Rattle.sftp_core.specs.Core.{Core, at, queued_last, released, reply_in}
 use Rattle.sftp_core.specs.Grant.{GrantValue}
 use Rattle.sftp_core.specs.Info.{info_of}
-use Rattle.sftp_calls.specs.Moves.{Plan}
+use Rattle.sftp_calls.specs.Moves.{Answers, Plan}
+use Rattle.sftp_calls.specs.TransferPlans.{joined_parts}
 use Rattle.sftp_plan.specs.declared.next.Asked.{Asked}
 use Rattle.sftp_plan.specs.declared.next.Next.{Next}
 use Rattle.sftp_plan.specs.declared.next.Running.{Running}
 use Rattle.sftp_plan.specs.Machines.{Goes, after, awaited, bytes_of}
-use Rattle.sftp_plan.specs.Cancelling.{Leaves, Leaving, left_after}
+use Rattle.sftp_plan.specs.Cancelling.{Leaves, Leaving, left_after, left_behind}
 use Rattle.sftp_plan.specs.Sound.{AreWithin, Fits, Sound, Sounds}
-use Rattle.sftp_plan.specs.Pending.{Pends, own_place, pends_after, pends_idle}
-use Rattle.sftp_plan.specs.Asking.{Asks as AsksFirst, AsksOn, HasGrant, IsOfCall, opened_after}
+use Rattle.sftp_plan.specs.Pending.{Pends, pends_after, pends_idle, slots_times}
+use Rattle.sftp_plan.specs.Asking.{BeginsAsking, GoesOnAsking, HasGrant, IsOfCall, opened_after}
 use Rattle.sftp_history.specs.declared.call.Call.{Call}
+use Rattle.sftp_history.specs.declared.call.Call.TheVariants as call
 use Rattle.sftp_history.specs.Calls.{cancelled, next, planned}
 use Rattle.sftp_history.specs.Grants.{is_close}
-use Rattle.sftp_ties.specs.Lanes.{Held, LaneValue, Ticketed, grant_places, ticket_places}
+use Rattle.sftp_ties.specs.Lanes.{Held, LaneValue, Ticketed, grant_places, ticket_places, tickets_for}
 use Rattle.sftp_ties.specs.Places.{is_in, without}
 use Rattle.sftp_steps.specs.Rest.{opened_in}
-use Rattle.sftp_lane.specs.Tokens.{IsFilledBy, NamesHeld, Spent}
+use Rattle.sftp_lane.specs.Tokens.{IsFilledBy, NamesHeld, Spent, TellReplies}
 use Rattle.sftp_lane.specs.declared.lane.Moved.{Moved}
 use Rattle.sftp_lane.specs.declared.lane.Moved.TheVariants as moved
 use Rattle.sftp_model.specs.declared.request.Request.TheVariants as request
 use Rattle.sftp_plan.specs.declared.next.Asked.TheVariants as asked
 use Rattle.sftp_plan.specs.declared.next.Next.TheVariants as step
+
+-- ---- what a call carries
+
+-- the bytes of a call's parts, where it has parts
+abbrev pub joined_of : Call → List ℕ
+joined_of (call.WriteParts slot parts) = joined_parts parts
+joined_of other = []
 
 -- ---- what a machine answers
 
@@ -125,9 +134,18 @@ AllFit core tickets running site = (k : ℕ) (t : Ticketed) (r : Running) → sl
 abbrev pub HasAwaited : LaneValue → Type 0
 HasAwaited v = (r : Running) (p : ℕ) → v.running ≡ Some r → awaited r v.site ≡ Some p → is_in p (ticket_places v.tickets) ≡ true
 
--- the call awaits the reply to its own request
-abbrev pub IsOwnRun : Option Running → Type 0
-IsOwnRun running = (r : Running) → running ≡ Some r → own_place (Some r) ≢ None
+-- each write that a slot has deferred has a ticket
+abbrev pub HasDeferred : Site → List Ticketed → Type 0
+HasDeferred site tickets = (q : ℕ) → slots_times q site.slots ≤ tickets_for (ticket_places tickets) q
+
+-- where its call goes on it is sound by some facts
+abbrev pub IsSafeBy : Option Running → Site → Type 0
+IsSafeBy running site = (c : Call) × ((facts : Facts) × IsSafe c facts running site)
+
+-- what its call leaves that is cancelled here, by the replies that the core has, is what the lane's slots have then
+abbrev pub LeavesBehind : Core → LaneValue → LaneValue → Type 0
+LeavesBehind core v now =
+    (r : Running) (bytes : List ℕ) (facts : Facts) (answers : Answers) → v.running ≡ Some r → TellReplies core v.tickets answers → left_behind r bytes v.site facts [] answers ≡ now.site
 
 -- the lane has each grant that its call may name
 abbrev pub HoldsNamed : LaneValue → Type 0
@@ -138,7 +156,7 @@ pub record TurnBegins (c : Call) (facts : Facts) (place : ℕ) (old new : Core) 
   pub answer : Next
   pub ended : now.ended ≡ v.ended
   pub was : v.running ≡ None
-  pub asks : AsksFirst None place v.site answer
+  pub asks : BeginsAsking None place v.site now.site answer
   pub ran : Began c facts place v.site now.site answer
   pub settles : Settles old new v.tickets now.tickets v.grants now.grants now.running place answer m
 
@@ -154,7 +172,7 @@ pub record TurnReplied (c : Call) (facts : Facts) (place : ℕ) (old new : Core)
   pub grants : List Held
   pub was : v.running ≡ Some running
   pub looks : awaited running v.site ≡ Some awaits
-  pub asks : AsksOn (opened_after running (Some reply)) place v.site answer
+  pub asks : GoesOnAsking (opened_after running (Some reply)) place v.site now.site answer
   pub spent : Spent old between v.tickets tickets v.grants grants awaits reply
   pub ran : WentOn running (Some reply) c facts place v.site now.site answer
   pub settles : Settles between new tickets now.tickets grants now.grants now.running place answer m
@@ -166,7 +184,7 @@ pub record TurnUnreplied (c : Call) (facts : Facts) (place : ℕ) (old new : Cor
   pub running : Running
   pub was : v.running ≡ Some running
   pub looks : awaited running v.site ≡ None
-  pub asks : AsksOn (opened_after running None) place v.site answer
+  pub asks : GoesOnAsking (opened_after running None) place v.site now.site answer
   pub ran : WentOn running None c facts place v.site now.site answer
   pub settles : Settles old new v.tickets now.tickets v.grants now.grants now.running place answer m
 

@@ -1,34 +1,61 @@
 // The calls of lanes, each by its plan machine: nothing else here has a case for a call.
-ghost use Rattle.std.specs.Prelude.{◌≡◌, ◌≢◌, length, true, Some, None, IfOk, OnErr};
+ghost use Rattle.std.specs.Prelude.{◌≡◌, length, true, Some, None, IfOk, OnErr};
+ghost use Rattle.sftp_calls.specs.TransferPlans.{joined_parts};
 ghost use Rattle.sftp_plan.specs.Machines.{bytes_of};
 ghost use Rattle.sftp_history.specs.Calls.{planned};
 ghost use Rattle.sftp_history.specs.Lanes.{is_within};
-ghost use Rattle.sftp_plan.specs.Sound.{Fits};
-ghost use Rattle.sftp_plan.specs.Asking.{Asks, AsksOn, opened_after};
-ghost use Rattle.sftp_plan.specs.Pending.{own_place};
-ghost use Rattle.sftp_lane.specs.Turning.{Began, IsSafe, WentOn};
+ghost use Rattle.sftp_plan.specs.Sound.{AreWithin, Fits};
+ghost use Rattle.sftp_plan.specs.Asking.{BeginsAsking, GoesOnAsking, opened_after};
+ghost use Rattle.sftp_lane.specs.Turning.{Began, IsSafe, WentOn, joined_of};
 
 use sftp_history::Call;
 use sftp_model::{Facts, Reply, Site};
 use sftp_plan::{
-    Next, Running, begin_canonicalize, begin_clone, begin_close, begin_copy, begin_cwd,
-    begin_fs_write, begin_hard_link, begin_list, begin_lstat, begin_meta, begin_mkdir, begin_open,
-    begin_read, begin_read_all, begin_read_link, begin_remove, begin_rename, begin_rmdir,
-    begin_seek, begin_set_len, begin_set_perm, begin_set_stat, begin_stat, begin_symlink,
-    begin_sync, begin_write, begin_write_all, go_on,
+    Next, Running, begin_buf_flush, begin_buf_read, begin_buf_seek, begin_buf_write,
+    begin_buf_write_all, begin_buffer, begin_canonicalize, begin_clone, begin_close, begin_copy,
+    begin_cwd, begin_fs_write, begin_hard_link, begin_list, begin_lstat, begin_meta, begin_mkdir,
+    begin_open, begin_read, begin_read_all, begin_read_link, begin_remove, begin_rename,
+    begin_rmdir, begin_seek, begin_set_len, begin_set_perm, begin_set_stat, begin_stat,
+    begin_symlink, begin_sync, begin_unbuffer, begin_write, begin_write_all, begin_write_parts,
+    go_on,
 };
+use sftp_values::ByteText;
 use ssh_encoding::OutOfMemory;
 use std::alloc::Global;
 
-/// The bytes that a call carries.
-pub(crate) fn bytes_of(call: &Call) -> &[u8]
+/// The bytes of parts, one part after another.
+fn joined(alloc: Global, parts: &[ByteText]) -> Result<Vec<u8>, OutOfMemory>
+    ensures { IfOk result (λ bytes. bytes.items ≡ joined_parts parts.now) }
+{
+    let mut bytes = Vec::new(alloc);
+    for part in parts {
+        bytes.extend_from_slice(part.as_slice())?;
+    }
+    Ok(bytes)
+}
+
+/// The bytes of a call's parts; a call that has none has no such bytes.
+fn joined_of(alloc: Global, call: &Call) -> Result<Vec<u8>, OutOfMemory>
+    ensures { IfOk result (λ bytes. bytes.items ≡ joined_of call.now) }
+{
+    match call {
+        Call::WriteParts { parts, .. } => joined(alloc, parts.as_slice()),
+        _ => Ok(Vec::new(alloc)),
+    }
+}
+
+/// The bytes that a call carries, those of its parts being handed in.
+fn bytes_of<'a>(call: &'a Call, joined: &'a [u8]) -> &'a [u8]
+    requires { joined.now ≡ joined_of call.now }
     ensures { result.now ≡ bytes_of (planned call.now) }
 {
     match call {
         Call::Write { bytes, .. } => bytes.as_slice(),
         Call::WriteAll { bytes, .. } => bytes.as_slice(),
+        Call::BufWrite { bytes, .. } => bytes.as_slice(),
+        Call::BufWriteAll { bytes, .. } => bytes.as_slice(),
         Call::FsWrite { bytes, .. } => bytes.as_slice(),
-        _ => &[],
+        _ => joined,
     }
 }
 
@@ -44,6 +71,7 @@ fn mode_of(perm: Option<u16>) -> Option<u32>
 
 /// Begins a call of a lane that has this site; its first request would bear the place. Refused only for want of
 /// memory, the site is as it was then.
+#[tactic(auto, using(crate::proofs::Begun::asks_if, sftp_plan::proofs::OwnAsking::own_begins))]
 pub(crate) fn begin(
     alloc: Global,
     call: &Call,
@@ -53,8 +81,9 @@ pub(crate) fn begin(
 ) -> Result<Next, OutOfMemory>
     requires within { is_within call.now ≡ true }
     requires sixteen { length site.old.slots ≡ 16 }
+    requires limits { AreWithin facts.now site.old }
     ensures began { IfOk result (Began call.now facts.now place site.old site.new) }
-    ensures asks { IfOk result (Asks None place site.old) }
+    ensures asks { IfOk result (BeginsAsking None place site.old site.new) }
     ensures err { OnErr result (site.new ≡ site.old) }
 {
     match call {
@@ -89,6 +118,14 @@ pub(crate) fn begin(
             site,
             facts,
         ),
+        Call::WriteParts { slot, parts } => begin_write_parts(
+            alloc,
+            *slot,
+            joined(alloc, parts.as_slice())?.as_slice(),
+            place,
+            site,
+            facts,
+        ),
         Call::Seek { slot, position } => Ok(Next::Done(begin_seek(*slot, *position, site))),
         Call::SetLen { slot, n } => Ok(begin_set_len(*slot, *n, place, site, facts)),
         Call::SetPerm { slot, perm } => Ok(begin_set_perm(*slot, *perm as u32, place, site, facts)),
@@ -97,6 +134,29 @@ pub(crate) fn begin(
         Call::Copy { from, to, n } => Ok(begin_copy(*from, *to, *n, place, site, facts)),
         Call::CloneFile { from, to } => Ok(Next::Done(begin_clone(*from, *to, site))),
         Call::Close { slot } => Ok(begin_close(*slot, place, site, facts)),
+        Call::Buffer { slot, len } => Ok(Next::Done(begin_buffer(alloc, *slot, *len, site))),
+        Call::Unbuffer { slot } => Ok(Next::Done(begin_unbuffer(*slot, site))),
+        Call::BufRead { slot, n } => begin_buf_read(alloc, *slot, *n, place, site, facts),
+        Call::BufWrite { slot, bytes } => begin_buf_write(
+            alloc,
+            *slot,
+            bytes.as_slice(),
+            place,
+            site,
+            facts,
+        ),
+        Call::BufWriteAll { slot, bytes } => begin_buf_write_all(
+            alloc,
+            *slot,
+            bytes.as_slice(),
+            place,
+            site,
+            facts,
+        ),
+        Call::BufFlush { slot } => Ok(begin_buf_flush(*slot, place, site, facts)),
+        Call::BufSeek { slot, position } => {
+            Ok(Next::Done(begin_buf_seek(alloc, *slot, *position, site)?))
+        }
         Call::FsWrite { path, bytes } => begin_fs_write(
             alloc,
             path.as_slice(),
@@ -177,8 +237,17 @@ pub(crate) fn resume(
     requires safe { IsSafe call.now facts.now (Some running) site.old }
     requires fits { Fits running reply }
     ensures went { IfOk result (WentOn running reply call.now facts.now place site.old site.new) }
-    ensures asks { own_place (Some running) ≢ None → IfOk result (AsksOn (opened_after running reply) place site.old) }
+    ensures asks { IfOk result (GoesOnAsking (opened_after running reply) place site.old site.new) }
     ensures err { OnErr result (site.new ≡ site.old) }
 {
-    go_on(alloc, running, reply, bytes_of(call), place, site, facts)
+    let joined = joined_of(alloc, call)?;
+    go_on(
+        alloc,
+        running,
+        reply,
+        bytes_of(call, joined.as_slice()),
+        place,
+        site,
+        facts,
+    )
 }

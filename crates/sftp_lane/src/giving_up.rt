@@ -1,20 +1,45 @@
 // How a lane's call ends without its reply, and how a lane is emptied.
-ghost use Rattle.std.specs.Prelude.{◌≡◌, ◌<◌, ◌^◌, ℕ, Some, None, true, false, is_some, OnOk, OnErr};
+ghost use Rattle.std.specs.Prelude.{◌≡◌, ◌<◌, ◌^◌, ℕ, [], Some, None, true, false, is_some, length, OnOk, OnErr};
 ghost use Rattle.sftp_model.specs.Slots.{fresh_site};
-ghost use Rattle.sftp_plan.specs.Pending.{own_place};
+ghost use Rattle.sftp_model.specs.declared.slot.Facts.{Facts as FactsValue};
+ghost use Rattle.sftp_calls.specs.Moves.{Answers};
+ghost use Rattle.sftp_calls.specs.BufferPlans.{cancelled_buf_flush};
+ghost use Rattle.sftp_plan.specs.Pending.{Fewer, own_place};
+ghost use Rattle.sftp_plan.specs.Sound.{Keeps};
 ghost use Rattle.sftp_steps.specs.Ends.{GivesUp};
 ghost use Rattle.sftp_ties.specs.Changes.{ended_lane, let_go_lane};
 ghost use Rattle.sftp_ties.specs.Lanes.{ticket_places};
 ghost use Rattle.sftp_ties.specs.Places.{IsRising, is_in};
-ghost use Rattle.sftp_lane.specs.Tokens.{AreTickets};
-ghost use Rattle.sftp_lane.specs.Turning.{HasAwaited, IsOwnRun};
+ghost use Rattle.sftp_lane.specs.Tokens.{AreTickets, TellReplies};
+ghost use Rattle.sftp_lane.specs.Turning.{HasAwaited, HasDeferred, IsSafeBy, LeavesBehind};
 
 use crate::lane::LaneState;
+use crate::tokens::Tokens;
 use sftp_core::Core;
-use sftp_model::Slot;
+use sftp_model::{Site, Slot};
+use sftp_plan::site::oldest_deferred;
+use sftp_plan::{Running, take_oldest};
 use sftp_values::Items;
 use ssh_encoding::OutOfMemory;
 use std::mem;
+
+/// Takes out of a slot, the oldest first, the deferred writes whose STATUS of OK came, up to the first other: what a
+/// cancelled flush leaves.
+fn take_good(core: &Core, tokens: &Tokens, slot: u8, site: &mut Site)
+    requires slot { slot < length site.old.slots }
+    requires counted { AreTickets core.now tokens.now.tickets.items }
+    requires deferred { HasDeferred site.old tokens.now.tickets.items }
+    ensures leaves { (facts : FactsValue) (answers : Answers) → TellReplies core.now tokens.now.tickets.items answers → cancelled_buf_flush slot site.old facts [] answers ≡ site.new }
+    ensures fewer { Fewer site.old site.new }
+    ensures keeps { (facts : FactsValue) → Keeps facts site.old site.new }
+{
+    while let Some(place) = oldest_deferred(site, slot) {
+        if !tokens.is_good(core, place) {
+            return;
+        }
+        take_oldest(slot, site);
+    }
+}
 
 impl LaneState {
     /// How many of its calls have ended.
@@ -33,17 +58,20 @@ impl LaneState {
         self.ended += 1;
     }
 
-    /// Gives up what its begun call awaits, and the call has ended: the ticket is dropped, and a HANDLE that had come is
-    /// a grant. Refused only for want of memory, and nothing is changed then.
+    /// Gives up what its begun call awaits, and the call has ended. The ticket of the call's own request is dropped, and
+    /// a HANDLE that had come is a grant; a flush takes the statuses of OK that came. What slots await stays. Refused only
+    /// for want of memory, and nothing is changed then.
     pub fn give_up(&mut self, core: &mut Core) -> Result<(), OutOfMemory>
         requires begun { is_some self.old.running ≡ true }
-        requires own { IsOwnRun self.old.running }
+        requires safe { IsSafeBy self.old.running self.old.site }
         requires awaits { HasAwaited self.old }
+        requires deferred { HasDeferred self.old.site self.old.tickets }
         requires counted { AreTickets core.old self.old.tickets }
         requires rising { IsRising (ticket_places self.old.tickets) }
         requires unfailed { core.old.fault ≡ None }
         requires few { self.old.ended < 2 ^ 31 }
         ensures ok { OnOk result (GivesUp core.old core.new self.old self.new) }
+        ensures leaves { OnOk result (LeavesBehind core.old self.old self.new) }
         ensures gone { OnOk result ((p : ℕ) → own_place self.old.running ≡ Some p → is_in p (ticket_places self.new.tickets) ≡ false) }
         ensures err { OnErr result ((core.new ≡ core.old) × (self.new ≡ self.old)) }
     {
@@ -51,12 +79,18 @@ impl LaneState {
         let Some(running) = mem::replace(&mut self.running, None) else {
             unreachable!()
         };
-        let Some(place) = running.awaited(&self.site) else {
-            unreachable!()
-        };
-        self.tokens.give_up(core, place);
         self.ended += 1;
-        Ok(())
+        if let Some(place) = running.own_place() {
+            self.tokens.give_up(core, place);
+            return Ok(());
+        }
+        match running {
+            Running::Flushing { slot } => {
+                take_good(core, &self.tokens, slot, &mut self.site);
+                Ok(())
+            }
+            _ => Ok(()),
+        }
     }
 
     /// Takes out what its slots have, and leaves these empty ones; it runs no call then.

@@ -4,7 +4,7 @@ ghost use Rattle.sftp_model.specs.Slots.{fresh_site};
 ghost use Rattle.sftp_history.specs.Lanes.{is_within};
 ghost use Rattle.sftp_lane.specs.Tokens.{AreGrants, AreTickets};
 ghost use Rattle.sftp_lane.specs.Rests.{IsSmall};
-ghost use Rattle.sftp_lane.specs.Turning.{AllFit, HasAwaited, HoldsNamed, IsOpen, IsOwnRun, IsSafe, Turned};
+ghost use Rattle.sftp_lane.specs.Turning.{AllFit, HasAwaited, HoldsNamed, IsOpen, IsSafe, Turned};
 ghost use Rattle.sftp_ties.specs.Changes.{fresh_lane};
 
 use crate::asking::settle;
@@ -87,7 +87,7 @@ impl LaneState {
         })
     }
 
-    /// One turn of the lane's call: it begins, or goes on after the one reply that it awaited. Its next request would
+    /// One turn of the lane's call: it begins, or goes on after the one reply that it awaited, if it awaited one. Its next request would
     /// bear the place. Refused only for want of memory.
     pub fn turn(
         &mut self,
@@ -104,7 +104,6 @@ impl LaneState {
         requires safe { IsSafe call.now facts.now self.old.running self.old.site }
         requires fits { AllFit core.old self.old.tickets self.old.running self.old.site }
         requires awaits { HasAwaited self.old }
-        requires own { IsOwnRun self.old.running }
         requires holds { HoldsNamed self.old }
         ensures turned { IfOk result (λ m. Turned call.now facts.now place core.old core.new self.old self.new m) }
         ensures small { IfOk result IsSmall }

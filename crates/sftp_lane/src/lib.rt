@@ -3,6 +3,7 @@
 
 mod asking;
 mod call;
+mod forgetting;
 mod giving_up;
 mod grants;
 mod lane;
@@ -10,7 +11,7 @@ mod laws;
 mod tokens;
 
 pub use lane::{LaneState, Moved, empty_slots};
-pub use laws::{lanes_may_turn, turns_keep_sessions, turns_leave_rest};
+pub use laws::{lanes_may_turn, turns_keep_sessions, turns_leave_rest, went_turns_are_few};
 pub use sftp_core::Core;
 pub use sftp_history::Call;
 pub use ssh_encoding::OutOfMemory;

@@ -3,11 +3,14 @@ ghost use Rattle.std.specs.Prelude.{◌≡◌, ◌≢◌, ◌<◌, ◌≤◌, �
 ghost use Rattle.sftp_core.specs.Core.{at, reply_in};
 ghost use Rattle.sftp_ties.specs.Lanes.{Ticketed, Held, ticket_places, grant_places};
 ghost use Rattle.sftp_ties.specs.Places.{IsRising, is_in};
-ghost use Rattle.sftp_lane.specs.Tokens.{AreGrants, AreTickets, IsGivenUp, IsGrantAt, Spent};
+ghost use Rattle.sftp_calls.specs.Moves.{Answers};
+ghost use Rattle.sftp_calls.specs.BufferPlans.{is_good};
+ghost use Rattle.sftp_lane.specs.Tokens.{AreGrants, AreTickets, IsGivenUp, IsGrantAt, Spent, TellReplies};
 ghost use Rattle.sftp_lane.specs.Turning.{IsOpen};
 
 use sftp_core::{Core, Ended, Grant, Polled, Ticket};
 use sftp_model::{Handle, Reply};
+use sftp_plan::is_good;
 use std::marker::Model;
 
 /// A ticket, and the place of its request.
@@ -113,6 +116,21 @@ impl Tokens {
         };
         let Awaited { place: _, ticket } = self.tickets.remove(k);
         core.abandon(ticket);
+    }
+
+    /// Whether the reply to the request at a place came, and is a STATUS of OK.
+    pub(crate) fn is_good(&self, core: &Core, place: u64) -> bool
+        requires counted { AreTickets core.now self.now.tickets.items }
+        requires awaited { is_in place (ticket_places self.now.tickets.items) ≡ true }
+        ensures { (answers : Answers) → TellReplies core.now self.now.tickets.items answers → result ≡ is_good (answers place) }
+    {
+        let Some(k) = ticket_at(&self.tickets, place) else {
+            unreachable!()
+        };
+        match core.peek(&self.tickets[k].ticket) {
+            Some(reply) => is_good(reply),
+            None => false,
+        }
     }
 
     /// The handle of the grant of a place.

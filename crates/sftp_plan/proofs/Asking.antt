@@ -45,7 +45,7 @@ buffered_held site slot file buffer at = slots_have site.slots slot file.grant (
 
 -- ---- replies that fit
 
-within : (len : ℕ) (bytes : List ℕ) → (is_content len (reply.Content bytes) || false) ≡ true → length bytes ≤ len
+pub within : (len : ℕ) (bytes : List ℕ) → (is_content len (reply.Content bytes) || false) ≡ true → length bytes ≤ len
 within len bytes may =
     elim (or_cases (is_content len (reply.Content bytes)) false may) [
       | inl content ↦ (let most : nat_le (length bytes) len ≡ true = (and_parts (nat_lt 0 (length bytes)) (nat_le (length bytes) len) content).1 in grind (arith, nat_tests))

@@ -16,7 +16,7 @@ use Rattle.sftp_model.specs.declared.slot.Slot.{Slot}
 use Rattle.sftp_model.specs.declared.slot.Slot.TheVariants.{Empty, Buffered}
 use Rattle.sftp_model.specs.Slots.{slot_at, with_slot}
 use Rattle.sftp_calls.specs.Moves.{Answers, Own, ask_read, further, handle_of, left_on_buffered, on_buffered, on_content, once_answered, overflows, refuses}
-use Rattle.sftp_calls.specs.BufferPlans.{buf_read_file_next, buf_read_next, cancelled_buf_read, fill_next, from_buffer, was_filled}
+use Rattle.sftp_calls.specs.BufferPlans.{buf_read_file_next, buf_read_next, fill_next, from_buffer, was_filled}
 use Rattle.sftp_plan.specs.declared.next.Asked.TheVariants as asked
 use Rattle.sftp_plan.specs.declared.next.Next.{Next}
 use Rattle.sftp_plan.specs.declared.next.Next.TheVariants as step

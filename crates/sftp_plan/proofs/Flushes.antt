@@ -19,7 +19,7 @@ use Rattle.sftp_plan.specs.Machines.{failure_of, refusal_of}
 use Rattle.sftp_plan.specs.Buffers.{but_oldest, flushing, left_flushed, oldest, oldest_in, without_oldest}
 use Rattle.sftp_plan.specs.Cancelling.{Leaves, Leaving, left_behind}
 use Rattle.sftp_plan.specs.Sound.{IsWithin, Keeps, Sounds}
-use Rattle.sftp_plan.specs.Pending.{Pends, maybe, one, slot_times, slots_times, writes_times}
+use Rattle.sftp_plan.specs.Pending.{Fewer, Pends, maybe, one, slot_times, slots_times, writes_times}
 use Rattle.sftp_plan.proofs.SlotSets.{set_at, set_twice}
 use Rattle.sftp_plan.proofs.Fewer.{set_times}
 use Rattle.sftp_plan.proofs.Keeping.{keeps_set, set_count}
@@ -86,6 +86,11 @@ oldest_gone q site slot (Buffered file buffer) lt here = by_writes buffer.deferr
 
 pub oldest_less : (site new : Site) (slot : ℕ) (x : Slot) → slot < length site.slots → slot_at site slot ≡ x → new ≡ without_oldest site slot x → (q : ℕ) → slots_times q new.slots ≤ slots_times q site.slots - maybe (oldest_in x) q
 oldest_less site new slot x lt here is q = (let gone : slots_times q (without_oldest site slot x).slots + maybe (oldest_in x) q ≤ slots_times q site.slots = oldest_gone q site slot x lt here in let same : slots_times q new.slots ≡ slots_times q (without_oldest site slot x).slots = ap (λ (s : Site). slots_times q s.slots) is in omega (arith, gone, same))
+
+pub fewer_oldest : (site new : Site) (slot : ℕ) → slot < length site.slots → new ≡ without_oldest site slot (slot_at site slot) → Fewer site new
+fewer_oldest site new slot lt is = record {
+  each = λ q. (let less : slots_times q new.slots ≤ slots_times q site.slots - maybe (oldest_in (slot_at site slot)) q = oldest_less site new slot (slot_at site slot) lt refl is q in omega (arith, less));
+}
 
 -- and the next is awaited, or the flush ends
 pub flush_pends : (before : ℕ → ℕ) (place slot : ℕ) (site : Site) (n : Next) (writes : List (ℕ × ℕ)) → n ≡ flushing slot writes → ((q : ℕ) → slots_times q site.slots ≤ before q) → Pends before place site n

@@ -1,12 +1,15 @@
 mod Asking
+mod BufferAsking
 mod BufferSets
 mod Deferring
 mod Fewer
 mod Filling
+pub mod FlushLaws
 mod Flushes
 mod Going
 pub mod Keeping
 mod Leaving
 pub mod LeftLaws
+pub mod OwnAsking
 pub mod OwnLaws
-mod SlotSets
+pub mod SlotSets

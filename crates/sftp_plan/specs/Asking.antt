@@ -1,5 +1,5 @@
 -- What a machine asks of its lane: requests that bear handles of grants which the lane has, and whose replies it awaits.
-use Rattle.std.specs.Prelude.{ℕ, ◌≡◌, ◌⊎◌, true, Option, Some, None}
+use Rattle.std.specs.Prelude.{ℕ, ◌≡◌, ◌⊎◌, true, Option, Some, None, is_some}
 use Rattle.sftp_model.specs.declared.request.Request.{Request}
 use Rattle.sftp_model.specs.declared.request.Request.TheVariants as request
 use Rattle.sftp_model.specs.declared.reply.Reply.{Reply}
@@ -15,7 +15,7 @@ use Rattle.sftp_plan.specs.declared.next.Next.{Next}
 use Rattle.sftp_plan.specs.declared.next.Next.TheVariants as step
 use Rattle.sftp_plan.specs.declared.next.Running.{Running}
 use Rattle.sftp_plan.specs.declared.next.Running.TheVariants as running
-use Rattle.sftp_plan.specs.Machines.{filled}
+use Rattle.sftp_plan.specs.Machines.{awaited, filled}
 use Rattle.sftp_plan.specs.Pending.{own_place}
 use Rattle.sftp_plan.specs.Sound.{Fits}
 
@@ -100,3 +100,43 @@ abbrev pub AsksOn : Option ℕ → ℕ → Site → Next → Type 0
 AsksOn opened place site (step.Ask a r) = AsksOwn opened place site a r × IsNoClose a
 AsksOn opened place site (step.Wait r) = ⊥
 AsksOn opened place site (step.Done o) = Unit {0}
+
+-- ---- what a machine asks that leaves replies to its slots
+
+-- a READ or a WRITE
+abbrev pub IsTransfer : Asked → Type 0
+IsTransfer (asked.Read grant offset len) = Unit {0}
+IsTransfer (asked.Write grant offset content) = Unit {0}
+IsTransfer other = ⊥
+
+-- the call goes on with the reply to this place, or it asked for a READ or a WRITE whose reply its slot awaits
+abbrev pub AwaitsOrDefers : Option ℕ → ℕ → Asked → Type 0
+AwaitsOrDefers None place a = IsTransfer a
+AwaitsOrDefers (Some p) place a = p ≡ place
+
+-- The request at this place: it bears handles of grants that the lane has, and the call or a slot awaits its reply, which
+-- fits if it may answer. The site was the first one, and is the second.
+pub record AsksOrDefers (opened : Option ℕ) (place : ℕ) (old new : Site) (a : Asked) (r : Running) : Type 0 where
+  pub call : IsOfCall a
+  pub named : Names (HasGrant old opened) a
+  pub awaits : AwaitsOrDefers (own_place (Some r)) place a
+  pub looks : (p : ℕ) → awaited r new ≡ Some p → p ≡ place
+  pub keeps : (grant : ℕ) → opened_by r ≡ Some grant → opened ≡ Some grant
+  pub fits : (answers : Answers) (y : Reply) → may_answer (filled a answers) y ≡ true → Fits r (Some y)
+
+-- a call that asked nothing goes on with a reply that a slot awaits
+pub record Looks (site : Site) (r : Running) : Type 0 where
+  pub deferred : own_place (Some r) ≡ None
+  pub some : is_some (awaited r site) ≡ true
+
+-- What begins a call asks, or what it waits for. Where it waits, the site is as it was.
+abbrev pub BeginsAsking : Option ℕ → ℕ → Site → Site → Next → Type 0
+BeginsAsking opened place old new (step.Ask a r) = AsksOrDefers opened place old new a r
+BeginsAsking opened place old new (step.Wait r) = Looks new r × (new ≡ old)
+BeginsAsking opened place old new (step.Done o) = Unit {0}
+
+-- A call that was begun asks no CLOSE, and whatever reply it waits for fits.
+abbrev pub GoesOnAsking : Option ℕ → ℕ → Site → Site → Next → Type 0
+GoesOnAsking opened place old new (step.Ask a r) = AsksOrDefers opened place old new a r × IsNoClose a
+GoesOnAsking opened place old new (step.Wait r) = Looks new r × ((y : Reply) → Fits r (Some y))
+GoesOnAsking opened place old new (step.Done o) = Unit {0}

@@ -10,10 +10,17 @@ use Rattle.sftp_calls.specs.Moves.{Answers}
 use Rattle.sftp_calls.specs.BufferPlans.{ask_deferred, carried, deferrable_len, written_slot}
 use Rattle.sftp_plan.specs.declared.buffer_write.Deferral.{Deferral}
 use Rattle.sftp_plan.specs.declared.buffer_write.Deferral.TheVariants as deferral
+use Rattle.sftp_plan.specs.declared.next.Asked.{Asked}
+use Rattle.sftp_plan.specs.declared.next.Asked.TheVariants as asked
 use Rattle.sftp_plan.specs.declared.next.Next.{Next}
 use Rattle.sftp_plan.specs.declared.next.Next.TheVariants as step
 use Rattle.sftp_plan.specs.Buffers.{running_after, rest_of}
 use Rattle.sftp_plan.specs.Machines.{filled}
+
+-- a WRITE to the file
+abbrev pub IsWriteOf : FileAt → Asked → Type 0
+IsWriteOf file (asked.Write grant offset content) = grant ≡ file.grant
+IsWriteOf file other = ⊥
 
 -- It is the one that the plan asks for, of these bytes and at this place; or the plan refuses.
 abbrev pub IsDeferral : ℕ → Option ℕ → FileAt → Buffer → List ℕ → ℕ → Facts → Deferral → Type 0
@@ -24,6 +31,7 @@ IsDeferral slot start file buffer bytes place facts (deferral.Asked a r held) =
     × ((answers : Answers) → carried (filled a answers) ≡ deferrable_len facts (rest_of start bytes) buffer)
     × (r ≡ running_after slot start (deferrable_len facts (rest_of start bytes) buffer))
     × (held ≡ written_slot file buffer place (deferrable_len facts (rest_of start bytes) buffer))
+    × IsWriteOf file a
 
 -- what the call does with it
 abbrev pub settled_next : Deferral → Next

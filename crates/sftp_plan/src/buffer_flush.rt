@@ -1,13 +1,15 @@
 //! `buf_flush`: the deferred statuses from the oldest on, up to the first refusal.
 ghost use Rattle.std.specs.Prelude.{◌≡◌, ◌<◌, length, List, ℕ, [], Some, None};
 ghost use Rattle.sftp_model.specs.Slots.{slot_at};
+ghost use Rattle.sftp_model.specs.declared.slot.Facts.{Facts as FactsValue};
 ghost use Rattle.sftp_calls.specs.CallPlans as call;
 ghost use Rattle.sftp_plan.specs.declared.next.Running.TheVariants as running;
 ghost use Rattle.sftp_plan.specs.Machines.{Begins, Goes, after};
 ghost use Rattle.sftp_plan.specs.Buffers.{but_oldest, flushing, without_oldest};
 ghost use Rattle.sftp_plan.specs.Cancelling.{BeginsLeaving, Leaves, left_after};
-ghost use Rattle.sftp_plan.specs.Sound.{Sounds};
-ghost use Rattle.sftp_plan.specs.Pending.{Pends, pends_after, pends_idle};
+ghost use Rattle.sftp_plan.specs.Sound.{Keeps, Sounds};
+ghost use Rattle.sftp_plan.specs.Pending.{Fewer, Pends, pends_after, pends_idle};
+ghost use Rattle.sftp_plan.specs.Asking.{BeginsAsking, GoesOnAsking};
 
 use crate::next::{Next, Running};
 use crate::replies::{failure, refused};
@@ -22,6 +24,7 @@ pub fn begin_buf_flush(slot: u8, place: u64, site: &Site, facts: &Facts) -> Next
     ensures left { BeginsLeaving (call.BufFlush slot) place site.now site.now facts.now result }
     ensures sound { Sounds [] facts.now site.now site.now result }
     ensures pends { Pends (pends_idle site.now) place site.now result }
+    ensures asks { BeginsAsking None place site.now site.now result }
 {
     let Slot::Buffered(file, buffer) = slot_of(site, slot) else {
         return Next::Done(Outcome::NoFile);
@@ -56,9 +59,11 @@ fn but_oldest(writes: Items<(u64, u32)>) -> Items<(u64, u32)>
 
 /// Takes the oldest deferred write out of a slot.
 #[tactic(auto, using(crate::proofs::SlotSets::set_twice))]
-pub(crate) fn take_oldest(slot: u8, site: &mut Site)
+pub fn take_oldest(slot: u8, site: &mut Site)
     requires { slot < length site.old.slots }
-    ensures { site.new ≡ without_oldest site.old slot (slot_at site.old slot) }
+    ensures after { site.new ≡ without_oldest site.old slot (slot_at site.old slot) }
+    ensures fewer { Fewer site.old site.new }
+    ensures keeps { (facts : FactsValue) → Keeps facts site.old site.new }
 {
     match take_slot(site, slot) {
         Slot::Buffered(file, buffer) => {
@@ -99,6 +104,7 @@ pub(crate) fn flush_replied(
     ensures sound { (bytes : List ℕ) → Sounds bytes facts.now site.old site.new result }
     ensures pends { Pends (pends_after (running.Flushing slot) site.old (Some reply))
         place site.new result }
+    ensures asks { GoesOnAsking None place site.old site.new result }
 {
     let Slot::Buffered(_, buffer) = slot_of(site, slot) else {
         return Next::Done(Outcome::NoFile);

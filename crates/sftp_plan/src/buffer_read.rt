@@ -11,6 +11,7 @@ ghost use Rattle.sftp_plan.specs.Machines.{Begins, Goes};
 ghost use Rattle.sftp_plan.specs.Cancelling.{BeginsLeaving, Leaves};
 ghost use Rattle.sftp_plan.specs.Sound.{AreWithin, EndsWithin, Keeps, Sounds, StandsAt};
 ghost use Rattle.sftp_plan.specs.Pending.{Pends, maybe, pends_idle, slots_times};
+ghost use Rattle.sftp_plan.specs.Asking.{BeginsAsking};
 
 use crate::buffer_seek::{after_first, rebuffer};
 use crate::gathering::no_bytes;
@@ -24,7 +25,7 @@ use ssh_encoding::OutOfMemory;
 use std::alloc::Global;
 
 /// The first `n` of these bytes. Refused only for want of memory.
-fn first_of(alloc: Global, bytes: &[u8], n: u32) -> Result<ByteText, OutOfMemory>
+fn first_of(alloc: Global, bytes: &[u8], n: u64) -> Result<ByteText, OutOfMemory>
     ensures { IfOk result (λ first. first ≡ take n bytes.now) }
 {
     let len = bytes.len().min(n as usize);
@@ -32,7 +33,7 @@ fn first_of(alloc: Global, bytes: &[u8], n: u32) -> Result<ByteText, OutOfMemory
 }
 
 /// Where a buffered file stands after the first `n` of these bytes.
-fn stands_after(file: &FileAt, bytes: &[u8], n: u32) -> FileAt
+fn stands_after(file: &FileAt, bytes: &[u8], n: u64) -> FileAt
     requires { length bytes.now ≤ (2 ^ 64 - 1) - file.now.offset }
     ensures { result ≡ further file.now (length (take n bytes.now)) }
 {
@@ -74,7 +75,7 @@ fn set_reading(site: &mut Site, slot: u8, reading: Option<u64>)
 pub fn begin_buf_read(
     alloc: Global,
     slot: u8,
-    n: u32,
+    n: u64,
     place: u64,
     site: &mut Site,
     facts: &Facts,
@@ -86,6 +87,7 @@ pub fn begin_buf_read(
         place site.old site.new facts.now) }
     ensures sound { IfOk result (Sounds [] facts.now site.old site.new) }
     ensures pends { IfOk result (Pends (pends_idle site.old) place site.new) }
+    ensures asks { IfOk result (BeginsAsking None place site.old site.new) }
     ensures err { OnErr result (site.new ≡ site.old) }
 {
     let Slot::Buffered(file, buffer) = slot_of(site, slot) else {
@@ -103,13 +105,13 @@ pub fn begin_buf_read(
     }
     let (moved, reading) = (stands_after(file, bytes, n), buffer.reading);
     let first = first_of(alloc, bytes, n)?;
-    let rest = after_first(alloc, bytes, n as u64)?;
+    let rest = after_first(alloc, bytes, n)?;
     rebuffer(site, slot, moved, rest, reading);
     Ok(Next::Done(Outcome::Bytes(first)))
 }
 
 /// Fills the buffer of the file in a slot: by the read under way, or else by one of the call's own.
-fn fill(slot: u8, n: u32, place: u64, site: &mut Site, facts: &Facts) -> Next
+fn fill(slot: u8, n: u64, place: u64, site: &mut Site, facts: &Facts) -> Next
     requires { slot < length site.old.slots }
     ensures goes { Goes (λ own answers. on_buffered (slot_at site.old slot) site.old (λ file buffer.
         fill_next slot n file buffer site.old facts.now buffer.reading own answers))
@@ -118,6 +120,7 @@ fn fill(slot: u8, n: u32, place: u64, site: &mut Site, facts: &Facts) -> Next
         place [] site.new facts.now result }
     ensures sound { Sounds [] facts.now site.old site.new result }
     ensures pends { Pends (pends_idle site.old) place site.new result }
+    ensures asks { BeginsAsking None place site.old site.new result }
 {
     let Slot::Buffered(file, buffer) = slot_of(site, slot) else {
         return Next::Done(Outcome::NoFile);
@@ -132,7 +135,7 @@ fn fill(slot: u8, n: u32, place: u64, site: &mut Site, facts: &Facts) -> Next
             own: false,
         });
     }
-    let len = n.max(buffer.len).min(facts.read_len);
+    let len = n.max(buffer.len as u64).min(facts.read_len as u64) as u32;
     if !file.readable {
         return Next::Done(refused(IoKind::NotReadable));
     }
@@ -161,7 +164,7 @@ fn fill(slot: u8, n: u32, place: u64, site: &mut Site, facts: &Facts) -> Next
 pub(crate) fn filled_replied(
     alloc: Global,
     slot: u8,
-    n: u32,
+    n: u64,
     offset: u64,
     reply: Reply,
     site: &mut Site,
@@ -185,7 +188,7 @@ pub(crate) fn filled_replied(
             let bytes = content.as_slice();
             let moved = stands_after(&file, bytes, n);
             let first = first_of(alloc, bytes, n)?;
-            let rest = after_first(alloc, bytes, n as u64)?;
+            let rest = after_first(alloc, bytes, n)?;
             rebuffer(site, slot, moved, rest, None);
             Ok(Outcome::Bytes(first))
         }

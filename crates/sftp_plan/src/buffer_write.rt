@@ -11,6 +11,7 @@ ghost use Rattle.sftp_plan.specs.Machines.{Begins, Goes, after};
 ghost use Rattle.sftp_plan.specs.Cancelling.{BeginsLeaving, Leaves};
 ghost use Rattle.sftp_plan.specs.Sound.{AreWithin, HasDone, IsFullAt, Sounds};
 ghost use Rattle.sftp_plan.specs.Pending.{Pends, pends_after, pends_idle};
+ghost use Rattle.sftp_plan.specs.Asking.{BeginsAsking, GoesOnAsking};
 
 use crate::buffer_flush::take_oldest;
 use crate::buffer_seek::after_first;
@@ -207,6 +208,8 @@ fn send(
         place bytes.now site.new facts.now) }
     ensures sound { IfOk result (Sounds bytes.now facts.now site.old site.new) }
     ensures pends { IfOk result (Pends (pends_idle site.old) place site.new) }
+    ensures asks { IfOk result (BeginsAsking None place site.old site.new) }
+    ensures goes_on { IfOk result (GoesOnAsking None place site.old site.new) }
     ensures err { OnErr result (site.new ≡ site.old) }
 {
     let Slot::Buffered(file, buffer) = slot_of(site, slot) else {
@@ -238,6 +241,7 @@ pub fn begin_buf_write(
         place site.old site.new facts.now) }
     ensures sound { IfOk result (Sounds bytes.now facts.now site.old site.new) }
     ensures pends { IfOk result (Pends (pends_idle site.old) place site.new) }
+    ensures asks { IfOk result (BeginsAsking None place site.old site.new) }
     ensures err { OnErr result (site.new ≡ site.old) }
 {
     let Slot::Buffered(file, _) = slot_of(site, slot) else {
@@ -272,6 +276,8 @@ pub fn defer_rest(
         place bytes.now site.new facts.now) }
     ensures sound { IfOk result (Sounds bytes.now facts.now site.old site.new) }
     ensures pends { IfOk result (Pends (pends_idle site.old) place site.new) }
+    ensures asks { IfOk result (BeginsAsking None place site.old site.new) }
+    ensures goes_on { IfOk result (GoesOnAsking None place site.old site.new) }
     ensures err { OnErr result (site.new ≡ site.old) }
 {
     let Slot::Buffered(file, _) = slot_of(site, slot) else {
@@ -304,6 +310,7 @@ pub fn begin_buf_write_all(
         place site.old site.new facts.now) }
     ensures sound { IfOk result (Sounds bytes.now facts.now site.old site.new) }
     ensures pends { IfOk result (Pends (pends_idle site.old) place site.new) }
+    ensures asks { IfOk result (BeginsAsking None place site.old site.new) }
     ensures err { OnErr result (site.new ≡ site.old) }
 {
     defer_rest(alloc, slot, 0, bytes, place, site, facts)
@@ -332,6 +339,7 @@ pub(crate) fn room_replied(
     ensures sound { IfOk result (Sounds bytes.now facts.now site.old site.new) }
     ensures pends { IfOk result (Pends (pends_after (running.AwaitingRoom slot done) site.old (Some reply))
         place site.new) }
+    ensures asks { IfOk result (GoesOnAsking None place site.old site.new) }
     ensures err { OnErr result (site.new ≡ site.old) }
 {
     let Slot::Buffered(file, buffer) = slot_of(site, slot) else {

@@ -1,10 +1,10 @@
 //! Whatever the call: how a call that was begun goes on.
-ghost use Rattle.std.specs.Prelude.{◌≡◌, ◌≢◌, Some, None, IfOk, OnErr};
+ghost use Rattle.std.specs.Prelude.{◌≡◌, Some, None, IfOk, OnErr};
 ghost use Rattle.sftp_plan.specs.Machines.{Goes, after, awaited};
 ghost use Rattle.sftp_plan.specs.Cancelling.{Leaves, left_after};
 ghost use Rattle.sftp_plan.specs.Sound.{AreWithin, Fits, Sound, Sounds};
-ghost use Rattle.sftp_plan.specs.Pending.{Pends, own_place, pends_after};
-ghost use Rattle.sftp_plan.specs.Asking.{AsksOn, opened_after};
+ghost use Rattle.sftp_plan.specs.Pending.{Pends, pends_after};
+ghost use Rattle.sftp_plan.specs.Asking.{GoesOnAsking, opened_after};
 
 use crate::buffer_flush::flush_replied;
 use crate::buffer_read::filled_replied;
@@ -67,8 +67,7 @@ pub fn go_on(
         place bytes.now site.new facts.now) }
     ensures sound { IfOk result (Sounds bytes.now facts.now site.old site.new) }
     ensures pends { IfOk result (Pends (pends_after running site.old reply) place site.new) }
-    ensures asks { own_place (Some running) ≢ None
-        → IfOk result (AsksOn (opened_after running reply) place site.old) }
+    ensures asks { IfOk result (GoesOnAsking (opened_after running reply) place site.old site.new) }
     ensures err { OnErr result (site.new ≡ site.old) }
 {
     let Some(reply) = reply else {
@@ -161,8 +160,7 @@ fn go_on_at_once(
         place bytes.now site.new facts.now) }
     ensures sound { IfOk result (Sounds bytes.now facts.now site.old site.new) }
     ensures pends { IfOk result (Pends (pends_after running site.old None) place site.new) }
-    ensures asks { own_place (Some running) ≢ None
-        → IfOk result (AsksOn (opened_after running None) place site.old) }
+    ensures asks { IfOk result (GoesOnAsking (opened_after running None) place site.old site.new) }
     ensures err { OnErr result (site.new ≡ site.old) }
 {
     match running {

@@ -1,10 +1,13 @@
 // Laws of what is left of a plan. The functions do nothing: what they ensure holds of all values.
-ghost use Rattle.std.specs.Prelude.{◌≡◌, ◌≢◌, ℕ, List, [], Some, None};
+ghost use Rattle.std.specs.Prelude.{◌≡◌, ◌≢◌, ◌<◌, ℕ, true, false, List, [], length, Some, None};
 ghost use Rattle.sftp_model.specs.declared.reply.Reply.{Reply};
 ghost use Rattle.sftp_model.specs.declared.slot.Facts.{Facts};
 ghost use Rattle.sftp_model.specs.declared.slot.Site.{Site};
+ghost use Rattle.sftp_model.specs.Slots.{slot_at};
 ghost use Rattle.sftp_calls.specs.Moves.{Answers, Own};
+ghost use Rattle.sftp_calls.specs.BufferPlans.{cancelled_buf_flush, is_good};
 ghost use Rattle.sftp_plan.specs.declared.next.Running.{Running};
+ghost use Rattle.sftp_plan.specs.Buffers.{oldest_in, without_oldest};
 ghost use Rattle.sftp_plan.specs.Cancelling.{left_after, left_behind};
 ghost use Rattle.sftp_plan.specs.Machines.{after, awaited, idle, residual};
 ghost use Rattle.sftp_plan.specs.Pending.{own_place};
@@ -37,4 +40,18 @@ pub fn own_calls_leave_their_site()
     ensures { (running : Running) (bytes : List ℕ) (site : Site) (facts : Facts) (answers : Answers)
         → own_place (Some running) ≢ None → Sound running bytes site facts
         → left_behind running bytes site facts [] answers ≡ site }
+{}
+
+/// A flush that is cancelled takes the oldest deferred write out of its slot where its reply is a STATUS of OK, and goes
+/// on with the next; where the oldest has none, or no write is deferred, the site stays as it is.
+pub fn cancelled_flushes_take_oldest_first()
+    ensures passes { (slot : ℕ) (site : Site) (facts : Facts) (own : Own) (answers : Answers) (place : ℕ)
+        → slot < length site.slots → oldest_in (slot_at site slot) ≡ Some place → is_good (answers place) ≡ true
+        → cancelled_buf_flush slot site facts own answers
+        ≡ cancelled_buf_flush slot (without_oldest site slot (slot_at site slot)) facts own answers }
+    ensures stops { (slot : ℕ) (site : Site) (facts : Facts) (own : Own) (answers : Answers) (place : ℕ)
+        → oldest_in (slot_at site slot) ≡ Some place → is_good (answers place) ≡ false
+        → cancelled_buf_flush slot site facts own answers ≡ site }
+    ensures none { (slot : ℕ) (site : Site) (facts : Facts) (own : Own) (answers : Answers)
+        → oldest_in (slot_at site slot) ≡ None → cancelled_buf_flush slot site facts own answers ≡ site }
 {}

@@ -14,6 +14,7 @@ mod laws;
 mod local_calls;
 mod next;
 mod opening;
+mod own;
 mod path_calls;
 mod reading;
 mod replies;
@@ -22,7 +23,7 @@ pub mod site;
 mod whole;
 mod writing;
 
-pub use buffer_flush::begin_buf_flush;
+pub use buffer_flush::{begin_buf_flush, take_oldest};
 pub use buffer_read::begin_buf_read;
 pub use buffer_seek::begin_buf_seek;
 pub use buffer_write::{begin_buf_write, begin_buf_write_all, defer_rest};
@@ -32,7 +33,7 @@ pub use gathering::{begin_read_all, read_rest};
 pub use going_on::go_on;
 pub use laws::{
     calls_go_on_by_awaited_replies, cancelled_calls_leave_by_awaited_replies,
-    own_calls_leave_their_site,
+    cancelled_flushes_take_oldest_first, own_calls_leave_their_site,
 };
 pub use local_calls::{begin_buffer, begin_clone, begin_cwd, begin_seek, begin_unbuffer, sought};
 pub use next::{Asked, EndsBy, Next, Running};
@@ -42,5 +43,6 @@ pub use path_calls::{
     begin_rename, begin_rmdir, begin_set_stat, begin_stat, begin_symlink,
 };
 pub use reading::begin_read;
+pub use replies::is_good;
 pub use whole::{begin_fs_write, begin_list};
 pub use writing::{begin_write, begin_write_all, begin_write_parts, write_rest};

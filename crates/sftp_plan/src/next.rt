@@ -144,7 +144,7 @@ pub enum Running {
     /// call's own, or was under way.
     FillingBuffer {
         slot: u8,
-        n: u32,
+        n: u64,
         offset: u64,
         own: bool,
     },

@@ -1,7 +1,8 @@
 //! What replies and refusals make of a call.
-ghost use Rattle.std.specs.Prelude.{◌≡◌};
+ghost use Rattle.std.specs.Prelude.{◌≡◌, Some};
 ghost use Rattle.sftp_model.specs.declared.outcome.Outcome.TheVariants as outcome;
 ghost use Rattle.sftp_model.specs.declared.error.Error.TheVariants as error;
+ghost use Rattle.sftp_calls.specs.BufferPlans.{is_good};
 ghost use Rattle.sftp_plan.specs.Machines.{refusal_of, failure_of};
 
 use sftp_model::numbers::SSH_FX_OK;
@@ -44,6 +45,16 @@ pub fn refusal(reply: Reply) -> Outcome
             language,
         } => status_refusal(code, message, language),
         _ => Outcome::Refused(Error::InvalidResponse { id: None }),
+    }
+}
+
+/// Whether a reply is a STATUS of OK.
+pub fn is_good(reply: &Reply) -> bool
+    ensures { result ≡ is_good (Some reply.now) }
+{
+    match reply {
+        Reply::Status { code, .. } => *code == SSH_FX_OK,
+        _ => false,
     }
 }
 

@@ -6,6 +6,7 @@ pub mod Ends
 pub mod Counts
 pub mod Fields
 pub mod InLanes
+pub mod PartLaws
 pub mod Steps
 pub mod FirstLaws
 pub mod LineLaws

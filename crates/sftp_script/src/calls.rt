@@ -2,15 +2,16 @@
 ghost use Rattle.std.specs.Prelude.{◌≡◌, Ok, IfOk, OnOk, IfErr, is_some};
 ghost use Rattle.std.specs.Option.{option_map};
 ghost use Rattle.sftp_history.specs.Lines.{words_of};
-ghost use Rattle.sftp_history.specs.Scripts.{call_in, call_line, path_call, slot_call};
+ghost use Rattle.sftp_history.specs.Scripts.{buffer_call, call_in, call_line, path_call, slot_call};
 ghost use Rattle.sftp_script.specs.Refusals.{Refuses, RefusesCall};
 
 use crate::draft::Draft;
 use crate::error::LineError;
+use crate::parts::slot_and_parts;
 use crate::shapes::{
-    one_slot, one_text, slot_and_bytes, slot_and_long, slot_and_mode, slot_and_number,
-    slot_and_position, slot_flags_and_path, text_and_bound, text_size_and_mode, two_slots,
-    two_slots_and_number, two_texts,
+    one_slot, one_text, slot_and_bytes, slot_and_len, slot_and_long, slot_and_mode,
+    slot_and_number, slot_and_position, slot_flags_and_path, text_and_bound, text_size_and_mode,
+    two_slots, two_slots_and_number, two_texts,
 };
 use sftp_history::{Call, Reason};
 use std::alloc::Global;
@@ -24,6 +25,8 @@ const READ_ALL: &[u8] = b"read_all";
 const WRITE: &[u8] = b"write";
 
 const WRITE_ALL: &[u8] = b"write_all";
+
+const WRITE_PARTS: &[u8] = b"write_parts";
 
 const SEEK: &[u8] = b"seek";
 
@@ -40,6 +43,20 @@ const COPY: &[u8] = b"copy";
 const CLONE: &[u8] = b"clone";
 
 const CLOSE: &[u8] = b"close";
+
+const BUFFER: &[u8] = b"buffer";
+
+const UNBUFFER: &[u8] = b"unbuffer";
+
+const BUF_READ: &[u8] = b"buf_read";
+
+const BUF_WRITE: &[u8] = b"buf_write";
+
+const BUF_WRITE_ALL: &[u8] = b"buf_write_all";
+
+const BUF_FLUSH: &[u8] = b"buf_flush";
+
+const BUF_SEEK: &[u8] = b"buf_seek";
 
 const FS_WRITE: &[u8] = b"fs_write";
 
@@ -90,6 +107,9 @@ fn slot_call(alloc: Global, word: &[u8], line: &[u8]) -> Result<Option<Call>, Li
     } else if word == WRITE_ALL {
         let (slot, bytes) = slot_and_bytes(alloc, line)?;
         Ok(Some(Call::WriteAll { slot, bytes }))
+    } else if word == WRITE_PARTS {
+        let (slot, parts) = slot_and_parts(alloc, line)?;
+        Ok(Some(Call::WriteParts { slot, parts }))
     } else if word == SEEK {
         let (slot, position) = slot_and_position(line)?;
         Ok(Some(Call::Seek { slot, position }))
@@ -114,6 +134,38 @@ fn slot_call(alloc: Global, word: &[u8], line: &[u8]) -> Result<Option<Call>, Li
     } else if word == CLOSE {
         let slot = one_slot(line)?;
         Ok(Some(Call::Close { slot }))
+    } else {
+        Ok(None)
+    }
+}
+
+/// A call on the buffered file in a slot, or one that makes it, by the first word and the words behind it.
+#[tactic(auto, using(crate::proofs::InLanes::fields_refuse))]
+fn buffer_call(alloc: Global, word: &[u8], line: &[u8]) -> Result<Option<Call>, LineError>
+    ensures ok { IfOk result (λ call. buffer_call word.now (words_of line.now) ≡ option_map (λ c. Ok c) call) }
+    ensures refused { IfErr result (λ e. RefusesCall (buffer_call word.now (words_of line.now)) e) }
+{
+    if word == BUFFER {
+        let (slot, len) = slot_and_len(line)?;
+        Ok(Some(Call::Buffer { slot, len }))
+    } else if word == UNBUFFER {
+        let slot = one_slot(line)?;
+        Ok(Some(Call::Unbuffer { slot }))
+    } else if word == BUF_READ {
+        let (slot, n) = slot_and_long(line)?;
+        Ok(Some(Call::BufRead { slot, n }))
+    } else if word == BUF_WRITE {
+        let (slot, bytes) = slot_and_bytes(alloc, line)?;
+        Ok(Some(Call::BufWrite { slot, bytes }))
+    } else if word == BUF_WRITE_ALL {
+        let (slot, bytes) = slot_and_bytes(alloc, line)?;
+        Ok(Some(Call::BufWriteAll { slot, bytes }))
+    } else if word == BUF_FLUSH {
+        let slot = one_slot(line)?;
+        Ok(Some(Call::BufFlush { slot }))
+    } else if word == BUF_SEEK {
+        let (slot, position) = slot_and_position(line)?;
+        Ok(Some(Call::BufSeek { slot, position }))
     } else {
         Ok(None)
     }
@@ -180,7 +232,10 @@ fn call_in(alloc: Global, word: &[u8], line: &[u8]) -> Result<Option<Call>, Line
 {
     match slot_call(alloc, word, line)? {
         Some(call) => Ok(Some(call)),
-        None => path_call(alloc, word, line),
+        None => match buffer_call(alloc, word, line)? {
+            Some(call) => Ok(Some(call)),
+            None => path_call(alloc, word, line),
+        },
     }
 }
 
@@ -206,8 +261,11 @@ pub(crate) fn call_line(
     ensures ok { OnOk result (call_line draft.old (call_in word.now (words_of line.now)) ≡ Ok draft.new) }
     ensures refused { IfErr result (λ e. Refuses (call_line draft.old (call_in word.now (words_of line.now))) e) }
 {
-    if draft.has_no_lane() && is_call(alloc, word, line) {
-        return Err(LineError::Refused(Reason::Lane));
+    if draft.has_no_lane() {
+        if is_call(alloc, word, line) {
+            return Err(LineError::Refused(Reason::Lane));
+        }
+        return Err(LineError::Refused(Reason::Word));
     }
     match call_in(alloc, word, line)? {
         Some(call) => {

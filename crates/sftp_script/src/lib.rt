@@ -12,6 +12,7 @@ mod lines;
 mod names;
 mod number;
 mod options;
+mod parts;
 mod position;
 mod script;
 mod server;

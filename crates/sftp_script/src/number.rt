@@ -2,7 +2,7 @@
 ghost use Rattle.std.specs.Prelude.{◌≡◌, ◌≤◌, ◌^◌, min, IfOk};
 ghost use Rattle.std.specs.Option.{option_map};
 ghost use Rattle.sftp_history.specs.Lines.{minus, number_of, number_in, signed_in};
-ghost use Rattle.sftp_history.specs.Scripts.{greatest_u32, mode_in, number_u64, slot_in, some_in};
+ghost use Rattle.sftp_history.specs.Scripts.{buffer_len, greatest_u32, mode_in, number_u64, slot_in, some_in};
 
 use crate::hex::NOTHING;
 use sftp_history::Reason;
@@ -69,6 +69,14 @@ pub(crate) fn mode_in(word: &[u8]) -> Result<u16, Reason>
 {
     let n = number_in(0, u64::from(u16::MAX), word)?;
     Ok(n as u16)
+}
+
+/// The length of a buffer.
+pub(crate) fn buffer_len(word: &[u8]) -> Result<u32, Reason>
+    ensures { result ≡ buffer_len word.now }
+{
+    let n = number_in(1, 1 << 20, word)?;
+    Ok(n as u32)
 }
 
 /// A number below 0, or 0.

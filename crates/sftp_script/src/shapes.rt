@@ -1,14 +1,15 @@
 // The fields behind the first word of a line of a call. Calls of the same fields share a function.
 ghost use Rattle.std.specs.Prelude.{◌≡◌, Ok, IfOk, IfErr};
-ghost use Rattle.sftp_history.specs.declared.call.Call.TheVariants as call;
 ghost use Rattle.sftp_history.specs.Lines.{words_of, bytes_in, flags_in, number_in};
-ghost use Rattle.sftp_history.specs.Scripts.{greatest_u32, mode_in, number_u32, number_u64, one_word, pair, seek_call, slot_in, some_in, three_words, triple};
+ghost use Rattle.sftp_history.specs.Scripts.{buffer_len, greatest_u32, mode_in, number_u32, number_u64, one_word, pair, seek_in, slot_in, some_in, three_words, triple};
 ghost use Rattle.sftp_script.specs.Refusals.{Refuses};
 
 use crate::error::LineError;
 use crate::flags::flags_in;
 use crate::hex::bytes_in;
-use crate::number::{mode_in, number_from, number_in, slot_in, some_mode_in, some_size_in};
+use crate::number::{
+    buffer_len, mode_in, number_from, number_in, slot_in, some_mode_in, some_size_in,
+};
 use crate::position::position_in;
 use crate::words::{one_word, three_words, two_words};
 use sftp_file::OpenOptions;
@@ -48,6 +49,18 @@ pub(crate) fn slot_and_long(line: &[u8]) -> Result<(u8, u64), LineError>
     let slot = slot_in(slot)?;
     let n = number_in(0, u64::MAX, n)?;
     Ok((slot, n))
+}
+
+/// A slot and the length of a buffer.
+#[tactic(auto, using(crate::proofs::Counts::not_two))]
+pub(crate) fn slot_and_len(line: &[u8]) -> Result<(u8, u32), LineError>
+    ensures ok { IfOk result (λ p. pair slot_in buffer_len (words_of line.now) ≡ Ok p) }
+    ensures refused { IfErr result (λ e. Refuses (pair slot_in buffer_len (words_of line.now)) e) }
+{
+    let (slot, len) = two_words(line)?;
+    let slot = slot_in(slot)?;
+    let len = buffer_len(len)?;
+    Ok((slot, len))
 }
 
 /// A slot and the bits of a mode.
@@ -118,8 +131,8 @@ pub(crate) fn slot_flags_and_path(
 /// A slot and where a seek leads.
 #[tactic(auto, using(crate::proofs::Counts::not_three))]
 pub(crate) fn slot_and_position(line: &[u8]) -> Result<(u8, SeekFrom), LineError>
-    ensures ok { IfOk result (λ p. three_words seek_call (words_of line.now) ≡ Ok (call.Seek p.0 p.1)) }
-    ensures refused { IfErr result (λ e. Refuses (three_words seek_call (words_of line.now)) e) }
+    ensures ok { IfOk result (λ p. three_words seek_in (words_of line.now) ≡ Ok p) }
+    ensures refused { IfErr result (λ e. Refuses (three_words seek_in (words_of line.now)) e) }
 {
     let (slot, kind, n) = three_words(line)?;
     let slot = slot_in(slot)?;

@@ -75,6 +75,18 @@ fn next_word(line: &[u8]) -> Result<(&[u8], &[u8]), Reason>
     }
 }
 
+/// The first word, and what stands behind it where there is one word more at least.
+pub(crate) fn word_and_more(line: &[u8]) -> Result<(&[u8], &[u8]), Reason>
+    ensures ok { IfOk result (λ p. (words_of line.now ≡ p.0.now ∷ words_of p.1.now) × (words_of p.1.now ≢ [])) }
+    ensures refused { IfErr result (λ e. (e ≡ reason.Count) × (length (words_of line.now) < 2)) }
+{
+    let (word, rest) = next_word(line)?;
+    match split_word(rest) {
+        Some(_) => Ok((word, rest)),
+        None => Err(Reason::Count),
+    }
+}
+
 /// No word may be there.
 pub(crate) fn no_word(line: &[u8]) -> Result<(), Reason>
     ensures ok { OnOk result (words_of line.now ≡ []) }

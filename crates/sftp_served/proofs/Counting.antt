@@ -12,6 +12,7 @@ use Rattle.sftp_model.specs.declared.slot.Move.{Move}
 use Rattle.sftp_model.specs.declared.slot.Move.TheVariants.{Ask, Wait, Done}
 use Rattle.sftp_calls.specs.Moves.{Own}
 use Rattle.sftp_history.specs.declared.call.Call.{Call}
+use Rattle.sftp_history.specs.declared.call.Call.TheVariants.{BufWrite, BufWriteAll}
 use Rattle.sftp_history.specs.declared.call.Lane.{Lane}
 use Rattle.sftp_history.specs.declared.turn.Turn.{Turn}
 use Rattle.sftp_history.specs.declared.turn.Turn.TheVariants as turn
@@ -260,9 +261,18 @@ called_sum s (entry.Event (Submit owner.Close id r) ∷ past) p j = called_sum s
 called_sum s (entry.Added l c ∷ past) p j = absurd p
 called_sum s (_ ∷ past) p j = called_sum s past p j.1
 
+two_at_least : (c : Call) → 2 ≤ weight c
+two_at_least (BufWrite slot bytes) = omega arith
+two_at_least (BufWriteAll slot bytes) = omega arith
+two_at_least other = omega arith
+
 calls_weigh : (calls : List Call) → length calls ≤ sum_by weight calls
 calls_weigh [] = omega arith
-calls_weigh (c ∷ calls) = let more = calls_weigh calls in let one : sum_by weight (c ∷ calls) ≡ 2 + sum_by weight calls = sum_by-cons weight c calls in omega (arith, more, one)
+calls_weigh (c ∷ calls) =
+    let more = calls_weigh calls in
+    let two = two_at_least c in
+    let one : sum_by weight (c ∷ calls) ≡ weight c + sum_by weight calls = sum_by-cons weight c calls in
+    omega (arith, more, two, one)
 
 sum_weighs : (f : ℕ → ℕ) (k : ℕ) (lanes : List Lane) → ((i : ℕ) → f (k + i) ≤ length (calls_of (slice_get lanes i))) → sum_from f k lanes ≤ sum_by lane_weight lanes
 sum_weighs f k [] h = omega arith

@@ -1,45 +1,107 @@
--- What the lanes' calls await, behind entries that are none of theirs.
-use Rattle.std.proofs.Common.{◌≡◌, ◌<◌, ◌==◌, ℕ, true, false, List, Option, Some, None, refl, ap, sym, ◌∙◌, inl, inr}
+-- What lanes await, behind entries that are none of theirs.
+use Rattle.std.proofs.Common.{◌≡◌, ◌≢◌, ◌<◌, ◌≤◌, ◌==◌, ℕ, true, false, List, Option, Some, None, refl, ap, sym, ◌∙◌, subst, inl, inr}
 use Rattle.std.specs.Prelude.{length}
 use Rattle.std.proofs.lemmas.Bool.{eq-eqb, false_from_ne_true, or_cases}
+use Rattle.sftp_model.specs.declared.reply.Reply.{Reply}
+use Rattle.sftp_model.specs.Answers.{is_handle, may_answer}
 use Rattle.sftp_model.specs.Slots.{has_grant}
 use Rattle.sftp_core.specs.Core.{Core}
-use Rattle.sftp_plan.specs.Pending.{own_place}
+use Rattle.sftp_plan.specs.declared.next.Running.{Running}
+use Rattle.sftp_plan.specs.Pending.{own_place, pends}
 use Rattle.sftp_history.specs.declared.event.Owner.{Owner}
 use Rattle.sftp_history.specs.declared.event.Owner.TheVariants as owner
 use Rattle.sftp_history.specs.declared.entry.Entry.{Entry}
 use Rattle.sftp_history.specs.Readings.{Asked, answer, asked, asked_at, ended, own}
 use Rattle.sftp_history.specs.Calls.{Setting, current, held_site, site_of}
-use Rattle.sftp_history.specs.Grants.{holds, is_asked_by, is_granted, is_held, is_unended_asker}
+use Rattle.sftp_history.specs.Grants.{holds, is_asked_by, is_grant, is_granted, is_held, is_unended_asker}
 use Rattle.sftp_history.specs.Journals.{IsJournal}
 use Rattle.sftp_history.proofs.GrantLaws.{any_none, any_passes}
 use Rattle.sftp_history.proofs.HolderLaws.{slots_owned}
 use Rattle.sftp_history.proofs.PlannedLaws.{held_less}
-use Rattle.sftp_ties.specs.Lanes.{LaneValue, SessionTied, among, by_asker, by_owner, is_of, ticket_places, tickets_of}
+use Rattle.sftp_ties.specs.Lanes.{LaneValue, SessionTied, among, by_asker, by_owner, is_of, ticket_places, tickets_for, tickets_of}
 use Rattle.sftp_ties.specs.Places.{is_in}
 use Rattle.sftp_ties.proofs.HoldLaws.{asker_holds, of_in}
 use Rattle.sftp_ties.proofs.OrderLaws.{asked_below}
+use Rattle.sftp_ties.proofs.PendLaws.{awaited_has}
 use Rattle.sftp_ties.proofs.PollLaws.{among_self}
 use Rattle.sftp_ties.proofs.TakeDues.{asker_there}
-use Rattle.sftp_steps.specs.Rest.{LaneAsks}
+use Rattle.sftp_steps.specs.Rest.{IsTransferAt, LaneAsks, awaited_in, opened_in}
+use Rattle.sftp_steps.proofs.TransferLaws.{place_below, transfer_on, transfer_plain, transfer_ungranted}
 
--- the requests before stay as they were, and so does what a lane's call awaits
-pub asks_on : (past now : List Entry) (lane : ℕ) (v : LaneValue) → ((p : ℕ) → p < asked past → asked_at now p ≡ asked_at past p) → LaneAsks past lane v → LaneAsks now lane v
-asks_on past now lane v same a =
-    record {
-      current = λ p at. ap (λ x. is_asked_by x lane v.ended) (stays p at) ∙ a.current p at;
-      own = a.own;
-      only = a.only;
-      keeps = a.keeps;
-      fits = λ p x y at is may. a.fits p x y at (sym (stays p at) ∙ is) may;
-    }
+-- ---- entries that are none of the lane's
+
+-- what a lane has a ticket of was asked for,
+ticket_below : (past : List Entry) (lane p : ℕ) (v : LaneValue) → LaneAsks past lane v → is_in p (ticket_places v.tickets) ≡ true → p < asked past
+ticket_below past lane p v a has = elim (a.only p has) [
+  | inl mine ↦ asked_below past p lane v.ended (a.current p mine)
+  | inr t ↦ place_below past p t.asked t.here
+]
+
+-- and so was what it goes on with
+awaited_below : (past : List Entry) (lane p : ℕ) (v : LaneValue) → LaneAsks past lane v → ((q : ℕ) → pends q v.running v.site ≤ tickets_for (ticket_places v.tickets) q) → awaited_in v.running v.site ≡ Some p → p < asked past
+awaited_below past lane p v a awaits looks = by_running v.running refl looks
   where
-    stays : (p : ℕ) → own_place v.running ≡ Some p → asked_at now p ≡ asked_at past p
-    stays p at = same p (asked_below past p lane v.ended (a.current p at))
+    by_running : (x : Option Running) → v.running ≡ x → awaited_in x v.site ≡ Some p → p < asked past
+    by_running None is at = absurd cc
+    by_running (Some r) is at =
+        ticket_below past lane p v a (awaited_has r v.site (ticket_places v.tickets) p (subst (λ (x : Option Running). (q : ℕ) → pends q x v.site ≤ tickets_for (ticket_places v.tickets) q) is awaits) at)
 
--- what a lane's call awaits is a request of the call that has not ended
-pub awaits_own : (past : List Entry) (lane p : ℕ) (v : LaneValue) → v.ended ≡ ended past lane → LaneAsks past lane v → is_in p (ticket_places v.tickets) ≡ true → is_unended_asker past lane p ≡ true
-awaits_own past lane p v ends a here = ap (λ (n : ℕ). is_asked_by (asked_at past p) lane n) (sym ends) ∙ a.current p (a.only p here)
+-- the requests before stay as they were, and so does what a lane awaits that has a ticket of it
+pub asks_on : (past now : List Entry) (lane : ℕ) (v : LaneValue) → ((p : ℕ) → p < asked past → asked_at now p ≡ asked_at past p) → ((q : ℕ) → pends q v.running v.site ≤ tickets_for (ticket_places v.tickets) q) → LaneAsks past lane v → LaneAsks now lane v
+asks_on past now lane v same awaits a =
+    record {
+      current = λ p mine. ap (λ x. is_asked_by x lane v.ended) (same p (asked_below past p lane v.ended (a.current p mine))) ∙ a.current p mine;
+      only = λ p has. elim (a.only p has) [ inl mine ↦ inl mine | inr t ↦ inr (transfer_on past now p same t) ];
+      keeps = a.keeps;
+      fits = λ p x y at is may. a.fits p x y at (sym (same p (awaited_below past lane p v a awaits at)) ∙ is) may;
+    }
+
+-- ---- whose request a ticket is of
+
+-- the call's own request is one of the call that has not ended
+pub awaits_own : (past : List Entry) (lane p : ℕ) (v : LaneValue) → v.ended ≡ ended past lane → LaneAsks past lane v → own_place v.running ≡ Some p → is_unended_asker past lane p ≡ true
+awaits_own past lane p v ends a mine = ap (λ (n : ℕ). is_asked_by (asked_at past p) lane n) (sym ends) ∙ a.current p mine
+
+-- a ticket that has a HANDLE is that of the call's own request,
+pub granted_own : (s : Setting) (past : List Entry) (lane p : ℕ) (v : LaneValue) → IsJournal s past → LaneAsks past lane v → is_in p (ticket_places v.tickets) ≡ true → is_grant past p ≡ true → own_place v.running ≡ Some p
+granted_own s past lane p v j a has grant = elim (a.only p has) [
+  | inl mine ↦ mine
+  | inr t ↦ absurd (let clash : false ≡ true = sym (transfer_ungranted s past p j t) ∙ grant in cc)
+]
+
+-- and so is one that a HANDLE may come for
+pub handled_own : (past : List Entry) (lane p : ℕ) (v : LaneValue) (x : Asked) (r : Reply) → LaneAsks past lane v → is_in p (ticket_places v.tickets) ≡ true → asked_at past p ≡ Some x → may_answer x.request r ≡ true → is_handle r ≡ true → own_place v.running ≡ Some p
+handled_own past lane p v x r a has is may brought = elim (a.only p has) [
+  | inl mine ↦ mine
+  | inr t ↦ absurd (let both : ◌≡◌ {A = Option Asked} (Some x) (Some t.asked) = sym is ∙ t.here in
+      let same : x ≡ t.asked = cc in
+      let plain : is_handle r ≡ false = transfer_plain t.asked.request r t.transfers (ap (λ (y : Asked). may_answer y.request r) (sym same) ∙ may) in
+      let clash : false ≡ true = sym plain ∙ brought in cc)
+]
+
+-- each other is that of a READ or a WRITE
+pub other_transfers : (past : List Entry) (lane p : ℕ) (v : LaneValue) → LaneAsks past lane v → own_place v.running ≢ Some p → is_in p (ticket_places v.tickets) ≡ true → IsTransferAt past p
+other_transfers past lane p v a ne has = elim (a.only p has) [ inl mine ↦ absurd (ne mine) | inr t ↦ t ]
+
+-- ---- a lane that runs no call
+
+-- where a call has no request of its own none is at a place
+pub none_own : (running : Option Running) (p : ℕ) → own_place running ≡ None → own_place running ≢ Some p
+none_own running p none mine = (let clash : ◌≡◌ {A = Option ℕ} None (Some p) = sym none ∙ mine in cc)
+
+-- what a lane without a call has tickets of are READs and WRITEs
+pub idle_transfers : (past : List Entry) (lane p : ℕ) (v : LaneValue) → v.running ≡ None → LaneAsks past lane v → is_in p (ticket_places v.tickets) ≡ true → IsTransferAt past p
+idle_transfers past lane p v idle a has = other_transfers past lane p v a (none_own v.running p (ap own_place idle)) has
+
+-- and no more is asked of it
+pub idle_asks : (past : List Entry) (lane : ℕ) (v : LaneValue) → v.running ≡ None → ((p : ℕ) → is_in p (ticket_places v.tickets) ≡ true → IsTransferAt past p) → LaneAsks past lane v
+idle_asks past lane v idle all =
+    record {
+      current = λ p mine. absurd (none_own v.running p (ap own_place idle) mine);
+      only = λ p has. inr (all p has);
+      keeps = λ g is. absurd (let clash : ◌≡◌ {A = Option ℕ} None (Some g) = ap opened_in (sym idle) ∙ is in cc);
+      fits = λ p x y at is may. absurd (let clash : ◌≡◌ {A = Option ℕ} None (Some p) = ap (λ (r : Option Running). awaited_in r v.site) (sym idle) ∙ at in cc);
+    }
 
 -- ---- wanted places
 
@@ -67,12 +129,14 @@ among_where past places p e = by_state (asked_at past p) refl e
     by_state (Some a) at here = by_who a at a.by refl here
 
 -- a lane's call holds the HANDLE that it awaits
-pub wanted_held : (s : Setting) (past : List Entry) (core : Core) (lanes : ℕ → LaneValue) (dues : List ℕ) (p : ℕ) → IsJournal s past → SessionTied s past core lanes dues → ((lane : ℕ) → lane < length s.lanes → LaneAsks past lane (lanes lane))
-    → among past (tickets_of lanes) p ≡ true → is_held s past p ≡ true
-wanted_held s past core lanes dues p j h asks wanted =
+pub wanted_held : (s : Setting) (past : List Entry) (core : Core) (lanes : ℕ → LaneValue) (dues : List ℕ) (p : ℕ) (x : Asked) (r : Reply) → IsJournal s past → SessionTied s past core lanes dues → ((lane : ℕ) → lane < length s.lanes → LaneAsks past lane (lanes lane))
+    → asked_at past p ≡ Some x → may_answer x.request r ≡ true → is_handle r ≡ true → among past (tickets_of lanes) p ≡ true → is_held s past p ≡ true
+wanted_held s past core lanes dues p x r j h asks is may brought wanted =
     let w : IsAmong past (tickets_of lanes) p = among_where past (tickets_of lanes) p wanted in
     let there : w.lane < length s.lanes = asker_there s past p w.lane w.request j w.at w.mine in
-    any_passes (holds s past p) (length s.lanes) w.lane there (asker_holds s past p w.lane (awaits_own past w.lane p (lanes w.lane) (h.each w.lane there).ends (asks w.lane there) w.here))
+    let a : LaneAsks past w.lane (lanes w.lane) = asks w.lane there in
+    let mine : own_place (lanes w.lane).running ≡ Some p = handled_own past w.lane p (lanes w.lane) x r a w.here is may brought in
+    any_passes (holds s past p) (length s.lanes) w.lane there (asker_holds s past p w.lane (awaits_own past w.lane p (lanes w.lane) (h.each w.lane there).ends a mine))
 
 -- a reply that no lane wants is held by none
 pub unwanted_unheld : (s : Setting) (past : List Entry) (core : Core) (lanes : ℕ → LaneValue) (dues : List ℕ) (p : ℕ) → IsJournal s past → SessionTied s past core lanes dues → answer past p ≡ None → among past (tickets_of lanes) p ≡ false

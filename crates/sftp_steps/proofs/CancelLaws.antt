@@ -3,24 +3,23 @@ use Rattle.std.proofs.Common.{◌≡◌, ◌≢◌, ◌<◌, ◌≤◌, ◌+◌,
 use Rattle.std.specs.Prelude.{is_some, length, slice_get}
 use Rattle.std.specs.List.{list_any}
 use Rattle.std.proofs.lemmas.Bool.{eq-eqb, false_from_ne_true, ne_eqb}
-use Rattle.sftp_model.specs.declared.answers.Expected.{Expected}
 use Rattle.sftp_model.specs.declared.outcome.Outcome.TheVariants as outcome
 use Rattle.sftp_model.specs.declared.reply.Reply.{Reply}
 use Rattle.sftp_model.specs.declared.reply.Reply.TheVariants as reply
 use Rattle.sftp_model.specs.Slots.{has_grant}
 use Rattle.sftp_model.specs.declared.slot.Site.{Site}
-use Rattle.sftp_core.specs.Core.{Core, abandoned, after_poll, at, is_ticket, reply_in}
-use Rattle.sftp_core.specs.Table.{brings}
-use Rattle.sftp_core.specs.declared.place.Place.{Place}
-use Rattle.sftp_core.specs.declared.place.Place.TheVariants.{Answered, Granted, Waiting}
+use Rattle.sftp_core.specs.Core.{Core, abandoned, after_poll, at, reply_in}
 use Rattle.sftp_plan.specs.declared.next.Running.{Running}
-use Rattle.sftp_plan.specs.Pending.{one, own_place, pends, slots_times, with_one}
+use Rattle.sftp_plan.specs.Cancelling.{left_behind}
+use Rattle.sftp_plan.specs.Machines.{bytes_of}
+use Rattle.sftp_plan.specs.Pending.{Fewer, one, own_place, pends, slots_times, with_one}
+use Rattle.sftp_plan.specs.Sound.{Keeps as Stays}
 use Rattle.sftp_history.specs.declared.call.Call.{Call}
 use Rattle.sftp_history.specs.declared.event.Event.TheVariants.{Cancel}
 use Rattle.sftp_history.specs.declared.entry.Entry.{Entry}
 use Rattle.sftp_history.specs.declared.entry.Entry.TheVariants as entry
 use Rattle.sftp_history.specs.Readings.{answer, asked_at, ended, own}
-use Rattle.sftp_history.specs.Calls.{Setting, current, has_waited, held_site, site_of}
+use Rattle.sftp_history.specs.Calls.{Setting, current, has_waited, held_site, planned, site_of}
 use Rattle.sftp_history.specs.Grants.{is_asked_by, is_grant, is_granted, is_unended_asker}
 use Rattle.sftp_history.specs.Journals.{IsJournal, IsNext, is_some_asked}
 use Rattle.sftp_history.specs.Steady.{Good}
@@ -45,10 +44,11 @@ use Rattle.sftp_ties.proofs.ReplyLaws.{cancel_keeps, end_keeps}
 use Rattle.sftp_ties.proofs.RestLaws.{cancel_dues, cancelled_dues, ended_dues}
 use Rattle.sftp_ties.proofs.SessionLaws.{each_with}
 use Rattle.sftp_ties.proofs.TurnLaws.{dropped_keeps, granted_due_keeps}
-use Rattle.sftp_steps.specs.Ends.{Cancels, CancelsKeepSessions, Dropped, LeavesSite, Polled, cancelled_past}
-use Rattle.sftp_steps.specs.Rest.{AtRest, Counted, LaneAsks, opened_in}
-use Rattle.sftp_steps.proofs.AskedLaws.{asks_on, awaits_own}
-use Rattle.sftp_steps.proofs.CountedLaws.{counted_abandon_plain, counted_abandon_waiting, counted_polled, counted_same}
+use Rattle.sftp_steps.specs.Ends.{Cancels, CancelsKeepSessions, Dropped, Kept, Polled, cancelled_past}
+use Rattle.sftp_steps.specs.Rest.{AtRest, Counted, IsTransferAt, LaneAsks}
+use Rattle.sftp_steps.proofs.AskedLaws.{asks_on, awaits_own, granted_own, idle_asks, none_own, other_transfers}
+use Rattle.sftp_steps.proofs.CountedLaws.{counted_drop, counted_polled, counted_same}
+use Rattle.sftp_steps.proofs.TransferLaws.{transfer_on, transfer_ungranted}
 
 -- ---- a lane that changes twice
 
@@ -91,20 +91,6 @@ own_alone running site tickets p own le =
     let top : tickets_for tickets p ≤ 1 = has_one tickets p in
     omega (arith, here, sum, top, le)
 
--- a lane between its calls awaits nothing
-idle_asks : (past : List Entry) (lane : ℕ) (v : LaneValue) → v.running ≡ None → ((p : ℕ) → is_in p (ticket_places v.tickets) ≡ true → ⊥) → LaneAsks past lane v
-idle_asks past lane v none empty =
-    record {
-      current = λ p is. absurd (no_place p is);
-      own = λ r is. absurd (let clash : ◌≡◌ {A = Option Running} None (Some r) = sym none ∙ is in cc);
-      only = λ p is. absurd (empty p is);
-      keeps = λ g is. absurd (let clash : ◌≡◌ {A = Option ℕ} None (Some g) = ap opened_in (sym none) ∙ is in cc);
-      fits = λ p a y is found may. absurd (no_place p is);
-    }
-  where
-    no_place : (p : ℕ) → own_place v.running ≡ Some p → ⊥
-    no_place p is = (let clash : ◌≡◌ {A = Option ℕ} None (Some p) = ap own_place (sym none) ∙ is in absurd cc)
-
 -- ---- the grants that are due
 
 loose_push : (site : Site) (p : ℕ) (gs : List ℕ) → has_grant site p ≡ false → loose_of site (gs ++ p ∷ []) ≡ loose_of site gs ++ p ∷ []
@@ -126,18 +112,23 @@ unslotted s past lane p v dues j l mine = false_from_ne_true (has_grant v.site p
 
 -- ---- both entries
 
--- The call of a lane was cancelled and has ended; the core and the lane's ticket are as they were.
-record Ended (s : Setting) (past : List Entry) (core : Core) (lanes : ℕ → LaneValue) (begun : List ℕ) (lane : ℕ) : Type 0 where
+-- what the lane's call leaves that is cancelled from here
+abbrev Leaves : List Entry → Setting → Call → LaneValue → Site → Type 0
+Leaves past s c v site = (r : Running) → v.running ≡ Some r → left_behind r (bytes_of (planned c)) v.site s.facts [] (answer past) ≡ site
+
+-- The call of a lane was cancelled and has ended, and its slots are these; the core and the lane's tickets are as they
+-- were.
+record Ended (s : Setting) (past : List Entry) (core : Core) (lanes : ℕ → LaneValue) (begun : List ℕ) (lane : ℕ) (site : Site) : Type 0 where
   pub first : IsNext s past (entry.Event (Cancel lane))
   pub good : Good s (cancelled_past past lane) (begun_but begun lane)
-  pub goes : LaneGoes s (cancelled_past past lane) lane None (lanes lane).site (ticket_places (lanes lane).tickets)
+  pub goes : LaneGoes s (cancelled_past past lane) lane None site (ticket_places (lanes lane).tickets)
   pub mid : SessionTied s (entry.Event (Cancel lane) ∷ past) core lanes []
   pub due : Dues s (entry.Event (Cancel lane) ∷ past) []
-  pub tied : SessionTied s (cancelled_past past lane) core (with_lane lanes lane (ended_lane (lanes lane) (lanes lane).site)) (loose_of (lanes lane).site (grant_places (lanes lane).grants))
+  pub tied : SessionTied s (cancelled_past past lane) core (with_lane lanes lane (ended_lane (lanes lane) site)) (loose_of site (grant_places (lanes lane).grants))
 
-both_entries : (s : Setting) (past : List Entry) (core : Core) (lanes : ℕ → LaneValue) (begun : List ℕ) (lane : ℕ) (c : Call) → AtRest s past core lanes begun → lane < length s.lanes → current s past lane ≡ Some c
-    → list_any (λ l. l == lane) begun ≡ true → LeavesSite past s c (lanes lane) → Ended s past core lanes begun lane
-both_entries s past core lanes begun lane c h there is any leaves =
+both_entries : (s : Setting) (past : List Entry) (core : Core) (lanes : ℕ → LaneValue) (begun : List ℕ) (lane : ℕ) (c : Call) (site : Site) → AtRest s past core lanes begun → lane < length s.lanes → current s past lane ≡ Some c
+    → list_any (λ l. l == lane) begun ≡ true → Leaves past s c (lanes lane) site → Fewer (lanes lane).site site → Stays s.facts (lanes lane).site site → Ended s past core lanes begun lane site
+both_entries s past core lanes begun lane c site h there is any leaves less stays =
     let e : Entry = entry.Event (Cancel lane) in
     let middle : List Entry = e ∷ past in
     let now : List Entry = cancelled_past past lane in
@@ -146,11 +137,11 @@ both_entries s past core lanes begun lane c h there is any leaves =
     let l : LaneTied s past lane v [] = b.tied.each lane there in
     let first : IsNext s past e = may_next s past e b.good.calm h.settled ((λ none. absurd (let clash : ◌≡◌ {A = Option Call} (Some c) None = sym is ∙ none in cc)), b.good.cancels lane any, b.good.ready) in
     let run : IsJournal s middle = (first, b.good.run) in
-    let goes : LaneGoes s now lane None v.site (ticket_places v.tickets) =
-    cancelled_lane s past lane v [] c outcome.Cancelled v.site l is run (left v.running refl (b.begins lane there any)) l.goes.sixteen l.goes.within (λ q. fewer q (l.goes.awaits q)) in
+    let goes : LaneGoes s now lane None site (ticket_places v.tickets) =
+    cancelled_lane s past lane v [] c outcome.Cancelled site l is run (left v.running refl (b.begins lane there any)) (stays.count ∙ l.goes.sixteen) (stays.limit l.goes.within) (λ q. fewer q (l.goes.awaits q)) in
     let mid : SessionTied s middle core lanes [] = cancel_keeps s past core lanes [] lane b.tied in
-    let end : SessionTied s now core (with_lane lanes lane (ended_lane v v.site)) (loose_of (site_of s now lane) (grant_places v.grants)) =
-    end_keeps s middle core lanes lane outcome.Cancelled v.site mid there (cancelled_next s past lane, run) goes in
+    let end : SessionTied s now core (with_lane lanes lane (ended_lane v site)) (loose_of (site_of s now lane) (grant_places v.grants)) =
+    end_keeps s middle core lanes lane outcome.Cancelled site mid there (cancelled_next s past lane, run) goes in
     record {
       first = first;
       good = end_good s middle begun lane outcome.Cancelled run b.good.ready b.good.unkept
@@ -158,46 +149,83 @@ both_entries s past core lanes begun lane c h there is any leaves =
       goes = goes;
       mid = mid;
       due = cancel_dues s past [] lane b.due;
-      tied = subst (λ (x : Site). SessionTied s now core (with_lane lanes lane (ended_lane v v.site)) (loose_of x (grant_places v.grants))) (sym goes.runs.1) end;
+      tied = subst (λ (x : Site). SessionTied s now core (with_lane lanes lane (ended_lane v site)) (loose_of x (grant_places v.grants))) (sym goes.runs.1) end;
     }
   where
-    left : (x : Option Running) → (lanes lane).running ≡ x → is_some x ≡ true → (lanes lane).site ≡ leaving x c (lanes lane).site s.facts [] (answer past)
+    left : (x : Option Running) → (lanes lane).running ≡ x → is_some x ≡ true → site ≡ leaving x c (lanes lane).site s.facts [] (answer past)
     left None running some = absurd cc
     left (Some r) running some = sym (leaves r running)
 
-    fewer : (q : ℕ) → pends q (lanes lane).running (lanes lane).site ≤ tickets_for (ticket_places (lanes lane).tickets) q → pends q None (lanes lane).site ≤ tickets_for (ticket_places (lanes lane).tickets) q
-    fewer q le = (let less = more_one (own_place (lanes lane).running) q (slots_times q (lanes lane).site.slots) in omega (arith, less, le))
+    fewer : (q : ℕ) → pends q (lanes lane).running (lanes lane).site ≤ tickets_for (ticket_places (lanes lane).tickets) q → pends q None site ≤ tickets_for (ticket_places (lanes lane).tickets) q
+    fewer q le =
+        (let more = more_one (own_place (lanes lane).running) q (slots_times q (lanes lane).site.slots) in
+        let slots : slots_times q site.slots ≤ slots_times q (lanes lane).site.slots = less.each q in
+        omega (arith, more, slots, le))
+
+-- so it is where the slots stay
+same_entries : (s : Setting) (past : List Entry) (core : Core) (lanes : ℕ → LaneValue) (begun : List ℕ) (lane : ℕ) (c : Call) → AtRest s past core lanes begun → lane < length s.lanes → current s past lane ≡ Some c → list_any (λ l. l == lane) begun ≡ true
+    → Leaves past s c (lanes lane) (lanes lane).site → Ended s past core lanes begun lane (lanes lane).site
+same_entries s past core lanes begun lane c h there is any leaves =
+    both_entries s past core lanes begun lane c (lanes lane).site h there is any leaves (record { each = λ q. omega arith }) (record { count = refl; limit = λ within. within })
+
+-- what stands behind both entries then, where the tickets that are left are those of READs and WRITEs
+now_between : (s : Setting) (past : List Entry) (core new : Core) (lanes : ℕ → LaneValue) (begun : List ℕ) (lane : ℕ) (site : Site) (y : LaneValue) → AtRest s past core lanes begun → Ended s past core lanes begun lane site → y.running ≡ None
+    → ((p : ℕ) → is_in p (ticket_places y.tickets) ≡ true → IsTransferAt past p)
+    → Dues s (cancelled_past past lane) (loose_of y.site (grant_places y.grants)) → SessionTied s (cancelled_past past lane) new (with_lane lanes lane y) (loose_of y.site (grant_places y.grants)) → Counted past new → Cancels s past new lanes begun lane y
+now_between s past core new lanes begun lane site y h e idle transfers due tied counted =
+    let now : List Entry = cancelled_past past lane in
+    let b = h.between in
+    record {
+      first = e.first;
+      second = cancelled_next s past lane;
+      between = record {
+        good = e.good;
+        due = due;
+        tied = tied;
+        counted = counted_same past now new refl refl counted;
+        asks = each_with (λ w x. LaneAsks now w x) lanes lane y (length s.lanes) (idle_asks now lane y idle (λ p has. transfer_on past now p (λ q below. refl) (transfers p has)))
+            (λ w lt ne. asks_on past now w (lanes w) (λ p below. refl) (b.tied.each w lt).goes.awaits (b.asks w lt));
+        begins = λ w lt has.
+            (let but = but_begun begun lane w has in
+            ap (λ (x : Bool). is_some (if x then y else lanes w).running) (ne_eqb lane w but.0) ∙ b.begins w lt but.1);
+      };
+    }
 
 -- ---- the core gives up what was awaited
 
--- What each way to give up has in common: the lane has a ticket of what its call awaits.
+-- What both ways to give up a ticket have in common: it is that of the call's own request.
 record GivenUp (s : Setting) (past : List Entry) (core : Core) (lanes : ℕ → LaneValue) (begun : List ℕ) (lane : ℕ) (k : ℕ) (t : Ticketed) : Type 0 where
   pub rest : AtRest s past core lanes begun
   pub there : lane < length s.lanes
   pub here : slice_get (lanes lane).tickets k ≡ Some t
-  pub ended : Ended s past core lanes begun lane
+  pub own : own_place (lanes lane).running ≡ Some t.place
+  pub ended : Ended s past core lanes begun lane (lanes lane).site
 
 ticket_in : (v : LaneValue) (k : ℕ) (t : Ticketed) → slice_get v.tickets k ≡ Some t → is_in t.place (ticket_places v.tickets) ≡ true
 ticket_in v k t here = at_in (ticket_places v.tickets) k t.place (ticket_index v.tickets k t here)
 
--- no other ticket is there,
-one_ticket : (s : Setting) (past : List Entry) (core : Core) (lanes : ℕ → LaneValue) (begun : List ℕ) (lane k : ℕ) (t : Ticketed) → GivenUp s past core lanes begun lane k t → (q : ℕ) → is_in q (ticket_places (lanes lane).tickets) ≡ true → q ≡ t.place
-one_ticket s past core lanes begun lane k t g q has =
-    let a = g.rest.between.asks lane g.there in
-    let both : ◌≡◌ {A = Option ℕ} (Some q) (Some t.place) = sym (a.only q has) ∙ a.only t.place (ticket_in (lanes lane) k t g.here) in cc
+-- no other ticket has a HANDLE,
+one_ticket : (s : Setting) (past : List Entry) (core : Core) (lanes : ℕ → LaneValue) (begun : List ℕ) (lane k : ℕ) (t : Ticketed) → GivenUp s past core lanes begun lane k t → (q : ℕ) → is_in q (ticket_places (lanes lane).tickets) ≡ true → is_grant past q ≡ true → q ≡ t.place
+one_ticket s past core lanes begun lane k t g q has grant =
+    let b = g.rest.between in
+    let mine : own_place (lanes lane).running ≡ Some q = granted_own s past lane q (lanes lane) b.good.run (b.asks lane g.there) has grant in
+    let both : ◌≡◌ {A = Option ℕ} (Some q) (Some t.place) = sym mine ∙ g.own in cc
 
--- so none is left without it
-none_left : (s : Setting) (past : List Entry) (core : Core) (lanes : ℕ → LaneValue) (begun : List ℕ) (lane k : ℕ) (t : Ticketed) → GivenUp s past core lanes begun lane k t → (q : ℕ) → is_in q (ticket_places (without k (lanes lane).tickets)) ≡ true → ⊥
-none_left s past core lanes begun lane k t g q has =
+-- and READs and WRITEs are left without it
+transfers_left : (s : Setting) (past : List Entry) (core : Core) (lanes : ℕ → LaneValue) (begun : List ℕ) (lane k : ℕ) (t : Ticketed) → GivenUp s past core lanes begun lane k t → (q : ℕ) → is_in q (ticket_places (without k (lanes lane).tickets)) ≡ true → IsTransferAt past q
+transfers_left s past core lanes begun lane k t g q has =
     let ps : List ℕ = ticket_places (lanes lane).tickets in
     let still : is_in q (without k ps) ≡ true = ap (is_in q) (sym (ticket_without (lanes lane).tickets k)) ∙ has in
-    let same : q ≡ t.place = one_ticket s past core lanes begun lane k t g q (in_left ps k q still) in
     let gone : is_in t.place (without k ps) ≡ false = without_self ps k t.place (g.rest.between.tied.each lane g.there).holds.tied_rise (ticket_index (lanes lane).tickets k t g.here) in
-    let clash : false ≡ true = sym gone ∙ (ap (λ (n : ℕ). is_in n (without k ps)) (sym same) ∙ still) in absurd cc
+    other_transfers past lane q (lanes lane) (g.rest.between.asks lane g.there)
+    (λ mine. (let both : ◌≡◌ {A = Option ℕ} (Some q) (Some t.place) = sym mine ∙ g.own in
+    let same : q ≡ t.place = cc in
+    let clash : false ≡ true = sym gone ∙ (ap (λ (n : ℕ). is_in n (without k ps)) (sym same) ∙ still) in absurd cc))
+    (in_left ps k q still)
 
 -- it is one of the call that is cancelled
 asked_it : (s : Setting) (past : List Entry) (core : Core) (lanes : ℕ → LaneValue) (begun : List ℕ) (lane k : ℕ) (t : Ticketed) → GivenUp s past core lanes begun lane k t → is_unended_asker past lane t.place ≡ true
-asked_it s past core lanes begun lane k t g = awaits_own past lane t.place (lanes lane) (g.rest.between.tied.each lane g.there).ends (g.rest.between.asks lane g.there) (ticket_in (lanes lane) k t g.here)
+asked_it s past core lanes begun lane k t g = awaits_own past lane t.place (lanes lane) (g.rest.between.tied.each lane g.there).ends (g.rest.between.asks lane g.there) g.own
 
 -- and the lane goes on without it
 goes_without : (s : Setting) (past : List Entry) (core : Core) (lanes : ℕ → LaneValue) (begun : List ℕ) (lane k : ℕ) (t : Ticketed) → GivenUp s past core lanes begun lane k t
@@ -206,46 +234,9 @@ goes_without s past core lanes begun lane k t g =
     let v : LaneValue = lanes lane in
     let ps : List ℕ = ticket_places v.tickets in
     let l : LaneTied s past lane v [] = g.rest.between.tied.each lane g.there in
-    let own_is : own_place v.running ≡ Some t.place = (g.rest.between.asks lane g.there).only t.place (ticket_in v k t g.here) in
-    dropped_lane s (cancelled_past past lane) lane k t.place None v.site ps g.ended.goes (ticket_index v.tickets k t g.here) (own_alone v.running v.site ps t.place own_is (l.goes.awaits t.place))
-
--- what stands behind both entries then
-now_between : (s : Setting) (past : List Entry) (core new : Core) (lanes : ℕ → LaneValue) (begun : List ℕ) (lane k : ℕ) (t : Ticketed) (y : LaneValue) → GivenUp s past core lanes begun lane k t → y.running ≡ None → y.tickets ≡ without k (lanes lane).tickets
-    → Dues s (cancelled_past past lane) (loose_of y.site (grant_places y.grants)) → SessionTied s (cancelled_past past lane) new (with_lane lanes lane y) (loose_of y.site (grant_places y.grants)) → Counted past new → Cancels s past new lanes begun lane y
-now_between s past core new lanes begun lane k t y g idle tickets due tied counted =
-    let now : List Entry = cancelled_past past lane in
-    let b = g.rest.between in
-    record {
-      first = g.ended.first;
-      second = cancelled_next s past lane;
-      between = record {
-        good = g.ended.good;
-        due = due;
-        tied = tied;
-        counted = counted_same past now new refl refl counted;
-        asks = each_with (λ w x. LaneAsks now w x) lanes lane y (length s.lanes)
-            (idle_asks now lane y idle (λ p has. none_left s past core lanes begun lane k t g p (ap (λ (ts : List Ticketed). is_in p (ticket_places ts)) (sym tickets) ∙ has)))
-            (λ w lt ne. asks_on past now w (lanes w) (λ p below. refl) (b.asks w lt));
-        begins = λ w lt has.
-            (let but = but_begun begun lane w has in
-            ap (λ (x : Bool). is_some (if x then y else lanes w).running) (ne_eqb lane w but.0) ∙ b.begins w lt but.1);
-      };
-    }
+    dropped_lane s (cancelled_past past lane) lane k t.place None v.site ps g.ended.goes (ticket_index v.tickets k t g.here) (own_alone v.running v.site ps t.place g.own (l.goes.awaits t.place))
 
 -- ---- the ticket is dropped
-
-drop_counted : (past : List Entry) (core : Core) (t : ℕ) → is_ticket (at core t) ≡ true → ((handle : List ℕ) → reply_in (at core t) ≢ Some (reply.Handle handle)) → Counted past core → Counted past (abandoned core t)
-drop_counted past core t ticket ungranted c = by_place (at core t) refl
-  where
-    plain : (e : Expected) (r : Reply) → at core t ≡ Some (Answered e r) → brings r ≡ None
-    plain e (reply.Handle handle) is = absurd (ungranted handle (ap reply_in is))
-    plain e other is = refl
-
-    by_place : (p : Option Place) → at core t ≡ p → Counted past (abandoned core t)
-    by_place None is = absurd (let clash : false ≡ true = sym (ap is_ticket is) ∙ ticket in cc)
-    by_place (Some (Waiting e was_sent wanted)) is = counted_abandon_waiting past core t e was_sent wanted is c
-    by_place (Some (Answered e r)) is = counted_abandon_plain past core t e r is (plain e r is) c
-    by_place (Some (Granted handle users)) is = absurd (let clash : false ≡ true = sym (ap is_ticket is) ∙ ticket in cc)
 
 drop_cancels : (s : Setting) (past : List Entry) (core : Core) (lanes : ℕ → LaneValue) (begun : List ℕ) (lane k : ℕ) (t : Ticketed) → GivenUp s past core lanes begun lane k t → ((handle : List ℕ) → reply_in (at core t.ticket) ≢ Some (reply.Handle handle))
     → Cancels s past (abandoned core t.ticket) lanes begun lane (ended_lane (spent_lane (lanes lane) k None (lanes lane).site) (lanes lane).site)
@@ -262,8 +253,10 @@ drop_cancels s past core lanes begun lane k t g ungranted =
     let more : ended now lane ≡ ended past lane + 1 = ended_end middle lane (ended past lane) outcome.Cancelled in
     let due : Dues s now dues = subst (λ (z : Site). Dues s now (loose_of z (grant_places v.grants))) (sym g.ended.goes.runs.1)
     (ended_dues s middle core lanes lane outcome.Cancelled g.ended.mid g.there (g.ended.first, b.good.run) g.ended.due
-    (λ p has. ap (is_grant past) (one_ticket s past core lanes begun lane k t g p has) ∙ plain)) in
-    now_between s past core (abandoned core t.ticket) lanes begun lane k t (ended_lane (spent_lane v k None v.site) v.site) g refl refl due
+    (λ p has. false_from_ne_true (is_grant past p) (λ grant.
+    (let same : p ≡ t.place = one_ticket s past core lanes begun lane k t g p has grant in
+    let clash : false ≡ true = sym plain ∙ (ap (is_grant past) (sym same) ∙ grant) in absurd cc)))) in
+    now_between s past core (abandoned core t.ticket) lanes begun lane v.site (ended_lane (spent_lane v k None v.site) v.site) g.rest g.ended refl (transfers_left s past core lanes begun lane k t g) due
     (tied_twice s now (abandoned core t.ticket) lanes lane x (λ (z : LaneValue). spent_lane z k None v.site) dues
     (dropped_keeps s now core (with_lane lanes lane x) dues lane k t None v.site g.ended.tied g.there (ap (λ (z : LaneValue). slice_get z.tickets k) is_x ∙ g.here) plain
     (λ asks none.
@@ -271,7 +264,7 @@ drop_cancels s past core lanes begun lane k t g ungranted =
     let clash : t.place < t.place = asked_before s past lane (ended past lane) (ended past lane + 1) t.place t.place b.good.run mine later (omega arith) in
     absurd (omega (arith, clash))))
     (subst (λ (z : LaneValue). LaneGoes s now lane None v.site (without k (ticket_places z.tickets))) (sym is_x) (goes_without s past core lanes begun lane k t g))))
-    (drop_counted past core t.ticket (tickets_count s past core lanes [] lane k t b.tied g.there g.here) ungranted b.counted)
+    (counted_drop past core t.ticket (tickets_count s past core lanes [] lane k t b.tied g.there g.here) ungranted b.counted)
   where
     by_reply : (y : Option Reply) → reply_in (at core t.ticket) ≡ y → is_granted y ≡ false
     by_reply None is = refl
@@ -301,10 +294,10 @@ poll_cancels s past core lanes begun lane k t handle g came =
     let places : grant_places v.grants ++ p ∷ [] ≡ grant_places (v.grants ++ brought t handle ∷ []) = sym (places_push v.grants (brought t handle)) in
     let pushed : before ++ p ∷ [] ≡ dues = sym (loose_push v.site p (grant_places v.grants) (unslotted s past lane p v [] b.good.run l mine)) ∙ ap (loose_of v.site) places in
     let due : Dues s now dues = subst (λ (ps : List ℕ). Dues s now (loose_of v.site ps)) places (subst (λ (z : Site). Dues s now (loose_of z (grant_places v.grants ++ p ∷ []))) (sym g.ended.goes.runs.1)
-    (cancelled_dues s middle core lanes lane p outcome.Cancelled g.ended.mid g.there (g.ended.first, b.good.run) g.ended.due has grant mine (λ q in_it granted. one_ticket s past core lanes begun lane k t g q in_it))) in
+    (cancelled_dues s middle core lanes lane p outcome.Cancelled g.ended.mid g.there (g.ended.first, b.good.run) g.ended.due has grant mine (λ q in_it granted. one_ticket s past core lanes begun lane k t g q in_it granted))) in
     let tied : SessionTied s now core (with_lane lanes lane x) dues = subst (λ (gs : List ℕ). SessionTied s now core (with_lane lanes lane x) gs) pushed
     (more_due_tied s now core (with_lane lanes lane x) before (before ++ p ∷ []) (λ q out. false_from_ne_true (is_in q before) (λ e. (let clash : true ≡ false = sym (in_more before p q e) ∙ out in absurd cc))) g.ended.tied) in
-    now_between s past core (after_poll core t.ticket) lanes begun lane k t (ended_lane (granted_lane v k t handle None v.site) v.site) g refl refl due
+    now_between s past core (after_poll core t.ticket) lanes begun lane v.site (ended_lane (granted_lane v k t handle None v.site) v.site) g.rest g.ended refl (transfers_left s past core lanes begun lane k t g) due
     (tied_twice s now (after_poll core t.ticket) lanes lane x (λ (z : LaneValue). granted_lane z k t handle None v.site) dues
     (granted_due_keeps s now core (with_lane lanes lane x) dues lane k t handle None v.site due tied g.there (ap (λ (z : LaneValue). slice_get z.tickets k) is_x ∙ g.here) came
     (subst (λ (gs : List ℕ). is_in p gs ≡ true) pushed (push_self before p))
@@ -312,10 +305,33 @@ poll_cancels s past core lanes begun lane k t handle g came =
     (subst (λ (z : LaneValue). LaneGoes s now lane None v.site (without k (ticket_places z.tickets))) (sym is_x) (goes_without s past core lanes begun lane k t g))))
     (counted_polled past core t.ticket (reply.Handle handle) came b.counted)
 
+-- ---- the tickets are kept
+
+keep_cancels : (s : Setting) (past : List Entry) (core : Core) (lanes : ℕ → LaneValue) (begun : List ℕ) (lane : ℕ) (site : Site) → AtRest s past core lanes begun → lane < length s.lanes → own_place (lanes lane).running ≡ None
+    → Ended s past core lanes begun lane site → Cancels s past core lanes begun lane (ended_lane (lanes lane) site)
+keep_cancels s past core lanes begun lane site h there none e =
+    let middle : List Entry = entry.Event (Cancel lane) ∷ past in
+    let now : List Entry = cancelled_past past lane in
+    let v : LaneValue = lanes lane in
+    let b = h.between in
+    let transfers : (p : ℕ) → is_in p (ticket_places v.tickets) ≡ true → IsTransferAt past p = λ p has. other_transfers past lane p v (b.asks lane there) (none_own v.running p none) has in
+    let due : Dues s now (loose_of site (grant_places v.grants)) = subst (λ (z : Site). Dues s now (loose_of z (grant_places v.grants))) (sym e.goes.runs.1)
+    (ended_dues s middle core lanes lane outcome.Cancelled e.mid there (e.first, b.good.run) e.due (λ p has. transfer_ungranted s past p b.good.run (transfers p has))) in
+    now_between s past core core lanes begun lane site (ended_lane v site) h e refl transfers due e.tied b.counted
+
+-- ---- each way
+
 pub cancels_keep : CancelsKeepSessions
 cancels_keep s past core new lanes begun lane c now h there is any leaves (Dropped d) =
-    subst (λ (x : Core). Cancels s past x lanes begun lane now) (sym d.left) (subst (λ (v : LaneValue). Cancels s past (abandoned core d.ticket.ticket) lanes begun lane v) (sym d.lane)
-    (drop_cancels s past core lanes begun lane d.k d.ticket (record { rest = h; there = there; here = d.here; ended = both_entries s past core lanes begun lane c h there is any leaves }) d.ungranted))
+    let v : LaneValue = lanes lane in
+    let ends : Ended s past core lanes begun lane v.site = same_entries s past core lanes begun lane c h there is any (λ r running. leaves r running ∙ ap (λ (x : LaneValue). x.site) d.lane) in
+    subst (λ (x : Core). Cancels s past x lanes begun lane now) (sym d.left) (subst (λ (x : LaneValue). Cancels s past (abandoned core d.ticket.ticket) lanes begun lane x) (sym d.lane)
+    (drop_cancels s past core lanes begun lane d.k d.ticket (record { rest = h; there = there; here = d.here; own = d.own; ended = ends }) d.ungranted))
 cancels_keep s past core new lanes begun lane c now h there is any leaves (Polled d) =
-    subst (λ (x : Core). Cancels s past x lanes begun lane now) (sym d.left) (subst (λ (v : LaneValue). Cancels s past (after_poll core d.ticket.ticket) lanes begun lane v) (sym d.lane)
-    (poll_cancels s past core lanes begun lane d.k d.ticket d.handle (record { rest = h; there = there; here = d.here; ended = both_entries s past core lanes begun lane c h there is any leaves }) d.came))
+    let v : LaneValue = lanes lane in
+    let ends : Ended s past core lanes begun lane v.site = same_entries s past core lanes begun lane c h there is any (λ r running. leaves r running ∙ ap (λ (x : LaneValue). x.site) d.lane) in
+    subst (λ (x : Core). Cancels s past x lanes begun lane now) (sym d.left) (subst (λ (x : LaneValue). Cancels s past (after_poll core d.ticket.ticket) lanes begun lane x) (sym d.lane)
+    (poll_cancels s past core lanes begun lane d.k d.ticket d.handle (record { rest = h; there = there; here = d.here; own = d.own; ended = ends }) d.came))
+cancels_keep s past core new lanes begun lane c now h there is any leaves (Kept d) =
+    subst (λ (x : Core). Cancels s past x lanes begun lane now) (sym d.left) (subst (λ (x : LaneValue). Cancels s past core lanes begun lane x) (sym d.lane)
+    (keep_cancels s past core lanes begun lane now.site h there d.none (both_entries s past core lanes begun lane c now.site h there is any leaves d.fewer (d.stays s.facts))))

@@ -1,5 +1,5 @@
 -- The grant of a lane that is due next is closed.
-use Rattle.std.proofs.Common.{◌≡◌, ◌≢◌, ◌<◌, ◌^◌, ◌==◌, ℕ, true, List, ◌∷◌, Option, Some, ap, sym, ◌∙◌, subst}
+use Rattle.std.proofs.Common.{◌≡◌, ◌≢◌, ◌<◌, ◌≤◌, ◌^◌, ◌==◌, ℕ, true, List, ◌∷◌, Option, Some, ap, sym, ◌∙◌, subst}
 use Rattle.std.specs.Prelude.{length, slice_get, is_some}
 use Rattle.std.specs.List.{list_any}
 use Rattle.sftp_model.specs.declared.request.Request.{Request}
@@ -7,12 +7,11 @@ use Rattle.sftp_model.specs.declared.reply.Reply.{Reply}
 use Rattle.sftp_core.specs.Core.{Core, at}
 use Rattle.sftp_core.specs.declared.place.Place.TheVariants.{Granted}
 use Rattle.sftp_calls.specs.Moves.{handle_of}
-use Rattle.sftp_plan.specs.Pending.{own_place}
+use Rattle.sftp_plan.specs.Pending.{pends}
 use Rattle.sftp_history.specs.declared.event.Event.TheVariants.{Submit}
 use Rattle.sftp_history.specs.declared.entry.Entry.{Entry}
-use Rattle.sftp_history.specs.Readings.{Asked, asked, asked_at}
 use Rattle.sftp_history.specs.Calls.{Setting}
-use Rattle.sftp_history.specs.Grants.{is_asked_by, orphan}
+use Rattle.sftp_history.specs.Grants.{orphan}
 use Rattle.sftp_history.specs.Journals.{IsJournal, IsNext, MustClose, close_of}
 use Rattle.sftp_history.specs.Steady.{Good}
 use Rattle.sftp_history.proofs.CallLaws.{due_next}
@@ -21,18 +20,18 @@ use Rattle.sftp_history.proofs.RequestLaws.{asked_other}
 use Rattle.sftp_history.proofs.RunLaws.{good_plain}
 use Rattle.sftp_ties.specs.Changes.{closed_lane, with_lane}
 use Rattle.sftp_ties.specs.Dues.{Dues}
-use Rattle.sftp_ties.specs.Lanes.{Held, LaneTied, LaneValue, SessionTied, grant_places}
+use Rattle.sftp_ties.specs.Lanes.{Held, LaneTied, LaneValue, SessionTied, grant_places, ticket_places, tickets_for}
 use Rattle.sftp_ties.specs.Places.{is_in, without}
 use Rattle.sftp_ties.proofs.CloseLaws.{grant_index, grant_state, grant_without, out_more}
 use Rattle.sftp_ties.proofs.DueLaws.{dues_close, none_next, orphan_first}
 use Rattle.sftp_ties.proofs.FilledLaws.{handles_agree}
 use Rattle.sftp_ties.proofs.LaneLaws.{grants_count}
-use Rattle.sftp_ties.proofs.OrderLaws.{asked_below}
 use Rattle.sftp_ties.proofs.PlaceLaws.{without_other}
 use Rattle.sftp_ties.proofs.SessionLaws.{each_with}
 use Rattle.sftp_ties.proofs.TurnLaws.{closed_keeps}
 use Rattle.sftp_steps.specs.Rest.{Counted, LaneAsks, opened_in, weigh}
 use Rattle.sftp_steps.specs.Ends.{DueGrantsAreClosed, NoneDueIsRest, close_entry, let_go}
+use Rattle.sftp_steps.proofs.AskedLaws.{asks_on}
 use Rattle.sftp_steps.proofs.CountedLaws.{counted_let_go, weigh_let_go}
 use Rattle.sftp_model.specs.declared.request.Request.TheVariants as request
 use Rattle.sftp_history.specs.declared.event.Owner.TheVariants as owner
@@ -40,23 +39,14 @@ use Rattle.sftp_history.specs.declared.entry.Entry.TheVariants as entry
 
 -- ---- what a lane awaits
 
--- what a lane's call awaits was asked for
-own_below : (past : List Entry) (w p : ℕ) (v : LaneValue) → LaneAsks past w v → own_place v.running ≡ Some p → p < asked past
-own_below past w p v a is = asked_below past p w v.ended (a.current p is)
-
 -- behind a CLOSE of the session a lane awaits what it awaited, where it has the grant still that its call opened
-asks_close : (past : List Entry) (id : ℕ) (r : Request) (w : ℕ) (v : LaneValue) (left : List Held) → LaneAsks past w v → ((h : ℕ) → opened_in v.running ≡ Some h → is_in h (grant_places left) ≡ true)
+asks_close : (past : List Entry) (id : ℕ) (r : Request) (w : ℕ) (v : LaneValue) (left : List Held) → ((q : ℕ) → pends q v.running v.site ≤ tickets_for (ticket_places v.tickets) q) → LaneAsks past w v
+    → ((h : ℕ) → opened_in v.running ≡ Some h → is_in h (grant_places left) ≡ true)
     → LaneAsks (entry.Event (Submit owner.Close id r) ∷ past) w (record { running = v.running; site = v.site; tickets = v.tickets; grants = left; ended = v.ended })
-asks_close past id r w v left a keeps =
+asks_close past id r w v left awaits a keeps =
     let now : List Entry = entry.Event (Submit owner.Close id r) ∷ past in
-    let same : (p : ℕ) → own_place v.running ≡ Some p → asked_at now p ≡ asked_at past p = λ p is. asked_other past owner.Close id p r (own_below past w p v a is) in
-    record {
-      current = λ p is. ap (λ (x : Option Asked). is_asked_by x w v.ended) (same p is) ∙ a.current p is;
-      own = a.own;
-      only = a.only;
-      keeps = keeps;
-      fits = λ p b y is there may. a.fits p b y is (sym (same p is) ∙ there) may;
-    }
+    let on : LaneAsks now w v = asks_on past now w v (λ p below. asked_other past owner.Close id p r below) awaits a in
+    record { current = on.current; only = on.only; keeps = keeps; fits = on.fits }
 
 -- ---- the CLOSE
 
@@ -102,9 +92,9 @@ closing s past core lanes dues begun lane k g good tied counted asks begins due 
       good = good_plain s past begun e good next tt;
       counted = counted_let_go past core g.grant here counted;
       asks = each_with (λ w x. LaneAsks (e ∷ past) w x) lanes lane (closed_lane v k) (length s.lanes)
-          (asks_close past g.grant.id (request.Close g.grant.handle) lane v (without k v.grants) (asks lane there)
+          (asks_close past g.grant.id (request.Close g.grant.handle) lane v (without k v.grants) l.goes.awaits (asks lane there)
           (λ h is. ap (is_in h) left ∙ (without_other gs k g.place h at_k (λ same. apart (is ∙ ap (λ (n : ℕ). Some n) same)) ∙ (asks lane there).keeps h is)))
-          (λ w lt ne. asks_close past g.grant.id (request.Close g.grant.handle) w (lanes w) (lanes w).grants (asks w lt) (asks w lt).keeps);
+          (λ w lt ne. asks_close past g.grant.id (request.Close g.grant.handle) w (lanes w) (lanes w).grants (tied.each w lt).goes.awaits (asks w lt) (asks w lt).keeps);
       begins = each_with (λ w x. list_any (λ l. l == w) begun ≡ true → is_some x.running ≡ true) lanes lane (closed_lane v k) (length s.lanes) (begins lane there) (λ w lt ne. begins w lt);
       work = weigh_let_go core g.grant here;
     }

@@ -1,6 +1,6 @@
 -- How the counts of a core change with each step, and what is left to do.
 use Rattle.std.specs.Prelude.{◌⊎◌}
-use Rattle.std.proofs.Common.{◌≡◌, ◌<◌, ◌≤◌, ◌+◌, ◌*◌, ℕ, Bool, true, false, List, ◌∷◌, Option, Some, None, refl, ap, sym, ◌∙◌, subst, arith, if◌then◌else◌, inl, inr}
+use Rattle.std.proofs.Common.{◌≡◌, ◌≢◌, ◌<◌, ◌≤◌, ◌+◌, ◌*◌, ℕ, Bool, true, false, List, ◌∷◌, Option, Some, None, refl, ap, sym, ◌∙◌, subst, arith, if◌then◌else◌, inl, inr}
 use Rattle.sftp_model.specs.declared.answers.Expected.{Expected}
 use Rattle.sftp_model.specs.declared.answers.Expected.TheVariants as expected
 use Rattle.sftp_model.specs.declared.error.Fault.{Fault}
@@ -11,7 +11,7 @@ use Rattle.sftp_model.specs.declared.request.Request.TheVariants as request
 use Rattle.sftp_model.specs.Answers.{allows, expected_of}
 use Rattle.sftp_core.specs.declared.place.Place.{Place}
 use Rattle.sftp_core.specs.declared.place.Place.TheVariants.{Waiting, Answered, Granted}
-use Rattle.sftp_core.specs.Core.{Core, abandon_leaves, abandoned, after_poll, at, dropped, given_leaves, handed_out, poll_leaves, queued_last, release_leaves, released, reply_in, users_of}
+use Rattle.sftp_core.specs.Core.{Core, abandon_leaves, abandoned, after_poll, at, dropped, given_leaves, handed_out, is_ticket, poll_leaves, queued_last, release_leaves, released, reply_in, users_of}
 use Rattle.sftp_core.specs.Grant.{GrantValue}
 use Rattle.sftp_core.specs.Table.{IsAllowed, all_sent, asks_handle, brings, is_owing, is_sent, is_waiting, tally}
 use Rattle.sftp_core.specs.Take.{answered, take_leaves}
@@ -153,6 +153,39 @@ counted_abandon_plain past old t e r here none c =
     let waits = count-remove is_waiting old.table t (Answered e r) here in
     let sends = count-remove is_sent old.table t (Answered e r) here in
     subst (λ (x : Core). Counted past x) (sym (ap (abandon_leaves old t) here ∙ ap (dropped old t) none)) (record { waiting = omega (arith, waits) ∙ c.waiting; sent = omega (arith, sends) ∙ c.sent })
+
+-- and what is left is as much as before at the most
+weigh_abandon_plain : (old : Core) (t : ℕ) (e : Expected) (r : Reply) → at old t ≡ Some (Answered e r) → brings r ≡ None → weigh (abandoned old t) ≤ weigh old
+weigh_abandon_plain old t e r here none =
+    let waits = count-remove is_waiting old.table t (Answered e r) here in
+    let owes = count-remove is_owing old.table t (Answered e r) here in
+    let less : weigh (dropped old t None) ≤ weigh old = omega (arith, waits, owes) in
+    subst (λ (x : Core). weigh x ≤ weigh old) (sym (ap (abandon_leaves old t) here ∙ ap (dropped old t) none)) less
+
+-- a reply that is no HANDLE brings none
+plain_brings : (old : Core) (t : ℕ) (e : Expected) (r : Reply) → ((handle : List ℕ) → reply_in (at old t) ≢ Some (reply.Handle handle)) → at old t ≡ Some (Answered e r) → brings r ≡ None
+plain_brings old t e (reply.Handle handle) ungranted is = absurd (ungranted handle (ap reply_in is))
+plain_brings old t e other ungranted is = refl
+
+-- a ticket without a HANDLE is dropped, and no count changes
+pub counted_drop : (past : List Entry) (old : Core) (t : ℕ) → is_ticket (at old t) ≡ true → ((handle : List ℕ) → reply_in (at old t) ≢ Some (reply.Handle handle)) → Counted past old → Counted past (abandoned old t)
+counted_drop past old t ticket ungranted c = by_place (at old t) refl
+  where
+    by_place : (p : Option Place) → at old t ≡ p → Counted past (abandoned old t)
+    by_place None is = absurd (let clash : false ≡ true = sym (ap is_ticket is) ∙ ticket in cc)
+    by_place (Some (Waiting e was_sent wanted)) is = counted_abandon_waiting past old t e was_sent wanted is c
+    by_place (Some (Answered e r)) is = counted_abandon_plain past old t e r is (plain_brings old t e r ungranted is) c
+    by_place (Some (Granted handle users)) is = absurd (let clash : false ≡ true = sym (ap is_ticket is) ∙ ticket in cc)
+
+-- and nothing is added to what is left
+pub weigh_drop : (old : Core) (t : ℕ) → is_ticket (at old t) ≡ true → ((handle : List ℕ) → reply_in (at old t) ≢ Some (reply.Handle handle)) → weigh (abandoned old t) ≤ weigh old
+weigh_drop old t ticket ungranted = by_place (at old t) refl
+  where
+    by_place : (p : Option Place) → at old t ≡ p → weigh (abandoned old t) ≤ weigh old
+    by_place None is = absurd (let clash : false ≡ true = sym (ap is_ticket is) ∙ ticket in cc)
+    by_place (Some (Waiting e was_sent wanted)) is = (let same : weigh (abandoned old t) ≡ weigh old = weigh_abandon_waiting old t e was_sent wanted is in omega (arith, same))
+    by_place (Some (Answered e r)) is = weigh_abandon_plain old t e r is (plain_brings old t e r ungranted is)
+    by_place (Some (Granted handle users)) is = absurd (let clash : false ≡ true = sym (ap is_ticket is) ∙ ticket in cc)
 
 -- a kept reply with a handle is dropped, and the CLOSE of the handle counts on both sides
 pub counted_abandon_handle : (past : List Entry) (old : Core) (t : ℕ) (e : Expected) (r : Reply) (h : List ℕ) → at old t ≡ Some (Answered e r) → brings r ≡ Some h → Counted past old

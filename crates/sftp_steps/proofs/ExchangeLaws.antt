@@ -55,7 +55,7 @@ sends_keep s past core lanes begun h some =
           due = due;
           tied = sent_keeps s past core lanes [] b.tied;
           counted = counted_send past core b.counted;
-          asks = λ lane lt. asks_on past (e ∷ past) lane (lanes lane) (λ p below. refl) (b.asks lane lt);
+          asks = λ lane lt. asks_on past (e ∷ past) lane (lanes lane) (λ p below. refl) (b.tied.each lane lt).goes.awaits (b.asks lane lt);
           begins = b.begins;
         };
         settled = none_next s (e ∷ past) refl due;
@@ -120,8 +120,10 @@ replies_keep s past core lanes begun id r h x how =
     let may : MayTake past id r = may_take s past w id r x.kind x.wanted b.good.run b.good.ready p x.allowed in
     let next : IsNext s past e = may_next s past e b.good.calm h.settled (may, b.good.unkept) in
     let wanted : is_handle r ≡ true → w p.place ≡ true = λ brought. elim how [ inl is ↦ sym p.wanted_is ∙ is | inr none ↦ absurd (plain_handle r brought none) ] in
+    let there : asked_at past p.place ≡ Some p.asked = (subst (Reads past id) p.state (reads past id)).3 in
+    let allowed : may_answer p.asked.request r ≡ true = ap (λ y. allows y r) (sym p.kind_is) ∙ x.allowed in
     let due : Dues s (e ∷ past) [] =
-    taken_dues s past id p.place p.asked true r p.state (λ brought. wanted_held s past core lanes [] p.place b.good.run b.tied b.asks (wanted brought)) b.due in
+    taken_dues s past id p.place p.asked true r p.state (λ brought. wanted_held s past core lanes [] p.place p.asked r b.good.run b.tied b.asks there allowed brought (wanted brought)) b.due in
     record {
       may = may;
       next = next;
@@ -132,7 +134,7 @@ replies_keep s past core lanes begun id r h x how =
           due = due;
           tied = taken_keeps s past core lanes id p.place p.asked true r b.tied b.good.run p.state wanted;
           counted = counted_take past core id r x.kind x.wanted x.here may how b.counted;
-          asks = λ lane lt. asks_on past (e ∷ past) lane (lanes lane) (λ q below. refl) (b.asks lane lt);
+          asks = λ lane lt. asks_on past (e ∷ past) lane (lanes lane) (λ q below. refl) (b.tied.each lane lt).goes.awaits (b.asks lane lt);
           begins = b.begins;
         };
         settled = none_next s (e ∷ past) refl due;
@@ -178,7 +180,7 @@ unwanted_closed s past core lanes begun id handle h x unwanted =
           tied = subst (λ (y : Entry). SessionTied s (y ∷ mid) (take_leaves core id r (at core id)) lanes []) (sym close_is)
               (unwanted_keeps s past core lanes id p.place p.asked true handle b.tied run p.state none_wants orphan_is);
           counted = counted_take_drop past core id r x.kind handle here may refl b.counted;
-          asks = λ lane lt. asks_on past now lane (lanes lane) (λ q below. asked_other mid owner.Close id q (request.Close handle) below) (b.asks lane lt);
+          asks = λ lane lt. asks_on past now lane (lanes lane) (λ q below. asked_other mid owner.Close id q (request.Close handle) below) (b.tied.each lane lt).goes.awaits (b.asks lane lt);
           begins = b.begins;
         };
         settled = none_next s now refl due;

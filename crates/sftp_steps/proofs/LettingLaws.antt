@@ -11,7 +11,7 @@ use Rattle.sftp_plan.specs.declared.next.Running.{Running}
 use Rattle.sftp_plan.specs.Pending.{own_place}
 use Rattle.sftp_history.specs.declared.entry.Entry.{Entry}
 use Rattle.sftp_history.specs.Calls.{Setting, current, held_site, site_of}
-use Rattle.sftp_history.specs.Grants.{closed, holds, is_one_of, is_unended_asker, orphan}
+use Rattle.sftp_history.specs.Grants.{closed, holds, is_grant, is_one_of, is_unended_asker, orphan}
 use Rattle.sftp_history.specs.Journals.{IsJournal, IsNext, close_of}
 use Rattle.sftp_history.specs.Steady.{Good}
 use Rattle.sftp_history.specs.Turns.{ClosesTo}
@@ -33,7 +33,9 @@ use Rattle.sftp_ties.proofs.ReplyLaws.{let_go_closed_keeps, let_go_keeps}
 use Rattle.sftp_ties.proofs.SessionLaws.{each_with}
 use Rattle.sftp_steps.specs.Rest.{LaneAsks, opened_in}
 use Rattle.sftp_steps.specs.Ends.{LettingGoBegins, LettingGoEnds, SlotsAreClosed, SlotsArePassed, let_go}
+use Rattle.sftp_steps.proofs.AskedLaws.{asks_on, granted_own, idle_asks, idle_transfers, none_own}
 use Rattle.sftp_steps.proofs.CloseLaws.{Closing, closing}
+use Rattle.sftp_steps.proofs.TransferLaws.{transfer_on}
 use Rattle.sftp_history.specs.declared.entry.Entry.TheVariants as entry
 
 -- ---- a lane without a call
@@ -55,7 +57,7 @@ calls_stay s before (e ∷ past) lane (inr (due, rest)) = ap (λ (x : Entry). cu
 this_lane : (lanes : ℕ → LaneValue) (lane : ℕ) (v : LaneValue) → with_lane lanes lane v lane ≡ v
 this_lane lanes lane v = rw (eq-eqb lane lane refl) refl
 
--- a grant of its slots that it has no more has its CLOSE: it awaits no reply
+-- a grant of its slots that it has no more has its CLOSE: no reply that it awaits brings a handle
 slot_gone : (s : Setting) (past : List Entry) (lane g : ℕ) (v : LaneValue) → IsJournal s past → LaneTied s past lane v [] → current s past lane ≡ None → LaneAsks past lane v → has_grant v.site g ≡ true → is_in g (grant_places v.grants) ≡ false
     → is_one_of (closed s past) g ≡ true
 slot_gone s past lane g v j l none a has out = by_test (is_one_of (closed s past) g) refl
@@ -72,8 +74,9 @@ slot_gone s past lane g v j l none a has out = by_test (is_one_of (closed s past
     by_test : (b : Bool) → is_one_of (closed s past) g ≡ b → b ≡ true
     by_test true is = refl
     by_test false is =
-        absurd (let ticket : is_in g (ticket_places v.tickets) ≡ true = l.holds.whole g (slots_owned s past lane g j in_site).0 is holder out in
-        let clash : ◌≡◌ {A = Option ℕ} None (Some g) = ap own_place (sym bare.0) ∙ a.only g ticket in cc)
+        absurd (let granted : is_grant past g ≡ true = (slots_owned s past lane g j in_site).0 in
+        let ticket : is_in g (ticket_places v.tickets) ≡ true = l.holds.whole g granted is holder out in
+        none_own v.running g (ap own_place bare.0) (granted_own s past lane g v j a ticket granted))
 
 -- ---- all its slots are left
 
@@ -97,14 +100,8 @@ letting_begins s past core lanes begun lane r there over unlet =
         tied = subst (λ (x : LaneValue). SessionTied s now core (with_lane lanes lane (let_go_lane v)) (grant_places x.grants)) (sym (this_lane lanes lane (let_go_lane v))) both.0;
         counted = record { waiting = b.counted.waiting; sent = b.counted.sent };
         asks = each_with (λ w x. LaneAsks now w x) lanes lane (let_go_lane v) (length s.lanes)
-            (record {
-              current = λ p is. absurd cc;
-              own = λ x is. absurd cc;
-              only = λ p is. ap own_place (sym bare.0) ∙ a.only p is;
-              keeps = λ g is. absurd cc;
-              fits = λ p x y is at_place may. tt;
-            })
-            (λ w lt ne. let o : LaneAsks past w (lanes w) = b.asks w lt in record { current = o.current; own = o.own; only = o.only; keeps = o.keeps; fits = o.fits });
+            (idle_asks now lane (let_go_lane v) refl (λ p has. transfer_on past now p (λ q below. refl) (idle_transfers past lane p v bare.0 a has)))
+            (λ w lt ne. asks_on past now w (lanes w) (λ p below. refl) (b.tied.each w lt).goes.awaits (b.asks w lt));
         begins = each_with (λ w x. list_any (λ n. n == w) begun ≡ true → is_some x.running ≡ true) lanes lane (let_go_lane v) (length s.lanes)
             (λ any. ap (λ (x : Option Running). is_some x) (sym bare.0) ∙ b.begins lane there any) (λ w lt ne. b.begins w lt);
         gone = λ g has out. slot_gone s past lane g v b.good.run l over a has (ap (λ (x : LaneValue). is_in g (grant_places x.grants)) (sym (this_lane lanes lane (let_go_lane v))) ∙ out);

@@ -4,4 +4,6 @@ pub mod CancelLaws
 pub mod CloseLaws
 pub mod CountedLaws
 pub mod ExchangeLaws
+pub mod ForgetLaws
 pub mod LettingLaws
+pub mod TransferLaws

@@ -1,15 +1,18 @@
 -- Calls are cancelled and end, grants that are due are closed, and lanes are let go.
-use Rattle.std.specs.Prelude.{◌≡◌, ◌≢◌, ◌⊎◌, ◌<◌, ◌^◌, ◌==◌, ℕ, true, false, List, [], ◌∷◌, length, Some, None, slice_get, is_some}
+use Rattle.std.specs.Prelude.{◌≡◌, ◌≢◌, ◌⊎◌, ◌<◌, ◌≤◌, ◌^◌, ◌==◌, ℕ, true, false, List, [], ◌∷◌, length, Some, None, slice_get, is_some}
 use Rattle.std.specs.List.{list_any}
 use Rattle.sftp_model.specs.Slots.{grant_of, slot_has}
 use Rattle.sftp_model.specs.declared.request.Request.TheVariants as request
 use Rattle.sftp_model.specs.declared.reply.Reply.TheVariants as reply
 use Rattle.sftp_model.specs.declared.slot.Site.{Site}
+use Rattle.sftp_model.specs.declared.slot.Facts.{Facts}
 use Rattle.sftp_model.specs.declared.slot.Slot.{Slot}
 use Rattle.sftp_core.specs.Core.{Core, abandoned, after_poll, at, released, reply_in}
 use Rattle.sftp_core.specs.Grant.{GrantValue}
 use Rattle.sftp_plan.specs.declared.next.Running.{Running}
 use Rattle.sftp_plan.specs.Cancelling.{left_behind}
+use Rattle.sftp_plan.specs.Pending.{Fewer, own_place, slots_times}
+use Rattle.sftp_plan.specs.Sound.{Keeps as Stays}
 use Rattle.sftp_plan.specs.Machines.{bytes_of}
 use Rattle.sftp_history.specs.declared.call.Call.{Call}
 use Rattle.sftp_history.specs.declared.event.Event.TheVariants.{Cancel, Submit}
@@ -68,11 +71,12 @@ pub record Cancels (s : Setting) (past : List Entry) (core : Core) (lanes : ℕ 
   pub second : IsNext s (entry.Event (Cancel lane) ∷ past) (cancelled_end (entry.Event (Cancel lane) ∷ past) lane)
   pub between : Between s (cancelled_past past lane) core (with_lane lanes lane v) (begun_but begun lane) (loose_of v.site (grant_places v.grants))
 
--- the ticket that the call awaited is dropped: its reply is missing, or brings no handle
+-- the ticket of the call's own request is dropped: its reply is missing, or brings no handle
 pub record Drops (core new : Core) (v now : LaneValue) : Type 0 where
   pub k : ℕ
   pub ticket : Ticketed
   pub here : slice_get v.tickets k ≡ Some ticket
+  pub own : own_place v.running ≡ Some ticket.place
   pub ungranted : (handle : List ℕ) → reply_in (at core ticket.ticket) ≢ Some (reply.Handle handle)
   pub left : new ≡ abandoned core ticket.ticket
   pub lane : now ≡ ended_lane (spent_lane v k None v.site) v.site
@@ -83,23 +87,45 @@ pub record Polls (core new : Core) (v now : LaneValue) : Type 0 where
   pub ticket : Ticketed
   pub handle : List ℕ
   pub here : slice_get v.tickets k ≡ Some ticket
+  pub own : own_place v.running ≡ Some ticket.place
   pub came : reply_in (at core ticket.ticket) ≡ Some (reply.Handle handle)
   pub left : new ≡ after_poll core ticket.ticket
   pub lane : now ≡ ended_lane (granted_lane v k ticket handle None v.site) v.site
+
+-- the call awaited no reply to a request of its own: all tickets stay, and the slots await no more than before
+pub record Keeps (core new : Core) (v now : LaneValue) : Type 0 where
+  pub none : own_place v.running ≡ None
+  pub left : new ≡ core
+  pub lane : now ≡ ended_lane v now.site
+  pub fewer : Fewer v.site now.site
+  pub stays : (facts : Facts) → Stays facts v.site now.site
 
 -- A lane gives up what its call awaits.
 pub data GivesUp (core new : Core) (v now : LaneValue) : Type 0 where
   Dropped : Drops core new v now → GivesUp core new v now
   Polled : Polls core new v now → GivesUp core new v now
+  Kept : Keeps core new v now → GivesUp core new v now
 
--- what the lane's call leaves that is cancelled from here is what its slots have
-abbrev pub LeavesSite : List Entry → Setting → Call → LaneValue → Type 0
-LeavesSite past s c v = (r : Running) → v.running ≡ Some r → left_behind r (bytes_of (planned c)) v.site s.facts [] (answer past) ≡ v.site
+-- what the lane's call leaves that is cancelled from here is what its slots have then
+abbrev pub LeavesSite : List Entry → Setting → Call → LaneValue → LaneValue → Type 0
+LeavesSite past s c v now = (r : Running) → v.running ≡ Some r → left_behind r (bytes_of (planned c)) v.site s.facts [] (answer past) ≡ now.site
 
 -- A begun call is cancelled.
 abbrev pub CancelsKeepSessions : Type 0
 CancelsKeepSessions = (s : Setting) (past : List Entry) (core new : Core) (lanes : ℕ → LaneValue) (begun : List ℕ) (lane : ℕ) (c : Call) (now : LaneValue) → AtRest s past core lanes begun → lane < length s.lanes → current s past lane ≡ Some c
-    → list_any (λ l. l == lane) begun ≡ true → LeavesSite past s c (lanes lane) → GivesUp core new (lanes lane) now → Cancels s past new lanes begun lane now
+    → list_any (λ l. l == lane) begun ≡ true → LeavesSite past s c (lanes lane) now → GivesUp core new (lanes lane) now → Cancels s past new lanes begun lane now
+
+-- ---- tickets that nothing awaits
+
+-- what a dropped ticket makes of a session at rest
+pub record Forgets (s : Setting) (past : List Entry) (core : Core) (lanes : ℕ → LaneValue) (begun : List ℕ) (lane k : ℕ) (t : Ticketed) : Type 0 where
+  pub rest : AtRest s past (abandoned core t.ticket) (with_lane lanes lane (spent_lane (lanes lane) k None (lanes lane).site)) begun
+  pub work : weigh (abandoned core t.ticket) ≤ weigh core
+
+-- A lane that runs no call drops a ticket that no slot awaits.
+abbrev pub UnawaitedAreForgotten : Type 0
+UnawaitedAreForgotten = (s : Setting) (past : List Entry) (core : Core) (lanes : ℕ → LaneValue) (begun : List ℕ) (lane k : ℕ) (t : Ticketed) → AtRest s past core lanes begun → lane < length s.lanes → (lanes lane).running ≡ None
+    → slice_get (lanes lane).tickets k ≡ Some t → slots_times t.place (lanes lane).site.slots ≡ 0 → Forgets s past core lanes begun lane k t
 
 -- ---- a lane is let go
 

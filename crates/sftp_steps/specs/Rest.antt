@@ -1,12 +1,16 @@
 -- A session of lanes between two entries of its journal, and at rest.
-use Rattle.std.specs.Prelude.{◌≡◌, ◌<◌, ◌+◌, ◌*◌, ◌==◌, ℕ, true, List, [], Option, Some, None, length, is_some}
+use Rattle.std.specs.Prelude.{◌≡◌, ◌⊎◌, ◌<◌, ◌+◌, ◌*◌, ◌==◌, ℕ, Bool, true, false, List, [], Option, Some, None, length, is_some}
 use Rattle.std.specs.List.{list_any}
 use Rattle.sftp_model.specs.declared.reply.Reply.{Reply}
+use Rattle.sftp_model.specs.declared.request.Request.{Request}
+use Rattle.sftp_model.specs.declared.request.Request.TheVariants as request
+use Rattle.sftp_model.specs.declared.slot.Site.{Site}
 use Rattle.sftp_model.specs.Answers.{may_answer}
 use Rattle.sftp_core.specs.Core.{Core}
 use Rattle.sftp_core.specs.Table.{count, is_owing, is_sent, is_waiting}
 use Rattle.sftp_plan.specs.declared.next.Running.{Running}
 use Rattle.sftp_plan.specs.Asking.{opened_by}
+use Rattle.sftp_plan.specs.Machines.{awaited as awaited_by}
 use Rattle.sftp_plan.specs.Pending.{own_place}
 use Rattle.sftp_plan.specs.Sound.{Fits}
 use Rattle.sftp_history.specs.declared.entry.Entry.{Entry}
@@ -41,13 +45,29 @@ abbrev pub RunFits : Option Running → Reply → Type 0
 RunFits None y = Unit {0}
 RunFits (Some r) y = Fits r (Some y)
 
--- A lane's call awaits the reply to its own last request, and the lane has no other ticket.
+-- the reply that a lane goes on with
+abbrev pub awaited_in : Option Running → Site → Option ℕ
+awaited_in None site = None
+awaited_in (Some r) site = awaited_by r site
+
+-- a READ or a WRITE, whose reply brings no handle
+abbrev pub is_transfer : Request → Bool
+is_transfer (request.Read handle offset len) = true
+is_transfer (request.Write handle offset content) = true
+is_transfer other = false
+
+-- such a request stands at the place
+pub record IsTransferAt (past : List Entry) (p : ℕ) : Type 0 where
+  pub asked : Asked
+  pub here : asked_at past p ≡ Some asked
+  pub transfers : is_transfer asked.request ≡ true
+
+-- What a lane awaits: its call the reply to its own last request, and its slots the replies to READs and WRITEs.
 pub record LaneAsks (past : List Entry) (lane : ℕ) (v : LaneValue) : Type 0 where
   pub current : (p : ℕ) → own_place v.running ≡ Some p → is_asked_by (asked_at past p) lane v.ended ≡ true
-  pub own : (r : Running) → v.running ≡ Some r → is_some (own_place (Some r)) ≡ true
-  pub only : (p : ℕ) → is_in p (ticket_places v.tickets) ≡ true → own_place v.running ≡ Some p
+  pub only : (p : ℕ) → is_in p (ticket_places v.tickets) ≡ true → (own_place v.running ≡ Some p) ⊎ IsTransferAt past p
   pub keeps : (g : ℕ) → opened_in v.running ≡ Some g → is_in g (grant_places v.grants) ≡ true
-  pub fits : (p : ℕ) (a : Asked) (y : Reply) → own_place v.running ≡ Some p → asked_at past p ≡ Some a → may_answer a.request y ≡ true → RunFits v.running y
+  pub fits : (p : ℕ) (a : Asked) (y : Reply) → awaited_in v.running v.site ≡ Some p → asked_at past p ≡ Some a → may_answer a.request y ≡ true → RunFits v.running y
 
 -- ---- the session
 

@@ -1,5 +1,5 @@
 // Laws of a session's steps. The functions do nothing: what they ensure holds of all values.
-ghost use Rattle.sftp_steps.specs.Ends.{CancelsKeepSessions, DueGrantsAreClosed, LettingGoBegins, LettingGoEnds, NoneDueIsRest, SlotsAreClosed, SlotsArePassed};
+ghost use Rattle.sftp_steps.specs.Ends.{CancelsKeepSessions, DueGrantsAreClosed, LettingGoBegins, LettingGoEnds, NoneDueIsRest, SlotsAreClosed, SlotsArePassed, UnawaitedAreForgotten};
 ghost use Rattle.sftp_steps.specs.Exchanges.{RepliesKeepRest, SendsKeepRest, UnwantedHandlesAreClosed};
 
 /// What was queued is sent, a reply is taken, and a HANDLE that no lane wants is closed at once: the session is at rest
@@ -29,4 +29,9 @@ pub fn letting_go_brings_rest()
     ensures passed { SlotsArePassed }
     ensures closed { SlotsAreClosed }
     ensures ends { LettingGoEnds }
+{}
+
+/// A ticket that no slot awaits is dropped where its lane runs no call, and the session is at rest as before.
+pub fn unawaited_are_forgotten()
+    ensures { UnawaitedAreForgotten }
 {}

@@ -7,4 +7,5 @@ mod laws;
 
 pub use laws::{
     cancels_keep_sessions, closes_bring_rest, exchanges_keep_rest, letting_go_brings_rest,
+    unawaited_are_forgotten,
 };

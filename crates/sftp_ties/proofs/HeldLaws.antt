@@ -5,9 +5,11 @@ use Rattle.sftp_model.specs.declared.slot.Slot.{Slot}
 use Rattle.sftp_model.specs.declared.slot.Slot.TheVariants.{Empty, File, Buffered}
 use Rattle.sftp_model.specs.Slots.{grant_of, slot_at, with_slot, has_grant}
 use Rattle.sftp_model.specs.declared.slot.Site.{Site}
-use Rattle.sftp_calls.specs.Moves.{left_on_buffered, left_on_file, Answers, Own}
+use Rattle.sftp_model.specs.declared.slot.FileAt.{FileAt}
+use Rattle.sftp_model.specs.declared.slot.Buffer.{Buffer}
+use Rattle.sftp_calls.specs.Moves.{further, left_on_buffered, left_on_file, Answers, Own}
 use Rattle.sftp_calls.specs.TransferPlans.{cancelled_transfer, last_offset}
-use Rattle.sftp_calls.specs.BufferPlans.{after_writes, cancelled_buf_flush, cancelled_buf_write, unflushed, with_deferred}
+use Rattle.sftp_calls.specs.BufferPlans.{after_write, after_writes, cancelled_buf_flush, cancelled_buf_read, cancelled_buf_write, carried, freed, unflushed, with_deferred}
 use Rattle.sftp_calls.proofs.SlotLaws.{same_set}
 use Rattle.sftp_plan.specs.Cancelling.{left_kept, left_behind}
 use Rattle.sftp_plan.specs.declared.next.Running.{Running}
@@ -29,17 +31,14 @@ transfer_grants slot site facts own answers g = by_slot (slot_at site slot) refl
     by_slot (File file) at = same_set site slot file.grant (File (record file { offset = last_offset file.offset own })) (ap grant_of at) refl g
     by_slot (Buffered file buffer) at = refl
 
--- what a cancelled call leaves has the grants that it holds, whatever the call
-pub cancelled_grants : (c : Call) (site : Site) (facts : Facts) (own : Own) (answers : Answers) (g : ℕ) → has_grant (cancelled c site facts own answers) g ≡ has_grant (given_up c own site) g
-cancelled_grants (call.Close slot) site facts [] answers g = refl
-cancelled_grants (call.Close slot) site facts (asked ∷ later) answers g = refl
-cancelled_grants (call.ReadAll slot n) site facts own answers g = transfer_grants slot site facts own answers g
-cancelled_grants (call.WriteAll slot bytes) site facts own answers g = transfer_grants slot site facts own answers g
-cancelled_grants other site facts own answers g = refl
-
-kept_grants : (slot : Option ℕ) (site : Site) (facts : Facts) (own : Own) (answers : Answers) (g : ℕ) → has_grant (left_kept slot site facts own answers) g ≡ has_grant site g
-kept_grants None site facts own answers g = refl
-kept_grants (Some slot) site facts own answers g = transfer_grants slot site facts own answers g
+read_grants : (slot : ℕ) (site : Site) (facts : Facts) (own : Own) (answers : Answers) (g : ℕ) → has_grant (cancelled_buf_read slot site facts own answers) g ≡ has_grant site g
+read_grants slot site facts [] answers g = refl
+read_grants slot site facts (asked ∷ later) answers g = by_slot (slot_at site slot) refl
+  where
+    by_slot : (x : Slot) → slot_at site slot ≡ x → has_grant (left_on_buffered x site (λ file buffer. with_slot site slot (Buffered file (record buffer { reading = Some asked.0 })))) g ≡ has_grant site g
+    by_slot Empty at = refl
+    by_slot (File file) at = refl
+    by_slot (Buffered file buffer) at = same_set site slot file.grant (Buffered file (record buffer { reading = Some asked.0 })) (ap grant_of at) refl g
 
 flush_grants : (slot : ℕ) (site : Site) (facts : Facts) (own : Own) (answers : Answers) (g : ℕ) → has_grant (cancelled_buf_flush slot site facts own answers) g ≡ has_grant site g
 flush_grants slot site facts own answers g = by_slot (slot_at site slot) refl
@@ -49,22 +48,44 @@ flush_grants slot site facts own answers g = by_slot (slot_at site slot) refl
     by_slot (File file) at = refl
     by_slot (Buffered file buffer) at = same_set site slot file.grant (Buffered file (record buffer { deferred = unflushed answers buffer.deferred })) (ap grant_of at) refl g
 
-write_grants : (slot : ℕ) (site : Site) (facts : Facts) (answers : Answers) (g : ℕ) → has_grant (cancelled_buf_write slot site facts [] answers) g ≡ has_grant site g
-write_grants slot site facts answers g = by_slot (slot_at site slot) refl
+-- writes move the file of a slot, and leave its grant
+grant_stays : (facts : Facts) (file : FileAt) (buffer : Buffer) (own : Own) → grant_of (after_writes facts file buffer own) ≡ Some file.grant
+grant_stays facts file buffer [] = refl
+grant_stays facts file buffer (asked ∷ later) = grant_stays facts (further file (carried asked.1)) (after_write (freed facts buffer) asked.0 (carried asked.1)) later
+
+write_grants : (slot : ℕ) (site : Site) (facts : Facts) (own : Own) (answers : Answers) (g : ℕ) → has_grant (cancelled_buf_write slot site facts own answers) g ≡ has_grant site g
+write_grants slot site facts own answers g = by_slot (slot_at site slot) refl
   where
-    by_slot : (x : Slot) → slot_at site slot ≡ x → has_grant (left_on_buffered x site (λ file buffer. with_slot site slot (after_writes facts file buffer []))) g ≡ has_grant site g
+    by_slot : (x : Slot) → slot_at site slot ≡ x → has_grant (left_on_buffered x site (λ file buffer. with_slot site slot (after_writes facts file buffer own))) g ≡ has_grant site g
     by_slot Empty at = refl
     by_slot (File file) at = refl
-    by_slot (Buffered file buffer) at = same_set site slot file.grant (Buffered file buffer) (ap grant_of at) refl g
+    by_slot (Buffered file buffer) at = same_set site slot file.grant (after_writes facts file buffer own) (ap grant_of at) (grant_stays facts file buffer own) g
+
+-- what a cancelled call leaves has the grants that it holds, whatever the call
+pub cancelled_grants : (c : Call) (site : Site) (facts : Facts) (own : Own) (answers : Answers) (g : ℕ) → has_grant (cancelled c site facts own answers) g ≡ has_grant (given_up c own site) g
+cancelled_grants (call.Close slot) site facts [] answers g = refl
+cancelled_grants (call.Close slot) site facts (asked ∷ later) answers g = refl
+cancelled_grants (call.ReadAll slot n) site facts own answers g = transfer_grants slot site facts own answers g
+cancelled_grants (call.WriteAll slot bytes) site facts own answers g = transfer_grants slot site facts own answers g
+cancelled_grants (call.WriteParts slot parts) site facts own answers g = transfer_grants slot site facts own answers g
+cancelled_grants (call.BufRead slot n) site facts own answers g = read_grants slot site facts own answers g
+cancelled_grants (call.BufWrite slot bytes) site facts own answers g = write_grants slot site facts own answers g
+cancelled_grants (call.BufWriteAll slot bytes) site facts own answers g = write_grants slot site facts own answers g
+cancelled_grants (call.BufFlush slot) site facts own answers g = flush_grants slot site facts own answers g
+cancelled_grants other site facts own answers g = refl
+
+kept_grants : (slot : Option ℕ) (site : Site) (facts : Facts) (own : Own) (answers : Answers) (g : ℕ) → has_grant (left_kept slot site facts own answers) g ≡ has_grant site g
+kept_grants None site facts own answers g = refl
+kept_grants (Some slot) site facts own answers g = transfer_grants slot site facts own answers g
 
 -- and those of the machine's site
 pub left_grants : (r : Running) (bytes : List ℕ) (site : Site) (facts : Facts) (answers : Answers) (g : ℕ) → has_grant (left_behind r bytes site facts [] answers) g ≡ has_grant site g
 left_grants (running.Gathering place slot file got left len) bytes site facts answers g = transfer_grants slot site facts [] answers g
 left_grants (running.Writing place slot file done) bytes site facts answers g = kept_grants slot site facts [] answers g
 left_grants (running.Flushing slot) bytes site facts answers g = flush_grants slot site facts [] answers g
-left_grants (running.AwaitingRoom slot start) bytes site facts answers g = write_grants slot site facts answers g
-left_grants (running.Deferred slot count) bytes site facts answers g = write_grants slot site facts answers g
-left_grants (running.DeferringRest slot done) bytes site facts answers g = write_grants slot site facts answers g
+left_grants (running.AwaitingRoom slot start) bytes site facts answers g = write_grants slot site facts [] answers g
+left_grants (running.Deferred slot count) bytes site facts answers g = write_grants slot site facts [] answers g
+left_grants (running.DeferringRest slot done) bytes site facts answers g = write_grants slot site facts [] answers g
 left_grants (running.FillingBuffer slot n offset true) bytes site facts answers g = refl
 left_grants (running.FillingBuffer slot n offset false) bytes site facts answers g = refl
 left_grants other bytes site facts answers g = refl

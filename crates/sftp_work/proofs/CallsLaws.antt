@@ -6,6 +6,7 @@ use Rattle.std.proofs.lemmas.Bool.Decides.{nat_tests}
 use Rattle.std.proofs.lemmas.List.{append-nil}
 use Rattle.std.proofs.lemmas.List.Sums.{sum_by-cons}
 use Rattle.sftp_history.specs.declared.call.Call.{Call}
+use Rattle.sftp_history.specs.declared.call.Call.TheVariants as call
 use Rattle.sftp_history.specs.declared.call.Lane.{Lane}
 use Rattle.sftp_history.specs.declared.entry.Entry.{Entry}
 use Rattle.sftp_history.specs.Readings.{ended}
@@ -38,22 +39,28 @@ one_of a b rest all sum e = omega (arith, sum, e)
 more_of : (a rest b all : ℕ) → all ≡ b + rest → a ≤ rest → a ≤ all
 more_of a rest b all sum le = omega (arith, sum, le)
 
-two_more : (total n all : ℕ) → all ≡ 2 + total → total ≡ n + n → all ≡ suc n + suc n
-two_more total n all sum e = omega (arith, sum, e)
+two_more : (weighs total n all : ℕ) → all ≡ weighs + total → 2 ≤ weighs → n + n ≤ total → suc n + suc n ≤ all
+two_more weighs total n all sum two rest = omega (arith, sum, two, rest)
 
 sum_at : (lanes : List Lane) (k : ℕ) (lane : Lane) → slice_get lanes k ≡ Some lane → lane_weight lane ≤ sum_by lane_weight lanes
 sum_at [] k lane is = absurd cc
 sum_at (x ∷ lanes) zero lane is = let same : lane_weight x ≡ lane_weight lane = ap lane_weight (let e : x ≡ lane = cc in e) in one_of (lane_weight x) (lane_weight lane) (sum_by lane_weight lanes) _ (sum_by-cons lane_weight x lanes) same
 sum_at (x ∷ lanes) (suc k) lane is = more_of (lane_weight lane) (sum_by lane_weight lanes) (lane_weight x) _ (sum_by-cons lane_weight x lanes) (sum_at lanes k lane is)
 
-calls_weigh : (calls : List Call) → sum_by weight calls ≡ length calls + length calls
-calls_weigh [] = refl
-calls_weigh (c ∷ calls) = two_more (sum_by weight calls) (length calls) _ (sum_by-cons weight c calls) (calls_weigh calls)
+-- a call weighs two at least
+weighs_two : (c : Call) → 2 ≤ weight c
+weighs_two (call.BufWrite slot bytes) = omega arith
+weighs_two (call.BufWriteAll slot bytes) = omega arith
+weighs_two other = omega arith
+
+calls_weigh : (calls : List Call) → length calls + length calls ≤ sum_by weight calls
+calls_weigh [] = omega arith
+calls_weigh (c ∷ calls) = two_more (weight c) (sum_by weight calls) (length calls) _ (sum_by-cons weight c calls) (weighs_two c) (calls_weigh calls)
 
 below_limit : (n : ℕ) → nat_lt n (2 ^ 31) ≡ true → n < 2 ^ 31
 below_limit n e = grind (arith, nat_tests)
 
-few_calls : (total n all : ℕ) → all < 2 ^ 31 → 1 + total ≤ all → total ≡ n + n → n < 2 ^ 31
+few_calls : (total n all : ℕ) → all < 2 ^ 31 → 1 + total ≤ all → n + n ≤ total → n < 2 ^ 31
 few_calls total n all less part twice = omega (arith, less, part, twice)
 
 -- a lane has few calls

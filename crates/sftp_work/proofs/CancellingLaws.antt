@@ -7,7 +7,7 @@ use Rattle.std.proofs.lemmas.Option.{slice_get_within}
 use Rattle.sftp_core.specs.Core.{Core}
 use Rattle.sftp_plan.specs.declared.next.Running.{Running}
 use Rattle.sftp_plan.specs.Machines.{bytes_of}
-use Rattle.sftp_plan.proofs.OwnLaws.{own_leaves}
+use Rattle.sftp_plan.specs.Pending.{own_place, with_one}
 use Rattle.sftp_history.specs.declared.call.Call.{Call}
 use Rattle.sftp_history.specs.declared.call.Lane.{Lane}
 use Rattle.sftp_history.specs.Calls.{Setting, calls_of, current, planned}
@@ -15,17 +15,17 @@ use Rattle.sftp_history.specs.Readings.{answer, ended}
 use Rattle.sftp_history.specs.Turns.{begun_but}
 use Rattle.sftp_driver.proofs.Journals.{later_on, later_self}
 use Rattle.sftp_ties.specs.Dues.{loose_of}
-use Rattle.sftp_ties.specs.Lanes.{AtTied, LaneValue, MayGoOn, grant_places}
-use Rattle.sftp_steps.specs.Ends.{Cancels as IsCancelled, GivesUp, Dropped, LeavesSite, Polled, cancelled_past}
-use Rattle.sftp_steps.specs.Rest.{Between, LaneAsks}
+use Rattle.sftp_ties.specs.Lanes.{AtTied, LaneValue, grant_places}
+use Rattle.sftp_ties.proofs.LaneLaws.{replies_agree}
+use Rattle.sftp_steps.specs.Ends.{Cancels as IsCancelled, GivesUp, Dropped, Kept, LeavesSite, Polled, cancelled_past}
+use Rattle.sftp_steps.specs.Rest.{Between}
 use Rattle.sftp_steps.proofs.CancelLaws.{cancels_keep}
 use Rattle.sftp_work.specs.Closing.{Closing, IsClosed}
 use Rattle.sftp_work.specs.Working.{CancelsIn, Contents, Works, lane_in}
 use Rattle.sftp_work.proofs.CallsLaws.{calls_few, current_is}
 use Rattle.sftp_work.proofs.Contents.{lane_set, set_here, state_at}
 use Rattle.sftp_lane.specs.Tokens.{AreTickets}
-use Rattle.sftp_lane.specs.Turning.{HasAwaited}
-use Rattle.sftp_lane.proofs.Awaiting.{own_run}
+use Rattle.sftp_lane.specs.Turning.{HasAwaited, HasDeferred, IsSafeBy, LeavesBehind}
 use Rattle.sftp_lane.proofs.Turned.{lanes_may}
 
 -- ---- nothing is cancelled
@@ -75,18 +75,15 @@ current_begun s lane c w there runs = by_running (lane_in c.states lane).running
         (let goes = (w.rest.between.tied.each lane there).goes in
         let at = subst (λ (x : Option Running). AtTied s c.past lane x (lane_in c.states lane).site) is goes.runs in some_call (current s c.past lane) at.2)
 
--- what it leaves is what its slots have
-leaves_site : (s : Setting) (lane : ℕ) (c : Contents) (call : Call) → Works s c → lane < length s.lanes → current s c.past lane ≡ Some call → LeavesSite c.past s call (lane_in c.states lane)
-leaves_site s lane c call w there is r runs =
-    (let v : LaneValue = lane_in c.states lane in
-    let a : LaneAsks c.past lane v = w.rest.between.asks lane there in
-    let goes = (w.rest.between.tied.each lane there).goes in
-    let sound = subst (λ (x : Option Running). MayGoOn s c.past lane x v.site) runs goes.sound in
-    own_leaves r (bytes_of (planned call)) v.site s.facts (answer c.past) (own_run c.past lane v a r runs) (sound call is))
+-- what it leaves is what its slots have, since the core has the replies of the journal
+leaves_site : (s : Setting) (lane : ℕ) (c : Contents) (call : Call) (now : LaneValue) → Works s c → lane < length s.lanes → LeavesBehind c.core (lane_in c.states lane) now → LeavesSite c.past s call (lane_in c.states lane) now
+leaves_site s lane c call now w there behind r runs =
+    behind r (bytes_of (planned call)) s.facts (answer c.past) runs (λ k t here. replies_agree s c.past c.core (lane_in c.states) [] lane k t w.rest.between.tied there here)
 
 gives_idle : (core new : Core) (v now : LaneValue) → GivesUp core new v now → now.running ≡ None
 gives_idle core new v now (Dropped x) = ap (λ (y : LaneValue). y.running) x.lane
 gives_idle core new v now (Polled x) = ap (λ (y : LaneValue). y.running) x.lane
+gives_idle core new v now (Kept x) = ap (λ (y : LaneValue). y.running) x.lane
 
 -- the lanes once a call was cancelled, before its grants are closed
 abbrev pub cancelled_in : Contents → ℕ → Core → LaneValue → Contents
@@ -99,11 +96,11 @@ pub record Cancelling (s : Setting) (lane : ℕ) (c : Contents) (new : Core) (no
   pub cancelled : IsCancelled s c.past new (lane_in c.states) c.begun lane now
   pub closing : Closing s (cancelled_past c.past lane) lane (cancelled_in c lane new now)
 
-pub cancelling : (s : Setting) (lane : ℕ) (c : Contents) (new : Core) (now : LaneValue) → Works s c → lane < length s.lanes → list_any (λ l. l == lane) c.begun ≡ true → GivesUp c.core new (lane_in c.states lane) now → Cancelling s lane c new now
-cancelling s lane c new now w there begun gives =
+pub cancelling : (s : Setting) (lane : ℕ) (c : Contents) (new : Core) (now : LaneValue) → Works s c → lane < length s.lanes → list_any (λ l. l == lane) c.begun ≡ true → GivesUp c.core new (lane_in c.states lane) now → LeavesBehind c.core (lane_in c.states lane) now → Cancelling s lane c new now
+cancelling s lane c new now w there begun gives behind =
     let call = current_begun s lane c w there (runs_begun s lane c w there begun) in
     let lt : lane < length c.states = (let count = w.stands.count in omega (arith, there, count)) in
-    let x = cancels_keep s c.past c.core new (lane_in c.states) c.begun lane call.0 now w.rest there call.1 begun (leaves_site s lane c call.0 w there call.1) gives in
+    let x = cancels_keep s c.past c.core new (lane_in c.states) c.begun lane call.0 now w.rest there call.1 begun (leaves_site s lane c call.0 now w there behind) gives in
     let here : lane_in (slice_set c.states lane now) lane ≡ now = set_here c.states lane now lt in
     record {
       call = call.0;
@@ -142,7 +139,9 @@ there_of s c lane w lt = (let count = w.stands.count in omega (arith, lt, count)
 
 -- what is given up of the lane at hand
 pub record MayCancel (core : Core) (v : LaneValue) : Type 0 where
+  pub safe : IsSafeBy v.running v.site
   pub awaits : HasAwaited v
+  pub deferred : HasDeferred v.site v.tickets
   pub counted : AreTickets core v.tickets
   pub few : v.ended < 2 ^ 31
 
@@ -152,8 +151,18 @@ may_cancel s lane c v w lt begun value =
     let call = current_begun s lane c w there (runs_begun s lane c w there begun) in
     let goes = lanes_may s c.past c.core (lane_in c.states) [] lane call.0 w.rest.between.tied there call.1 in
     let number = ends_few s c lane call.0 w there call.1 in
-    subst (λ (y : LaneValue). MayCancel c.core y) (sym (state_at c.states lane v lt value)) (record { awaits = goes.awaits; counted = goes.counted; few = number }))
+    subst (λ (y : LaneValue). MayCancel c.core y) (sym (state_at c.states lane v lt value)) (record {
+      safe = (call.0, (s.facts, goes.safe));
+      awaits = goes.awaits;
+      deferred = λ q. deferred_by (own_place (lane_in c.states lane).running) q _ _ ((w.rest.between.tied.each lane there).goes.awaits q);
+      counted = goes.counted;
+      few = number;
+    }))
   where
+    deferred_by : (own : Option ℕ) (q times most : ℕ) → with_one own q times ≤ most → times ≤ most
+    deferred_by None q times most le = le
+    deferred_by (Some p) q times most le = omega (arith, le)
+
     lane_at : (o : Option Lane) (n : ℕ) (call : Call) → slice_get (calls_of o) n ≡ Some call → (l : Lane) × (o ≡ Some l)
     lane_at None n call e = absurd cc
     lane_at (Some l) n call e = (l, refl)

@@ -20,7 +20,7 @@ use Rattle.sftp_steps.proofs.LettingLaws.{letting_begins, letting_ends, slots_cl
 use Rattle.sftp_work.specs.Closing.{closed_in}
 use Rattle.sftp_work.specs.Letting.{IsLetGo, Letting}
 use Rattle.sftp_work.specs.Working.{Contents, LetsGoIn, Works, lane_in}
-use Rattle.sftp_work.proofs.Contents.{lane_set}
+use Rattle.sftp_work.proofs.Contents.{lane_set, set_here}
 
 -- ---- slot by slot
 
@@ -30,7 +30,7 @@ letting_there s before lane c rest h = (let there = h.there in let count = h.sta
 -- a slot is passed
 pub letting_passes : (s : Setting) (before : List Entry) (lane : ℕ) (c : Contents) (slot : Slot) (rest : List Slot) → Letting s before lane c (slot ∷ rest) → StaysOpen (lane_in c.states lane).grants slot rest → Letting s before lane c rest
 letting_passes s before lane c slot rest h stays =
-    record { stands = h.stands; there = h.there; going = slots_passed s c.past c.core (lane_in c.states) c.begun lane slot rest h.going stays; closes = h.closes; later = h.later }
+    record { stands = h.stands; there = h.there; idle = h.idle; going = slots_passed s c.past c.core (lane_in c.states) c.begun lane slot rest h.going stays; closes = h.closes; later = h.later }
 
 -- or its grant is closed
 pub letting_closes : (s : Setting) (before : List Entry) (lane k : ℕ) (c : Contents) (g : Held) (slot : Slot) (rest : List Slot) → Letting s before lane c (slot ∷ rest) → grant_of slot ≡ Some g.place → list_any (slot_has g.place) rest ≡ false
@@ -50,6 +50,7 @@ letting_closes s before lane k c g slot rest h grant none here small =
         unadded = h.stands.unadded;
       };
       there = h.there;
+      idle = ap (λ (y : LaneValue). y.running) (set_here c.states lane (closed_lane v k) lt) ∙ h.idle;
       going = subst (λ (f : ℕ → LaneValue). LettingGo s (close_entry g.grant ∷ c.past) (let_go c.core g.grant) f c.begun lane rest) (sym (lane_set c.states lane (closed_lane v k) lt)) x.letting;
       closes = inr ((g.place, (x.due, x.must)), h.closes);
       later = inr (x.next, h.later);
@@ -73,6 +74,7 @@ letting_starts s lane c w there none held =
     record {
       stands = record { calls = w.stands.calls; ok = w.stands.ok; facts = w.stands.facts; fit = w.stands.fit; asked = w.stands.asked; count = length-set c.states lane (let_go_lane v) ∙ w.stands.count; unadded = w.stands.unadded };
       there = there;
+      idle = ap (λ (y : LaneValue). y.running) (set_here c.states lane (let_go_lane v) lt);
       going = subst (λ (f : ℕ → LaneValue). LettingGo s (entry.LetGo lane ∷ c.past) c.core f c.begun lane v.site.slots) (sym (lane_set c.states lane (let_go_lane v) lt)) x.1;
       closes = inl refl;
       later = inl refl;

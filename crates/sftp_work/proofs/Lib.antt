@@ -15,3 +15,4 @@ pub mod NotingLaws
 pub mod Refusals
 pub mod Remaining
 pub mod TurningLaws
+pub mod UnnotedLaws

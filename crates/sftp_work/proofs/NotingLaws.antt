@@ -29,16 +29,16 @@ use Rattle.sftp_ties.specs.Dues.{loose_of}
 use Rattle.sftp_ties.specs.Lanes.{LaneValue, grant_places}
 use Rattle.sftp_ties.specs.Running.{own_request}
 use Rattle.sftp_steps.specs.Rest.{AtRest, Between, weigh}
-use Rattle.sftp_lane.specs.Rests.{Asked, Ended, Waits}
+use Rattle.sftp_lane.specs.Rests.{Asked, Ended, Goes, Waits}
 use Rattle.sftp_lane.specs.declared.lane.Moved.{Moved}
 use Rattle.sftp_lane.specs.declared.lane.Moved.TheVariants as moved
 use Rattle.sftp_lane.proofs.Holding.{with_again}
 use Rattle.sftp_work.specs.Closing.{Closing, IsClosed}
-use Rattle.sftp_work.specs.Noting.{Turning, asked_in, call_by, call_in, ended_in, turned_in}
-use Rattle.sftp_work.specs.Working.{Contents, Stands, StepsIn, Works, lane_in, lanes_left, stage_in}
+use Rattle.sftp_work.specs.Noting.{HasCall, Turning, asked_in, call_by, call_in, ended_in, turned_in}
+use Rattle.sftp_work.specs.Working.{Contents, Stands, StepsIn, Unnoted, Works, lane_in, lanes_left, stage_in}
 use Rattle.sftp_work.proofs.CallsLaws.{calls_few, current_is}
 use Rattle.sftp_work.proofs.ClosingLaws.{counted_in}
-use Rattle.sftp_work.proofs.Contents.{lane_set, set_here}
+use Rattle.sftp_work.proofs.Contents.{get_set, lane_set, set_here}
 use Rattle.sftp_work.proofs.Remaining.{asked_left, asks_within, ended_left}
 
 -- ---- the lane of a turn
@@ -185,9 +185,33 @@ ended_step s lane o old c new t closed =
       waits = λ e some. absurd cc;
     }
 
--- a turn that went on to another reply is none here
-pub never_went : (s : Setting) (lane : ℕ) (old c : Contents) → Turning s lane old c moved.Went → ⊥
-never_went s lane old c t = t.leaves
+-- ---- a turn without an entry
+
+-- it leaves the session at rest as it was
+pub went_unnoted : (s : Setting) (lane : ℕ) (old c : Contents) → Turning s lane old c moved.Went → Unnoted s old c
+went_unnoted s lane old c t =
+    let lt : lane < length old.states = within_states old lane t.call (at_call old lane t.call t.calls) in
+    let x : Goes s old.past old.core t.new (with_lane (lane_in old.states) lane t.now) old.begun = t.leaves in
+    subst (λ (y : Contents). Unnoted s old y) (sym t.is) (record {
+      works = record {
+        stands = record { calls = t.works.stands.calls; ok = t.works.stands.ok; facts = t.works.stands.facts; fit = t.works.stands.fit; asked = t.works.stands.asked; count = turned_stands s old lane t.now t.works.stands; unadded = t.works.stands.unadded };
+        rest = subst (λ (f : ℕ → LaneValue). AtRest s old.past t.new f old.begun) (sym (lane_set old.states lane t.now lt)) x.rest;
+      };
+      same = refl;
+      work = x.work;
+    })
+
+-- behind a turn the lane has the call that it had
+turning_call : (s : Setting) (lane : ℕ) (old c : Contents) (m : Moved) → (t : Turning s lane old c m) → call_in c.calls c.states lane ≡ Some t.call
+turning_call s lane old c m t =
+    (let a = at_call old lane t.call t.calls in
+    let lt : lane < length old.states = within_states old lane t.call a in
+    let number : t.now.ended ≡ a.state.ended = t.same ∙ ap (λ (v : LaneValue). v.ended) (state_is old lane t.call a) in
+    ap (λ (x : Contents). call_in x.calls x.states lane) t.is ∙ ap (λ (o : Option Lane). call_by o (slice_get (slice_set old.states lane t.now) lane)) a.lane_is
+    ∙ ap (call_by (Some a.calls)) (get_set old.states lane t.now lt) ∙ ap (slice_get a.calls.calls) number ∙ a.call_is)
+
+pub has_call : (s : Setting) (lane : ℕ) (old c : Contents) (m : Moved) → Turning s lane old c m → HasCall c lane
+has_call s lane old c m t none = (let clash : ◌≡◌ {A = Option Call} None (Some t.call) = sym none ∙ turning_call s lane old c m t in cc)
 
 -- ---- what a call of the code asks for
 

@@ -1,6 +1,6 @@
 -- A lane of a session at rest may have its turn, and what it was is to be noted.
-use Rattle.std.proofs.Common.{◌≡◌, ◌≤◌, ◌+◌, ℕ, true, List, [], ◌∷◌, Option, Some, refl, ap, sym, subst, arith}
-use Rattle.std.specs.Prelude.{length, slice_get, slice_index_or}
+use Rattle.std.proofs.Common.{◌≡◌, ◌<◌, ◌≤◌, ◌+◌, ℕ, Bool, true, false, if◌then◌else◌, List, [], ◌∷◌, Option, Some, refl, ap, sym, subst, arith}
+use Rattle.std.specs.Prelude.{Result, Ok, Err, IfOk, is_some, length, slice_get, slice_index_or}
 use Rattle.std.proofs.lemmas.List.{length-append}
 use Rattle.std.proofs.lemmas.Option.{slice_get_within}
 use Rattle.sftp_model.specs.declared.reply.Reply.{Reply}
@@ -15,19 +15,21 @@ use Rattle.sftp_plan.specs.declared.next.Running.{Running}
 use Rattle.sftp_history.specs.declared.call.Call.{Call}
 use Rattle.sftp_history.specs.Calls.{Setting}
 use Rattle.sftp_history.specs.Lanes.{is_within}
-use Rattle.sftp_history.specs.Readings.{asked, ended}
+use Rattle.sftp_history.specs.Readings.{asked}
 use Rattle.sftp_ties.specs.Lanes.{Held, LaneValue, Ticketed}
 use Rattle.sftp_ties.specs.Places.{without}
-use Rattle.sftp_lane.specs.Rests.{AwaitsOwn, IsSmall}
+use Rattle.sftp_lane.specs.Rests.{AwaitsReplies, IsSmall}
 use Rattle.sftp_lane.specs.Holding.{MayGoOn}
 use Rattle.sftp_lane.specs.Tokens.{AreGrants, AreTickets, grants_with}
-use Rattle.sftp_lane.specs.Turning.{AllFit, Asks, HasAwaited, HoldsNamed, IsOpen, IsOwnRun, IsSafe, Settles, Turned, Begun, Replied, Unreplied, Waiting}
+use Rattle.sftp_lane.specs.Turning.{AllFit, Asks, HasAwaited, HoldsNamed, IsOpen, IsSafe, Settles, Turned, Begun, Replied, Unreplied, Waiting}
 use Rattle.sftp_lane.specs.declared.lane.Moved.{Moved}
 use Rattle.sftp_lane.specs.declared.lane.Moved.TheVariants as moved
 use Rattle.sftp_lane.proofs.Awaiting.{lanes_await}
 use Rattle.sftp_lane.proofs.Rests.{turns_leave}
 use Rattle.sftp_lane.proofs.Turned.{lanes_may}
-use Rattle.sftp_work.specs.Noting.{Turning, call_in, turned_in}
+use Rattle.sftp_lane.proofs.WentLaws.{went_few}
+use Rattle.sftp_steps.specs.Rest.{awaited_in}
+use Rattle.sftp_work.specs.Noting.{Turning, call_in, is_went, turned_in, turns_left}
 use Rattle.sftp_work.specs.Working.{Contents, Works, lane_in}
 use Rattle.sftp_work.proofs.CallsLaws.{call_within}
 use Rattle.sftp_work.proofs.ClosingLaws.{fewer_grants}
@@ -78,7 +80,7 @@ turned_grants c facts place core new v now m (Waiting x) = (let same : length no
 pub record MayTurn (s : Setting) (c : Contents) (lane : ℕ) (call : Call) : Type 0 where
   pub call_within : is_within call ≡ true
   pub goes : MayGoOn call s.facts c.core (lane_in c.states lane)
-  pub own : AwaitsOwn c.core (lane_in c.states lane)
+  pub replies : AwaitsReplies c.core (lane_in c.states lane)
 
 pub may_turn : (s : Setting) (c : Contents) (lane : ℕ) (call : Call) → Works s c → AtCall c lane call → MayTurn s c lane call
 may_turn s c lane call w a =
@@ -87,7 +89,7 @@ may_turn s c lane call w a =
     record {
       call_within = call_within c.calls lane a.state.ended a.calls call w.stands.ok a.lane_is a.call_is;
       goes = lanes_may s c.past c.core (lane_in c.states) [] lane call w.rest.between.tied there is;
-      own = lanes_await s c.past c.core (lane_in c.states) c.begun lane call w.rest there is;
+      replies = lanes_await s c.past c.core (lane_in c.states) c.begun lane call w.rest there is;
     })
 
 -- ---- the turn that is to be noted
@@ -123,7 +125,6 @@ pub record MayHave (call : Call) (facts : Facts) (core : Core) (v : LaneValue) :
   pub safe : IsSafe call facts v.running v.site
   pub fits : AllFit core v.tickets v.running v.site
   pub awaits : HasAwaited v
-  pub own : IsOwnRun v.running
   pub holds : HoldsNamed v
 
 pub may_have : (s : Setting) (c : Contents) (lane : ℕ) (call : Call) (v : LaneValue) → Works s c → call_in c.calls c.states lane ≡ Some call → v ≡ slice_index_or c.states lane v → MayHave call c.facts c.core v
@@ -136,8 +137,39 @@ may_have s c lane call v w some value =
       held = m.goes.held;
       ready = m.goes.ready;
       safe = subst (λ (f : Facts). IsSafe call f (lane_in c.states lane).running (lane_in c.states lane).site) (sym w.stands.facts) m.goes.safe;
-      fits = m.own.fits;
+      fits = m.replies.fits;
       awaits = m.goes.awaits;
-      own = m.own.own;
-      holds = m.own.holds;
+      holds = m.replies.holds;
     }))
+
+-- ---- what a turn of the code was
+
+-- the lane that the code had is that of the list
+pub turned_ok : {E : Type 0} (c : Call) (facts : Facts) (place : ℕ) (core new : Core) (v now u : LaneValue) (r : Result Moved E) → v ≡ u → IfOk r (λ m. Turned c facts place core new v now m) → IfOk r (λ m. Turned c facts place core new u now m)
+turned_ok c facts place core new v now u (Ok m) is t = subst (λ (y : LaneValue). Turned c facts place core new y now m) is t
+turned_ok c facts place core new v now u (Err e) is t = tt
+
+-- unless it was refused it is to be noted
+pub turning_ok : {E : Type 0} (s : Setting) (c : Contents) (lane : ℕ) (call : Call) (new : Core) (now : LaneValue) (r : Result Moved E) → Works s c → call_in c.calls c.states lane ≡ Some call
+    → IfOk r (λ m. Turned call c.facts c.asked c.core new (lane_in c.states lane) now m) → IfOk r IsSmall → IfOk r (Turning s lane c (turned_in c lane new now))
+turning_ok s c lane call new now (Ok m) w calls t small = turning s c lane call new now m w calls t small
+turning_ok s c lane call new now (Err e) w calls t small = tt
+
+pub is_moved_went : (m : Moved) → is_went m ≡ true → m ≡ moved.Went
+is_moved_went moved.Went e = refl
+is_moved_went moved.Waits e = absurd cc
+is_moved_went (moved.Asked id r) e = absurd cc
+is_moved_went (moved.Ended o) e = absurd cc
+
+fewer_by : (now was : ℕ) (b : Bool) → now ≤ was → (b ≡ true → now < was) → now + 0 < was + (if b then 0 else 1)
+fewer_by now was true le less = (let lt = less refl in omega (arith, lt))
+fewer_by now was false le less = omega (arith, le)
+
+-- a turn without an entry leaves fewer of them
+went_fewer : (c : Call) (facts : Facts) (place : ℕ) (core new : Core) (v now : LaneValue) → Turned c facts place core new v now moved.Went → turns_left now < turns_left v
+went_fewer c facts place core new v now t =
+    let few = went_few c facts place core new v now t in
+    subst (λ (b : Bool). length now.tickets + (if b then 0 else 1) < turns_left v) (sym few.0) (fewer_by (length now.tickets) (length v.tickets) (is_some (awaited_in v.running v.site)) few.1 few.2)
+
+pub turned_fewer : (c : Call) (facts : Facts) (place : ℕ) (core new : Core) (v now : LaneValue) (m : Moved) → Turned c facts place core new v now m → is_went m ≡ true → turns_left now < turns_left v
+turned_fewer c facts place core new v now m t went = went_fewer c facts place core new v now (subst (λ (x : Moved). Turned c facts place core new v now x) (is_moved_went m went) t)

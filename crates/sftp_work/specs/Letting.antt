@@ -15,6 +15,7 @@ use Rattle.sftp_work.specs.Working.{Contents, IsWorking, Stands, Works, contents
 pub record Letting (s : Setting) (before : List Entry) (lane : ℕ) (c : Contents) (rest : List Slot) : Type 0 where
   pub stands : Stands s c
   pub there : lane < length s.lanes
+  pub idle : (lane_in c.states lane).running ≡ None
   pub going : LettingGo s c.past c.core (lane_in c.states) c.begun lane rest
   pub closes : ClosesTo s before c.past
   pub later : IsLater s before c.past

@@ -1,5 +1,5 @@
 -- What is noted of a lane's turn.
-use Rattle.std.specs.Prelude.{◌≡◌, ◌<◌, ◌+◌, ℕ, List, ◌∷◌, length, Option, Some, None, slice_get, slice_set}
+use Rattle.std.specs.Prelude.{◌≡◌, ◌≢◌, ◌<◌, ◌+◌, ℕ, Bool, true, false, if◌then◌else◌, List, ◌∷◌, length, Option, Some, None, is_some, slice_get, slice_set}
 use Rattle.sftp_core.specs.Core.{Core}
 use Rattle.sftp_history.specs.declared.call.Call.{Call}
 use Rattle.sftp_history.specs.declared.call.Lane.{Lane}
@@ -13,8 +13,10 @@ use Rattle.sftp_model.specs.declared.request.Request.{Request}
 use Rattle.sftp_driver.specs.declared.session.Stepped.{Stepped}
 use Rattle.sftp_ties.specs.Changes.{ended_lane}
 use Rattle.sftp_ties.specs.Lanes.{LaneValue}
+use Rattle.sftp_steps.specs.Rest.{awaited_in}
 use Rattle.sftp_lane.specs.Rests.{IsSmall, Leaves}
 use Rattle.sftp_lane.specs.declared.lane.Moved.{Moved}
+use Rattle.sftp_lane.specs.declared.lane.Moved.TheVariants as moved
 use Rattle.sftp_work.specs.declared.lanes.Lanes.{Lanes}
 use Rattle.sftp_work.specs.Working.{Contents, StepsIn, Works, contents_of, lane_in}
 
@@ -64,8 +66,21 @@ pub record Turning (s : Setting) (lane : ℕ) (old c : Contents) (m : Moved) : T
   pub same : now.ended ≡ (lane_in old.states lane).ended
   pub leaves : Leaves s old.past old.core new (lane_in old.states) old.begun lane now m
 
+-- whether it went on without an entry
+abbrev pub is_went : Moved → Bool
+is_went moved.Went = true
+is_went other = false
+
 abbrev pub IsTurning : ℕ → Lanes → Moved → Type 0
 IsTurning lane w m = (s : Setting) × ((old : Contents) × Turning s lane old (contents_of w) m)
+
+-- the lane has a call
+abbrev pub HasCall : Contents → ℕ → Type 0
+HasCall c lane = call_in c.calls c.states lane ≢ None
+
+-- how many turns without an entry the lane may still have: each spends a ticket, but the first that awaits a reply
+abbrev pub turns_left : LaneValue → ℕ
+turns_left v = length v.tickets + (if is_some (awaited_in v.running v.site) then 0 else 1)
 
 -- behind its note it is a step
 abbrev pub Noted : Setting → ℕ → Contents → Contents → Contents → Moved → Stepped → Type 0

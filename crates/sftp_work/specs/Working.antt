@@ -1,5 +1,5 @@
 -- The lanes of an open session, and what each call does to them.
-use Rattle.std.specs.Prelude.{◌≡◌, ◌≢◌, ◌<◌, ◌+◌, ◌*◌, ◌-◌, ℕ, suc, Bool, true, false, reverse, List, [], ◌∷◌, drop, length, Option, None, Result, slice_index_or}
+use Rattle.std.specs.Prelude.{◌≡◌, ◌≢◌, ◌<◌, ◌≤◌, ◌+◌, ◌*◌, ◌-◌, ℕ, suc, Bool, true, false, reverse, List, [], ◌∷◌, drop, length, Option, None, Result, slice_index_or}
 use Rattle.sftp_model.specs.declared.frame_error.FrameError.{FrameError}
 use Rattle.sftp_model.specs.declared.reply.Reply.{Reply}
 use Rattle.sftp_model.specs.declared.slot.Facts.{Facts}
@@ -94,6 +94,12 @@ IsWorking s w = Works s (contents_of w)
 -- they are those of some session
 abbrev pub IsOpened : Lanes → Type 0
 IsOpened w = (s : Setting) × IsWorking s w
+
+-- Nothing was noted: core and lanes are others, and the session is at rest as before.
+pub record Unnoted (s : Setting) (old new : Contents) : Type 0 where
+  pub works : Works s new
+  pub same : new ≡ record old { core = new.core; states = new.states }
+  pub work : weigh new.core ≤ weigh old.core
 
 -- ---- calls
 

@@ -78,7 +78,8 @@ impl Lanes {
         self.asked += 1;
     }
 
-    /// Closes each grant of a lane that no slot has, the one of the least place first.
+    /// Closes each grant of a lane that no slot has, the one of the least place first, and drops each ticket that no
+    /// slot awaits.
     pub(crate) fn close_loose(&mut self, lane: u32)
         requires closing { IsClosing lane self.old }
         requires room { vec_len self.old.journal + length (lane_in self.old.states.items lane).grants < vec_capacity self.old.journal }
@@ -88,5 +89,6 @@ impl Lanes {
         while let Some(k) = self.states[lane as usize].loose() {
             self.close(lane, k);
         }
+        self.forget_unawaited(lane);
     }
 }

@@ -17,7 +17,8 @@ use ssh_encoding::OutOfMemory;
 use std::alloc::Global;
 
 impl Lanes {
-    /// Closes the grants of slots that a lane had, one slot after another: each whose grant no later slot has.
+    /// Closes the grants of slots that a lane had, one slot after another: each whose grant no later slot has. Tickets
+    /// that no slot awaits any more are dropped then.
     fn close_slots(&mut self, lane: u32, slots: &[Slot])
         requires letting { IsLetting lane self.old slots.now }
         requires room { vec_len self.old.journal + length (lane_in self.old.states.items lane).grants < vec_capacity self.old.journal }
@@ -27,7 +28,10 @@ impl Lanes {
         let mut rest = slots;
         loop {
             match rest {
-                [] => return,
+                [] => {
+                    self.forget_unawaited(lane);
+                    return;
+                }
                 [slot, later @ ..] => {
                     if let Some(k) = self.states[lane as usize].closing(slot, later) {
                         self.close(lane, k);

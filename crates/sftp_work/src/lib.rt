@@ -6,6 +6,7 @@
 mod cancelling;
 mod closing;
 mod counts;
+mod forgetting;
 mod keeping;
 mod lanes;
 mod letting;

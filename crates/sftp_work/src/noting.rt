@@ -1,9 +1,9 @@
 // What is noted of a lane's turn.
-ghost use Rattle.std.specs.Prelude.{◌≡◌, ◌<◌, ◌≤◌, ◌+◌, ◌^◌, ◌∷◌, ◌++◌, [], length, slice_get, vec_len, vec_capacity};
+ghost use Rattle.std.specs.Prelude.{◌≡◌, ◌<◌, ◌≤◌, ◌+◌, ◌^◌, ◌∷◌, ◌++◌, [], false, length, slice_get, vec_len, vec_capacity};
 ghost use Rattle.std.specs.Option.{option_copied};
 ghost use Rattle.sftp_history.specs.Calls.{Setting};
 ghost use Rattle.sftp_history.specs.Turns.{begun_but, begun_with};
-ghost use Rattle.sftp_work.specs.Noting.{IsTurning, Noted, asked_in, call_in, ended_in};
+ghost use Rattle.sftp_work.specs.Noting.{IsTurning, Noted, asked_in, call_in, ended_in, is_went};
 ghost use Rattle.sftp_work.specs.Working.{Contents, contents_of, lane_in};
 
 use crate::closing::add_entry;
@@ -118,6 +118,7 @@ impl Lanes {
     /// What a lane's turn was is noted, and the grants are closed that are due then.
     pub(crate) fn note(&mut self, lane: u32, call: u32, moved: Moved) -> Stepped
         requires turning { IsTurning lane self.old moved }
+        requires ends { is_went moved ≡ false }
         requires number { (lane_in self.old.states.items lane).ended ≡ call }
         requires journal { vec_len self.old.journal + length (lane_in self.old.states.items lane).grants + 1 < vec_capacity self.old.journal }
         requires begun { vec_len self.old.begun < vec_capacity self.old.begun }

@@ -1,12 +1,15 @@
 // One step of a lane.
-ghost use Rattle.std.specs.Prelude.{◌≡◌, ◌+◌, IfOk, OnErr};
+ghost use Rattle.std.specs.Prelude.{◌≡◌, ◌<◌, ◌+◌, ◌^◌, true, length, vec_len, vec_capacity, IfOk, OnErr};
 ghost use Rattle.sftp_history.specs.Calls.{Setting};
+ghost use Rattle.sftp_lane.specs.declared.lane.Moved.{Moved as MovedValue};
+ghost use Rattle.sftp_work.specs.Noting.{HasCall, Turning, is_went, turns_left};
 ghost use Rattle.sftp_work.specs.SoFar.{HasRoom, IsLeft};
-ghost use Rattle.sftp_work.specs.Working.{IsOpened, IsWorking, Steps};
+ghost use Rattle.sftp_work.specs.Working.{IsOpened, IsWorking, Steps, contents_of, lane_in};
 
 use crate::lanes::Lanes;
 use crate::noting::current_call;
 use sftp_driver::Stepped;
+use sftp_lane::Moved;
 use ssh_encoding::OutOfMemory;
 use std::alloc::Global;
 
@@ -17,8 +20,39 @@ pub(crate) fn entries_for(grants: usize) -> Result<usize, OutOfMemory>
     grants.checked_add(4).ok_or(OutOfMemory)
 }
 
+/// Whether a turn went on to another reply, and left nothing to note.
+fn is_went(moved: &Moved) -> bool
+    ensures { result ≡ is_went moved.now }
+{
+    match moved {
+        Moved::Went => true,
+        _ => false,
+    }
+}
+
 impl Lanes {
-    /// One step of a lane. Refused for want of memory.
+    /// One turn of a lane that has a call. Refused for want of memory.
+    fn turn(&mut self, alloc: Global, lane: u32) -> Result<Moved, OutOfMemory>
+        requires opened { IsOpened self.old }
+        requires call { HasCall (contents_of self.old) lane }
+        requires room { HasRoom self.old }
+        ensures turned { (s : Setting) → IsWorking s self.old → IfOk result (Turning s lane (contents_of self.old) (contents_of self.new)) }
+        ensures number { IfOk result (λ m. (lane_in self.new.states.items lane).ended ≡ (lane_in self.old.states.items lane).ended) }
+        ensures fewer { IfOk result (λ m. is_went m ≡ true → turns_left (lane_in self.new.states.items lane) < turns_left (lane_in self.old.states.items lane)) }
+        ensures journal { IfOk result (λ m. vec_len self.new.journal + length (lane_in self.new.states.items lane).grants + 1 < vec_capacity self.new.journal) }
+        ensures begun { self.new.begun ≡ self.old.begun }
+        ensures left { OnErr result (IsLeft self.old self.new) }
+        ensures room { HasRoom self.new }
+    {
+        let Some(call) = current_call(self.calls.as_slice(), &self.states, lane) else {
+            unreachable!()
+        };
+        let state = &mut self.states[lane as usize];
+        self.journal.reserve(entries_for(state.grant_count())?)?;
+        state.turn(alloc, &mut self.core, call, self.asked, &self.facts)
+    }
+
+    /// One step of a lane: turns of its call, up to one that leaves an entry or waits. Refused for want of memory.
     pub fn step(&mut self, alloc: Global, lane: u32) -> Result<Stepped, OutOfMemory>
         requires opened { IsOpened self.old }
         requires room { HasRoom self.old }
@@ -27,13 +61,15 @@ impl Lanes {
         ensures room { HasRoom self.new }
     {
         self.begun.reserve(1)?;
-        let Some(call) = current_call(self.calls.as_slice(), &self.states, lane) else {
+        if current_call(self.calls.as_slice(), &self.states, lane).is_none() {
             return Ok(Stepped::Nothing);
-        };
-        let state = &mut self.states[lane as usize];
-        self.journal.reserve(entries_for(state.grant_count())?)?;
-        let number = state.ended();
-        let moved = state.turn(alloc, &mut self.core, call, self.asked, &self.facts)?;
-        Ok(self.note(lane, number, moved))
+        }
+        let number = self.states[lane as usize].ended();
+        loop {
+            let moved = self.turn(alloc, lane)?;
+            if !is_went(&moved) {
+                return Ok(self.note(lane, number, moved));
+            }
+        }
     }
 }

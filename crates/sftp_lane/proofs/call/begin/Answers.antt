@@ -67,3 +67,13 @@ returns-in-CloneFile-clause-began c = begun_local _ _ _ _ _ _ _ (ap planned c.in
 pub returns-in_ok-begin_cwd-in-Cwd-clause-began : goal.returns-in_ok-begin_cwd-in-Cwd-clause-began
 returns-in_ok-begin_cwd-in-Cwd-clause-began c =
     begun_local _ _ _ _ _ _ _ (ap planned c.in-Cwd.is ∙ ap plan.Cwd (sym c.as_slice-in-Cwd.ensures)) (c.in_ok-begin_cwd-in-Cwd.ensures.goes c.args.place c.args.facts.now) (c.begin_cwd.ensures.sound c.args.facts.now) c.begin_cwd.ensures.pends
+
+pub returns-in-Buffer-clause-began : goal.returns-in-Buffer-clause-began
+returns-in-Buffer-clause-began c = begun_local _ _ _ _ _ _ _ (ap planned c.in-Buffer.is) (c.begin_buffer.ensures.goes c.args.place c.args.facts.now) (c.begin_buffer.ensures.sound c.args.facts.now) c.begin_buffer.ensures.pends
+
+pub returns-in-Unbuffer-clause-began : goal.returns-in-Unbuffer-clause-began
+returns-in-Unbuffer-clause-began c = begun_local _ _ _ _ _ _ _ (ap planned c.in-Unbuffer.is) (c.begin_unbuffer.ensures.goes c.args.place c.args.facts.now) (c.begin_unbuffer.ensures.sound c.args.facts.now) c.begin_unbuffer.ensures.pends
+
+pub returns-in_ok-begin_buf_seek-in-BufSeek-clause-began : goal.returns-in_ok-begin_buf_seek-in-BufSeek-clause-began
+returns-in_ok-begin_buf_seek-in-BufSeek-clause-began c =
+    begun_local _ _ _ _ _ _ _ (ap planned c.in-BufSeek.is) (c.in_ok-begin_buf_seek-in-BufSeek.ensures.goes c.args.place c.args.facts.now) (c.begin_buf_seek.ensures.sound c.args.facts.now) c.begin_buf_seek.ensures.pends

@@ -1,6 +1,7 @@
 use Rattle.std.proofs.Common.{◌≡◌, ◌∙◌, false, max, min, refl, rules, sym, None, Some}
 use Rattle.sftp_calls.specs.Moves.{overflows}
 use Rattle.sftp_plan.specs.Pending.{maybe, one, slots_times}
+use Rattle.sftp_plan.proofs.BufferAsking.{filling_asks}
 use Rattle.sftp_plan.proofs.Filling.{fill_asks, more_at_most, reading_is, refilled_times}
 use Rattle.sftp_plan.proofs.buffer_read.fill.Goals as goal
 
@@ -17,3 +18,8 @@ returns-clause-pends c q =
     more_at_most (slots_times q c.args.site.now.slots) (slots_times q c.set_reading.new.site.slots) (maybe c.in-Buffered.buffer.reading q) (one c.args.place q)
     (refilled_times q c.args.site.now c.set_reading.new.site c.args.slot c.in-Buffered.file c.in-Buffered.file c.in-Buffered.buffer c.in-Buffered.buffer.bytes (Some c.args.place) c.requires (sym c.slot_of.ensures ∙ c.in-Buffered.is)
     (reading_is c.args.slot (Some c.args.place) c.in-Buffered.file c.in-Buffered.buffer c.args.site.now c.set_reading.new.site (sym c.slot_of.ensures ∙ c.in-Buffered.is) c.set_reading.ensures))
+
+pub returns-clause-asks : goal.returns-clause-asks
+returns-clause-asks c =
+    let room : overflows c.in-Buffered.file.offset c.min-len.result ≡ false = search rules in
+    filling_asks c.args.place c.args.slot c.args.n c.in-Buffered.file.offset c.min-len.result c.in-Buffered.file c.in-Buffered.buffer c.args.site.now c.set_reading.new.site c.requires (sym c.slot_of.ensures ∙ c.in-Buffered.is) c.set_reading.ensures room

@@ -4,6 +4,8 @@ use Rattle.sftp_plan.specs.Buffers.{must_wait}
 use Rattle.sftp_plan.specs.Deferrals.{IsDeferral}
 use Rattle.sftp_plan.specs.Sound.{IsWithin}
 use Rattle.sftp_plan.specs.Pending.{pends_idle, slots_times}
+use Rattle.sftp_plan.proofs.Asking.{buffered_held}
+use Rattle.sftp_plan.proofs.BufferAsking.{settled_begins, settled_goes_on}
 use Rattle.sftp_plan.proofs.Deferring.{at_most_self, none_freed, sent_goes, settled_leaves, settled_pends, settled_sound}
 use Rattle.sftp_plan.proofs.buffer_write.send.Goals as goal
 
@@ -36,3 +38,17 @@ returns-clause-pends c =
     = subst (λ (w : List (ℕ × ℕ)). IsDeferral c.args.slot c.args.done c.in-Buffered.file (record c.in-Buffered.buffer { deferred = w }) c.args.bytes.now c.args.place c.args.facts.now c.in_ok-deferral.deferral) c.as_slice-writes.ensures c.in_ok-deferral.ensures in
     settled_pends (pends_idle c.args.site.now) c.args.slot c.args.done c.in-Buffered.file c.in-Buffered.buffer c.args.bytes.now c.args.place c.args.site.now c.settle.new.site c.args.facts.now c.in_ok-deferral.deferral c.settle.result
     c.requires.slot (sym c.slot_of.ensures ∙ c.in-Buffered.is) (λ q. at_most_self (slots_times q c.args.site.now.slots)) sent c.settle.ensures.next c.settle.ensures.site
+
+pub returns-clause-asks : goal.returns-clause-asks
+returns-clause-asks c =
+    let sent : IsDeferral c.args.slot c.args.done c.in-Buffered.file c.in-Buffered.buffer c.args.bytes.now c.args.place c.args.facts.now c.in_ok-deferral.deferral
+    = subst (λ (w : List (ℕ × ℕ)). IsDeferral c.args.slot c.args.done c.in-Buffered.file (record c.in-Buffered.buffer { deferred = w }) c.args.bytes.now c.args.place c.args.facts.now c.in_ok-deferral.deferral) c.as_slice-writes.ensures c.in_ok-deferral.ensures in
+    settled_begins c.args.place c.args.slot c.args.done c.in-Buffered.file c.in-Buffered.buffer c.args.bytes.now c.args.site.now c.settle.new.site c.args.facts.now c.in_ok-deferral.deferral c.settle.result
+    (buffered_held c.args.site.now c.args.slot c.in-Buffered.file c.in-Buffered.buffer (sym c.slot_of.ensures ∙ c.in-Buffered.is)) sent c.settle.ensures.next
+
+pub returns-clause-goes_on : goal.returns-clause-goes_on
+returns-clause-goes_on c =
+    let sent : IsDeferral c.args.slot c.args.done c.in-Buffered.file c.in-Buffered.buffer c.args.bytes.now c.args.place c.args.facts.now c.in_ok-deferral.deferral
+    = subst (λ (w : List (ℕ × ℕ)). IsDeferral c.args.slot c.args.done c.in-Buffered.file (record c.in-Buffered.buffer { deferred = w }) c.args.bytes.now c.args.place c.args.facts.now c.in_ok-deferral.deferral) c.as_slice-writes.ensures c.in_ok-deferral.ensures in
+    settled_goes_on c.args.place c.args.slot c.args.done c.in-Buffered.file c.in-Buffered.buffer c.args.bytes.now c.args.site.now c.settle.new.site c.args.facts.now c.in_ok-deferral.deferral c.settle.result
+    (buffered_held c.args.site.now c.args.slot c.in-Buffered.file c.in-Buffered.buffer (sym c.slot_of.ensures ∙ c.in-Buffered.is)) sent c.settle.ensures.next

@@ -5,13 +5,13 @@ use Rattle.sftp_model.specs.declared.slot.Site.{Site}
 use Rattle.sftp_plan.specs.declared.next.Next.{Next}
 use Rattle.sftp_plan.specs.Machines.{awaited}
 use Rattle.sftp_plan.specs.Sound.{Fits}
-use Rattle.sftp_plan.specs.Asking.{Asks, AsksOn, opened_after}
+use Rattle.sftp_plan.specs.Asking.{BeginsAsking, GoesOnAsking, opened_after}
 use Rattle.sftp_ties.specs.Lanes.{Held, LaneValue, Ticketed, ticket_places}
 use Rattle.sftp_ties.specs.Places.{is_in}
 use Rattle.sftp_lane.specs.Tokens.{AreGrants, Spent}
 use Rattle.sftp_lane.specs.Turning.{MayAsk, Waiting, WentOn}
 use Rattle.sftp_lane.specs.declared.tokens.Tokens.{Tokens}
-use Rattle.sftp_lane.proofs.AskLaws.{first_of, held_after, held_first, may_ask, turned_replied}
+use Rattle.sftp_lane.proofs.AskLaws.{held_after, held_first, held_on, may_ask, may_ask_on, turned_replied}
 use Rattle.sftp_lane.proofs.lane.LaneState.turn.Goals as goal
 
 pub settle-requires-clause-may : goal.settle-requires-clause-may
@@ -20,8 +20,18 @@ settle-requires-clause-may c =
     let n : Next = c.in_ok-next.next in
     let grants : c.reserve-2.new.self.items ≡ v.grants = search rules in
     let site : c.self.inside.site ≡ v.site = ap (λ (x : LaneValue). x.site) c.self.view_is in
-    let asks : Asks None c.args.place v.site n = subst (λ (x : Site). Asks None c.args.place x n) site c.in_ok-next.ensures.asks in
-    subst (λ (gs : List Held). MayAsk gs n) (sym grants) (may_ask None c.args.place v.site v.grants n asks (held_first v c.requires.holds))
+    let asks : BeginsAsking None c.args.place v.site c.begin.new.site n = subst (λ (x : Site). BeginsAsking None c.args.place x c.begin.new.site n) site c.in_ok-next.ensures.asks in
+    subst (λ (gs : List Held). MayAsk gs n) (sym grants) (may_ask None c.args.place v.site c.begin.new.site v.grants n asks (held_first v c.requires.holds))
+
+pub settle-requires-in_default-awaited-clause-may : goal.settle-requires-in_default-awaited-clause-may
+settle-requires-in_default-awaited-clause-may c =
+    let v : LaneValue = c.args.self.now in
+    let n : Next = c.in_ok-next-2.next in
+    let grants : c.reserve-2.new.self.items ≡ v.grants = search rules in
+    let was : v.running ≡ Some c.in-Some.running = search rules in
+    let site : c.self.inside.site ≡ v.site = ap (λ (x : LaneValue). x.site) c.self.view_is in
+    let asks : GoesOnAsking (opened_after c.in-Some.running None) c.args.place v.site c.resume.new.site n = subst (λ (x : Site). GoesOnAsking (opened_after c.in-Some.running None) c.args.place x c.resume.new.site n) site c.in_ok-next-2.ensures.asks in
+    subst (λ (gs : List Held). MayAsk gs n) (sym grants) (may_ask_on _ c.args.place v.site c.resume.new.site v.grants n asks (held_on v c.in-Some.running was c.requires.holds))
 
 pub reply-requires-clause-awaited : goal.reply-requires-clause-awaited
 reply-requires-clause-awaited c =
@@ -87,10 +97,10 @@ settle-requires-2-clause-may c =
     let spent : Spent c.args.core.now c.reply.new.core v.tickets c.reply.new.self.tickets.items v.grants c.reply.new.self.grants.items c.in-Some-awaited.awaited c.in-Some-reply.reply =
     subst (λ (ts : List Ticketed). Spent c.args.core.now c.reply.new.core ts c.reply.new.self.tickets.items v.grants c.reply.new.self.grants.items c.in-Some-awaited.awaited c.in-Some-reply.reply) tickets
     (subst (λ (gs : List Held). Spent c.args.core.now c.reply.new.core c.reserve.new.self.items c.reply.new.self.tickets.items gs c.reply.new.self.grants.items c.in-Some-awaited.awaited c.in-Some-reply.reply) grants c.in-Some-reply.ensures.came) in
-    let asks : AsksOn (opened_after c.in-Some.running (Some c.in-Some-reply.reply)) c.args.place v.site c.in_ok-next-3.next =
-    subst (λ (x : Site). AsksOn (opened_after c.in-Some.running (Some c.in-Some-reply.reply)) c.args.place x c.in_ok-next-3.next) site (c.in_ok-next-3.ensures.asks (c.requires.own c.in-Some.running was)) in
+    let asks : GoesOnAsking (opened_after c.in-Some.running (Some c.in-Some-reply.reply)) c.args.place v.site c.resume-2.new.site c.in_ok-next-3.next =
+    subst (λ (x : Site). GoesOnAsking (opened_after c.in-Some.running (Some c.in-Some-reply.reply)) c.args.place x c.resume-2.new.site c.in_ok-next-3.next) site c.in_ok-next-3.ensures.asks in
     subst (λ (gs : List Held). MayAsk gs c.in_ok-next-3.next) (sym spent.now)
-    (may_ask _ _ _ _ c.in_ok-next-3.next (first_of _ _ _ c.in_ok-next-3.next asks)
+    (may_ask_on _ _ _ _ _ c.in_ok-next-3.next asks
     (held_after v c.in-Some.running c.in-Some-reply.reply c.in-Some-awaited.awaited spent.ticket was looks c.requires.holds))
 
 pub returns-clause-turned : goal.returns-clause-turned
@@ -106,7 +116,7 @@ returns-clause-turned c =
     (subst (λ (gs : List Held). Spent c.args.core.now c.reply.new.core c.reserve.new.self.items c.reply.new.self.tickets.items gs c.reply.new.self.grants.items c.in-Some-awaited.awaited c.in-Some-reply.reply) grants c.in-Some-reply.ensures.came) in
     let went : WentOn c.in-Some.running (Some c.in-Some-reply.reply) c.args.call.now c.args.facts.now c.args.place v.site c.resume-2.new.site c.in_ok-next-3.next =
     subst (λ (x : Site). WentOn c.in-Some.running (Some c.in-Some-reply.reply) c.args.call.now c.args.facts.now c.args.place x c.resume-2.new.site c.in_ok-next-3.next) site c.in_ok-next-3.ensures.went in
-    let asks : AsksOn (opened_after c.in-Some.running (Some c.in-Some-reply.reply)) c.args.place v.site c.in_ok-next-3.next =
-    subst (λ (x : Site). AsksOn (opened_after c.in-Some.running (Some c.in-Some-reply.reply)) c.args.place x c.in_ok-next-3.next) site (c.in_ok-next-3.ensures.asks (c.requires.own c.in-Some.running was)) in
+    let asks : GoesOnAsking (opened_after c.in-Some.running (Some c.in-Some-reply.reply)) c.args.place v.site c.resume-2.new.site c.in_ok-next-3.next =
+    subst (λ (x : Site). GoesOnAsking (opened_after c.in-Some.running (Some c.in-Some-reply.reply)) c.args.place x c.resume-2.new.site c.in_ok-next-3.next) site c.in_ok-next-3.ensures.asks in
     turned_replied c.args.call.now c.args.facts.now c.args.place c.args.core.now c.reply.new.core c.settle-2.new.core v _ c.in-Some.running c.in-Some-awaited.awaited c.in-Some-reply.reply c.reply.new.self.tickets.items c.reply.new.self.grants.items c.in_ok-next-3.next c.settle-2.result
     was looks spent went asks (ap (λ (x : LaneValue). x.ended) c.self.view_is) c.settle-2.ensures.settled

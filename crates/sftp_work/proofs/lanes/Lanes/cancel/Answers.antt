@@ -9,6 +9,7 @@ use Rattle.sftp_history.specs.Readings.{ended}
 use Rattle.sftp_history.specs.Turns.{begun_but}
 use Rattle.sftp_ties.specs.Lanes.{LaneValue}
 use Rattle.sftp_steps.specs.Ends.{GivesUp, cancelled_past}
+use Rattle.sftp_lane.specs.Turning.{LeavesBehind}
 use Rattle.sftp_work.specs.Closing.{Closing, IsClosed}
 use Rattle.sftp_work.specs.Working.{Contents, contents_of, lane_in}
 use Rattle.sftp_work.proofs.CancellingLaws.{cancelled_in, cancelling, cancels_call, cancels_nothing, may_cancel, there_of}
@@ -24,12 +25,26 @@ returns-then-lane-len-clause-cancels c =
       | then-lane-len-via-else-lane-len+then-not-contains w ↦ (λ s works. cancels_nothing s c.args.lane (contents_of c.args.self.now) works (inr (let out : list_any (λ l. l == c.args.lane) c.args.self.now.begun.items ≡ false = search rules in out)))
     ]
 
+pub give_up-requires-clause-safe : goal.give_up-requires-clause-safe
+give_up-requires-clause-safe c =
+    let begun : list_any (λ l. l == c.args.lane) c.args.self.now.begun.items ≡ true = search rules in
+    let there : c.args.lane < length c.args.self.now.states.items = search rules in
+    let o = c.requires.opened in
+    (may_cancel o.0 c.args.lane (contents_of c.args.self.now) c.index_mut-state.result.now o.1 there begun c.index_mut-state.ensures.value).safe
+
 pub give_up-requires-clause-awaits : goal.give_up-requires-clause-awaits
 give_up-requires-clause-awaits c =
     let begun : list_any (λ l. l == c.args.lane) c.args.self.now.begun.items ≡ true = search rules in
     let there : c.args.lane < length c.args.self.now.states.items = search rules in
     let o = c.requires.opened in
     (may_cancel o.0 c.args.lane (contents_of c.args.self.now) c.index_mut-state.result.now o.1 there begun c.index_mut-state.ensures.value).awaits
+
+pub give_up-requires-clause-deferred : goal.give_up-requires-clause-deferred
+give_up-requires-clause-deferred c =
+    let begun : list_any (λ l. l == c.args.lane) c.args.self.now.begun.items ≡ true = search rules in
+    let there : c.args.lane < length c.args.self.now.states.items = search rules in
+    let o = c.requires.opened in
+    (may_cancel o.0 c.args.lane (contents_of c.args.self.now) c.index_mut-state.result.now o.1 there begun c.index_mut-state.ensures.value).deferred
 
 pub give_up-requires-clause-counted : goal.give_up-requires-clause-counted
 give_up-requires-clause-counted c =
@@ -54,8 +69,9 @@ close_loose-requires-clause-closing c =
     let old : Contents = contents_of c.args.self.now in
     let is : c.index_mut-state.result.now ≡ lane_in old.states c.args.lane = state_at old.states c.args.lane c.index_mut-state.result.now there c.index_mut-state.ensures.value in
     let gives : GivesUp old.core c.give_up.new.core (lane_in old.states c.args.lane) c.give_up.new.self = subst (λ (y : LaneValue). GivesUp old.core c.give_up.new.core y c.give_up.new.self) is c.in_ok-give_up.ensures.ok in
+    let behind : LeavesBehind old.core (lane_in old.states c.args.lane) c.give_up.new.self = subst (λ (y : LaneValue). LeavesBehind old.core y c.give_up.new.self) is c.in_ok-give_up.ensures.leaves in
     let within = there_of o.0 old c.args.lane o.1 there in
-    let x = cancelling o.0 c.args.lane old c.give_up.new.core c.give_up.new.self o.1 within begun gives in
+    let x = cancelling o.0 c.args.lane old c.give_up.new.core c.give_up.new.self o.1 within begun gives behind in
     let number : c.ended-call.result ≡ ended old.past c.args.lane = c.ended-call.ensures ∙ ap (λ (y : LaneValue). y.ended) is ∙ ends_at o.0 c.args.lane old o.1 within in
     let started : Entry = entry.Event (Cancel c.args.lane) in
     let over : Entry = entry.Event (End c.args.lane c.ended-call.result outcome.Cancelled) in
@@ -81,8 +97,9 @@ returns-clause-cancels c =
     let old : Contents = contents_of c.args.self.now in
     let is : c.index_mut-state.result.now ≡ lane_in old.states c.args.lane = state_at old.states c.args.lane c.index_mut-state.result.now there c.index_mut-state.ensures.value in
     let gives : GivesUp old.core c.give_up.new.core (lane_in old.states c.args.lane) c.give_up.new.self = subst (λ (y : LaneValue). GivesUp old.core c.give_up.new.core y c.give_up.new.self) is c.in_ok-give_up.ensures.ok in
+    let behind : LeavesBehind old.core (lane_in old.states c.args.lane) c.give_up.new.self = subst (λ (y : LaneValue). LeavesBehind old.core y c.give_up.new.self) is c.in_ok-give_up.ensures.leaves in
     let within = there_of s old c.args.lane w there in
-    let x = cancelling s c.args.lane old c.give_up.new.core c.give_up.new.self w within begun gives in
+    let x = cancelling s c.args.lane old c.give_up.new.core c.give_up.new.self w within begun gives behind in
     let number : c.ended-call.result ≡ ended old.past c.args.lane = c.ended-call.ensures ∙ ap (λ (y : LaneValue). y.ended) is ∙ ends_at s c.args.lane old w within in
     let started : Entry = entry.Event (Cancel c.args.lane) in
     let over : Entry = entry.Event (End c.args.lane c.ended-call.result outcome.Cancelled) in

@@ -4,10 +4,11 @@ use Rattle.std.proofs.lemmas.Option.{slice_get_within}
 use Rattle.sftp_ties.specs.Dues.{loose_of}
 use Rattle.sftp_ties.specs.Lanes.{LaneValue, grant_places}
 use Rattle.sftp_ties.specs.Places.{without}
-use Rattle.sftp_work.specs.Closing.{HasClosed, closed_in}
+use Rattle.sftp_work.specs.Closing.{HasClosed, IsClosed, closed_in}
 use Rattle.sftp_work.specs.Working.{Contents, contents_of, lane_in}
 use Rattle.sftp_work.proofs.ClosingLaws.{Goes, closed_all, counted_in, goes_next, goes_on, grants_in, grants_left, there_in}
 use Rattle.sftp_work.proofs.Contents.{state_at}
+use Rattle.sftp_work.proofs.UnnotedLaws.{closed_on}
 use Rattle.sftp_work.proofs.lanes.Lanes.close_loose.Goals as goal
 
 pub index-requires : goal.index-requires
@@ -79,10 +80,29 @@ loop-k-preserved c =
           (subst (λ (x : Contents). Goes s before c.args.lane (contents_of c.loop-k.self) x) (sym closed.is) (goes_next s before c.args.lane k (contents_of c.loop-k.self) f.0 was.closing here first closed.small))),
     )
 
+pub forget_unawaited-requires-clause-opened : goal.forget_unawaited-requires-clause-opened
+forget_unawaited-requires-clause-opened c =
+    let o = c.requires.closing in
+    let states : List LaneValue = c.loop-k.self.states.items in
+    let v : LaneValue = c.index.result.now in
+    let was : Goes o.0 o.1.0 c.args.lane (contents_of c.args.self.now) (contents_of c.loop-k.self) = c.loop-k.invariant.1 o.0 o.1.0 o.1.1 in
+    let is : v ≡ lane_in states c.args.lane = state_at states c.args.lane v (there_in o.0 o.1.0 c.args.lane (contents_of c.loop-k.self) was.closing) c.index.ensures in
+    (o.0, (closed_all o.0 o.1.0 c.args.lane (contents_of c.args.self.now) (contents_of c.loop-k.self) was (subst (λ (y : LaneValue). loose_of y.site (grant_places y.grants) ≡ []) is (c.loose.ensures.none c.in_default.is))).works)
+
+pub forget_unawaited-requires-clause-there : goal.forget_unawaited-requires-clause-there
+forget_unawaited-requires-clause-there c =
+    let o = c.requires.closing in there_in o.0 o.1.0 c.args.lane (contents_of c.loop-k.self) (c.loop-k.invariant.1 o.0 o.1.0 o.1.1).closing
+
+pub forget_unawaited-requires-clause-idle : goal.forget_unawaited-requires-clause-idle
+forget_unawaited-requires-clause-idle c =
+    let o = c.requires.closing in (c.loop-k.invariant.1 o.0 o.1.0 o.1.1).closing.idle
+
 pub returns-clause-closed : goal.returns-clause-closed
 returns-clause-closed c = λ s before base.
     let states : List LaneValue = c.loop-k.self.states.items in
     let v : LaneValue = c.index.result.now in
     let was : Goes s before c.args.lane (contents_of c.args.self.now) (contents_of c.loop-k.self) = c.loop-k.invariant.1 s before base in
     let is : v ≡ lane_in states c.args.lane = state_at states c.args.lane v (there_in s before c.args.lane (contents_of c.loop-k.self) was.closing) c.index.ensures in
-    closed_all s before c.args.lane (contents_of c.args.self.now) (contents_of c.loop-k.self) was (subst (λ (y : LaneValue). loose_of y.site (grant_places y.grants) ≡ []) is (c.loose.ensures.none c.in_default.is))
+    let closed : IsClosed s before (contents_of c.args.self.now) (contents_of c.loop-k.self) =
+    closed_all s before c.args.lane (contents_of c.args.self.now) (contents_of c.loop-k.self) was (subst (λ (y : LaneValue). loose_of y.site (grant_places y.grants) ≡ []) is (c.loose.ensures.none c.in_default.is)) in
+    closed_on s before (contents_of c.args.self.now) (contents_of c.loop-k.self) (contents_of c.forget_unawaited.new.self) closed (c.forget_unawaited.ensures.forgets s closed.works)

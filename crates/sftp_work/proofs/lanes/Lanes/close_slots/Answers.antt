@@ -5,18 +5,36 @@ use Rattle.sftp_model.specs.declared.slot.Slot.{Slot}
 use Rattle.sftp_ties.specs.Lanes.{LaneValue}
 use Rattle.sftp_steps.specs.Ends.{StaysOpen}
 use Rattle.sftp_work.specs.Closing.{HasClosed, closed_in}
-use Rattle.sftp_work.specs.Letting.{Letting}
+use Rattle.sftp_work.specs.Letting.{IsLetGo, Letting}
 use Rattle.sftp_work.specs.Working.{Contents, contents_of, lane_in}
 use Rattle.sftp_work.proofs.ClosingLaws.{counted_in, grants_left}
 use Rattle.sftp_work.proofs.Contents.{state_at}
 use Rattle.sftp_work.proofs.LettingLaws.{first_is, letting_closes, letting_grants, letting_over, letting_passes, letting_there, none_left}
+use Rattle.sftp_work.proofs.UnnotedLaws.{let_go_on}
 use Rattle.sftp_work.proofs.lanes.Lanes.close_slots.Goals as goal
+
+pub forget_unawaited-requires-clause-opened : goal.forget_unawaited-requires-clause-opened
+forget_unawaited-requires-clause-opened c =
+    let o = c.requires.letting in
+    let rest : List Slot = c.loop-rest.rest.now in
+    let h : Letting o.0 o.1.0 c.args.lane (contents_of c.loop-rest.self) rest = c.loop-rest.invariant.1 o.0 o.1.0 o.1.1 in
+    (o.0, (letting_over o.0 o.1.0 c.args.lane (contents_of c.args.self.now) (contents_of c.loop-rest.self) (subst (λ (xs : List Slot). Letting o.0 o.1.0 c.args.lane (contents_of c.loop-rest.self) xs) (none_left rest c.in-empty.len_below) h) c.loop-rest.invariant.2).works)
+
+pub forget_unawaited-requires-clause-there : goal.forget_unawaited-requires-clause-there
+forget_unawaited-requires-clause-there c =
+    let o = c.requires.letting in letting_there o.0 o.1.0 c.args.lane (contents_of c.loop-rest.self) c.loop-rest.rest.now (c.loop-rest.invariant.1 o.0 o.1.0 o.1.1)
+
+pub forget_unawaited-requires-clause-idle : goal.forget_unawaited-requires-clause-idle
+forget_unawaited-requires-clause-idle c =
+    let o = c.requires.letting in (c.loop-rest.invariant.1 o.0 o.1.0 o.1.1).idle
 
 pub returns-in-empty-clause-let_go : goal.returns-in-empty-clause-let_go
 returns-in-empty-clause-let_go c = λ s before base.
     let rest : List Slot = c.loop-rest.rest.now in
     let h : Letting s before c.args.lane (contents_of c.loop-rest.self) rest = c.loop-rest.invariant.1 s before base in
-    letting_over s before c.args.lane (contents_of c.args.self.now) (contents_of c.loop-rest.self) (subst (λ (xs : List Slot). Letting s before c.args.lane (contents_of c.loop-rest.self) xs) (none_left rest c.in-empty.len_below) h) c.loop-rest.invariant.2
+    let gone : IsLetGo s before (contents_of c.args.self.now) (contents_of c.loop-rest.self) =
+    letting_over s before c.args.lane (contents_of c.args.self.now) (contents_of c.loop-rest.self) (subst (λ (xs : List Slot). Letting s before c.args.lane (contents_of c.loop-rest.self) xs) (none_left rest c.in-empty.len_below) h) c.loop-rest.invariant.2 in
+    let_go_on s before (contents_of c.args.self.now) (contents_of c.loop-rest.self) (contents_of c.forget_unawaited.new.self) gone (c.forget_unawaited.ensures.forgets s gone.works)
 
 pub index-requires : goal.index-requires
 index-requires c =

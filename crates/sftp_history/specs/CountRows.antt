@@ -1,0 +1,28 @@
+-- Worked rows of what calls and lanes count, and of the ranges of calls on buffered files.
+use Rattle.std.specs.Prelude.{◌≡◌, ◌∷◌, List, [], true, false, codes, refl}
+use Rattle.sftp_history.specs.declared.call.Call.TheVariants as call
+use Rattle.sftp_history.specs.Lanes.{are_ok, is_within, lane_weight, weight}
+
+pub call_counts : weight (call.Write 0 (codes "abc")) ≡ 2
+call_counts = refl
+
+pub buffered_bytes_count : weight (call.BufWrite 0 (codes "abc")) ≡ 5
+buffered_bytes_count = refl
+
+pub all_bytes_count : weight (call.BufWriteAll 0 []) ≡ 2
+all_bytes_count = refl
+
+pub lane_counts : lane_weight (record { calls = call.Buffer 0 1 ∷ call.BufWriteAll 0 (codes "abcd") ∷ [] }) ≡ 9
+lane_counts = refl
+
+pub least_buffer : is_within (call.Buffer 15 1) ≡ true
+least_buffer = refl
+
+pub buffer_of_nothing : is_within (call.Buffer 0 0) ≡ false
+buffer_of_nothing = refl
+
+pub no_such_slot : is_within (call.BufFlush 16) ≡ false
+no_such_slot = refl
+
+pub lanes_of_few : are_ok (record { calls = call.BufRead 0 0 ∷ [] } ∷ record { calls = [] } ∷ []) ≡ true
+lanes_of_few = refl

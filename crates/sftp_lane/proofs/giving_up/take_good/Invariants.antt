@@ -1,0 +1,23 @@
+use Rattle.std.proofs.Common.{◌≡◌, ◌<◌, [], length}
+use Rattle.sftp_model.specs.Slots.{slot_at}
+use Rattle.sftp_model.specs.declared.slot.Facts.{Facts}
+use Rattle.sftp_calls.specs.Moves.{Answers}
+use Rattle.sftp_calls.specs.BufferPlans.{cancelled_buf_flush}
+use Rattle.sftp_plan.specs.Pending.{Fewer}
+use Rattle.sftp_plan.specs.Sound.{Keeps}
+use Rattle.sftp_lane.specs.Tokens.{TellReplies}
+use Rattle.sftp_lane.specs.Turning.{HasDeferred}
+use Rattle.sftp_lane.proofs.Flushed.{deferred_len}
+use Rattle.sftp_lane.proofs.giving_up.take_good.Given as goal
+
+-- what is left to flush leaves the same
+abbrev pub invariant-loop-place : goal.invariant-loop-place
+invariant-loop-place l =
+    (l.slot < length l.site.slots)
+    × HasDeferred l.site l.tokens.tickets.items
+    × Fewer l.fn.site l.site
+    × ((facts : Facts) → Keeps facts l.fn.site l.site)
+    × ((facts : Facts) (answers : Answers) → TellReplies l.core l.tokens.tickets.items answers → cancelled_buf_flush l.slot l.fn.site facts [] answers ≡ cancelled_buf_flush l.slot l.site facts [] answers)
+
+abbrev pub decreases-loop-place : goal.decreases-loop-place
+decreases-loop-place l = deferred_len (slot_at l.site l.slot)

@@ -1,0 +1,19 @@
+use Rattle.std.proofs.Common.{◌≡◌, ◌<◌}
+use Rattle.std.specs.Prelude.{vec_capacity, vec_len}
+use Rattle.sftp_history.specs.Calls.{Setting}
+use Rattle.sftp_work.specs.Noting.{HasCall, turns_left}
+use Rattle.sftp_work.specs.SoFar.{HasRoom}
+use Rattle.sftp_work.specs.Working.{IsWorking, Unnoted, contents_of, lane_in}
+use Rattle.sftp_work.proofs.lanes.Lanes.step.Given as goal
+
+-- the turns so far left no entry, and the lane has the call that it had
+abbrev pub invariant-loop-moved : goal.invariant-loop-moved
+invariant-loop-moved l =
+    ((s : Setting) → IsWorking s l.fn.self → Unnoted s (contents_of l.fn.self) (contents_of l.self))
+    × HasCall (contents_of l.self) l.lane
+    × ((lane_in l.self.states.items l.lane).ended ≡ l.number)
+    × (vec_len l.self.begun < vec_capacity l.self.begun)
+    × HasRoom l.self
+
+abbrev pub decreases-loop-moved : goal.decreases-loop-moved
+decreases-loop-moved l = turns_left (lane_in l.self.states.items l.lane)
