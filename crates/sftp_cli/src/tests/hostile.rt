@@ -58,6 +58,15 @@ const LONGEST_TEXT: &str = "> open 00000001610000000100000000
 lane 0 call 0 opened
 ";
 
+/// ATTRS without fields.
+const ATTRIBUTES: &[u8] = &[0, 0, 0, 0];
+
+/// NAME with the name `x`, without attributes, and one that counts a name more than it has.
+const ONE_NAME: &[u8] = b"\x00\x00\x00\x01\x00\x00\x00\x01x\x00\x00\x00\x00\x00\x00\x00\x00";
+
+const ONE_NAME_TOO_FEW: &[u8] =
+    b"\x00\x00\x00\x02\x00\x00\x00\x01x\x00\x00\x00\x00\x00\x00\x00\x00";
+
 /// What comes behind VERSION, and the error that stops the run.
 const HOSTILE: &[Row] = &[
     (
@@ -170,6 +179,38 @@ const HOSTILE: &[Row] = &[
         1,
         RESPONSE,
     ),
+    (
+        "lane\ncanonicalize 61\n",
+        &[VERSION, Item::To(1, 0, 104, b"\x00\x00\x00\x00")],
+        &[],
+        0,
+        1,
+        RESPONSE,
+    ),
+    (
+        "lane\nlist 2f 9\n",
+        &[
+            VERSION,
+            Item::To(1, 0, 102, HANDLE),
+            Item::To(2, 0, 104, ONE_NAME_TOO_FEW),
+        ],
+        &[],
+        0,
+        1,
+        FORMAT,
+    ),
+    (
+        "lane\nstat 61\nlane\nstat 62\nstep 0\nstep 1\nflush\ntake\ntake\n",
+        &[
+            VERSION,
+            Item::To(1, 0, 105, ATTRIBUTES),
+            Item::To(1, 0, 105, ATTRIBUTES),
+        ],
+        &[],
+        0,
+        1,
+        "error InvalidResponseId\n",
+    ),
     (OPEN, &[Item::Raw(b"\x00\x00\x00")], &[], 0, 1, ENDED),
     (OPEN, &[], &[], 0, 1, ENDED),
     (OPEN, &[VERSION], &[2], 0, 1, "error LinkFault\n"),
@@ -202,6 +243,72 @@ const HOSTILE: &[Row] = &[
 #[test]
 fn hostile_servers(rt: HostRuntime) -> Result<(), Fail> {
     check_rows(&rt, rt.alloc(), HOSTILE)
+}
+
+/// What is printed of a directory that has the same name again and again.
+const ENDLESS_TEXT: &str = "> opendir 000000012f
+< handle 0000000161
+> readdir 0000000161
+< name 0000000100000001780000000000000000
+> readdir 0000000161
+< name 0000000100000001780000000000000000
+> close 0000000161
+< status 000000000000000000000000
+lane 0 call 0 givenup
+";
+
+/// What is printed of two files that have the same handle.
+const SAME_HANDLE_TEXT: &str = "> open 00000001610000000100000000
+< handle 0000000161
+> open 00000001620000000100000000
+< handle 0000000161
+> close 0000000161
+< status 000000000000000000000000
+> close 0000000161
+< status 000000000000000000000000
+lane 0 call 0 opened
+lane 0 call 1 opened
+lane 0 call 2 done
+lane 0 call 3 done
+";
+
+/// What a server may say, odd as it is: a directory without an end is given up, and a handle that came twice is closed twice.
+#[test]
+fn odd_servers(rt: HostRuntime) -> Result<(), Fail> {
+    check_rows(
+        &rt,
+        rt.alloc(),
+        &[
+            (
+                "lane\nlist 2f 2\n",
+                &[
+                    VERSION,
+                    Item::To(1, 0, 102, HANDLE),
+                    Item::To(2, 0, 104, ONE_NAME),
+                    Item::To(3, 0, 104, ONE_NAME),
+                    Item::To(4, 0, 101, OK),
+                ],
+                &[],
+                0,
+                0,
+                ENDLESS_TEXT,
+            ),
+            (
+                "lane\nopen 0 r 61\nopen 1 r 62\nclose 0\nclose 1\n",
+                &[
+                    VERSION,
+                    Item::To(1, 0, 102, HANDLE),
+                    Item::To(2, 0, 102, HANDLE),
+                    Item::To(3, 0, 101, OK),
+                    Item::To(4, 0, 101, OK),
+                ],
+                &[],
+                0,
+                0,
+                SAME_HANDLE_TEXT,
+            ),
+        ],
+    )
 }
 
 /// The longest handle, in one piece and in single bytes.
