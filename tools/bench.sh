@@ -1,7 +1,7 @@
 #!/bin/sh
 # Measures how the time and the memory of the core alone, and of a run, grow with the requests in flight, how long many small
-# files take over OpenSSH's server beside `sftp -b`, and how long some files of a few kilobytes take up and down. It prints tables,
-# is no part of the gate, and takes half an hour or more.
+# files take over OpenSSH's server beside `sftp -b`, how long some files of a few kilobytes take up and down, and how long one
+# large file takes. It prints tables, is no part of the gate, and takes half an hour or more.
 #
 #     tools/bench.sh [FIRST] [LAST]     requests in flight, doubled from FIRST to LAST: from 5000 to 40000
 #
@@ -73,6 +73,21 @@ def down(paths):
     """An OPEN, a READ and a CLOSE for each path."""
     calls = [[f"open 0 r {digits(path)}", f"read_all 0 {BYTES}", "close 0"] for path in paths]
     return in_turns(calls, [True, False, True, False, True, False])
+
+
+# one file of so many bytes comes down, and one of so many goes up: as many as one script may hold
+LARGE_DOWN, LARGE_UP = 1 << 28, 8000000
+
+
+def whole_up(path):
+    """A file that is written through a buffer: many WRITEs are in flight at once."""
+    lines = ["lane", f"open 0 wct {digits(path)}", "buffer 0 1048576", "buf_write_all 0 " + "61" * LARGE_UP, "buf_flush 0", "close 0"]
+    return "\n".join(lines) + "\n"
+
+
+def whole_down(path):
+    """A file that is read to its end: one READ is in flight at a time."""
+    return "\n".join(["lane", f"open 0 r {digits(path)}", f"read_all 0 {LARGE_DOWN}", "close 0"]) + "\n"
 
 
 def measure(command, text):
@@ -195,4 +210,15 @@ for late in (False, True):
         ("down", "".join(f"get {name} /dev/null\n" for name in sent)),
     ):
         row(f"{bulk} {words}, sftp -b", measure(["sftp", "-q", "-b", "-", "-D", through], batch), None)
+    large, local_large = os.path.join(folder.name, "large"), os.path.join(folder.name, "local-large")
+    for name, length in ((large, LARGE_DOWN), (local_large, LARGE_UP)):
+        with open(name, "wb") as f:
+            f.truncate(length)
+    sent_large = os.path.join(folder.name, "sent-large")
+    for words, text, batch in (
+        (f"{LARGE_UP} bytes up", whole_up(sent_large), f"put {local_large} {sent_large}\n"),
+        (f"{LARGE_DOWN} bytes down", whole_down(large), f"get {large} /dev/null\n"),
+    ):
+        row(words, measure([PROGRAM, "unix", path], text), None)
+        row(f"{words}, sftp -b", measure(["sftp", "-q", "-b", "-", "-D", through], batch), None)
 END

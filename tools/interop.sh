@@ -1,7 +1,7 @@
 #!/bin/sh
-# Runs the program over OpenSSH's SFTP server: each call that this server knows, files up and down, and a long listing; and compares
-# what it prints, and the real files, with what is wanted. The server and socat are installed where that can be done; without them
-# this says so and passes.
+# Runs the program over OpenSSH's SFTP server: each call that this server knows, files up and down, with a buffer too, and a long
+# listing; and compares what it prints, and the real files, with what is wanted. The server and socat are installed where that can be
+# done; without them this says so and passes.
 set -u
 cd "$(dirname "$0")/.." || exit 1
 
@@ -177,6 +177,109 @@ sed -e 's/ meta .*/ meta/' -e 's/ names.*/ names/' "$room/outcomes" >"$room/got"
     [ "$(stat -c %a "$room/d/a")" = 600 ]
 tell 'each call' $?
 
+# ---- each call on a buffered file; a write that is refused is told by the flush behind it, and the file has the others
+
+printf 'hello world' >"$room/buffered"
+cat >"$room/script" <<END
+lane
+open 0 rw $(at buffered)
+buffer 0 8
+buf_read 0 3
+buf_seek 0 cur 2
+buf_read 0 100
+buf_read 0 100
+buf_read 0 1
+buf_seek 0 start 0
+buf_write 0 4a
+buf_write_all 0 4f42
+buf_flush 0
+buf_read 0 2
+unbuffer 0
+read 0 3
+buf_flush 0
+close 0
+lane
+open 1 w $(printf /dev/full | hex)
+buffer 1 1
+buf_write 1 00
+buf_flush 1
+buf_flush 1
+buf_read 1 1
+close 1
+END
+cat >"$room/wanted" <<END
+lane 0 call 0 opened
+lane 0 call 1 done
+lane 0 call 2 read 68656c
+lane 0 call 3 count 5
+lane 0 call 4 read 20776f
+lane 0 call 5 read 726c64
+lane 0 call 6 end
+lane 0 call 7 count 0
+lane 0 call 8 count 1
+lane 0 call 9 done
+lane 0 call 10 done
+lane 0 call 11 read 6c6f
+lane 0 call 12 done
+lane 0 call 13 read 20776f
+lane 0 call 14 nofile
+lane 0 call 15 done
+lane 1 call 0 opened
+lane 1 call 1 done
+lane 1 call 2 count 1
+lane 1 call 3 refused sftp 4
+lane 1 call 4 done
+lane 1 call 5 refused io NotReadable
+lane 1 call 6 done
+END
+run
+[ $status -eq 0 ] && diff "$room/wanted" "$room/outcomes" && [ "$(cat "$room/buffered")" = 'JOBlo world' ]
+tell 'each call on a buffered file' $?
+
+# ---- a read that was cancelled is the next one's, and a flush that was cancelled leaves its statuses to the next one
+
+cat >"$room/script" <<END
+lane
+open 0 rw $(at buffered)
+buffer 0 8
+buf_read 0 1
+buf_read 0 3
+buf_write 0 58
+buf_flush 0
+buf_flush 0
+close 0
+step 0
+flush
+take
+step 0
+step 0
+step 0
+flush
+cancel 0
+step 0
+take
+step 0
+step 0
+step 0
+flush
+step 0
+cancel 0
+END
+cat >"$room/wanted" <<END
+lane 0 call 0 opened
+lane 0 call 1 done
+lane 0 call 2 cancelled
+lane 0 call 3 read 4a4f42
+lane 0 call 4 count 1
+lane 0 call 5 cancelled
+lane 0 call 6 done
+lane 0 call 7 done
+END
+run
+[ $status -eq 0 ] && diff "$room/wanted" "$room/outcomes" && [ "$(cat "$room/buffered")" = 'JOBXo world' ] &&
+    [ "$(grep -c '^> read' "$room/text")" -eq 1 ]
+tell 'calls on a buffered file that are cancelled' $?
+
 # ---- files go up and come down whole, in two lanes at once
 
 mkdir "$room/up"
@@ -192,13 +295,41 @@ for size in 0 1 255 262144 8000000; do
         echo lane
         echo "open 0 wc $(at up/parts)"
         echo "write_all 0 6162"
+        echo "write_parts 0 63 - 64"
         echo "close 0"
     } >"$room/script"
     run
     printf 'lane 0 call 2 read %s\n' "${content:--}" >"$room/wanted"
     grep '^lane 0 call 2 ' "$room/outcomes" >"$room/got"
-    [ $status -eq 0 ] && cmp "$room/wanted" "$room/got" && cmp "$room/source" "$room/up/whole" && [ "$(cat "$room/up/parts")" = ab ]
+    [ $status -eq 0 ] && cmp "$room/wanted" "$room/got" && cmp "$room/source" "$room/up/whole" && [ "$(cat "$room/up/parts")" = abcd ]
     tell "a file of $size bytes" $?
+done
+
+# ---- buffered files go up through a window of requests, and come down in more reads than requests
+
+for size in 0 1 255 262144 8000000; do
+    head -c $size /dev/urandom >"$room/source"
+    content=$(hex <"$room/source")
+    {
+        echo lane
+        echo "open 0 wc $(at up/buffered)"
+        echo 'buffer 0 4096'
+        echo "buf_write_all 0 ${content:--}"
+        echo 'buf_flush 0'
+        echo 'close 0'
+        echo "open 0 r $(at up/buffered)"
+        echo 'buffer 0 262144'
+        yes 'buf_read 0 200000' | head -n $((size / 100000 + 3))
+        echo 'close 0'
+    } >"$room/script"
+    rm -f "$room/up/buffered"
+    run
+    printf %s "$content" >"$room/wanted"
+    sed -n 's/^lane 0 call [0-9]* read //p' "$room/outcomes" | tr -d '\n' >"$room/got"
+    printf 'lane 0 call %s\n' '0 opened' '1 done' '2 done' '3 done' '4 done' '5 opened' '6 done' >"$room/first"
+    head -n 7 "$room/outcomes" | cmp - "$room/first" && [ $status -eq 0 ] && cmp "$room/wanted" "$room/got" &&
+        cmp "$room/source" "$room/up/buffered" && ! grep -q refused "$room/outcomes" && grep -q ' end$' "$room/outcomes"
+    tell "a buffered file of $size bytes" $?
 done
 
 # ---- a listing of 1,000 entries and the two that stand for the directory and its parent
