@@ -12,4 +12,5 @@ default_options =
       tokio_compat_file_write_limit = 655360;
       max_read_len = None;
       max_write_len = None;
+      read_window = 1;
     }

@@ -11,11 +11,12 @@ pub struct SftpOptions {
     pub(crate) tokio_compat_file_write_limit: usize,
     pub(crate) max_read_len: Option<u32>,
     pub(crate) max_write_len: Option<u32>,
+    pub(crate) read_window: u32,
 }
 
 impl SftpOptions {
     /// The defaults: a flush interval of 500 microseconds, 100 pending requests, first room for 100 requests and
-    /// for 1024 bytes of a reply, a write limit of 655360 bytes, and no lengths beside the server's.
+    /// for 1024 bytes of a reply, a write limit of 655360 bytes, no lengths beside the server's, and a window of one READ.
     pub fn new() -> SftpOptions
         ensures { result ≡ default_options }
     {
@@ -27,6 +28,7 @@ impl SftpOptions {
             tokio_compat_file_write_limit: 655360,
             max_read_len: None,
             max_write_len: None,
+            read_window: 1,
         }
     }
 
@@ -92,6 +94,15 @@ impl SftpOptions {
         self
     }
 
+    /// How many READs of a whole read may be under way at once.
+    pub fn read_window(mut self, reads: u32) -> SftpOptions
+        requires { (1 ≤ reads) × (reads ≤ 64) }
+        ensures { result ≡ record self { read_window = reads } }
+    {
+        self.read_window = reads;
+        self
+    }
+
     /// The flush interval, in microseconds.
     pub fn get_flush_interval(&self) -> u64
         ensures { result ≡ self.now.flush_interval }
@@ -125,6 +136,13 @@ impl SftpOptions {
         ensures { result ≡ self.now.tokio_compat_file_write_limit }
     {
         self.tokio_compat_file_write_limit
+    }
+
+    /// The window of a whole read, in READs.
+    pub fn get_read_window(&self) -> u32
+        ensures { result ≡ self.now.read_window }
+    {
+        self.read_window
     }
 }
 
