@@ -1,0 +1,5 @@
+pub mod PlanLaws
+pub mod StepLaws
+pub mod RowLaws
+pub mod KeepLaws
+pub mod PlainLaws

@@ -1,0 +1,10 @@
+use Rattle.std.proofs.Common.{◌≡◌, length}
+use Rattle.sftp_window.specs.PlainSteps.{answered_above, least_by, least_of}
+use Rattle.sftp_window.proofs.numbers.answered_above.Given as goal
+
+-- the least so far, and that of the READs that are left
+abbrev pub invariant-loop-rest : goal.invariant-loop-rest
+invariant-loop-rest l = least_of l.least (least_by (answered_above l.p) l.rest) ≡ least_by (answered_above l.p) l.answered
+
+abbrev pub decreases-loop-rest : goal.decreases-loop-rest
+decreases-loop-rest l = length l.rest

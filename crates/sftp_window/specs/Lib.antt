@@ -1,0 +1,3 @@
+pub mod Windows
+pub mod PlainSteps
+pub mod WindowRows
