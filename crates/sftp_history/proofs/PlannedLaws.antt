@@ -1,6 +1,6 @@
 -- What the laws of the plans say of a lane's calls. A further call whose numbers have a range is one line of `planned_fits`.
 use Rattle.std.proofs.Common.{◌≡◌, ◌≤◌, ◌+◌, ◌++◌, ℕ, zero, suc, Bool, true, false, List, [], ◌∷◌, Option, Some, None, refl, ap, sym, ◌∙◌, subst, arith, if◌then◌else◌, inl, inr}
-use Rattle.std.specs.Prelude.{◌⊎◌, ◌||◌, ◌&&◌, IfSome, slice_set, slice_index_or}
+use Rattle.std.specs.Prelude.{◌⊎◌, ◌||◌, ◌&&◌, IfSome, nat_le, slice_set, slice_index_or}
 use Rattle.std.proofs.lemmas.Bool.{and_parts}
 use Rattle.std.proofs.lemmas.Bool.Decides.{nat_tests}
 use Rattle.std.specs.List.{list_any}
@@ -14,7 +14,7 @@ use Rattle.sftp_model.specs.declared.slot.Move.TheVariants.{Ask, Done}
 use Rattle.sftp_model.specs.declared.slot.Site.{Site}
 use Rattle.sftp_model.specs.declared.slot.Slot.{Slot}
 use Rattle.sftp_model.specs.declared.slot.Slot.TheVariants.{Empty, File, Buffered}
-use Rattle.sftp_model.specs.Fits.{FitsLong, FitsSet}
+use Rattle.sftp_model.specs.Fits.{FitsLong, FitsNumber, FitsSet}
 use Rattle.sftp_model.specs.Slots.{slot_at, with_slot, slot_has, has_grant}
 use Rattle.sftp_calls.specs.Moves.{Answers, Own, once_answered, done_by}
 use Rattle.sftp_calls.specs.FilePlans.{close_slot_next}
@@ -28,7 +28,7 @@ use Rattle.sftp_file.specs.declared.open_options.OpenOptions.{OpenOptions}
 use Rattle.sftp_file.specs.OpenOptions.{flags_of}
 use Rattle.sftp_history.specs.declared.call.Call.{Call}
 use Rattle.sftp_history.specs.declared.call.Call.TheVariants as call
-use Rattle.sftp_history.specs.Lanes.{is_long, is_slot, is_some_long, is_within}
+use Rattle.sftp_history.specs.Lanes.{is_long, is_short, is_slot, is_some_long, is_within}
 use Rattle.sftp_history.specs.Calls.{planned, next, cancelled, held_by, move_at}
 
 -- ---- the numbers of a call fit their fields
@@ -54,6 +54,9 @@ flags_fit o =
 long_fits : (n : ℕ) → is_long n ≡ true → FitsLong n
 long_fits n e = grind (arith, nat_tests)
 
+short_fits : (n : ℕ) → is_short n ≡ true → FitsNumber n
+short_fits n e = grind (arith, nat_tests)
+
 size_fits : (size : Option ℕ) → is_some_long size ≡ true → IfSome size FitsLong
 size_fits None e = tt
 size_fits (Some n) e = long_fits n e
@@ -62,6 +65,7 @@ pub planned_fits : (c : Call) → is_within c ≡ true → FitsCall (planned c)
 planned_fits (call.OpenFile slot flags path) e = flags_fit flags
 planned_fits (call.SetLen slot n) e = long_fits n (and_parts (is_slot slot) (is_long n) e).1
 planned_fits (call.SetStat path size perm) e = size_fits size e
+planned_fits (call.FsRead path bound) e = short_fits bound (and_parts (nat_le 1 bound) (is_short bound) e).1
 planned_fits other e = tt
 
 -- ---- what a call holds

@@ -42,9 +42,9 @@ pub calls_on_buffered_files :
 calls_on_buffered_files = refl
 
 pub calls_on_paths :
-    in_lane (codes "fs_write 61 62" ∷ codes "list - 1" ∷ codes "stat 61" ∷ codes "lstat 61" ∷ codes "set_stat 61 - -" ∷ codes "set_stat 61 0 65535" ∷ codes "remove 61" ∷ codes "mkdir 61" ∷ codes "rmdir 61"
+    in_lane (codes "fs_read 61 4294967295" ∷ codes "fs_read - 1" ∷ codes "fs_write 61 62" ∷ codes "list - 1" ∷ codes "stat 61" ∷ codes "lstat 61" ∷ codes "set_stat 61 - -" ∷ codes "set_stat 61 0 65535" ∷ codes "remove 61" ∷ codes "mkdir 61" ∷ codes "rmdir 61"
     ∷ codes "rename 61 62" ∷ codes "hard_link 61 62" ∷ codes "symlink 61 62" ∷ codes "read_link 61" ∷ codes "canonicalize -" ∷ codes "cwd 2f" ∷ [])
-    ≡ lane_of (call.FsWrite (codes "a") (codes "b") ∷ call.List [] 1 ∷ call.Stat (codes "a") ∷ call.Lstat (codes "a") ∷ call.SetStat (codes "a") None None ∷ call.SetStat (codes "a") (Some 0) (Some 65535)
+    ≡ lane_of (call.FsRead (codes "a") 4294967295 ∷ call.FsRead [] 1 ∷ call.FsWrite (codes "a") (codes "b") ∷ call.List [] 1 ∷ call.Stat (codes "a") ∷ call.Lstat (codes "a") ∷ call.SetStat (codes "a") None None ∷ call.SetStat (codes "a") (Some 0) (Some 65535)
     ∷ call.Remove (codes "a") ∷ call.Mkdir (codes "a") ∷ call.Rmdir (codes "a") ∷ call.Rename (codes "a") (codes "b") ∷ call.HardLink (codes "a") (codes "b") ∷ call.Symlink (codes "a") (codes "b")
     ∷ call.ReadLink (codes "a") ∷ call.Canonicalize [] ∷ call.Cwd (codes "/") ∷ [])
 calls_on_paths = refl
@@ -92,6 +92,18 @@ too_far_on = refl
 
 pub too_far_back : in_lane (codes "seek 0 cur -9223372036854775809" ∷ []) ≡ Err (2, reason.Range)
 too_far_back = refl
+
+pub whole_read_of_nothing : in_lane (codes "fs_read 61 0" ∷ []) ≡ Err (2, reason.Range)
+whole_read_of_nothing = refl
+
+pub whole_read_of_too_many : in_lane (codes "fs_read 61 4294967296" ∷ []) ≡ Err (2, reason.Range)
+whole_read_of_too_many = refl
+
+pub path_before_bound : in_lane (codes "fs_read 6 0" ∷ []) ≡ Err (2, reason.Hex)
+path_before_bound = refl
+
+pub whole_read_without_bound : in_lane (codes "fs_read 61" ∷ []) ≡ Err (2, reason.Count)
+whole_read_without_bound = refl
 
 pub list_of_nothing : in_lane (codes "list 61 0" ∷ []) ≡ Err (2, reason.Range)
 list_of_nothing = refl

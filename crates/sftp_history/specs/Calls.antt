@@ -51,6 +51,7 @@ planned (call.BufWrite slot bytes) = plan.BufWrite slot bytes
 planned (call.BufWriteAll slot bytes) = plan.BufWriteAll slot bytes
 planned (call.BufFlush slot) = plan.BufFlush slot
 planned (call.BufSeek slot position) = plan.BufSeek slot position
+planned (call.FsRead path bound) = plan.FsRead path bound
 planned (call.FsWrite path bytes) = plan.FsWrite path bytes
 planned (call.List path bound) = plan.Names path bound
 planned (call.Stat path) = plan.Stat path

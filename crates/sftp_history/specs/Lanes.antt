@@ -13,12 +13,16 @@ is_slot slot = nat_lt slot 16
 abbrev pub is_long : ℕ → Bool
 is_long n = nat_lt n (2 ^ 64)
 
+-- a number of 32 bits
+abbrev pub is_short : ℕ → Bool
+is_short n = nat_lt n (2 ^ 32)
+
 -- a number of 64 bits, where there is one
 abbrev pub is_some_long : Option ℕ → Bool
 is_some_long None = true
 is_some_long (Some n) = is_long n
 
--- the slots that a call names are there, a bound or a length is not 0, and a size has 64 bits
+-- the slots that a call names are there, a bound or a length is not 0, a bound of READs has 32 bits, and a size 64
 abbrev pub is_within : Call → Bool
 is_within (call.OpenFile slot flags path) = is_slot slot
 is_within (call.Read slot n) = is_slot slot
@@ -41,14 +45,17 @@ is_within (call.BufWrite slot bytes) = is_slot slot
 is_within (call.BufWriteAll slot bytes) = is_slot slot
 is_within (call.BufFlush slot) = is_slot slot
 is_within (call.BufSeek slot position) = is_slot slot
+is_within (call.FsRead path bound) = nat_le 1 bound && is_short bound
 is_within (call.List path bound) = nat_le 1 bound
 is_within (call.SetStat path size perm) = is_some_long size
 is_within of_paths = true
 
--- what a call counts: the WRITEs of a buffered file may be as many as its bytes, and all be under way when it has ended
+-- what a call counts: the WRITEs of a buffered file may be as many as its bytes, and the READs of a whole read 64, and
+-- all be under way when it has ended
 abbrev pub weight : Call → ℕ
 weight (call.BufWrite slot bytes) = 2 + length bytes
 weight (call.BufWriteAll slot bytes) = 2 + length bytes
+weight (call.FsRead path bound) = 65
 weight other = 2
 
 -- what a lane counts: itself and its calls

@@ -176,10 +176,10 @@ set_stat_fields_decides = first same_text (λ x y. same_option x.0 y.0 && option
 -- ---- Call, variant by variant, and Lane
 
 abbrev call_tests : Each Bool call.the_parts
-call_tests = (open_fields, (two_numbers, (two_numbers, (number_text, (number_text, (number_texts, (seek_fields, (two_numbers, (two_numbers, (number, (number, (three_numbers, (two_numbers, (number, (two_numbers, (number, (two_numbers, (number_text, (number_text, (number, (seek_fields, (two_texts, (text_number, (text, (text, (set_stat_fields, (text, (text, (text, (two_texts, (two_texts, (two_texts, (text, (text, (text, tt)))))))))))))))))))))))))))))))))))
+call_tests = (open_fields, (two_numbers, (two_numbers, (number_text, (number_text, (number_texts, (seek_fields, (two_numbers, (two_numbers, (number, (number, (three_numbers, (two_numbers, (number, (two_numbers, (number, (two_numbers, (number_text, (number_text, (number, (seek_fields, (text_number, (two_texts, (text_number, (text, (text, (set_stat_fields, (text, (text, (text, (two_texts, (two_texts, (two_texts, (text, (text, (text, tt))))))))))))))))))))))))))))))))))))
 
 call_tests_decide : EachDecides call.the_parts call_tests
-call_tests_decide = (open_fields_decides, (two_numbers_decides, (two_numbers_decides, (number_text_decides, (number_text_decides, (number_texts_decides, (seek_fields_decides, (two_numbers_decides, (two_numbers_decides, (number_decides, (number_decides, (three_numbers_decides, (two_numbers_decides, (number_decides, (two_numbers_decides, (number_decides, (two_numbers_decides, (number_text_decides, (number_text_decides, (number_decides, (seek_fields_decides, (two_texts_decides, (text_number_decides, (text_decides, (text_decides, (set_stat_fields_decides, (text_decides, (text_decides, (text_decides, (two_texts_decides, (two_texts_decides, (two_texts_decides, (text_decides, (text_decides, (text_decides, tt)))))))))))))))))))))))))))))))))))
+call_tests_decide = (open_fields_decides, (two_numbers_decides, (two_numbers_decides, (number_text_decides, (number_text_decides, (number_texts_decides, (seek_fields_decides, (two_numbers_decides, (two_numbers_decides, (number_decides, (number_decides, (three_numbers_decides, (two_numbers_decides, (number_decides, (two_numbers_decides, (number_decides, (two_numbers_decides, (number_text_decides, (number_text_decides, (number_decides, (seek_fields_decides, (text_number_decides, (two_texts_decides, (text_number_decides, (text_decides, (text_decides, (set_stat_fields_decides, (text_decides, (text_decides, (text_decides, (two_texts_decides, (two_texts_decides, (two_texts_decides, (text_decides, (text_decides, (text_decides, tt))))))))))))))))))))))))))))))))))))
 
 pub call_decides : (a b : Call) → Decides (same_call.ghosts.eq a b) (a ≡ b)
 call_decides a b = decides_by _ (values_one call.enum a b) (λ e. ap call.as_values e) (choice_decides call.the_parts call_tests call_tests_decide (call.as_values a) (call.as_values b))

@@ -91,6 +91,9 @@ a_server = refl
 pub an_option : script_of (codes "option max_read_len 7") ≡ Ok (record empty_script { options = record empty_script.options { max_read_len = Some 7 } })
 an_option = refl
 
+pub greatest_window : script_of (codes "option read_window 64") ≡ Ok (record empty_script { options = record empty_script.options { read_window = 64 } })
+greatest_window = refl
+
 -- ---- the first line that is refused, and why
 
 pub unknown_word : script_of (codes "foo") ≡ Err (1, reason.Word)
@@ -128,11 +131,20 @@ read_too_much = refl
 pub not_a_number : script_of (codes "option max_read_len x") ≡ Err (1, reason.Number)
 not_a_number = refl
 
-pub unknown_option : script_of (codes "option read_window x") ≡ Err (1, reason.Mode)
+pub unknown_option : script_of (codes "option no_such x") ≡ Err (1, reason.Mode)
 unknown_option = refl
 
 pub option_range : script_of (codes "option max_pending_requests 0") ≡ Err (1, reason.Range)
 option_range = refl
+
+pub window_of_nothing : script_of (codes "option read_window 0") ≡ Err (1, reason.Range)
+window_of_nothing = refl
+
+pub window_too_great : script_of (codes "option read_window 65") ≡ Err (1, reason.Range)
+window_too_great = refl
+
+pub window_twice : script_of (text (codes "option read_window 1" ∷ codes "option read_window 1" ∷ [])) ≡ Err (2, reason.Repeat)
+window_twice = refl
 
 pub option_twice : script_of (text (codes "option flush_interval 0" ∷ codes "option flush_interval 0" ∷ [])) ≡ Err (2, reason.Repeat)
 option_twice = refl

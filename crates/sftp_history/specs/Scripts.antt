@@ -103,6 +103,7 @@ option_line d name word =
     else if bytes_eq name (codes "max_read_len") then option_in d 4 1 greatest_u32 word (λ n. record d.script.options { max_read_len = Some n })
     else if bytes_eq name (codes "max_write_len") then option_in d 5 1 greatest_u32 word (λ n. record d.script.options { max_write_len = Some n })
     else if bytes_eq name (codes "flush_interval") then option_in d 6 0 1000000 word (λ n. record d.script.options { flush_interval = n })
+    else if bytes_eq name (codes "read_window") then option_in d 7 1 64 word (λ n. record d.script.options { read_window = n })
     else Err reason.Mode
 
 -- ---- the server
@@ -325,7 +326,8 @@ buffer_call word words =
 -- a call on a path or two
 abbrev pub path_call : List ℕ → List (List ℕ) → Option (Result Call Reason)
 path_call word words =
-    if bytes_eq word (codes "fs_write") then Some (two bytes_in bytes_in call.FsWrite words)
+    if bytes_eq word (codes "fs_read") then Some (two bytes_in (number_in 1 greatest_u32) call.FsRead words)
+    else if bytes_eq word (codes "fs_write") then Some (two bytes_in bytes_in call.FsWrite words)
     else if bytes_eq word (codes "list") then Some (two bytes_in (number_in 1 greatest_u32) call.List words)
     else if bytes_eq word (codes "stat") then Some (one bytes_in call.Stat words)
     else if bytes_eq word (codes "lstat") then Some (one bytes_in call.Lstat words)

@@ -29,6 +29,19 @@ nothing_offered = refl
 pub read_less : setting_of [] (record default_options { max_read_len = Some 7 }) (extensions 4) [] ≡ set_by false 4 7 32768
 read_less = refl
 
+-- a window within its range is taken as it is, and none is less than one READ or more than 64
+abbrev window_of : ℕ → ℕ
+window_of reads = (setting_of [] (record default_options { read_window = reads }) (extensions 0) []).facts.read_window
+
+pub window_within : window_of 3 ≡ 3
+window_within = refl
+
+pub no_window : window_of 0 ≡ 1
+no_window = refl
+
+pub window_too_great : window_of 65 ≡ 64
+window_too_great = refl
+
 -- a server that offers limits and hasn't told them yet
 pub not_told_yet : setting_of [] default_options (extensions 32) asked_limits ≡ set_by true 32 32768 32768
 not_told_yet = refl

@@ -1,5 +1,5 @@
 -- What the options of a session, the server's VERSION and its limits fix.
-use Rattle.std.specs.Prelude.{max, Bool, true, false, List, Option, Some, None, Result, Ok, Err}
+use Rattle.std.specs.Prelude.{max, min, Bool, true, false, List, Option, Some, None, Result, Ok, Err}
 use Rattle.sftp_core.specs.Info.{offers_limits}
 use Rattle.sftp_core.specs.declared.options.SftpOptions.{SftpOptions}
 use Rattle.sftp_model.specs.declared.config.Limits.{Limits}
@@ -19,7 +19,7 @@ use Rattle.sftp_history.specs.Calls.{Setting}
 abbrev pub greeting : Extensions → Reply
 greeting extensions = reply.Version 3 extensions
 
--- the facts that plans go by; the write limit is at least one byte, as the lengths are
+-- the facts that plans go by; the write limit is at least one byte, as the lengths are, and the window 1 to 64 READs
 abbrev pub facts_of : SftpOptions → Extensions → Option Limits → Facts
 facts_of options extensions limits =
     record {
@@ -27,7 +27,7 @@ facts_of options extensions limits =
       read_len = (session_lengths limits options.max_read_len options.max_write_len).0;
       write_len = (session_lengths limits options.max_read_len options.max_write_len).1;
       write_limit = max 1 options.tokio_compat_file_write_limit;
-      read_window = 1;
+      read_window = min 64 (max 1 options.read_window);
     }
 
 abbrev pub read_limits : Result Limits FrameError → Option Limits

@@ -109,6 +109,11 @@ pub enum Call {
         slot: u8,
         position: SeekFrom,
     },
+    /// Reads the file at a path, all of it, by at most `bound` READs that bring bytes.
+    FsRead {
+        path: ByteText,
+        bound: u32,
+    },
     /// Makes or empties the file at a path, and writes all of the bytes to it.
     FsWrite {
         path: ByteText,

@@ -67,6 +67,10 @@ impl TryCopy for Call {
                 slot: *slot,
                 position: *position,
             }),
+            Call::FsRead { path, bound } => Ok(Call::FsRead {
+                path: path.try_copy(alloc)?,
+                bound: *bound,
+            }),
             Call::FsWrite { path, bytes } => Ok(Call::FsWrite {
                 path: path.try_copy(alloc)?,
                 bytes: bytes.try_copy(alloc)?,

@@ -1,12 +1,12 @@
 ghost use Rattle.std.specs.Prelude.{◌≡◌, ◌+◌, ◌^◌, length, min, take};
 ghost use Rattle.std.specs.List.{list_all, sum_by};
-ghost use Rattle.sftp_history.specs.Lanes.{is_long, is_within, weight, lane_weight, are_ok};
+ghost use Rattle.sftp_history.specs.Lanes.{is_long, is_short, is_within, weight, lane_weight, are_ok};
 
 use crate::call::{Call, Lane};
 
 /// Whether a session can be given these lanes: each slot is below 16, each bound and each length of a buffer at least 1,
-/// and the number of lanes, 2 for each call, and the bytes of each `BufWrite` and `BufWriteAll` are together below
-/// 2147483648.
+/// and the number of lanes, 65 for each `FsRead` and 2 for each other call, and the bytes of each `BufWrite` and
+/// `BufWriteAll` are together below 2147483648.
 #[tactic(auto, using(crate::proofs::Weights::limited_below))]
 pub fn lanes_ok(lanes: &[Lane]) -> bool
     ensures { result ≡ are_ok lanes.now }
@@ -38,6 +38,13 @@ fn is_long(_n: u64) -> bool
     true
 }
 
+/// Whether a bound is one of 32 bits, as each is.
+fn is_short(_n: u32) -> bool
+    ensures { result ≡ is_short _n }
+{
+    true
+}
+
 /// Whether a call names slots that are there, and no bound or length of 0.
 fn is_call_within(call: &Call) -> bool
     ensures { result ≡ is_within call.now }
@@ -64,6 +71,7 @@ fn is_call_within(call: &Call) -> bool
         Call::BufWriteAll { slot, .. } => *slot < 16,
         Call::BufFlush { slot } => *slot < 16,
         Call::BufSeek { slot, .. } => *slot < 16,
+        Call::FsRead { bound, .. } => 1 <= *bound && is_short(*bound),
         Call::List { bound, .. } => 1 <= *bound,
         Call::SetStat { size, .. } => size.is_none_or(is_long),
         _ => true,
@@ -84,6 +92,7 @@ fn weight_of(call: &Call) -> u32
     match call {
         Call::BufWrite { bytes, .. } => weight_of_bytes(bytes.as_slice()),
         Call::BufWriteAll { bytes, .. } => weight_of_bytes(bytes.as_slice()),
+        Call::FsRead { .. } => 65,
         _ => 2,
     }
 }

@@ -2,6 +2,7 @@
 use Rattle.std.proofs.Common.{◌≡◌, ◌<◌, ◌==◌, ℕ, Bool, true, false, List, [], ◌∷◌, Option, Some, None, if◌then◌else◌, refl, ap, sym, ◌∙◌, subst, inl, inr}
 use Rattle.std.specs.Prelude.{◌&&◌, MatchOption, length}
 use Rattle.std.proofs.lemmas.Bool.{and_parts, both_ways, eq-eqb, false_from_ne_true, or_left, or_right}
+use Rattle.sftp_model.specs.declared.error.IoKind.TheVariants as kind
 use Rattle.sftp_model.specs.declared.outcome.Outcome.TheVariants as outcome
 use Rattle.sftp_model.specs.declared.reply.Reply.{Reply}
 use Rattle.sftp_model.specs.declared.reply.Reply.TheVariants as reply
@@ -15,9 +16,11 @@ use Rattle.sftp_model.specs.declared.slot.Slot.TheVariants.{Empty, File, Buffere
 use Rattle.sftp_model.specs.Slots.{has_grant, slot_at, with_slot}
 use Rattle.sftp_tree.proofs.NameLaws.{handles_tell}
 use Rattle.sftp_calls.specs.CallPlans as plan
-use Rattle.sftp_calls.specs.FilePlans.{close_slot_next}
-use Rattle.sftp_calls.specs.GoodMoves.{Closes, IsBrought, IsGoodAsk, IsHeldHandle, Situation, WithinRange, brings, situation}
-use Rattle.sftp_calls.specs.Moves.{Answers, Own, done_by, handle_of, once_answered}
+use Rattle.sftp_calls.specs.FilePlans.{close_slot_next, open_request}
+use Rattle.sftp_calls.specs.GoodMoves.{Closes, IsBrought, IsGoodAsk, IsHeldHandle, Situation, brings, situation}
+use Rattle.sftp_calls.specs.Moves.{Answers, Own, done_by, handle_of, is_too_long, once_answered, refuses}
+use Rattle.sftp_calls.specs.PathPlans.{from_directory}
+use Rattle.sftp_calls.specs.WindowPlans.{to_read}
 use Rattle.sftp_calls.proofs.CallLaws.{asks_good}
 use Rattle.sftp_calls.proofs.MoveLaws.{by_status}
 use Rattle.sftp_calls.proofs.SlotLaws.{slot_held}
@@ -38,6 +41,7 @@ use Rattle.sftp_history.proofs.GrantLaws.{any_passes, below_none, first_passes}
 use Rattle.sftp_history.proofs.HolderLaws.{may_of, own_asked, slots_owned}
 use Rattle.sftp_history.proofs.LetGoLaws.{granted_below}
 use Rattle.sftp_history.proofs.PlannedLaws.{AsksClose, asks_close}
+use Rattle.sftp_read_back.proofs.WindowReads.{ByHandle, WindowAsked, asks_read, window_asked}
 use Rattle.sftp_read_back.specs.Bearing.{Bears, BearsGrant, MayUse, brought, held_with, used_in}
 
 -- ---- handles
@@ -57,11 +61,6 @@ grant_came (Some other) h is e = absurd cc
 
 -- ---- what a lane's call may ask
 
--- no call of a lane is a whole read, which alone might ask past the range
-planned_within : (c : Call) (site : Site) (facts : Facts) (own : Own) (answers : Answers) → WithinRange (planned c) site facts own answers
-planned_within (call.OpenFile slot flags path) site facts own answers = tt
-planned_within other site facts own answers = tt
-
 -- a request that may be asked bears a handle that is held, unless it is a CLOSE
 good_bears : (t : Situation) (r : Request) (h : List ℕ) → is_close r ≡ false → IsGoodAsk t r → Bears r h → IsHeldHandle t h
 good_bears t (request.Close handle) h plain good b = absurd cc
@@ -74,6 +73,30 @@ good_bears t (request.Fsync handle) h plain good b = subst (IsHeldHandle t) b go
 good_bears t (request.CopyData from from_offset len to to_offset) h plain good (inl b) = subst (IsHeldHandle t) b good.0
 good_bears t (request.CopyData from from_offset len to to_offset) h plain good (inr b) = subst (IsHeldHandle t) b good.1
 good_bears t other h plain good b = absurd b
+
+-- a whole read, which alone might ask past the range, asks by the handle that its OPEN brought
+whole_bears : (path : List ℕ) (bound : ℕ) (site : Site) (facts : Facts) (mine : Own) (answers : Answers) (r : Request) (h : List ℕ) → plan.next (plan.FsRead path bound) site facts mine answers ≡ Ask r → Bears r h
+    → IsHeldHandle (situation (plan.FsRead path bound) site facts mine answers) h
+whole_bears path bound site facts [] answers r h asks b = absurd (opens (is_too_long (open_request to_read (from_directory site path))) asks)
+  where
+    opens : (long : Bool) → (if long then refuses kind.PathTooLong site else Ask (open_request to_read (from_directory site path))) ≡ Ask r → ⊥
+    opens true e = cc e
+    opens false e = let same : r ≡ open_request to_read (from_directory site path) = cc e in subst (λ (q : Request). Bears q h) same b
+whole_bears path bound site facts (first ∷ reads) answers r h asks b =
+    let w : WindowAsked (Some bound) first reads answers facts r = window_asked path (Some bound) site facts first reads answers r asks in
+    let by : ByHandle w.handle r = asks_read w.handle (Some bound) reads answers facts r w.asks in
+    let same : w.handle ≡ h = subst (λ (q : Request). Bears q h) by.is b in
+    record {
+      grant = first.0;
+      held = inr (record { asked = first.1; later = reads; handle = w.handle; first = refl; came = w.brought });
+      bears = sym same ∙ sym (ap handle_of w.brought);
+    }
+
+-- what a call asks bears a handle that is held, unless it is a CLOSE
+call_bears : (c : plan.Call) (site : Site) (facts : Facts) (mine : Own) (answers : Answers) (r : Request) (h : List ℕ) → is_close r ≡ false → plan.next c site facts mine answers ≡ Ask r → Bears r h
+    → IsHeldHandle (situation c site facts mine answers) h
+call_bears (plan.FsRead path bound) site facts mine answers r h plain asks b = whole_bears path bound site facts mine answers r h asks b
+call_bears other site facts mine answers r h plain asks b = good_bears (situation other site facts mine answers) r h plain (asks_good other site facts mine answers r tt asks) b
 
 -- what a call brings came with its first request
 first_brought : (c : plan.Call) (own : Own) (answers : Answers) (g : ℕ) → brings c own answers g → IsBrought own answers g
@@ -114,9 +137,7 @@ held_handle s past lane n id r h j plain b = by_call (current s past lane) refl 
     by_call None at is = absurd cc
     by_call (Some c) at is =
         let asks : next c (site_of s past lane) s.facts mine (answer past) ≡ Ask r = cc is in
-        let w = good_bears (situation (planned c) (site_of s past lane) s.facts mine (answer past)) r h plain
-        (asks_good (planned c) (site_of s past lane) s.facts mine (answer past) r (planned_within c (site_of s past lane) s.facts mine (answer past)) asks) b
-        in (
+        let w = call_bears (planned c) (site_of s past lane) s.facts mine (answer past) r h plain asks b in (
           w.grant,
           elim w.held [
             | inl stood ↦ (let owned = slots_owned s past lane w.grant j.1 stood in

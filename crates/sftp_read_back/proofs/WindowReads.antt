@@ -39,12 +39,12 @@ may_reads past answers first reads are may = let both : MayBeAnswered (first ∷
 -- ---- what the window asks
 
 -- the window asks on the handle that the OPEN brought
-record WindowAsked (bound : Option ℕ) (first : ℕ × Request) (reads : Own) (answers : Answers) (facts : Facts) (r : Request) : Type 0 where
-  handle : List ℕ
-  brought : answers first.0 ≡ Some (reply.Handle handle)
-  asks : Asking handle bound reads (answered_prefix reads answers) (outside reads answers) facts r
+pub record WindowAsked (bound : Option ℕ) (first : ℕ × Request) (reads : Own) (answers : Answers) (facts : Facts) (r : Request) : Type 0 where
+  pub handle : List ℕ
+  pub brought : answers first.0 ≡ Some (reply.Handle handle)
+  pub asks : Asking handle bound reads (answered_prefix reads answers) (outside reads answers) facts r
 
-window_asked : (path : List ℕ) (bound : Option ℕ) (site : Site) (facts : Facts) (first : ℕ × Request) (reads : Own) (answers : Answers) (r : Request) → fs_read_next path bound site facts (first ∷ reads) answers ≡ Ask r
+pub window_asked : (path : List ℕ) (bound : Option ℕ) (site : Site) (facts : Facts) (first : ℕ × Request) (reads : Own) (answers : Answers) (r : Request) → fs_read_next path bound site facts (first ∷ reads) answers ≡ Ask r
     → WindowAsked bound first reads answers facts r
 window_asked path bound site facts first reads answers r e = by_answer (answers first.0) refl e
   where
@@ -67,7 +67,7 @@ pub record ByHandle (handle : List ℕ) (r : Request) : Type 0 where
   pub len : ℕ
   pub is : r ≡ request.Read handle offset len
 
-asks_read : (handle : List ℕ) (bound : Option ℕ) (reads : Own) (answers : Answers) (facts : Facts) (r : Request) → Asking handle bound reads (answered_prefix reads answers) (outside reads answers) facts r → ByHandle handle r
+pub asks_read : (handle : List ℕ) (bound : Option ℕ) (reads : Own) (answers : Answers) (facts : Facts) (r : Request) → Asking handle bound reads (answered_prefix reads answers) (outside reads answers) facts r → ByHandle handle r
 asks_read handle bound reads answers facts r k = by_case k.asked
   where
     by_case : AtGap handle reads (answered_prefix reads answers) (outside reads answers) r ⊎ AfterAll handle reads (answered_prefix reads answers) (outside reads answers) facts r → ByHandle handle r

@@ -51,7 +51,8 @@ options_keep d name word k =
     (if_keeps (bytes_eq name (codes "tokio_compat_file_write_limit")) _ _ (option_keeps d 3 1 16777216 word _ k (λ n le. le))
     (if_keeps (bytes_eq name (codes "max_read_len")) _ _ (option_keeps d 4 1 _ word _ k (λ n le. k.1))
     (if_keeps (bytes_eq name (codes "max_write_len")) _ _ (option_keeps d 5 1 _ word _ k (λ n le. k.1))
-    (if_keeps (bytes_eq name (codes "flush_interval")) _ _ (option_keeps d 6 0 1000000 word _ k (λ n le. k.1)) (record { is = tt })))))))
+    (if_keeps (bytes_eq name (codes "flush_interval")) _ _ (option_keeps d 6 0 1000000 word _ k (λ n le. k.1))
+    (if_keeps (bytes_eq name (codes "read_window")) _ _ (option_keeps d 7 1 64 word _ k (λ n le. k.1)) (record { is = tt }))))))))
 
 limits_keep : (d : Draft) (p r w h : List ℕ) → Holds IsFit d.script → Keeps IsFit (limits_line d p r w h)
 limits_keep d p r w h k =

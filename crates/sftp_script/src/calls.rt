@@ -58,6 +58,8 @@ const BUF_FLUSH: &[u8] = b"buf_flush";
 
 const BUF_SEEK: &[u8] = b"buf_seek";
 
+const FS_READ: &[u8] = b"fs_read";
+
 const FS_WRITE: &[u8] = b"fs_write";
 
 const LIST: &[u8] = b"list";
@@ -177,7 +179,10 @@ fn path_call(alloc: Global, word: &[u8], line: &[u8]) -> Result<Option<Call>, Li
     ensures ok { IfOk result (λ call. path_call word.now (words_of line.now) ≡ option_map (λ c. Ok c) call) }
     ensures refused { IfErr result (λ e. RefusesCall (path_call word.now (words_of line.now)) e) }
 {
-    if word == FS_WRITE {
+    if word == FS_READ {
+        let (path, bound) = text_and_bound(alloc, line)?;
+        Ok(Some(Call::FsRead { path, bound }))
+    } else if word == FS_WRITE {
         let (path, bytes) = two_texts(alloc, line)?;
         Ok(Some(Call::FsWrite { path, bytes }))
     } else if word == LIST {

@@ -24,6 +24,8 @@ const MAX_WRITE_LEN: &[u8] = b"max_write_len";
 
 const FLUSH_INTERVAL: &[u8] = b"flush_interval";
 
+const READ_WINDOW: &[u8] = b"read_window";
+
 fn set_max_pending_requests(draft: &mut Draft, word: &[u8]) -> Result<(), LineError>
     ensures ok { OnOk result (option_in draft.old 0 1 65535 word.now (λ n. record draft.old.script.options { max_pending_requests = n }) ≡ Ok draft.new) }
     ensures refused { IfErr result (λ e. Refuses (option_in draft.old 0 1 65535 word.now (λ n. record draft.old.script.options { max_pending_requests = n })) e) }
@@ -87,6 +89,15 @@ fn set_flush_interval(draft: &mut Draft, word: &[u8]) -> Result<(), LineError>
     draft.set_options(6, options)
 }
 
+fn set_read_window(draft: &mut Draft, word: &[u8]) -> Result<(), LineError>
+    ensures ok { OnOk result (option_in draft.old 7 1 64 word.now (λ n. record draft.old.script.options { read_window = n }) ≡ Ok draft.new) }
+    ensures refused { IfErr result (λ e. Refuses (option_in draft.old 7 1 64 word.now (λ n. record draft.old.script.options { read_window = n })) e) }
+{
+    let n = number_in(1, 64, word)?;
+    let options = draft.options().read_window(n as u32);
+    draft.set_options(7, options)
+}
+
 /// Sets the option of this name.
 fn set_option(draft: &mut Draft, name: &[u8], word: &[u8]) -> Result<(), LineError>
     ensures ok { OnOk result (option_line draft.old name.now word.now ≡ Ok draft.new) }
@@ -106,6 +117,8 @@ fn set_option(draft: &mut Draft, name: &[u8], word: &[u8]) -> Result<(), LineErr
         set_max_write_len(draft, word)
     } else if name == FLUSH_INTERVAL {
         set_flush_interval(draft, word)
+    } else if name == READ_WINDOW {
+        set_read_window(draft, word)
     } else {
         Err(LineError::Refused(Reason::Mode))
     }

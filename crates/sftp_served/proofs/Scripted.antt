@@ -113,7 +113,7 @@ option_known d key least most word set k = bind_known (number_in least most word
 options_known : (d : Draft) (name word : List ℕ) → IsKnown (Ok d) → Known (option_line d name word)
 options_known d name word k =
     if_known (bytes_eq name (codes "max_pending_requests")) _ _ (option_known d 0 1 65535 word _ k) (if_known (bytes_eq name (codes "requests_buffer_size")) _ _ (option_known d 1 1 65536 word _ k) (if_known (bytes_eq name (codes "responses_buffer_size")) _ _ (option_known d 2 1 65536 word _ k)
-    (if_known (bytes_eq name (codes "tokio_compat_file_write_limit")) _ _ (option_known d 3 1 16777216 word _ k) (if_known (bytes_eq name (codes "max_read_len")) _ _ (option_known d 4 1 _ word _ k) (if_known (bytes_eq name (codes "max_write_len")) _ _ (option_known d 5 1 _ word _ k) (if_known (bytes_eq name (codes "flush_interval")) _ _ (option_known d 6 0 1000000 word _ k) (record { is = tt })))))))
+    (if_known (bytes_eq name (codes "tokio_compat_file_write_limit")) _ _ (option_known d 3 1 16777216 word _ k) (if_known (bytes_eq name (codes "max_read_len")) _ _ (option_known d 4 1 _ word _ k) (if_known (bytes_eq name (codes "max_write_len")) _ _ (option_known d 5 1 _ word _ k) (if_known (bytes_eq name (codes "flush_interval")) _ _ (option_known d 6 0 1000000 word _ k) (if_known (bytes_eq name (codes "read_window")) _ _ (option_known d 7 1 64 word _ k) (record { is = tt }))))))))
 
 limits_known : (d : Draft) (p r w h : List ℕ) → IsKnown (Ok d) → Known (limits_line d p r w h)
 limits_known d p r w h k =
