@@ -1,6 +1,7 @@
 -- Sites within their bounds.
-use Rattle.std.proofs.Common.{◌≡◌, ◌∙◌, ◌≤◌, ◌-◌, ◌^◌, ap, refl, subst, sym, arith, ℕ, zero, suc, List, [], ◌∷◌, length}
+use Rattle.std.proofs.Common.{◌≡◌, ◌∙◌, ◌≤◌, ◌-◌, ◌^◌, ap, refl, subst, sym, arith, false, ℕ, zero, suc, List, [], ◌∷◌, Option, length}
 use Rattle.std.specs.Prelude.{replicate, slice_index_or, slice_set}
+use Rattle.sftp_model.specs.declared.reply.Reply.{Reply}
 use Rattle.sftp_model.specs.declared.slot.Facts.{Facts}
 use Rattle.sftp_model.specs.declared.slot.FileAt.{FileAt}
 use Rattle.sftp_model.specs.declared.slot.Buffer.{Buffer}
@@ -10,7 +11,12 @@ use Rattle.sftp_model.specs.declared.slot.Slot.TheVariants.{Empty, File, Buffere
 use Rattle.sftp_model.specs.Slots.{with_slot}
 use Rattle.sftp_calls.specs.BufferPlans.{pending}
 use Rattle.sftp_plan.specs.declared.next.Next.{Next}
-use Rattle.sftp_plan.specs.Sound.{AreWithin, IsWithin, Sounds}
+use Rattle.sftp_window.specs.declared.window.Window.{Window}
+use Rattle.sftp_plan.specs.declared.next.Running.{Running}
+use Rattle.sftp_plan.specs.declared.next.Running.TheVariants as running
+use Rattle.sftp_plan.specs.Machines.{after}
+use Rattle.sftp_plan.specs.Sound.{AreWithin, AsksWithin, IsWithin, Sounds}
+use Rattle.sftp_plan.proofs.InRange.{others_within, reads_whole}
 
 set_length : (slots : List Slot) (k : ℕ) (x : Slot) → length (slice_set slots k x) ≡ length slots
 set_length [] k x = refl
@@ -50,3 +56,13 @@ still_within bytes facts old new n sound within = sound.0.limit within
 
 pub still_sixteen : (bytes : List ℕ) (facts : Facts) (old new : Site) (n : Next) → Sounds bytes facts old new n → length old.slots ≡ 16 → length new.slots ≡ 16
 still_sixteen bytes facts old new n sound count = sound.0.count ∙ count
+
+-- a call that isn't a whole read
+other_call : (r : Running) → ((place bound : ℕ) → r ≡ running.OpeningToRead place bound → ⊥) → ((grant bound : ℕ) (w : Window) → r ≡ running.ReadingWhole grant bound w → ⊥) → reads_whole r ≡ false
+other_call (running.OpeningToRead place bound) opening reading = absurd (opening place bound refl)
+other_call (running.ReadingWhole grant bound w) opening reading = absurd (reading grant bound w refl)
+other_call r opening reading = refl
+
+pub others_in_range : (r : Running) (bytes : List ℕ) (site : Site) (facts : Facts) (y : Option Reply) → ((place bound : ℕ) → r ≡ running.OpeningToRead place bound → ⊥) → ((grant bound : ℕ) (w : Window) → r ≡ running.ReadingWhole grant bound w → ⊥)
+    → AsksWithin facts (after r bytes site facts y)
+others_in_range r bytes site facts y opening reading = others_within r bytes site facts y (other_call r opening reading)

@@ -11,3 +11,5 @@ mod setting;
 mod tell;
 #[cfg(test)]
 mod whole;
+#[cfg(test)]
+mod whole_reads;

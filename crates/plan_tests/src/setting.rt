@@ -1,9 +1,14 @@
 // Where calls are made, and how they go on.
-ghost use Rattle.std.specs.Prelude.{◌≡◌, length, replicate, IfOk};
+ghost use Rattle.std.specs.Prelude.{◌≡◌, ℕ, List, Option, true, length, replicate, IfOk};
+ghost use Rattle.sftp_model.specs.declared.reply.Reply.{Reply as ReplyValue};
+ghost use Rattle.sftp_model.specs.declared.slot.Facts.{Facts as FactsValue};
+ghost use Rattle.sftp_model.specs.declared.slot.Site.{Site as SiteValue};
 ghost use Rattle.sftp_model.specs.declared.slot.Slot.TheVariants as slots;
-ghost use Rattle.sftp_plan.specs.Sound.{AreWithin, IsSound, Sound};
+ghost use Rattle.sftp_plan.specs.Machines.{after};
+ghost use Rattle.sftp_plan.specs.Sound.{AreWithin, AsksWithin, IsSound, Sound};
 
 use crate::tell::{Row, Told, does, fits, reply_of};
+use crate::whole_reads::is_within;
 use bitflags::Flags;
 use sftp_model::*;
 use sftp_plan::site::set_slot;
@@ -136,6 +141,18 @@ pub(crate) fn go_at_once(
     }
 }
 
+/// Whether a call isn't a whole read: what it asks next is within the range then.
+pub(crate) fn is_other(running: &Running) -> bool
+    ensures { result ≡ true → (bytes : List ℕ) (site : SiteValue) (facts : FactsValue) (reply : Option ReplyValue)
+        → AsksWithin facts (after running.now bytes site facts reply) }
+{
+    match running {
+        Running::OpeningToRead { .. } => false,
+        Running::ReadingWhole { .. } => false,
+        _ => true,
+    }
+}
+
 /// A call goes on with no reply.
 #[tactic(auto, using(crate::proofs::Within::still_within))]
 fn resume_at_once(
@@ -151,6 +168,9 @@ fn resume_at_once(
     ensures sound { IfOk result (IsSound bytes.now site.new facts.now) }
     ensures within { IfOk result (λ n. AreWithin facts.now site.new) }
 {
+    if !is_other(&running) {
+        return Err(Fail::new("a whole read"));
+    }
     match go_on(alloc, running, None, bytes, place, site, facts) {
         Ok(next) => Ok(next),
         Err(_) => Err(Fail::new("no memory to go on")),
@@ -178,6 +198,9 @@ fn resume(
     };
     if !fits(&running, &reply) {
         return Err(Fail::new("more bytes than were asked"));
+    }
+    if !is_within(&running, &reply, facts) {
+        return Err(Fail::new("a whole read that the tests don't know"));
     }
     match go_on(alloc, running, Some(reply), bytes, place, site, facts) {
         Ok(next) => Ok(next),

@@ -178,6 +178,7 @@ pub(crate) fn is_end(outcome: &Outcome, row: Row) -> bool {
         Outcome::Done => row.is_numbers("Done", (0, 0, 0)),
         Outcome::Opened => row.is_numbers("Opened", (0, 0, 0)),
         Outcome::End => row.is_numbers("End", (0, 0, 0)),
+        Outcome::GivenUp => row.is_numbers("GivenUp", (0, 0, 0)),
         Outcome::Count(n) => row.is_numbers("Count", (*n, 0, 0)),
         Outcome::Bytes(bytes) => row.is("Bytes", bytes.as_slice(), b"", (0, 0, 0)),
         Outcome::Path(path) => row.is_path("Path", path),
@@ -254,6 +255,10 @@ pub(crate) fn fits(running: &Running, reply: &Reply) -> bool
         Running::Reading { len, .. } => bytes.len() <= *len as usize,
         Running::Gathering { len, .. } => bytes.len() <= *len as usize,
         Running::FillingBuffer { offset, .. } => bytes.len() as u64 <= u64::MAX - *offset,
+        Running::ReadingWhole { window, .. } => match window.first() {
+            Some(read) => bytes.len() <= read.len as usize,
+            None => true,
+        },
         _ => true,
     }
 }

@@ -45,9 +45,12 @@ filling_asks place slot n offset len file buffer old new lt here is room = recor
   call = tt;
   named = inl (buffered_held old slot file buffer here);
   awaits = tt;
-  looks = λ p e. same_place (reading_in (slot_at new slot)) p place (ap reading_in there) e;
+  looks = inl (record {
+    looks = λ p e. same_place (reading_in (slot_at new slot)) p place (ap reading_in there) e;
+    fits = λ answers y may. filling_fits (handle_of (answers file.grant)) offset len slot n true y room may;
+  });
   keeps = λ grant e. absurd cc;
-  fits = λ answers y may. filling_fits (handle_of (answers file.grant)) offset len slot n true y room may;
+  under = λ x among. absurd among;
 }
   where
     reads : Slot
@@ -59,26 +62,26 @@ filling_asks place slot n offset len file buffer old new lt here is room = recor
 -- or the READ is under way
 pub filling_waits : (place slot n offset : ℕ) (file : FileAt) (buffer : Buffer) (site : Site) → slot_at site slot ≡ Buffered file buffer → is_some buffer.reading ≡ true
     → BeginsAsking None place site site (step.Wait (running.FillingBuffer slot n offset false))
-filling_waits place slot n offset file buffer site here some = (record { deferred = refl; some = ap (λ (x : Slot). is_some (reading_in x)) here ∙ some }, refl)
+filling_waits place slot n offset file buffer site here some = (record { deferred = refl; some = ap (λ (x : Slot). is_some (reading_in x)) here ∙ some; keeps = λ grant e. absurd cc; under = λ x among. among }, refl)
 
 -- ---- a WRITE whose status its slot awaits
 
-write_defers : (place slot : ℕ) (start : Option ℕ) (n : ℕ) (file : FileAt) (old new : Site) (a : Asked) → has_grant old file.grant ≡ true → IsWriteOf file a → AsksOrDefers None place old new a (running_after slot start n)
+write_defers : (place slot : ℕ) (start : Option ℕ) (n : ℕ) (file : FileAt) (old new : Site) (a : Asked) → has_grant old file.grant ≡ true → IsWriteOf file a → AsksOrDefers None place [] old new a (running_after slot start n)
 write_defers place slot None n file old new (asked.Write grant offset content) has same = record {
   call = tt;
   named = inl (ap (has_grant old) same ∙ has);
   awaits = tt;
-  looks = λ p e. absurd cc;
+  looks = inl (record { looks = λ p e. absurd cc; fits = λ answers y may. tt });
   keeps = λ g e. absurd cc;
-  fits = λ answers y may. tt;
+  under = λ x among. absurd among;
 }
 write_defers place slot (Some done) n file old new (asked.Write grant offset content) has same = record {
   call = tt;
   named = inl (ap (has_grant old) same ∙ has);
   awaits = tt;
-  looks = λ p e. absurd cc;
+  looks = inl (record { looks = λ p e. absurd cc; fits = λ answers y may. tt });
   keeps = λ g e. absurd cc;
-  fits = λ answers y may. tt;
+  under = λ x among. absurd among;
 }
 write_defers place slot start n file old new a has same = absurd same
 
@@ -87,18 +90,18 @@ no_close file (asked.Write grant offset content) same = tt
 no_close file other same = absurd same
 
 pub settled_goes_on : (place slot : ℕ) (start : Option ℕ) (file : FileAt) (buffer : Buffer) (bytes : List ℕ) (old new : Site) (facts : Facts) (d : Deferral) (n : Next) → has_grant old file.grant ≡ true
-    → IsDeferral slot start file buffer bytes place facts d → n ≡ settled_next d → GoesOnAsking None place old new n
-settled_goes_on place slot start file buffer bytes old new facts (deferral.Refused o) n has is to = subst (λ (m : Next). GoesOnAsking None place old new m) (sym to) tt
+    → IsDeferral slot start file buffer bytes place facts d → n ≡ settled_next d → GoesOnAsking None place [] old new n
+settled_goes_on place slot start file buffer bytes old new facts (deferral.Refused o) n has is to = subst (λ (m : Next). GoesOnAsking None place [] old new m) (sym to) tt
 settled_goes_on place slot start file buffer bytes old new facts (deferral.Asked a r held) n has is to =
-    subst (λ (m : Next). GoesOnAsking None place old new m) (sym to)
-    (subst (λ (x : Running). AsksOrDefers None place old new a x) (sym is.2) (write_defers place slot start _ file old new a has is.4), no_close file a is.4)
+    subst (λ (m : Next). GoesOnAsking None place [] old new m) (sym to)
+    (subst (λ (x : Running). AsksOrDefers None place [] old new a x) (sym is.2) (write_defers place slot start _ file old new a has is.4), no_close file a is.4)
 
 pub settled_begins : (place slot : ℕ) (start : Option ℕ) (file : FileAt) (buffer : Buffer) (bytes : List ℕ) (old new : Site) (facts : Facts) (d : Deferral) (n : Next) → has_grant old file.grant ≡ true
     → IsDeferral slot start file buffer bytes place facts d → n ≡ settled_next d → BeginsAsking None place old new n
 settled_begins place slot start file buffer bytes old new facts (deferral.Refused o) n has is to = subst (λ (m : Next). BeginsAsking None place old new m) (sym to) tt
 settled_begins place slot start file buffer bytes old new facts (deferral.Asked a r held) n has is to =
     subst (λ (m : Next). BeginsAsking None place old new m) (sym to)
-    (subst (λ (x : Running). AsksOrDefers None place old new a x) (sym is.2) (write_defers place slot start _ file old new a has is.4))
+    (subst (λ (x : Running). AsksOrDefers None place [] old new a x) (sym is.2) (write_defers place slot start _ file old new a has is.4))
 
 -- ---- a status that is awaited
 
@@ -107,17 +110,17 @@ waited limit [] full = absurd cc
 waited limit (write ∷ writes) full = refl
 
 -- at a full window
-pub room_looks : (slot limit : ℕ) (start : Option ℕ) (file : FileAt) (buffer : Buffer) (site : Site) → slot_at site slot ≡ Buffered file buffer → must_wait limit buffer.deferred ≡ true → Looks site (running.AwaitingRoom slot start)
-room_looks slot limit start file buffer site here full = record { deferred = refl; some = ap (λ (x : Slot). is_some (oldest_in x)) here ∙ waited limit buffer.deferred full }
+pub room_looks : (slot limit : ℕ) (start : Option ℕ) (file : FileAt) (buffer : Buffer) (site : Site) → slot_at site slot ≡ Buffered file buffer → must_wait limit buffer.deferred ≡ true → Looks None [] site (running.AwaitingRoom slot start)
+room_looks slot limit start file buffer site here full = record { deferred = refl; some = ap (λ (x : Slot). is_some (oldest_in x)) here ∙ waited limit buffer.deferred full; keeps = λ grant e. absurd cc; under = λ x among. among }
 
 -- and by a flush
-flush_looks : (slot : ℕ) (file : FileAt) (buffer : Buffer) (site : Site) (write : ℕ × ℕ) (writes : List (ℕ × ℕ)) → slot_at site slot ≡ Buffered file buffer → buffer.deferred ≡ write ∷ writes → Looks site (running.Flushing slot)
-flush_looks slot file buffer site write writes here is = record { deferred = refl; some = ap (λ (x : Slot). is_some (oldest_in x)) here ∙ ap (λ (w : List (ℕ × ℕ)). is_some (oldest w)) is }
+flush_looks : (slot : ℕ) (file : FileAt) (buffer : Buffer) (site : Site) (write : ℕ × ℕ) (writes : List (ℕ × ℕ)) → slot_at site slot ≡ Buffered file buffer → buffer.deferred ≡ write ∷ writes → Looks None [] site (running.Flushing slot)
+flush_looks slot file buffer site write writes here is = record { deferred = refl; some = ap (λ (x : Slot). is_some (oldest_in x)) here ∙ ap (λ (w : List (ℕ × ℕ)). is_some (oldest w)) is; keeps = λ grant e. absurd cc; under = λ x among. among }
 
 pub flush_begins : (place slot : ℕ) (file : FileAt) (buffer : Buffer) (site : Site) (n : Next) (writes : List (ℕ × ℕ)) → slot_at site slot ≡ Buffered file buffer → buffer.deferred ≡ writes → n ≡ flushing slot writes → BeginsAsking None place site site n
 flush_begins place slot file buffer site n [] here is to = subst (λ (m : Next). BeginsAsking None place site site m) (sym to) tt
 flush_begins place slot file buffer site n (write ∷ writes) here is to = subst (λ (m : Next). BeginsAsking None place site site m) (sym to) (flush_looks slot file buffer site write writes here is, refl)
 
-pub flush_goes_on : (place slot : ℕ) (file : FileAt) (buffer : Buffer) (old site : Site) (n : Next) (writes : List (ℕ × ℕ)) → slot_at site slot ≡ Buffered file buffer → buffer.deferred ≡ writes → n ≡ flushing slot writes → GoesOnAsking None place old site n
-flush_goes_on place slot file buffer old site n [] here is to = subst (λ (m : Next). GoesOnAsking None place old site m) (sym to) tt
-flush_goes_on place slot file buffer old site n (write ∷ writes) here is to = subst (λ (m : Next). GoesOnAsking None place old site m) (sym to) (flush_looks slot file buffer site write writes here is, λ y. tt)
+pub flush_goes_on : (place slot : ℕ) (file : FileAt) (buffer : Buffer) (old site : Site) (n : Next) (writes : List (ℕ × ℕ)) → slot_at site slot ≡ Buffered file buffer → buffer.deferred ≡ writes → n ≡ flushing slot writes → GoesOnAsking None place [] old site n
+flush_goes_on place slot file buffer old site n [] here is to = subst (λ (m : Next). GoesOnAsking None place [] old site m) (sym to) tt
+flush_goes_on place slot file buffer old site n (write ∷ writes) here is to = subst (λ (m : Next). GoesOnAsking None place [] old site m) (sym to) (flush_looks slot file buffer site write writes here is, inl (λ y. tt))

@@ -38,6 +38,8 @@ left_came (running.Gathering place slot file all left len) bytes site facts late
 left_came (running.Sending place slot file len) bytes site facts later answers p y at got = refl
 left_came (running.Writing place slot file done) bytes site facts later answers p y at got = refl
 left_came (running.OpeningToWrite place) bytes site facts later answers p y at got = refl
+left_came (running.OpeningToRead place bound) bytes site facts later answers p y at got = refl
+left_came (running.ReadingWhole grant bound window) bytes site facts later answers p y at got = refl
 left_came (running.OpeningDirectory place bound) bytes site facts later answers p y at got = refl
 left_came (running.Listing place grant all bound) bytes site facts later answers p y at got = refl
 left_came (running.AwaitingRoom slot start) bytes site facts later answers p y at got = refl

@@ -7,9 +7,12 @@ mod Filling
 pub mod FlushLaws
 mod Flushes
 mod Going
+pub mod GoingLaws
+pub mod InRange
 pub mod Keeping
 mod Leaving
 pub mod LeftLaws
 pub mod OwnAsking
 pub mod OwnLaws
 pub mod SlotSets
+pub mod WindowMoves

@@ -1,16 +1,17 @@
 -- What asks by its own requests alone asks as what leaves replies to its slots does.
-use Rattle.std.proofs.Common.{◌≡◌, ◌∙◌, ℕ, Option, Some, Ok, Err, refl, sym, subst}
+use Rattle.std.proofs.Common.{◌≡◌, ◌∙◌, ℕ, List, [], Option, Some, Ok, Err, inl, refl, sym, subst}
 use Rattle.std.specs.Prelude.{IfOk, Result}
 use Rattle.ssh_encoding.specs.declared.out_of_memory.OutOfMemory.{OutOfMemory}
 use Rattle.sftp_model.specs.declared.slot.Site.{Site}
+use Rattle.sftp_window.specs.declared.window.ReadAt.{ReadAt}
 use Rattle.sftp_plan.specs.declared.next.Asked.{Asked}
 use Rattle.sftp_plan.specs.declared.next.Next.{Next}
 use Rattle.sftp_plan.specs.declared.next.Next.TheVariants as step
 use Rattle.sftp_plan.specs.declared.next.Running.{Running}
 use Rattle.sftp_plan.specs.declared.next.Running.TheVariants as running
 use Rattle.sftp_plan.specs.Machines.{awaited}
-use Rattle.sftp_plan.specs.Pending.{own_place}
-use Rattle.sftp_plan.specs.Asking.{Asks, AsksOn, AsksOrDefers, AsksOwn, AwaitsOrDefers, BeginsAsking, GoesOnAsking}
+use Rattle.sftp_plan.specs.Pending.{own_place, reads_under}
+use Rattle.sftp_plan.specs.Asking.{Asks, AsksOn, AsksOrDefers, AsksOwn, AwaitsOrDefers, BeginsAsking, GoesOnAsking, IsAmong}
 
 -- a call awaits the reply to its own request, where it has one
 pub own_awaited : (r : Running) (site : Site) (p : ℕ) → own_place (Some r) ≡ Some p → awaited r site ≡ Some p
@@ -21,6 +22,8 @@ own_awaited (running.Gathering place slot file got left len) site p e = e
 own_awaited (running.Sending place slot file len) site p e = e
 own_awaited (running.Writing place slot file done) site p e = e
 own_awaited (running.OpeningToWrite place) site p e = e
+own_awaited (running.OpeningToRead place bound) site p e = e
+own_awaited (running.ReadingWhole grant bound window) site p e = absurd cc
 own_awaited (running.OpeningDirectory place bound) site p e = e
 own_awaited (running.Listing place grant got bound) site p e = e
 own_awaited (running.Copying place from to source target len) site p e = e
@@ -30,25 +33,30 @@ own_awaited (running.Deferred slot count) site p e = absurd cc
 own_awaited (running.DeferringRest slot done) site p e = absurd cc
 own_awaited (running.FillingBuffer slot n offset own) site p e = absurd cc
 
+-- and has no READ of a whole read under way
+own_reads : (r : Running) (p : ℕ) → own_place (Some r) ≡ Some p → reads_under (Some r) ≡ []
+own_reads (running.ReadingWhole grant bound window) p e = absurd cc
+own_reads other p e = refl
+
 -- and one place alone
 pub same_place : (o : Option ℕ) (p q : ℕ) → o ≡ Some q → o ≡ Some p → p ≡ q
 same_place o p q one other = (let same : ◌≡◌ {A = Option ℕ} (Some p) (Some q) = sym other ∙ one in cc)
 
 -- whatever the site is then
-own_asks : (opened : Option ℕ) (place : ℕ) (old new : Site) (a : Asked) (r : Running) → AsksOwn opened place old a r → AsksOrDefers opened place old new a r
-own_asks opened place old new a r asks = record {
+own_asks : (opened : Option ℕ) (place : ℕ) (reads : List ReadAt) (old new : Site) (a : Asked) (r : Running) → AsksOwn opened place old a r → AsksOrDefers opened place reads old new a r
+own_asks opened place reads old new a r asks = record {
   call = asks.call;
   named = asks.named;
   awaits = subst (λ (o : Option ℕ). AwaitsOrDefers o place a) (sym asks.awaits) refl;
-  looks = λ p e. same_place (awaited r new) p place (own_awaited r new place asks.awaits) e;
+  looks = inl (record { looks = λ p e. same_place (awaited r new) p place (own_awaited r new place asks.awaits) e; fits = asks.fits });
   keeps = asks.keeps;
-  fits = asks.fits;
+  under = λ x among. absurd (subst (λ (l : List ReadAt). IsAmong x l) (own_reads r place asks.awaits) among);
 }
 
 -- ---- what begins a call
 
 pub own_begins : (opened : Option ℕ) (place : ℕ) (old new : Site) (n : Next) → Asks opened place old n → BeginsAsking opened place old new n
-own_begins opened place old new (step.Ask a r) asks = own_asks opened place old new a r asks
+own_begins opened place old new (step.Ask a r) asks = own_asks opened place [] old new a r asks
 own_begins opened place old new (step.Wait r) asks = absurd asks
 own_begins opened place old new (step.Done o) asks = tt
 
@@ -59,11 +67,11 @@ own_begins_if_ok opened place old new (Err e) asks = asks
 
 -- ---- how a call goes on
 
-pub own_goes_on : (opened : Option ℕ) (place : ℕ) (old new : Site) (n : Next) → AsksOn opened place old n → GoesOnAsking opened place old new n
-own_goes_on opened place old new (step.Ask a r) asks = (own_asks opened place old new a r asks.0, asks.1)
-own_goes_on opened place old new (step.Wait r) asks = absurd asks
-own_goes_on opened place old new (step.Done o) asks = tt
+pub own_goes_on : (opened : Option ℕ) (place : ℕ) (reads : List ReadAt) (old new : Site) (n : Next) → AsksOn opened place old n → GoesOnAsking opened place reads old new n
+own_goes_on opened place reads old new (step.Ask a r) asks = (own_asks opened place reads old new a r asks.0, asks.1)
+own_goes_on opened place reads old new (step.Wait r) asks = absurd asks
+own_goes_on opened place reads old new (step.Done o) asks = tt
 
-pub own_goes_on_if_ok : (opened : Option ℕ) (place : ℕ) (old new : Site) (n : Result Next OutOfMemory) → IfOk n (AsksOn opened place old) → IfOk n (GoesOnAsking opened place old new)
-own_goes_on_if_ok opened place old new (Ok n) asks = own_goes_on opened place old new n asks
-own_goes_on_if_ok opened place old new (Err e) asks = asks
+pub own_goes_on_if_ok : (opened : Option ℕ) (place : ℕ) (reads : List ReadAt) (old new : Site) (n : Result Next OutOfMemory) → IfOk n (AsksOn opened place old) → IfOk n (GoesOnAsking opened place reads old new)
+own_goes_on_if_ok opened place reads old new (Ok n) asks = own_goes_on opened place reads old new n asks
+own_goes_on_if_ok opened place reads old new (Err e) asks = asks

@@ -26,6 +26,8 @@ own_leaves (running.Gathering place slot file got left len) bytes site facts ans
 own_leaves (running.Sending place slot file len) bytes site facts answers own sound = refl
 own_leaves (running.Writing place slot file done) bytes site facts answers own sound = kept_leaves slot file site facts answers sound.0
 own_leaves (running.OpeningToWrite place) bytes site facts answers own sound = refl
+own_leaves (running.OpeningToRead place bound) bytes site facts answers own sound = refl
+own_leaves (running.ReadingWhole grant bound window) bytes site facts answers own sound = absurd (own refl)
 own_leaves (running.OpeningDirectory place bound) bytes site facts answers own sound = refl
 own_leaves (running.Listing place grant got bound) bytes site facts answers own sound = refl
 own_leaves (running.Copying place from to source target len) bytes site facts answers own sound = refl

@@ -1,5 +1,5 @@
 -- What a machine asks of its lane: requests that bear handles of grants which the lane has, and whose replies it awaits.
-use Rattle.std.specs.Prelude.{ℕ, ◌≡◌, ◌⊎◌, true, Option, Some, None, is_some}
+use Rattle.std.specs.Prelude.{ℕ, ◌≡◌, ◌⊎◌, Bool, true, false, List, [], ◌∷◌, Option, Some, None, is_some}
 use Rattle.sftp_model.specs.declared.request.Request.{Request}
 use Rattle.sftp_model.specs.declared.request.Request.TheVariants as request
 use Rattle.sftp_model.specs.declared.reply.Reply.{Reply}
@@ -16,7 +16,8 @@ use Rattle.sftp_plan.specs.declared.next.Next.TheVariants as step
 use Rattle.sftp_plan.specs.declared.next.Running.{Running}
 use Rattle.sftp_plan.specs.declared.next.Running.TheVariants as running
 use Rattle.sftp_plan.specs.Machines.{awaited, filled}
-use Rattle.sftp_plan.specs.Pending.{own_place}
+use Rattle.sftp_plan.specs.Pending.{own_place, reads_under}
+use Rattle.sftp_window.specs.declared.window.ReadAt.{ReadAt}
 use Rattle.sftp_plan.specs.Sound.{Fits}
 
 -- ---- requests
@@ -61,11 +62,13 @@ Names Has (asked.CopyData from from_offset len to to_offset) = Has from × Has t
 abbrev pub opened_by : Running → Option ℕ
 opened_by (running.Listing place grant got bound) = Some grant
 opened_by (running.Writing place None file done) = Some file.grant
+opened_by (running.ReadingWhole grant bound window) = Some grant
 opened_by other = None
 
 -- and what it is after this reply
 abbrev pub opened_after : Running → Option Reply → Option ℕ
 opened_after (running.OpeningToWrite place) (Some (reply.Handle handle)) = Some place
+opened_after (running.OpeningToRead place bound) (Some (reply.Handle handle)) = Some place
 opened_after (running.OpeningDirectory place bound) (Some (reply.Handle handle)) = Some place
 opened_after r answer = opened_by r
 
@@ -114,29 +117,63 @@ abbrev pub AwaitsOrDefers : Option ℕ → ℕ → Asked → Type 0
 AwaitsOrDefers None place a = IsTransfer a
 AwaitsOrDefers (Some p) place a = p ≡ place
 
--- The request at this place: it bears handles of grants that the lane has, and the call or a slot awaits its reply, which
--- fits if it may answer. The site was the first one, and is the second.
-pub record AsksOrDefers (opened : Option ℕ) (place : ℕ) (old new : Site) (a : Asked) (r : Running) : Type 0 where
+-- ---- the READs of a whole read
+
+abbrev pub IsAmong : ReadAt → List ReadAt → Type 0
+IsAmong x [] = ⊥
+IsAmong x (y ∷ ys) = (x ≡ y) ⊎ IsAmong x ys
+
+-- the READ that is asked at this place
+abbrev pub IsNewRead : ReadAt → ℕ → Asked → Type 0
+IsNewRead x place (asked.Read grant offset len) = x ≡ record { place = place; offset = offset; len = len }
+IsNewRead x place other = ⊥
+
+-- whether a call reads a whole file by its window
+abbrev pub is_window : Running → Bool
+is_window (running.ReadingWhole grant bound window) = true
+is_window other = false
+
+-- ---- what a machine asks that leaves replies to its slots, or has several READs under way
+
+-- the call goes on with the reply to this request, if with any, and the reply fits if it may answer
+pub record LooksAtOwn (place : ℕ) (site : Site) (a : Asked) (r : Running) : Type 0 where
+  pub looks : (p : ℕ) → awaited r site ≡ Some p → p ≡ place
+  pub fits : (answers : Answers) (y : Reply) → may_answer (filled a answers) y ≡ true → Fits r (Some y)
+
+-- The request at this place: it bears handles of grants that the lane has, and the call or a slot awaits its reply. The
+-- READs that a whole read has under way are those that it had, and this one. The site was the first one, and is the
+-- second.
+pub record AsksOrDefers (opened : Option ℕ) (place : ℕ) (reads : List ReadAt) (old new : Site) (a : Asked) (r : Running) : Type 0 where
   pub call : IsOfCall a
   pub named : Names (HasGrant old opened) a
   pub awaits : AwaitsOrDefers (own_place (Some r)) place a
-  pub looks : (p : ℕ) → awaited r new ≡ Some p → p ≡ place
+  pub looks : LooksAtOwn place new a r ⊎ (is_window r ≡ true)
   pub keeps : (grant : ℕ) → opened_by r ≡ Some grant → opened ≡ Some grant
-  pub fits : (answers : Answers) (y : Reply) → may_answer (filled a answers) y ≡ true → Fits r (Some y)
+  pub under : (x : ReadAt) → IsAmong x (reads_under (Some r)) → IsAmong x reads ⊎ IsNewRead x place a
 
--- a call that asked nothing goes on with a reply that a slot awaits
-pub record Looks (site : Site) (r : Running) : Type 0 where
+-- a call that asked nothing goes on with a reply that a slot awaits, or with that to one of its READs
+pub record Looks (opened : Option ℕ) (reads : List ReadAt) (site : Site) (r : Running) : Type 0 where
   pub deferred : own_place (Some r) ≡ None
   pub some : is_some (awaited r site) ≡ true
+  pub keeps : (grant : ℕ) → opened_by r ≡ Some grant → opened ≡ Some grant
+  pub under : (x : ReadAt) → IsAmong x (reads_under (Some r)) → IsAmong x reads
 
 -- What begins a call asks, or what it waits for. Where it waits, the site is as it was.
 abbrev pub BeginsAsking : Option ℕ → ℕ → Site → Site → Next → Type 0
-BeginsAsking opened place old new (step.Ask a r) = AsksOrDefers opened place old new a r
-BeginsAsking opened place old new (step.Wait r) = Looks new r × (new ≡ old)
+BeginsAsking opened place old new (step.Ask a r) = AsksOrDefers opened place [] old new a r
+BeginsAsking opened place old new (step.Wait r) = Looks opened [] new r × (new ≡ old)
 BeginsAsking opened place old new (step.Done o) = Unit {0}
 
--- A call that was begun asks no CLOSE, and whatever reply it waits for fits.
-abbrev pub GoesOnAsking : Option ℕ → ℕ → Site → Site → Next → Type 0
-GoesOnAsking opened place old new (step.Ask a r) = AsksOrDefers opened place old new a r × IsNoClose a
-GoesOnAsking opened place old new (step.Wait r) = Looks new r × ((y : Reply) → Fits r (Some y))
-GoesOnAsking opened place old new (step.Done o) = Unit {0}
+-- A call that was begun asks no CLOSE, and whatever reply it waits for fits, but for that of a whole read. These READs
+-- were under way.
+abbrev pub GoesOnAsking : Option ℕ → ℕ → List ReadAt → Site → Site → Next → Type 0
+GoesOnAsking opened place reads old new (step.Ask a r) = AsksOrDefers opened place reads old new a r × IsNoClose a
+GoesOnAsking opened place reads old new (step.Wait r) = Looks opened reads new r × (((y : Reply) → Fits r (Some y)) ⊎ (is_window r ≡ true))
+GoesOnAsking opened place reads old new (step.Done o) = Unit {0}
+
+-- A call that asks or ends while the reply that it awaits is missing awaits none of its own; it asks no CLOSE, and leaves
+-- its site.
+abbrev pub WidensAsking : Running → ℕ → Site → Next → Type 0
+WidensAsking running place site (step.Ask a r) = (own_place (Some running) ≡ None) × AsksOrDefers (opened_by running) place (reads_under (Some running)) site site a r × IsNoClose a
+WidensAsking running place site (step.Done o) = own_place (Some running) ≡ None
+WidensAsking running place site (step.Wait r) = Unit {0}

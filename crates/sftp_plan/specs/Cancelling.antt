@@ -34,6 +34,8 @@ left_behind (running.Gathering place slot file got left len) bytes site facts la
 left_behind (running.Sending place slot file len) bytes site facts later answers = site
 left_behind (running.Writing place slot file done) bytes site facts later answers = left_kept slot site facts later answers
 left_behind (running.OpeningToWrite place) bytes site facts later answers = site
+left_behind (running.OpeningToRead place bound) bytes site facts later answers = site
+left_behind (running.ReadingWhole grant bound window) bytes site facts later answers = site
 left_behind (running.OpeningDirectory place bound) bytes site facts later answers = site
 left_behind (running.Listing place grant got bound) bytes site facts later answers = site
 left_behind (running.Flushing slot) bytes site facts later answers = cancelled_buf_flush slot site facts later answers

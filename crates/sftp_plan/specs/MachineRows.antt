@@ -1,12 +1,16 @@
 -- Worked examples of what is left of the plan of a call that was begun. Writes take 2 bytes each.
-use Rattle.std.specs.Prelude.{◌≡◌, false, true, [], ◌∷◌, codes, Some, None, refl}
+use Rattle.std.specs.Prelude.{ℕ, ◌≡◌, false, true, List, [], ◌∷◌, codes, Some, None, refl}
 use Rattle.sftp_model.specs.declared.request.Request.TheVariants as request
 use Rattle.sftp_model.specs.declared.outcome.Outcome.TheVariants as outcome
 use Rattle.sftp_model.specs.declared.reply.Reply.TheVariants as reply
+use Rattle.sftp_model.specs.declared.slot.Facts.{Facts}
 use Rattle.sftp_model.specs.declared.slot.Move.TheVariants.{Ask, Wait, Done}
 use Rattle.sftp_model.specs.Answers.{status}
 use Rattle.sftp_model.specs.Slots.{fresh_site}
-use Rattle.sftp_calls.specs.PlanWords.{after_handle, at, bare, buffered, file_at, handle, refused_with, write_at}
+use Rattle.sftp_calls.specs.PlanWords.{after_handle, at, bare, buffered, facts, file_at, handle, refused_with, write_at}
+use Rattle.sftp_window.specs.declared.window.Answered.{Answered}
+use Rattle.sftp_window.specs.declared.window.ReadAt.{ReadAt}
+use Rattle.sftp_window.specs.declared.window.Window.{Window}
 use Rattle.sftp_plan.specs.declared.next.Asked.TheVariants as asked
 use Rattle.sftp_plan.specs.declared.next.EndsBy.TheVariants as by
 use Rattle.sftp_plan.specs.declared.next.Running.TheVariants as running
@@ -113,3 +117,29 @@ fill_cancelled = refl
 
 pub wait_cancelled : left_behind (running.FillingBuffer 0 2 5 false) [] (buffered 5 [] [] (Some 1)) bare [] (after_handle []) ≡ buffered 5 [] [] (Some 1)
 wait_cancelled = refl
+
+-- ---- a whole read: two READs of 4 bytes each may be under way
+
+abbrev two : Facts
+two = facts 0 4 2 4 2
+
+-- a READ of 4 bytes at a place
+abbrev four_at : ℕ → ℕ → ReadAt
+four_at place offset = record { place = place; offset = offset; len = 4 }
+
+abbrev window_of : List Answered → List ReadAt → Window
+window_of answered waiting = record { answered = answered; waiting = waiting }
+
+pub whole_widens : idle (running.ReadingWhole 0 6 (window_of [] (four_at 1 0 ∷ []))) [] fresh_site two [] (after_handle []) ≡ Ask (request.Read handle 4 4)
+whole_widens = refl
+
+pub whole_waits : idle (running.ReadingWhole 0 6 (window_of [] (four_at 1 0 ∷ four_at 2 4 ∷ []))) [] fresh_site two [] (after_handle []) ≡ Wait 1
+whole_waits = refl
+
+pub whole_ended : residual (running.ReadingWhole 0 6 (window_of (record { read = four_at 1 0; reply = reply.Content (codes "abcd") } ∷ []) (four_at 2 4 ∷ []))) [] fresh_site two [] (after_handle (reply.Content (codes "abcd") ∷ status 1 ∷ []))
+    ≡ Done (outcome.Bytes (codes "abcd")) fresh_site
+whole_ended = refl
+
+-- a refusal ends the call, though another READ is under way
+pub whole_refused : residual (running.ReadingWhole 0 6 (window_of [] (four_at 1 0 ∷ four_at 2 4 ∷ []))) [] fresh_site two [] (after_handle (status 4 ∷ [])) ≡ Done (refused_with 4) fresh_site
+whole_refused = refl

@@ -25,6 +25,10 @@ use Rattle.sftp_calls.specs.WholePlans.{entries_next, nowhere, on_names, to_repl
 use Rattle.sftp_calls.specs.CallPlans as call
 use Rattle.sftp_calls.specs.CallPlans.{Call, next}
 use Rattle.sftp_calls.specs.BufferPlans.{buf_write_all_next, was_filled}
+use Rattle.sftp_calls.specs.WindowPlans.{answered_prefix, outside, window_next}
+use Rattle.sftp_window.specs.declared.window.ReadAt.{ReadAt}
+use Rattle.sftp_window.specs.declared.window.Window.{Window}
+use Rattle.sftp_window.specs.Windows.{answered_more, first_of, reads_of, replies_of, under_way, window_plan}
 use Rattle.sftp_plan.specs.Buffers.{flushed_after, oldest_in, reading_in, room_made, sent_next}
 use Rattle.sftp_plan.specs.declared.next.Asked.{Asked}
 use Rattle.sftp_plan.specs.declared.next.Asked.TheVariants as asked
@@ -52,6 +56,11 @@ filled (asked.CopyData from from_offset len to to_offset) answers =
 
 -- ---- what is left of a plan
 
+-- the place of a READ, where there is one
+abbrev pub place_in : Option ReadAt → Option ℕ
+place_in None = None
+place_in (Some r) = Some r.place
+
 -- the place of the request whose reply a call awaits
 abbrev pub awaited : Running → Site → Option ℕ
 awaited (running.Ending place ends) site = Some place
@@ -61,6 +70,8 @@ awaited (running.Gathering place slot file got left len) site = Some place
 awaited (running.Sending place slot file len) site = Some place
 awaited (running.Writing place slot file done) site = Some place
 awaited (running.OpeningToWrite place) site = Some place
+awaited (running.OpeningToRead place bound) site = Some place
+awaited (running.ReadingWhole grant bound window) site = place_in (first_of window.waiting)
 awaited (running.OpeningDirectory place bound) site = Some place
 awaited (running.Listing place grant got bound) site = Some place
 awaited (running.Flushing slot) site = oldest_in (slot_at site slot)
@@ -95,6 +106,11 @@ abbrev pub content_after : ℕ → FileAt → List ℕ → ℕ → List ℕ → 
 content_after slot file got left bytes site facts =
     missing_next slot (further file (length bytes)) (got ++ bytes) (left - length bytes) (with_slot site slot (File (further file (length bytes)))) facts
 
+-- a window after the reply to its first READ under way, if it came
+abbrev pub answered_by : Window → Option Reply → Window
+answered_by window None = window
+answered_by window (Some y) = answered_more window y
+
 -- How a call goes on after the reply that it awaited, if it awaited one; `bytes` are those that the call carries.
 abbrev pub after : Running → List ℕ → Site → Facts → Option Reply → Plan
 after (running.Ending place ends) bytes site facts r later answers = with_reply site r (ended_by ends site)
@@ -107,6 +123,9 @@ after (running.Writing place slot file done) bytes site facts r later answers =
     with_reply site r (λ y. on_status y site (part_after (keep_in slot) file (drop done bytes) (part_len facts (drop done bytes)) site facts later answers))
 after (running.OpeningToWrite place) bytes site facts r later answers =
     with_reply site r (λ y. on_handle y site (λ handle. rest_next nowhere (opened_file to_replace place) bytes site facts later answers))
+after (running.OpeningToRead place bound) bytes site facts r later answers =
+    with_reply site r (λ y. on_handle y site (λ handle. window_next (handle_of (answers place)) (Some bound) later (answered_prefix later answers) (outside later answers) site facts))
+after (running.ReadingWhole grant bound window) bytes site facts r later answers = window_plan (handle_of (answers grant)) (Some bound) (answered_by window r) site facts later answers
 after (running.OpeningDirectory place bound) bytes site facts r later answers =
     with_reply site r (λ y. on_handle y site (λ handle. entries_next (handle_of (answers place)) [] bound site later answers))
 after (running.Listing place grant got bound) bytes site facts r later answers =
@@ -127,8 +146,10 @@ abbrev pub waits : Option ℕ → Site → Move
 waits None site = Done outcome.NoFile site
 waits (Some place) site = Wait place
 
--- what a call does while the reply that it awaits is missing
+-- What a call does while the reply that it awaits is missing: a whole read may ask for more.
 abbrev pub idle : Running → List ℕ → Site → Facts → Plan
+idle (running.ReadingWhole grant bound window) bytes site facts later answers =
+    window_next (handle_of (answers grant)) (Some bound) (reads_of (handle_of (answers grant)) window ++ later) (replies_of window) (under_way (handle_of (answers grant)) window ++ later) site facts
 idle running bytes site facts later answers = waits (awaited running site) site
 
 -- by the reply that is awaited, if one is
@@ -138,6 +159,7 @@ once (Some place) answers go = once_answered place (answers place) (λ r. go (So
 
 -- what is left of the plan of a call that was begun
 abbrev pub residual : Running → List ℕ → Site → Facts → Plan
+residual (running.ReadingWhole grant bound window) bytes site facts later answers = window_plan (handle_of (answers grant)) (Some bound) window site facts later answers
 residual running bytes site facts later answers = once (awaited running site) answers (λ r. after running bytes site facts r later answers)
 
 -- ---- what a machine does
@@ -148,6 +170,14 @@ Goes plan place bytes site facts (step.Ask a r) =
     (answers : Answers) → (plan [] answers ≡ Ask (filled a answers)) × ((later : Own) → plan ((place, filled a answers) ∷ later) answers ≡ residual r bytes site facts later answers)
 Goes plan place bytes site facts (step.Wait r) = (answers : Answers) → (later : Own) → plan later answers ≡ residual r bytes site facts later answers
 Goes plan place bytes site facts (step.Done o) = (answers : Answers) → plan [] answers ≡ Done o site
+
+-- What a machine answers while the reply that it awaits is missing: what it asks bears this place, or the plan waits.
+abbrev pub Widens : Running → ℕ → List ℕ → Site → Facts → Next → Type 0
+Widens running place bytes site facts (step.Ask a r) =
+    (answers : Answers) → (idle running bytes site facts [] answers ≡ Ask (filled a answers))
+    × ((later : Own) → residual running bytes site facts ((place, filled a answers) ∷ later) answers ≡ residual r bytes site facts later answers)
+Widens running place bytes site facts (step.Wait r) = (r ≡ running) × ((answers : Answers) → idle running bytes site facts [] answers ≡ waits (awaited running site) site)
+Widens running place bytes site facts (step.Done o) = (answers : Answers) → idle running bytes site facts [] answers ≡ Done o site
 
 -- the bytes that a call carries
 abbrev pub bytes_of : Call → List ℕ

@@ -4,6 +4,7 @@ use Rattle.sftp_model.specs.declared.reply.Reply.{Reply}
 use Rattle.sftp_model.specs.declared.slot.Site.{Site}
 use Rattle.sftp_model.specs.declared.slot.Slot.{Slot}
 use Rattle.sftp_model.specs.declared.slot.Slot.TheVariants.{Buffered}
+use Rattle.sftp_window.specs.declared.window.ReadAt.{ReadAt}
 use Rattle.sftp_plan.specs.declared.next.Running.{Running}
 use Rattle.sftp_plan.specs.declared.next.Running.TheVariants as running
 use Rattle.sftp_plan.specs.declared.next.Next.{Next}
@@ -47,9 +48,11 @@ own_place (Some (running.Gathering place slot file got left len)) = Some place
 own_place (Some (running.Sending place slot file len)) = Some place
 own_place (Some (running.Writing place slot file done)) = Some place
 own_place (Some (running.OpeningToWrite place)) = Some place
+own_place (Some (running.OpeningToRead place bound)) = Some place
 own_place (Some (running.OpeningDirectory place bound)) = Some place
 own_place (Some (running.Listing place grant got bound)) = Some place
 own_place (Some (running.Copying place from to source target len)) = Some place
+own_place (Some (running.ReadingWhole grant bound window)) = None
 own_place (Some (running.Flushing slot)) = None
 own_place (Some (running.AwaitingRoom slot start)) = None
 own_place (Some (running.FillingBuffer slot n offset own)) = None
@@ -57,9 +60,25 @@ own_place (Some (running.Deferred slot count)) = None
 own_place (Some (running.DeferringRest slot done)) = None
 own_place None = None
 
+-- the READs that a whole read has under way
+abbrev pub reads_under : Option Running → List ReadAt
+reads_under None = []
+reads_under (Some (running.ReadingWhole grant bound window)) = window.waiting
+reads_under (Some other) = []
+
+-- how often a place stands among READs
+abbrev pub reads_times : ℕ → List ReadAt → ℕ
+reads_times q [] = 0
+reads_times q (r ∷ rest) = one r.place q + reads_times q rest
+
+-- so many more; where there is no READ, none
+abbrev pub with_reads : List ReadAt → ℕ → ℕ → ℕ
+with_reads [] q n = n
+with_reads (r ∷ rest) q n = reads_times q (r ∷ rest) + n
+
 -- how often the reply to a place is awaited
 abbrev pub pends : ℕ → Option Running → Site → ℕ
-pends q r site = with_one (own_place r) q (slots_times q site.slots)
+pends q r site = with_one (own_place r) q (with_reads (reads_under r) q (slots_times q site.slots))
 
 -- where no call runs
 abbrev pub pends_idle : Site → ℕ → ℕ

@@ -1,5 +1,5 @@
 -- What is known of a call that was begun, so that it can go on.
-use Rattle.std.specs.Prelude.{ℕ, ◌≡◌, ◌<◌, ◌≤◌, ◌+◌, ◌-◌, ◌^◌, true, List, drop, length, Option, Some, None}
+use Rattle.std.specs.Prelude.{ℕ, ◌≡◌, ◌<◌, ◌≤◌, ◌+◌, ◌-◌, ◌^◌, true, List, [], drop, length, Option, Some, None}
 use Rattle.sftp_model.specs.declared.reply.Reply.{Reply}
 use Rattle.sftp_model.specs.declared.reply.Reply.TheVariants as reply
 use Rattle.sftp_model.specs.declared.slot.Facts.{Facts}
@@ -10,6 +10,9 @@ use Rattle.sftp_model.specs.declared.slot.Slot.TheVariants.{File, Buffered}
 use Rattle.sftp_model.specs.Slots.{slot_at}
 use Rattle.sftp_calls.specs.TransferPlans.{part_len}
 use Rattle.sftp_calls.specs.BufferPlans.{is_full, pending}
+use Rattle.sftp_calls.specs.GoodMoves.{ReadsWithin}
+use Rattle.sftp_calls.specs.Moves.{Answers, Plan}
+use Rattle.sftp_window.specs.Windows.{FitsFirst, IsSound as IsSoundWindow}
 use Rattle.sftp_plan.specs.declared.next.Running.{Running}
 use Rattle.sftp_plan.specs.declared.next.Running.TheVariants as running
 use Rattle.sftp_plan.specs.declared.next.Next.{Next}
@@ -81,6 +84,8 @@ Sound (running.Sending place slot file len) bytes site facts = (slot < length si
 Sound (running.Writing place slot file done) bytes site facts =
     IsKept slot file site × (done ≤ length bytes) × CanMove file (part_len facts (drop done bytes))
 Sound (running.OpeningToWrite place) bytes site facts = Unit {0}
+Sound (running.OpeningToRead place bound) bytes site facts = Unit {0}
+Sound (running.ReadingWhole grant bound window) bytes site facts = IsSoundWindow window
 Sound (running.OpeningDirectory place bound) bytes site facts = Unit {0}
 Sound (running.Listing place grant got bound) bytes site facts = Unit {0}
 Sound (running.Flushing slot) bytes site facts = slot < length site.slots
@@ -97,7 +102,13 @@ abbrev pub Fits : Running → Option Reply → Type 0
 Fits (running.Reading place slot file len) (Some (reply.Content bytes)) = length bytes ≤ len
 Fits (running.Gathering place slot file got left len) (Some (reply.Content bytes)) = length bytes ≤ len
 Fits (running.FillingBuffer slot n offset own) (Some (reply.Content bytes)) = length bytes ≤ (2 ^ 64 - 1) - offset
+Fits (running.ReadingWhole grant bound window) (Some y) = FitsFirst window y
 Fits other r = Unit {0}
+
+-- a READ that the plan asks next, by some replies, is within the range of offsets and the session's read length
+pub record AsksWithin (facts : Facts) (plan : Plan) : Type 0 where
+  pub answers : Answers
+  pub within : ReadsWithin facts (plan [] answers)
 
 abbrev pub IsSound : List ℕ → Site → Facts → Next → Type 0
 IsSound bytes site facts (step.Ask a r) = Sound r bytes site facts

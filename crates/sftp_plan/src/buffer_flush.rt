@@ -104,7 +104,7 @@ pub(crate) fn flush_replied(
     ensures sound { (bytes : List ℕ) → Sounds bytes facts.now site.old site.new result }
     ensures pends { Pends (pends_after (running.Flushing slot) site.old (Some reply))
         place site.new result }
-    ensures asks { GoesOnAsking None place site.old site.new result }
+    ensures asks { GoesOnAsking None place [] site.old site.new result }
 {
     let Slot::Buffered(_, buffer) = slot_of(site, slot) else {
         return Next::Done(Outcome::NoFile);

@@ -1,5 +1,5 @@
 //! `buf_write` and `buf_write_all`: WRITEs whose statuses are left for later, within the limit of what is pending.
-ghost use Rattle.std.specs.Prelude.{◌≡◌, ◌<◌, ◌≤◌, ◌-◌, ◌^◌, List, ℕ, Some, None, length, drop, min, IfOk, OnErr};
+ghost use Rattle.std.specs.Prelude.{◌≡◌, ◌<◌, ◌≤◌, ◌-◌, ◌^◌, [], List, ℕ, Some, None, length, drop, min, IfOk, OnErr};
 ghost use Rattle.sftp_model.specs.Slots.{slot_at};
 ghost use Rattle.sftp_calls.specs.CallPlans as call;
 ghost use Rattle.sftp_calls.specs.Moves.{on_buffered};
@@ -209,7 +209,7 @@ fn send(
     ensures sound { IfOk result (Sounds bytes.now facts.now site.old site.new) }
     ensures pends { IfOk result (Pends (pends_idle site.old) place site.new) }
     ensures asks { IfOk result (BeginsAsking None place site.old site.new) }
-    ensures goes_on { IfOk result (GoesOnAsking None place site.old site.new) }
+    ensures goes_on { IfOk result (GoesOnAsking None place [] site.old site.new) }
     ensures err { OnErr result (site.new ≡ site.old) }
 {
     let Slot::Buffered(file, buffer) = slot_of(site, slot) else {
@@ -277,7 +277,7 @@ pub fn defer_rest(
     ensures sound { IfOk result (Sounds bytes.now facts.now site.old site.new) }
     ensures pends { IfOk result (Pends (pends_idle site.old) place site.new) }
     ensures asks { IfOk result (BeginsAsking None place site.old site.new) }
-    ensures goes_on { IfOk result (GoesOnAsking None place site.old site.new) }
+    ensures goes_on { IfOk result (GoesOnAsking None place [] site.old site.new) }
     ensures err { OnErr result (site.new ≡ site.old) }
 {
     let Slot::Buffered(file, _) = slot_of(site, slot) else {
@@ -339,7 +339,7 @@ pub(crate) fn room_replied(
     ensures sound { IfOk result (Sounds bytes.now facts.now site.old site.new) }
     ensures pends { IfOk result (Pends (pends_after (running.AwaitingRoom slot done) site.old (Some reply))
         place site.new) }
-    ensures asks { IfOk result (GoesOnAsking None place site.old site.new) }
+    ensures asks { IfOk result (GoesOnAsking None place [] site.old site.new) }
     ensures err { OnErr result (site.new ≡ site.old) }
 {
     let Slot::Buffered(file, buffer) = slot_of(site, slot) else {

@@ -1,9 +1,10 @@
 //! Whatever the call: how a call that was begun goes on.
 ghost use Rattle.std.specs.Prelude.{◌≡◌, Some, None, IfOk, OnErr};
-ghost use Rattle.sftp_plan.specs.Machines.{Goes, after, awaited};
+ghost use Rattle.sftp_plan.specs.Machines.{Goes, after, awaited, place_in};
+ghost use Rattle.sftp_window.specs.Windows.{first_of};
 ghost use Rattle.sftp_plan.specs.Cancelling.{Leaves, left_after};
-ghost use Rattle.sftp_plan.specs.Sound.{AreWithin, Fits, Sound, Sounds};
-ghost use Rattle.sftp_plan.specs.Pending.{Pends, pends_after};
+ghost use Rattle.sftp_plan.specs.Sound.{AreWithin, AsksWithin, Fits, Sound, Sounds};
+ghost use Rattle.sftp_plan.specs.Pending.{Pends, pends_after, reads_under};
 ghost use Rattle.sftp_plan.specs.Asking.{GoesOnAsking, opened_after};
 
 use crate::buffer_flush::flush_replied;
@@ -17,8 +18,10 @@ use crate::reading::read_replied;
 use crate::single::ending_told;
 use crate::site::{oldest_deferred, reading_under_way};
 use crate::whole::{directory_opened, names_replied, whole_opened};
+use crate::whole_read::{read_on, read_opened, window_replied};
 use crate::writing::{part_replied, write_replied};
 use sftp_model::{Facts, Outcome, Reply, Site};
+use sftp_window::Window;
 use ssh_encoding::OutOfMemory;
 use std::alloc::Global;
 
@@ -28,22 +31,22 @@ impl Running {
         ensures { result ≡ awaited self.now site.now }
     {
         match self {
-            Running::Ending { place, .. } => Some(*place),
-            Running::Opening { place, .. } => Some(*place),
-            Running::Reading { place, .. } => Some(*place),
-            Running::Gathering { place, .. } => Some(*place),
-            Running::Sending { place, .. } => Some(*place),
-            Running::Writing { place, .. } => Some(*place),
-            Running::OpeningToWrite { place } => Some(*place),
-            Running::OpeningDirectory { place, .. } => Some(*place),
-            Running::Listing { place, .. } => Some(*place),
+            Running::ReadingWhole { window, .. } => first_place(window),
             Running::Flushing { slot } => oldest_deferred(site, *slot),
             Running::AwaitingRoom { slot, .. } => oldest_deferred(site, *slot),
             Running::FillingBuffer { slot, .. } => reading_under_way(site, *slot),
-            Running::Deferred { .. } => None,
-            Running::DeferringRest { .. } => None,
-            Running::Copying { place, .. } => Some(*place),
+            _ => self.own_place(),
         }
+    }
+}
+
+/// The place of the first READ of a window that was not answered.
+fn first_place(window: &Window) -> Option<u64>
+    ensures { result ≡ place_in (first_of window.now.waiting) }
+{
+    match window.first() {
+        Some(read) => Some(read.place),
+        None => None,
     }
 }
 
@@ -61,13 +64,15 @@ pub fn go_on(
     requires sound { Sound running bytes.now site.old facts.now }
     requires within { AreWithin facts.now site.old }
     requires fits { Fits running reply }
+    requires range { AsksWithin facts.now (after running bytes.now site.old facts.now reply) }
     ensures goes { IfOk result (Goes (after running bytes.now site.old facts.now reply)
         place bytes.now site.new facts.now) }
     ensures left { IfOk result (Leaves (left_after running bytes.now site.old facts.now reply)
         place bytes.now site.new facts.now) }
     ensures sound { IfOk result (Sounds bytes.now facts.now site.old site.new) }
     ensures pends { IfOk result (Pends (pends_after running site.old reply) place site.new) }
-    ensures asks { IfOk result (GoesOnAsking (opened_after running reply) place site.old site.new) }
+    ensures asks { IfOk result (GoesOnAsking (opened_after running reply) place
+        (reads_under (Some running)) site.old site.new) }
     ensures err { OnErr result (site.new ≡ site.old) }
 {
     let Some(reply) = reply else {
@@ -108,6 +113,15 @@ pub fn go_on(
         Running::OpeningToWrite { place: grant } => {
             whole_opened(alloc, grant, reply, bytes, place, site, facts)
         }
+        Running::OpeningToRead {
+            place: grant,
+            bound,
+        } => read_opened(alloc, grant, bound, reply, place, site, facts),
+        Running::ReadingWhole {
+            grant,
+            bound,
+            window,
+        } => window_replied(alloc, grant, bound, window, reply, place, site, facts),
         Running::OpeningDirectory {
             place: grant,
             bound,
@@ -154,13 +168,15 @@ fn go_on_at_once(
 ) -> Result<Next, OutOfMemory>
     requires sound { Sound running bytes.now site.old facts.now }
     requires within { AreWithin facts.now site.old }
+    requires range { AsksWithin facts.now (after running bytes.now site.old facts.now None) }
     ensures goes { IfOk result (Goes (after running bytes.now site.old facts.now None)
         place bytes.now site.new facts.now) }
     ensures left { IfOk result (Leaves (left_after running bytes.now site.old facts.now None)
         place bytes.now site.new facts.now) }
     ensures sound { IfOk result (Sounds bytes.now facts.now site.old site.new) }
     ensures pends { IfOk result (Pends (pends_after running site.old None) place site.new) }
-    ensures asks { IfOk result (GoesOnAsking (opened_after running None) place site.old site.new) }
+    ensures asks { IfOk result (GoesOnAsking (opened_after running None) place
+        (reads_under (Some running)) site.old site.new) }
     ensures err { OnErr result (site.new ≡ site.old) }
 {
     match running {
@@ -168,6 +184,11 @@ fn go_on_at_once(
         Running::DeferringRest { slot, done } => {
             defer_rest(alloc, slot, done, bytes, place, site, facts)
         }
+        Running::ReadingWhole {
+            grant,
+            bound,
+            window,
+        } => read_on(alloc, grant, bound, window, place, site, facts),
         _ => Ok(Next::Done(Outcome::NoFile)),
     }
 }

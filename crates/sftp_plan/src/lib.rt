@@ -21,6 +21,7 @@ mod replies;
 mod single;
 pub mod site;
 mod whole;
+mod whole_read;
 mod writing;
 
 pub use buffer_flush::{begin_buf_flush, take_oldest};
@@ -45,4 +46,5 @@ pub use path_calls::{
 pub use reading::begin_read;
 pub use replies::is_good;
 pub use whole::{begin_fs_write, begin_list};
+pub use whole_read::{begin_fs_read, widen};
 pub use writing::{begin_write, begin_write_all, begin_write_parts, write_rest};

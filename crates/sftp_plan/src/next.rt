@@ -1,5 +1,6 @@
 use sftp_model::{Content, FileAt, FileAttrs, NameEntry, OpenFlags, Outcome, Request};
 use sftp_values::{ByteText, Items};
+use sftp_window::Window;
 
 /// A request whose handles are named by the places of their grants: of the OPENs that brought them.
 #[derive(Debug, Drop)]
@@ -107,6 +108,17 @@ pub enum Running {
     /// The OPEN of a whole write awaits its reply.
     OpeningToWrite {
         place: u64,
+    },
+    /// The OPEN of a whole read awaits its reply; so many DATA may come.
+    OpeningToRead {
+        place: u64,
+        bound: u32,
+    },
+    /// A whole read goes on by its window: the reply to the first READ under way is awaited, and so many DATA may come.
+    ReadingWhole {
+        grant: u64,
+        bound: u32,
+        window: Window,
     },
     /// An OPENDIR awaits its reply; so many READDIRs may follow.
     OpeningDirectory {

@@ -41,3 +41,15 @@ returns-in-Flushing-clause-left c = rw (c.in-Flushing.is, c.in-Some.is) (c.flush
 
 pub returns-in_ok-filled_replied-in-FillingBuffer-clause-sound : goal.returns-in_ok-filled_replied-in-FillingBuffer-clause-sound
 returns-in_ok-filled_replied-in-FillingBuffer-clause-sound c = (c.filled_replied.ensures.sound c.args.facts.now, tt)
+
+pub returns-in-OpeningToRead-clause-goes : goal.returns-in-OpeningToRead-clause-goes
+returns-in-OpeningToRead-clause-goes c = rw (c.in-OpeningToRead.is, c.in-Some.is) (c.read_opened.ensures.goes c.args.bytes.now)
+
+pub returns-in-OpeningToRead-clause-left : goal.returns-in-OpeningToRead-clause-left
+returns-in-OpeningToRead-clause-left c = rw (c.in-OpeningToRead.is, c.in-Some.is) (c.read_opened.ensures.left c.args.bytes.now)
+
+pub returns-in-ReadingWhole-clause-goes : goal.returns-in-ReadingWhole-clause-goes
+returns-in-ReadingWhole-clause-goes c = rw (c.in-ReadingWhole.is, c.in-Some.is) (c.window_replied.ensures.goes c.args.bytes.now)
+
+pub returns-in-ReadingWhole-clause-left : goal.returns-in-ReadingWhole-clause-left
+returns-in-ReadingWhole-clause-left c = rw (c.in-ReadingWhole.is, c.in-Some.is) (c.window_replied.ensures.left c.args.bytes.now)
