@@ -7,7 +7,9 @@ use Rattle.sftp_model.specs.Answers.{is_handle, may_answer}
 use Rattle.sftp_model.specs.Slots.{has_grant}
 use Rattle.sftp_core.specs.Core.{Core}
 use Rattle.sftp_plan.specs.declared.next.Running.{Running}
-use Rattle.sftp_plan.specs.Pending.{own_place, pends}
+use Rattle.sftp_plan.specs.Asking.{IsAmong as IsReadAmong}
+use Rattle.sftp_plan.specs.Pending.{own_place, pends, reads_under}
+use Rattle.sftp_window.specs.declared.window.ReadAt.{ReadAt}
 use Rattle.sftp_history.specs.declared.event.Owner.{Owner}
 use Rattle.sftp_history.specs.declared.event.Owner.TheVariants as owner
 use Rattle.sftp_history.specs.declared.entry.Entry.{Entry}
@@ -25,7 +27,7 @@ use Rattle.sftp_ties.proofs.OrderLaws.{asked_below}
 use Rattle.sftp_ties.proofs.PendLaws.{awaited_has}
 use Rattle.sftp_ties.proofs.PollLaws.{among_self}
 use Rattle.sftp_ties.proofs.TakeDues.{asker_there}
-use Rattle.sftp_steps.specs.Rest.{IsTransferAt, LaneAsks, awaited_in, opened_in}
+use Rattle.sftp_steps.specs.Rest.{IsReadAt, IsTransferAt, LaneAsks, awaited_in, opened_in}
 use Rattle.sftp_steps.proofs.TransferLaws.{place_below, transfer_on, transfer_plain, transfer_ungranted}
 
 -- ---- entries that are none of the lane's
@@ -46,6 +48,10 @@ awaited_below past lane p v a awaits looks = by_running v.running refl looks
     by_running (Some r) is at =
         ticket_below past lane p v a (awaited_has r v.site (ticket_places v.tickets) p (subst (λ (x : Option Running). (q : ℕ) → pends q x v.site ≤ tickets_for (ticket_places v.tickets) q) is awaits) at)
 
+-- a READ stands where it stood
+pub read_on : (past now : List Entry) (x : ReadAt) → ((p : ℕ) → p < asked past → asked_at now p ≡ asked_at past p) → IsReadAt past x → IsReadAt now x
+read_on past now x same t = record { asked = t.asked; here = same x.place (place_below past x.place t.asked t.here) ∙ t.here; handle = t.handle; reads = t.reads }
+
 -- the requests before stay as they were, and so does what a lane awaits that has a ticket of it
 pub asks_on : (past now : List Entry) (lane : ℕ) (v : LaneValue) → ((p : ℕ) → p < asked past → asked_at now p ≡ asked_at past p) → ((q : ℕ) → pends q v.running v.site ≤ tickets_for (ticket_places v.tickets) q) → LaneAsks past lane v → LaneAsks now lane v
 asks_on past now lane v same awaits a =
@@ -54,6 +60,7 @@ asks_on past now lane v same awaits a =
       only = λ p has. elim (a.only p has) [ inl mine ↦ inl mine | inr t ↦ inr (transfer_on past now p same t) ];
       keeps = a.keeps;
       fits = λ p x y at is may. a.fits p x y at (sym (same p (awaited_below past lane p v a awaits at)) ∙ is) may;
+      reads = λ x among. read_on past now x same (a.reads x among);
     }
 
 -- ---- whose request a ticket is of
@@ -101,6 +108,7 @@ idle_asks past lane v idle all =
       only = λ p has. inr (all p has);
       keeps = λ g is. absurd (let clash : ◌≡◌ {A = Option ℕ} None (Some g) = ap opened_in (sym idle) ∙ is in cc);
       fits = λ p x y at is may. absurd (let clash : ◌≡◌ {A = Option ℕ} None (Some p) = ap (λ (r : Option Running). awaited_in r v.site) (sym idle) ∙ at in cc);
+      reads = λ x among. absurd (subst (λ (r : Option Running). IsReadAmong x (reads_under r)) idle among);
     }
 
 -- ---- wanted places

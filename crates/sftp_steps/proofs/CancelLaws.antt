@@ -12,7 +12,8 @@ use Rattle.sftp_core.specs.Core.{Core, abandoned, after_poll, at, reply_in}
 use Rattle.sftp_plan.specs.declared.next.Running.{Running}
 use Rattle.sftp_plan.specs.Cancelling.{left_behind}
 use Rattle.sftp_plan.specs.Machines.{bytes_of}
-use Rattle.sftp_plan.specs.Pending.{Fewer, one, own_place, pends, slots_times, with_one}
+use Rattle.sftp_plan.specs.Pending.{Fewer, one, own_place, pends, reads_under, slots_times, with_one, with_reads}
+use Rattle.sftp_window.specs.declared.window.ReadAt.{ReadAt}
 use Rattle.sftp_plan.specs.Sound.{Keeps as Stays}
 use Rattle.sftp_history.specs.declared.call.Call.{Call}
 use Rattle.sftp_history.specs.declared.event.Event.TheVariants.{Cancel}
@@ -75,6 +76,10 @@ more_one : (o : Option ℕ) (q n : ℕ) → n ≤ with_one o q n
 more_one None q n = omega arith
 more_one (Some p) q n = omega arith
 
+more_reads : (reads : List ReadAt) (q n : ℕ) → n ≤ with_reads reads q n
+more_reads [] q n = omega arith
+more_reads (r ∷ rest) q n = omega arith
+
 has_one : (tickets : List ℕ) (q : ℕ) → tickets_for tickets q ≤ 1
 has_one tickets q = by_test (is_in q tickets)
   where
@@ -87,9 +92,11 @@ own_alone : (running : Option Running) (site : Site) (tickets : List ℕ) (p : �
 own_alone running site tickets p own le =
     let n : ℕ = slots_times p site.slots in
     let here : one p p ≡ 1 = ap (λ (b : Bool). if b then 1 else 0) (eq-eqb p p refl) in
-    let sum : pends p running site ≡ one p p + n = ap (λ (o : Option ℕ). with_one o p n) own in
+    let all : ℕ = with_reads (reads_under running) p n in
+    let sum : pends p running site ≡ one p p + all = ap (λ (o : Option ℕ). with_one o p all) own in
+    let more : n ≤ all = more_reads (reads_under running) p n in
     let top : tickets_for tickets p ≤ 1 = has_one tickets p in
-    omega (arith, here, sum, top, le)
+    omega (arith, here, sum, more, top, le)
 
 -- ---- the grants that are due
 
@@ -158,9 +165,11 @@ both_entries s past core lanes begun lane c site h there is any leaves less stay
 
     fewer : (q : ℕ) → pends q (lanes lane).running (lanes lane).site ≤ tickets_for (ticket_places (lanes lane).tickets) q → pends q None site ≤ tickets_for (ticket_places (lanes lane).tickets) q
     fewer q le =
-        (let more = more_one (own_place (lanes lane).running) q (slots_times q (lanes lane).site.slots) in
+        (let all : ℕ = with_reads (reads_under (lanes lane).running) q (slots_times q (lanes lane).site.slots) in
+        let more : all ≤ pends q (lanes lane).running (lanes lane).site = more_one (own_place (lanes lane).running) q all in
+        let reads : slots_times q (lanes lane).site.slots ≤ all = more_reads (reads_under (lanes lane).running) q (slots_times q (lanes lane).site.slots) in
         let slots : slots_times q site.slots ≤ slots_times q (lanes lane).site.slots = less.each q in
-        omega (arith, more, slots, le))
+        omega (arith, more, reads, slots, le))
 
 -- so it is where the slots stay
 same_entries : (s : Setting) (past : List Entry) (core : Core) (lanes : ℕ → LaneValue) (begun : List ℕ) (lane : ℕ) (c : Call) → AtRest s past core lanes begun → lane < length s.lanes → current s past lane ≡ Some c → list_any (λ l. l == lane) begun ≡ true

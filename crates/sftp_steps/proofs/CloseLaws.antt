@@ -46,7 +46,7 @@ asks_close : (past : List Entry) (id : ℕ) (r : Request) (w : ℕ) (v : LaneVal
 asks_close past id r w v left awaits a keeps =
     let now : List Entry = entry.Event (Submit owner.Close id r) ∷ past in
     let on : LaneAsks now w v = asks_on past now w v (λ p below. asked_other past owner.Close id p r below) awaits a in
-    record { current = on.current; only = on.only; keeps = keeps; fits = on.fits }
+    record { current = on.current; only = on.only; keeps = keeps; fits = on.fits; reads = on.reads }
 
 -- ---- the CLOSE
 

@@ -9,9 +9,10 @@ use Rattle.sftp_model.specs.Answers.{may_answer}
 use Rattle.sftp_core.specs.Core.{Core}
 use Rattle.sftp_core.specs.Table.{count, is_owing, is_sent, is_waiting}
 use Rattle.sftp_plan.specs.declared.next.Running.{Running}
-use Rattle.sftp_plan.specs.Asking.{opened_by}
+use Rattle.sftp_plan.specs.Asking.{IsAmong, opened_by}
 use Rattle.sftp_plan.specs.Machines.{awaited as awaited_by}
-use Rattle.sftp_plan.specs.Pending.{own_place}
+use Rattle.sftp_plan.specs.Pending.{own_place, reads_under}
+use Rattle.sftp_window.specs.declared.window.ReadAt.{ReadAt}
 use Rattle.sftp_plan.specs.Sound.{Fits}
 use Rattle.sftp_history.specs.declared.entry.Entry.{Entry}
 use Rattle.sftp_history.specs.Readings.{Asked, asked_at, awaited, unanswered}
@@ -62,12 +63,21 @@ pub record IsTransferAt (past : List Entry) (p : ℕ) : Type 0 where
   pub here : asked_at past p ≡ Some asked
   pub transfers : is_transfer asked.request ≡ true
 
--- What a lane awaits: its call the reply to its own last request, and its slots the replies to READs and WRITEs.
+-- the READ stands at its place, from its offset on and as long
+pub record IsReadAt (past : List Entry) (x : ReadAt) : Type 0 where
+  pub asked : Asked
+  pub here : asked_at past x.place ≡ Some asked
+  pub handle : List ℕ
+  pub reads : asked.request ≡ request.Read handle x.offset x.len
+
+-- What a lane awaits: its call the reply to its own last request, or those to the READs of a whole read, and its slots
+-- the replies to READs and WRITEs.
 pub record LaneAsks (past : List Entry) (lane : ℕ) (v : LaneValue) : Type 0 where
   pub current : (p : ℕ) → own_place v.running ≡ Some p → is_asked_by (asked_at past p) lane v.ended ≡ true
   pub only : (p : ℕ) → is_in p (ticket_places v.tickets) ≡ true → (own_place v.running ≡ Some p) ⊎ IsTransferAt past p
   pub keeps : (g : ℕ) → opened_in v.running ≡ Some g → is_in g (grant_places v.grants) ≡ true
   pub fits : (p : ℕ) (a : Asked) (y : Reply) → awaited_in v.running v.site ≡ Some p → asked_at past p ≡ Some a → may_answer a.request y ≡ true → RunFits v.running y
+  pub reads : (x : ReadAt) → IsAmong x (reads_under v.running) → IsReadAt past x
 
 -- ---- the session
 

@@ -8,7 +8,7 @@ use Rattle.sftp_calls.specs.Moves.{Plan}
 use Rattle.sftp_plan.specs.declared.next.Asked.{Asked}
 use Rattle.sftp_plan.specs.declared.next.Running.{Running}
 use Rattle.sftp_plan.specs.Sound.{AreWithin, Sound, Sounds}
-use Rattle.sftp_plan.specs.Cancelling.{left_after, Leaving}
+use Rattle.sftp_plan.specs.Cancelling.{left_after, left_behind, Leaving}
 use Rattle.sftp_plan.specs.Pending.{Pends, pends, pends_after, pends_idle}
 use Rattle.sftp_plan.specs.declared.next.Next.{Next}
 use Rattle.sftp_plan.specs.Machines.{after, awaited, bytes_of}
@@ -22,10 +22,10 @@ use Rattle.sftp_history.specs.Journals.{IsJournal}
 use Rattle.sftp_ties.specs.Running.{Steps, CancelSteps, CancelTied, IsFilled, request_of, IsFrom, LeavesFrom, RunTied, leaving}
 use Rattle.sftp_ties.specs.Places.{is_in, IsRising, without}
 use Rattle.sftp_ties.specs.Lanes.{LaneGoes, tickets_for}
-use Rattle.sftp_ties.specs.Going.{GoesOn, MachineStep}
+use Rattle.sftp_ties.specs.Going.{GoesOn, MachineStep, MachineWidens}
 use Rattle.sftp_ties.proofs.CancelLaws.{cancel_leaves, cancel_idle, cancel_steps}
 use Rattle.sftp_ties.proofs.PendLaws.{awaits_step, polled_has}
-use Rattle.sftp_ties.proofs.RunningLaws.{from_none, from_reply, steps, tied_idle}
+use Rattle.sftp_ties.proofs.RunningLaws.{from_none, from_reply, steps, tied_idle, widens}
 use Rattle.sftp_ties.proofs.PlaceLaws.{without_out}
 use Rattle.sftp_ties.proofs.FlushLaws.{left_came, left_none}
 use Rattle.sftp_plan.specs.declared.next.Next.TheVariants as step
@@ -101,17 +101,19 @@ cancelled_goes s past lane o running old site c tickets j tied is left sixteen w
 
 -- ---- from a machine's clauses to its lane
 
+-- what the lane's machine answered makes of the lane
+answer_goes : (s : Setting) (past : List Entry) (lane : ℕ) (c : Call) (old site : Site) (tickets : List ℕ) (before : ℕ → ℕ) (n : Next) → current s past lane ≡ Some c → length old.slots ≡ 16 → AreWithin s.facts old
+    → is_in (asked past) tickets ≡ false → ((q : ℕ) → before q ≤ tickets_for tickets q) → Steps s past lane n site → CancelSteps s past lane n site → Sounds (bytes_of (planned c)) s.facts old site n → Pends before (asked past) site n → GoesOn s past lane tickets site n
+answer_goes s past lane c old site tickets before (step.Ask a r) is sixteen within new all st left sounds pend = (st.0, λ id stays. ask_goes s past lane id c old site tickets before a r is sixteen within st left sounds pend new all stays)
+answer_goes s past lane c old site tickets before (step.Wait r) is sixteen within new all st left sounds pend = wait_goes s past lane (asked past) c old site tickets before r is sixteen within st left sounds pend new all
+answer_goes s past lane c old site tickets before (step.Done o) is sixteen within new all st left sounds pend = (st, λ j calm. done_goes s past lane o c old site tickets before j calm sixteen within st sounds pend new all)
+
 -- what the lane's machine answers, from this plan
 machine_goes : (s : Setting) (past : List Entry) (lane : ℕ) (c : Call) (running : Option Running) (old site : Site) (tickets : List ℕ) (plan : Plan) (leave : Leaving) (before : ℕ → ℕ) (n : Next) → current s past lane ≡ Some c
     → RunTied s past lane running old → CancelTied s past lane running old → length old.slots ≡ 16 → AreWithin s.facts old → IsFrom past running c old s.facts plan → LeavesFrom past running c old s.facts leave
     → is_in (asked past) tickets ≡ false → ((q : ℕ) → before q ≤ tickets_for tickets q) → MachineStep s past c plan leave before old site n → GoesOn s past lane tickets site n
 machine_goes s past lane c running old site tickets plan leave before n is runs cancels sixteen within from leaves_from new all a =
-    by_next n (steps s past lane running old site c plan n runs is from a.goes) (cancel_steps s past lane running old site c leave n cancels is leaves_from a.left) a.sound a.pends
-  where
-    by_next : (m : Next) → Steps s past lane m site → CancelSteps s past lane m site → Sounds (bytes_of (planned c)) s.facts old site m → Pends before (asked past) site m → GoesOn s past lane tickets site m
-    by_next (step.Ask a r) st left sounds pend = (st.0, λ id stays. ask_goes s past lane id c old site tickets before a r is sixteen within st left sounds pend new all stays)
-    by_next (step.Wait r) st left sounds pend = wait_goes s past lane (asked past) c old site tickets before r is sixteen within st left sounds pend new all
-    by_next (step.Done o) st left sounds pend = (st, λ j calm. done_goes s past lane o c old site tickets before j calm sixteen within st sounds pend new all)
+    answer_goes s past lane c old site tickets before n is sixteen within new all (steps s past lane running old site c plan n runs is from a.goes) (cancel_steps s past lane running old site c leave n cancels is leaves_from a.left) a.sound a.pends
 
 -- The lane's next call begins.
 pub begin_goes : (s : Setting) (past : List Entry) (lane : ℕ) (c : Call) (old site : Site) (tickets : List ℕ) (n : Next) → current s past lane ≡ Some c → LaneGoes s past lane None old tickets → is_in (asked past) tickets ≡ false
@@ -136,3 +138,10 @@ pub unreplied_goes : (s : Setting) (past : List Entry) (lane : ℕ) (c : Call) (
 unreplied_goes s past lane c r old site tickets n is l awaits new a =
     machine_goes s past lane c (Some r) old site tickets (after r (bytes_of (planned c)) old s.facts None) (left_after r (bytes_of (planned c)) old s.facts None) (pends_after r old None) n is l.runs.0 l.runs.1 l.sixteen l.within
     (from_none past r c old s.facts awaits) (λ answers known later. left_none r (bytes_of (planned c)) old s.facts later answers) new l.awaits a
+
+-- A call answers while the reply that it awaits is missing.
+pub widen_goes : (s : Setting) (past : List Entry) (lane p : ℕ) (c : Call) (r : Running) (site : Site) (tickets : List ℕ) (n : Next) → current s past lane ≡ Some c → LaneGoes s past lane (Some r) site tickets
+    → awaited r site ≡ Some p → answer past p ≡ None → is_in (asked past) tickets ≡ false → MachineWidens s past c r site n → GoesOn s past lane tickets site n
+widen_goes s past lane p c r site tickets n is l awaits none new a =
+    answer_goes s past lane c site site tickets (λ q. pends q (Some r) site) n is l.sixteen l.within new l.awaits (widens s past lane r site c p n l.runs.0 is awaits none a.goes)
+    (cancel_steps s past lane (Some r) site site c (left_behind r (bytes_of (planned c)) site s.facts) n l.runs.1 is (λ answers known later. refl) a.left) (record { count = refl; limit = λ w. w }, a.sound) a.pends

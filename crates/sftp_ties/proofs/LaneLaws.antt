@@ -14,14 +14,14 @@ use Rattle.sftp_history.specs.Readings.{answer, asked}
 use Rattle.sftp_history.specs.Ids.{id_state}
 use Rattle.sftp_history.specs.Calls.{Setting, current, held_by, held_site, site_of}
 use Rattle.sftp_ties.specs.Lanes.{AllOf, AtTied, LaneGoes, LaneTied, LaneValue, SessionTied, Ticketed, among, grants_of, ticket_places, tickets_of}
-use Rattle.sftp_ties.specs.LaneTurns.{BeginGoes, CancelledGoes, GrantsCount, MissingWaits, RepliesAgree, ReplyGoes, SlotsAgree, TicketsCount, UnrepliedGoes, DroppedGoes}
+use Rattle.sftp_ties.specs.LaneTurns.{BeginGoes, CancelledGoes, GrantsCount, MissingWaits, RepliesAgree, ReplyGoes, SlotsAgree, TicketsCount, UnrepliedGoes, WidenGoes, DroppedGoes}
 use Rattle.sftp_ties.specs.Running.{CancelTied}
 use Rattle.sftp_ties.specs.Places.{IsBelow, is_in}
 use Rattle.sftp_ties.specs.Tables.{place_of}
 use Rattle.sftp_ties.proofs.PollLaws.{among_self, came_answer, grant_counts, missing_answer, ticket_counts}
 use Rattle.sftp_ties.proofs.PlaceLaws.{at_in, different}
 use Rattle.sftp_ties.proofs.PendLaws.{awaited_has, dropped_has}
-use Rattle.sftp_ties.proofs.GoesLaws.{begin_goes, cancelled_goes, reply_goes, unreplied_goes}
+use Rattle.sftp_ties.proofs.GoesLaws.{begin_goes, cancelled_goes, reply_goes, unreplied_goes, widen_goes}
 use Rattle.sftp_ties.proofs.CancelLaws.{cancel_idle}
 use Rattle.sftp_ties.proofs.CloseLaws.{grant_index, grant_state}
 use Rattle.sftp_ties.proofs.HeldLaws.{held_grants}
@@ -88,6 +88,10 @@ reply_lane s past lane k v dues c r t y site n l is running at_k awaits got a =
 pub unreplied_lane : UnrepliedGoes
 unreplied_lane s past lane v dues c r site n l is running awaits a =
     unreplied_goes s past lane c r v.site site (ticket_places v.tickets) n is (goes_with s past lane v dues (Some r) l running) awaits (new_place past lane (ticket_places v.tickets) l.holds.tied_of) a
+
+pub widen_lane : WidenGoes
+widen_lane s past lane p v dues c r n l is running awaits none a =
+    widen_goes s past lane p c r v.site (ticket_places v.tickets) n is (goes_with s past lane v dues (Some r) l running) awaits none (new_place past lane (ticket_places v.tickets) l.holds.tied_of) a
 
 pub missing_waits : MissingWaits
 missing_waits s past lane p v dues c r l is running at_place =

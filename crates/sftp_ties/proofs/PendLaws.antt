@@ -7,9 +7,11 @@ use Rattle.sftp_model.specs.declared.slot.Slot.{Slot}
 use Rattle.sftp_model.specs.declared.slot.Slot.TheVariants.{Empty, File, Buffered}
 use Rattle.sftp_plan.specs.declared.next.Running.{Running}
 use Rattle.sftp_plan.specs.declared.next.Next.{Next}
-use Rattle.sftp_plan.specs.Machines.{awaited}
+use Rattle.sftp_plan.specs.Machines.{awaited, place_in}
 use Rattle.sftp_plan.specs.Buffers.{oldest, oldest_in, reading_in}
-use Rattle.sftp_plan.specs.Pending.{Pends, maybe, one, pends, slot_times, slots_times, writes_times}
+use Rattle.sftp_plan.specs.Pending.{Pends, maybe, one, pends, reads_times, slot_times, slots_times, with_reads, writes_times}
+use Rattle.sftp_window.specs.declared.window.ReadAt.{ReadAt}
+use Rattle.sftp_window.specs.Windows.{first_of}
 use Rattle.sftp_ties.specs.Places.{IsRising, is_in, without}
 use Rattle.sftp_ties.specs.Lanes.{tickets_for}
 use Rattle.sftp_ties.proofs.PlaceLaws.{push_other, push_self, without_other}
@@ -46,6 +48,11 @@ slots_await told [] k p none awaits at = absurd cc
 slots_await told (slot ∷ slots) zero p none awaits at = (let some : 1 ≤ slot_times p slot = awaits slot at in omega (arith, some))
 slots_await told (slot ∷ slots) (suc k) p none awaits at = (let some : 1 ≤ slots_times p slots = slots_await told slots k p none awaits at in omega (arith, some))
 
+-- a whole read awaits the first READ under way
+first_pends : (reads : List ReadAt) (p n : ℕ) → place_in (first_of reads) ≡ Some p → 1 ≤ with_reads reads p n
+first_pends [] p n at = absurd cc
+first_pends (r ∷ rest) p n at = (let here : one r.place p ≡ 1 = one_in r.place p cc in omega (arith, here))
+
 -- the reply that is awaited is counted
 pub awaited_pends : (r : Running) (site : Site) (p : ℕ) → awaited r site ≡ Some p → 1 ≤ pends p (Some r) site
 awaited_pends (running.Flushing slot) site p at = slots_await oldest_in site.slots slot p refl (λ x. slot_awaits x p) at
@@ -53,6 +60,7 @@ awaited_pends (running.AwaitingRoom slot start) site p at = slots_await oldest_i
 awaited_pends (running.FillingBuffer slot n offset own) site p at = slots_await reading_in site.slots slot p refl (λ x. slot_reads x p) at
 awaited_pends (running.Deferred slot count) site p at = absurd cc
 awaited_pends (running.DeferringRest slot done) site p at = absurd cc
+awaited_pends (running.ReadingWhole grant bound window) site p at = first_pends window.waiting p (slots_times p site.slots) at
 awaited_pends other site p at = own_awaited _ p _ at
 
 -- what is awaited has a ticket

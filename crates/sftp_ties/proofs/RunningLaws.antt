@@ -9,7 +9,8 @@ use Rattle.sftp_calls.specs.Moves.{Answers, Plan, Own}
 use Rattle.sftp_calls.specs.OwnRequests.{Extends}
 use Rattle.sftp_plan.specs.declared.next.Running.{Running}
 use Rattle.sftp_plan.specs.declared.next.Next.{Next}
-use Rattle.sftp_plan.specs.Machines.{residual, after, awaited, filled, Goes, bytes_of, idle}
+use Rattle.sftp_plan.specs.Machines.{residual, after, awaited, filled, Goes, Widens, bytes_of, idle}
+use Rattle.sftp_plan.proofs.GoingLaws.{residual_came, residual_missing, residual_none}
 use Rattle.sftp_history.specs.declared.call.Call.{Call}
 use Rattle.sftp_history.specs.declared.event.Owner.{Owner}
 use Rattle.sftp_history.specs.declared.event.Event.TheVariants.{Submit}
@@ -52,15 +53,11 @@ tied_other s past lane id by r running site other tied =
 
 -- ---- what the lane's machine does
 
--- the reply that is awaited came
-came : (running : Running) (bytes : List ℕ) (site : Site) (facts : Facts) (later : Own) (answers : Answers) (p : ℕ) (y : Reply) → awaited running site ≡ Some p → answers p ≡ Some y → residual running bytes site facts later answers ≡ after running bytes site facts (Some y) later answers
-came running bytes site facts later answers p y at got = rw at (rw got refl)
-
 pub from_reply : (past : List Entry) (running : Running) (c : Call) (site : Site) (facts : Facts) (p : ℕ) (y : Reply) → awaited running site ≡ Some p → answer past p ≡ Some y → IsFrom past (Some running) c site facts (after running (bytes_of (planned c)) site facts (Some y))
-from_reply past running c site facts p y at got answers known later = came running (bytes_of (planned c)) site facts later answers p y at (known p y got)
+from_reply past running c site facts p y at got answers known later = residual_came running (bytes_of (planned c)) site facts later answers p y at (known p y got)
 
 pub from_none : (past : List Entry) (running : Running) (c : Call) (site : Site) (facts : Facts) → awaited running site ≡ None → IsFrom past (Some running) c site facts (after running (bytes_of (planned c)) site facts None)
-from_none past running c site facts at answers known later = rw at refl
+from_none past running c site facts at answers known later = residual_none running (bytes_of (planned c)) site facts later answers at
 
 -- an Ask, a wait for another reply, and an end, once for all calls
 pub steps : (s : Setting) (past : List Entry) (lane : ℕ) (running : Option Running) (site later : Site) (c : Call) (plan : Plan) (n : Next) → RunTied s past lane running site → current s past lane ≡ Some c → IsFrom past running c site s.facts plan → Goes plan (asked past) (bytes_of (planned c)) later s.facts n → Steps s past lane n later
@@ -88,4 +85,25 @@ steps s past lane running site later c plan (step.Done o) tied is from goes =
 -- the reply that is awaited did not come: the call does what it does meanwhile
 pub waits : (s : Setting) (past : List Entry) (lane : ℕ) (running : Running) (site : Site) (c : Call) (p : ℕ) → RunTied s past lane (Some running) site → current s past lane ≡ Some c → awaited running site ≡ Some p → answer past p ≡ None
     → move_of s past lane ≡ Some (idle running (bytes_of (planned c)) site s.facts [] (answer past))
-waits s past lane running site c p tied is at none = move_left s past lane (Some running) site c tied is ∙ ap (λ m. Some m) (rw at (rw none refl))
+waits s past lane running site c p tied is at none =
+    move_left s past lane (Some running) site c tied is ∙ ap (λ m. Some m) (residual_missing running (bytes_of (planned c)) site s.facts [] (answer past) p at none)
+
+-- what the call answers meanwhile
+pub widens : (s : Setting) (past : List Entry) (lane : ℕ) (running : Running) (site : Site) (c : Call) (p : ℕ) (n : Next) → RunTied s past lane (Some running) site → current s past lane ≡ Some c → awaited running site ≡ Some p → answer past p ≡ None
+    → Widens running (asked past) (bytes_of (planned c)) site s.facts n → Steps s past lane n site
+widens s past lane running site c p (step.Ask a r) tied is at none goes =
+    let now : Answers = answer past in (
+      waits s past lane running site c p tied is at none ∙ ap (λ m. Some m) (goes now).0,
+      λ id stays d same answers known more.
+          (let q : Request = filled a now in
+          let mine : Own = own past lane (ended past lane) in
+          let here : c ≡ d = cc in
+          let grown : own (request_of past lane id a ∷ past) lane (ended past lane) ≡ mine ++ (asked past, q) ∷ [] = own_submit past lane (ended past lane) id q in
+          ap (λ (o : Own). next d (site_of s past lane) s.facts (o ++ more) answers) grown
+          ∙ (ap (λ (o : Own). next d (site_of s past lane) s.facts o answers) (append_assoc mine ((asked past, q) ∷ []) more)
+          ∙ (tied d same answers known ((asked past, q) ∷ more)
+          ∙ subst (λ (x : Call). residual running (bytes_of (planned x)) site s.facts ((asked past, q) ∷ more) answers ≡ residual r (bytes_of (planned x)) site s.facts more answers) here
+          (ap (λ (x : Request). residual running (bytes_of (planned c)) site s.facts ((asked past, x) ∷ more) answers) (sym (stays answers known)) ∙ (goes answers).1 more)))),
+    )
+widens s past lane running site c p (step.Wait r) tied is at none goes = subst (λ (x : Running). RunTied s past lane (Some x) site) (sym goes.0) tied
+widens s past lane running site c p (step.Done o) tied is at none goes = waits s past lane running site c p tied is at none ∙ ap (λ m. Some m) (goes (answer past))

@@ -4,10 +4,11 @@ use Rattle.sftp_model.specs.declared.slot.Move.TheVariants.{Ask, Done}
 use Rattle.sftp_model.specs.declared.slot.Site.{Site}
 use Rattle.sftp_calls.specs.Moves.{Plan}
 use Rattle.sftp_plan.specs.declared.next.Next.{Next}
-use Rattle.sftp_plan.specs.Machines.{Goes, bytes_of, filled}
-use Rattle.sftp_plan.specs.Cancelling.{Leaves, Leaving}
-use Rattle.sftp_plan.specs.Sound.{Sounds}
-use Rattle.sftp_plan.specs.Pending.{Pends}
+use Rattle.sftp_plan.specs.declared.next.Running.{Running}
+use Rattle.sftp_plan.specs.Machines.{Goes, Widens, bytes_of, filled}
+use Rattle.sftp_plan.specs.Cancelling.{Leaves, Leaving, left_behind}
+use Rattle.sftp_plan.specs.Sound.{IsSound, Sounds}
+use Rattle.sftp_plan.specs.Pending.{Pends, pends}
 use Rattle.sftp_history.specs.declared.call.Call.{Call}
 use Rattle.sftp_history.specs.declared.event.Event.TheVariants.{End}
 use Rattle.sftp_history.specs.declared.entry.Entry.{Entry}
@@ -26,6 +27,13 @@ pub record MachineStep (s : Setting) (past : List Entry) (c : Call) (plan : Plan
   pub left : Leaves leave (asked past) (bytes_of (planned c)) new s.facts n
   pub sound : Sounds (bytes_of (planned c)) s.facts old new n
   pub pends : Pends before (asked past) new n
+
+-- The clauses of its answer while the reply that its call awaits is missing. The site stays.
+pub record MachineWidens (s : Setting) (past : List Entry) (c : Call) (running : Running) (site : Site) (n : Next) : Type 0 where
+  pub goes : Widens running (asked past) (bytes_of (planned c)) site s.facts n
+  pub left : Leaves (left_behind running (bytes_of (planned c)) site s.facts) (asked past) (bytes_of (planned c)) site s.facts n
+  pub sound : IsSound (bytes_of (planned c)) site s.facts n
+  pub pends : Pends (λ q. pends q (Some running) site) (asked past) site n
 
 -- A request is the lane's move, and the lane goes on from it; an end alike. Where the machine waits for another reply
 -- the lane goes on without an entry. Tickets of these places are left.

@@ -23,7 +23,7 @@ use Rattle.sftp_history.specs.Journals.{IsJournal}
 use Rattle.sftp_ties.specs.Places.{IsBelow, is_in, without}
 use Rattle.sftp_ties.specs.Running.{leaving, IsFilled, grants_named}
 use Rattle.sftp_ties.specs.Lanes.{AllOf, Held, LaneGoes, LaneTied, LaneValue, SessionTied, Ticketed, ticket_places, tickets_for, grant_places}
-use Rattle.sftp_ties.specs.Going.{GoesOn, MachineStep}
+use Rattle.sftp_ties.specs.Going.{GoesOn, MachineStep, MachineWidens}
 use Rattle.sftp_model.specs.declared.reply.Reply.TheVariants as reply
 use Rattle.sftp_plan.specs.declared.next.Asked.TheVariants as plan_asked
 use Rattle.sftp_plan.specs.declared.next.Next.TheVariants as step
@@ -66,6 +66,11 @@ abbrev pub UnrepliedGoes : Type 0
 UnrepliedGoes = (s : Setting) (past : List Entry) (lane : ℕ) (v : LaneValue) (dues : List ℕ) (c : Call) (r : Running) (site : Site) (n : Next) → LaneTied s past lane v dues → current s past lane ≡ Some c → v.running ≡ Some r
     → awaited r v.site ≡ None → MachineStep s past c (after r (bytes_of (planned c)) v.site s.facts None) (left_after r (bytes_of (planned c)) v.site s.facts None) (pends_after r v.site None) v.site site n
     → GoesOn s past lane (ticket_places v.tickets) site n
+
+-- A call answers while the reply that it awaits is missing.
+abbrev pub WidenGoes : Type 0
+WidenGoes = (s : Setting) (past : List Entry) (lane p : ℕ) (v : LaneValue) (dues : List ℕ) (c : Call) (r : Running) (n : Next) → LaneTied s past lane v dues → current s past lane ≡ Some c → v.running ≡ Some r → awaited r v.site ≡ Some p
+    → answer past p ≡ None → MachineWidens s past c r v.site n → GoesOn s past lane (ticket_places v.tickets) v.site n
 
 -- The lane has a ticket of the reply that its call awaits; where the reply is missing the lane's move is what the call
 -- does meanwhile.

@@ -2,7 +2,7 @@
 // all values. What code must give is a premise; the invariant is that core and lanes are what the journal says.
 ghost use Rattle.sftp_ties.specs.Changes.{BeginsUnbegun};
 ghost use Rattle.sftp_ties.specs.DueTurns.{AddedDues, CancelDues, CancelledEndDues, EndDues, FirstIsNext, NoneDueIsSettled, NoneIsLeft, NoneIsNext, OthersStayDue, RequestDues, SentDues, StartDues, TakenDues, UnheldDues};
-ghost use Rattle.sftp_ties.specs.LaneTurns.{BeginGoes, CancelledGoes, ClosesAgree, DroppedGoes, GrantsCount, HandlesAgree, HandlesAreNewer, MissingWaits, NewerStands, RepliesAgree, ReplyGoes, RequestsAreFilled, SlotsAgree, TicketsCount, UnrepliedGoes};
+ghost use Rattle.sftp_ties.specs.LaneTurns.{BeginGoes, CancelledGoes, ClosesAgree, DroppedGoes, GrantsCount, HandlesAgree, HandlesAreNewer, MissingWaits, NewerStands, RepliesAgree, ReplyGoes, RequestsAreFilled, SlotsAgree, TicketsCount, UnrepliedGoes, WidenGoes};
 ghost use Rattle.sftp_ties.specs.Letting.{NoSlotIsLeft, SlotsArePassed};
 ghost use Rattle.sftp_ties.specs.SessionTurns.{AddedKeeps, CancelKeeps, CloseRequestKeeps, ClosedKeeps, DroppedKeeps, EndKeeps, GrantedDueKeeps, GrantedKeeps, LetGoClosedKeeps, LetGoKeeps, MoreDueKeeps, PolledKeeps, RequestKeeps, SentKeeps, StartTied, TakenKeeps, UnwantedKeeps};
 
@@ -20,6 +20,7 @@ pub fn machines_keep_their_lanes()
     ensures begins { BeginGoes }
     ensures replied { ReplyGoes }
     ensures unreplied { UnrepliedGoes }
+    ensures widened { WidenGoes }
     ensures waits { MissingWaits }
     ensures dropped { DroppedGoes }
     ensures cancelled { CancelledGoes }
