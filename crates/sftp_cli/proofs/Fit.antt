@@ -17,7 +17,7 @@ use Rattle.sftp_history.specs.declared.reason.Reason.{Reason}
 use Rattle.sftp_history.specs.declared.reason.Reason.TheVariants as reason
 use Rattle.sftp_history.specs.declared.script.Script.{Script}
 use Rattle.sftp_history.specs.declared.turn.Turn.{Turn}
-use Rattle.sftp_history.specs.Lanes.{is_long, is_slot, is_some_long, is_within, weight, lane_weight, weight_limit, are_ok}
+use Rattle.sftp_history.specs.Lanes.{is_long, is_short, is_slot, is_some_long, is_within, weight, lane_weight, weight_limit, are_ok}
 use Rattle.sftp_history.specs.Lines.{lines_of, words_of, is_comment, map_ok, number_of, within, number_in, hex_pairs, or_hex, bytes_in, flags_in}
 use Rattle.sftp_history.specs.Scripts.{Draft, empty_script, no_word, one_word, two_words, four_words, unless_said, greatest_u32, greatest_u64, path_in, content_in, meets_file, meets_dir, refusal_in, option_in, option_line, extension_in, with_extension, ext_line, limits_line, cut_line, server_line, file_line, dir_line, choice_line, pick_line, with_lane, call_at_end, slot_in, number_u32, number_u64, mode_in, some_in, position_in, buffer_len, one, two, three, seek, each_in, parts_in, slot_call, buffer_call, path_call, or_else, call_in, in_lane, call_line, lane_turn, line_by, line_of, read_line, go_on, read_lines, MAX_SCRIPT_LEN, script_of}
 use Rattle.sftp_cli.proofs.FitCounts.{AtMost, line_cost, lines_cost, lines_fit, pairs_fit, words_fit, words_len}
@@ -139,6 +139,13 @@ below_long n e = grind (arith, nat_tests)
 from_one : (n : ℕ) → (nat_le 1 n && nat_le n greatest_u32) ≡ true → nat_le 1 n ≡ true
 from_one n e = (first_true (nat_le 1 n) (nat_le n greatest_u32) e).0
 
+-- a bound of READs
+abbrev is_bound : ℕ → Bool
+is_bound n = nat_le 1 n && is_short n
+
+from_one_below : (n : ℕ) → (nat_le 1 n && nat_le n greatest_u32) ≡ true → is_bound n ≡ true
+from_one_below n e = grind (arith, nat_tests)
+
 from_one_to : (n : ℕ) → (nat_le 1 n && nat_le n 1048576) ≡ true → nat_le 1 n ≡ true
 from_one_to n e = (first_true (nat_le 1 n) (nat_le n 1048576) e).0
 
@@ -150,6 +157,9 @@ a_long word = within_so is_long 0 greatest_u64 (number_of word) below_long
 
 a_bound : (word : List ℕ) → So (nat_le 1) (number_in 1 greatest_u32 word)
 a_bound word = within_so (nat_le 1) 1 greatest_u32 (number_of word) from_one
+
+a_bound_of_reads : (word : List ℕ) → So is_bound (number_in 1 greatest_u32 word)
+a_bound_of_reads word = within_so is_bound 1 greatest_u32 (number_of word) from_one_below
 
 a_len : (word : List ℕ) → So (nat_le 1) (buffer_len word)
 a_len word = within_so (nat_le 1) 1 1048576 (number_of word) from_one_to
@@ -176,7 +186,7 @@ a_size word = by_word (bytes_eq word (codes "-")) (number_u64 word) (a_long word
 
 -- ---- calls by their fields
 
--- a call is within its ranges, and counts at most 2 and a number more
+-- a call is within its ranges, and counts at most 65 and a number more
 abbrev fits : ℕ → Call → Bool
 fits k (call.BufWrite slot bytes) = is_slot slot && are_few k bytes
 fits k (call.BufWriteAll slot bytes) = is_slot slot && are_few k bytes
@@ -187,7 +197,7 @@ fits_within k (call.BufWrite slot bytes) e = (first_true (is_slot slot) (are_few
 fits_within k (call.BufWriteAll slot bytes) e = (first_true (is_slot slot) (are_few k bytes) e).0
 fits_within k other e = e
 
-fits_light : (k : ℕ) (c : Call) → fits k c ≡ true → weight c ≤ 2 + k
+fits_light : (k : ℕ) (c : Call) → fits k c ≡ true → weight c ≤ 65 + k
 fits_light k (call.BufWrite slot bytes) e = let few = is_le (length bytes) k (first_true (is_slot slot) (are_few k bytes) e).1 in omega (arith, few)
 fits_light k (call.BufWriteAll slot bytes) e = let few = is_le (length bytes) k (first_true (is_slot slot) (are_few k bytes) e).1 in omega (arith, few)
 fits_light k other e = omega arith
@@ -305,7 +315,8 @@ buffers_named k word words le =
 
 paths_named : (k : ℕ) (word : List ℕ) (words : List (List ℕ)) → Named k (path_call word words)
 paths_named k word words =
-    if_named k (bytes_eq word (codes "fs_write")) _ _ (texts k call.FsWrite words (λ x y. refl))
+    if_named k (bytes_eq word (codes "fs_read")) _ _ (two_so k all is_bound bytes_in (number_in 1 greatest_u32) call.FsRead words (any bytes_in) a_bound_of_reads (λ x y s t. t))
+    (if_named k (bytes_eq word (codes "fs_write")) _ _ (texts k call.FsWrite words (λ x y. refl))
     (if_named k (bytes_eq word (codes "list")) _ _ (two_so k all (nat_le 1) bytes_in (number_in 1 greatest_u32) call.List words (any bytes_in) a_bound (λ x y s t. t))
     (if_named k (bytes_eq word (codes "stat")) _ _ (text_alone k call.Stat words (λ x. refl))
     (if_named k (bytes_eq word (codes "lstat")) _ _ (text_alone k call.Lstat words (λ x. refl))
@@ -318,7 +329,7 @@ paths_named k word words =
     (if_named k (bytes_eq word (codes "symlink")) _ _ (texts k call.Symlink words (λ x y. refl))
     (if_named k (bytes_eq word (codes "read_link")) _ _ (text_alone k call.ReadLink words (λ x. refl))
     (if_named k (bytes_eq word (codes "canonicalize")) _ _ (text_alone k call.Canonicalize words (λ x. refl))
-    (if_named k (bytes_eq word (codes "cwd")) _ _ (text_alone k call.Cwd words (λ x. refl)) (record { is = tt }))))))))))))))
+    (if_named k (bytes_eq word (codes "cwd")) _ _ (text_alone k call.Cwd words (λ x. refl)) (record { is = tt })))))))))))))))
 
 or_named : (k : ℕ) (first second : Option (Result Call Reason)) → Named k first → Named k second → Named k (or_else first second)
 or_named k None second h more = more
@@ -360,7 +371,7 @@ lanes_count (lane ∷ next ∷ lanes) c =
 
 -- ---- lines
 
-call_fine : (n k : ℕ) (d : Draft) (read : Result Call Reason) → Has n d → So (fits k) read → Fine (n + (2 + k)) (read >>= λ c. Ok (record d { script = record d.script { lanes = call_at_end d.script.lanes c } }))
+call_fine : (n k : ℕ) (d : Draft) (read : Result Call Reason) → Has n d → So (fits k) read → Fine (n + (65 + k)) (read >>= λ c. Ok (record d { script = record d.script { lanes = call_at_end d.script.lanes c } }))
 call_fine n k d (Ok c) has named = record {
   is = record {
     ok = lanes_end d.script.lanes c has.ok (fits_within k c named.is);
@@ -369,15 +380,15 @@ call_fine n k d (Ok c) has named = record {
 }
 call_fine n k d (Err why) has named = record { is = tt }
 
-lane_fine : (n k : ℕ) (d : Draft) (lanes : List Lane) (read : Result Call Reason) → Has n d → So (fits k) read → Fine (n + (2 + k)) (in_lane d lanes read)
+lane_fine : (n k : ℕ) (d : Draft) (lanes : List Lane) (read : Result Call Reason) → Has n d → So (fits k) read → Fine (n + (65 + k)) (in_lane d lanes read)
 lane_fine n k d [] read has named = record { is = tt }
 lane_fine n k d (lane ∷ lanes) read has named = call_fine n k d read has named
 
-calls_fine : (n k : ℕ) (d : Draft) (read : Option (Result Call Reason)) → Has n d → Named k read → Fine (n + (2 + k)) (call_line d read)
+calls_fine : (n k : ℕ) (d : Draft) (read : Option (Result Call Reason)) → Has n d → Named k read → Fine (n + (65 + k)) (call_line d read)
 calls_fine n k d None has named = record { is = tt }
 calls_fine n k d (Some read) has named = lane_fine n k d d.script.lanes read has named.is
 
-begun_fine : (n k : ℕ) (d : Draft) → Has n d → Has (n + (2 + k)) (with_lane d)
+begun_fine : (n k : ℕ) (d : Draft) → Has n d → Has (n + (65 + k)) (with_lane d)
 begun_fine n k d has = record {
   ok = list_all-append lane_ok d.script.lanes (record { calls = [] } ∷ []) ∙ both_true (list_all lane_ok d.script.lanes) true has.ok refl;
   count = let h = has.count in let l = sum_by-append lane_weight d.script.lanes (record { calls = [] } ∷ []) in rw l (omega (arith, h));
@@ -396,7 +407,7 @@ option_fine n d key least most word set k = bind_fine n (number_in least most wo
 options_fine : (n : ℕ) (d : Draft) (name word : List ℕ) → Has n d → Fine n (option_line d name word)
 options_fine n d name word k =
     if_fine n (bytes_eq name (codes "max_pending_requests")) _ _ (option_fine n d 0 1 65535 word _ k) (if_fine n (bytes_eq name (codes "requests_buffer_size")) _ _ (option_fine n d 1 1 65536 word _ k) (if_fine n (bytes_eq name (codes "responses_buffer_size")) _ _ (option_fine n d 2 1 65536 word _ k)
-    (if_fine n (bytes_eq name (codes "tokio_compat_file_write_limit")) _ _ (option_fine n d 3 1 16777216 word _ k) (if_fine n (bytes_eq name (codes "max_read_len")) _ _ (option_fine n d 4 1 _ word _ k) (if_fine n (bytes_eq name (codes "max_write_len")) _ _ (option_fine n d 5 1 _ word _ k) (if_fine n (bytes_eq name (codes "flush_interval")) _ _ (option_fine n d 6 0 1000000 word _ k) (record { is = tt })))))))
+    (if_fine n (bytes_eq name (codes "tokio_compat_file_write_limit")) _ _ (option_fine n d 3 1 16777216 word _ k) (if_fine n (bytes_eq name (codes "max_read_len")) _ _ (option_fine n d 4 1 _ word _ k) (if_fine n (bytes_eq name (codes "max_write_len")) _ _ (option_fine n d 5 1 _ word _ k) (if_fine n (bytes_eq name (codes "flush_interval")) _ _ (option_fine n d 6 0 1000000 word _ k) (if_fine n (bytes_eq name (codes "read_window")) _ _ (option_fine n d 7 1 64 word _ k) (record { is = tt }))))))))
 
 limits_fine : (n : ℕ) (d : Draft) (p r w h : List ℕ) → Has n d → Fine n (limits_line d p r w h)
 limits_fine n d p r w h k =
@@ -415,9 +426,9 @@ turn_fine : (n : ℕ) (d : Draft) (of_lane : ℕ → Turn) (word : List ℕ) →
 turn_fine n d of_lane word k = bind_fine n (number_in 0 greatest_u32 word) _ (λ x. record { is = k })
 
 -- a line whose words behind the first are together at most k bytes long; it leaves m
-line_fine : (n k m : ℕ) (d : Draft) (word : List ℕ) (words : List (List ℕ)) → words_len words ≤ k → m ≡ n + (2 + k) → Has n d → Fine m (line_by d word words)
+line_fine : (n k m : ℕ) (d : Draft) (word : List ℕ) (words : List (List ℕ)) → words_len words ≤ k → m ≡ n + (65 + k) → Has n d → Fine m (line_by d word words)
 line_fine n k m d word words le e before =
-    let has : Has m d = subst (λ (m : ℕ). Has m d) (sym e) (more n (2 + k) d.script.lanes before) in
+    let has : Has m d = subst (λ (m : ℕ). Has m d) (sym e) (more n (65 + k) d.script.lanes before) in
     if_fine m (bytes_eq word (codes "option")) _ _ (two_fine m (option_line d) words (λ a b. options_fine m d a b has)) (if_fine m (bytes_eq word (codes "server")) _ _ (server_fine m d words has)
     (if_fine m (bytes_eq word (codes "file")) _ _ (two_fine m (file_line d) words (λ a b. files_fine m d a b has))
     (if_fine m (bytes_eq word (codes "dir")) _ _ (one_fine m (dir_line d) words (λ a. dirs_fine m d a has))
@@ -428,9 +439,9 @@ line_fine n k m d word words le e before =
     (if_fine m (bytes_eq word (codes "flush")) _ _ (no_fine m _ words has) (if_fine m (bytes_eq word (codes "take")) _ _ (no_fine m _ words has)
     (subst (λ (m : ℕ). Fine m (call_line d (call_in word words))) (sym e) (calls_fine n k d (call_in word words) before (calls_named k word words le)))))))))))))
 
-words_fine : (n k : ℕ) (d : Draft) (words : List (List ℕ)) → words_len words ≤ k → Has n d → Fine (n + (2 + k)) (line_of d words)
-words_fine n k d [] le has = record { is = more n (2 + k) d.script.lanes has }
-words_fine n k d (word ∷ words) le has = line_fine n k (n + (2 + k)) d word words (omega (arith, le)) refl has
+words_fine : (n k : ℕ) (d : Draft) (words : List (List ℕ)) → words_len words ≤ k → Has n d → Fine (n + (65 + k)) (line_of d words)
+words_fine n k d [] le has = record { is = more n (65 + k) d.script.lanes has }
+words_fine n k d (word ∷ words) le has = line_fine n k (n + (65 + k)) d word words (omega (arith, le)) refl has
 
 -- ---- all lines
 
@@ -456,10 +467,10 @@ by_size script n false r h e = h refl e
 at_most : (m n : ℕ) → nat_lt m n ≡ false → n ≤ m
 at_most m n e = grind (arith, nat_tests)
 
-script_within : (bytes : List ℕ) (script : Script) → script_of bytes ≡ Ok script → Within (MAX_SCRIPT_LEN * 3) script.lanes
+script_within : (bytes : List ℕ) (script : Script) → script_of bytes ≡ Ok script → Within (MAX_SCRIPT_LEN * 66) script.lanes
 script_within bytes script e =
-    by_size script (MAX_SCRIPT_LEN * 3) (nat_lt MAX_SCRIPT_LEN (length bytes)) (read_lines 1 (record { script = empty_script; named = [] }) (lines_of bytes))
-    (λ short is. lines_fine script (MAX_SCRIPT_LEN * 3) 0 1 (record { script = empty_script; named = [] }) (lines_of bytes)
+    by_size script (MAX_SCRIPT_LEN * 66) (nat_lt MAX_SCRIPT_LEN (length bytes)) (read_lines 1 (record { script = empty_script; named = [] }) (lines_of bytes))
+    (λ short is. lines_fine script (MAX_SCRIPT_LEN * 66) 0 1 (record { script = empty_script; named = [] }) (lines_of bytes)
     (let fit = lines_fit bytes in let most = at_most MAX_SCRIPT_LEN (length bytes) short in omega (arith, fit, most))
     (record { ok = refl; count = omega arith }) is) e
 

@@ -26,27 +26,27 @@ words_fit (b ∷ line) = let h = word_if (b == 32) (starts_word line) b (length 
 
 -- ---- lines
 
--- what a line may count: 2, and 1 for each byte
+-- what a line may count: 65, and 1 for each byte
 abbrev pub line_cost : List ℕ → ℕ
-line_cost line = 2 + length line
+line_cost line = 65 + length line
 
 -- what lines may count together
 abbrev pub lines_cost : List (List ℕ) → ℕ
 lines_cost [] = 0
 lines_cost (line ∷ lines) = line_cost line + lines_cost lines
 
-front_cost : (b : ℕ) (lines : List (List ℕ)) → lines_cost (with_front b lines) ≤ lines_cost lines + 3
+front_cost : (b : ℕ) (lines : List (List ℕ)) → lines_cost (with_front b lines) ≤ lines_cost lines + 66
 front_cost b [] = omega arith
 front_cost b (line ∷ lines) = omega arith
 
-line_if : (ends : Bool) (b n : ℕ) (lines : List (List ℕ)) → lines_cost lines ≤ n → lines_cost (if ends then [] ∷ lines else with_front b lines) ≤ n + 3
+line_if : (ends : Bool) (b n : ℕ) (lines : List (List ℕ)) → lines_cost lines ≤ n → lines_cost (if ends then [] ∷ lines else with_front b lines) ≤ n + 66
 line_if true b n lines h = omega (arith, h)
 line_if false b n lines h = let front = front_cost b lines in omega (arith, h, front)
 
--- the lines of a text count at most 3 for each of its bytes
-pub lines_fit : (bytes : List ℕ) → lines_cost (lines_of bytes) ≤ length bytes * 3
+-- the lines of a text count at most 66 for each of its bytes
+pub lines_fit : (bytes : List ℕ) → lines_cost (lines_of bytes) ≤ length bytes * 66
 lines_fit [] = omega arith
-lines_fit (b ∷ bytes) = let h = line_if (b == 10) b (length bytes * 3) (lines_of bytes) (lines_fit bytes) in omega (arith, h)
+lines_fit (b ∷ bytes) = let h = line_if (b == 10) b (length bytes * 66) (lines_of bytes) (lines_fit bytes) in omega (arith, h)
 
 -- ---- bytes
 

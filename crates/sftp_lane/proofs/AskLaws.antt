@@ -1,7 +1,7 @@
 -- What a lane asked of its core, and what a turn was whose reply came.
 use Rattle.std.proofs.Common.{◌≡◌, ◌++◌, ◌∷◌, [], ℕ, true, false, List, Option, Some, None, Ok, Err, refl, ap, sym, ◌∙◌, subst, arith, inl, inr}
 use Rattle.std.proofs.lemmas.Bool.Decides.{eqb_tells}
-use Rattle.std.specs.Prelude.{IfOk, Result}
+use Rattle.std.specs.Prelude.{IfOk, Result, slice_get}
 use Rattle.ssh_encoding.specs.declared.out_of_memory.OutOfMemory.{OutOfMemory}
 use Rattle.sftp_model.specs.declared.reply.Reply.{Reply}
 use Rattle.sftp_model.specs.declared.request.Request.{Request}
@@ -9,7 +9,7 @@ use Rattle.sftp_model.specs.declared.slot.Facts.{Facts}
 use Rattle.sftp_model.specs.declared.request.Request.TheVariants as request
 use Rattle.sftp_model.specs.declared.reply.Reply.TheVariants as reply
 use Rattle.sftp_model.specs.declared.slot.Site.{Site}
-use Rattle.sftp_core.specs.Core.{Core, IsGrant, at, is_call, queued_last, release_gives, users_of}
+use Rattle.sftp_core.specs.Core.{Core, IsGrant, at, is_call, queued_last, release_gives, reply_in, users_of}
 use Rattle.sftp_core.specs.Grant.{GrantValue}
 use Rattle.sftp_core.specs.declared.place.Place.TheVariants.{Granted}
 use Rattle.sftp_plan.specs.declared.next.Asked.{Asked}
@@ -19,7 +19,7 @@ use Rattle.sftp_plan.specs.declared.next.Next.TheVariants as step
 use Rattle.sftp_plan.specs.declared.next.Running.{Running}
 use Rattle.sftp_plan.specs.declared.next.Running.TheVariants as running
 use Rattle.sftp_plan.specs.Machines.{awaited}
-use Rattle.sftp_plan.specs.Asking.{BeginsAsking, GoesOnAsking, HasGrant, IsNoClose, IsPlain, Names, opened_after}
+use Rattle.sftp_plan.specs.Asking.{BeginsAsking, GoesOnAsking, HasGrant, IsNoClose, IsPlain, Names, WidensAsking, opened_after, opened_by}
 use Rattle.sftp_history.specs.declared.call.Call.{Call}
 use Rattle.sftp_history.specs.Grants.{is_close}
 use Rattle.sftp_ties.specs.Lanes.{Held, LaneValue, Ticketed, grant_places}
@@ -29,7 +29,9 @@ use Rattle.sftp_ties.proofs.HoldLaws.{in_more, places_push}
 use Rattle.sftp_ties.proofs.PlaceLaws.{push_self}
 use Rattle.sftp_steps.specs.Rest.{opened_in}
 use Rattle.sftp_lane.specs.Tokens.{IsFilledBy, Spent, grants_with}
-use Rattle.sftp_lane.specs.Turning.{Asks, ClosesNothing, HoldsNamed, MayAsk, Settles, Submits, Turned, Replied, WentOn}
+use Rattle.sftp_lane.specs.Turning.{Asks, ClosesNothing, HoldsNamed, IsActive, MayAsk, Settles, SettlesMeanwhile, Submits, Turned, Replied, Unreplied, Waiting, Widening, Widened, WentOn}
+use Rattle.sftp_window.specs.declared.window.ReadAt.{ReadAt}
+use Rattle.sftp_plan.specs.Pending.{own_place, reads_under}
 use Rattle.sftp_lane.specs.declared.lane.Moved.{Moved}
 
 -- ---- requests
@@ -71,7 +73,7 @@ last_gives core g here = ap (release_gives g) (one_user core g here)
 -- ---- a turn whose reply came
 
 pub turned_replied : (c : Call) (facts : Facts) (place : ℕ) (core between new : Core) (v now : LaneValue) (r : Running) (p : ℕ) (y : Reply) (tickets : List Ticketed) (grants : List Held) (n : Next) (o : Result Moved OutOfMemory) → v.running ≡ Some r
-    → awaited r v.site ≡ Some p → Spent core between v.tickets tickets v.grants grants p y → WentOn r (Some y) c facts place v.site now.site n → GoesOnAsking (opened_after r (Some y)) place v.site now.site n → now.ended ≡ v.ended
+    → awaited r v.site ≡ Some p → Spent core between v.tickets tickets v.grants grants p y → WentOn r (Some y) c facts place v.site now.site n → GoesOnAsking (opened_after r (Some y)) place (reads_under (Some r)) v.site now.site n → now.ended ≡ v.ended
     → IfOk o (λ m. Settles between new tickets now.tickets grants now.grants now.running place n m) → IfOk o (λ m. Turned c facts place core new v now m)
 turned_replied c facts place core between new v now r p y tickets grants n (Err e) was looks spent ran asks ended settles = settles
 turned_replied c facts place core between new v now r p y tickets grants n (Ok m) was looks spent ran asks ended settles =
@@ -91,6 +93,13 @@ turned_replied c facts place core between new v now r p y tickets grants n (Ok m
       ran = ran;
       settles = settles;
     })
+
+-- and one that awaited none
+pub turned_unreplied : (c : Call) (facts : Facts) (place : ℕ) (core new : Core) (v now : LaneValue) (r : Running) (n : Next) (o : Result Moved OutOfMemory) → v.running ≡ Some r → awaited r v.site ≡ None → WentOn r None c facts place v.site now.site n
+    → GoesOnAsking (opened_after r None) place (reads_under (Some r)) v.site now.site n → now.ended ≡ v.ended → IfOk o (λ m. Settles core new v.tickets now.tickets v.grants now.grants now.running place n m) → IfOk o (λ m. Turned c facts place core new v now m)
+turned_unreplied c facts place core new v now r n (Err e) was looks ran asks ended settles = settles
+turned_unreplied c facts place core new v now r n (Ok m) was looks ran asks ended settles =
+    Unreplied (record { answer = n; ended = ended; running = r; was = was; looks = looks; asks = asks; ran = ran; settles = settles })
 
 -- ---- what a machine may ask
 
@@ -134,16 +143,63 @@ may_ask opened place old new grants (step.Ask a r) x held = (λ g has. held g (n
 may_ask opened place old new grants (step.Wait r) x held = tt
 may_ask opened place old new grants (step.Done o) x held = tt
 
-pub may_ask_on : (opened : Option ℕ) (place : ℕ) (old new : Site) (grants : List Held) (n : Next) → GoesOnAsking opened place old new n → ((g : ℕ) → HasGrant old opened g → is_in g (grant_places grants) ≡ true) → MayAsk grants n
-may_ask_on opened place old new grants (step.Ask a r) x held = (λ g has. held g (named_each (HasGrant old opened) a g x.0.named has), x.0.call)
-may_ask_on opened place old new grants (step.Wait r) x held = tt
-may_ask_on opened place old new grants (step.Done o) x held = tt
+pub may_ask_on : (opened : Option ℕ) (place : ℕ) (reads : List ReadAt) (old new : Site) (grants : List Held) (n : Next) → GoesOnAsking opened place reads old new n → ((g : ℕ) → HasGrant old opened g → is_in g (grant_places grants) ≡ true) → MayAsk grants n
+may_ask_on opened place reads old new grants (step.Ask a r) x held = (λ g has. held g (named_each (HasGrant old opened) a g x.0.named has), x.0.call)
+may_ask_on opened place reads old new grants (step.Wait r) x held = tt
+may_ask_on opened place reads old new grants (step.Done o) x held = tt
 
-pub closes_nothing : (opened : Option ℕ) (place : ℕ) (old new : Site) (n : Next) → GoesOnAsking opened place old new n → ClosesNothing n
-closes_nothing opened place old new (step.Ask (ask.Close g) r) x = absurd x.1
-closes_nothing opened place old new (step.Ask a r) x = tt
-closes_nothing opened place old new (step.Wait r) x = tt
-closes_nothing opened place old new (step.Done o) x = tt
+pub may_ask_more : (running : Running) (place : ℕ) (site : Site) (grants : List Held) (n : Next) → WidensAsking running place site n → ((g : ℕ) → HasGrant site (opened_by running) g → is_in g (grant_places grants) ≡ true) → MayAsk grants n
+may_ask_more running place site grants (step.Ask a r) x held = (λ g has. held g (named_each (HasGrant site (opened_by running)) a g x.1.named has), x.1.call)
+may_ask_more running place site grants (step.Wait r) x held = tt
+may_ask_more running place site grants (step.Done o) x held = tt
+
+pub closes_nothing : (opened : Option ℕ) (place : ℕ) (reads : List ReadAt) (old new : Site) (n : Next) → GoesOnAsking opened place reads old new n → ClosesNothing n
+closes_nothing opened place reads old new (step.Ask (ask.Close g) r) x = absurd x.1
+closes_nothing opened place reads old new (step.Ask a r) x = tt
+closes_nothing opened place reads old new (step.Wait r) x = tt
+closes_nothing opened place reads old new (step.Done o) x = tt
+
+-- what asks while a reply is missing goes on
+pub widens_on : (running : Running) (place : ℕ) (site : Site) (n : Next) → IsActive n → WidensAsking running place site n → GoesOnAsking (opened_by running) place (reads_under (Some running)) site site n
+widens_on running place site (step.Ask a r) active x = (x.1, x.2)
+widens_on running place site (step.Wait r) active x = absurd active
+widens_on running place site (step.Done o) active x = tt
+
+-- and it awaits no reply to a request of its own
+pub widens_others : (running : Running) (place : ℕ) (site : Site) (n : Next) → IsActive n → WidensAsking running place site n → own_place (Some running) ≡ None
+widens_others running place site (step.Ask a r) active x = x.0
+widens_others running place site (step.Wait r) active x = absurd active
+widens_others running place site (step.Done o) active x = x
+
+-- ---- a turn whose reply is missing
+
+pub turned_meanwhile : (c : Call) (facts : Facts) (place : ℕ) (core new : Core) (v now : LaneValue) (r : Running) (k : ℕ) (t : Ticketed) (n : Next) (o : Result Moved OutOfMemory) → v.running ≡ Some r → awaited r v.site ≡ Some t.place → slice_get v.tickets k ≡ Some t → reply_in (at core t.ticket) ≡ None
+    → Widened r c facts place v.site n → WidensAsking r place v.site n → now.site ≡ v.site → now.ended ≡ v.ended → IfOk o (λ m. SettlesMeanwhile core new v.tickets now.tickets v.grants now.grants now.running place n m) → IfOk o (λ m. Turned c facts place core new v now m)
+turned_meanwhile c facts place core new v now r k t n (Err e) was looks here missing ran asks site ended settles = settles
+turned_meanwhile c facts place core new v now r k t (step.Wait then) (Ok m) was looks here missing ran asks site ended settles =
+    Waiting (record {
+      running = r;
+      k = k;
+      ticket = t;
+      was = was;
+      looks = looks;
+      here = here;
+      missing = missing;
+      idles = ran.goes.1;
+      is = settles.2;
+      core = settles.0.core;
+      same = λ i. record {
+        running = (settles.1 ∙ ap (λ (x : Running). Some x) ran.goes.0 ∙ sym was) i;
+        site = site i;
+        tickets = settles.0.pushed i;
+        grants = settles.0.kept i;
+        ended = ended i;
+      };
+    })
+turned_meanwhile c facts place core new v now r k t (step.Ask a then) (Ok m) was looks here missing ran asks site ended settles =
+    Widening (record { answer = step.Ask a then; active = tt; ended = ended; running = r; k = k; ticket = t; was = was; looks = looks; here = here; missing = missing; site = site; asks = asks; ran = ran; settles = settles })
+turned_meanwhile c facts place core new v now r k t (step.Done o) (Ok m) was looks here missing ran asks site ended settles =
+    Widening (record { answer = step.Done o; active = tt; ended = ended; running = r; k = k; ticket = t; was = was; looks = looks; here = here; missing = missing; site = site; asks = asks; ran = ran; settles = settles })
 
 -- ---- the grants that a call may name after a reply
 
@@ -166,6 +222,8 @@ opened_held v (running.OpeningToWrite place) (reply.Handle h) p ticket g was loo
     (let same : p ≡ g = (let a : ◌≡◌ {A = Option ℕ} (Some p) (Some g) = sym looks ∙ e in cc) in subst (λ (q : ℕ). is_in q (grant_places (grants_with v.grants p ticket (reply.Handle h))) ≡ true) same (new_grant v.grants p ticket h))
 opened_held v (running.OpeningDirectory place bound) (reply.Handle h) p ticket g was looks held e =
     (let same : p ≡ g = (let a : ◌≡◌ {A = Option ℕ} (Some p) (Some g) = sym looks ∙ e in cc) in subst (λ (q : ℕ). is_in q (grant_places (grants_with v.grants p ticket (reply.Handle h))) ≡ true) same (new_grant v.grants p ticket h))
+opened_held v (running.OpeningToRead place bound) (reply.Handle h) p ticket g was looks held e =
+    (let same : p ≡ g = (let a : ◌≡◌ {A = Option ℕ} (Some p) (Some g) = sym looks ∙ e in cc) in subst (λ (q : ℕ). is_in q (grant_places (grants_with v.grants p ticket (reply.Handle h))) ≡ true) same (new_grant v.grants p ticket h))
 opened_held v r y p ticket g was looks held e = more_grants v.grants p ticket g y (held g (inr (ap opened_in was ∙ e)))
 
 pub held_after : (v : LaneValue) (r : Running) (y : Reply) (p ticket : ℕ) → v.running ≡ Some r → awaited r v.site ≡ Some p → HoldsNamed v → (g : ℕ) → HasGrant v.site (opened_after r (Some y)) g → is_in g (grant_places (grants_with v.grants p ticket y)) ≡ true
@@ -184,5 +242,6 @@ held_on v r was held g (inr e) = held g (inr (ap opened_in was ∙ (sym (nothing
   where
     nothing_opens : (x : Running) → opened_after x None ≡ opened_in (Some x)
     nothing_opens (running.OpeningToWrite place) = refl
+    nothing_opens (running.OpeningToRead place bound) = refl
     nothing_opens (running.OpeningDirectory place bound) = refl
     nothing_opens x = refl

@@ -6,6 +6,7 @@ use Rattle.std.proofs.lemmas.Bool.Decides.{eqb_tells}
 use Rattle.sftp_model.specs.Answers.{expected_of, may_answer}
 use Rattle.sftp_model.specs.declared.answers.Expected.{Expected}
 use Rattle.sftp_model.specs.declared.reply.Reply.{Reply}
+use Rattle.sftp_model.specs.declared.reply.Reply.TheVariants as reply
 use Rattle.sftp_model.specs.declared.request.Request.{Request}
 use Rattle.sftp_model.specs.declared.request.Request.TheVariants as request
 use Rattle.sftp_model.specs.declared.slot.Site.{Site}
@@ -16,9 +17,15 @@ use Rattle.sftp_calls.specs.Moves.{Answers}
 use Rattle.sftp_plan.specs.declared.next.Asked.{Asked as Ask_of}
 use Rattle.sftp_plan.specs.declared.next.Asked.TheVariants as ask
 use Rattle.sftp_plan.specs.declared.next.Running.{Running}
-use Rattle.sftp_plan.specs.Asking.{AsksOrDefers, AwaitsOrDefers, IsTransfer}
-use Rattle.sftp_plan.specs.Machines.{filled}
-use Rattle.sftp_plan.specs.Pending.{own_place}
+use Rattle.sftp_plan.specs.Asking.{AsksOrDefers, AwaitsOrDefers, IsAmong, IsNewRead, IsTransfer, LooksAtOwn, is_window}
+use Rattle.sftp_plan.specs.Machines.{awaited, filled, place_in}
+use Rattle.sftp_plan.specs.Sound.{Fits}
+use Rattle.sftp_plan.specs.declared.next.Running.TheVariants as running
+use Rattle.sftp_window.specs.declared.window.ReadAt.{ReadAt}
+use Rattle.sftp_window.specs.Windows.{FitsFirst, FitsRead, first_of}
+use Rattle.sftp_calls.proofs.SpanLaws.{content_fits}
+use Rattle.sftp_calls.specs.Moves.{handle_of}
+use Rattle.sftp_plan.specs.Pending.{own_place, reads_under}
 use Rattle.sftp_history.specs.declared.event.Owner.TheVariants as owner
 use Rattle.sftp_history.specs.declared.entry.Entry.{Entry}
 use Rattle.sftp_history.specs.Readings.{Asked, answer, asked, asked_at, awaiting, ended}
@@ -44,8 +51,8 @@ use Rattle.sftp_ties.proofs.HoldLaws.{ticket_push}
 use Rattle.sftp_ties.proofs.PlaceLaws.{push_other}
 use Rattle.sftp_ties.proofs.RestLaws.{none_due_is_settled}
 use Rattle.sftp_ties.proofs.SessionLaws.{each_with}
-use Rattle.sftp_steps.specs.Rest.{AtRest, Counted, IsTransferAt, LaneAsks, RunFits, awaited_in, is_transfer, opened_in, weigh}
-use Rattle.sftp_steps.proofs.AskedLaws.{asks_on}
+use Rattle.sftp_steps.specs.Rest.{AtRest, Counted, IsReadAt, IsTransferAt, LaneAsks, RunFits, awaited_in, is_transfer, opened_in, weigh}
+use Rattle.sftp_steps.proofs.AskedLaws.{asks_on, read_on}
 use Rattle.sftp_steps.proofs.TransferLaws.{place_below}
 use Rattle.sftp_steps.proofs.CountedLaws.{counted_ask, counted_close, released_is, weigh_ask, weigh_close}
 use Rattle.sftp_lane.specs.Tokens.{Bears}
@@ -88,6 +95,7 @@ pub record Under (past : List Entry) (core new : Core) (lane id : ℕ) (a : Ask_
   pub counted : Counted (own_request past lane id q ∷ past) new
   pub work : weigh new ≤ weigh core + 3
   pub transfers : IsTransfer a → is_transfer q ≡ true
+  pub reads : (grant offset len : ℕ) → a ≡ ask.Read grant offset len → (handle : List ℕ) × (q ≡ request.Read handle offset len)
   pub answers : (y : Reply) → may_answer q y ≡ true → may_answer (filled a (answer past)) y ≡ true
 
 pub submitted_under : (s : Setting) (past : List Entry) (core c new : Core) (lanes : ℕ → LaneValue) (lane id : ℕ) (tickets now : List Ticketed) (grants held : List Held) (a : Ask_of) (q : Request) → SessionTied s past core lanes [] → Midway past core c → Bears grants (answer past)
@@ -99,6 +107,7 @@ submitted_under s past core c new lanes lane id tickets now grants held a q h m 
       counted = subst (Counted (own_request past lane id q ∷ past)) (sym x.core) (counted_ask past c (owner.Call lane (ended past lane)) id q true x.free m.counted);
       work = (let more : weigh new ≤ weigh c + 3 = subst (λ (y : Core). weigh y ≤ weigh c + 3) (sym x.core) (weigh_ask c id q true x.free) in let less = m.work in omega (arith, more, less));
       transfers = λ t. ap is_transfer (x.filled (answer past) bears) ∙ filled_transfers a (answer past) t;
+      reads = λ grant offset len is. (handle_of (answer past grant), x.filled (answer past) bears ∙ ap (λ (y : Ask_of). filled y (answer past)) is);
       answers = λ y may. ap (λ (r : Request). may_answer r y) (sym (x.filled (answer past) bears)) ∙ may;
     }
 
@@ -115,10 +124,31 @@ released_under s past core new lanes lane g id tickets now grants held q h count
           (subst (λ (r : Request). Counted (own_request past lane id r ∷ past) (queued_last core id (request.Close x.grant.handle) true)) (sym x.is) (counted_close past core (owner.Call lane (ended past lane)) id x.grant.handle 1 true there counted));
       work = (let less : weigh new < weigh core = subst (λ (y : Core). weigh y < weigh core) (sym queued) (weigh_close core id x.grant.handle 1 true there) in omega (arith, less));
       transfers = λ t. absurd t;
+      reads = λ grant offset len is. absurd cc;
       answers = λ y may. ap (λ (r : Request). may_answer r y) (sym x.is) ∙ may;
     })
 
 -- ---- what its lane awaits then
+
+-- the reply to the first READ under way fits a whole read
+pub window_fits : (past : List Entry) (r : Running) (site : Site) → is_window r ≡ true → ((x : ReadAt) → IsAmong x (reads_under (Some r)) → IsReadAt past x)
+    → (p : ℕ) (a : Asked) (y : Reply) → awaited r site ≡ Some p → asked_at past p ≡ Some a → may_answer a.request y ≡ true → Fits r (Some y)
+window_fits past (running.ReadingWhole grant bound window) site is reads p a y looks there may = by_waiting window.waiting refl
+  where
+    of_read : (x : ReadAt) (z : Reply) → may_answer a.request z ≡ true → place_in (Some x) ≡ Some p → IsReadAt past x → FitsRead x z
+    of_read x (reply.Content bytes) may at t =
+        (let here : x.place ≡ p = cc in
+        let same : t.asked ≡ a = (let e : ◌≡◌ {A = Option Asked} (Some t.asked) (Some a) = sym t.here ∙ (ap (asked_at past) here ∙ there) in cc) in
+        let is_read : a.request ≡ request.Read t.handle x.offset x.len = ap (λ (b : Asked). b.request) (sym same) ∙ t.reads in
+        (content_fits (request.Read t.handle x.offset x.len) bytes (ap (λ (q : Request). may_answer q (reply.Content bytes)) (sym is_read) ∙ may)).1)
+    of_read x z may at t = tt
+
+    by_waiting : (ws : List ReadAt) → window.waiting ≡ ws → FitsFirst window y
+    by_waiting [] e x first = absurd (let clash : ◌≡◌ {A = Option ReadAt} None (Some x) = ap first_of (sym e) ∙ first in cc)
+    by_waiting (w ∷ ws) e x first =
+        (let same : w ≡ x = (let here : ◌≡◌ {A = Option ReadAt} (Some w) (Some x) = ap first_of (sym e) ∙ first in cc) in
+        of_read x y may (ap place_in (sym first) ∙ looks) (reads x (subst (λ (l : List ReadAt). IsAmong x l) (sym e) (inl (sym same)))))
+window_fits past other site is reads p a y looks there may = absurd cc
 
 -- a call goes on with the reply to what it asks, or with none of its own
 own_here : (o : Option ℕ) (p place : ℕ) (a : Ask_of) → o ≡ Some p → AwaitsOrDefers o place a → p ≡ place
@@ -134,10 +164,11 @@ asked_here past lane id q = ap (λ x. is_asked_by x lane (ended past lane)) (ask
       | inr t ↦ absurd (t.1 refl)
     ]
 
-pub asks_new : (past : List Entry) (core new : Core) (lane id : ℕ) (tickets : List Ticketed) (v : LaneValue) (opened : Option ℕ) (old : Site) (a : Ask_of) (r : Running) (q : Request) → Under past core new lane id a q → AsksOrDefers opened (asked past) old v.site a r
+pub asks_new : (past : List Entry) (core new : Core) (lane id : ℕ) (tickets : List Ticketed) (v : LaneValue) (opened : Option ℕ) (reads : List ReadAt) (old : Site) (a : Ask_of) (r : Running) (q : Request) → Under past core new lane id a q → AsksOrDefers opened (asked past) reads old v.site a r
+    → ((x : ReadAt) → IsAmong x reads → IsReadAt past x)
     → ((p : ℕ) → is_in p (ticket_places tickets) ≡ true → IsTransferAt past p) → ((g : ℕ) → opened ≡ Some g → is_in g (grant_places v.grants) ≡ true) → v.running ≡ Some r → v.tickets ≡ tickets ++ (record { place = asked past; ticket = id }) ∷ [] → v.ended ≡ ended past lane
     → LaneAsks (own_request past lane id q ∷ past) lane v
-asks_new past core new lane id tickets v opened old a r q u x others held was pushed ends =
+asks_new past core new lane id tickets v opened reads old a r q u x stood others held was pushed ends =
     record {
       current = λ p mine. subst (λ (n : ℕ). is_asked_by (asked_at now n) lane v.ended ≡ true) (sym (own_here (own_place (Some r)) p (asked past) a (ap own_place (sym was) ∙ mine) x.awaits))
           (ap (is_asked_by (asked_at now (asked past)) lane) ends ∙ asked_here past lane id q);
@@ -146,7 +177,8 @@ asks_new past core new lane id tickets v opened old a r q u x others held was pu
         | inr t ↦ inr (old_ticket p (sym (push_other (ticket_places tickets) (asked past) p t.1) ∙ (ap (is_in p) (sym (ap ticket_places pushed ∙ ticket_push tickets (record { place = asked past; ticket = id }))) ∙ has)))
       ];
       keeps = λ g opens. held g (x.keeps g (ap opened_in (sym was) ∙ opens));
-      fits = λ p b y looks there may. fits p b y (x.looks p (ap (λ (o : Option Running). awaited_in o v.site) (sym was) ∙ looks)) there may;
+      fits = λ p b y looks there may. subst (λ (z : Option Running). RunFits z y) (sym was) (fits_by p b y (ap (λ (o : Option Running). awaited_in o v.site) (sym was) ∙ looks) there may x.looks);
+      reads = λ z among. standing z (subst (λ (o : Option Running). IsAmong z (reads_under o)) was among);
     }
   where
     now : List Entry
@@ -162,18 +194,34 @@ asks_new past core new lane id tickets v opened old a r q u x others held was pu
     old_ticket : (p : ℕ) → is_in p (ticket_places tickets) ≡ true → IsTransferAt now p
     old_ticket p has = (let t = others p has in record { asked = t.asked; here = asked_other past (owner.Call lane (ended past lane)) id p q (place_below past p t.asked t.here) ∙ t.here; transfers = t.transfers })
 
-    fits : (p : ℕ) (b : Asked) (y : Reply) → p ≡ asked past → asked_at now p ≡ Some b → may_answer b.request y ≡ true → RunFits v.running y
-    fits p b y place there may =
+    new_read : (z : ReadAt) (b : Ask_of) → a ≡ b → IsNewRead z (asked past) b → IsReadAt now z
+    new_read z (ask.Read grant offset len) is e =
+        (let read = u.reads grant offset len is in
+        subst (λ (w : ReadAt). IsReadAt now w) (sym e) (record { asked = is_new; here = asked_new past (owner.Call lane (ended past lane)) id q; handle = read.0; reads = read.1 }))
+    new_read z other is e = absurd e
+
+    standing : (z : ReadAt) → IsAmong z (reads_under (Some r)) → IsReadAt now z
+    standing z among = elim (x.under z among) [
+      | inl old ↦ read_on past now z (λ p below. asked_other past (owner.Call lane (ended past lane)) id p q below) (stood z old)
+      | inr new ↦ new_read z a refl new
+    ]
+
+    fits : LooksAtOwn (asked past) v.site a r → (p : ℕ) (b : Asked) (y : Reply) → p ≡ asked past → asked_at now p ≡ Some b → may_answer b.request y ≡ true → Fits r (Some y)
+    fits own p b y place there may =
         (let here : ◌≡◌ {A = Option Asked} (Some is_new) (Some b) = sym (asked_new past (owner.Call lane (ended past lane)) id q) ∙ (ap (asked_at now) (sym place) ∙ there) in
         let is : q ≡ b.request = (let one : (◌≡◌ {A = Asked} is_new b) = cc in ap (λ (z : Asked). z.request) one) in
-        subst (λ (z : Option Running). RunFits z y) (sym was) (x.fits (answer past) y (u.answers y (ap (λ (z : Request). may_answer z y) is ∙ may))))
+        own.fits (answer past) y (u.answers y (ap (λ (z : Request). may_answer z y) is ∙ may)))
+
+    fits_by : (p : ℕ) (b : Asked) (y : Reply) → awaited r v.site ≡ Some p → asked_at now p ≡ Some b → may_answer b.request y ≡ true → LooksAtOwn (asked past) v.site a r ⊎ (is_window r ≡ true) → Fits r (Some y)
+    fits_by p b y looks there may (inl own) = fits own p b y (own.looks p looks) there may
+    fits_by p b y looks there may (inr window) = window_fits now r v.site window standing p b y looks there may
 
 -- ---- the session
 
-pub asked_rests : (s : Setting) (past : List Entry) (core new : Core) (lanes : ℕ → LaneValue) (begun : List ℕ) (lane id : ℕ) (now : LaneValue) (tickets : List Ticketed) (opened : Option ℕ) (old : Site) (a : Ask_of) (r : Running) (q : Request) → AtRest s past core lanes begun → lane < length s.lanes
-    → Under past core new lane id a q → AsksOrDefers opened (asked past) old now.site a r → ((p : ℕ) → is_in p (ticket_places tickets) ≡ true → IsTransferAt past p) → ((g : ℕ) → opened ≡ Some g → is_in g (grant_places now.grants) ≡ true) → now.running ≡ Some r
+pub asked_rests : (s : Setting) (past : List Entry) (core new : Core) (lanes : ℕ → LaneValue) (begun : List ℕ) (lane id : ℕ) (now : LaneValue) (tickets : List Ticketed) (opened : Option ℕ) (reads : List ReadAt) (old : Site) (a : Ask_of) (r : Running) (q : Request) → AtRest s past core lanes begun → lane < length s.lanes
+    → Under past core new lane id a q → AsksOrDefers opened (asked past) reads old now.site a r → ((x : ReadAt) → IsAmong x reads → IsReadAt past x) → ((p : ℕ) → is_in p (ticket_places tickets) ≡ true → IsTransferAt past p) → ((g : ℕ) → opened ≡ Some g → is_in g (grant_places now.grants) ≡ true) → now.running ≡ Some r
     → now.tickets ≡ tickets ++ (record { place = asked past; ticket = id }) ∷ [] → now.ended ≡ (lanes lane).ended → id < 2 ^ 32 → TurnTied s past new (with_lane lanes lane) lane now (moved.Asked id q) → IsAsked s past core new (with_lane lanes lane now) begun lane id q
-asked_rests s past core new lanes begun lane id now tickets opened old a r q h there u x others held was pushed same small t =
+asked_rests s past core new lanes begun lane id now tickets opened reads old a r q h there u x stood others held was pushed same small t =
     let b = h.between in
     let e : Entry = own_request past lane id q in
     let free : IsFree past id = (small, u.free) in
@@ -194,7 +242,7 @@ asked_rests s past core new lanes begun lane id now tickets opened old a r q h t
           due = due;
           tied = t.1 good.run;
           counted = u.counted;
-          asks = λ w lt. each_with (λ n v. LaneAsks (e ∷ past) n v) lanes lane now (length s.lanes) (asks_new past core new lane id tickets now opened old a r q u x others held was pushed ends)
+          asks = λ w lt. each_with (λ n v. LaneAsks (e ∷ past) n v) lanes lane now (length s.lanes) (asks_new past core new lane id tickets now opened reads old a r q u x stood others held was pushed ends)
               (λ n less ne. asks_on past (e ∷ past) n (lanes n) (λ p below. asked_other past (owner.Call lane (ended past lane)) id p q below) (b.tied.each n less).goes.awaits (b.asks n less)) w lt;
           begins = λ w lt any. begun_more lane w begun (is_some (with_lane lanes lane now w).running ≡ true)
               (λ is. subst (λ (n : ℕ). is_some (with_lane lanes lane now n).running ≡ true) is (ap (λ (v : LaneValue). is_some v.running) (with_here lanes lane now) ∙ ap is_some was))

@@ -42,6 +42,7 @@ own_awaited (running.Gathering place slot file got left len) site p e = e
 own_awaited (running.Sending place slot file len) site p e = e
 own_awaited (running.Writing place slot file done) site p e = e
 own_awaited (running.OpeningToWrite place) site p e = e
+own_awaited (running.OpeningToRead place bound) site p e = e
 own_awaited (running.OpeningDirectory place bound) site p e = e
 own_awaited (running.Listing place grant got bound) site p e = e
 own_awaited (running.Copying place from to source target len) site p e = e
@@ -50,6 +51,7 @@ own_awaited (running.AwaitingRoom slot start) site p e = absurd cc
 own_awaited (running.Deferred slot count) site p e = absurd cc
 own_awaited (running.DeferringRest slot done) site p e = absurd cc
 own_awaited (running.FillingBuffer slot n offset own) site p e = absurd cc
+own_awaited (running.ReadingWhole grant bound window) site p e = absurd cc
 
 -- where the call awaits none, it awaits none of its own
 pub none_own : (r : Running) (site : Site) → awaited r site ≡ None → own_place (Some r) ≡ None
@@ -79,6 +81,7 @@ nothing_fits : (r : Running) → Fits r None
 nothing_fits (running.Reading place slot file len) = tt
 nothing_fits (running.Gathering place slot file got left len) = tt
 nothing_fits (running.FillingBuffer slot n offset own) = tt
+nothing_fits (running.ReadingWhole grant bound window) = tt
 nothing_fits r = tt
 
 fits_by : (s : Setting) (past : List Entry) (lane : ℕ) (v : LaneValue) (r : Running) (p : ℕ) (o : Option Reply) → IsJournal s past → LaneTied s past lane v [] → LaneAsks past lane v → v.running ≡ Some r → awaited r v.site ≡ Some p → is_in p (ticket_places v.tickets) ≡ true

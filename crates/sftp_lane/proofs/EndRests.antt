@@ -6,7 +6,8 @@ use Rattle.std.proofs.lemmas.Bool.Decides.{eqb_tells}
 use Rattle.sftp_model.specs.declared.outcome.Outcome.{Outcome}
 use Rattle.sftp_model.specs.declared.slot.Move.TheVariants.{Wait}
 use Rattle.sftp_core.specs.Core.{Core}
-use Rattle.sftp_plan.specs.Pending.{own_place}
+use Rattle.sftp_plan.specs.Asking.{IsAmong}
+use Rattle.sftp_plan.specs.Pending.{own_place, reads_under}
 use Rattle.sftp_history.specs.declared.event.Event.TheVariants.{End}
 use Rattle.sftp_history.specs.declared.entry.Entry.{Entry}
 use Rattle.sftp_history.specs.declared.entry.Entry.TheVariants as entry
@@ -31,6 +32,7 @@ use Rattle.sftp_steps.proofs.AskedLaws.{asks_on}
 use Rattle.sftp_plan.specs.declared.next.Running.{Running}
 use Rattle.sftp_lane.specs.Holding.{TurnTied}
 use Rattle.sftp_lane.specs.Rests.{Ended, Goes, Waits}
+use Rattle.sftp_history.specs.declared.call.Call.{Call}
 use Rattle.sftp_lane.specs.Turning.{TurnWaits}
 use Rattle.sftp_lane.specs.declared.lane.Moved.TheVariants as moved
 use Rattle.sftp_lane.proofs.AskRests.{Midway}
@@ -46,6 +48,7 @@ ended_asks past lane v idle others =
       only = λ p has. inr (others p has);
       keeps = λ g opens. absurd (let clash : ◌≡◌ {A = Option ℕ} None (Some g) = rw idle at opens in cc);
       fits = λ p b y looks there may. absurd (let clash : ◌≡◌ {A = Option ℕ} None (Some p) = sym (ap (λ (o : Option Running). awaited_in o v.site) idle) ∙ looks in cc);
+      reads = λ x among. absurd (subst (λ (o : Option Running). IsAmong x (reads_under o)) idle among);
     }
 
 pub ended_rests : (s : Setting) (past : List Entry) (core c new : Core) (lanes : ℕ → LaneValue) (begun : List ℕ) (lane : ℕ) (now : LaneValue) (o : Outcome) → AtRest s past core lanes begun → lane < length s.lanes → Midway past core c → new ≡ c
@@ -100,9 +103,9 @@ waiting_good s past begun lane place g move =
           (λ is. subst (λ (n : ℕ). may_cancel s past n ≡ true) is (wait_right (is_some_asked (own past lane (ended past lane))) (has_waited s past lane) (waits_now s past lane place move))) (λ old. g.cancels l old) any;
     }
 
-pub waits_rest : (s : Setting) (past : List Entry) (core new : Core) (lanes : ℕ → LaneValue) (begun : List ℕ) (lane : ℕ) (now : LaneValue) → AtRest s past core lanes begun → lane < length s.lanes → TurnWaits core new (lanes lane) now moved.Waits
+pub waits_rest : (s : Setting) (past : List Entry) (core new : Core) (lanes : ℕ → LaneValue) (begun : List ℕ) (lane : ℕ) (c : Call) (now : LaneValue) → AtRest s past core lanes begun → lane < length s.lanes → TurnWaits c s.facts core new (lanes lane) now moved.Waits
     → TurnTied s past new (with_lane lanes lane) lane now moved.Waits → Waits s past core new (with_lane lanes lane now) begun lane
-waits_rest s past core new lanes begun lane now h there x t =
+waits_rest s past core new lanes begun lane c now h there x t =
     let b = h.between in
     let v : LaneValue = lanes lane in
     let a : LaneAsks past lane v = b.asks lane there in

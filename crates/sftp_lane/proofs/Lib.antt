@@ -8,6 +8,7 @@ pub mod Turned
 pub mod Awaiting
 mod AskRests
 mod EndRests
+pub mod Ranges
 pub mod Rests
 pub mod WentLaws
 mod Forgotten

@@ -1,5 +1,5 @@
 -- Each turn of a lane leaves its session at rest, but for the grants that are due where a call ended.
-use Rattle.std.proofs.Common.{◌≡◌, ◌<◌, ◌≤◌, ◌-◌, ◌^◌, ℕ, Bool, true, false, List, [], Option, Some, None, refl, ap, sym, ◌∙◌, subst, inl, inr}
+use Rattle.std.proofs.Common.{◌≡◌, ◌<◌, ◌≤◌, ◌-◌, ◌^◌, ◌⊎◌, ℕ, Bool, true, false, List, [], Option, Some, None, refl, ap, sym, ◌∙◌, subst, inl, inr}
 use Rattle.std.specs.Prelude.{length, slice_get}
 use Rattle.sftp_model.specs.declared.answers.Expected.{Expected}
 use Rattle.sftp_model.specs.declared.reply.Reply.{Reply}
@@ -24,11 +24,12 @@ use Rattle.sftp_plan.specs.declared.next.Next.{Next}
 use Rattle.sftp_plan.specs.declared.next.Next.TheVariants as step
 use Rattle.sftp_plan.specs.declared.next.Running.{Running}
 use Rattle.sftp_plan.specs.declared.next.Running.TheVariants as running
-use Rattle.sftp_plan.specs.Asking.{BeginsAsking, GoesOnAsking, Looks, opened_after, opened_by}
+use Rattle.sftp_plan.specs.Asking.{BeginsAsking, GoesOnAsking, IsAmong, Looks, is_window, opened_after, opened_by}
+use Rattle.sftp_window.specs.declared.window.ReadAt.{ReadAt}
 use Rattle.sftp_plan.specs.Buffers.{reading_in}
 use Rattle.sftp_plan.specs.Machines.{awaited, bytes_of}
 use Rattle.sftp_plan.specs.Sound.{Fits, Sound, StandsAt}
-use Rattle.sftp_plan.specs.Pending.{own_place}
+use Rattle.sftp_plan.specs.Pending.{own_place, reads_under}
 use Rattle.sftp_history.specs.declared.call.Call.{Call}
 use Rattle.sftp_history.specs.declared.entry.Entry.{Entry}
 use Rattle.sftp_history.specs.Readings.{Asked, answer, asked, asked_at}
@@ -46,16 +47,16 @@ use Rattle.sftp_ties.proofs.HoldLaws.{ticket_index, ticket_without}
 use Rattle.sftp_ties.proofs.LaneLaws.{grants_count, replies_agree}
 use Rattle.sftp_ties.proofs.CloseLaws.{in_left}
 use Rattle.sftp_ties.proofs.PlaceLaws.{at_in, without_self}
-use Rattle.sftp_steps.specs.Rest.{AtRest, Counted, IsTransferAt, LaneAsks, RunFits, awaited_in, opened_in}
+use Rattle.sftp_steps.specs.Rest.{AtRest, Counted, IsReadAt, IsTransferAt, LaneAsks, RunFits, awaited_in, opened_in}
 use Rattle.sftp_steps.proofs.CountedLaws.{counted_polled, weigh_polled}
 use Rattle.sftp_lane.specs.Tokens.{Bears}
-use Rattle.sftp_lane.specs.Turning.{Began, Settles, TurnReplied, TurnUnreplied, TurnWaits, Turned, Begun, Replied, Unreplied, Waiting as StillWaiting}
+use Rattle.sftp_lane.specs.Turning.{Began, Settles, TurnReplied, TurnUnreplied, TurnWaits, TurnWidens, Turned, Begun, Replied, Unreplied, Waiting as StillWaiting, Widening}
 use Rattle.sftp_lane.specs.Holding.{TurnTied}
 use Rattle.sftp_lane.specs.Rests.{IsSmall, Leaves, TurnsLeaveRest}
 use Rattle.sftp_lane.specs.declared.lane.Moved.{Moved}
 use Rattle.sftp_lane.specs.declared.lane.Moved.TheVariants as moved
-use Rattle.sftp_lane.proofs.AskLaws.{held_after, held_on}
-use Rattle.sftp_lane.proofs.AskRests.{Midway, asked_rests, midway_self, released_under, submitted_under}
+use Rattle.sftp_lane.proofs.AskLaws.{held_after, held_on, widens_on, widens_others}
+use Rattle.sftp_lane.proofs.AskRests.{Midway, asked_rests, midway_self, released_under, submitted_under, window_fits}
 use Rattle.sftp_lane.proofs.Awaiting.{handles_awaited, none_own, own_awaited, holds_named}
 use Rattle.sftp_lane.proofs.EndRests.{ended_rests, goes_rest, waits_rest}
 use Rattle.sftp_lane.proofs.TurnLaws.{bears}
@@ -113,26 +114,22 @@ others_left past lane k q v r a rise was looks here p has = elim (a.only p (in_l
 
 -- ---- a call that waits for a reply that a slot awaits
 
--- a call of slots opened no grant
-none_opened : (r : Running) (g : ℕ) → own_place (Some r) ≡ None → opened_by r ≡ Some g → ⊥
-none_opened (running.Listing place grant got bound) g deferred opened = cc deferred
-none_opened (running.Writing place slot file done) g deferred opened = cc deferred
-none_opened other g deferred opened = cc opened
-
 looking_asks : (past : List Entry) (lane : ℕ) (now : LaneValue) (r : Running) → now.running ≡ Some r → own_place (Some r) ≡ None → ((p : ℕ) → is_in p (ticket_places now.tickets) ≡ true → IsTransferAt past p)
+    → ((g : ℕ) → opened_by r ≡ Some g → is_in g (grant_places now.grants) ≡ true) → ((x : ReadAt) → IsAmong x (reads_under (Some r)) → IsReadAt past x)
     → ((p : ℕ) (a : Asked) (y : Reply) → awaited r now.site ≡ Some p → asked_at past p ≡ Some a → may_answer a.request y ≡ true → Fits r (Some y)) → LaneAsks past lane now
-looking_asks past lane now r was deferred others fits =
+looking_asks past lane now r was deferred others keeps reads fits =
     record {
       current = λ p mine. absurd (let clash : ◌≡◌ {A = Option ℕ} None (Some p) = sym deferred ∙ (ap own_place (sym was) ∙ mine) in cc);
       only = λ p has. inr (others p has);
-      keeps = λ g opens. absurd (none_opened r g deferred (ap opened_in (sym was) ∙ opens));
+      keeps = λ g opens. keeps g (ap opened_in (sym was) ∙ opens);
       fits = λ p a y looks there may. subst (λ (o : Option Running). RunFits o y) (sym was) (fits p a y (ap (λ (o : Option Running). awaited_in o now.site) (sym was) ∙ looks) there may);
+      reads = λ x among. reads x (subst (λ (o : Option Running). IsAmong x (reads_under o)) was among);
     }
 
 -- the READ that was under way before the call fits: it was asked where the file stands
 under_way_fits : (s : Setting) (past : List Entry) (lane p : ℕ) (r : Running) (bytes : List ℕ) (a : Asked) (y : Reply) → IsJournal s past → Sound r bytes (site_of s past lane) s.facts → own_place (Some r) ≡ None → awaited r (site_of s past lane) ≡ Some p
-    → asked_at past p ≡ Some a → may_answer a.request y ≡ true → Fits r (Some y)
-under_way_fits s past lane p (running.FillingBuffer slot n offset own) bytes a (reply.Content content) j sound deferred looks there may = by_slot (slot_at (site_of s past lane) slot) refl
+    → asked_at past p ≡ Some a → may_answer a.request y ≡ true → (is_window r ≡ true → ⊥) → Fits r (Some y)
+under_way_fits s past lane p (running.FillingBuffer slot n offset own) bytes a (reply.Content content) j sound deferred looks there may none = by_slot (slot_at (site_of s past lane) slot) refl
   where
     by_slot : (x : Slot) → slot_at (site_of s past lane) slot ≡ x → length content ≤ (2 ^ 64 - 1) - offset
     by_slot Empty is = absurd (let clash : ◌≡◌ {A = Option ℕ} None (Some p) = sym (ap reading_in is) ∙ looks in cc)
@@ -141,33 +138,41 @@ under_way_fits s past lane p (running.FillingBuffer slot n offset own) bytes a (
         (let reads : buffer.reading ≡ Some p = sym (ap reading_in is) ∙ looks in
         let stands : file.offset ≡ offset = subst (λ (x : Slot). StandsAt offset x) is sound.1 in
         subst (λ (o : ℕ). length content ≤ (2 ^ 64 - 1) - o) stands (read_fits s past lane slot p file buffer a content j is reads there may))
-under_way_fits s past lane p (running.FillingBuffer slot n offset own) bytes a y j sound deferred looks there may = tt
-under_way_fits s past lane p (running.Reading place slot file len) bytes a y j sound deferred looks there may = absurd (cc deferred)
-under_way_fits s past lane p (running.Gathering place slot file got left len) bytes a y j sound deferred looks there may = absurd (cc deferred)
-under_way_fits s past lane p other bytes a y j sound deferred looks there may = tt
+under_way_fits s past lane p (running.FillingBuffer slot n offset own) bytes a y j sound deferred looks there may none = tt
+under_way_fits s past lane p (running.Reading place slot file len) bytes a y j sound deferred looks there may none = absurd (cc deferred)
+under_way_fits s past lane p (running.Gathering place slot file got left len) bytes a y j sound deferred looks there may none = absurd (cc deferred)
+under_way_fits s past lane p (running.ReadingWhole grant bound window) bytes a y j sound deferred looks there may none = absurd (none refl)
+under_way_fits s past lane p other bytes a y j sound deferred looks there may none = tt
+
+-- whatever reply comes, or the one to a READ of a whole read
+waited_fits : (past : List Entry) (r : Running) (site : Site) → ((y : Reply) → Fits r (Some y)) ⊎ (is_window r ≡ true) → ((x : ReadAt) → IsAmong x (reads_under (Some r)) → IsReadAt past x)
+    → (p : ℕ) (a : Asked) (y : Reply) → awaited r site ≡ Some p → asked_at past p ≡ Some a → may_answer a.request y ≡ true → Fits r (Some y)
+waited_fits past r site (inl all) reads p a y looks there may = all y
+waited_fits past r site (inr window) reads p a y looks there may = window_fits past r site window reads p a y looks there may
 
 -- ---- what becomes of a machine's answer
 
 -- of a call that was begun
-settles_on : (s : Setting) (past : List Entry) (core c new : Core) (lanes : ℕ → LaneValue) (begun : List ℕ) (lane : ℕ) (now : LaneValue) (tickets : List Ticketed) (grants : List Held) (opened : Option ℕ) (old : Site) (n : Next) (m : Moved) → AtRest s past core lanes begun
-    → lane < length s.lanes → IsSmall m → Midway past core c → Bears grants (answer past) → ((p : ℕ) → is_in p (ticket_places tickets) ≡ true → IsTransferAt past p) → ((g : ℕ) → opened ≡ Some g → is_in g (grant_places grants) ≡ true) → GoesOnAsking opened (asked past) old now.site n
+settles_on : (s : Setting) (past : List Entry) (core c new : Core) (lanes : ℕ → LaneValue) (begun : List ℕ) (lane : ℕ) (now : LaneValue) (tickets : List Ticketed) (grants : List Held) (opened : Option ℕ) (reads : List ReadAt) (old : Site) (n : Next) (m : Moved) → AtRest s past core lanes begun
+    → lane < length s.lanes → IsSmall m → Midway past core c → Bears grants (answer past) → ((p : ℕ) → is_in p (ticket_places tickets) ≡ true → IsTransferAt past p) → ((g : ℕ) → opened ≡ Some g → is_in g (grant_places grants) ≡ true) → GoesOnAsking opened (asked past) reads old now.site n → ((x : ReadAt) → IsAmong x reads → IsReadAt past x)
     → now.ended ≡ (lanes lane).ended → Settles c new tickets now.tickets grants now.grants now.running (asked past) n m → TurnTied s past new (with_lane lanes lane) lane now m → Leaves s past core new lanes begun lane now m
-settles_on s past core c new lanes begun lane now tickets grants opened old (step.Wait r) m h there small mid bears others held asks same settles t =
+settles_on s past core c new lanes begun lane now tickets grants opened reads old (step.Wait r) m h there small mid bears others held asks stood same settles t =
     subst (λ (x : Moved). Leaves s past core new lanes begun lane now x) (sym settles.2)
     (goes_rest s past core c new lanes begun lane now r h there mid settles.0.core settles.1
-    (looking_asks past lane now r settles.1 asks.0.deferred (λ q has. others q (ap (λ (ts : List Ticketed). is_in q (ticket_places ts)) (sym settles.0.pushed) ∙ has)) (λ p a y looks there may. asks.1 y))
+    (looking_asks past lane now r settles.1 asks.0.deferred (λ q has. others q (ap (λ (ts : List Ticketed). is_in q (ticket_places ts)) (sym settles.0.pushed) ∙ has))
+    (λ g is. ap (λ (gs : List Held). is_in g (grant_places gs)) settles.0.kept ∙ held g (asks.0.keeps g is)) (λ x among. stood x (asks.0.under x among)) (waited_fits past r now.site asks.1 (λ x among. stood x (asks.0.under x among))))
     (subst (λ (x : Moved). TurnTied s past new (with_lane lanes lane) lane now x) settles.2 t))
-settles_on s past core c new lanes begun lane now tickets grants opened old (step.Done o) moved.Waits h there small mid bears others held asks same settles t = absurd (let clash : moved.Waits ≡ moved.Ended o = settles.2 in cc)
-settles_on s past core c new lanes begun lane now tickets grants opened old (step.Done o) moved.Went h there small mid bears others held asks same settles t = absurd (let clash : moved.Went ≡ moved.Ended o = settles.2 in cc)
-settles_on s past core c new lanes begun lane now tickets grants opened old (step.Done o) (moved.Asked id q) h there small mid bears others held asks same settles t = absurd (let clash : moved.Asked id q ≡ moved.Ended o = settles.2 in cc)
-settles_on s past core c new lanes begun lane now tickets grants opened old (step.Done o) (moved.Ended p) h there small mid bears others held asks same settles t =
+settles_on s past core c new lanes begun lane now tickets grants opened reads old (step.Done o) moved.Waits h there small mid bears others held asks stood same settles t = absurd (let clash : moved.Waits ≡ moved.Ended o = settles.2 in cc)
+settles_on s past core c new lanes begun lane now tickets grants opened reads old (step.Done o) moved.Went h there small mid bears others held asks stood same settles t = absurd (let clash : moved.Went ≡ moved.Ended o = settles.2 in cc)
+settles_on s past core c new lanes begun lane now tickets grants opened reads old (step.Done o) (moved.Asked id q) h there small mid bears others held asks stood same settles t = absurd (let clash : moved.Asked id q ≡ moved.Ended o = settles.2 in cc)
+settles_on s past core c new lanes begun lane now tickets grants opened reads old (step.Done o) (moved.Ended p) h there small mid bears others held asks stood same settles t =
     ended_rests s past core c new lanes begun lane now p h there mid settles.0.core (λ q has. others q (ap (λ (ts : List Ticketed). is_in q (ticket_places ts)) (sym settles.0.pushed) ∙ has)) t
-settles_on s past core c new lanes begun lane now tickets grants opened old (step.Ask a r) moved.Waits h there small mid bears others held asks same settles t = absurd settles
-settles_on s past core c new lanes begun lane now tickets grants opened old (step.Ask a r) moved.Went h there small mid bears others held asks same settles t = absurd settles
-settles_on s past core c new lanes begun lane now tickets grants opened old (step.Ask a r) (moved.Ended o) h there small mid bears others held asks same settles t = absurd settles
-settles_on s past core c new lanes begun lane now tickets grants opened old (step.Ask (ask.Close g) r) (moved.Asked id q) h there small mid bears others held asks same settles t = absurd asks.1
-settles_on s past core c new lanes begun lane now tickets grants opened old (step.Ask a r) (moved.Asked id q) h there small mid bears others held asks same settles t =
-    asked_rests s past core new lanes begun lane id now tickets opened old a r q h there (submitted_under s past core c new lanes lane id tickets now.tickets grants now.grants a q h.between.tied mid bears settles.0) asks.0 others
+settles_on s past core c new lanes begun lane now tickets grants opened reads old (step.Ask a r) moved.Waits h there small mid bears others held asks stood same settles t = absurd settles
+settles_on s past core c new lanes begun lane now tickets grants opened reads old (step.Ask a r) moved.Went h there small mid bears others held asks stood same settles t = absurd settles
+settles_on s past core c new lanes begun lane now tickets grants opened reads old (step.Ask a r) (moved.Ended o) h there small mid bears others held asks stood same settles t = absurd settles
+settles_on s past core c new lanes begun lane now tickets grants opened reads old (step.Ask (ask.Close g) r) (moved.Asked id q) h there small mid bears others held asks stood same settles t = absurd asks.1
+settles_on s past core c new lanes begun lane now tickets grants opened reads old (step.Ask a r) (moved.Asked id q) h there small mid bears others held asks stood same settles t =
+    asked_rests s past core new lanes begun lane id now tickets opened reads old a r q h there (submitted_under s past core c new lanes lane id tickets now.tickets grants now.grants a q h.between.tied mid bears settles.0) asks.0 stood others
     (λ g is. ap (λ (gs : List Held). is_in g (grant_places gs)) settles.0.kept ∙ held g is) settles.1 settles.0.pushed same small t
 
 -- ---- a turn
@@ -176,17 +181,22 @@ no_opened : (v : LaneValue) (g : ℕ) → (◌≡◌ {A = Option ℕ} None (Some
 no_opened v g is = absurd cc
 
 -- a call begins with a request that is no CLOSE, or ends at once
-begins_on : (s : Setting) (past : List Entry) (core new : Core) (lanes : ℕ → LaneValue) (begun : List ℕ) (lane : ℕ) (now : LaneValue) (m : Moved) (n : Next) → AtRest s past core lanes begun → lane < length s.lanes → IsSmall m → GoesOnAsking None (asked past) (lanes lane).site now.site n
+begins_on : (s : Setting) (past : List Entry) (core new : Core) (lanes : ℕ → LaneValue) (begun : List ℕ) (lane : ℕ) (now : LaneValue) (m : Moved) (n : Next) → AtRest s past core lanes begun → lane < length s.lanes → IsSmall m → GoesOnAsking None (asked past) [] (lanes lane).site now.site n
     → now.ended ≡ (lanes lane).ended → (lanes lane).running ≡ None → Settles core new (lanes lane).tickets now.tickets (lanes lane).grants now.grants now.running (asked past) n m → TurnTied s past new (with_lane lanes lane) lane now m → Leaves s past core new lanes begun lane now m
 begins_on s past core new lanes begun lane now m n h there small asks same idle settles t =
     let b = h.between in
     let v : LaneValue = lanes lane in
-    settles_on s past core core new lanes begun lane now v.tickets v.grants None v.site n m h there small (midway_self past core b.counted) (bears s past lane v.tickets v.grants [] (answer past) (b.tied.each lane there).holds (λ p r e. e))
-    (others_all past lane v (b.asks lane there) (ap own_place idle)) (no_opened v) asks same settles t
+    settles_on s past core core new lanes begun lane now v.tickets v.grants None [] v.site n m h there small (midway_self past core b.counted) (bears s past lane v.tickets v.grants [] (answer past) (b.tied.each lane there).holds (λ p r e. e))
+    (others_all past lane v (b.asks lane there) (ap own_place idle)) (no_opened v) asks (λ x among. absurd among) same settles t
+
+-- a call that begins has no READ under way, and so it is no whole read that awaits one
+no_window : (r : Running) (site : Site) → Looks None [] site r → is_window r ≡ true → ⊥
+no_window (running.ReadingWhole grant bound window) site looks is = absurd (let clash : ◌≡◌ {A = Option ℕ} None (Some grant) = looks.keeps grant refl in cc)
+no_window other site looks is = cc is
 
 -- it waits for a reply that a slot awaits
 begins_waiting : (s : Setting) (past : List Entry) (core new : Core) (lanes : ℕ → LaneValue) (begun : List ℕ) (lane : ℕ) (c : Call) (now : LaneValue) (m : Moved) (r : Running) → AtRest s past core lanes begun → lane < length s.lanes → (lanes lane).running ≡ None
-    → Looks now.site r → now.site ≡ (lanes lane).site → Sound r (bytes_of (planned c)) now.site s.facts → Settles core new (lanes lane).tickets now.tickets (lanes lane).grants now.grants now.running (asked past) (step.Wait r) m → TurnTied s past new (with_lane lanes lane) lane now m
+    → Looks None [] now.site r → now.site ≡ (lanes lane).site → Sound r (bytes_of (planned c)) now.site s.facts → Settles core new (lanes lane).tickets now.tickets (lanes lane).grants now.grants now.running (asked past) (step.Wait r) m → TurnTied s past new (with_lane lanes lane) lane now m
     → Leaves s past core new lanes begun lane now m
 begins_waiting s past core new lanes begun lane c now m r h there idle looks same sound settles t =
     let b = h.between in
@@ -196,7 +206,8 @@ begins_waiting s past core new lanes begun lane c now m r h there idle looks sam
     subst (λ (x : Moved). Leaves s past core new lanes begun lane now x) (sym settles.2)
     (goes_rest s past core core new lanes begun lane now r h there (midway_self past core b.counted) settles.0.core settles.1
     (looking_asks past lane now r settles.1 looks.deferred (λ q has. others_all past lane v (b.asks lane there) (ap own_place idle) q (ap (λ (ts : List Ticketed). is_in q (ticket_places ts)) (sym settles.0.pushed) ∙ has))
-    (λ p a y at at_place may. under_way_fits s past lane p r (bytes_of (planned c)) a y b.good.run (subst (λ (x : Site). Sound r (bytes_of (planned c)) x s.facts) is sound) looks.deferred (ap (awaited r) (sym is) ∙ at) at_place may))
+    (λ g is. absurd (let clash : ◌≡◌ {A = Option ℕ} None (Some g) = looks.keeps g is in cc)) (λ x among. absurd (looks.under x among))
+    (λ p a y at at_place may. under_way_fits s past lane p r (bytes_of (planned c)) a y b.good.run (subst (λ (x : Site). Sound r (bytes_of (planned c)) x s.facts) is sound) looks.deferred (ap (awaited r) (sym is) ∙ at) at_place may (no_window r now.site looks)))
     (subst (λ (x : Moved). TurnTied s past new (with_lane lanes lane) lane now x) settles.2 t))
 
 begins_rest : (s : Setting) (past : List Entry) (core new : Core) (lanes : ℕ → LaneValue) (begun : List ℕ) (lane : ℕ) (c : Call) (now : LaneValue) (m : Moved) (n : Next) → AtRest s past core lanes begun → lane < length s.lanes → IsSmall m → Began c s.facts (asked past) (lanes lane).site now.site n
@@ -205,9 +216,9 @@ begins_rest : (s : Setting) (past : List Entry) (core new : Core) (lanes : ℕ �
 begins_rest s past core new lanes begun lane c now (moved.Asked id q) (step.Ask (ask.Close g) r) h there small ran asks same idle settles t =
     let b = h.between in
     let v : LaneValue = lanes lane in
-    asked_rests s past core new lanes begun lane id now v.tickets None v.site (ask.Close g) r q h there
+    asked_rests s past core new lanes begun lane id now v.tickets None [] v.site (ask.Close g) r q h there
     (released_under s past core new lanes lane g id v.tickets now.tickets v.grants now.grants q b.tied b.counted (λ k held got. grants_count s past core lanes [] lane k held b.tied there got) settles.0)
-    asks (others_all past lane v (b.asks lane there) (ap own_place idle)) (λ k is. absurd (let clash : None ≡ Some k = is in cc)) settles.1 settles.0.pushed same small t
+    asks (λ x among. absurd among) (others_all past lane v (b.asks lane there) (ap own_place idle)) (λ k is. absurd (let clash : None ≡ Some k = is in cc)) settles.1 settles.0.pushed same small t
 begins_rest s past core new lanes begun lane c now moved.Waits (step.Ask (ask.Close g) r) h there small ran asks same idle settles t = absurd settles
 begins_rest s past core new lanes begun lane c now moved.Went (step.Ask (ask.Close g) r) h there small ran asks same idle settles t = absurd settles
 begins_rest s past core new lanes begun lane c now (moved.Ended o) (step.Ask (ask.Close g) r) h there small ran asks same idle settles t = absurd settles
@@ -233,12 +244,12 @@ replied_rests s past core new lanes begun lane c now m h there small x t =
     let held = polled_holds s past core lanes lane x.spent.k spent x.reply b.tied there b.good.run x.spent.here x.spent.came (λ e. (only x.awaits has (ap is_granted got ∙ e)).0) in
     let u : LaneValue = polled_lane v x.spent.k spent x.reply in
     let holds : LaneHolds s past lane u.tickets u.grants [] = subst (λ (y : LaneValue). LaneHolds s past lane y.tickets y.grants []) (with_here lanes lane u) held.holds in
-    settles_on s past core x.between new lanes begun lane now x.tickets x.grants (opened_after x.running (Some x.reply)) v.site x.answer m h there small
+    settles_on s past core x.between new lanes begun lane now x.tickets x.grants (opened_after x.running (Some x.reply)) (reads_under (Some x.running)) v.site x.answer m h there small
     (subst (λ (y : Core). Midway past core y) (sym x.spent.core) (midway_polled s past core lanes x.spent.ticket x.reply b.good.run b.tied b.counted x.spent.came))
     (subst (λ (gs : List Held). Bears gs (answer past)) (sym x.spent.now) (bears s past lane u.tickets u.grants [] (answer past) holds (λ p r e. e)))
     (λ p in_left. others_left past lane x.spent.k x.awaits v x.running a l.holds.tied_rise x.was x.looks here p (ap (is_in p) (sym (ap ticket_places x.spent.rest ∙ ticket_without v.tickets x.spent.k)) ∙ in_left))
     (λ g is. ap (λ (gs : List Held). is_in g (grant_places gs)) x.spent.now ∙ held_after v x.running x.reply x.awaits x.spent.ticket x.was x.looks (holds_named s past lane v b.good.run there l a) g (inr is))
-    x.asks x.ended x.settles t
+    x.asks (λ z among. a.reads z (subst (λ (o : Option Running). IsAmong z (reads_under o)) (sym x.was) among)) x.ended x.settles t
 
 -- where it awaited no reply
 unreplied_rests : (s : Setting) (past : List Entry) (core new : Core) (lanes : ℕ → LaneValue) (begun : List ℕ) (lane : ℕ) (c : Call) (now : LaneValue) (m : Moved) → AtRest s past core lanes begun → lane < length s.lanes → IsSmall m → TurnUnreplied c s.facts (asked past) core new (lanes lane) now m
@@ -248,8 +259,22 @@ unreplied_rests s past core new lanes begun lane c now m h there small x t =
     let v : LaneValue = lanes lane in
     let a : LaneAsks past lane v = b.asks lane there in
     let l : LaneTied s past lane v [] = b.tied.each lane there in
-    settles_on s past core core new lanes begun lane now v.tickets v.grants (opened_after x.running None) v.site x.answer m h there small (midway_self past core b.counted) (bears s past lane v.tickets v.grants [] (answer past) l.holds (λ p r e. e))
-    (others_all past lane v a (ap own_place x.was ∙ none_own x.running v.site x.looks)) (λ g is. held_on v x.running x.was (holds_named s past lane v b.good.run there l a) g (inr is)) x.asks x.ended x.settles t
+    settles_on s past core core new lanes begun lane now v.tickets v.grants (opened_after x.running None) (reads_under (Some x.running)) v.site x.answer m h there small (midway_self past core b.counted) (bears s past lane v.tickets v.grants [] (answer past) l.holds (λ p r e. e))
+    (others_all past lane v a (ap own_place x.was ∙ none_own x.running v.site x.looks)) (λ g is. held_on v x.running x.was (holds_named s past lane v b.good.run there l a) g (inr is)) x.asks (λ z among. a.reads z (subst (λ (o : Option Running). IsAmong z (reads_under o)) (sym x.was) among)) x.ended x.settles t
+
+-- where the reply that it awaits is missing
+widened_rests : (s : Setting) (past : List Entry) (core new : Core) (lanes : ℕ → LaneValue) (begun : List ℕ) (lane : ℕ) (c : Call) (now : LaneValue) (m : Moved) → AtRest s past core lanes begun → lane < length s.lanes → IsSmall m → TurnWidens c s.facts (asked past) core new (lanes lane) now m
+    → TurnTied s past new (with_lane lanes lane) lane now m → Leaves s past core new lanes begun lane now m
+widened_rests s past core new lanes begun lane c now m h there small x t =
+    let b = h.between in
+    let v : LaneValue = lanes lane in
+    let a : LaneAsks past lane v = b.asks lane there in
+    let l : LaneTied s past lane v [] = b.tied.each lane there in
+    let asks : GoesOnAsking (opened_by x.running) (asked past) (reads_under (Some x.running)) v.site now.site x.answer =
+    subst (λ (y : Site). GoesOnAsking (opened_by x.running) (asked past) (reads_under (Some x.running)) v.site y x.answer) (sym x.site) (widens_on x.running (asked past) v.site x.answer x.active x.asks) in
+    settles_on s past core core new lanes begun lane now v.tickets v.grants (opened_by x.running) (reads_under (Some x.running)) v.site x.answer m h there small (midway_self past core b.counted) (bears s past lane v.tickets v.grants [] (answer past) l.holds (λ p r e. e))
+    (others_all past lane v a (ap own_place x.was ∙ widens_others x.running (asked past) v.site x.answer x.active x.asks)) (λ g is. a.keeps g (ap opened_in x.was ∙ is)) asks
+    (λ z among. a.reads z (subst (λ (o : Option Running). IsAmong z (reads_under o)) (sym x.was) among)) x.ended x.settles t
 
 pub turns_leave : TurnsLeaveRest
 turns_leave s past core new lanes begun lane c now m h there is small turned = by_turn turned
@@ -261,6 +286,7 @@ turns_leave s past core new lanes begun lane c now m h there is small turned = b
     by_turn (Begun x) = begins_rest s past core new lanes begun lane c now m x.answer h there small x.ran x.asks x.ended x.was x.settles tied
     by_turn (Replied x) = replied_rests s past core new lanes begun lane c now m h there small x tied
     by_turn (Unreplied x) = unreplied_rests s past core new lanes begun lane c now m h there small x tied
+    by_turn (Widening x) = widened_rests s past core new lanes begun lane c now m h there small x tied
     by_turn (StillWaiting x) =
-        subst (λ (y : Moved). TurnWaits core new (lanes lane) now y → TurnTied s past new (with_lane lanes lane) lane now y → Leaves s past core new lanes begun lane now y) (sym x.is)
-        (λ w t. waits_rest s past core new lanes begun lane now h there w t) x tied
+        subst (λ (y : Moved). TurnWaits c s.facts core new (lanes lane) now y → TurnTied s past new (with_lane lanes lane) lane now y → Leaves s past core new lanes begun lane now y) (sym x.is)
+        (λ w t. waits_rest s past core new lanes begun lane c now h there w t) x tied

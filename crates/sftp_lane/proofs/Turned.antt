@@ -4,6 +4,7 @@ use Rattle.std.specs.Prelude.{IsSome, length, slice_get}
 use Rattle.std.proofs.lemmas.Bool.Decides.{eqb_tells}
 use Rattle.sftp_model.specs.declared.reply.Reply.{Reply}
 use Rattle.sftp_model.specs.declared.request.Request.{Request}
+use Rattle.sftp_model.specs.declared.slot.Move.{Move}
 use Rattle.sftp_model.specs.declared.slot.Move.TheVariants.{Ask}
 use Rattle.sftp_model.specs.declared.slot.Site.{Site}
 use Rattle.sftp_core.specs.Core.{Core, after_poll, released}
@@ -22,22 +23,22 @@ use Rattle.sftp_history.specs.Grants.{is_grant, is_granted}
 use Rattle.sftp_history.specs.Journals.{IsJournal}
 use Rattle.sftp_ties.specs.Changes.{asking_lane, with_lane}
 use Rattle.sftp_ties.specs.Dues.{Dues}
-use Rattle.sftp_ties.specs.Going.{GoesOn, MachineStep}
+use Rattle.sftp_ties.specs.Going.{GoesOn, MachineStep, MachineWidens}
 use Rattle.sftp_ties.specs.Lanes.{CoreTied, Held, LaneGoes, LaneTied, LaneValue, MayGoOn as MayRun, SessionTied, Ticketed, ticket_places}
 use Rattle.sftp_ties.specs.Places.{IsRising, is_in, without}
 use Rattle.sftp_ties.specs.Running.{own_request}
 use Rattle.sftp_ties.proofs.CloseLaws.{in_left}
 use Rattle.sftp_ties.proofs.FilledLaws.{closes_agree}
 use Rattle.sftp_ties.proofs.HoldLaws.{ticket_index, ticket_without}
-use Rattle.sftp_ties.proofs.LaneLaws.{begin_lane, grants_count, missing_waits, replies_agree, reply_lane, tickets_count, unreplied_lane}
+use Rattle.sftp_ties.proofs.LaneLaws.{begin_lane, grants_count, missing_waits, replies_agree, reply_lane, tickets_count, unreplied_lane, widen_lane}
 use Rattle.sftp_ties.proofs.PlaceLaws.{at_in, without_self}
 use Rattle.sftp_ties.proofs.TurnLaws.{close_request_keeps}
 use Rattle.sftp_lane.specs.Tokens.{Bears}
-use Rattle.sftp_lane.specs.Turning.{Began, ClosesNothing, IsOpen, IsSoundRun, Ran, Releases, Settles, TurnReplied, TurnWaits, Begun, Replied, Unreplied, Waiting}
+use Rattle.sftp_lane.specs.Turning.{Began, ClosesNothing, IsOpen, IsSoundRun, Ran, Releases, Settles, TurnReplied, TurnWaits, TurnWidens, Begun, Replied, Unreplied, Waiting, Widened, Widening}
 use Rattle.sftp_lane.specs.Holding.{HandlesAreAwaited, Holds, LanesMayTurn, TurnTied, TurnsKeep}
 use Rattle.sftp_lane.specs.declared.lane.Moved.{Moved}
 use Rattle.sftp_lane.specs.declared.lane.Moved.TheVariants as moved
-use Rattle.sftp_lane.proofs.AskLaws.{closes_nothing}
+use Rattle.sftp_lane.proofs.AskLaws.{closes_nothing, widens_on}
 use Rattle.sftp_lane.proofs.Holding.{holds_of, with_again, with_here}
 use Rattle.sftp_lane.proofs.Polled.{polled_holds, polled_lane}
 use Rattle.sftp_lane.proofs.TurnLaws.{ask_tied, done_tied, filled_for, wait_tied}
@@ -156,7 +157,7 @@ replied_by s past core new lanes lane call now m h there j calm d is only x =
     (settled s past (after_poll core t.ticket) new after lane now x.answer m p d j calm
     (subst (λ (y : LaneValue). (q : ℕ) → is_in q (ticket_places y.tickets) ≡ true → is_grant past q ≡ false) here none)
     (x.ended ∙ ap (λ (y : LaneValue). y.ended) here)
-    (subst (λ (y : LaneValue). GoesOn s past lane (ticket_places y.tickets) now.site x.answer) here goes) (closes_nothing _ _ _ _ x.answer x.asks)
+    (subst (λ (y : LaneValue). GoesOn s past lane (ticket_places y.tickets) now.site x.answer) here goes) (closes_nothing _ _ _ _ _ x.answer x.asks)
     (subst (λ (y : LaneValue). Settles (after_poll core t.ticket) new y.tickets now.tickets y.grants now.grants now.running (asked past) x.answer m) here settles))
 
 -- no reply is awaited, so no HANDLE is
@@ -170,19 +171,45 @@ none_awaited past lane v r only runs looks p has = by_test (is_grant past p) ref
         let clash : ◌≡◌ {A = Option ℕ} None (Some p) = sym looks ∙ (ap (λ (x : Running). awaited x v.site) one ∙ a.1.1.1) in cc)
     by_test false is = refl
 
+-- the reply that is awaited is missing, so no HANDLE came
+none_missing : (past : List Entry) (lane : ℕ) (v : LaneValue) (r : Running) (place : ℕ) → HandlesAreAwaited past lane v → v.running ≡ Some r → awaited r v.site ≡ Some place → answer past place ≡ None → (p : ℕ) → is_in p (ticket_places v.tickets) ≡ true → is_grant past p ≡ false
+none_missing past lane v r place only runs looks missing p has = by_test (is_grant past p) refl
+  where
+    by_test : (b : Bool) → is_grant past p ≡ b → b ≡ false
+    by_test true is =
+        absurd (let a = only p has is in
+        let one : r ≡ a.1.0 = (let e : ◌≡◌ {A = Option Running} (Some r) (Some a.1.0) = sym runs ∙ a.1.1.0 in cc) in
+        let same : place ≡ p = (let e : ◌≡◌ {A = Option ℕ} (Some place) (Some p) = sym looks ∙ (ap (λ (x : Running). awaited x v.site) one ∙ a.1.1.1) in cc) in
+        let clash : false ≡ true = sym (ap is_granted (sym (ap (answer past) same) ∙ missing)) ∙ is in cc)
+    by_test false is = refl
+
+-- the clauses of an answer that came meanwhile, by the journal
+widens_of : (s : Setting) (past : List Entry) (c : Call) (r : Running) (site : Site) (n : Next) → Widened r c s.facts (asked past) site n → MachineWidens s past c r site n
+widens_of s past c r site n ran = record { goes = ran.goes; left = ran.left; sound = ran.sound; pends = ran.pends }
+
+widened_by : (s : Setting) (past : List Entry) (core new : Core) (lanes : ℕ → LaneValue) (lane : ℕ) (call : Call) (now : LaneValue) (m : Moved) → SessionTied s past core lanes [] → lane < length s.lanes → IsJournal s past → last_cancel past ≡ None → Dues s past []
+    → current s past lane ≡ Some call → HandlesAreAwaited past lane (lanes lane) → TurnWidens call s.facts (asked past) core new (lanes lane) now m → TurnTied s past new (with_lane lanes lane) lane now m
+widened_by s past core new lanes lane call now m h there j calm d is only x =
+    let v : LaneValue = lanes lane in
+    let missing : answer past x.ticket.place ≡ None = sym (replies_agree s past core lanes [] lane x.k x.ticket h there x.here) ∙ x.missing in
+    let goes : GoesOn s past lane (ticket_places v.tickets) now.site x.answer = subst (λ (y : Site). GoesOn s past lane (ticket_places v.tickets) y x.answer) (sym x.site)
+    (widen_lane s past lane x.ticket.place v [] call x.running x.answer (h.each lane there) is x.was x.looks missing (widens_of s past call x.running v.site x.answer x.ran)) in
+    settled s past core new lanes lane now x.answer m (holds_of s past core lanes lane [] h there) d j calm (none_missing past lane v x.running x.ticket.place only x.was x.looks missing) x.ended goes
+    (closes_nothing _ _ _ _ _ x.answer (widens_on x.running (asked past) v.site x.answer x.active x.asks)) x.settles
+
 -- ---- a turn
 
 with_same : (lanes : ℕ → LaneValue) (lane w : ℕ) → lanes w ≡ with_lane lanes lane (lanes lane) w
 with_same lanes lane w = elim (eqb_tells lane w) [ inl t ↦ rw t.0 (ap lanes (sym t.1)) | inr t ↦ rw t.0 refl ]
 
-waiting_by : (s : Setting) (past : List Entry) (core new : Core) (lanes : ℕ → LaneValue) (lane : ℕ) (call : Call) (now : LaneValue) (m : Moved) → SessionTied s past core lanes [] → lane < length s.lanes → current s past lane ≡ Some call → TurnWaits core new (lanes lane) now m
+waiting_by : (s : Setting) (past : List Entry) (core new : Core) (lanes : ℕ → LaneValue) (lane : ℕ) (call : Call) (now : LaneValue) (m : Moved) → SessionTied s past core lanes [] → lane < length s.lanes → current s past lane ≡ Some call → TurnWaits call s.facts core new (lanes lane) now m
     → TurnTied s past new (with_lane lanes lane) lane now m
 waiting_by s past core new lanes lane call now m h there is x =
     let v : LaneValue = lanes lane in
     let missing : answer past x.ticket.place ≡ None = sym (replies_agree s past core lanes [] lane x.k x.ticket h there x.here) ∙ x.missing in
     let move = (missing_waits s past lane x.ticket.place v [] call x.running (h.each lane there) is x.was x.looks).1 missing in
     subst (λ (y : Moved). TurnTied s past new (with_lane lanes lane) lane now y) (sym x.is) (
-      (x.ticket.place, move ∙ ap (λ (o : Option ℕ). Some (waits o v.site)) x.looks),
+      (x.ticket.place, move ∙ ap (λ (y : Move). Some y) (x.idles (answer past) ∙ ap (λ (o : Option ℕ). waits o v.site) x.looks)),
       subst (λ (y : Core). SessionTied s past y (with_lane lanes lane now) []) (sym x.core)
           (subst (λ (y : LaneValue). SessionTied s past core (with_lane lanes lane y) []) (sym x.same) (subst (λ (f : ℕ → LaneValue). SessionTied s past core f []) (λ i w. with_same lanes lane w i) h)),
     )
@@ -194,7 +221,8 @@ turns_keep s past core new lanes lane c now m h there j calm d is only (Begun x)
 turns_keep s past core new lanes lane c now m h there j calm d is only (Replied x) = replied_by s past core new lanes lane c now m h there j calm d is only x
 turns_keep s past core new lanes lane c now m h there j calm d is only (Unreplied x) =
     settled s past core new lanes lane now x.answer m (holds_of s past core lanes lane [] h there) d j calm (none_awaited past lane (lanes lane) x.running only x.was x.looks) x.ended
-    (unreplied_lane s past lane (lanes lane) [] c x.running now.site x.answer (h.each lane there) is x.was x.looks (step_of s past c _ _ _ (lanes lane).site now.site x.answer x.ran)) (closes_nothing _ _ _ _ x.answer x.asks) x.settles
+    (unreplied_lane s past lane (lanes lane) [] c x.running now.site x.answer (h.each lane there) is x.was x.looks (step_of s past c _ _ _ (lanes lane).site now.site x.answer x.ran)) (closes_nothing _ _ _ _ _ x.answer x.asks) x.settles
+turns_keep s past core new lanes lane c now m h there j calm d is only (Widening x) = widened_by s past core new lanes lane c now m h there j calm d is only x
 turns_keep s past core new lanes lane c now m h there j calm d is only (Waiting x) = waiting_by s past core new lanes lane c now m h there is x
 
 -- ---- what a turn asks for

@@ -10,7 +10,8 @@ use Rattle.sftp_plan.specs.Machines.{awaited}
 use Rattle.sftp_ties.specs.Lanes.{Held, LaneValue, Ticketed}
 use Rattle.sftp_ties.specs.Places.{without}
 use Rattle.sftp_steps.specs.Rest.{awaited_in}
-use Rattle.sftp_lane.specs.Turning.{Settles, Begun, Replied, Unreplied, Waiting}
+use Rattle.sftp_lane.specs.Turning.{IsActive, Settles, Begun, Replied, Unreplied, Waiting, Widening}
+use Rattle.sftp_window.specs.declared.window.ReadAt.{ReadAt}
 use Rattle.sftp_lane.specs.Rests.{AwaitsOne, WentTurnsAreFew}
 use Rattle.sftp_lane.specs.declared.lane.Moved.TheVariants as moved
 
@@ -29,10 +30,16 @@ begun_looks opened place v now (step.Wait r) asks = asks.0.some
 begun_looks opened place v now (step.Ask a r) asks = tt
 begun_looks opened place v now (step.Done o) asks = tt
 
-on_looks : (opened : Option ℕ) (place : ℕ) (v now : LaneValue) (n : Next) → GoesOnAsking opened place v.site now.site n → LooksAt now n
-on_looks opened place v now (step.Wait r) asks = asks.0.some
-on_looks opened place v now (step.Ask a r) asks = tt
-on_looks opened place v now (step.Done o) asks = tt
+on_looks : (opened : Option ℕ) (place : ℕ) (reads : List ReadAt) (v now : LaneValue) (n : Next) → GoesOnAsking opened place reads v.site now.site n → LooksAt now n
+on_looks opened place reads v now (step.Wait r) asks = asks.0.some
+on_looks opened place reads v now (step.Ask a r) asks = tt
+on_looks opened place reads v now (step.Done o) asks = tt
+
+-- no call that goes on while a reply is missing goes on without an entry
+never_went : (place : ℕ) (core new : Core) (tickets : List Ticketed) (grants : List Held) (now : LaneValue) (n : Next) → IsActive n → Settles core new tickets now.tickets grants now.grants now.running place n moved.Went → ⊥
+never_went place core new tickets grants now (step.Wait r) active settles = active
+never_went place core new tickets grants now (step.Ask a r) active settles = settles
+never_went place core new tickets grants now (step.Done o) active settles = (let clash : moved.Went ≡ moved.Ended o = settles.2 in absurd cc)
 
 -- it awaits a reply then, and has the tickets that were left
 went_waits : (place : ℕ) (core new : Core) (tickets : List Ticketed) (grants : List Held) (now : LaneValue) (n : Next) → Settles core new tickets now.tickets grants now.grants now.running place n moved.Went → LooksAt now n → AwaitsOne now × (now.tickets ≡ tickets)
@@ -50,12 +57,13 @@ went_few c facts place core new v now (Begun x) =
     let same : length now.tickets ≡ length v.tickets = ap (λ (ts : List Ticketed). length ts) w.1 in
     (w.0, omega (arith, same), λ some. absurd (none_awaited v (ap (λ (o : Option Running). awaited_in o v.site) x.was) some)))
 went_few c facts place core new v now (Replied x) =
-    (let w = went_waits place x.between new x.tickets x.grants now x.answer x.settles (on_looks _ place v now x.answer x.asks) in
+    (let w = went_waits place x.between new x.tickets x.grants now x.answer x.settles (on_looks _ place _ v now x.answer x.asks) in
     let less : length (without x.spent.k v.tickets) < length v.tickets = fewer v.tickets x.spent.k _ x.spent.here in
     let same : length now.tickets ≡ length (without x.spent.k v.tickets) = ap (λ (ts : List Ticketed). length ts) (w.1 ∙ x.spent.rest) in
     (w.0, omega (arith, less, same), λ some. omega (arith, less, same)))
 went_few c facts place core new v now (Unreplied x) =
-    (let w = went_waits place core new v.tickets v.grants now x.answer x.settles (on_looks _ place v now x.answer x.asks) in
+    (let w = went_waits place core new v.tickets v.grants now x.answer x.settles (on_looks _ place _ v now x.answer x.asks) in
     let same : length now.tickets ≡ length v.tickets = ap (λ (ts : List Ticketed). length ts) w.1 in
     (w.0, omega (arith, same), λ some. absurd (none_awaited v (ap (λ (o : Option Running). awaited_in o v.site) x.was ∙ x.looks) some)))
+went_few c facts place core new v now (Widening x) = absurd (never_went place core new v.tickets v.grants now x.answer x.active x.settles)
 went_few c facts place core new v now (Waiting x) = absurd (let clash : moved.Went ≡ moved.Waits = x.is in cc)

@@ -9,7 +9,8 @@ use Rattle.sftp_history.specs.declared.event.Event.TheVariants.{End}
 use Rattle.sftp_history.specs.declared.entry.Entry.{Entry}
 use Rattle.sftp_history.specs.declared.entry.Entry.TheVariants as entry
 use Rattle.sftp_history.specs.Readings.{asked, ended, unanswered}
-use Rattle.sftp_history.specs.Calls.{Setting, current, move_of}
+use Rattle.sftp_calls.specs.GoodMoves.{FitsCall, FitsFacts}
+use Rattle.sftp_history.specs.Calls.{Setting, current, move_of, planned}
 use Rattle.sftp_history.specs.Journals.{IsFree, IsNext}
 use Rattle.sftp_history.specs.Turns.{begun_but, begun_with}
 use Rattle.sftp_ties.specs.Changes.{ended_lane, with_lane}
@@ -18,7 +19,7 @@ use Rattle.sftp_ties.specs.Lanes.{LaneValue, grant_places}
 use Rattle.sftp_ties.specs.Running.{own_request}
 use Rattle.sftp_model.specs.declared.slot.Facts.{Facts}
 use Rattle.sftp_steps.specs.Rest.{AtRest, Between, awaited_in, weigh}
-use Rattle.sftp_lane.specs.Turning.{AllFit, HoldsNamed, Turned}
+use Rattle.sftp_lane.specs.Turning.{AllFit, AllInRange, HoldsNamed, Turned}
 use Rattle.sftp_lane.specs.declared.lane.Moved.{Moved}
 use Rattle.sftp_lane.specs.declared.lane.Moved.TheVariants as moved
 
@@ -75,6 +76,11 @@ pub record AwaitsReplies (core : Core) (v : LaneValue) : Type 0 where
 -- A lane of a session at rest may have its turn.
 abbrev pub LanesAwaitReplies : Type 0
 LanesAwaitReplies = (s : Setting) (past : List Entry) (core : Core) (lanes : ℕ → LaneValue) (begun : List ℕ) (lane : ℕ) (c : Call) → AtRest s past core lanes begun → lane < length s.lanes → current s past lane ≡ Some c → AwaitsReplies core (lanes lane)
+
+-- What its call asks next is within the range of offsets and the session's read length.
+abbrev pub LanesAskInRange : Type 0
+LanesAskInRange = (s : Setting) (past : List Entry) (core : Core) (lanes : ℕ → LaneValue) (begun : List ℕ) (lane : ℕ) (c : Call) → AtRest s past core lanes begun → lane < length s.lanes → current s past lane ≡ Some c
+    → FitsCall (planned c) → FitsFacts s.facts → AllInRange c s.facts core (lanes lane).tickets (lanes lane).running (lanes lane).site
 
 -- ---- turns without an entry
 

@@ -12,11 +12,11 @@ use Rattle.sftp_calls.specs.TransferPlans.{joined_parts}
 use Rattle.sftp_plan.specs.declared.next.Asked.{Asked}
 use Rattle.sftp_plan.specs.declared.next.Next.{Next}
 use Rattle.sftp_plan.specs.declared.next.Running.{Running}
-use Rattle.sftp_plan.specs.Machines.{Goes, after, awaited, bytes_of}
+use Rattle.sftp_plan.specs.Machines.{Goes, Widens, after, awaited, bytes_of, idle, waits as plan_waits}
 use Rattle.sftp_plan.specs.Cancelling.{Leaves, Leaving, left_after, left_behind}
-use Rattle.sftp_plan.specs.Sound.{AreWithin, Fits, Sound, Sounds}
-use Rattle.sftp_plan.specs.Pending.{Pends, pends_after, pends_idle, slots_times}
-use Rattle.sftp_plan.specs.Asking.{BeginsAsking, GoesOnAsking, HasGrant, IsOfCall, opened_after}
+use Rattle.sftp_plan.specs.Sound.{AreWithin, AsksWithin, Fits, IsSound, Sound, Sounds}
+use Rattle.sftp_plan.specs.Pending.{Pends, pends, pends_after, pends_idle, reads_under, slots_times}
+use Rattle.sftp_plan.specs.Asking.{BeginsAsking, GoesOnAsking, HasGrant, IsOfCall, WidensAsking, opened_after}
 use Rattle.sftp_history.specs.declared.call.Call.{Call}
 use Rattle.sftp_history.specs.declared.call.Call.TheVariants as call
 use Rattle.sftp_history.specs.Calls.{cancelled, next, planned}
@@ -57,6 +57,13 @@ abbrev pub WentOn : Running → Option Reply → Call → Facts → ℕ → Site
 WentOn r reply c facts place old new n =
     Ran c facts place (after r (bytes_of (planned c)) old facts reply) (left_after r (bytes_of (planned c)) old facts reply) (pends_after r old reply) old new n
 
+-- and where it answers while the reply that it awaits is missing; the site stays
+pub record Widened (r : Running) (c : Call) (facts : Facts) (place : ℕ) (site : Site) (n : Next) : Type 0 where
+  pub goes : Widens r place (bytes_of (planned c)) site facts n
+  pub left : Leaves (left_behind r (bytes_of (planned c)) site facts) place (bytes_of (planned c)) site facts n
+  pub sound : IsSound (bytes_of (planned c)) site facts n
+  pub pends : Pends (λ q. pends q (Some r) site) place site n
+
 -- ---- what a lane asks
 
 -- a request was submitted under an id that was free
@@ -93,6 +100,11 @@ abbrev pub ClosesNothing : Next → Type 0
 ClosesNothing (step.Ask (asked.Close g) r) = ⊥
 ClosesNothing other = Unit {0}
 
+-- it doesn't wait
+abbrev pub IsActive : Next → Type 0
+IsActive (step.Wait r) = ⊥
+IsActive other = Unit {0}
+
 -- an open core without a fault
 pub record IsOpen (core : Core) : Type 0 where
   pub unfailed : core.fault ≡ None
@@ -114,6 +126,11 @@ Settles old new tickets now grants held running place (step.Ask a r) m = Settles
 Settles old new tickets now grants held running place (step.Wait r) m = Stays old new tickets now grants held × (running ≡ Some r) × (m ≡ moved.Went)
 Settles old new tickets now grants held running place (step.Done o) m = Stays old new tickets now grants held × (running ≡ None) × (m ≡ moved.Ended o)
 
+-- the same while a reply is missing, where a call that waits goes on with what it went on with
+abbrev pub SettlesMeanwhile : Core → Core → List Ticketed → List Ticketed → List Held → List Held → Option Running → ℕ → Next → Moved → Type 0
+SettlesMeanwhile old new tickets now grants held running place (step.Wait r) m = Stays old new tickets now grants held × (running ≡ Some r) × (m ≡ moved.Waits)
+SettlesMeanwhile old new tickets now grants held running place n m = Settles old new tickets now grants held running place n m
+
 -- ---- a turn
 
 -- a lane may go on
@@ -129,6 +146,16 @@ pub record IsSafe (c : Call) (facts : Facts) (running : Option Running) (site : 
 -- each reply that came for what is awaited fits it
 abbrev pub AllFit : Core → List Ticketed → Option Running → Site → Type 0
 AllFit core tickets running site = (k : ℕ) (t : Ticketed) (r : Running) → slice_get tickets k ≡ Some t → running ≡ Some r → awaited r site ≡ Some t.place → Fits r (reply_in (at core t.ticket))
+
+-- a READ that is asked next is within the range of offsets and the session's read length: by the reply to what is
+-- awaited, or while it is missing
+abbrev pub RangesBy : Running → List ℕ → Site → Facts → Option Reply → Type 0
+RangesBy r bytes site facts None = AsksWithin facts (idle r bytes site facts)
+RangesBy r bytes site facts (Some y) = AsksWithin facts (after r bytes site facts (Some y))
+
+pub record AllInRange (c : Call) (facts : Facts) (core : Core) (tickets : List Ticketed) (running : Option Running) (site : Site) : Type 0 where
+  pub none : (r : Running) → running ≡ Some r → awaited r site ≡ None → AsksWithin facts (after r (bytes_of (planned c)) site facts None)
+  pub some : (k : ℕ) (t : Ticketed) (r : Running) → slice_get tickets k ≡ Some t → running ≡ Some r → awaited r site ≡ Some t.place → RangesBy r (bytes_of (planned c)) site facts (reply_in (at core t.ticket))
 
 -- the lane has a ticket of the reply that its call awaits
 abbrev pub HasAwaited : LaneValue → Type 0
@@ -172,7 +199,7 @@ pub record TurnReplied (c : Call) (facts : Facts) (place : ℕ) (old new : Core)
   pub grants : List Held
   pub was : v.running ≡ Some running
   pub looks : awaited running v.site ≡ Some awaits
-  pub asks : GoesOnAsking (opened_after running (Some reply)) place v.site now.site answer
+  pub asks : GoesOnAsking (opened_after running (Some reply)) place (reads_under (Some running)) v.site now.site answer
   pub spent : Spent old between v.tickets tickets v.grants grants awaits reply
   pub ran : WentOn running (Some reply) c facts place v.site now.site answer
   pub settles : Settles between new tickets now.tickets grants now.grants now.running place answer m
@@ -184,12 +211,15 @@ pub record TurnUnreplied (c : Call) (facts : Facts) (place : ℕ) (old new : Cor
   pub running : Running
   pub was : v.running ≡ Some running
   pub looks : awaited running v.site ≡ None
-  pub asks : GoesOnAsking (opened_after running None) place v.site now.site answer
+  pub asks : GoesOnAsking (opened_after running None) place (reads_under (Some running)) v.site now.site answer
   pub ran : WentOn running None c facts place v.site now.site answer
   pub settles : Settles old new v.tickets now.tickets v.grants now.grants now.running place answer m
 
--- the reply that it awaits has not come
-pub record TurnWaits (old new : Core) (v now : LaneValue) (m : Moved) : Type 0 where
+-- the reply that it awaits has not come, and it asked for more or ended
+pub record TurnWidens (c : Call) (facts : Facts) (place : ℕ) (old new : Core) (v now : LaneValue) (m : Moved) : Type 0 where
+  pub answer : Next
+  pub active : IsActive answer
+  pub ended : now.ended ≡ v.ended
   pub running : Running
   pub k : ℕ
   pub ticket : Ticketed
@@ -197,6 +227,21 @@ pub record TurnWaits (old new : Core) (v now : LaneValue) (m : Moved) : Type 0 w
   pub looks : awaited running v.site ≡ Some ticket.place
   pub here : slice_get v.tickets k ≡ Some ticket
   pub missing : reply_in (at old ticket.ticket) ≡ None
+  pub site : now.site ≡ v.site
+  pub asks : WidensAsking running place v.site answer
+  pub ran : Widened running c facts place v.site answer
+  pub settles : Settles old new v.tickets now.tickets v.grants now.grants now.running place answer m
+
+-- it has not come, and the call waits
+pub record TurnWaits (c : Call) (facts : Facts) (old new : Core) (v now : LaneValue) (m : Moved) : Type 0 where
+  pub running : Running
+  pub k : ℕ
+  pub ticket : Ticketed
+  pub was : v.running ≡ Some running
+  pub looks : awaited running v.site ≡ Some ticket.place
+  pub here : slice_get v.tickets k ≡ Some ticket
+  pub missing : reply_in (at old ticket.ticket) ≡ None
+  pub idles : (answers : Answers) → idle running (bytes_of (planned c)) v.site facts [] answers ≡ plan_waits (awaited running v.site) v.site
   pub is : m ≡ moved.Waits
   pub core : new ≡ old
   pub same : now ≡ v
@@ -206,4 +251,5 @@ pub data Turned (c : Call) (facts : Facts) (place : ℕ) (old new : Core) (v now
   Begun : TurnBegins c facts place old new v now m → Turned c facts place old new v now m
   Replied : TurnReplied c facts place old new v now m → Turned c facts place old new v now m
   Unreplied : TurnUnreplied c facts place old new v now m → Turned c facts place old new v now m
-  Waiting : TurnWaits old new v now m → Turned c facts place old new v now m
+  Widening : TurnWidens c facts place old new v now m → Turned c facts place old new v now m
+  Waiting : TurnWaits c facts old new v now m → Turned c facts place old new v now m

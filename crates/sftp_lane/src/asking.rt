@@ -6,7 +6,7 @@ ghost use Rattle.sftp_ties.specs.Lanes.{grant_places};
 ghost use Rattle.sftp_lane.specs.Tokens.{AreGrants, IsFilledBy, NamesHeld};
 ghost use Rattle.sftp_plan.specs.Asking.{IsNoClose, IsOfCall};
 ghost use Rattle.sftp_lane.specs.Rests.{IsSmall};
-ghost use Rattle.sftp_lane.specs.Turning.{Asks, IsOpen, MayAsk, Releases, Settles};
+ghost use Rattle.sftp_lane.specs.Turning.{Asks, IsOpen, MayAsk, Releases, Settles, SettlesMeanwhile};
 ghost use Rattle.sftp_history.specs.Grants.{is_close};
 
 use crate::lane::Moved;
@@ -163,5 +163,31 @@ pub(crate) fn settle(
             *running = None;
             Ok(Moved::Ended { outcome })
         }
+    }
+}
+
+/// Does what the machine of a call answered while the reply that it awaits is missing. Refused only for want of memory.
+pub(crate) fn settle_meanwhile(
+    core: &mut Core,
+    next: Next,
+    place: u64,
+    running: &mut Option<Running>,
+    tokens: &mut Tokens,
+) -> Result<Moved, OutOfMemory>
+    requires room { vec_len tokens.old.tickets < vec_capacity tokens.old.tickets }
+    requires held { AreGrants core.old tokens.old.grants.items }
+    requires ready { IsOpen core.old }
+    requires may { MayAsk tokens.old.grants.items next }
+    ensures err { OnErr result (core.new ≡ core.old) }
+    ensures small { IfOk result IsSmall }
+    ensures settled { IfOk result (λ m. SettlesMeanwhile core.old core.new tokens.old.tickets.items tokens.new.tickets.items tokens.old.grants.items tokens.new.grants.items running.new place next m) }
+{
+    match next {
+        Next::Wait(then) => {
+            *running = Some(then);
+            Ok(Moved::Waits)
+        }
+        Next::Ask(asked, then) => settle(core, Next::Ask(asked, then), place, running, tokens),
+        Next::Done(outcome) => settle(core, Next::Done(outcome), place, running, tokens),
     }
 }

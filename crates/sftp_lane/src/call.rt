@@ -4,20 +4,22 @@ ghost use Rattle.sftp_calls.specs.TransferPlans.{joined_parts};
 ghost use Rattle.sftp_plan.specs.Machines.{bytes_of};
 ghost use Rattle.sftp_history.specs.Calls.{planned};
 ghost use Rattle.sftp_history.specs.Lanes.{is_within};
-ghost use Rattle.sftp_plan.specs.Sound.{AreWithin, Fits};
-ghost use Rattle.sftp_plan.specs.Asking.{BeginsAsking, GoesOnAsking, opened_after};
-ghost use Rattle.sftp_lane.specs.Turning.{Began, IsSafe, WentOn, joined_of};
+ghost use Rattle.sftp_plan.specs.Machines.{after, idle};
+ghost use Rattle.sftp_plan.specs.Pending.{reads_under};
+ghost use Rattle.sftp_plan.specs.Sound.{AreWithin, AsksWithin, Fits};
+ghost use Rattle.sftp_plan.specs.Asking.{BeginsAsking, GoesOnAsking, WidensAsking, opened_after};
+ghost use Rattle.sftp_lane.specs.Turning.{Began, IsSafe, WentOn, Widened, joined_of};
 
 use sftp_history::Call;
 use sftp_model::{Facts, Reply, Site};
 use sftp_plan::{
     Next, Running, begin_buf_flush, begin_buf_read, begin_buf_seek, begin_buf_write,
     begin_buf_write_all, begin_buffer, begin_canonicalize, begin_clone, begin_close, begin_copy,
-    begin_cwd, begin_fs_write, begin_hard_link, begin_list, begin_lstat, begin_meta, begin_mkdir,
-    begin_open, begin_read, begin_read_all, begin_read_link, begin_remove, begin_rename,
-    begin_rmdir, begin_seek, begin_set_len, begin_set_perm, begin_set_stat, begin_stat,
-    begin_symlink, begin_sync, begin_unbuffer, begin_write, begin_write_all, begin_write_parts,
-    go_on,
+    begin_cwd, begin_fs_read, begin_fs_write, begin_hard_link, begin_list, begin_lstat, begin_meta,
+    begin_mkdir, begin_open, begin_read, begin_read_all, begin_read_link, begin_remove,
+    begin_rename, begin_rmdir, begin_seek, begin_set_len, begin_set_perm, begin_set_stat,
+    begin_stat, begin_symlink, begin_sync, begin_unbuffer, begin_write, begin_write_all,
+    begin_write_parts, go_on, widen,
 };
 use sftp_values::ByteText;
 use ssh_encoding::OutOfMemory;
@@ -157,6 +159,14 @@ pub(crate) fn begin(
         Call::BufSeek { slot, position } => {
             Ok(Next::Done(begin_buf_seek(alloc, *slot, *position, site)?))
         }
+        Call::FsRead { path, bound } => begin_fs_read(
+            alloc,
+            path.as_slice(),
+            *bound,
+            place,
+            site,
+            facts,
+        ),
         Call::FsWrite { path, bytes } => begin_fs_write(
             alloc,
             path.as_slice(),
@@ -236,8 +246,9 @@ pub(crate) fn resume(
 ) -> Result<Next, OutOfMemory>
     requires safe { IsSafe call.now facts.now (Some running) site.old }
     requires fits { Fits running reply }
+    requires range { AsksWithin facts.now (after running (bytes_of (planned call.now)) site.old facts.now reply) }
     ensures went { IfOk result (WentOn running reply call.now facts.now place site.old site.new) }
-    ensures asks { IfOk result (GoesOnAsking (opened_after running reply) place site.old site.new) }
+    ensures asks { IfOk result (GoesOnAsking (opened_after running reply) place (reads_under (Some running)) site.old site.new) }
     ensures err { OnErr result (site.new ≡ site.old) }
 {
     let joined = joined_of(alloc, call)?;
@@ -245,6 +256,32 @@ pub(crate) fn resume(
         alloc,
         running,
         reply,
+        bytes_of(call, joined.as_slice()),
+        place,
+        site,
+        facts,
+    )
+}
+
+/// What a call does while the reply that it awaits is missing; what it asks would bear the place. Refused only for want
+/// of memory.
+pub(crate) fn meanwhile(
+    alloc: Global,
+    call: &Call,
+    running: Running,
+    place: u64,
+    site: &Site,
+    facts: &Facts,
+) -> Result<Next, OutOfMemory>
+    requires safe { IsSafe call.now facts.now (Some running) site.now }
+    requires range { AsksWithin facts.now (idle running (bytes_of (planned call.now)) site.now facts.now) }
+    ensures widened { IfOk result (Widened running call.now facts.now place site.now) }
+    ensures asks { IfOk result (WidensAsking running place site.now) }
+{
+    let joined = joined_of(alloc, call)?;
+    widen(
+        alloc,
+        running,
         bytes_of(call, joined.as_slice()),
         place,
         site,

@@ -49,13 +49,6 @@ fn unawaited_at(tickets: &[Awaited], slots: &[Slot]) -> Option<usize>
 }
 
 impl LaneState {
-    /// How many tickets it has.
-    pub fn ticket_count(&self) -> usize
-        ensures { result ≡ length self.now.tickets }
-    {
-        self.tokens.tickets.len()
-    }
-
     /// Which of its tickets is the first whose reply no slot awaits.
     pub fn unawaited(&self) -> Option<usize>
         ensures within { IfSome result (λ k. k < length self.now.tickets) }

@@ -4,11 +4,11 @@ ghost use Rattle.sftp_model.specs.Slots.{fresh_site};
 ghost use Rattle.sftp_history.specs.Lanes.{is_within};
 ghost use Rattle.sftp_lane.specs.Tokens.{AreGrants, AreTickets};
 ghost use Rattle.sftp_lane.specs.Rests.{IsSmall};
-ghost use Rattle.sftp_lane.specs.Turning.{AllFit, HasAwaited, HoldsNamed, IsOpen, IsSafe, Turned};
+ghost use Rattle.sftp_lane.specs.Turning.{AllFit, AllInRange, HasAwaited, HoldsNamed, IsOpen, IsSafe, Turned};
 ghost use Rattle.sftp_ties.specs.Changes.{fresh_lane};
 
-use crate::asking::settle;
-use crate::call::{begin, resume};
+use crate::asking::{settle, settle_meanwhile};
+use crate::call::{begin, meanwhile, resume};
 use crate::tokens::Tokens;
 use sftp_core::{Core, Ended};
 use sftp_history::Call;
@@ -87,8 +87,8 @@ impl LaneState {
         })
     }
 
-    /// One turn of the lane's call: it begins, or goes on after the one reply that it awaited, if it awaited one. Its next request would
-    /// bear the place. Refused only for want of memory.
+    /// One turn of the lane's call: it begins, goes on after the one reply that it awaited, if it awaited one, or asks for
+    /// more while that is missing. Its next request would bear the place. Refused only for want of memory.
     pub fn turn(
         &mut self,
         alloc: Global,
@@ -103,6 +103,7 @@ impl LaneState {
         requires ready { IsOpen core.old }
         requires safe { IsSafe call.now facts.now self.old.running self.old.site }
         requires fits { AllFit core.old self.old.tickets self.old.running self.old.site }
+        requires range { AllInRange call.now facts.now core.old self.old.tickets self.old.running self.old.site }
         requires awaits { HasAwaited self.old }
         requires holds { HoldsNamed self.old }
         ensures turned { IfOk result (λ m. Turned call.now facts.now place core.old core.new self.old self.new m) }
@@ -120,8 +121,8 @@ impl LaneState {
             return settle(core, next, place, &mut self.running, &mut self.tokens);
         };
         let Some(reply) = self.tokens.reply(core, awaited) else {
-            self.running = Some(running);
-            return Ok(Moved::Waits);
+            let next = meanwhile(alloc, call, running, place, &self.site, facts)?;
+            return settle_meanwhile(core, next, place, &mut self.running, &mut self.tokens);
         };
         let next = resume(
             alloc,

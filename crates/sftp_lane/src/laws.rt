@@ -1,6 +1,6 @@
 // Laws of a session as its lanes have their turns. The functions do nothing: what they ensure holds of all values.
 ghost use Rattle.sftp_lane.specs.Holding.{LanesMayTurn, TurnsKeep};
-ghost use Rattle.sftp_lane.specs.Rests.{LanesAwaitReplies, TurnsLeaveRest, WentTurnsAreFew};
+ghost use Rattle.sftp_lane.specs.Rests.{LanesAskInRange, LanesAwaitReplies, TurnsLeaveRest, WentTurnsAreFew};
 
 /// What a turn of a lane was is the lane's move by the journal, and core and lanes are what the journal says then.
 pub fn turns_keep_sessions()
@@ -17,6 +17,7 @@ pub fn lanes_may_turn()
 pub fn turns_leave_rest()
     ensures turns { TurnsLeaveRest }
     ensures may { LanesAwaitReplies }
+    ensures range { LanesAskInRange }
 {}
 
 /// A turn that leaves no entry spends a ticket, or is the first that awaits a reply.

@@ -59,7 +59,7 @@ fresh_in (v ∷ states) zero all = all 0 v refl
 fresh_in (v ∷ states) (suc lane) all = fresh_in states lane (λ k. all (suc k))
 
 fresh_asks : (past : List Entry) (lane : ℕ) → LaneAsks past lane fresh_lane
-fresh_asks past lane = record { current = λ p e. absurd cc; only = λ p e. absurd cc; keeps = λ g e. absurd cc; fits = λ p a y e is may. absurd cc }
+fresh_asks past lane = record { current = λ p e. absurd cc; only = λ p e. absurd cc; keeps = λ g e. absurd cc; fits = λ p a y e is may. absurd cc; reads = λ x among. absurd among }
 
 -- ---- journals in which no lane has done anything
 

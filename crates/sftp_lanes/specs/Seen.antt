@@ -1,5 +1,5 @@
 -- What is seen of a session of lanes, and what it is in each phase.
-use Rattle.std.specs.Prelude.{◌≡◌, true, List, [], length, max, Option, Some, None}
+use Rattle.std.specs.Prelude.{◌≡◌, true, List, [], length, max, min, Option, Some, None}
 use Rattle.sftp_model.specs.declared.flags.Extensions.{Extensions}
 use Rattle.sftp_model.specs.declared.reply.Reply.{Reply}
 use Rattle.sftp_model.specs.declared.slot.Facts.{Facts}
@@ -41,7 +41,13 @@ given_of s = record { lanes = s.lanes; options = s.options }
 abbrev pub facts_by : SftpOptions → Extensions → Option Info → Facts
 facts_by options extensions None = facts_of options extensions None
 facts_by options extensions (Some info) =
-    record { extensions = info.extensions; read_len = info.read_len; write_len = info.write_len; write_limit = max 1 options.tokio_compat_file_write_limit; read_window = 1 }
+    record {
+      extensions = info.extensions;
+      read_len = info.read_len;
+      write_len = info.write_len;
+      write_limit = max 1 options.tokio_compat_file_write_limit;
+      read_window = min 64 (max 1 options.read_window);
+    }
 
 abbrev pub setting_by : List Lane → SftpOptions → Option Reply → Option Info → Setting
 setting_by lanes options version info =

@@ -44,7 +44,7 @@ fn facts_by(info: &Info, options: &SftpOptions) -> Facts
         read_len: info.read_len,
         write_len: info.write_len,
         write_limit: 1.max(options.get_tokio_compat_file_write_limit() as u64),
-        read_window: 1,
+        read_window: 64.min(1.max(options.get_read_window())),
     }
 }
 

@@ -7,7 +7,8 @@ use Rattle.std.proofs.lemmas.Option.{slice_get_within}
 use Rattle.sftp_core.specs.Core.{Core}
 use Rattle.sftp_plan.specs.declared.next.Running.{Running}
 use Rattle.sftp_plan.specs.Machines.{bytes_of}
-use Rattle.sftp_plan.specs.Pending.{own_place, with_one}
+use Rattle.sftp_plan.specs.Pending.{own_place, reads_under, with_one, with_reads}
+use Rattle.sftp_window.specs.declared.window.ReadAt.{ReadAt}
 use Rattle.sftp_history.specs.declared.call.Call.{Call}
 use Rattle.sftp_history.specs.declared.call.Lane.{Lane}
 use Rattle.sftp_history.specs.Calls.{Setting, calls_of, current, planned}
@@ -154,14 +155,16 @@ may_cancel s lane c v w lt begun value =
     subst (λ (y : LaneValue). MayCancel c.core y) (sym (state_at c.states lane v lt value)) (record {
       safe = (call.0, (s.facts, goes.safe));
       awaits = goes.awaits;
-      deferred = λ q. deferred_by (own_place (lane_in c.states lane).running) q _ _ ((w.rest.between.tied.each lane there).goes.awaits q);
+      deferred = λ q. deferred_by (own_place (lane_in c.states lane).running) (reads_under (lane_in c.states lane).running) q _ _ ((w.rest.between.tied.each lane there).goes.awaits q);
       counted = goes.counted;
       few = number;
     }))
   where
-    deferred_by : (own : Option ℕ) (q times most : ℕ) → with_one own q times ≤ most → times ≤ most
-    deferred_by None q times most le = le
-    deferred_by (Some p) q times most le = omega (arith, le)
+    deferred_by : (own : Option ℕ) (reads : List ReadAt) (q times most : ℕ) → with_one own q (with_reads reads q times) ≤ most → times ≤ most
+    deferred_by None [] q times most le = le
+    deferred_by (Some p) [] q times most le = omega (arith, le)
+    deferred_by None (r ∷ rest) q times most le = omega (arith, le)
+    deferred_by (Some p) (r ∷ rest) q times most le = omega (arith, le)
 
     lane_at : (o : Option Lane) (n : ℕ) (call : Call) → slice_get (calls_of o) n ≡ Some call → (l : Lane) × (o ≡ Some l)
     lane_at None n call e = absurd cc

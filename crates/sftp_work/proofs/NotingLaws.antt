@@ -87,7 +87,7 @@ current_at s c lane call w a =
     current_is s c.past lane (w.stands.unadded lane) ∙ ap (λ (o : Option Lane). slice_get (calls_of o) (ended c.past lane)) lane_is ∙ call_here s c lane call w a)
 
 -- its numbers fit their fields
-call_fits : (s : Setting) (c : Contents) (lane : ℕ) (call : Call) → Works s c → AtCall c lane call → FitsCall (planned call)
+pub call_fits : (s : Setting) (c : Contents) (lane : ℕ) (call : Call) → Works s c → AtCall c lane call → FitsCall (planned call)
 call_fits s c lane call w a =
     (let ok : are_ok s.lanes ≡ true = ap are_ok (sym w.stands.calls) ∙ w.stands.ok in
     planned_fits call (current_within s c.past lane call (calls_ok s.lanes ok) w.rest.between.good.run (current_at s c lane call w a)))

@@ -21,10 +21,11 @@ use Rattle.sftp_ties.specs.Places.{without}
 use Rattle.sftp_lane.specs.Rests.{AwaitsReplies, IsSmall}
 use Rattle.sftp_lane.specs.Holding.{MayGoOn}
 use Rattle.sftp_lane.specs.Tokens.{AreGrants, AreTickets, grants_with}
-use Rattle.sftp_lane.specs.Turning.{AllFit, Asks, HasAwaited, HoldsNamed, IsOpen, IsSafe, Settles, Turned, Begun, Replied, Unreplied, Waiting}
+use Rattle.sftp_lane.specs.Turning.{AllFit, AllInRange, Asks, HasAwaited, HoldsNamed, IsOpen, IsSafe, Settles, Turned, Begun, Replied, Unreplied, Waiting, Widening}
 use Rattle.sftp_lane.specs.declared.lane.Moved.{Moved}
 use Rattle.sftp_lane.specs.declared.lane.Moved.TheVariants as moved
 use Rattle.sftp_lane.proofs.Awaiting.{lanes_await}
+use Rattle.sftp_lane.proofs.Ranges.{lanes_in_range}
 use Rattle.sftp_lane.proofs.Rests.{turns_leave}
 use Rattle.sftp_lane.proofs.Turned.{lanes_may}
 use Rattle.sftp_lane.proofs.WentLaws.{went_few}
@@ -34,7 +35,7 @@ use Rattle.sftp_work.specs.Working.{Contents, Works, lane_in}
 use Rattle.sftp_work.proofs.CallsLaws.{call_within}
 use Rattle.sftp_work.proofs.ClosingLaws.{fewer_grants}
 use Rattle.sftp_work.proofs.Contents.{state_at}
-use Rattle.sftp_work.proofs.NotingLaws.{AtCall, at_call, current_at, there_at, within_states}
+use Rattle.sftp_work.proofs.NotingLaws.{AtCall, at_call, call_fits, current_at, there_at, within_states}
 
 -- ---- what a turn leaves of the lane
 
@@ -43,6 +44,7 @@ pub turned_same : (c : Call) (facts : Facts) (place : ℕ) (core new : Core) (v 
 turned_same c facts place core new v now m (Begun x) = x.ended
 turned_same c facts place core new v now m (Replied x) = x.ended
 turned_same c facts place core new v now m (Unreplied x) = x.ended
+turned_same c facts place core new v now m (Widening x) = x.ended
 turned_same c facts place core new v now m (Waiting x) = ap (λ (y : LaneValue). y.ended) x.same
 
 without_short : (gs : List Held) (k : ℕ) (g : Held) → slice_get gs k ≡ Some g → length (without k gs) ≤ length gs
@@ -72,6 +74,7 @@ turned_grants c facts place core new v now m (Replied x) =
     let more = one_more v.grants x.awaits x.spent.ticket x.reply in
     let same : length x.grants ≡ length (grants_with v.grants x.awaits x.spent.ticket x.reply) = ap length x.spent.now in omega (arith, short, more, same))
 turned_grants c facts place core new v now m (Unreplied x) = (let short = settled_short core new v.tickets now.tickets v.grants now.grants now.running place x.answer m x.settles in omega (arith, short))
+turned_grants c facts place core new v now m (Widening x) = (let short = settled_short core new v.tickets now.tickets v.grants now.grants now.running place x.answer m x.settles in omega (arith, short))
 turned_grants c facts place core new v now m (Waiting x) = (let same : length now.grants ≡ length v.grants = ap (λ (y : LaneValue). length y.grants) x.same in omega (arith, same))
 
 -- ---- the lane before it
@@ -81,6 +84,7 @@ pub record MayTurn (s : Setting) (c : Contents) (lane : ℕ) (call : Call) : Typ
   pub call_within : is_within call ≡ true
   pub goes : MayGoOn call s.facts c.core (lane_in c.states lane)
   pub replies : AwaitsReplies c.core (lane_in c.states lane)
+  pub range : AllInRange call s.facts c.core (lane_in c.states lane).tickets (lane_in c.states lane).running (lane_in c.states lane).site
 
 pub may_turn : (s : Setting) (c : Contents) (lane : ℕ) (call : Call) → Works s c → AtCall c lane call → MayTurn s c lane call
 may_turn s c lane call w a =
@@ -90,6 +94,7 @@ may_turn s c lane call w a =
       call_within = call_within c.calls lane a.state.ended a.calls call w.stands.ok a.lane_is a.call_is;
       goes = lanes_may s c.past c.core (lane_in c.states) [] lane call w.rest.between.tied there is;
       replies = lanes_await s c.past c.core (lane_in c.states) c.begun lane call w.rest there is;
+      range = lanes_in_range s c.past c.core (lane_in c.states) c.begun lane call w.rest there is (call_fits s c lane call w a) w.stands.fit;
     })
 
 -- ---- the turn that is to be noted
@@ -124,6 +129,7 @@ pub record MayHave (call : Call) (facts : Facts) (core : Core) (v : LaneValue) :
   pub ready : IsOpen core
   pub safe : IsSafe call facts v.running v.site
   pub fits : AllFit core v.tickets v.running v.site
+  pub range : AllInRange call facts core v.tickets v.running v.site
   pub awaits : HasAwaited v
   pub holds : HoldsNamed v
 
@@ -138,6 +144,7 @@ may_have s c lane call v w some value =
       ready = m.goes.ready;
       safe = subst (λ (f : Facts). IsSafe call f (lane_in c.states lane).running (lane_in c.states lane).site) (sym w.stands.facts) m.goes.safe;
       fits = m.replies.fits;
+      range = subst (λ (f : Facts). AllInRange call f c.core (lane_in c.states lane).tickets (lane_in c.states lane).running (lane_in c.states lane).site) (sym w.stands.facts) m.range;
       awaits = m.goes.awaits;
       holds = m.replies.holds;
     }))

@@ -38,6 +38,11 @@ returns-in-SetStat-clause-began c =
     begun_if _ _ _ _ _ _ _ (ap planned c.in-SetStat.is ∙ (λ i. plan.SetStat (sym c.as_slice-in-SetStat.ensures i) c.in-SetStat.size (sym c.mode_of.ensures i)))
     c.begin_set_stat.ensures.goes c.begin_set_stat.ensures.left c.begin_set_stat.ensures.sound c.begin_set_stat.ensures.pends
 
+pub returns-in-FsRead-clause-began : goal.returns-in-FsRead-clause-began
+returns-in-FsRead-clause-began c =
+    begun_if _ _ _ _ _ _ _ (ap planned c.in-FsRead.is ∙ ap (λ (p : List ℕ). plan.FsRead p c.in-FsRead.bound) (sym c.as_slice-in-FsRead.ensures))
+    c.begin_fs_read.ensures.goes c.begin_fs_read.ensures.left c.begin_fs_read.ensures.sound c.begin_fs_read.ensures.pends
+
 pub returns-in-FsWrite-clause-began : goal.returns-in-FsWrite-clause-began
 returns-in-FsWrite-clause-began c =
     begun_if _ _ _ _ _ _ _ (ap planned c.in-FsWrite.is ∙ (λ i. plan.FsWrite (sym c.as_slice-in-FsWrite.ensures i) (sym c.as_slice-in-FsWrite-2.ensures i)))

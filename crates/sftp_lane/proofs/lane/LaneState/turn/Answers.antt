@@ -1,17 +1,22 @@
 use Rattle.std.proofs.Common.{rules, ◌≡◌, ap, subst, sym, ◌∙◌, refl, ℕ, List, Option, Some, None}
-use Rattle.std.specs.Prelude.{slice_get}
+use Rattle.std.specs.Prelude.{IfOk, slice_get}
 use Rattle.sftp_model.specs.declared.reply.Reply.{Reply}
 use Rattle.sftp_model.specs.declared.slot.Site.{Site}
 use Rattle.sftp_plan.specs.declared.next.Next.{Next}
-use Rattle.sftp_plan.specs.Machines.{awaited}
-use Rattle.sftp_plan.specs.Sound.{Fits}
-use Rattle.sftp_plan.specs.Asking.{BeginsAsking, GoesOnAsking, opened_after}
+use Rattle.sftp_plan.specs.declared.next.Running.{Running}
+use Rattle.sftp_plan.specs.Machines.{after, awaited, bytes_of}
+use Rattle.sftp_plan.specs.Sound.{AsksWithin, Fits}
+use Rattle.sftp_plan.specs.Asking.{BeginsAsking, GoesOnAsking, HasGrant, WidensAsking, opened_after}
+use Rattle.sftp_plan.specs.Pending.{reads_under}
 use Rattle.sftp_ties.specs.Lanes.{Held, LaneValue, Ticketed, ticket_places}
 use Rattle.sftp_ties.specs.Places.{is_in}
 use Rattle.sftp_lane.specs.Tokens.{AreGrants, Spent}
-use Rattle.sftp_lane.specs.Turning.{MayAsk, Waiting, WentOn}
+use Rattle.sftp_core.specs.Core.{Core}
+use Rattle.sftp_history.specs.Calls.{planned}
+use Rattle.sftp_steps.specs.Rest.{opened_in}
+use Rattle.sftp_lane.specs.Turning.{MayAsk, RangesBy, Settles, SettlesMeanwhile, WentOn, Widened}
 use Rattle.sftp_lane.specs.declared.tokens.Tokens.{Tokens}
-use Rattle.sftp_lane.proofs.AskLaws.{held_after, held_first, held_on, may_ask, may_ask_on, turned_replied}
+use Rattle.sftp_lane.proofs.AskLaws.{held_after, held_first, held_on, may_ask, may_ask_more, may_ask_on, turned_meanwhile, turned_replied, turned_unreplied}
 use Rattle.sftp_lane.proofs.lane.LaneState.turn.Goals as goal
 
 pub settle-requires-clause-may : goal.settle-requires-clause-may
@@ -30,8 +35,8 @@ settle-requires-in_default-awaited-clause-may c =
     let grants : c.reserve-2.new.self.items ≡ v.grants = search rules in
     let was : v.running ≡ Some c.in-Some.running = search rules in
     let site : c.self.inside.site ≡ v.site = ap (λ (x : LaneValue). x.site) c.self.view_is in
-    let asks : GoesOnAsking (opened_after c.in-Some.running None) c.args.place v.site c.resume.new.site n = subst (λ (x : Site). GoesOnAsking (opened_after c.in-Some.running None) c.args.place x c.resume.new.site n) site c.in_ok-next-2.ensures.asks in
-    subst (λ (gs : List Held). MayAsk gs n) (sym grants) (may_ask_on _ c.args.place v.site c.resume.new.site v.grants n asks (held_on v c.in-Some.running was c.requires.holds))
+    let asks : GoesOnAsking (opened_after c.in-Some.running None) c.args.place (reads_under (Some c.in-Some.running)) v.site c.resume.new.site n = subst (λ (x : Site). GoesOnAsking (opened_after c.in-Some.running None) c.args.place (reads_under (Some c.in-Some.running)) x c.resume.new.site n) site c.in_ok-next-2.ensures.asks in
+    subst (λ (gs : List Held). MayAsk gs n) (sym grants) (may_ask_on _ c.args.place _ v.site c.resume.new.site v.grants n asks (held_on v c.in-Some.running was c.requires.holds))
 
 pub reply-requires-clause-awaited : goal.reply-requires-clause-awaited
 reply-requires-clause-awaited c =
@@ -40,36 +45,6 @@ reply-requires-clause-awaited c =
     let was : v.running ≡ Some c.in-Some.running = search rules in
     let looks : awaited c.in-Some.running v.site ≡ Some c.in-Some-awaited.awaited = search rules in
     ap (λ (ts : List Ticketed). is_in c.in-Some-awaited.awaited (ticket_places ts)) tickets ∙ c.requires.awaits c.in-Some.running c.in-Some-awaited.awaited was looks
-
-pub returns-in_default-reply-clause-turned : goal.returns-in_default-reply-clause-turned
-returns-in_default-reply-clause-turned c =
-    let v : LaneValue = c.args.self.now in
-    let tickets : c.reserve.new.self.items ≡ v.tickets = search rules in
-    let grants : c.reserve-2.new.self.items ≡ v.grants = search rules in
-    let was : v.running ≡ Some c.in-Some.running = search rules in
-    let looks : awaited c.in-Some.running v.site ≡ Some c.in-Some-awaited.awaited = search rules in
-    let site : c.self.inside.site ≡ v.site = ap (λ (x : LaneValue). x.site) c.self.view_is in
-    let ended : c.self.inside.ended ≡ v.ended = ap (λ (x : LaneValue). x.ended) c.self.view_is in
-    let m = c.reply.ensures.missing c.in_default-reply.is in
-    let stays = c.reply.ensures.waits c.in_default-reply.is in
-    Waiting (record {
-      running = c.in-Some.running;
-      k = m.0;
-      ticket = m.1.0;
-      was = was;
-      looks = looks ∙ ap (λ (n : ℕ). Some n) (sym m.1.1.1);
-      here = ap (λ (ts : List Ticketed). slice_get ts m.0) (sym tickets) ∙ m.1.1.0;
-      missing = m.1.1.2;
-      is = refl;
-      core = stays.0;
-      same = λ i. record {
-        running = sym was i;
-        site = site i;
-        tickets = (ap (λ (x : Tokens). x.tickets.items) stays.1 ∙ tickets) i;
-        grants = (ap (λ (x : Tokens). x.grants.items) stays.1 ∙ grants) i;
-        ended = ended i;
-      };
-    })
 
 pub resume-requires-2-clause-fits : goal.resume-requires-2-clause-fits
 resume-requires-2-clause-fits c =
@@ -97,10 +72,10 @@ settle-requires-2-clause-may c =
     let spent : Spent c.args.core.now c.reply.new.core v.tickets c.reply.new.self.tickets.items v.grants c.reply.new.self.grants.items c.in-Some-awaited.awaited c.in-Some-reply.reply =
     subst (λ (ts : List Ticketed). Spent c.args.core.now c.reply.new.core ts c.reply.new.self.tickets.items v.grants c.reply.new.self.grants.items c.in-Some-awaited.awaited c.in-Some-reply.reply) tickets
     (subst (λ (gs : List Held). Spent c.args.core.now c.reply.new.core c.reserve.new.self.items c.reply.new.self.tickets.items gs c.reply.new.self.grants.items c.in-Some-awaited.awaited c.in-Some-reply.reply) grants c.in-Some-reply.ensures.came) in
-    let asks : GoesOnAsking (opened_after c.in-Some.running (Some c.in-Some-reply.reply)) c.args.place v.site c.resume-2.new.site c.in_ok-next-3.next =
-    subst (λ (x : Site). GoesOnAsking (opened_after c.in-Some.running (Some c.in-Some-reply.reply)) c.args.place x c.resume-2.new.site c.in_ok-next-3.next) site c.in_ok-next-3.ensures.asks in
-    subst (λ (gs : List Held). MayAsk gs c.in_ok-next-3.next) (sym spent.now)
-    (may_ask_on _ _ _ _ _ c.in_ok-next-3.next asks
+    let asks : GoesOnAsking (opened_after c.in-Some.running (Some c.in-Some-reply.reply)) c.args.place (reads_under (Some c.in-Some.running)) v.site c.resume-2.new.site c.in_ok-next-4.next =
+    subst (λ (x : Site). GoesOnAsking (opened_after c.in-Some.running (Some c.in-Some-reply.reply)) c.args.place (reads_under (Some c.in-Some.running)) x c.resume-2.new.site c.in_ok-next-4.next) site c.in_ok-next-4.ensures.asks in
+    subst (λ (gs : List Held). MayAsk gs c.in_ok-next-4.next) (sym spent.now)
+    (may_ask_on _ _ _ _ _ _ c.in_ok-next-4.next asks
     (held_after v c.in-Some.running c.in-Some-reply.reply c.in-Some-awaited.awaited spent.ticket was looks c.requires.holds))
 
 pub returns-clause-turned : goal.returns-clause-turned
@@ -114,9 +89,84 @@ returns-clause-turned c =
     let spent : Spent c.args.core.now c.reply.new.core v.tickets c.reply.new.self.tickets.items v.grants c.reply.new.self.grants.items c.in-Some-awaited.awaited c.in-Some-reply.reply =
     subst (λ (ts : List Ticketed). Spent c.args.core.now c.reply.new.core ts c.reply.new.self.tickets.items v.grants c.reply.new.self.grants.items c.in-Some-awaited.awaited c.in-Some-reply.reply) tickets
     (subst (λ (gs : List Held). Spent c.args.core.now c.reply.new.core c.reserve.new.self.items c.reply.new.self.tickets.items gs c.reply.new.self.grants.items c.in-Some-awaited.awaited c.in-Some-reply.reply) grants c.in-Some-reply.ensures.came) in
-    let went : WentOn c.in-Some.running (Some c.in-Some-reply.reply) c.args.call.now c.args.facts.now c.args.place v.site c.resume-2.new.site c.in_ok-next-3.next =
-    subst (λ (x : Site). WentOn c.in-Some.running (Some c.in-Some-reply.reply) c.args.call.now c.args.facts.now c.args.place x c.resume-2.new.site c.in_ok-next-3.next) site c.in_ok-next-3.ensures.went in
-    let asks : GoesOnAsking (opened_after c.in-Some.running (Some c.in-Some-reply.reply)) c.args.place v.site c.resume-2.new.site c.in_ok-next-3.next =
-    subst (λ (x : Site). GoesOnAsking (opened_after c.in-Some.running (Some c.in-Some-reply.reply)) c.args.place x c.resume-2.new.site c.in_ok-next-3.next) site c.in_ok-next-3.ensures.asks in
-    turned_replied c.args.call.now c.args.facts.now c.args.place c.args.core.now c.reply.new.core c.settle-2.new.core v _ c.in-Some.running c.in-Some-awaited.awaited c.in-Some-reply.reply c.reply.new.self.tickets.items c.reply.new.self.grants.items c.in_ok-next-3.next c.settle-2.result
+    let went : WentOn c.in-Some.running (Some c.in-Some-reply.reply) c.args.call.now c.args.facts.now c.args.place v.site c.resume-2.new.site c.in_ok-next-4.next =
+    subst (λ (x : Site). WentOn c.in-Some.running (Some c.in-Some-reply.reply) c.args.call.now c.args.facts.now c.args.place x c.resume-2.new.site c.in_ok-next-4.next) site c.in_ok-next-4.ensures.went in
+    let asks : GoesOnAsking (opened_after c.in-Some.running (Some c.in-Some-reply.reply)) c.args.place (reads_under (Some c.in-Some.running)) v.site c.resume-2.new.site c.in_ok-next-4.next =
+    subst (λ (x : Site). GoesOnAsking (opened_after c.in-Some.running (Some c.in-Some-reply.reply)) c.args.place (reads_under (Some c.in-Some.running)) x c.resume-2.new.site c.in_ok-next-4.next) site c.in_ok-next-4.ensures.asks in
+    turned_replied c.args.call.now c.args.facts.now c.args.place c.args.core.now c.reply.new.core c.settle-2.new.core v _ c.in-Some.running c.in-Some-awaited.awaited c.in-Some-reply.reply c.reply.new.self.tickets.items c.reply.new.self.grants.items c.in_ok-next-4.next c.settle-2.result
     was looks spent went asks (ap (λ (x : LaneValue). x.ended) c.self.view_is) c.settle-2.ensures.settled
+
+pub settle-requires-in_default-awaited-clause-held : goal.settle-requires-in_default-awaited-clause-held
+settle-requires-in_default-awaited-clause-held c =
+    let grants : c.reserve-2.new.self.items ≡ c.args.self.now.grants = search rules in
+    subst (λ (gs : List Held). AreGrants c.args.core.now gs) (sym grants) c.requires.held
+
+pub returns-in_default-awaited-clause-turned : goal.returns-in_default-awaited-clause-turned
+returns-in_default-awaited-clause-turned c =
+    let v : LaneValue = c.args.self.now in
+    let n : Next = c.in_ok-next-2.next in
+    let r : Running = c.in-Some.running in
+    let tickets : c.reserve.new.self.items ≡ v.tickets = search rules in
+    let grants : c.reserve-2.new.self.items ≡ v.grants = search rules in
+    let was : v.running ≡ Some r = search rules in
+    let looks : awaited r v.site ≡ None = search rules in
+    let site : c.self.inside.site ≡ v.site = ap (λ (x : LaneValue). x.site) c.self.view_is in
+    let went : WentOn r None c.args.call.now c.args.facts.now c.args.place v.site c.resume.new.site n =
+    subst (λ (x : Site). WentOn r None c.args.call.now c.args.facts.now c.args.place x c.resume.new.site n) site c.in_ok-next-2.ensures.went in
+    let asks : GoesOnAsking (opened_after r None) c.args.place (reads_under (Some r)) v.site c.resume.new.site n =
+    subst (λ (x : Site). GoesOnAsking (opened_after r None) c.args.place (reads_under (Some r)) x c.resume.new.site n) site c.in_ok-next-2.ensures.asks in
+    let to = c.settle-in_default-awaited in
+    let settles : IfOk to.result (λ m. Settles c.args.core.now to.new.core v.tickets to.new.tokens.tickets.items v.grants to.new.tokens.grants.items to.new.running c.args.place n m) =
+    subst (λ (ts : List Ticketed). IfOk to.result (λ m. Settles c.args.core.now to.new.core ts to.new.tokens.tickets.items v.grants to.new.tokens.grants.items to.new.running c.args.place n m)) tickets
+    (subst (λ (gs : List Held). IfOk to.result (λ m. Settles c.args.core.now to.new.core c.reserve.new.self.items to.new.tokens.tickets.items gs to.new.tokens.grants.items to.new.running c.args.place n m)) grants to.ensures.settled) in
+    turned_unreplied c.args.call.now c.args.facts.now c.args.place c.args.core.now to.new.core v _ r n to.result was looks went asks (ap (λ (x : LaneValue). x.ended) c.self.view_is) settles
+
+pub settle_meanwhile-requires-clause-may : goal.settle_meanwhile-requires-clause-may
+settle_meanwhile-requires-clause-may c =
+    let v : LaneValue = c.args.self.now in
+    let n : Next = c.in_ok-next-3.next in
+    let r : Running = c.in-Some.running in
+    let grants : c.reserve-2.new.self.items ≡ v.grants = search rules in
+    let was : v.running ≡ Some r = search rules in
+    let site : c.self.inside.site ≡ v.site = ap (λ (x : LaneValue). x.site) c.self.view_is in
+    let stays = c.reply.ensures.waits c.in_default-reply.is in
+    let asks : WidensAsking r c.args.place v.site n = subst (λ (x : Site). WidensAsking r c.args.place x n) site c.in_ok-next-3.ensures.asks in
+    subst (λ (gs : List Held). MayAsk gs n) (sym (ap (λ (x : Tokens). x.grants.items) stays.1 ∙ grants))
+    (may_ask_more r c.args.place v.site v.grants n asks (λ g has. c.requires.holds g (subst (λ (o : Option Running). HasGrant v.site (opened_in o) g) (sym was) has)))
+
+pub returns-in_default-reply-clause-turned : goal.returns-in_default-reply-clause-turned
+returns-in_default-reply-clause-turned c =
+    let v : LaneValue = c.args.self.now in
+    let n : Next = c.in_ok-next-3.next in
+    let r : Running = c.in-Some.running in
+    let tickets : c.reserve.new.self.items ≡ v.tickets = search rules in
+    let grants : c.reserve-2.new.self.items ≡ v.grants = search rules in
+    let was : v.running ≡ Some r = search rules in
+    let looks : awaited r v.site ≡ Some c.in-Some-awaited.awaited = search rules in
+    let site : c.self.inside.site ≡ v.site = ap (λ (x : LaneValue). x.site) c.self.view_is in
+    let m = c.reply.ensures.missing c.in_default-reply.is in
+    let stays = c.reply.ensures.waits c.in_default-reply.is in
+    let ran : Widened r c.args.call.now c.args.facts.now c.args.place v.site n = subst (λ (x : Site). Widened r c.args.call.now c.args.facts.now c.args.place x n) site c.in_ok-next-3.ensures.widened in
+    let asks : WidensAsking r c.args.place v.site n = subst (λ (x : Site). WidensAsking r c.args.place x n) site c.in_ok-next-3.ensures.asks in
+    let to = c.settle_meanwhile in
+    let settles : IfOk to.result (λ y. SettlesMeanwhile c.args.core.now to.new.core v.tickets to.new.tokens.tickets.items v.grants to.new.tokens.grants.items to.new.running c.args.place n y) =
+    subst (λ (x : Core). IfOk to.result (λ y. SettlesMeanwhile x to.new.core v.tickets to.new.tokens.tickets.items v.grants to.new.tokens.grants.items to.new.running c.args.place n y)) stays.0
+    (subst (λ (ts : List Ticketed). IfOk to.result (λ y. SettlesMeanwhile c.reply.new.core to.new.core ts to.new.tokens.tickets.items v.grants to.new.tokens.grants.items to.new.running c.args.place n y)) (ap (λ (x : Tokens). x.tickets.items) stays.1 ∙ tickets)
+    (subst (λ (gs : List Held). IfOk to.result (λ y. SettlesMeanwhile c.reply.new.core to.new.core c.reply.new.self.tickets.items to.new.tokens.tickets.items gs to.new.tokens.grants.items to.new.running c.args.place n y)) (ap (λ (x : Tokens). x.grants.items) stays.1 ∙ grants)
+    to.ensures.settled)) in
+    turned_meanwhile c.args.call.now c.args.facts.now c.args.place c.args.core.now to.new.core v _ r m.0 m.1.0 n to.result was (looks ∙ ap (λ (k : ℕ). Some k) (sym m.1.1.1))
+    (ap (λ (ts : List Ticketed). slice_get ts m.0) (sym tickets) ∙ m.1.1.0) m.1.1.2 ran asks site (ap (λ (x : LaneValue). x.ended) c.self.view_is) settles
+
+pub resume-requires-2-clause-range : goal.resume-requires-2-clause-range
+resume-requires-2-clause-range c =
+    let v : LaneValue = c.args.self.now in
+    let r : Running = c.in-Some.running in
+    let bytes : List ℕ = bytes_of (planned c.args.call.now) in
+    let tickets : c.reserve.new.self.items ≡ v.tickets = search rules in
+    let was : v.running ≡ Some r = search rules in
+    let looks : awaited r v.site ≡ Some c.in-Some-awaited.awaited = search rules in
+    let site : c.self.inside.site ≡ v.site = ap (λ (x : LaneValue). x.site) c.self.view_is in
+    let spent = c.in-Some-reply.ensures.came in
+    subst (λ (x : Site). AsksWithin c.args.facts.now (after r bytes x c.args.facts.now (Some c.in-Some-reply.reply))) (sym site)
+    (subst (λ (o : Option Reply). RangesBy r bytes v.site c.args.facts.now o) spent.came
+    (c.requires.range.some spent.k (record { place = c.in-Some-awaited.awaited; ticket = spent.ticket }) r (ap (λ (ts : List Ticketed). slice_get ts spent.k) (sym tickets) ∙ spent.here) was looks))

@@ -41,6 +41,12 @@ turn-requires-clause-fits c =
     let o = c.requires.opened in
     (may_have o.0 (contents_of c.args.self.now) c.args.lane c.in-Some.call.now c.index_mut-state.result.now o.1 some c.index_mut-state.ensures.value).fits
 
+pub turn-requires-clause-range : goal.turn-requires-clause-range
+turn-requires-clause-range c =
+    let some : call_in c.args.self.now.calls c.args.self.now.states.items c.args.lane ≡ Some c.in-Some.call.now = search rules in
+    let o = c.requires.opened in
+    (may_have o.0 (contents_of c.args.self.now) c.args.lane c.in-Some.call.now c.index_mut-state.result.now o.1 some c.index_mut-state.ensures.value).range
+
 pub turn-requires-clause-awaits : goal.turn-requires-clause-awaits
 turn-requires-clause-awaits c =
     let some : call_in c.args.self.now.calls c.args.self.now.states.items c.args.lane ≡ Some c.in-Some.call.now = search rules in
