@@ -32,12 +32,14 @@ const REFUSED: &[(&str, u64, Reason)] = &[
     ("file 6 61", 1, Reason::Hex),
     ("file 61 6g", 1, Reason::Hex),
     ("lane\nopen 0 r --", 2, Reason::Hex),
-    ("option read_window x", 1, Reason::Mode),
+    ("option no_such x", 1, Reason::Mode),
     ("server ext limits", 1, Reason::Mode),
     ("server foo 1 2 3", 1, Reason::Mode),
     ("lane\nopen 0 rr 61", 2, Reason::Mode),
     ("option max_pending_requests 0", 1, Reason::Range),
     ("option max_pending_requests 65536", 1, Reason::Range),
+    ("option read_window 0", 1, Reason::Range),
+    ("option read_window 65", 1, Reason::Range),
     ("pick 4294967296", 1, Reason::Range),
     (
         "pick 9999999999999999999999999999999999999999",
@@ -47,6 +49,7 @@ const REFUSED: &[(&str, u64, Reason)] = &[
     ("server limits 0 0 0 18446744073709551616", 1, Reason::Range),
     ("choice 1 0", 1, Reason::Range),
     ("lane\nopen 16 rr 6", 2, Reason::Range),
+    ("lane\nfs_read 61 0", 2, Reason::Range),
     (
         "option max_read_len 1\noption max_read_len 2",
         2,
@@ -102,6 +105,7 @@ option tokio_compat_file_write_limit 16777216
 option max_read_len 007
 option max_write_len 4294967295
 option flush_interval 0
+option read_window 64
 
 server ext posix-rename
 server ext hardlink
@@ -138,7 +142,8 @@ fn has_options(script: &Script) -> bool {
         .tokio_compat_file_write_limit(16777216)
         .max_read_len(7)
         .max_write_len(4294967295)
-        .flush_interval(0);
+        .flush_interval(0)
+        .read_window(64);
     script.options == options
 }
 
