@@ -86,8 +86,9 @@ def whole_up(path):
 
 
 def whole_down(path):
-    """A file that is read to its end: one READ is in flight at a time."""
-    return "\n".join(["lane", f"open 0 r {digits(path)}", f"read_all 0 {LARGE_DOWN}", "close 0"]) + "\n"
+    """A file that is read to its end: 64 READs are in flight at once, in as many rounds as READs of 255 KiB want."""
+    lines = ["option read_window 64", "lane", f"fs_read {digits(path)} {LARGE_DOWN}", "step 0", "flush", "take"]
+    return "\n".join(lines + (["step 0"] * 64 + ["flush"] + ["take"] * 64) * (LARGE_DOWN // 261120 // 64 + 2)) + "\n"
 
 
 def measure(command, text):

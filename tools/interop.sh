@@ -287,10 +287,12 @@ for size in 0 1 255 262144 8000000; do
     head -c $size /dev/urandom >"$room/source"
     content=$(hex <"$room/source")
     {
+        echo 'option read_window 64'
         echo lane
         echo "fs_write $(at up/whole) ${content:--}"
         echo "open 0 r $(at up/whole)"
         echo "read_all 0 $size"
+        echo "fs_read $(at up/whole) 1000"
         echo "stat $(at up/whole)"
         echo lane
         echo "open 0 wc $(at up/parts)"
@@ -299,11 +301,27 @@ for size in 0 1 255 262144 8000000; do
         echo "close 0"
     } >"$room/script"
     run
-    printf 'lane 0 call 2 read %s\n' "${content:--}" >"$room/wanted"
-    grep '^lane 0 call 2 ' "$room/outcomes" >"$room/got"
+    printf 'lane 0 call %s\n' "2 read ${content:--}" "3 read ${content:--}" >"$room/wanted"
+    grep '^lane 0 call [23] ' "$room/outcomes" >"$room/got"
     [ $status -eq 0 ] && cmp "$room/wanted" "$room/got" && cmp "$room/source" "$room/up/whole" && [ "$(cat "$room/up/parts")" = abcd ]
     tell "a file of $size bytes" $?
 done
+
+# ---- a file comes down by a whole read with 64 READs under way at once
+
+head -c 8000000 /dev/urandom >"$room/up/window"
+{
+    printf 'option read_window 64\nlane\nfs_read %s 1000\nstep 0\nflush\ntake\n' "$(at up/window)"
+    for round in 1 2 3 4; do
+        yes 'step 0' | head -n 64
+        echo flush
+        yes take | head -n 64
+    done
+} >"$room/script"
+run
+printf 'lane 0 call 0 read %s\n' "$(hex <"$room/up/window")" | cmp - "$room/outcomes" && [ $status -eq 0 ] &&
+    [ "$(grep -n '^> read' "$room/text" | sed -n 2p | cut -d: -f1)" -lt "$(grep -n '^< data' "$room/text" | sed -n 1p | cut -d: -f1)" ]
+tell 'a whole read with many READs under way' $?
 
 # ---- buffered files go up through a window of requests, and come down in more reads than requests
 
