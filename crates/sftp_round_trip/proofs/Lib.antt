@@ -1,0 +1,5 @@
+pub mod WholeMoves
+pub mod LaneCalls
+pub mod CallRequests
+pub mod CallEnds
+pub mod RoundTripLaws

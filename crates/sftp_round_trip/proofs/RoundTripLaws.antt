@@ -1,0 +1,184 @@
+-- A lane whose calls are whole writes and whole reads reads what it wrote, and what was there, in a run over a server of files in memory.
+use Rattle.std.proofs.Common.{◌≡◌, ◌≤◌, ℕ, Bool, true, false, List, [], ◌∷◌, Option, Some, None, if◌then◌else◌, refl, ap, sym, ◌∙◌, subst, arith}
+use Rattle.sftp_model.specs.Lengths.{session_len}
+use Rattle.sftp_model.specs.declared.error.Error.TheVariants as error
+use Rattle.sftp_model.specs.declared.error.IoKind.TheVariants as kind
+use Rattle.sftp_model.specs.declared.outcome.Outcome.{Outcome}
+use Rattle.sftp_model.specs.declared.outcome.Outcome.TheVariants as outcome
+use Rattle.sftp_model.specs.declared.reply.Reply.{Reply}
+use Rattle.sftp_model.specs.declared.request.Request.{Request}
+use Rattle.sftp_model.specs.declared.slot.Move.{Move}
+use Rattle.sftp_model.specs.declared.slot.Move.TheVariants.{Ask, Done}
+use Rattle.sftp_model.specs.declared.slot.Site.{Site}
+use Rattle.sftp_tree.specs.Changes.{IsWellFormed}
+use Rattle.sftp_tree.specs.Components.{Name, components}
+use Rattle.sftp_tree.specs.FileTree.{FileTree, node_at}
+use Rattle.sftp_tree.proofs.FirstFiles.{first_well_formed}
+use Rattle.sftp_calls.specs.CallPlans as plan
+use Rattle.sftp_calls.specs.FilePlans.{open_request}
+use Rattle.sftp_calls.specs.Moves.{Own, ask_path, is_too_long, refuses}
+use Rattle.sftp_calls.specs.PathPlans.{from_directory}
+use Rattle.sftp_calls.specs.WholePlans.{to_replace}
+use Rattle.sftp_calls.specs.WindowPlans.{to_read}
+use Rattle.sftp_driver.specs.Session.{Given, IsFixed}
+use Rattle.sftp_history.specs.declared.call.Call.{Call}
+use Rattle.sftp_history.specs.declared.call.Call.TheVariants as call
+use Rattle.sftp_history.specs.declared.entry.Entry.{Entry}
+use Rattle.sftp_history.specs.declared.turn.Turn.{Turn}
+use Rattle.sftp_history.specs.Calls.{Setting, call_at, lane_calls, site_of}
+use Rattle.sftp_history.specs.Journals.{IsJournal}
+use Rattle.sftp_history.specs.Readings.{Asked, answer, asked_at, own}
+use Rattle.sftp_history.specs.Runs.{IsRun}
+use Rattle.sftp_history.proofs.OverLaws.{runs_are_journals}
+use Rattle.sftp_map_server.specs.Serving.{Server}
+use Rattle.sftp_read_back.specs.CallsAmong.{Gives, HasEnded, HasNoFile, refusal_of}
+use Rattle.sftp_read_back.specs.InJournals.{IsOfLane, KeepsOff, LaneFirst, LaneInTurn, PassesAt, is_of_call, is_open_of}
+use Rattle.sftp_read_back.specs.Steps.{HasBytes, RefuseNone}
+use Rattle.sftp_read_back.proofs.MoveWords.{is_all_done, is_done, outcome_of}
+use Rattle.sftp_read_back.proofs.RunBackLaws.{run_back, run_reads, run_refused}
+use Rattle.sftp_served.specs.Unopened.{IsServedRun, IsUnopened}
+use Rattle.sftp_round_trip.specs.RoundTrips.{AreWhole, HasRead, HasWritten, IsOneLanes, NoneNames, NoneWrites, WritesWhole, passes_length}
+use Rattle.sftp_round_trip.proofs.CallEnds.{EndedByPlan, call_ended}
+use Rattle.sftp_round_trip.proofs.CallRequests.{IsAsked, asked_whole, avoids_plain, opens_none, passes_so}
+use Rattle.sftp_round_trip.proofs.LaneCalls.{plain_path}
+
+-- ---- the setting and the server
+
+some_len : (most : Option ℕ) (len : ℕ) → 1 ≤ session_len most len
+some_len None len = omega arith
+some_len (Some most) len = omega arith
+
+-- a session's READs ask for a byte or more
+reads_some : (given : Given) (version : Option Reply) (s : Setting) (past : List Entry) → IsFixed given version past s → 1 ≤ s.facts.read_len
+reads_some given version s past f = subst (λ (x : Setting). 1 ≤ x.facts.read_len) (sym f.1.1) (some_len given.options.max_read_len _)
+
+begins_well : (first : Server) → IsUnopened first → IsWellFormed first.desk.machine.tree
+begins_well first u = subst (λ (x : Server). IsWellFormed x.desk.machine.tree) (sym u.is) (first_well_formed u.files u.dirs u.may)
+
+-- ---- a call that made no request
+
+-- a whole write that is done made one
+first_of_write : (path bytes : List ℕ) (site left : Site) → ask_path (open_request to_replace (from_directory site path)) site ≡ Done outcome.Done left → ⊥
+first_of_write path bytes site left e = by_test (is_too_long (open_request to_replace (from_directory site path))) e
+  where
+    by_test : (b : Bool) → (if b then refuses kind.PathTooLong site else Ask (open_request to_replace (from_directory site path))) ≡ Done outcome.Done left → ⊥
+    by_test true e = (let both : false ≡ true = ap (λ (w : Move). is_all_done (outcome_of w)) e in cc)
+    by_test false e = (let both : false ≡ true = ap is_done e in cc)
+
+-- a whole read by a path that fits a frame made one
+first_of_read : (path : List ℕ) (site left : Site) (o : Outcome) → is_too_long (open_request to_read (from_directory site path)) ≡ false → ask_path (open_request to_read (from_directory site path)) site ≡ Done o left → ⊥
+first_of_read path site left o short e = by_test (is_too_long (open_request to_read (from_directory site path))) short e
+  where
+    by_test : (b : Bool) → b ≡ false → (if b then refuses kind.PathTooLong site else Ask (open_request to_read (from_directory site path))) ≡ Done o left → ⊥
+    by_test true t e = cc
+    by_test false t e = (let both : false ≡ true = ap is_done e in cc)
+
+-- ---- the calls in the journal
+
+-- a call with its first request, as the laws of runs have it
+record Did (c : plan.Call) (s : Setting) (past : List Entry) (name : Name) (lane k : ℕ) (path : List ℕ) (ended : Outcome) : Type 0 where
+  site : Site
+  first : ℕ × Request
+  later : Own
+  asks : own past lane k ≡ first ∷ later
+  denotes : components (from_directory site path) ≡ name
+  did : HasEnded c site s.facts (first ∷ later) (answer past) ended
+
+write_did : (s : Setting) (past : List Entry) (name : Name) (lane writer reader : ℕ) (bytes : List ℕ) → IsJournal s past → IsOneLanes s past name lane → (w : HasWritten s past name lane writer reader bytes)
+    → Did (plan.FsWrite w.path bytes) s past name lane writer w.path outcome.Done
+write_did s past name lane writer reader bytes j one w = by_own (own past lane writer) refl e.did
+  where
+    e : EndedByPlan s past lane writer (call.FsWrite w.path bytes) outcome.Done
+    e = call_ended s past lane writer (call.FsWrite w.path bytes) outcome.Done j w.is (λ same. cc) w.ends
+
+    by_own : (o : Own) → own past lane writer ≡ o → HasEnded (plan.FsWrite w.path bytes) (site_of s e.before lane) s.facts o (answer past) outcome.Done → Did (plan.FsWrite w.path bytes) s past name lane writer w.path outcome.Done
+    by_own [] is did = absurd (first_of_write w.path bytes (site_of s e.before lane) did.left did.ends)
+    by_own (first ∷ later) is did =
+        record { site = site_of s e.before lane; first = first; later = later; asks = is; denotes = ap components (plain_path s e.before lane w.path (e.whole one.whole)) ∙ w.denotes; did = did }
+
+read_did : (s : Setting) (past : List Entry) (name : Name) (lane reader : ℕ) (ended : Outcome) → IsJournal s past → IsOneLanes s past name lane → (r : HasRead s past name lane reader ended)
+    → Did (plan.FsRead r.path r.bound) s past name lane reader r.path ended
+read_did s past name lane reader ended j one r = by_own (own past lane reader) refl e.did
+  where
+    e : EndedByPlan s past lane reader (call.FsRead r.path r.bound) ended
+    e = call_ended s past lane reader (call.FsRead r.path r.bound) ended j r.is r.uncancelled r.ends
+
+    plain : from_directory (site_of s e.before lane) r.path ≡ r.path
+    plain = plain_path s e.before lane r.path (e.whole one.whole)
+
+    by_own : (o : Own) → own past lane reader ≡ o → HasEnded (plan.FsRead r.path r.bound) (site_of s e.before lane) s.facts o (answer past) ended → Did (plan.FsRead r.path r.bound) s past name lane reader r.path ended
+    by_own [] is did = absurd (first_of_read r.path (site_of s e.before lane) did.left ended (ap passes_length plain ∙ r.short) did.ends)
+    by_own (first ∷ later) is did = record { site = site_of s e.before lane; first = first; later = later; asks = is; denotes = ap components plain ∙ r.denotes; did = did }
+
+-- ---- what the lane's requests have to do with the name
+
+of_lane : (s : Setting) (past : List Entry) (name : Name) (lane : ℕ) → IsJournal s past → IsOneLanes s past name lane → IsOfLane past name lane
+of_lane s past name lane j one =
+    record {
+      others = one.others;
+      by_opens = λ place k a is mine plain. (let x : IsAsked s past lane k place a.request = asked_whole s past lane k place a j one.whole is mine in avoids_plain s past name place x.c a.request x.asks plain);
+    }
+
+-- a lane whose whole writes and whole reads are of other names keeps off this one
+pub keeps_off : (s : Setting) (turns : List Turn) (past : List Entry) (name : Name) (lane : ℕ) → IsRun s turns past → AreWhole (lane_calls s past lane) → NoneNames s past name lane → KeepsOff past name lane
+keeps_off s turns past name lane run whole none place k a is mine =
+    let x : IsAsked s past lane k place a.request = asked_whole s past lane k place a (runs_are_journals s turns past run) whole is mine in
+    let plain : is_open_of name a.request ≡ false = opens_none s past name place x.c a.request x.asks (none k x.c x.is) in (avoids_plain s past name place x.c a.request x.asks plain, plain)
+
+-- what a call asks that doesn't write the name passes it by
+call_passes : (s : Setting) (past : List Entry) (name : Name) (lane k place : ℕ) → IsJournal s past → IsOneLanes s past name lane → is_of_call past (lane, k) place ≡ true → ((c : Call) → call_at s past lane k ≡ Some c → WritesWhole name c → ⊥)
+    → PassesAt s past name place
+call_passes s past name lane k place j one mine spares = by_asked (asked_at past place) refl
+  where
+    by_asked : (x : Option Asked) → asked_at past place ≡ x → PassesAt s past name place
+    by_asked None none = record { avoids = λ b at. absurd (let both : None ≡ Some b = sym none ∙ at in cc); writes = λ b h grant at w uses. absurd (let both : None ≡ Some b = sym none ∙ at in cc) }
+    by_asked (Some a) is =
+        let x : IsAsked s past lane k place a.request = asked_whole s past lane k place a j one.whole is mine in passes_so s past name lane k place a is x (spares x.c x.is)
+
+-- ---- the laws
+
+pub reads_back : (given : Given) (version : Option Reply) (s : Setting) (turns : List Turn) (past : List Entry) (first : Server) (left : FileTree) (name : Name) (lane writer reader : ℕ) (bytes : List ℕ) (ended : Outcome)
+    → IsRun s turns past → IsFixed given version past s → IsUnopened first → IsServedRun first past left → RefuseNone first.desk.choices → IsOneLanes s past name lane
+    → HasWritten s past name lane writer reader bytes → HasRead s past name lane reader ended → Gives ended bytes
+reads_back given version s turns past first left name lane writer reader bytes ended run fixed unopened served none one w r =
+    let j : IsJournal s past = runs_are_journals s turns past run in
+    let wrote = write_did s past name lane writer reader bytes j one w in
+    let read = read_did s past name lane reader ended j one r in
+    let in_turn : LaneInTurn s past name lane writer wrote.first wrote.later reader read.first read.later =
+    record {
+      lanes = of_lane s past name lane j one;
+      asks = wrote.asks;
+      asks_then = read.asks;
+      in_turn = w.earlier;
+      between = λ place k above below mine. call_passes s past name lane k place j one mine (λ c is. w.last k c above below is);
+    }
+    in
+    run_back s first.desk.machine.config first.desk.choices first.desk.machine.tree left turns past name lane writer reader wrote.first read.first wrote.later read.later w.path r.path bytes r.bound wrote.site read.site s.facts s.facts ended run served.serves none
+    (begins_well first unopened) in_turn wrote.denotes wrote.did read.denotes (reads_some given version s past fixed) read.did
+
+lane_reads_first : (s : Setting) (past : List Entry) (name : Name) (lane reader : ℕ) (ended : Outcome) (j : IsJournal s past) (one : IsOneLanes s past name lane) (r : HasRead s past name lane reader ended) → NoneWrites s past name lane reader
+    → (d : Did (plan.FsRead r.path r.bound) s past name lane reader r.path ended) → LaneFirst s past name lane reader d.first d.later
+lane_reads_first s past name lane reader ended j one r before d =
+    record {
+      lanes = of_lane s past name lane j one;
+      asks = d.asks;
+      earlier = λ place k below mine. call_passes s past name lane k place j one mine (λ c is. before k c below is);
+    }
+
+pub reads_first : (given : Given) (version : Option Reply) (s : Setting) (turns : List Turn) (past : List Entry) (first : Server) (left : FileTree) (name : Name) (lane reader : ℕ) (bytes : List ℕ) (ended : Outcome)
+    → IsRun s turns past → IsFixed given version past s → IsUnopened first → IsServedRun first past left → RefuseNone first.desk.choices → IsOneLanes s past name lane → NoneWrites s past name lane reader
+    → HasBytes first.desk.machine.tree name bytes → HasRead s past name lane reader ended → Gives ended bytes
+reads_first given version s turns past first left name lane reader bytes ended run fixed unopened served none one before has r =
+    let j : IsJournal s past = runs_are_journals s turns past run in
+    let read = read_did s past name lane reader ended j one r in
+    run_reads s first.desk.machine.config first.desk.choices first.desk.machine.tree left turns past name lane reader read.first read.later r.path bytes r.bound read.site s.facts ended run served.serves none (begins_well first unopened) has
+    (lane_reads_first s past name lane reader ended j one r before read) read.denotes (reads_some given version s past fixed) read.did
+
+pub refused_first : (given : Given) (version : Option Reply) (s : Setting) (turns : List Turn) (past : List Entry) (first : Server) (left : FileTree) (name : Name) (lane reader : ℕ) (ended : Outcome)
+    → IsRun s turns past → IsFixed given version past s → IsUnopened first → IsServedRun first past left → RefuseNone first.desk.choices → IsOneLanes s past name lane → NoneWrites s past name lane reader
+    → HasNoFile (node_at first.desk.machine.tree name) → HasRead s past name lane reader ended → ended ≡ outcome.Refused (error.SftpError (refusal_of (node_at first.desk.machine.tree name)) [] [])
+refused_first given version s turns past first left name lane reader ended run fixed unopened served none one before has r =
+    let j : IsJournal s past = runs_are_journals s turns past run in
+    let read = read_did s past name lane reader ended j one r in
+    run_refused s first.desk.machine.config first.desk.choices first.desk.machine.tree left turns past name lane reader read.first read.later r.path r.bound read.site s.facts ended run served.serves none (begins_well first unopened) has
+    (lane_reads_first s past name lane reader ended j one r before read) read.denotes (reads_some given version s past fixed) read.did

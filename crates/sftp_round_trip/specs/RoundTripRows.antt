@@ -1,0 +1,361 @@
+-- Worked whole runs in which a lane writes a file as a whole and reads it, and in which one reads where there is none; and beside them what the laws don't speak of.
+use Rattle.std.specs.Prelude.{◌≡◌, ◌≢◌, ◌-◌, ℕ, zero, suc, ◌==◌, true, false, List, [], ◌∷◌, codes, drop, Option, Some, None, refl}
+use Rattle.std.proofs.Common.{sym, arith, inl, inr, subst}
+use Rattle.std.proofs.lemmas.Bool.{and_parts, eqb-true}
+use Rattle.ssh_encoding.specs.Writing.{string, uint32}
+use Rattle.sftp_core.specs.Options.{default_options}
+use Rattle.sftp_model.specs.Frames.{attributes, request_body}
+use Rattle.sftp_model.specs.declared.error.Error.TheVariants as error
+use Rattle.sftp_model.specs.declared.outcome.Outcome.{Outcome}
+use Rattle.sftp_model.specs.declared.outcome.Outcome.TheVariants as outcome
+use Rattle.sftp_model.specs.declared.reply.Reply.TheVariants as reply
+use Rattle.sftp_model.specs.declared.request.Request.{Request}
+use Rattle.sftp_model.specs.declared.request.Request.TheVariants as request
+use Rattle.sftp_tree.specs.Components.{components}
+use Rattle.sftp_tree.specs.FileTree.{FileTree, node_at}
+use Rattle.sftp_tree.specs.RowWords.{config}
+use Rattle.sftp_tree.specs.declared.node.Node.TheVariants as node
+use Rattle.sftp_calls.specs.FilePlans.{open_request}
+use Rattle.sftp_calls.specs.WholePlans.{to_replace}
+use Rattle.sftp_driver.specs.Session.{Given, IsFixed}
+use Rattle.sftp_history.specs.declared.call.Call.TheVariants as call
+use Rattle.sftp_history.specs.declared.entry.Entry.{Entry}
+use Rattle.sftp_history.specs.declared.entry.Entry.TheVariants as entry
+use Rattle.sftp_history.specs.declared.event.Owner.TheVariants as owner
+use Rattle.sftp_history.specs.Calls.{Setting}
+use Rattle.sftp_history.specs.Readings.{Asked, answer, asked_at}
+use Rattle.sftp_history.specs.RowWords.{close, end, ok, open_of, refusal, send, setting_with, submit, take}
+use Rattle.sftp_history.specs.Runs.{IsRun, TurnsTo, round_of}
+use Rattle.sftp_history.specs.Served.{IsNumbered}
+use Rattle.sftp_history.specs.Settings.{greeting}
+use Rattle.sftp_history.specs.Turns.{Stage}
+use Rattle.sftp_history.proofs.RequestLaws.{answer_beyond, asked_beyond}
+use Rattle.sftp_map_server.specs.Serving.{Server, first_desk, opened}
+use Rattle.sftp_read_back.specs.CallsAmong.{HasNoFile}
+use Rattle.sftp_read_back.specs.InJournals.{KeepsOff, is_open_of}
+use Rattle.sftp_read_back.specs.ReadBackRows.{apart, name}
+use Rattle.sftp_read_back.specs.Sparing.{Avoids}
+use Rattle.sftp_served.specs.Unopened.{IsServedRun, IsUnopened}
+use Rattle.sftp_round_trip.specs.RoundTrips.{HasRead, HasWritten, IsOneLanes, NamesWhole, NoneNames, NoneWrites}
+
+-- ---- the run
+
+-- a lane writes a and reads it, and another one reads b
+abbrev pub writes_then_reads : Setting
+writes_then_reads = setting_with ((call.FsWrite (codes "a") (codes "hi") ∷ call.FsRead (codes "a") 4 ∷ []) ∷ (call.FsRead (codes "b") 4 ∷ []) ∷ [])
+
+abbrev pub given : Given
+given = record { lanes = writes_then_reads.lanes; options = default_options }
+
+-- the handles of the first two grants
+abbrev first_handle : List ℕ
+first_handle = 0 ∷ 0 ∷ 0 ∷ 0 ∷ []
+
+abbrev second_handle : List ℕ
+second_handle = 0 ∷ 0 ∷ 0 ∷ 1 ∷ []
+
+-- what a whole read ends with where there is no file
+abbrev pub no_such_file : Outcome
+no_such_file = outcome.Refused (error.SftpError 2 [] [])
+
+-- Each request is sent at once and answered before the next, and there is no b.
+abbrev pub written_then_read : List Entry
+written_then_read =
+    entry.LetGo 1
+    ∷ entry.LetGo 0
+    ∷ end 1 0 no_such_file
+    ∷ take 0 (refusal 2)
+    ∷ send
+    ∷ submit 1 0 0 (open_of (codes "b"))
+    ∷ take 0 ok
+    ∷ send
+    ∷ close 0 second_handle
+    ∷ end 0 1 (outcome.Bytes (codes "hi"))
+    ∷ take 0 (refusal 1)
+    ∷ send
+    ∷ submit 0 1 0 (request.Read second_handle 2 32768)
+    ∷ take 0 (reply.Content (codes "hi"))
+    ∷ send
+    ∷ submit 0 1 0 (request.Read second_handle 0 32768)
+    ∷ take 0 (reply.Handle second_handle)
+    ∷ send
+    ∷ submit 0 1 0 (open_of (codes "a"))
+    ∷ take 0 ok
+    ∷ send
+    ∷ close 0 first_handle
+    ∷ end 0 0 outcome.Done
+    ∷ take 0 ok
+    ∷ send
+    ∷ submit 0 0 0 (request.Write first_handle 0 (codes "hi"))
+    ∷ take 0 (reply.Handle first_handle)
+    ∷ send
+    ∷ submit 0 0 0 (open_request to_replace (codes "a"))
+    ∷ []
+
+-- the journal after so many entries
+abbrev so_far : ℕ → List Entry
+so_far n = drop (29 - n) written_then_read
+
+abbrev at : ℕ → List ℕ → Stage
+at n begun = record { past = so_far n; begun = begun }
+
+round_1 : TurnsTo writes_then_reads (round_of 0) (at 0 []) (at 3 (0 ∷ []))
+unfolding request_body attributes string uint32
+round_1 = (at 1 (0 ∷ []), ((refl, (0, ((omega arith, refl), (so_far 1, ((inl refl, refl), refl))))), (at 2 (0 ∷ []), ((refl, (so_far 2, ((inl refl, refl), refl))), (at 3 (0 ∷ []), ((refl, (0, (reply.Handle first_handle, ((0, ((refl, omega arith, refl), (refl, refl))), (so_far 3, ((inl refl, refl), refl)))))), refl))))))
+
+round_2 : TurnsTo writes_then_reads (round_of 0) (at 3 (0 ∷ [])) (at 6 (0 ∷ []))
+unfolding request_body attributes string uint32
+round_2 = (at 4 (0 ∷ []), ((refl, (0, ((omega arith, refl), (so_far 4, ((inl refl, refl), refl))))), (at 5 (0 ∷ []), ((refl, (so_far 5, ((inl refl, refl), refl))), (at 6 (0 ∷ []), ((refl, (0, (ok, ((1, ((refl, omega arith, refl), (refl, refl))), (so_far 6, ((inl refl, refl), refl)))))), refl))))))
+
+round_3 : TurnsTo writes_then_reads (round_of 0) (at 6 (0 ∷ [])) (at 10 [])
+unfolding request_body attributes string uint32
+round_3 = (at 8 [], ((refl, (so_far 8, ((inr ((0, (refl, (0, ((omega arith, refl), refl)))), inl refl), refl), refl))), (at 9 [], ((refl, (so_far 9, ((inl refl, refl), refl))), (at 10 [], ((refl, (0, (ok, ((2, ((refl, omega arith, refl), (refl, refl))), (so_far 10, ((inl refl, refl), refl)))))), refl))))))
+
+round_4 : TurnsTo writes_then_reads (round_of 0) (at 10 []) (at 13 (0 ∷ []))
+unfolding request_body attributes string uint32
+round_4 = (at 11 (0 ∷ []), ((refl, (0, ((omega arith, refl), (so_far 11, ((inl refl, refl), refl))))), (at 12 (0 ∷ []), ((refl, (so_far 12, ((inl refl, refl), refl))), (at 13 (0 ∷ []), ((refl, (0, (reply.Handle second_handle, ((3, ((refl, omega arith, refl), (refl, refl))), (so_far 13, ((inl refl, refl), refl)))))), refl))))))
+
+round_5 : TurnsTo writes_then_reads (round_of 0) (at 13 (0 ∷ [])) (at 16 (0 ∷ []))
+unfolding request_body attributes string uint32
+round_5 = (at 14 (0 ∷ []), ((refl, (0, ((omega arith, refl), (so_far 14, ((inl refl, refl), refl))))), (at 15 (0 ∷ []), ((refl, (so_far 15, ((inl refl, refl), refl))), (at 16 (0 ∷ []), ((refl, (0, (reply.Content (codes "hi"), ((4, ((refl, omega arith, refl), (refl, refl))), (so_far 16, ((inl refl, refl), refl)))))), refl))))))
+
+round_6 : TurnsTo writes_then_reads (round_of 0) (at 16 (0 ∷ [])) (at 19 (0 ∷ []))
+unfolding request_body attributes string uint32
+round_6 = (at 17 (0 ∷ []), ((refl, (0, ((omega arith, refl), (so_far 17, ((inl refl, refl), refl))))), (at 18 (0 ∷ []), ((refl, (so_far 18, ((inl refl, refl), refl))), (at 19 (0 ∷ []), ((refl, (0, (refusal 1, ((5, ((refl, omega arith, refl), (refl, refl))), (so_far 19, ((inl refl, refl), refl)))))), refl))))))
+
+round_7 : TurnsTo writes_then_reads (round_of 0) (at 19 (0 ∷ [])) (at 23 [])
+unfolding request_body attributes string uint32
+round_7 = (at 21 [], ((refl, (so_far 21, ((inr ((3, (refl, (0, ((omega arith, refl), refl)))), inl refl), refl), refl))), (at 22 [], ((refl, (so_far 22, ((inl refl, refl), refl))), (at 23 [], ((refl, (0, (ok, ((6, ((refl, omega arith, refl), (refl, refl))), (so_far 23, ((inl refl, refl), refl)))))), refl))))))
+
+round_8 : TurnsTo writes_then_reads (round_of 1) (at 23 []) (at 26 (1 ∷ []))
+unfolding request_body attributes string uint32
+round_8 = (at 24 (1 ∷ []), ((refl, (0, ((omega arith, refl), (so_far 24, ((inl refl, refl), refl))))), (at 25 (1 ∷ []), ((refl, (so_far 25, ((inl refl, refl), refl))), (at 26 (1 ∷ []), ((refl, (0, (refusal 2, ((7, ((refl, omega arith, refl), (refl, refl))), (so_far 26, ((inl refl, refl), refl)))))), refl))))))
+
+round_9 : TurnsTo writes_then_reads (round_of 1) (at 26 (1 ∷ [])) (at 27 [])
+unfolding request_body attributes string uint32
+round_9 = (at 27 [], ((refl, (so_far 27, ((inl refl, refl), refl))), (at 27 [], (refl, (at 27 [], (refl, refl))))))
+
+pub is_run : IsRun writes_then_reads [] written_then_read
+unfolding request_body attributes string uint32
+is_run = (
+  record { opened = []; turned = at 0 []; ended = at 27 []; let_go = at 29 []; drained = at 29 [] },
+  (
+    record {
+      opens = refl;
+      turns = refl;
+      ends = (at 23 [], ((at 0 [], (refl, (7, ((λ e. absurd cc), (at 3 (0 ∷ []), (round_1, ((λ e. absurd cc), (at 6 (0 ∷ []), (round_2, ((λ e. absurd cc), (at 10 [], (round_3, ((λ e. absurd cc), (at 13 (0 ∷ []), (round_4, ((λ e. absurd cc), (at 16 (0 ∷ []), (round_5, ((λ e. absurd cc), (at 19 (0 ∷ []), (round_6, ((λ e. absurd cc), (at 23 [], (round_7, refl)))))))))))))))))))))), refl)), (2, ((λ e. absurd cc), (at 26 (1 ∷ []), (round_8, ((λ e. absurd cc), (at 27 [], (round_9, refl))))))), refl));
+      lets_go = (at 28 [], ((at 27 [], (refl, (refl, (so_far 28, ((inl refl, refl), refl))))), (refl, (so_far 29, ((inl refl, refl), refl)))));
+      drains = (0, refl);
+      answered = refl;
+    },
+    refl,
+  ),
+)
+
+-- the server offers no extensions
+pub is_fixed : IsFixed given (Some (greeting (record { 0 = 0 }))) written_then_read writes_then_reads
+is_fixed = (record { 0 = 0 }, (refl, refl))
+
+-- ---- the server
+
+-- a server without files and directories
+abbrev pub empty_server : Server
+empty_server = opened (first_desk [] [] (config 0) []) []
+
+pub is_unopened : IsUnopened empty_server
+is_unopened = record { files = []; dirs = []; may = refl; is = refl; fits = record { known = omega arith; limits = tt; codes = λ k d below. absurd (omega (arith, below)) } }
+
+abbrev pub left_there : FileTree
+left_there = record { names = (codes "a" ∷ [], node.File 0) ∷ []; files = codes "hi" ∷ []; handles = [] }
+
+numbered : IsNumbered written_then_read
+unfolding uint32
+numbered zero handle e = (let same : first_handle ≡ handle = cc in sym same)
+numbered (suc zero) handle e = absurd cc
+numbered (suc (suc zero)) handle e = absurd cc
+numbered (suc (suc (suc zero))) handle e = (let same : second_handle ≡ handle = cc in sym same)
+numbered (suc (suc (suc (suc zero)))) handle e = absurd cc
+numbered (suc (suc (suc (suc (suc zero))))) handle e = absurd cc
+numbered (suc (suc (suc (suc (suc (suc zero)))))) handle e = absurd cc
+numbered (suc (suc (suc (suc (suc (suc (suc zero))))))) handle e = absurd cc
+numbered (suc (suc (suc (suc (suc (suc (suc (suc place)))))))) handle e =
+    absurd (let none : answer written_then_read (suc (suc (suc (suc (suc (suc (suc (suc place)))))))) ≡ None = answer_beyond written_then_read (suc (suc (suc (suc (suc (suc (suc (suc place)))))))) (omega arith) in cc)
+
+pub is_served : IsServedRun empty_server written_then_read left_there
+unfolding components
+is_served =
+    record {
+      serves = (
+        (
+          first_handle,
+          (
+            (omega arith, refl),
+            refl,
+            (
+              second_handle,
+              (
+                (omega arith, refl),
+                refl,
+                (
+                  second_handle,
+                  (
+                    (omega arith, refl),
+                    refl,
+                    (
+                      second_handle,
+                      (
+                        (omega arith, refl),
+                        refl,
+                        (first_handle, ((omega arith, refl), refl, (first_handle, ((omega arith, refl), refl, (first_handle, ((omega arith, refl), refl, (first_handle, ((omega arith, refl), refl, refl)))))))),
+                      ),
+                    ),
+                  ),
+                ),
+              ),
+            ),
+          ),
+        ),
+        tt,
+      );
+      by_picks = (refl, (refl, (refl, (refl, (refl, (refl, (refl, (refl, tt))))))));
+      numbered = numbered;
+    }
+
+-- ---- the lane
+
+-- what stands at a place is this
+is_this : (P : Request → Type 0) (x a : Asked) → (◌≡◌ {A = Option Asked} (Some x) (Some a)) → P x.request → P a.request
+is_this P x a e p = (let same : x ≡ a = cc in subst (λ (w : Asked). P w.request) same p)
+
+abbrev last_asked : Asked
+last_asked = record { by = owner.Call 1 0; id = 0; request = open_of (codes "b") }
+
+other_avoids : Avoids name (open_of (codes "b"))
+unfolding components
+other_avoids = record { denotes = λ d. apart (codes "b" ∷ []) name refl refl d.1; moves = λ old to d. absurd d }
+
+others_keep_off : (other : ℕ) → other ≢ 0 → KeepsOff written_then_read name other
+unfolding components
+others_keep_off other ne zero k a is mine = absurd (ne (sym (eqb-true 0 other (and_parts (0 == other) (0 == k) mine).0)))
+others_keep_off other ne (suc zero) k a is mine = absurd (ne (sym (eqb-true 0 other (and_parts (0 == other) (0 == k) mine).0)))
+others_keep_off other ne (suc (suc zero)) k a is mine = absurd (let both : false ≡ true = mine in cc)
+others_keep_off other ne (suc (suc (suc zero))) k a is mine = absurd (ne (sym (eqb-true 0 other (and_parts (0 == other) (1 == k) mine).0)))
+others_keep_off other ne (suc (suc (suc (suc zero)))) k a is mine = absurd (ne (sym (eqb-true 0 other (and_parts (0 == other) (1 == k) mine).0)))
+others_keep_off other ne (suc (suc (suc (suc (suc zero))))) k a is mine = absurd (ne (sym (eqb-true 0 other (and_parts (0 == other) (1 == k) mine).0)))
+others_keep_off other ne (suc (suc (suc (suc (suc (suc zero)))))) k a is mine = absurd (let both : false ≡ true = mine in cc)
+others_keep_off other ne (suc (suc (suc (suc (suc (suc (suc zero))))))) k a is mine = is_this (λ r. Avoids name r × (is_open_of name r ≡ false)) last_asked a is (other_avoids, refl)
+others_keep_off other ne (suc (suc (suc (suc (suc (suc (suc (suc place)))))))) k a is mine =
+    absurd (let none : asked_at written_then_read (suc (suc (suc (suc (suc (suc (suc (suc place)))))))) ≡ None = asked_beyond written_then_read (suc (suc (suc (suc (suc (suc (suc (suc place)))))))) (omega arith) in cc)
+
+pub is_one_lanes : IsOneLanes writes_then_reads written_then_read name 0
+is_one_lanes = record { whole = (tt, (tt, tt)); others = others_keep_off }
+
+pub other_names_none : NoneNames writes_then_reads written_then_read name 1
+unfolding components
+other_names_none zero c is names = apart (codes "b" ∷ []) name refl refl (let same : call.FsRead (codes "b") 4 ≡ c = cc in subst (NamesWhole name) (sym same) names)
+other_names_none (suc k) c is names = absurd cc
+
+pub has_written : HasWritten writes_then_reads written_then_read name 0 0 1 (codes "hi")
+unfolding components
+has_written = record { path = codes "a"; is = refl; denotes = refl; ends = refl; earlier = omega arith; last = λ k c above below is writes. absurd (omega (arith, above, below)) }
+
+pub has_read : HasRead writes_then_reads written_then_read name 0 1 (outcome.Bytes (codes "hi"))
+unfolding components request_body string uint32 attributes
+has_read = record { path = codes "a"; bound = 4; is = refl; denotes = refl; short = refl; ends = refl; uncancelled = λ e. cc }
+
+-- ---- a read where there is no file
+
+abbrev pub reads_alone : Setting
+reads_alone = setting_with ((call.FsRead (codes "a") 4 ∷ []) ∷ [])
+
+abbrev pub given_reads : Given
+given_reads = record { lanes = reads_alone.lanes; options = default_options }
+
+-- The OPEN is refused.
+abbrev pub nothing_read : List Entry
+nothing_read =
+    entry.LetGo 0
+    ∷ end 0 0 no_such_file
+    ∷ take 0 (refusal 2)
+    ∷ send
+    ∷ submit 0 0 0 (open_of (codes "a"))
+    ∷ []
+
+abbrev nothing_so_far : ℕ → List Entry
+nothing_so_far n = drop (5 - n) nothing_read
+
+abbrev nothing_at : ℕ → List ℕ → Stage
+nothing_at n begun = record { past = nothing_so_far n; begun = begun }
+
+nothing_round_1 : TurnsTo reads_alone (round_of 0) (nothing_at 0 []) (nothing_at 3 (0 ∷ []))
+unfolding request_body attributes string uint32
+nothing_round_1 = (nothing_at 1 (0 ∷ []), ((refl, (0, ((omega arith, refl), (nothing_so_far 1, ((inl refl, refl), refl))))), (nothing_at 2 (0 ∷ []), ((refl, (nothing_so_far 2, ((inl refl, refl), refl))), (nothing_at 3 (0 ∷ []), ((refl, (0, (refusal 2, ((0, ((refl, omega arith, refl), (refl, refl))), (nothing_so_far 3, ((inl refl, refl), refl)))))), refl))))))
+
+nothing_round_2 : TurnsTo reads_alone (round_of 0) (nothing_at 3 (0 ∷ [])) (nothing_at 4 [])
+unfolding request_body attributes string uint32
+nothing_round_2 = (nothing_at 4 [], ((refl, (nothing_so_far 4, ((inl refl, refl), refl))), (nothing_at 4 [], (refl, (nothing_at 4 [], (refl, refl))))))
+
+pub nothing_is_run : IsRun reads_alone [] nothing_read
+unfolding request_body attributes string uint32
+nothing_is_run = (
+  record { opened = []; turned = nothing_at 0 []; ended = nothing_at 4 []; let_go = nothing_at 5 []; drained = nothing_at 5 [] },
+  (
+    record {
+      opens = refl;
+      turns = refl;
+      ends = (nothing_at 0 [], (refl, (2, ((λ e. absurd cc), (nothing_at 3 (0 ∷ []), (nothing_round_1, ((λ e. absurd cc), (nothing_at 4 [], (nothing_round_2, refl))))))), refl));
+      lets_go = (nothing_at 4 [], (refl, (refl, (nothing_so_far 5, ((inl refl, refl), refl)))));
+      drains = (0, refl);
+      answered = refl;
+    },
+    refl,
+  ),
+)
+
+pub nothing_is_fixed : IsFixed given_reads (Some (greeting (record { 0 = 0 }))) nothing_read reads_alone
+nothing_is_fixed = (record { 0 = 0 }, (refl, refl))
+
+nothing_numbered : IsNumbered nothing_read
+nothing_numbered zero handle e = absurd cc
+nothing_numbered (suc place) handle e = absurd (let none : answer nothing_read (suc place) ≡ None = answer_beyond nothing_read (suc place) (omega arith) in cc)
+
+pub nothing_is_served : IsServedRun empty_server nothing_read empty_server.desk.machine.tree
+unfolding components
+nothing_is_served = record { serves = ((first_handle, ((omega arith, refl), refl, refl)), tt); by_picks = (refl, tt); numbered = nothing_numbered }
+
+others_keep_off_nothing : (other : ℕ) → other ≢ 0 → KeepsOff nothing_read name other
+others_keep_off_nothing other ne zero k a is mine = absurd (ne (sym (eqb-true 0 other (and_parts (0 == other) (0 == k) mine).0)))
+others_keep_off_nothing other ne (suc place) k a is mine = absurd (let none : asked_at nothing_read (suc place) ≡ None = asked_beyond nothing_read (suc place) (omega arith) in cc)
+
+pub nothing_is_one_lanes : IsOneLanes reads_alone nothing_read name 0
+nothing_is_one_lanes = record { whole = (tt, tt); others = others_keep_off_nothing }
+
+pub none_writes : NoneWrites reads_alone nothing_read name 0 0
+none_writes k c below is writes = absurd (omega (arith, below))
+
+pub has_no_file : HasNoFile (node_at empty_server.desk.machine.tree name)
+has_no_file = tt
+
+pub has_read_nothing : HasRead reads_alone nothing_read name 0 0 no_such_file
+unfolding components request_body string uint32 attributes
+has_read_nothing = record { path = codes "a"; bound = 4; is = refl; denotes = refl; short = refl; ends = refl; uncancelled = λ e. cc }
+
+-- ---- what the laws don't speak of
+
+-- a lane that changes its directory
+pub directory_is_none : (past : List Entry) → IsOneLanes (setting_with ((call.Cwd (codes "d") ∷ call.FsWrite (codes "a") (codes "hi") ∷ call.FsRead (codes "a") 4 ∷ []) ∷ [])) past name 0 → ⊥
+directory_is_none past one = one.whole.0
+
+-- a write behind which the lane writes the name again before it reads it
+pub later_write_is_none : (past : List Entry) → HasWritten (setting_with ((call.FsWrite (codes "a") (codes "hi") ∷ call.FsWrite (codes "/a") (codes "ho") ∷ call.FsRead (codes "a") 4 ∷ []) ∷ [])) past name 0 0 2 (codes "hi") → ⊥
+unfolding components
+later_write_is_none past w = w.last 1 (call.FsWrite (codes "/a") (codes "ho")) (omega arith) (omega arith) refl refl
+
+-- a read behind a write of the name is not its first
+pub not_first : NoneWrites writes_then_reads written_then_read name 0 1 → ⊥
+unfolding components
+not_first none = none 0 (call.FsWrite (codes "a") (codes "hi")) (omega arith) refl refl
+
+-- a read that was cancelled
+pub cancelled_is_none : (past : List Entry) → HasRead writes_then_reads past name 0 1 outcome.Cancelled → ⊥
+cancelled_is_none past r = r.uncancelled refl

@@ -1,0 +1,82 @@
+-- Lanes that write and read files as a whole, by their calls and the outcomes of these.
+use Rattle.std.specs.Prelude.{◌≡◌, ◌≢◌, ◌<◌, ℕ, Bool, false, List, [], ◌∷◌, Option, Some, slice_get}
+use Rattle.sftp_model.specs.declared.outcome.Outcome.{Outcome}
+use Rattle.sftp_model.specs.declared.outcome.Outcome.TheVariants as outcome
+use Rattle.sftp_tree.specs.Components.{Name, components}
+use Rattle.sftp_calls.specs.FilePlans.{open_request}
+use Rattle.sftp_calls.specs.Moves.{is_too_long}
+use Rattle.sftp_calls.specs.WindowPlans.{to_read}
+use Rattle.sftp_history.specs.declared.call.Call.{Call}
+use Rattle.sftp_history.specs.declared.call.Call.TheVariants as call
+use Rattle.sftp_history.specs.declared.entry.Entry.{Entry}
+use Rattle.sftp_history.specs.Calls.{Setting, call_at, lane_calls}
+use Rattle.sftp_history.specs.Readings.{outcomes_of}
+use Rattle.sftp_read_back.specs.InJournals.{KeepsOff}
+
+-- ---- calls
+
+-- the call writes or reads a file as a whole
+abbrev pub IsWhole : Call → Type 0
+IsWhole (call.FsWrite path bytes) = Unit {0}
+IsWhole (call.FsRead path bound) = Unit {0}
+IsWhole other = ⊥
+
+-- each of these calls does
+abbrev pub AreWhole : List Call → Type 0
+AreWhole [] = Unit {0}
+AreWhole (c ∷ calls) = IsWhole c × AreWhole calls
+
+-- the call writes the name's file as a whole
+abbrev pub WritesWhole : Name → Call → Type 0
+WritesWhole name (call.FsWrite path bytes) = components path ≡ name
+WritesWhole name other = ⊥
+
+-- the call writes or reads it so
+abbrev pub NamesWhole : Name → Call → Type 0
+NamesWhole name (call.FsWrite path bytes) = components path ≡ name
+NamesWhole name (call.FsRead path bound) = components path ≡ name
+NamesWhole name other = ⊥
+
+-- the OPEN of a whole read of this path is too long for a frame
+abbrev pub passes_length : List ℕ → Bool
+passes_length path = is_too_long (open_request to_read path)
+
+-- ---- outcomes
+
+-- how a call ended, by its lane and number: the outcome that is reported of it
+abbrev pub outcome_at : List Entry → ℕ → ℕ → Option Outcome
+outcome_at past lane k = slice_get (outcomes_of past lane) k
+
+-- ---- lanes
+
+-- A name that is one lane's: its calls write and read files as a whole, and all other lanes keep off the name.
+pub record IsOneLanes (s : Setting) (past : List Entry) (name : Name) (lane : ℕ) : Type 0 where
+  pub whole : AreWhole (lane_calls s past lane)
+  pub others : (other : ℕ) → other ≢ lane → KeepsOff past name other
+
+-- A call of a lane read the name's file as a whole, by a path that fits a frame, and ended so without being cancelled.
+pub record HasRead (s : Setting) (past : List Entry) (name : Name) (lane reader : ℕ) (ended : Outcome) : Type 0 where
+  pub path : List ℕ
+  pub bound : ℕ
+  pub is : call_at s past lane reader ≡ Some (call.FsRead path bound)
+  pub denotes : components path ≡ name
+  pub short : passes_length path ≡ false
+  pub ends : outcome_at past lane reader ≡ Some ended
+  pub uncancelled : ended ≢ outcome.Cancelled
+
+-- A call of a lane wrote the name's file as a whole and ended well, and it is the lane's last that wrote it before a later call.
+pub record HasWritten (s : Setting) (past : List Entry) (name : Name) (lane writer reader : ℕ) (bytes : List ℕ) : Type 0 where
+  pub path : List ℕ
+  pub is : call_at s past lane writer ≡ Some (call.FsWrite path bytes)
+  pub denotes : components path ≡ name
+  pub ends : outcome_at past lane writer ≡ Some outcome.Done
+  pub earlier : writer < reader
+  pub last : (k : ℕ) (c : Call) → writer < k → k < reader → call_at s past lane k ≡ Some c → WritesWhole name c → ⊥
+
+-- no call of a lane before this one writes the name's file as a whole
+abbrev pub NoneWrites : Setting → List Entry → Name → ℕ → ℕ → Type 0
+NoneWrites s past name lane reader = (k : ℕ) (c : Call) → k < reader → call_at s past lane k ≡ Some c → WritesWhole name c → ⊥
+
+-- no call of a lane writes or reads the name's file as a whole
+abbrev pub NoneNames : Setting → List Entry → Name → ℕ → Type 0
+NoneNames s past name lane = (k : ℕ) (c : Call) → call_at s past lane k ≡ Some c → NamesWhole name c → ⊥

@@ -1,0 +1,11 @@
+//! What was written is read back, over the runs that the program makes: what a lane's whole reads give where its calls
+//! write and read files as a whole, said of the calls and of the outcomes that are reported of them.
+#![tactic(auto)]
+
+mod laws;
+mod rows;
+
+pub use laws::{
+    lanes_of_other_names_keep_off, lanes_read_back_what_they_wrote, lanes_read_back_what_was_there,
+};
+pub use rows::{first_read_as_worked_out, no_round_trips_as_worked_out, round_trip_as_worked_out};

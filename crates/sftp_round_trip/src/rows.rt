@@ -1,0 +1,50 @@
+// Worked runs. The functions do nothing: what they ensure is computed.
+ghost use Rattle.std.specs.Prelude.{[], ◌∷◌, List, Some, codes};
+ghost use Rattle.sftp_model.specs.declared.outcome.Outcome.TheVariants as outcome;
+ghost use Rattle.sftp_tree.specs.FileTree.{node_at};
+ghost use Rattle.sftp_driver.specs.Session.{IsFixed};
+ghost use Rattle.sftp_history.specs.declared.call.Call.TheVariants as call;
+ghost use Rattle.sftp_history.specs.declared.entry.Entry.{Entry};
+ghost use Rattle.sftp_history.specs.RowWords.{setting_with};
+ghost use Rattle.sftp_history.specs.Runs.{IsRun};
+ghost use Rattle.sftp_history.specs.Settings.{greeting};
+ghost use Rattle.sftp_read_back.specs.CallsAmong.{HasNoFile};
+ghost use Rattle.sftp_read_back.specs.ReadBackRows.{name};
+ghost use Rattle.sftp_served.specs.Unopened.{IsServedRun, IsUnopened};
+ghost use Rattle.sftp_round_trip.specs.RoundTrips.{HasRead, HasWritten, IsOneLanes, NoneNames, NoneWrites};
+ghost use Rattle.sftp_round_trip.specs.RoundTripRows.{empty_server, given, given_reads, left_there, no_such_file, nothing_read, reads_alone, writes_then_reads, written_then_read};
+
+/// A lane writes a file as a whole and reads it, and another lane reads one of another name, over a server that had none: all
+/// that the laws ask holds of this run.
+pub fn round_trip_as_worked_out()
+    ensures run { IsRun writes_then_reads [] written_then_read }
+    ensures fixed { IsFixed given (Some (greeting (record { 0 = 0 }))) written_then_read writes_then_reads }
+    ensures unopened { IsUnopened empty_server }
+    ensures served { IsServedRun empty_server written_then_read left_there }
+    ensures lane { IsOneLanes writes_then_reads written_then_read name 0 }
+    ensures other { NoneNames writes_then_reads written_then_read name 1 }
+    ensures written { HasWritten writes_then_reads written_then_read name 0 0 1 (codes "hi") }
+    ensures read { HasRead writes_then_reads written_then_read name 0 1 (outcome.Bytes (codes "hi")) }
+{}
+
+/// A lane reads a file as a whole over a server that has none: all that the laws ask holds of this run.
+pub fn first_read_as_worked_out()
+    ensures run { IsRun reads_alone [] nothing_read }
+    ensures fixed { IsFixed given_reads (Some (greeting (record { 0 = 0 }))) nothing_read reads_alone }
+    ensures served { IsServedRun empty_server nothing_read empty_server.desk.machine.tree }
+    ensures lane { IsOneLanes reads_alone nothing_read name 0 }
+    ensures first { NoneWrites reads_alone nothing_read name 0 0 }
+    ensures none { HasNoFile (node_at empty_server.desk.machine.tree name) }
+    ensures read { HasRead reads_alone nothing_read name 0 0 no_such_file }
+{}
+
+/// No lane that changes its directory is one that the laws speak of, nor a write behind which the lane writes the name
+/// again, nor a first read behind a write, nor a read that was cancelled.
+pub fn no_round_trips_as_worked_out()
+    ensures directory { (past : List Entry) → IsOneLanes (setting_with ((call.Cwd (codes "d")
+        ∷ call.FsWrite (codes "a") (codes "hi") ∷ call.FsRead (codes "a") 4 ∷ []) ∷ [])) past name 0 → ⊥ }
+    ensures again { (past : List Entry) → HasWritten (setting_with ((call.FsWrite (codes "a") (codes "hi")
+        ∷ call.FsWrite (codes "/a") (codes "ho") ∷ call.FsRead (codes "a") 4 ∷ []) ∷ [])) past name 0 0 2 (codes "hi") → ⊥ }
+    ensures first { NoneWrites writes_then_reads written_then_read name 0 1 → ⊥ }
+    ensures cancelled { (past : List Entry) → HasRead writes_then_reads past name 0 1 outcome.Cancelled → ⊥ }
+{}
