@@ -1,0 +1,45 @@
+-- Worked scripts and summaries.
+use Rattle.std.specs.Prelude.{ℕ, ◌≡◌, List, [], ◌∷◌, ◌++◌, codes, refl}
+use Rattle.ssh_encoding.specs.Writing.{uint32}
+use Rattle.sftp_history.specs.declared.call.Call.TheVariants as call
+use Rattle.sftp_history.specs.declared.turn.Turn.TheVariants as turn
+use Rattle.sftp_bulk.specs.Bulk.{bulk_script, counting, draw, drawn, each, script_with, value_of}
+use Rattle.sftp_bulk.specs.Summary.{summary_text}
+
+-- ---- draws
+
+pub first_number : drawn 0 ≡ 1442695040888963407
+unfolding drawn
+first_number = refl
+
+pub first_value : (draw 0).0 ≡ 167951807
+unfolding drawn value_of
+first_value = refl
+
+-- ---- scripts
+
+-- the value of the one call is 167951807, which chooses `stat`; then come the draws of four turns, choices and picks
+pub one_call : bulk_script 0 1 1 ≡ script_with
+    (record { calls = call.Stat (0 ∷ 0 ∷ 0 ∷ 0 ∷ 3 ∷ []) ∷ [] } ∷ [])
+    (turn.Step 0 ∷ turn.Flush ∷ turn.Flush ∷ turn.Take ∷ [])
+    (record { refuse = 0; cap = 891 } ∷ record { refuse = 0; cap = 184 } ∷ record { refuse = 0; cap = 1975 } ∷ record { refuse = 0; cap = 1264 } ∷ [])
+    (959018139 ∷ 1360007503 ∷ 784246482 ∷ 104453382 ∷ [])
+unfolding drawn value_of each uint32
+one_call = refl
+
+-- where there are no lanes, nothing is drawn
+pub no_lanes : bulk_script 9 0 0 ≡ script_with [] [] [] []
+unfolding each
+no_lanes = refl
+
+-- bytes count on, and begin anew behind 255
+pub counted : counting 766 4 ≡ 254 ∷ 255 ∷ 0 ∷ 1 ∷ []
+unfolding counting
+counted = refl
+
+-- ---- summaries
+
+pub nine_lines : summary_text (record { lanes = 1; calls = 12; requests = 305; done = 4; read = 3; meta = 2; refused = 3; files = 0; bytes = 10000 })
+    ≡ codes "lanes 1" ++ 10 ∷ codes "calls 12" ++ 10 ∷ codes "requests 305" ++ 10 ∷ codes "done 4" ++ 10 ∷ codes "read 3" ++ 10 ∷ codes "meta 2"
+    ++ 10 ∷ codes "refused 3" ++ 10 ∷ codes "files 0" ++ 10 ∷ codes "bytes 10000" ++ 10 ∷ []
+nine_lines = refl

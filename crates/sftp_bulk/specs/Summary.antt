@@ -1,0 +1,71 @@
+-- The numbers that are told of a run, and their text.
+use Rattle.std.specs.Prelude.{ℕ, ◌-◌, ◌^◌, Bool, true, false, List, ◌++◌, codes, length, map, min, reverse}
+use Rattle.std.specs.List.{count_by, sum_by}
+use Rattle.sftp_model.specs.declared.outcome.Outcome.{Outcome}
+use Rattle.sftp_model.specs.declared.outcome.Outcome.TheVariants as outcome
+use Rattle.sftp_history.specs.declared.entry.Entry.TheVariants as entry
+use Rattle.sftp_history.specs.declared.event.Event.{Event}
+use Rattle.sftp_history.specs.declared.report.Report.{Report}
+use Rattle.sftp_history.specs.Readings.{sent}
+use Rattle.sftp_history.specs.Texts.{line, number_text}
+use Rattle.sftp_bulk.specs.declared.kind.Kind.{Kind}
+use Rattle.sftp_bulk.specs.declared.kind.Kind.TheVariants as kind
+use Rattle.sftp_bulk.specs.declared.summary.Summary.{Summary}
+
+-- ---- the numbers
+
+-- a number that 64 bits hold, or the greatest of these
+abbrev pub limited : ℕ → ℕ
+limited n = min n (2 ^ 64 - 1)
+
+-- how many requests were sent in these events
+abbrev pub requests_in : List Event → ℕ
+requests_in events = sent (reverse (map (λ e. entry.Event e) events))
+
+-- the outcome is of this kind
+abbrev pub is_of : Kind → Outcome → Bool
+is_of kind.Done outcome.Done = true
+is_of kind.Read (outcome.Bytes bytes) = true
+is_of kind.Meta (outcome.Meta attrs) = true
+is_of kind.Refused (outcome.Refused why) = true
+is_of k other = false
+
+-- how many outcomes of all lanes are of this kind
+abbrev pub count_in : Kind → List (List Outcome) → ℕ
+count_in k lanes = limited (sum_by (λ outcomes. count_by (is_of k) outcomes) lanes)
+
+-- what is told of a report, and of this many files with this many bytes
+abbrev pub summary_of : Report → ℕ → ℕ → Summary
+summary_of report files bytes = record {
+  lanes = length report.outcomes;
+  calls = limited (sum_by length report.outcomes);
+  requests = requests_in report.trace;
+  done = count_in kind.Done report.outcomes;
+  read = count_in kind.Read report.outcomes;
+  meta = count_in kind.Meta report.outcomes;
+  refused = count_in kind.Refused report.outcomes;
+  files = files;
+  bytes = bytes;
+}
+
+-- ---- the text
+
+-- the line of a number
+abbrev pub number_line : List ℕ → ℕ → List ℕ
+number_line word n = line (word ++ codes " " ++ number_text n)
+
+-- what was asked
+abbrev pub asked_text : Summary → List ℕ
+asked_text s = number_line (codes "lanes") s.lanes ++ number_line (codes "calls") s.calls ++ number_line (codes "requests") s.requests
+
+-- how it ended
+abbrev pub ended_text : Summary → List ℕ
+ended_text s = number_line (codes "done") s.done ++ number_line (codes "read") s.read ++ number_line (codes "meta") s.meta ++ number_line (codes "refused") s.refused
+
+-- what is left
+abbrev pub left_text : Summary → List ℕ
+left_text s = number_line (codes "files") s.files ++ number_line (codes "bytes") s.bytes
+
+-- a line for each number
+abbrev pub summary_text : Summary → List ℕ
+summary_text s = asked_text s ++ ended_text s ++ left_text s

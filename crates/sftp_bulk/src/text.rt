@@ -1,0 +1,104 @@
+// The text of a summary. A refusal may leave a prefix of it behind what there was; the public function takes that away.
+ghost use Rattle.std.specs.Prelude.{◌≡◌, ◌++◌, OnOk, OnErr};
+ghost use Rattle.sftp_wire.specs.Body.{Grows};
+ghost use Rattle.sftp_history.specs.Texts.{number_text};
+ghost use Rattle.sftp_bulk.specs.Summary.{asked_text, ended_text, left_text, number_line, summary_text};
+
+use crate::summary::Summary;
+use itoa::Buffer;
+use ssh_encoding::OutOfMemory;
+use std::alloc::Global;
+
+#[tactic(auto, using(sftp_wire::proofs::Puts::puts))]
+fn put_word(word: &str, out: &mut Vec<u8>) -> Result<(), OutOfMemory>
+    ensures ok { OnOk result (out.new.items ≡ out.old.items ++ word.now) }
+    ensures grows { Grows out.old.items out.new.items }
+{
+    out.extend_from_slice(word.as_bytes())?;
+    Ok(())
+}
+
+/// The digits of a number.
+#[tactic(auto, using(sftp_wire::proofs::Puts::puts, sftp_history::proofs::TextLaws::number_decimal))]
+fn put_number(n: u64, out: &mut Vec<u8>) -> Result<(), OutOfMemory>
+    ensures ok { OnOk result (out.new.items ≡ out.old.items ++ number_text n) }
+    ensures grows { Grows out.old.items out.new.items }
+{
+    let mut digits = Buffer::new();
+    put_word(digits.format(n), out)
+}
+
+/// The line of a number, behind its word.
+#[tactic(auto, using(sftp_wire::proofs::Puts::puts))]
+fn put_line(word: &str, n: u64, out: &mut Vec<u8>) -> Result<(), OutOfMemory>
+    ensures ok { OnOk result (out.new.items ≡ out.old.items ++ number_line word.now n) }
+    ensures grows { Grows out.old.items out.new.items }
+{
+    put_word(word, out)?;
+    put_word(" ", out)?;
+    put_number(n, out)?;
+    put_word("\n", out)
+}
+
+/// What was asked.
+#[tactic(auto, using(sftp_wire::proofs::Puts::puts))]
+fn put_asked(summary: &Summary, out: &mut Vec<u8>) -> Result<(), OutOfMemory>
+    ensures ok { OnOk result (out.new.items ≡ out.old.items ++ asked_text summary.now) }
+    ensures grows { Grows out.old.items out.new.items }
+{
+    put_line("lanes", summary.lanes, out)?;
+    put_line("calls", summary.calls, out)?;
+    put_line("requests", summary.requests, out)
+}
+
+/// How it ended.
+#[tactic(auto, using(sftp_wire::proofs::Puts::puts))]
+fn put_ended(summary: &Summary, out: &mut Vec<u8>) -> Result<(), OutOfMemory>
+    ensures ok { OnOk result (out.new.items ≡ out.old.items ++ ended_text summary.now) }
+    ensures grows { Grows out.old.items out.new.items }
+{
+    put_line("done", summary.done, out)?;
+    put_line("read", summary.read, out)?;
+    put_line("meta", summary.meta, out)?;
+    put_line("refused", summary.refused, out)
+}
+
+/// What is left.
+#[tactic(auto, using(sftp_wire::proofs::Puts::puts))]
+fn put_left(summary: &Summary, out: &mut Vec<u8>) -> Result<(), OutOfMemory>
+    ensures ok { OnOk result (out.new.items ≡ out.old.items ++ left_text summary.now) }
+    ensures grows { Grows out.old.items out.new.items }
+{
+    put_line("files", summary.files, out)?;
+    put_line("bytes", summary.bytes, out)
+}
+
+/// All lines.
+#[tactic(auto, using(sftp_wire::proofs::Puts::puts))]
+fn put_summary(summary: &Summary, out: &mut Vec<u8>) -> Result<(), OutOfMemory>
+    ensures ok { OnOk result (out.new.items ≡ out.old.items ++ summary_text summary.now) }
+    ensures grows { Grows out.old.items out.new.items }
+{
+    put_asked(summary, out)?;
+    put_ended(summary, out)?;
+    put_left(summary, out)
+}
+
+/// Appends a line for each number. Refused for want of memory; `out` is unchanged then.
+pub fn write_summary(
+    _alloc: Global,
+    summary: &Summary,
+    out: &mut Vec<u8>,
+) -> Result<(), OutOfMemory>
+    ensures ok { OnOk result (out.new.items ≡ out.old.items ++ summary_text summary.now) }
+    ensures err { OnErr result (out.new.items ≡ out.old.items) }
+{
+    let before = out.len();
+    match put_summary(summary, out) {
+        Ok(()) => Ok(()),
+        Err(OutOfMemory) => {
+            out.truncate(before);
+            Err(OutOfMemory)
+        }
+    }
+}
