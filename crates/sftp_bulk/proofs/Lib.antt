@@ -1,2 +1,3 @@
+mod ScriptLaws
 mod Sending
 mod Steps

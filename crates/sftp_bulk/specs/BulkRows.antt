@@ -1,5 +1,5 @@
 -- Worked scripts and summaries.
-use Rattle.std.specs.Prelude.{ℕ, ◌≡◌, List, [], ◌∷◌, ◌++◌, codes, refl}
+use Rattle.std.specs.Prelude.{◌≡◌, [], ◌∷◌, ◌++◌, codes, refl}
 use Rattle.ssh_encoding.specs.Writing.{uint32}
 use Rattle.sftp_history.specs.declared.call.Call.TheVariants as call
 use Rattle.sftp_history.specs.declared.turn.Turn.TheVariants as turn

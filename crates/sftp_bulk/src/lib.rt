@@ -4,10 +4,14 @@
 mod content;
 mod draws;
 mod kind;
+mod laws;
 mod script;
 mod summary;
 mod text;
 
+pub use laws::{
+    bulk_lanes_are_ok, bulk_scripts_are_whole, bulk_servers_may_begin, traces_keep_requests,
+};
 pub use script::bulk_script;
 pub use sftp_history::{Report, Script};
 pub use ssh_encoding::OutOfMemory;
