@@ -83,8 +83,8 @@ all_weigh lanes calls n few all le =
 pub lanes_ok : (start lanes calls : ℕ) → lanes ≤ 256 → lanes * calls ≤ 16384 → are_ok (bulk_script start lanes calls).lanes ≡ true
 lanes_ok start lanes calls few all =
     both_hold _ _
-      (each_passes (λ lane. list_all is_within lane.calls) (lane_of calls) (λ lane x. lane_is_within calls lane x) 0 lanes start)
-      (all_weigh lanes calls _ few all (each_sums lane_weight (lane_of calls) (1 + calls * 65) (λ lane x. lane_weighs calls lane x) 0 lanes start))
+    (each_passes (λ lane. list_all is_within lane.calls) (lane_of calls) (λ lane x. lane_is_within calls lane x) 0 lanes start)
+    (all_weigh lanes calls _ few all (each_sums lane_weight (lane_of calls) (1 + calls * 65) (λ lane x. lane_weighs calls lane x) 0 lanes start))
 
 -- ---- how much there is
 

@@ -1,10 +1,14 @@
 -- Worked scripts and summaries.
-use Rattle.std.specs.Prelude.{◌≡◌, [], ◌∷◌, ◌++◌, codes, refl}
+use Rattle.std.specs.Prelude.{None, ◌≡◌, [], ◌∷◌, ◌++◌, codes, refl}
 use Rattle.ssh_encoding.specs.Writing.{uint32}
 use Rattle.sftp_history.specs.declared.call.Call.TheVariants as call
+use Rattle.sftp_model.specs.declared.outcome.Outcome.TheVariants as outcome
+use Rattle.sftp_model.specs.declared.request.Request.TheVariants as request
+use Rattle.sftp_history.specs.declared.event.Event.TheVariants.{Submit, Send}
+use Rattle.sftp_history.specs.declared.event.Owner.TheVariants as owner
 use Rattle.sftp_history.specs.declared.turn.Turn.TheVariants as turn
 use Rattle.sftp_bulk.specs.Bulk.{bulk_script, counting, draw, drawn, each, script_with, value_of}
-use Rattle.sftp_bulk.specs.Summary.{summary_text}
+use Rattle.sftp_bulk.specs.Summary.{summary_of, summary_text}
 
 -- ---- draws
 
@@ -38,6 +42,15 @@ unfolding counting
 counted = refl
 
 -- ---- summaries
+
+-- two lanes, of which the second has no call; of three requests two were sent
+pub told : summary_of (record {
+  hello = None;
+  trace = Submit owner.Setup 0 request.LimitsQuery ∷ Submit (owner.Call 0 0) 1 (request.Stat []) ∷ Send ∷ Submit (owner.Call 0 1) 2 (request.Stat []) ∷ [];
+  outcomes = (outcome.Done ∷ outcome.Bytes [] ∷ outcome.End ∷ outcome.Done ∷ []) ∷ [] ∷ [];
+}) 3 40
+    ≡ record { lanes = 2; calls = 4; requests = 2; done = 2; read = 1; meta = 0; refused = 0; files = 3; bytes = 40 }
+told = refl
 
 pub nine_lines : summary_text (record { lanes = 1; calls = 12; requests = 305; done = 4; read = 3; meta = 2; refused = 3; files = 0; bytes = 10000 })
     ≡ codes "lanes 1" ++ 10 ∷ codes "calls 12" ++ 10 ∷ codes "requests 305" ++ 10 ∷ codes "done 4" ++ 10 ∷ codes "read 3" ++ 10 ∷ codes "meta 2"

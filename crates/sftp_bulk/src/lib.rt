@@ -7,6 +7,8 @@ mod kind;
 mod laws;
 mod script;
 mod summary;
+#[cfg(test)]
+mod tests;
 mod text;
 
 pub use laws::{
