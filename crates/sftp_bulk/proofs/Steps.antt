@@ -7,14 +7,6 @@ pub record Drawn {A : Type 0} (one : ℕ → Drawing A) (k n start x : ℕ) (mad
   pub gives : made ++ (each one k (n - k) x).0 ≡ (each one 0 n start).0
   pub passes : (each one k (n - k) x).1 ≡ (each one 0 n start).1
 
-pub draws_begin : {A : Type 0} (one : ℕ → Drawing A) (n start : ℕ) (made : List A) → made ≡ [] → Drawn one 0 n start start made
-draws_begin one n start made e =
-    let all : n - 0 ≡ n = omega arith in
-    record {
-      gives = λ i. e i ++ (each one 0 (all i) start).0;
-      passes = λ i. (each one 0 (all i) start).1;
-    }
-
 one_left : (k n : ℕ) → k < n → n - k ≡ suc (n - (k + 1))
 one_left k n lt = omega arith
 
@@ -42,20 +34,22 @@ draws_end one k n start x made h le =
     )
 
 -- what was written, with what is left to count, is all of it
-abbrev pub Counted : ℕ → ℕ → ℕ → List ℕ → Type 0
-Counted w n i bytes = bytes ++ counting (w + i) (n - i) ≡ counting w n
+pub record Counted (w n i : ℕ) (bytes : List ℕ) : Type 0 where
+  pub all : bytes ++ counting (w + i) (n - i) ≡ counting w n
 
 pub counts_on : (w n i : ℕ) (bytes new : List ℕ) → Counted w n i bytes → i < n → new ≡ bytes ++ (w + i) % 256 ∷ [] → Counted w n (i + 1) new
 unfolding counting
 counts_on w n i bytes new h lt more =
     let next : w + (i + 1) ≡ w + i + 1 = omega arith in
-    (λ j. more j ++ counting (next j) (n - (i + 1)))
-    ∙ append_assoc bytes ((w + i) % 256 ∷ []) (counting (w + i + 1) (n - (i + 1)))
-    ∙ ap (λ m. bytes ++ counting (w + i) m) (sym (one_left i n lt))
-    ∙ h
+    record {
+      all = (λ j. more j ++ counting (next j) (n - (i + 1)))
+          ∙ append_assoc bytes ((w + i) % 256 ∷ []) (counting (w + i + 1) (n - (i + 1)))
+          ∙ ap (λ m. bytes ++ counting (w + i) m) (sym (one_left i n lt))
+          ∙ h.all;
+    }
 
 pub counts_end : (w n i : ℕ) (bytes : List ℕ) → Counted w n i bytes → n ≤ i → bytes ≡ counting w n
 unfolding counting
 counts_end w n i bytes h le =
     let none : n - i ≡ 0 = omega arith in
-    sym (append-nil bytes) ∙ ap (λ m. bytes ++ counting (w + i) m) (sym none) ∙ h
+    sym (append-nil bytes) ∙ ap (λ m. bytes ++ counting (w + i) m) (sym none) ∙ h.all

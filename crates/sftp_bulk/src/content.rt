@@ -17,6 +17,7 @@ pub(crate) fn name_of(alloc: Global, lane: u32, v: u32) -> Result<ByteText, OutO
 }
 
 /// Bytes that count on from a number.
+#[tactic(auto, using(crate::proofs::Steps::counts_on, crate::proofs::Steps::counts_end))]
 fn counting(alloc: Global, w: u32, count: u32) -> Result<ByteText, OutOfMemory>
     requires first { w < 2147483648 }
     requires count { count < 2147483648 }
