@@ -1,4 +1,4 @@
--- One event more.
+-- What events asked and sent, and what the trace of a journal keeps of it.
 use Rattle.std.proofs.Common.{◌≡◌, ◌≤◌, ◌+◌, ℕ, List, [], ◌∷◌, ◌++◌, take, refl, ap, ◌∙◌}
 use Rattle.std.specs.Prelude.{map, reverse}
 use Rattle.std.proofs.lemmas.List.{map-append, reverse-append}

@@ -1,9 +1,9 @@
 -- Worked scripts and summaries.
 use Rattle.std.specs.Prelude.{None, ◌≡◌, [], ◌∷◌, ◌++◌, codes, refl}
 use Rattle.ssh_encoding.specs.Writing.{uint32}
-use Rattle.sftp_history.specs.declared.call.Call.TheVariants as call
 use Rattle.sftp_model.specs.declared.outcome.Outcome.TheVariants as outcome
 use Rattle.sftp_model.specs.declared.request.Request.TheVariants as request
+use Rattle.sftp_history.specs.declared.call.Call.TheVariants as call
 use Rattle.sftp_history.specs.declared.event.Event.TheVariants.{Submit, Send}
 use Rattle.sftp_history.specs.declared.event.Owner.TheVariants as owner
 use Rattle.sftp_history.specs.declared.turn.Turn.TheVariants as turn

@@ -14,10 +14,12 @@ pub fn bulk_lanes_are_ok()
         → are_ok (bulk_script start lanes calls).lanes ≡ true }
 {}
 
-/// Each such script has as many lanes as it is to have, each of them as many calls, and four turns, choices and picks for each call.
+/// Each such script has as many lanes as it is to have, each of them as many calls, and for each call four turns, four
+/// choices and four picks.
 pub fn bulk_scripts_are_whole()
     ensures lanes { (start lanes calls : ℕ) → length (bulk_script start lanes calls).lanes ≡ lanes }
-    ensures calls { (start lanes calls : ℕ) → All (λ lane. length lane.calls ≡ calls) (bulk_script start lanes calls).lanes }
+    ensures calls { (start lanes calls : ℕ) →
+        All (λ lane. length lane.calls ≡ calls) (bulk_script start lanes calls).lanes }
     ensures turns { (start lanes calls : ℕ) → length (bulk_script start lanes calls).turns ≡ count_of lanes calls }
     ensures choices { (start lanes calls : ℕ) → length (bulk_script start lanes calls).choices ≡ count_of lanes calls }
     ensures picks { (start lanes calls : ℕ) → length (bulk_script start lanes calls).picks ≡ count_of lanes calls }
@@ -28,10 +30,12 @@ pub fn bulk_scripts_are_whole()
 pub fn bulk_servers_may_begin()
     ensures files { (start lanes calls : ℕ) → (bulk_script start lanes calls).files ≡ [] }
     ensures dirs { (start lanes calls : ℕ) → (bulk_script start lanes calls).dirs ≡ [] }
-    ensures may { (start lanes calls : ℕ) → may_begin (bulk_script start lanes calls).files (bulk_script start lanes calls).dirs ≡ true }
+    ensures may { (start lanes calls : ℕ) →
+        may_begin (bulk_script start lanes calls).files (bulk_script start lanes calls).dirs ≡ true }
     ensures known { (start lanes calls : ℕ) → FitsSet (bulk_script start lanes calls).server.extensions.0 }
     ensures limits { (start lanes calls : ℕ) → IfSome (bulk_script start lanes calls).server.limits FitsLimits }
-    ensures codes { (start lanes calls : ℕ) → All (λ choice. FitsNumber choice.refuse) (bulk_script start lanes calls).choices }
+    ensures codes { (start lanes calls : ℕ) →
+        All (λ choice. FitsNumber choice.refuse) (bulk_script start lanes calls).choices }
 {}
 
 /// What is told of a journal's trace is how many requests were sent in the journal.
