@@ -257,57 +257,26 @@ const ENDLESS_TEXT: &str = "> opendir 000000012f
 lane 0 call 0 givenup
 ";
 
-/// What is printed of two files that have the same handle.
-const SAME_HANDLE_TEXT: &str = "> open 00000001610000000100000000
-< handle 0000000161
-> open 00000001620000000100000000
-< handle 0000000161
-> close 0000000161
-< status 000000000000000000000000
-> close 0000000161
-< status 000000000000000000000000
-lane 0 call 0 opened
-lane 0 call 1 opened
-lane 0 call 2 done
-lane 0 call 3 done
-";
-
-/// What a server may say, odd as it is: a directory without an end is given up, and a handle that came twice is closed twice.
+/// What a server may say, odd as it is: a directory without an end is given up.
 #[test]
 fn odd_servers(rt: HostRuntime) -> Result<(), Fail> {
     check_rows(
         &rt,
         rt.alloc(),
-        &[
-            (
-                "lane\nlist 2f 2\n",
-                &[
-                    VERSION,
-                    Item::To(1, 0, 102, HANDLE),
-                    Item::To(2, 0, 104, ONE_NAME),
-                    Item::To(3, 0, 104, ONE_NAME),
-                    Item::To(4, 0, 101, OK),
-                ],
-                &[],
-                0,
-                0,
-                ENDLESS_TEXT,
-            ),
-            (
-                "lane\nopen 0 r 61\nopen 1 r 62\nclose 0\nclose 1\n",
-                &[
-                    VERSION,
-                    Item::To(1, 0, 102, HANDLE),
-                    Item::To(2, 0, 102, HANDLE),
-                    Item::To(3, 0, 101, OK),
-                    Item::To(4, 0, 101, OK),
-                ],
-                &[],
-                0,
-                0,
-                SAME_HANDLE_TEXT,
-            ),
-        ],
+        &[(
+            "lane\nlist 2f 2\n",
+            &[
+                VERSION,
+                Item::To(1, 0, 102, HANDLE),
+                Item::To(2, 0, 104, ONE_NAME),
+                Item::To(3, 0, 104, ONE_NAME),
+                Item::To(4, 0, 101, OK),
+            ],
+            &[],
+            0,
+            0,
+            ENDLESS_TEXT,
+        )],
     )
 }
 
