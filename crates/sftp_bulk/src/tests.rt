@@ -57,7 +57,7 @@ fn nine_lines(rt: HostRuntime) -> Result<(), Fail> {
         bytes: 10000,
     };
     let mut out = Vec::new(rt.alloc());
-    write_summary(rt.alloc(), &told, &mut out)?;
+    write_summary(&told, &mut out)?;
     assert_eq!(rt;
         out.as_slice(),
         b"lanes 1\ncalls 12\nrequests 305\ndone 4\nread 3\nmeta 2\nrefused 3\nfiles 0\nbytes 10000\n".as_slice()

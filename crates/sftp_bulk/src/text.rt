@@ -7,7 +7,6 @@ ghost use Rattle.sftp_bulk.specs.Summary.{asked_text, ended_text, left_text, num
 use crate::summary::Summary;
 use itoa::Buffer;
 use ssh_encoding::OutOfMemory;
-use std::alloc::Global;
 
 #[tactic(auto, using(sftp_wire::proofs::Puts::puts))]
 fn put_word(word: &str, out: &mut Vec<u8>) -> Result<(), OutOfMemory>
@@ -85,11 +84,7 @@ fn put_summary(summary: &Summary, out: &mut Vec<u8>) -> Result<(), OutOfMemory>
 }
 
 /// Appends a line for each number. Refused for want of memory; `out` is unchanged then.
-pub fn write_summary(
-    _alloc: Global,
-    summary: &Summary,
-    out: &mut Vec<u8>,
-) -> Result<(), OutOfMemory>
+pub fn write_summary(summary: &Summary, out: &mut Vec<u8>) -> Result<(), OutOfMemory>
     ensures ok { OnOk result (out.new.items ≡ out.old.items ++ summary_text summary.now) }
     ensures err { OnErr result (out.new.items ≡ out.old.items) }
 {
