@@ -26,7 +26,7 @@ fn items(alloc: Global) -> Result<Vec<Scripted>, AllocError> {
 
 // Sends the hello and a CLOSE with the id 7, and fills ten bytes with the reply.
 fn ask<L: Link>(link: &mut L) -> Result<(bool, [u8; 10]), DeviceError>
-    requires { L.LinkState.faults link.old < 2 ^ 64 - 1 }
+    requires { (L.LinkState.state link.old).faults < 2 ^ 64 - 1 }
 {
     send_all(link, &HELLO)?;
     send_all(link, &CLOSE)?;

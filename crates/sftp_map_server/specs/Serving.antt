@@ -5,6 +5,7 @@ use Rattle.std.specs.Result.{result_ok}
 use Rattle.std.specs.Int.RustNames.{bit_and, bit_or}
 use Rattle.sftp_link.specs.declared.piece.Piece.{Piece}
 use Rattle.sftp_link.specs.declared.piece.Piece.TheVariants.{Sent, Got}
+use Rattle.sftp_link.specs.Views.{LinkView}
 use Rattle.ssh_encoding.specs.Writing.{string}
 use Rattle.sftp_model.specs.declared.config.Choice.{Choice}
 use Rattle.sftp_model.specs.declared.config.Limits.{Limits}
@@ -209,6 +210,10 @@ pub record Serving : Type 0 where
   pub now : Server
   pub log : List Piece
   pub ended : Bool
+
+-- what it says of itself as a link: it never fails, and serves from its first state
+abbrev pub server_view : Serving → LinkView Server
+server_view s = record { log = Some s.log; faults = 0; ended = s.ended; service = s.first }
 
 -- what it keeps: its log is that of such a server from the first on, and it ends only where nothing is left to be given
 pub record IsServing (first now : Server) (log : List Piece) (ended : Bool) : Type 0 where

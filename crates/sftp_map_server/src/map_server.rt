@@ -265,18 +265,11 @@ fn wanted(is_over: bool, input: &[u8], most: usize) -> usize
 }
 
 impl LinkState for MapServer {
-    ghost use Rattle.std.specs.Prelude.{Some};
-    ghost use Rattle.sftp_map_server.specs.Serving.{Server};
-
-    ghost log = { λ s. Some s.log };
-
-    ghost faults = { λ s. 0 };
-
-    ghost ended = { λ s. s.ended };
+    ghost use Rattle.sftp_map_server.specs.Serving.{Server, server_view};
 
     ghost Service = { Server };
 
-    ghost service = { λ s. s.first };
+    ghost state = { λ s. server_view s };
 }
 
 impl LinkOut for MapServer {
