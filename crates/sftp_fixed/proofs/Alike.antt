@@ -1,7 +1,6 @@
 -- Runs that are alike, but for the ids of their requests, stay alike, where the same replies are taken at the same places.
 use Rattle.std.proofs.Common.{◌≡◌, ◌<◌, ℕ, zero, suc, Bool, true, false, List, [], ◌∷◌, Option, Some, None, refl, ap, sym, ◌∙◌, subst, arith, inl, inr}
-use Rattle.std.specs.Prelude.{◌&&◌, ◌==◌, nat_lt, is_some, MatchBool}
-use Rattle.std.specs.List.{list_any}
+use Rattle.std.specs.Prelude.{◌&&◌, nat_lt, is_some, MatchBool}
 use Rattle.sftp_model.specs.declared.outcome.Outcome.TheVariants as outcome
 use Rattle.sftp_model.specs.declared.request.Request.TheVariants as request
 use Rattle.sftp_model.specs.declared.reply.Reply.{Reply}
@@ -18,7 +17,7 @@ use Rattle.sftp_history.specs.Readings.{asked, sent, awaited, ended, unanswered}
 use Rattle.sftp_history.specs.Calls.{Setting, current, move_of}
 use Rattle.sftp_history.specs.Grants.{orphan}
 use Rattle.sftp_history.specs.Journals.{close_of}
-use Rattle.sftp_history.specs.Turns.{Stage, TurnTo, MovesBy, RulesTo, SettlesTo, ClosesTo, is_full, is_begun, begun_with, begun_but}
+use Rattle.sftp_history.specs.Turns.{Stage, TurnTo, MovesBy, RulesTo, SettlesTo, ClosesTo, is_full, begun_with, begun_but}
 use Rattle.sftp_history.specs.Runs.{TurnsTo, round_of, EndsTo, LetsGoTo, DrainsTo}
 use Rattle.sftp_fixed.proofs.Placed.{place_of, placed, placed_asked, placed_answers, placed_sent, placed_awaited, placed_unanswered, placed_full, placed_ended, placed_current, placed_move, placed_orphan}
 use Rattle.sftp_fixed.proofs.Back.{GoesBack, rules_back, turns_back, Repeats, HasCall, Awaits, rounds_repeat, drains_repeat, repeats_back}
@@ -117,7 +116,7 @@ rules_same s a b now_a now_b h x y =
 -- ---- turns
 
 -- an event, and what follows it
-events_same : (s : Setting) (a b : List Entry) (begun_a begun_b : List ℕ) (now_a now_b : Stage) → Same a b → begun_a ≡ begun_b
+events_same : (s : Setting) (a b : List Entry) (begun_a begun_b : ℕ → Bool) (now_a now_b : Stage) → Same a b → begun_a ≡ begun_b
     → (now_a.begun ≡ begun_a) × RulesTo s a now_a.past → (now_b.begun ≡ begun_b) × RulesTo s b now_b.past → Alike now_a now_b
 events_same s a b begun_a begun_b now_a now_b h e x y = record { past = rules_same s a b now_a.past now_b.past h x.1 y.1; begun = x.0 ∙ (e ∙ sym y.0) }
 
@@ -166,8 +165,8 @@ turn_same next s turn.Take a b now_a now_b h x y p q =
 turn_same next s (turn.Cancel lane) a b now_a now_b h x y p q =
     let call = read (λ (w : List Entry). current s w lane) (λ w. placed_current s w lane) a.past b.past h.past in
     let n = number lane a.past b.past h.past in
-    tests_same (is_some (current s a.past lane) && is_begun a lane) (is_some (current s b.past lane) && is_begun b lane) _ _ a b now_a now_b h
-    (λ i. is_some (call i) && list_any (λ l. l == lane) (h.begun i))
+    tests_same (is_some (current s a.past lane) && a.begun lane) (is_some (current s b.past lane) && b.begun lane) _ _ a b now_a now_b h
+    (λ i. is_some (call i) && h.begun i lane)
     (λ x y. events_same s _ _ _ _ now_a now_b (λ i. entry.Event (End lane (n i) outcome.Cancelled) ∷ entry.Event (Cancel lane) ∷ h.past i) (λ i. begun_but (h.begun i) lane) x y) x y
 
 -- ---- parts of a run

@@ -10,7 +10,7 @@ use Rattle.sftp_history.specs.declared.entry.Entry.{Entry}
 use Rattle.sftp_history.specs.declared.entry.Entry.TheVariants as entry
 use Rattle.sftp_history.specs.Readings.{asked, sent, awaited, unanswered}
 use Rattle.sftp_history.specs.Calls.{Setting, current, move_of}
-use Rattle.sftp_history.specs.Turns.{Stage, TurnTo, MovesBy, RulesTo, ClosesTo, is_full, is_begun}
+use Rattle.sftp_history.specs.Turns.{Stage, TurnTo, MovesBy, RulesTo, ClosesTo, is_full}
 use Rattle.sftp_history.specs.Runs.{TurnsTo, round_of, RoundsTo, EndsTo, LetsGoTo, DrainsTo}
 
 -- it holds of what stood before an entry
@@ -53,7 +53,7 @@ turn_back P f s turn.Flush before now to p =
     test_back P (nat_lt (sent before.past) (asked before.past)) _ before now (λ x. entry_back P f s _ before.past now.past x.1 p) to p
 turn_back P f s turn.Take before now to p = test_back P (nat_lt 0 (awaited before.past)) _ before now (λ x. entry_back P f s _ before.past now.past x.1.1.1.1 p) to p
 turn_back P f s (turn.Cancel lane) before now to p =
-    test_back P (is_some (current s before.past lane) && is_begun before lane) _ before now
+    test_back P (is_some (current s before.past lane) && before.begun lane) _ before now
     (λ x. f (entry.Event (Cancel lane)) before.past (entry_back P f s _ (entry.Event (Cancel lane) ∷ before.past) now.past x.1 p)) to p
 
 pub turns_back : (P : List Entry → Type 0) → GoesBack P → (s : Setting) (turns : List Turn) (before now : Stage) → TurnsTo s turns before now → P now.past → P before.past

@@ -1,6 +1,6 @@
 -- A worked run of which all is given but the ids of its requests, in which a file is opened and its handle closed, and
 -- beside it what nearly is one.
-use Rattle.std.specs.Prelude.{ℕ, ◌-◌, ◌≡◌, ◌∷◌, List, [], codes, drop, None, Some, refl}
+use Rattle.std.specs.Prelude.{ℕ, ◌-◌, ◌≡◌, Bool, ◌∷◌, List, [], codes, drop, None, Some, refl}
 use Rattle.std.proofs.Common.{arith, inl, inr, sym}
 use Rattle.std.proofs.lemmas.Bool.Decides.{eqb_tells}
 use Rattle.ssh_encoding.specs.Writing.{uint32, string}
@@ -15,12 +15,13 @@ use Rattle.sftp_history.specs.declared.call.Lane.{Lane}
 use Rattle.sftp_history.specs.declared.entry.Entry.{Entry}
 use Rattle.sftp_history.specs.declared.entry.Entry.TheVariants as entry
 use Rattle.sftp_history.specs.JournalRows.{over}
+use Rattle.sftp_history.specs.RunRows.{zero_begun, zero_ended}
 use Rattle.sftp_history.specs.Runs.{IsRun}
 use Rattle.sftp_history.specs.RowWords.{close, end, handle, ok, open_of, send, submit, take, to_read}
 use Rattle.sftp_history.specs.Served.{IsNumbered, Serves}
 use Rattle.sftp_history.specs.ServedRows.{config, hello_file}
 use Rattle.sftp_history.specs.Settings.{setting_of}
-use Rattle.sftp_history.specs.Turns.{Stage}
+use Rattle.sftp_history.specs.Turns.{Stage, none_begun}
 use Rattle.sftp_fixed.specs.Fixed.{IsFixedBy}
 
 abbrev pub opens_a : List Lane
@@ -50,19 +51,19 @@ opened_once =
 abbrev so_far : ℕ → List Entry
 so_far n = drop (8 - n) opened_once
 
-abbrev at : ℕ → List ℕ → Stage
+abbrev at : ℕ → (ℕ → Bool) → Stage
 at n begun = record { past = so_far n; begun = begun }
 
 opened_once_runs : IsRun (setting_of opens_a default_options nothing_offered opened_once) [] opened_once
 unfolding request_body attributes string uint32
 opened_once_runs = (
-  record { opened = []; turned = at 0 []; ended = at 4 []; let_go = at 6 []; drained = at 8 [] },
+  record { opened = []; turned = at 0 none_begun; ended = at 4 none_begun; let_go = at 6 none_begun; drained = at 8 none_begun },
   (
     record {
       opens = refl;
       turns = refl;
       ends = (
-        at 0 [],
+        at 0 none_begun,
         (
           refl,
           (
@@ -70,12 +71,12 @@ opened_once_runs = (
             (
               (λ e. absurd cc),
               (
-                at 3 (0 ∷ []),
+                at 3 zero_begun,
                 (
-                  (at 1 (0 ∷ []), ((refl, (7, ((omega arith, refl), (so_far 1, ((inl refl, refl), refl))))), (at 2 (0 ∷ []), ((refl, (so_far 2, ((inl refl, refl), refl))), (at 3 (0 ∷ []), ((refl, (7, (reply.Handle first_handle, ((0, ((refl, omega arith, refl), (refl, refl))), (so_far 3, ((inl refl, refl), refl)))))), refl)))))),
+                  (at 1 zero_begun, ((refl, (7, ((omega arith, refl), (so_far 1, ((inl refl, refl), refl))))), (at 2 zero_begun, ((refl, (so_far 2, ((inl refl, refl), refl))), (at 3 zero_begun, ((refl, (7, (reply.Handle first_handle, ((0, ((refl, omega arith, refl), (refl, refl))), (so_far 3, ((inl refl, refl), refl)))))), refl)))))),
                   (
                     (λ e. absurd cc),
-                    (at 4 [], ((at 4 [], ((refl, (so_far 4, ((inl refl, refl), refl))), (at 4 [], (refl, (at 4 [], (refl, refl)))))), refl)),
+                    (at 4 none_begun, ((at 4 none_begun, ((zero_ended, (so_far 4, ((inl refl, refl), refl))), (at 4 none_begun, (refl, (at 4 none_begun, (refl, refl)))))), refl)),
                   ),
                 ),
               ),
@@ -84,8 +85,8 @@ opened_once_runs = (
           refl,
         ),
       );
-      lets_go = (at 4 [], (refl, (refl, (so_far 6, ((inr ((0, (refl, (9, ((omega arith, refl), refl)))), inl refl), refl), refl)))));
-      drains = (1, (omega arith, (at 8 [], ((at 7 [], ((refl, (so_far 7, ((inl refl, refl), refl))), (at 8 [], ((refl, (9, (ok, ((1, ((refl, omega arith, refl), (refl, refl))), (so_far 8, ((inl refl, refl), refl)))))), refl)))), refl))));
+      lets_go = (at 4 none_begun, (refl, (refl, (so_far 6, ((inr ((0, (refl, (9, ((omega arith, refl), refl)))), inl refl), refl), refl)))));
+      drains = (1, (omega arith, (at 8 none_begun, ((at 7 none_begun, ((refl, (so_far 7, ((inl refl, refl), refl))), (at 8 none_begun, ((refl, (9, (ok, ((1, ((refl, omega arith, refl), (refl, refl))), (so_far 8, ((inl refl, refl), refl)))))), refl)))), refl))));
       answered = refl;
     },
     refl,

@@ -111,7 +111,7 @@ let_go_one s n before now lt g to =
     let sending : Keeps s to.1.0 now.past = sends_keep s to.1.0 now.past (is_full s to.1.0) to.1.1.1 in
     let same : (lane : ℕ) → was_let_go now.past lane ≡ was_let_go first lane = λ lane. sending.unlet lane ∙ closing.unlet lane in
     record {
-      good = record { good = subst (λ (lanes : List ℕ). Good s now.past lanes) (sym to.0) after.0; still = after.1 };
+      good = record { good = subst (λ (begun : ℕ → Bool). Good s now.past begun) (sym to.0) after.0; still = after.1 };
       idle = λ lane small. sending.idle lane (closing.idle lane (g.idle lane small));
       let_go = λ lane small. same lane ∙ elim (eqb_tells n lane) [ inl t ↦ rw t.0 refl | inr t ↦ rw t.0 (g.let_go lane (let ne : n ≢ lane = t.1 in omega arith)) ];
       kept = λ lane le. same lane ∙ elim (eqb_tells n lane) [ inl t ↦ absurd (let is : n ≡ lane = t.1 in omega arith) | inr t ↦ rw t.0 (g.kept lane (omega arith)) ];

@@ -1,9 +1,8 @@
 -- A whole run is a run so far: each of its entries may come behind those before it.
 use Rattle.std.proofs.Common.{◌≡◌, ◌≢◌, ◌<◌, ◌==◌, ℕ, Bool, true, false, List, [], ◌∷◌, ◌++◌, Option, Some, None, refl, ap, sym, ◌∙◌, subst, arith, if◌then◌else◌, inl, inr}
-use Rattle.std.specs.Prelude.{◌||◌, ◌&&◌, not, nat_lt, is_some, MatchBool}
-use Rattle.std.specs.List.{list_any}
+use Rattle.std.specs.Prelude.{◌||◌, ◌&&◌, nat_lt, is_some, MatchBool}
 use Rattle.std.proofs.lemmas.Bool.Decides.{nat_tests, eqb_tells}
-use Rattle.std.proofs.lemmas.Bool.{ne_eqb, eq-eqb}
+use Rattle.std.proofs.lemmas.Bool.{ne_eqb}
 use Rattle.sftp_model.specs.declared.outcome.Outcome.{Outcome}
 use Rattle.sftp_model.specs.declared.outcome.Outcome.TheVariants as outcome
 use Rattle.sftp_model.specs.declared.request.Request.{Request}
@@ -22,7 +21,7 @@ use Rattle.sftp_history.specs.Readings.{asked, sent, answer, bearer, is_at, is_b
 use Rattle.sftp_history.specs.Calls.{Setting, current, move_of, is_wait, has_waited}
 use Rattle.sftp_history.specs.Grants.{letting_go, orphan_at, closed, IsSettled}
 use Rattle.sftp_history.specs.Journals.{IsJournal, IsNext, MayTake, IsFree, close_of, is_opened, opened, is_some_asked, may_cancel, cancelled_end}
-use Rattle.sftp_history.specs.Turns.{Stage, TurnTo, MovesBy, RulesTo, ClosesTo, SendsTo, is_full, is_begun, begun_with, begun_but}
+use Rattle.sftp_history.specs.Turns.{Stage, TurnTo, MovesBy, RulesTo, ClosesTo, SendsTo, is_full, begun_with, begun_but}
 use Rattle.sftp_history.proofs.CallLaws.{may_next, due_next, cancelled_next, own_submit}
 use Rattle.sftp_history.proofs.LetGoLaws.{closes_leave}
 use Rattle.sftp_history.specs.Steady.{Good, Still}
@@ -83,7 +82,7 @@ still_opened false b r old e = refl
 still_opened true true r old e = refl
 still_opened true false r old e = e
 
-pub good_plain : (s : Setting) (past : List Entry) (begun : List ℕ) (e : Entry) → Good s past begun → IsNext s past e → IsPlain e → Good s (e ∷ past) begun
+pub good_plain : (s : Setting) (past : List Entry) (begun : ℕ → Bool) (e : Entry) → Good s past begun → IsNext s past e → IsPlain e → Good s (e ∷ past) begun
 good_plain s past begun (entry.Event (Submit by id r)) g next p =
     record {
       run = (next, g.run);
@@ -123,7 +122,7 @@ good_plain s past begun (entry.Kept fault) g next p = absurd p
 
 -- ---- rules
 
-pub closes_good : (s : Setting) (before now : List Entry) (begun : List ℕ) → Good s before begun → ClosesTo s before now → Good s now begun
+pub closes_good : (s : Setting) (before now : List Entry) (begun : ℕ → Bool) → Good s before begun → ClosesTo s before now → Good s now begun
 closes_good s before [] begun g e = subst (λ (past : List Entry). Good s past begun) e g
 closes_good s before (e ∷ past) begun g (inl same) = subst (λ (p : List Entry). Good s p begun) same g
 closes_good s before (e ∷ past) begun g (inr (due, rest)) =
@@ -134,7 +133,7 @@ closes_good s before (e ∷ past) begun g (inr (due, rest)) =
 full_more : (s : Setting) (past : List Entry) → is_full s past ≡ true → sent past < asked past
 full_more s past e = grind (arith, nat_tests)
 
-sends_by : (s : Setting) (mid now : List Entry) (begun : List ℕ) (b : Bool) → is_full s mid ≡ b → Good s mid begun → Still s mid
+sends_by : (s : Setting) (mid now : List Entry) (begun : ℕ → Bool) (b : Bool) → is_full s mid ≡ b → Good s mid begun → Still s mid
     → MatchBool b (now ≡ entry.Event Send ∷ mid) (now ≡ mid) → Good s now begun × Still s now
 sends_by s mid now begun false full g h e = (subst (λ (p : List Entry). Good s p begun) (sym e) g, subst (λ (p : List Entry). Still s p) (sym e) h)
 sends_by s mid now begun true full g h e =
@@ -143,10 +142,10 @@ sends_by s mid now begun true full g h e =
       subst (λ (p : List Entry). Still s p) (sym e) (record { settled = h.plain; plain = h.plain }),
     )
 
-pub sends_good : (s : Setting) (mid now : List Entry) (begun : List ℕ) → Good s mid begun → Still s mid → SendsTo s mid now → Good s now begun × Still s now
+pub sends_good : (s : Setting) (mid now : List Entry) (begun : ℕ → Bool) → Good s mid begun → Still s mid → SendsTo s mid now → Good s now begun × Still s now
 sends_good s mid now begun g h to = sends_by s mid now begun (is_full s mid) refl g h to
 
-rules_good : (s : Setting) (first now : List Entry) (begun : List ℕ) → Good s first begun → letting_go s first ≡ None → RulesTo s first now → Good s now begun × Still s now
+rules_good : (s : Setting) (first now : List Entry) (begun : ℕ → Bool) → Good s first begun → letting_go s first ≡ None → RulesTo s first now → Good s now begun × Still s now
 rules_good s first now begun g letting to =
     let good : Good s to.0 begun = closes_good s first to.0 begun g to.1.0.0 in
     let none : letting_go s to.0 ≡ None = (closes_leave s first to.0 to.1.0.0).letting ∙ letting in
@@ -155,43 +154,25 @@ rules_good s first now begun g letting to =
 
 -- ---- turns
 
-last_more : (lanes : List ℕ) (l lane : ℕ) (P : Type 0) → (l ≡ lane → P) → (list_any (λ x. x == lane) lanes ≡ true → P) → list_any (λ x. x == lane) (lanes ++ l ∷ []) ≡ true → P
-last_more [] l lane P here there e = elim (eqb_tells l lane) [ inl t ↦ here t.1 | inr t ↦ there (rw t.0 at e) ]
-last_more (x ∷ lanes) l lane P here there e =
-    elim (eqb_tells x lane) [
-      | inl t ↦ there (left_true (x == lane) (list_any (λ y. y == lane) lanes) t.0)
-      | inr t ↦ last_more lanes l lane P here (λ old. there (or_true (x == lane) (list_any (λ y. y == lane) lanes) old)) (rw t.0 at e)
-    ]
-
-more_by : (l lane : ℕ) (lanes : List ℕ) (b : Bool) (P : Type 0) → (l ≡ lane → P) → (list_any (λ x. x == lane) lanes ≡ true → P) → list_any (λ x. x == lane) (if b then lanes else lanes ++ l ∷ []) ≡ true → P
-more_by l lane lanes true P here there e = there e
-more_by l lane lanes false P here there e = last_more lanes l lane P here there e
-
 -- a lane that is begun after a step of one is that one, or was begun before
-pub begun_more : (l lane : ℕ) (lanes : List ℕ) (P : Type 0) → (l ≡ lane → P) → (list_any (λ x. x == lane) lanes ≡ true → P) → list_any (λ x. x == lane) (begun_with lanes l) ≡ true → P
-begun_more l lane lanes P here there e = more_by l lane lanes (list_any (λ x. x == l) lanes) P here there e
+pub begun_more : (l lane : ℕ) (begun : ℕ → Bool) (P : Type 0) → (l ≡ lane → P) → (begun lane ≡ true → P) → begun_with begun l lane ≡ true → P
+begun_more l lane begun P here there e = elim (eqb_tells l lane) [ inl t ↦ here t.1 | inr t ↦ there (rw t.0 at e) ]
 
 -- a lane that is begun after another one's end was begun before
-but_by : (x l lane : ℕ) (b : Bool) (lanes : List ℕ) → (x == l) ≡ b → (list_any (λ y. y == lane) (begun_but lanes l) ≡ true → (l ≢ lane) × (list_any (λ y. y == lane) lanes ≡ true))
-    → list_any (λ y. y == lane) (if not b then x ∷ begun_but lanes l else begun_but lanes l) ≡ true → (l ≢ lane) × (list_any (λ y. y == lane) (x ∷ lanes) ≡ true)
-but_by x l lane true lanes is more e = let h = more e in (h.0, or_true (x == lane) (list_any (λ y. y == lane) lanes) h.1)
-but_by x l lane false lanes is more e =
-    elim (eqb_tells x lane) [
-      | inl t ↦ ((λ same. absurd (let yes : (x == l) ≡ true = eq-eqb x l (t.1 ∙ sym same) in cc)), left_true (x == lane) (list_any (λ y. y == lane) lanes) t.0)
-      | inr t ↦ (let h = more (rw t.0 at e) in (h.0, or_true (x == lane) (list_any (λ y. y == lane) lanes) h.1))
+pub but_begun : (begun : ℕ → Bool) (l lane : ℕ) → begun_but begun l lane ≡ true → (l ≢ lane) × (begun lane ≡ true)
+but_begun begun l lane e =
+    elim (eqb_tells l lane) [
+      | inl t ↦ absurd (let none : false ≡ true = rw t.0 at e in cc)
+      | inr t ↦ (t.1, rw t.0 at e)
     ]
 
-pub but_begun : (lanes : List ℕ) (l lane : ℕ) → list_any (λ y. y == lane) (begun_but lanes l) ≡ true → (l ≢ lane) × (list_any (λ y. y == lane) lanes ≡ true)
-but_begun [] l lane e = absurd cc
-but_begun (x ∷ lanes) l lane e = but_by x l lane (x == l) lanes refl (but_begun lanes l lane) e
-
-stage_good : (s : Setting) (now : Stage) (begun : List ℕ) → now.begun ≡ begun → Good s now.past begun × Still s now.past → GoodStage s now
-stage_good s now begun e h = record { good = subst (λ (lanes : List ℕ). Good s now.past lanes) (sym e) h.0; still = h.1 }
+stage_good : (s : Setting) (now : Stage) (begun : ℕ → Bool) → now.begun ≡ begun → Good s now.past begun × Still s now.past → GoodStage s now
+stage_good s now begun e h = record { good = subst (λ (begun : ℕ → Bool). Good s now.past begun) (sym e) h.0; still = h.1 }
 
 same_good : (s : Setting) (before now : Stage) → now ≡ before → GoodStage s before → GoodStage s now
 same_good s before now e g = subst (GoodStage s) (sym e) g
 
-pub submit_good : (s : Setting) (past : List Entry) (begun : List ℕ) (lane id : ℕ) (r : Request) → Good s past begun → Still s past → move_of s past lane ≡ Some (Ask r) → IsFree past id
+pub submit_good : (s : Setting) (past : List Entry) (begun : ℕ → Bool) (lane id : ℕ) (r : Request) → Good s past begun → Still s past → move_of s past lane ≡ Some (Ask r) → IsFree past id
     → Good s (entry.Event (Submit (owner.Call lane (ended past lane)) id r) ∷ past) (begun_with begun lane)
 submit_good s past begun lane id r g h move free =
     let e : Entry = entry.Event (Submit (owner.Call lane (ended past lane)) id r) in
@@ -208,8 +189,8 @@ submit_good s past begun lane id r g h move free =
           (λ old. good.cancels l old) b;
     }
 
-pub end_good : (s : Setting) (past : List Entry) (begun : List ℕ) (lane : ℕ) (o : Outcome) → IsJournal s past → opened s past ≡ true → was_kept past ≡ false
-    → ((l : ℕ) → list_any (λ x. x == l) begun ≡ true → may_cancel s past l ≡ true)
+pub end_good : (s : Setting) (past : List Entry) (begun : ℕ → Bool) (lane : ℕ) (o : Outcome) → IsJournal s past → opened s past ≡ true → was_kept past ≡ false
+    → ((l : ℕ) → begun l ≡ true → may_cancel s past l ≡ true)
     → IsNext s past (entry.Event (End lane (ended past lane) o)) → Good s (entry.Event (End lane (ended past lane) o) ∷ past) (begun_but begun lane)
 end_good s past begun lane o run ready unkept cancels next =
     record {
@@ -270,12 +251,12 @@ some_call : (c : Option Call) → is_some c ≡ true → c ≢ None
 some_call None e = absurd cc
 some_call (Some c) e = λ none. absurd cc
 
-cancel_by : (s : Setting) (lane : ℕ) (before now : Stage) (b : Bool) → (is_some (current s before.past lane) && is_begun before lane) ≡ b → GoodStage s before
+cancel_by : (s : Setting) (lane : ℕ) (before now : Stage) (b : Bool) → (is_some (current s before.past lane) && before.begun lane) ≡ b → GoodStage s before
     → MatchBool b ((now.begun ≡ begun_but before.begun lane)
     × RulesTo s (cancelled_end (entry.Event (Cancel lane) ∷ before.past) lane ∷ entry.Event (Cancel lane) ∷ before.past) now.past) (now ≡ before) → GoodStage s now
 cancel_by s lane before now false is g e = same_good s before now e g
 cancel_by s lane before now true is g to =
-    let both = both_true (is_some (current s before.past lane)) (is_begun before lane) is in
+    let both = both_true (is_some (current s before.past lane)) (before.begun lane) is in
     let c : Entry = entry.Event (Cancel lane) in
     let may : IsNext s before.past c = may_next s before.past c g.good.calm g.still.settled (some_call (current s before.past lane) both.0, g.good.cancels lane both.1, g.good.ready) in
     stage_good s now (begun_but before.begun lane) to.0 (rules_good s (cancelled_end (c ∷ before.past) lane ∷ c ∷ before.past) now.past (begun_but before.begun lane)
@@ -286,4 +267,4 @@ pub turn_good : (s : Setting) (t : Turn) (before now : Stage) → GoodStage s be
 turn_good s (turn.Step lane) before now g to = moves_good s lane before now (move_of s before.past lane) refl g to
 turn_good s turn.Flush before now g to = flush_by s before now (nat_lt (sent before.past) (asked before.past)) refl g to
 turn_good s turn.Take before now g to = take_by s before now (nat_lt 0 (awaited before.past)) g to
-turn_good s (turn.Cancel lane) before now g to = cancel_by s lane before now (is_some (current s before.past lane) && is_begun before lane) refl g to
+turn_good s (turn.Cancel lane) before now g to = cancel_by s lane before now (is_some (current s before.past lane) && before.begun lane) refl g to

@@ -17,7 +17,7 @@ use Rattle.sftp_history.specs.declared.entry.Entry.TheVariants as entry
 use Rattle.sftp_history.specs.Readings.{asked, sent, answer, own, ended, was_let_go, awaited}
 use Rattle.sftp_history.specs.Calls.{Setting, current, site_of, move_at, move_of}
 use Rattle.sftp_history.specs.Journals.{MayTake, close_of, cancelled_end}
-use Rattle.sftp_history.specs.Turns.{Stage, TurnTo, MovesBy, RulesTo, ClosesTo, is_full, is_begun, begun_but}
+use Rattle.sftp_history.specs.Turns.{Stage, TurnTo, MovesBy, RulesTo, ClosesTo, is_full, begun_but}
 use Rattle.sftp_history.specs.Runs.{TurnsTo, round_of, RoundsTo, EndsTo, DrainsTo}
 use Rattle.sftp_history.proofs.RunLaws.{GoodStage, turn_good}
 
@@ -98,13 +98,13 @@ some_call : (c : Option Call) (b : Bool) → (is_some c && b) ≡ true → c ≢
 some_call None b e = absurd cc
 some_call (Some c) b e = λ none. absurd cc
 
-cancel_keeps : (s : Setting) (lane : ℕ) (before now : Stage) (b : Bool) → (is_some (current s before.past lane) && is_begun before lane) ≡ b
+cancel_keeps : (s : Setting) (lane : ℕ) (before now : Stage) (b : Bool) → (is_some (current s before.past lane) && before.begun lane) ≡ b
     → MatchBool b ((now.begun ≡ begun_but before.begun lane)
     × RulesTo s (cancelled_end (entry.Event (Cancel lane) ∷ before.past) lane ∷ entry.Event (Cancel lane) ∷ before.past) now.past) (now ≡ before) → Keeps s before.past now.past
 cancel_keeps s lane before now false is e = keeps_same s before.past now.past (ap (λ (x : Stage). x.past) e)
 cancel_keeps s lane before now true is to =
     let c : Entry = entry.Event (Cancel lane) in
-    let some : current s before.past lane ≢ None = some_call (current s before.past lane) (is_begun before lane) is in
+    let some : current s before.past lane ≢ None = some_call (current s before.past lane) (before.begun lane) is in
     let first : Keeps s before.past (c ∷ before.past) = record { idle = λ l none. none; unlet = λ l. refl } in
     let second : Keeps s (c ∷ before.past) (cancelled_end (c ∷ before.past) lane ∷ c ∷ before.past) = end_keeps s (c ∷ before.past) lane (ended before.past lane) outcome.Cancelled some in
     keeps_on s before.past (c ∷ before.past) now.past first
@@ -114,7 +114,7 @@ turn_keeps : (s : Setting) (t : Turn) (before now : Stage) → TurnTo s t before
 turn_keeps s (turn.Step lane) before now to = moves_keep s lane before now (move_of s before.past lane) refl to
 turn_keeps s turn.Flush before now to = flush_keeps s before now (nat_lt (sent before.past) (asked before.past)) to
 turn_keeps s turn.Take before now to = take_keeps s before now (nat_lt 0 (awaited before.past)) to
-turn_keeps s (turn.Cancel lane) before now to = cancel_keeps s lane before now (is_some (current s before.past lane) && is_begun before lane) refl to
+turn_keeps s (turn.Cancel lane) before now to = cancel_keeps s lane before now (is_some (current s before.past lane) && before.begun lane) refl to
 
 -- ---- turns, rounds and drains
 

@@ -1,5 +1,5 @@
 -- The calls of lanes that are ok are within their ranges, and so are those that were added.
-use Rattle.std.proofs.Common.{◌≡◌, ℕ, zero, suc, Bool, true, false, ◌==◌, ◌++◌, List, [], ◌∷◌, Option, Some, None, refl, subst, if◌then◌else◌}
+use Rattle.std.proofs.Common.{◌≡◌, ℕ, zero, suc, Bool, true, false, ◌==◌, ◌++◌, List, [], ◌∷◌, Some, refl, subst, if◌then◌else◌}
 use Rattle.std.specs.Prelude.{nat_lt, slice_get}
 use Rattle.std.specs.List.{list_all, sum_by}
 use Rattle.std.proofs.lemmas.Bool.{and_parts}
@@ -7,8 +7,8 @@ use Rattle.sftp_history.specs.declared.call.Call.{Call}
 use Rattle.sftp_history.specs.declared.call.Lane.{Lane}
 use Rattle.sftp_history.specs.declared.entry.Entry.{Entry}
 use Rattle.sftp_history.specs.declared.entry.Entry.TheVariants as entry
-use Rattle.sftp_history.specs.Calls.{Setting, added, calls_of, current, lane_calls}
-use Rattle.sftp_history.specs.Journals.{IsJournal, MustClose, cancelled_end}
+use Rattle.sftp_history.specs.Calls.{Setting, added, calls_of, current}
+use Rattle.sftp_history.specs.Journals.{IsJournal}
 use Rattle.sftp_history.specs.Lanes.{are_ok, is_within, lane_weight, weight_limit}
 use Rattle.sftp_history.specs.Readings.{ended}
 use Rattle.sftp_history.proofs.HolderLaws.{may_of}

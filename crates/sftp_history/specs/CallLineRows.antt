@@ -1,5 +1,5 @@
 -- Worked lines of calls, and beside them what nearly is one.
-use Rattle.std.specs.Prelude.{ℕ, pos, negsuc, ◌≡◌, ◌∷◌, ◌+◌, ◌-◌, ◌^◌, List, [], codes, Some, None, Result, Ok, Err, refl}
+use Rattle.std.specs.Prelude.{ℕ, pos, negsuc, ◌≡◌, ◌∷◌, ◌-◌, ◌^◌, List, [], codes, Some, None, Result, Ok, Err, refl}
 use Rattle.std.specs.declared.io.traits.SeekFrom.TheVariants as position
 use Rattle.sftp_history.specs.declared.call.Call.{Call}
 use Rattle.sftp_history.specs.declared.call.Call.TheVariants as call

@@ -1,5 +1,5 @@
 -- Worked journals of `close`, and turns with few requests that may stay unsent, and beside each what nearly is one.
-use Rattle.std.specs.Prelude.{ℕ, ◌-◌, ◌≡◌, ◌∷◌, List, [], codes, drop, true, refl}
+use Rattle.std.specs.Prelude.{ℕ, ◌-◌, ◌≡◌, Bool, ◌∷◌, List, [], codes, drop, true, refl}
 use Rattle.std.proofs.Common.{arith, inl}
 use Rattle.ssh_encoding.specs.Writing.{uint32, string}
 use Rattle.sftp_model.specs.declared.outcome.Outcome.TheVariants as outcome
@@ -13,11 +13,12 @@ use Rattle.sftp_history.specs.declared.entry.Entry.TheVariants as entry
 use Rattle.sftp_history.specs.declared.turn.Turn.TheVariants as turn
 use Rattle.sftp_history.specs.Calls.{Setting}
 use Rattle.sftp_history.specs.Journals.{IsJournal, IsNext, IsOver}
-use Rattle.sftp_history.specs.Turns.{Stage}
+use Rattle.sftp_history.specs.Turns.{Stage, none_begun, begun_with}
 use Rattle.sftp_history.specs.Runs.{IsRun, TurnsTo, at_first}
 use Rattle.sftp_history.specs.RowWords.{to_read, setting_with, submit, send, take, end, cancel, close, open_of, refusal, granted, handle}
 use Rattle.sftp_history.specs.EntryRows.{no_limits, told_limits}
 use Rattle.sftp_history.specs.SlotRows.{two_lanes}
+use Rattle.sftp_history.specs.RunRows.{zero_begun}
 
 -- ---- a `close` gives up its slot, whatever becomes of it
 
@@ -137,21 +138,21 @@ hasty = record two_lanes { max_pending = 1 }
 abbrev pub hasty_over : List Entry
 hasty_over = send ∷ submit 1 0 1 (open_of (codes "b")) ∷ submit 0 0 0 (open_of (codes "a")) ∷ []
 
-abbrev pub hasty_at : ℕ → List ℕ → Stage
+abbrev pub hasty_at : ℕ → (ℕ → Bool) → Stage
 hasty_at n begun = record { past = drop (3 - n) hasty_over; begun = begun }
 
 -- the second step sends both
-pub two_steps_send : TurnsTo hasty (turn.Step 0 ∷ turn.Step 1 ∷ turn.Flush ∷ []) (hasty_at 0 []) (hasty_at 3 (0 ∷ 1 ∷ []))
+pub two_steps_send : TurnsTo hasty (turn.Step 0 ∷ turn.Step 1 ∷ turn.Flush ∷ []) (hasty_at 0 none_begun) (hasty_at 3 (begun_with zero_begun 1))
 unfolding request_body attributes string uint32
 two_steps_send = (
-  hasty_at 1 (0 ∷ []),
+  hasty_at 1 zero_begun,
   (
-    (refl, (0, ((omega arith, refl), ((hasty_at 1 []).past, ((inl refl, refl), refl))))),
+    (refl, (0, ((omega arith, refl), ((hasty_at 1 none_begun).past, ((inl refl, refl), refl))))),
     (
-      hasty_at 3 (0 ∷ 1 ∷ []),
+      hasty_at 3 (begun_with zero_begun 1),
       (
-        (refl, (1, ((omega arith, refl), ((hasty_at 2 []).past, ((inl refl, refl), refl))))),
-        (hasty_at 3 (0 ∷ 1 ∷ []), (refl, refl)),
+        (refl, (1, ((omega arith, refl), ((hasty_at 2 none_begun).past, ((inl refl, refl), refl))))),
+        (hasty_at 3 (begun_with zero_begun 1), (refl, refl)),
       ),
     ),
   ),
@@ -165,7 +166,7 @@ asks = record (setting_with ([] ∷ [])) { limits = true }
 pub run_of_limits : IsRun asks [] (entry.LetGo 0 ∷ told_limits)
 unfolding limits_at
 run_of_limits =
-    let last : Stage = record { past = entry.LetGo 0 ∷ told_limits; begun = [] } in (
+    let last : Stage = record { past = entry.LetGo 0 ∷ told_limits; begun = none_begun } in (
       record { opened = told_limits; turned = at_first told_limits; ended = at_first told_limits; let_go = last; drained = last },
       (
         record {

@@ -1,5 +1,5 @@
 -- Worked rows of what calls and lanes count, and of the ranges of whole reads and of calls on buffered files.
-use Rattle.std.specs.Prelude.{◌≡◌, ◌∷◌, List, [], true, false, codes, refl}
+use Rattle.std.specs.Prelude.{◌≡◌, ◌∷◌, [], true, false, codes, refl}
 use Rattle.sftp_history.specs.declared.call.Call.TheVariants as call
 use Rattle.sftp_history.specs.Lanes.{are_ok, is_within, lane_weight, weight}
 

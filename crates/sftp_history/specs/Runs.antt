@@ -12,7 +12,7 @@ use Rattle.sftp_history.specs.declared.entry.Entry.TheVariants as entry
 use Rattle.sftp_history.specs.Readings.{unanswered}
 use Rattle.sftp_history.specs.Calls.{Setting, current}
 use Rattle.sftp_history.specs.Journals.{MayTake, IsFree}
-use Rattle.sftp_history.specs.Turns.{Stage, TurnTo, RulesTo}
+use Rattle.sftp_history.specs.Turns.{Stage, TurnTo, RulesTo, none_begun}
 
 -- these turns, the first of them first
 abbrev pub TurnsTo : Setting → List Turn → Stage → Stage → Type 0
@@ -71,7 +71,7 @@ pub record Stages : Type 0 where
 
 -- a journal whose lanes were not begun
 abbrev pub at_first : List Entry → Stage
-at_first past = record { past = past; begun = [] }
+at_first past = record { past = past; begun = none_begun }
 
 -- the parts of a run, each from where the one before it stopped
 pub record GoesBy (s : Setting) (schedule : List Turn) (at : Stages) : Type 0 where

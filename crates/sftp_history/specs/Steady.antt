@@ -1,6 +1,5 @@
 -- What a run so far keeps between two turns.
-use Rattle.std.specs.Prelude.{◌≡◌, ◌==◌, ℕ, true, false, List, None}
-use Rattle.std.specs.List.{list_any}
+use Rattle.std.specs.Prelude.{◌≡◌, ℕ, Bool, true, false, List, None}
 use Rattle.sftp_history.specs.declared.entry.Entry.{Entry}
 use Rattle.sftp_history.specs.Readings.{last_cancel, was_kept}
 use Rattle.sftp_history.specs.Calls.{Setting}
@@ -8,12 +7,12 @@ use Rattle.sftp_history.specs.Grants.{orphan, IsSettled}
 use Rattle.sftp_history.specs.Journals.{IsJournal, opened, may_cancel}
 
 -- a run so far whose lanes that were begun may be cancelled
-pub record Good (s : Setting) (past : List Entry) (begun : List ℕ) : Type 0 where
+pub record Good (s : Setting) (past : List Entry) (begun : ℕ → Bool) : Type 0 where
   pub run : IsJournal s past
   pub calm : last_cancel past ≡ None
   pub ready : opened s past ≡ true
   pub unkept : was_kept past ≡ false
-  pub cancels : (lane : ℕ) → list_any (λ l. l == lane) begun ≡ true → may_cancel s past lane ≡ true
+  pub cancels : (lane : ℕ) → begun lane ≡ true → may_cancel s past lane ≡ true
 
 -- no grant is to be closed
 pub record Still (s : Setting) (past : List Entry) : Type 0 where

@@ -1,6 +1,6 @@
 -- The text that is printed of a session: its frames in their order, the outcomes of its calls, and the files and
 -- directories of its server.
-use Rattle.std.specs.Prelude.{ℕ, ◌+◌, ◌==◌, Bool, true, false, List, [], ◌∷◌, ◌++◌, codes, drop, filter, map, if◌then◌else◌}
+use Rattle.std.specs.Prelude.{ℕ, ◌+◌, ◌==◌, false, List, [], ◌∷◌, ◌++◌, codes, drop, filter, map, if◌then◌else◌}
 use Rattle.std.specs.Int.Digits.{digits_of}
 use Rattle.std.specs.List.{flat_map}
 use Rattle.ssh_encoding.specs.Canonical.{hex_text}

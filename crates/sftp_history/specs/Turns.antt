@@ -1,6 +1,5 @@
 -- How a session's journal goes on under one turn of its schedule.
-use Rattle.std.specs.Prelude.{◌≡◌, ◌⊎◌, ◌-◌, ℕ, ◌==◌, Bool, not, ◌&&◌, if◌then◌else◌, List, [], ◌∷◌, ◌++◌, Option, Some, None, nat_lt, is_some, filter, MatchBool}
-use Rattle.std.specs.List.{list_any}
+use Rattle.std.specs.Prelude.{◌≡◌, ◌⊎◌, ◌-◌, ℕ, ◌==◌, Bool, false, not, ◌||◌, ◌&&◌, List, [], ◌∷◌, Option, Some, None, nat_lt, is_some, MatchBool}
 use Rattle.sftp_model.specs.declared.reply.Reply.{Reply}
 use Rattle.sftp_model.specs.declared.slot.Move.{Move}
 use Rattle.sftp_model.specs.declared.slot.Move.TheVariants.{Ask, Wait, Done}
@@ -40,22 +39,22 @@ RulesTo s before now = (mid : List Entry) × (SettlesTo s before mid × SendsTo 
 
 -- ---- stages
 
--- A journal, and the lanes whose call was begun: a turn stepped it, and it hasn't ended.
+-- A journal, and which lanes' call was begun: a turn stepped it, and it hasn't ended.
 pub record Stage : Type 0 where
   pub past : List Entry
-  pub begun : List ℕ
+  pub begun : ℕ → Bool
 
--- the lane was begun
-abbrev pub is_begun : Stage → ℕ → Bool
-is_begun at lane = list_any (λ l. l == lane) at.begun
+-- no lane was begun
+abbrev pub none_begun : ℕ → Bool
+none_begun = λ l. false
 
 -- the lanes that were begun, and this one
-abbrev pub begun_with : List ℕ → ℕ → List ℕ
-begun_with lanes lane = if list_any (λ l. l == lane) lanes then lanes else lanes ++ lane ∷ []
+abbrev pub begun_with : (ℕ → Bool) → ℕ → ℕ → Bool
+begun_with begun lane = λ l. (lane == l) || begun l
 
 -- the lanes that were begun, but this one
-abbrev pub begun_but : List ℕ → ℕ → List ℕ
-begun_but lanes lane = filter (λ l. not (l == lane)) lanes
+abbrev pub begun_but : (ℕ → Bool) → ℕ → ℕ → Bool
+begun_but begun lane = λ l. not (lane == l) && begun l
 
 -- ---- single turns, where `Follows` says what follows their event
 
@@ -87,7 +86,7 @@ TakesBy Follows before now =
 -- the call of a begun lane is cancelled
 abbrev pub CancelsBy : (List Entry → List Entry → Type 0) → Setting → ℕ → Stage → Stage → Type 0
 CancelsBy Follows s lane before now =
-    MatchBool (is_some (current s before.past lane) && is_begun before lane)
+    MatchBool (is_some (current s before.past lane) && before.begun lane)
     ((now.begun ≡ begun_but before.begun lane)
     × Follows (cancelled_end (entry.Event (Cancel lane) ∷ before.past) lane ∷ entry.Event (Cancel lane) ∷ before.past) now.past)
     (now ≡ before)

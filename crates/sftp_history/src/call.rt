@@ -1,5 +1,11 @@
+ghost use Rattle.std.specs.Prelude.{◌≡◌, ◌+◌, ◌^◌, length, min};
+ghost use Rattle.sftp_history.specs.Lanes.{is_long, is_short, is_within, weight};
+
 use sftp_file::OpenOptions;
+use sftp_model::TryCopy;
 use sftp_values::{ByteText, Items};
+use ssh_encoding::OutOfMemory;
+use std::alloc::Global;
 use std::io::SeekFrom;
 
 /// One call of a lane. A slot is a number from 0 to 15. Offsets and lengths are in bytes. A path that doesn't begin
@@ -177,6 +183,193 @@ pub enum Call {
     Cwd {
         path: ByteText,
     },
+}
+
+impl TryCopy for Call {
+    fn try_copy(&self, alloc: Global) -> Result<Call, OutOfMemory> {
+        match self {
+            Call::OpenFile { slot, flags, path } => Ok(Call::OpenFile {
+                slot: *slot,
+                flags: *flags,
+                path: path.try_copy(alloc)?,
+            }),
+            Call::Read { slot, n } => Ok(Call::Read { slot: *slot, n: *n }),
+            Call::ReadAll { slot, n } => Ok(Call::ReadAll { slot: *slot, n: *n }),
+            Call::Write { slot, bytes } => Ok(Call::Write {
+                slot: *slot,
+                bytes: bytes.try_copy(alloc)?,
+            }),
+            Call::WriteAll { slot, bytes } => Ok(Call::WriteAll {
+                slot: *slot,
+                bytes: bytes.try_copy(alloc)?,
+            }),
+            Call::WriteParts { slot, parts } => Ok(Call::WriteParts {
+                slot: *slot,
+                parts: parts.try_copy(alloc)?,
+            }),
+            Call::Seek { slot, position } => Ok(Call::Seek {
+                slot: *slot,
+                position: *position,
+            }),
+            Call::SetLen { slot, n } => Ok(Call::SetLen { slot: *slot, n: *n }),
+            Call::SetPerm { slot, perm } => Ok(Call::SetPerm {
+                slot: *slot,
+                perm: *perm,
+            }),
+            Call::Meta { slot } => Ok(Call::Meta { slot: *slot }),
+            Call::Sync { slot } => Ok(Call::Sync { slot: *slot }),
+            Call::Copy { from, to, n } => Ok(Call::Copy {
+                from: *from,
+                to: *to,
+                n: *n,
+            }),
+            Call::CloneFile { from, to } => Ok(Call::CloneFile {
+                from: *from,
+                to: *to,
+            }),
+            Call::Close { slot } => Ok(Call::Close { slot: *slot }),
+            Call::Buffer { slot, len } => Ok(Call::Buffer {
+                slot: *slot,
+                len: *len,
+            }),
+            Call::Unbuffer { slot } => Ok(Call::Unbuffer { slot: *slot }),
+            Call::BufRead { slot, n } => Ok(Call::BufRead { slot: *slot, n: *n }),
+            Call::BufWrite { slot, bytes } => Ok(Call::BufWrite {
+                slot: *slot,
+                bytes: bytes.try_copy(alloc)?,
+            }),
+            Call::BufWriteAll { slot, bytes } => Ok(Call::BufWriteAll {
+                slot: *slot,
+                bytes: bytes.try_copy(alloc)?,
+            }),
+            Call::BufFlush { slot } => Ok(Call::BufFlush { slot: *slot }),
+            Call::BufSeek { slot, position } => Ok(Call::BufSeek {
+                slot: *slot,
+                position: *position,
+            }),
+            Call::FsRead { path, bound } => Ok(Call::FsRead {
+                path: path.try_copy(alloc)?,
+                bound: *bound,
+            }),
+            Call::FsWrite { path, bytes } => Ok(Call::FsWrite {
+                path: path.try_copy(alloc)?,
+                bytes: bytes.try_copy(alloc)?,
+            }),
+            Call::List { path, bound } => Ok(Call::List {
+                path: path.try_copy(alloc)?,
+                bound: *bound,
+            }),
+            Call::Stat { path } => Ok(Call::Stat {
+                path: path.try_copy(alloc)?,
+            }),
+            Call::Lstat { path } => Ok(Call::Lstat {
+                path: path.try_copy(alloc)?,
+            }),
+            Call::SetStat { path, size, perm } => Ok(Call::SetStat {
+                path: path.try_copy(alloc)?,
+                size: *size,
+                perm: *perm,
+            }),
+            Call::Remove { path } => Ok(Call::Remove {
+                path: path.try_copy(alloc)?,
+            }),
+            Call::Mkdir { path } => Ok(Call::Mkdir {
+                path: path.try_copy(alloc)?,
+            }),
+            Call::Rmdir { path } => Ok(Call::Rmdir {
+                path: path.try_copy(alloc)?,
+            }),
+            Call::Rename { old, to } => Ok(Call::Rename {
+                old: old.try_copy(alloc)?,
+                to: to.try_copy(alloc)?,
+            }),
+            Call::HardLink { old, to } => Ok(Call::HardLink {
+                old: old.try_copy(alloc)?,
+                to: to.try_copy(alloc)?,
+            }),
+            Call::Symlink { src, dst } => Ok(Call::Symlink {
+                src: src.try_copy(alloc)?,
+                dst: dst.try_copy(alloc)?,
+            }),
+            Call::ReadLink { path } => Ok(Call::ReadLink {
+                path: path.try_copy(alloc)?,
+            }),
+            Call::Canonicalize { path } => Ok(Call::Canonicalize {
+                path: path.try_copy(alloc)?,
+            }),
+            Call::Cwd { path } => Ok(Call::Cwd {
+                path: path.try_copy(alloc)?,
+            }),
+        }
+    }
+}
+
+/// Whether a size is one of 64 bits, as each is.
+fn is_long(_n: u64) -> bool
+    ensures { result ≡ is_long _n }
+{
+    true
+}
+
+/// Whether a bound is one of 32 bits, as each is.
+fn is_short(_n: u32) -> bool
+    ensures { result ≡ is_short _n }
+{
+    true
+}
+
+/// What a call of these bytes counts, or 2147483648 where it is more.
+fn weight_of_bytes(bytes: &[u8]) -> u32
+    ensures { result ≡ min (2 + length bytes.now) (2 ^ 31) }
+{
+    (bytes.len() as u64).saturating_add(2).min(0x8000_0000) as u32
+}
+
+impl Call {
+    /// Whether it names slots that are there, and no bound or length of 0.
+    pub(crate) fn is_within(&self) -> bool
+        ensures { result ≡ is_within self.now }
+    {
+        match self {
+            Call::OpenFile { slot, .. } => *slot < 16,
+            Call::Read { slot, .. } => *slot < 16,
+            Call::ReadAll { slot, .. } => *slot < 16,
+            Call::Write { slot, .. } => *slot < 16,
+            Call::WriteAll { slot, .. } => *slot < 16,
+            Call::WriteParts { slot, .. } => *slot < 16,
+            Call::Seek { slot, .. } => *slot < 16,
+            Call::SetLen { slot, n } => *slot < 16 && is_long(*n),
+            Call::SetPerm { slot, .. } => *slot < 16,
+            Call::Meta { slot } => *slot < 16,
+            Call::Sync { slot } => *slot < 16,
+            Call::Copy { from, to, .. } => *from < 16 && *to < 16,
+            Call::CloneFile { from, to } => *from < 16 && *to < 16,
+            Call::Close { slot } => *slot < 16,
+            Call::Buffer { slot, len } => *slot < 16 && 1 <= *len,
+            Call::Unbuffer { slot } => *slot < 16,
+            Call::BufRead { slot, .. } => *slot < 16,
+            Call::BufWrite { slot, .. } => *slot < 16,
+            Call::BufWriteAll { slot, .. } => *slot < 16,
+            Call::BufFlush { slot } => *slot < 16,
+            Call::BufSeek { slot, .. } => *slot < 16,
+            Call::FsRead { bound, .. } => 1 <= *bound && is_short(*bound),
+            Call::List { bound, .. } => 1 <= *bound,
+            Call::SetStat { size, .. } => size.is_none_or(is_long),
+            _ => true,
+        }
+    }
+
+    /// What it counts among the calls of a session, or 2147483648 where it is more.
+    pub(crate) fn weight(&self) -> u32
+        ensures { result ≡ min (weight self.now) (2 ^ 31) }
+    {
+        match self {
+            Call::BufWrite { bytes, .. } => weight_of_bytes(bytes.as_slice()),
+            Call::BufWriteAll { bytes, .. } => weight_of_bytes(bytes.as_slice()),
+            Call::FsRead { .. } => 65,
+            _ => 2,
+        }
+    }
 }
 
 /// Calls that are made one after another.

@@ -1,7 +1,6 @@
 -- A request of a lane leaves its session at rest.
-use Rattle.std.proofs.Common.{◌≡◌, ◌≢◌, ◌<◌, ◌≤◌, ◌+◌, ◌==◌, ◌^◌, ℕ, Bool, true, List, [], ◌∷◌, ◌++◌, ◌⊎◌, Option, Some, None, refl, ap, sym, ◌∙◌, subst, arith, inl, inr}
+use Rattle.std.proofs.Common.{◌≡◌, ◌≢◌, ◌<◌, ◌≤◌, ◌+◌, ◌^◌, ℕ, Bool, true, List, [], ◌∷◌, ◌++◌, ◌⊎◌, Option, Some, None, refl, ap, sym, ◌∙◌, subst, arith, inl, inr}
 use Rattle.std.specs.Prelude.{length, slice_get, is_some}
-use Rattle.std.specs.List.{list_any}
 use Rattle.std.proofs.lemmas.Bool.Decides.{eqb_tells}
 use Rattle.sftp_model.specs.Answers.{expected_of, may_answer}
 use Rattle.sftp_model.specs.declared.answers.Expected.{Expected}
@@ -38,7 +37,7 @@ use Rattle.sftp_history.specs.Turns.{begun_with}
 use Rattle.sftp_history.proofs.CallLaws.{may_next}
 use Rattle.sftp_history.proofs.IdLaws.{IsFreeState, free_state}
 use Rattle.sftp_history.proofs.RequestLaws.{asked_new, asked_other}
-use Rattle.sftp_history.proofs.RunLaws.{begun_more, submit_good}
+use Rattle.sftp_history.proofs.RunLaws.{submit_good}
 use Rattle.sftp_ties.specs.Changes.{with_lane}
 use Rattle.sftp_ties.specs.Dues.{Dues}
 use Rattle.sftp_ties.specs.Lanes.{Held, LaneValue, SessionTied, Ticketed, among, grant_places, grants_of, ticket_places, tickets_of}
@@ -218,7 +217,7 @@ asks_new past core new lane id tickets v opened reads old a r q u x stood others
 
 -- ---- the session
 
-pub asked_rests : (s : Setting) (past : List Entry) (core new : Core) (lanes : ℕ → LaneValue) (begun : List ℕ) (lane id : ℕ) (now : LaneValue) (tickets : List Ticketed) (opened : Option ℕ) (reads : List ReadAt) (old : Site) (a : Ask_of) (r : Running) (q : Request) → AtRest s past core lanes begun → lane < length s.lanes
+pub asked_rests : (s : Setting) (past : List Entry) (core new : Core) (lanes : ℕ → LaneValue) (begun : ℕ → Bool) (lane id : ℕ) (now : LaneValue) (tickets : List Ticketed) (opened : Option ℕ) (reads : List ReadAt) (old : Site) (a : Ask_of) (r : Running) (q : Request) → AtRest s past core lanes begun → lane < length s.lanes
     → Under past core new lane id a q → AsksOrDefers opened (asked past) reads old now.site a r → ((x : ReadAt) → IsAmong x reads → IsReadAt past x) → ((p : ℕ) → is_in p (ticket_places tickets) ≡ true → IsTransferAt past p) → ((g : ℕ) → opened ≡ Some g → is_in g (grant_places now.grants) ≡ true) → now.running ≡ Some r
     → now.tickets ≡ tickets ++ (record { place = asked past; ticket = id }) ∷ [] → now.ended ≡ (lanes lane).ended → id < 2 ^ 32 → TurnTied s past new (with_lane lanes lane) lane now (moved.Asked id q) → IsAsked s past core new (with_lane lanes lane now) begun lane id q
 asked_rests s past core new lanes begun lane id now tickets opened reads old a r q h there u x stood others held was pushed same small t =
@@ -234,6 +233,7 @@ asked_rests s past core new lanes begun lane id now tickets opened reads old a r
       move = t.0;
       free = free;
       next = next;
+      runs = ap (λ (v : LaneValue). is_some v.running) (with_here lanes lane now) ∙ ap is_some was;
       work = u.work;
       rest = record {
         settled = none_next s (e ∷ past) refl due;
@@ -244,9 +244,6 @@ asked_rests s past core new lanes begun lane id now tickets opened reads old a r
           counted = u.counted;
           asks = λ w lt. each_with (λ n v. LaneAsks (e ∷ past) n v) lanes lane now (length s.lanes) (asks_new past core new lane id tickets now opened reads old a r q u x stood others held was pushed ends)
               (λ n less ne. asks_on past (e ∷ past) n (lanes n) (λ p below. asked_other past (owner.Call lane (ended past lane)) id p q below) (b.tied.each n less).goes.awaits (b.asks n less)) w lt;
-          begins = λ w lt any. begun_more lane w begun (is_some (with_lane lanes lane now w).running ≡ true)
-              (λ is. subst (λ (n : ℕ). is_some (with_lane lanes lane now n).running ≡ true) is (ap (λ (v : LaneValue). is_some v.running) (with_here lanes lane now) ∙ ap is_some was))
-              (λ old. each_with (λ n v. list_any (λ l. l == n) begun ≡ true → is_some v.running ≡ true) lanes lane now (length s.lanes) (λ y. ap is_some was) (λ n less ne y. b.begins n less y) w lt old) any;
         };
       };
     }

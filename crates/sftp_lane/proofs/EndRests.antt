@@ -1,8 +1,6 @@
 -- A call that waits, or has ended, leaves its session at rest, but for the grants that are due then.
-use Rattle.std.proofs.Common.{arith, ◌≡◌, ◌≢◌, ◌<◌, ◌≤◌, ◌==◌, ℕ, Bool, true, false, List, [], ◌∷◌, Option, Some, None, refl, ap, sym, ◌∙◌, subst, inl, inr, ◌||◌, if◌then◌else◌}
+use Rattle.std.proofs.Common.{arith, ◌≡◌, ◌<◌, ◌≤◌, ◌==◌, ℕ, Bool, true, false, List, [], ◌∷◌, Option, Some, None, refl, ap, sym, ◌∙◌, subst, inr, ◌||◌, if◌then◌else◌}
 use Rattle.std.specs.Prelude.{length, is_some}
-use Rattle.std.specs.List.{list_any}
-use Rattle.std.proofs.lemmas.Bool.Decides.{eqb_tells}
 use Rattle.sftp_model.specs.declared.outcome.Outcome.{Outcome}
 use Rattle.sftp_model.specs.declared.slot.Move.TheVariants.{Wait}
 use Rattle.sftp_core.specs.Core.{Core}
@@ -18,7 +16,7 @@ use Rattle.sftp_history.specs.Steady.{Good}
 use Rattle.sftp_history.specs.Turns.{begun_but, begun_with}
 use Rattle.sftp_history.proofs.CallLaws.{may_next}
 use Rattle.sftp_history.proofs.CountLaws.{some_unanswered}
-use Rattle.sftp_history.proofs.RunLaws.{begun_more, but_begun, end_good}
+use Rattle.sftp_history.proofs.RunLaws.{begun_more, end_good}
 use Rattle.sftp_ties.specs.Changes.{ended_lane, with_lane}
 use Rattle.sftp_ties.specs.Lanes.{LaneValue, ticket_places}
 use Rattle.sftp_ties.specs.Places.{is_in}
@@ -51,7 +49,7 @@ ended_asks past lane v idle others =
       reads = λ x among. absurd (subst (λ (o : Option Running). IsAmong x (reads_under o)) idle among);
     }
 
-pub ended_rests : (s : Setting) (past : List Entry) (core c new : Core) (lanes : ℕ → LaneValue) (begun : List ℕ) (lane : ℕ) (now : LaneValue) (o : Outcome) → AtRest s past core lanes begun → lane < length s.lanes → Midway past core c → new ≡ c
+pub ended_rests : (s : Setting) (past : List Entry) (core c new : Core) (lanes : ℕ → LaneValue) (begun : ℕ → Bool) (lane : ℕ) (now : LaneValue) (o : Outcome) → AtRest s past core lanes begun → lane < length s.lanes → Midway past core c → new ≡ c
     → ((p : ℕ) → is_in p (ticket_places now.tickets) ≡ true → IsTransferAt past p) → TurnTied s past new (with_lane lanes lane) lane now (moved.Ended o) → Ended s past core new (with_lane lanes lane (ended_lane now now.site)) begun lane now o
 ended_rests s past core c new lanes begun lane now o h there m same others t =
     let b = h.between in
@@ -70,12 +68,8 @@ ended_rests s past core c new lanes begun lane now o h there m same others t =
         counted = subst (λ (x : Core). Counted (e ∷ past) x) (sym same) (record { waiting = m.counted.waiting; sent = m.counted.sent });
         asks = λ w lt. each_with (λ n v. LaneAsks (e ∷ past) n v) lanes lane (ended_lane now now.site) (length s.lanes) (ended_asks (e ∷ past) lane (ended_lane now now.site) refl (λ p has. let t = others p has in record { asked = t.asked; here = t.here; transfers = t.transfers }))
             (λ n less ne. asks_on past (e ∷ past) n (lanes n) (λ p below. refl) (b.tied.each n less).goes.awaits (b.asks n less)) w lt;
-        begins = λ w lt any. (let old = but_begun begun lane w any in begins w lt old.0 old.1);
       };
     }
-  where
-    begins : (w : ℕ) → w < length s.lanes → lane ≢ w → list_any (λ l. l == w) begun ≡ true → is_some (with_lane lanes lane (ended_lane now now.site) w).running ≡ true
-    begins w lt ne any = elim (eqb_tells lane w) [ inl t ↦ absurd (ne t.1) | inr t ↦ rw t.0 (h.between.begins w lt any) ]
 
 -- ---- a call that waits
 
@@ -92,7 +86,7 @@ waits_now s [] lane place e = ap is_wait e
 waits_now s (entry.Event (End l c o) ∷ past) lane place e = wait_left (is_wait (move_of s (entry.Event (End l c o) ∷ past) lane)) (if l == lane then false else has_waited s past lane) (ap is_wait e)
 waits_now s (e ∷ past) lane place w = wait_left (is_wait (move_of s (e ∷ past) lane)) (has_waited s past lane) (ap is_wait w)
 
-waiting_good : (s : Setting) (past : List Entry) (begun : List ℕ) (lane place : ℕ) → Good s past begun → move_of s past lane ≡ Some (Wait place) → Good s past (begun_with begun lane)
+waiting_good : (s : Setting) (past : List Entry) (begun : ℕ → Bool) (lane place : ℕ) → Good s past begun → move_of s past lane ≡ Some (Wait place) → Good s past (begun_with begun lane)
 waiting_good s past begun lane place g move =
     record {
       run = g.run;
@@ -103,7 +97,7 @@ waiting_good s past begun lane place g move =
           (λ is. subst (λ (n : ℕ). may_cancel s past n ≡ true) is (wait_right (is_some_asked (own past lane (ended past lane))) (has_waited s past lane) (waits_now s past lane place move))) (λ old. g.cancels l old) any;
     }
 
-pub waits_rest : (s : Setting) (past : List Entry) (core new : Core) (lanes : ℕ → LaneValue) (begun : List ℕ) (lane : ℕ) (c : Call) (now : LaneValue) → AtRest s past core lanes begun → lane < length s.lanes → TurnWaits c s.facts core new (lanes lane) now moved.Waits
+pub waits_rest : (s : Setting) (past : List Entry) (core new : Core) (lanes : ℕ → LaneValue) (begun : ℕ → Bool) (lane : ℕ) (c : Call) (now : LaneValue) → AtRest s past core lanes begun → lane < length s.lanes → TurnWaits c s.facts core new (lanes lane) now moved.Waits
     → TurnTied s past new (with_lane lanes lane) lane now moved.Waits → Waits s past core new (with_lane lanes lane now) begun lane
 waits_rest s past core new lanes begun lane c now h there x t =
     let b = h.between in
@@ -117,6 +111,7 @@ waits_rest s past core new lanes begun lane c now h there x t =
     record {
       place = t.0.0;
       move = t.0.1;
+      runs = ap (λ (y : LaneValue). is_some y.running) (with_here lanes lane now) ∙ runs;
       unanswered = some_unanswered past x.ticket.place below missing;
       work = subst (λ (y : Core). weigh y ≤ weigh core) (sym x.core) (omega arith);
       rest = record {
@@ -127,16 +122,13 @@ waits_rest s past core new lanes begun lane c now h there x t =
           tied = t.1;
           counted = subst (λ (y : Core). Counted past y) (sym x.core) b.counted;
           asks = λ w lt. each_with (λ n y. LaneAsks past n y) lanes lane now (length s.lanes) (subst (λ (y : LaneValue). LaneAsks past lane y) (sym x.same) a) (λ n less ne. b.asks n less) w lt;
-          begins = λ w lt any. begun_more lane w begun (is_some (with_lane lanes lane now w).running ≡ true)
-              (λ is. subst (λ (n : ℕ). is_some (with_lane lanes lane now n).running ≡ true) is (ap (λ (y : LaneValue). is_some y.running) (with_here lanes lane now) ∙ runs))
-              (λ old. each_with (λ n y. list_any (λ l. l == n) begun ≡ true → is_some y.running ≡ true) lanes lane now (length s.lanes) (λ y. runs) (λ n less ne y. b.begins n less y) w lt old) any;
         };
       };
     }
 
 -- ---- a call that goes on without an entry
 
-pub goes_rest : (s : Setting) (past : List Entry) (core c new : Core) (lanes : ℕ → LaneValue) (begun : List ℕ) (lane : ℕ) (now : LaneValue) (r : Running) → AtRest s past core lanes begun → lane < length s.lanes → Midway past core c → new ≡ c → now.running ≡ Some r → LaneAsks past lane now
+pub goes_rest : (s : Setting) (past : List Entry) (core c new : Core) (lanes : ℕ → LaneValue) (begun : ℕ → Bool) (lane : ℕ) (now : LaneValue) (r : Running) → AtRest s past core lanes begun → lane < length s.lanes → Midway past core c → new ≡ c → now.running ≡ Some r → LaneAsks past lane now
     → TurnTied s past new (with_lane lanes lane) lane now moved.Went → Goes s past core new (with_lane lanes lane now) begun
 goes_rest s past core c new lanes begun lane now r h there m same was asks t =
     let b = h.between in
@@ -150,7 +142,6 @@ goes_rest s past core c new lanes begun lane now r h there m same was asks t =
           tied = t;
           counted = subst (λ (x : Core). Counted past x) (sym same) m.counted;
           asks = λ w lt. each_with (λ n y. LaneAsks past n y) lanes lane now (length s.lanes) asks (λ n less ne. b.asks n less) w lt;
-          begins = λ w lt any. each_with (λ n y. list_any (λ l. l == n) begun ≡ true → is_some y.running ≡ true) lanes lane now (length s.lanes) (λ y. ap is_some was) (λ n less ne y. b.begins n less y) w lt any;
         };
       };
     }

@@ -1,14 +1,12 @@
 -- What a lane's call asks next is within the range of offsets and the session's read length.
-use Rattle.std.proofs.Common.{◌≡◌, ◌<◌, ℕ, List, [], ◌++◌, Option, Some, None, ap, sym, refl, ◌∙◌, subst}
-use Rattle.std.specs.Prelude.{length, slice_get}
+use Rattle.std.proofs.Common.{◌≡◌, ℕ, List, [], Option, Some, None, ap, sym, ◌∙◌, subst}
+use Rattle.std.specs.Prelude.{slice_get}
 use Rattle.std.proofs.lemmas.List.{append-nil}
 use Rattle.sftp_model.specs.declared.reply.Reply.{Reply}
 use Rattle.sftp_model.specs.declared.request.Request.TheVariants as request
-use Rattle.sftp_model.specs.declared.slot.Facts.{Facts}
 use Rattle.sftp_model.specs.declared.slot.Move.{Move}
 use Rattle.sftp_model.specs.declared.slot.Move.TheVariants.{Ask, Wait, Done}
-use Rattle.sftp_model.specs.declared.slot.Site.{Site}
-use Rattle.sftp_core.specs.Core.{Core, at, reply_in}
+use Rattle.sftp_core.specs.Core.{at, reply_in}
 use Rattle.sftp_calls.specs.Moves.{Own}
 use Rattle.sftp_calls.specs.GoodMoves.{FitsCall, FitsFacts, IsGood, ReadsWithin, Situation, situation}
 use Rattle.sftp_calls.specs.OwnRequests.{oldest_first}

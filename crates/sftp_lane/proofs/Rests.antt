@@ -153,7 +153,7 @@ waited_fits past r site (inr window) reads p a y looks there may = window_fits p
 -- ---- what becomes of a machine's answer
 
 -- of a call that was begun
-settles_on : (s : Setting) (past : List Entry) (core c new : Core) (lanes : ℕ → LaneValue) (begun : List ℕ) (lane : ℕ) (now : LaneValue) (tickets : List Ticketed) (grants : List Held) (opened : Option ℕ) (reads : List ReadAt) (old : Site) (n : Next) (m : Moved) → AtRest s past core lanes begun
+settles_on : (s : Setting) (past : List Entry) (core c new : Core) (lanes : ℕ → LaneValue) (begun : ℕ → Bool) (lane : ℕ) (now : LaneValue) (tickets : List Ticketed) (grants : List Held) (opened : Option ℕ) (reads : List ReadAt) (old : Site) (n : Next) (m : Moved) → AtRest s past core lanes begun
     → lane < length s.lanes → IsSmall m → Midway past core c → Bears grants (answer past) → ((p : ℕ) → is_in p (ticket_places tickets) ≡ true → IsTransferAt past p) → ((g : ℕ) → opened ≡ Some g → is_in g (grant_places grants) ≡ true) → GoesOnAsking opened (asked past) reads old now.site n → ((x : ReadAt) → IsAmong x reads → IsReadAt past x)
     → now.ended ≡ (lanes lane).ended → Settles c new tickets now.tickets grants now.grants now.running (asked past) n m → TurnTied s past new (with_lane lanes lane) lane now m → Leaves s past core new lanes begun lane now m
 settles_on s past core c new lanes begun lane now tickets grants opened reads old (step.Wait r) m h there small mid bears others held asks stood same settles t =
@@ -181,7 +181,7 @@ no_opened : (v : LaneValue) (g : ℕ) → (◌≡◌ {A = Option ℕ} None (Some
 no_opened v g is = absurd cc
 
 -- a call begins with a request that is no CLOSE, or ends at once
-begins_on : (s : Setting) (past : List Entry) (core new : Core) (lanes : ℕ → LaneValue) (begun : List ℕ) (lane : ℕ) (now : LaneValue) (m : Moved) (n : Next) → AtRest s past core lanes begun → lane < length s.lanes → IsSmall m → GoesOnAsking None (asked past) [] (lanes lane).site now.site n
+begins_on : (s : Setting) (past : List Entry) (core new : Core) (lanes : ℕ → LaneValue) (begun : ℕ → Bool) (lane : ℕ) (now : LaneValue) (m : Moved) (n : Next) → AtRest s past core lanes begun → lane < length s.lanes → IsSmall m → GoesOnAsking None (asked past) [] (lanes lane).site now.site n
     → now.ended ≡ (lanes lane).ended → (lanes lane).running ≡ None → Settles core new (lanes lane).tickets now.tickets (lanes lane).grants now.grants now.running (asked past) n m → TurnTied s past new (with_lane lanes lane) lane now m → Leaves s past core new lanes begun lane now m
 begins_on s past core new lanes begun lane now m n h there small asks same idle settles t =
     let b = h.between in
@@ -195,7 +195,7 @@ no_window (running.ReadingWhole grant bound window) site looks is = absurd (let 
 no_window other site looks is = cc is
 
 -- it waits for a reply that a slot awaits
-begins_waiting : (s : Setting) (past : List Entry) (core new : Core) (lanes : ℕ → LaneValue) (begun : List ℕ) (lane : ℕ) (c : Call) (now : LaneValue) (m : Moved) (r : Running) → AtRest s past core lanes begun → lane < length s.lanes → (lanes lane).running ≡ None
+begins_waiting : (s : Setting) (past : List Entry) (core new : Core) (lanes : ℕ → LaneValue) (begun : ℕ → Bool) (lane : ℕ) (c : Call) (now : LaneValue) (m : Moved) (r : Running) → AtRest s past core lanes begun → lane < length s.lanes → (lanes lane).running ≡ None
     → Looks None [] now.site r → now.site ≡ (lanes lane).site → Sound r (bytes_of (planned c)) now.site s.facts → Settles core new (lanes lane).tickets now.tickets (lanes lane).grants now.grants now.running (asked past) (step.Wait r) m → TurnTied s past new (with_lane lanes lane) lane now m
     → Leaves s past core new lanes begun lane now m
 begins_waiting s past core new lanes begun lane c now m r h there idle looks same sound settles t =
@@ -210,7 +210,7 @@ begins_waiting s past core new lanes begun lane c now m r h there idle looks sam
     (λ p a y at at_place may. under_way_fits s past lane p r (bytes_of (planned c)) a y b.good.run (subst (λ (x : Site). Sound r (bytes_of (planned c)) x s.facts) is sound) looks.deferred (ap (awaited r) (sym is) ∙ at) at_place may (no_window r now.site looks)))
     (subst (λ (x : Moved). TurnTied s past new (with_lane lanes lane) lane now x) settles.2 t))
 
-begins_rest : (s : Setting) (past : List Entry) (core new : Core) (lanes : ℕ → LaneValue) (begun : List ℕ) (lane : ℕ) (c : Call) (now : LaneValue) (m : Moved) (n : Next) → AtRest s past core lanes begun → lane < length s.lanes → IsSmall m → Began c s.facts (asked past) (lanes lane).site now.site n
+begins_rest : (s : Setting) (past : List Entry) (core new : Core) (lanes : ℕ → LaneValue) (begun : ℕ → Bool) (lane : ℕ) (c : Call) (now : LaneValue) (m : Moved) (n : Next) → AtRest s past core lanes begun → lane < length s.lanes → IsSmall m → Began c s.facts (asked past) (lanes lane).site now.site n
     → BeginsAsking None (asked past) (lanes lane).site now.site n → now.ended ≡ (lanes lane).ended → (lanes lane).running ≡ None → Settles core new (lanes lane).tickets now.tickets (lanes lane).grants now.grants now.running (asked past) n m → TurnTied s past new (with_lane lanes lane) lane now m
     → Leaves s past core new lanes begun lane now m
 begins_rest s past core new lanes begun lane c now (moved.Asked id q) (step.Ask (ask.Close g) r) h there small ran asks same idle settles t =
@@ -229,7 +229,7 @@ begins_rest s past core new lanes begun lane c now m (step.Wait r) h there small
 begins_rest s past core new lanes begun lane c now m (step.Done o) h there small ran asks same idle settles t = begins_on s past core new lanes begun lane now m (step.Done o) h there small tt same idle settles t
 
 -- behind the reply that it awaited
-replied_rests : (s : Setting) (past : List Entry) (core new : Core) (lanes : ℕ → LaneValue) (begun : List ℕ) (lane : ℕ) (c : Call) (now : LaneValue) (m : Moved) → AtRest s past core lanes begun → lane < length s.lanes → IsSmall m → TurnReplied c s.facts (asked past) core new (lanes lane) now m
+replied_rests : (s : Setting) (past : List Entry) (core new : Core) (lanes : ℕ → LaneValue) (begun : ℕ → Bool) (lane : ℕ) (c : Call) (now : LaneValue) (m : Moved) → AtRest s past core lanes begun → lane < length s.lanes → IsSmall m → TurnReplied c s.facts (asked past) core new (lanes lane) now m
     → TurnTied s past new (with_lane lanes lane) lane now m → Leaves s past core new lanes begun lane now m
 replied_rests s past core new lanes begun lane c now m h there small x t =
     let b = h.between in
@@ -252,7 +252,7 @@ replied_rests s past core new lanes begun lane c now m h there small x t =
     x.asks (λ z among. a.reads z (subst (λ (o : Option Running). IsAmong z (reads_under o)) (sym x.was) among)) x.ended x.settles t
 
 -- where it awaited no reply
-unreplied_rests : (s : Setting) (past : List Entry) (core new : Core) (lanes : ℕ → LaneValue) (begun : List ℕ) (lane : ℕ) (c : Call) (now : LaneValue) (m : Moved) → AtRest s past core lanes begun → lane < length s.lanes → IsSmall m → TurnUnreplied c s.facts (asked past) core new (lanes lane) now m
+unreplied_rests : (s : Setting) (past : List Entry) (core new : Core) (lanes : ℕ → LaneValue) (begun : ℕ → Bool) (lane : ℕ) (c : Call) (now : LaneValue) (m : Moved) → AtRest s past core lanes begun → lane < length s.lanes → IsSmall m → TurnUnreplied c s.facts (asked past) core new (lanes lane) now m
     → TurnTied s past new (with_lane lanes lane) lane now m → Leaves s past core new lanes begun lane now m
 unreplied_rests s past core new lanes begun lane c now m h there small x t =
     let b = h.between in
@@ -263,7 +263,7 @@ unreplied_rests s past core new lanes begun lane c now m h there small x t =
     (others_all past lane v a (ap own_place x.was ∙ none_own x.running v.site x.looks)) (λ g is. held_on v x.running x.was (holds_named s past lane v b.good.run there l a) g (inr is)) x.asks (λ z among. a.reads z (subst (λ (o : Option Running). IsAmong z (reads_under o)) (sym x.was) among)) x.ended x.settles t
 
 -- where the reply that it awaits is missing
-widened_rests : (s : Setting) (past : List Entry) (core new : Core) (lanes : ℕ → LaneValue) (begun : List ℕ) (lane : ℕ) (c : Call) (now : LaneValue) (m : Moved) → AtRest s past core lanes begun → lane < length s.lanes → IsSmall m → TurnWidens c s.facts (asked past) core new (lanes lane) now m
+widened_rests : (s : Setting) (past : List Entry) (core new : Core) (lanes : ℕ → LaneValue) (begun : ℕ → Bool) (lane : ℕ) (c : Call) (now : LaneValue) (m : Moved) → AtRest s past core lanes begun → lane < length s.lanes → IsSmall m → TurnWidens c s.facts (asked past) core new (lanes lane) now m
     → TurnTied s past new (with_lane lanes lane) lane now m → Leaves s past core new lanes begun lane now m
 widened_rests s past core new lanes begun lane c now m h there small x t =
     let b = h.between in

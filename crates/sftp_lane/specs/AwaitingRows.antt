@@ -1,5 +1,5 @@
 -- Worked rows of what the file in a slot awaits.
-use Rattle.std.specs.Prelude.{◌≡◌, ◌∷◌, ℕ, List, [], Option, Some, None, true, false, refl}
+use Rattle.std.specs.Prelude.{◌≡◌, ◌∷◌, [], Some, true, false, refl}
 use Rattle.sftp_model.specs.declared.slot.FileAt.{FileAt}
 use Rattle.sftp_model.specs.declared.slot.Slot.{Slot}
 use Rattle.sftp_model.specs.declared.slot.Slot.TheVariants.{Buffered, File}

@@ -42,6 +42,13 @@ fn take_good(core: &Core, tokens: &Tokens, slot: u8, site: &mut Site)
 }
 
 impl LaneState {
+    /// Whether a call runs.
+    pub fn runs(&self) -> bool
+        ensures { result ≡ is_some self.now.running }
+    {
+        self.running.is_some()
+    }
+
     /// How many of its calls have ended.
     pub fn ended(&self) -> u32
         ensures { result ≡ self.now.ended }

@@ -1,8 +1,7 @@
 -- A call is cancelled and has ended: its lane gave up what the call awaited, and the grants that no slot has are due.
 use Rattle.std.proofs.Common.{◌≡◌, ◌≢◌, ◌<◌, ◌≤◌, ◌+◌, ◌==◌, ℕ, Bool, true, false, List, [], ◌∷◌, ◌++◌, Option, Some, None, refl, ap, sym, ◌∙◌, subst, arith, if◌then◌else◌}
 use Rattle.std.specs.Prelude.{is_some, length, slice_get}
-use Rattle.std.specs.List.{list_any}
-use Rattle.std.proofs.lemmas.Bool.{eq-eqb, false_from_ne_true, ne_eqb}
+use Rattle.std.proofs.lemmas.Bool.{eq-eqb, false_from_ne_true}
 use Rattle.sftp_model.specs.declared.outcome.Outcome.TheVariants as outcome
 use Rattle.sftp_model.specs.declared.reply.Reply.{Reply}
 use Rattle.sftp_model.specs.declared.reply.Reply.TheVariants as reply
@@ -28,7 +27,7 @@ use Rattle.sftp_history.specs.Turns.{begun_but}
 use Rattle.sftp_history.proofs.CallLaws.{cancelled_next, ended_end, may_next}
 use Rattle.sftp_history.proofs.HolderLaws.{slots_owned}
 use Rattle.sftp_history.proofs.PlannedLaws.{held_less}
-use Rattle.sftp_history.proofs.RunLaws.{but_begun, end_good, wait_more}
+use Rattle.sftp_history.proofs.RunLaws.{end_good, wait_more}
 use Rattle.sftp_ties.specs.Changes.{brought, ended_lane, granted_lane, spent_lane, with_lane}
 use Rattle.sftp_ties.specs.Dues.{Dues, loose_of}
 use Rattle.sftp_ties.specs.Lanes.{LaneGoes, LaneTied, LaneValue, SessionTied, Ticketed, grant_places, ticket_places, tickets_for}
@@ -125,7 +124,7 @@ Leaves past s c v site = (r : Running) → v.running ≡ Some r → left_behind 
 
 -- The call of a lane was cancelled and has ended, and its slots are these; the core and the lane's tickets are as they
 -- were.
-record Ended (s : Setting) (past : List Entry) (core : Core) (lanes : ℕ → LaneValue) (begun : List ℕ) (lane : ℕ) (site : Site) : Type 0 where
+record Ended (s : Setting) (past : List Entry) (core : Core) (lanes : ℕ → LaneValue) (begun : ℕ → Bool) (lane : ℕ) (site : Site) : Type 0 where
   pub first : IsNext s past (entry.Event (Cancel lane))
   pub good : Good s (cancelled_past past lane) (begun_but begun lane)
   pub goes : LaneGoes s (cancelled_past past lane) lane None site (ticket_places (lanes lane).tickets)
@@ -133,9 +132,9 @@ record Ended (s : Setting) (past : List Entry) (core : Core) (lanes : ℕ → La
   pub due : Dues s (entry.Event (Cancel lane) ∷ past) []
   pub tied : SessionTied s (cancelled_past past lane) core (with_lane lanes lane (ended_lane (lanes lane) site)) (loose_of site (grant_places (lanes lane).grants))
 
-both_entries : (s : Setting) (past : List Entry) (core : Core) (lanes : ℕ → LaneValue) (begun : List ℕ) (lane : ℕ) (c : Call) (site : Site) → AtRest s past core lanes begun → lane < length s.lanes → current s past lane ≡ Some c
-    → list_any (λ l. l == lane) begun ≡ true → Leaves past s c (lanes lane) site → Fewer (lanes lane).site site → Stays s.facts (lanes lane).site site → Ended s past core lanes begun lane site
-both_entries s past core lanes begun lane c site h there is any leaves less stays =
+both_entries : (s : Setting) (past : List Entry) (core : Core) (lanes : ℕ → LaneValue) (begun : ℕ → Bool) (lane : ℕ) (c : Call) (site : Site) → AtRest s past core lanes begun → lane < length s.lanes → current s past lane ≡ Some c
+    → begun lane ≡ true → is_some (lanes lane).running ≡ true → Leaves past s c (lanes lane) site → Fewer (lanes lane).site site → Stays s.facts (lanes lane).site site → Ended s past core lanes begun lane site
+both_entries s past core lanes begun lane c site h there is any runs leaves less stays =
     let e : Entry = entry.Event (Cancel lane) in
     let middle : List Entry = e ∷ past in
     let now : List Entry = cancelled_past past lane in
@@ -145,7 +144,7 @@ both_entries s past core lanes begun lane c site h there is any leaves less stay
     let first : IsNext s past e = may_next s past e b.good.calm h.settled ((λ none. absurd (let clash : ◌≡◌ {A = Option Call} (Some c) None = sym is ∙ none in cc)), b.good.cancels lane any, b.good.ready) in
     let run : IsJournal s middle = (first, b.good.run) in
     let goes : LaneGoes s now lane None site (ticket_places v.tickets) =
-    cancelled_lane s past lane v [] c outcome.Cancelled site l is run (left v.running refl (b.begins lane there any)) (stays.count ∙ l.goes.sixteen) (stays.limit l.goes.within) (λ q. fewer q (l.goes.awaits q)) in
+    cancelled_lane s past lane v [] c outcome.Cancelled site l is run (left v.running refl runs) (stays.count ∙ l.goes.sixteen) (stays.limit l.goes.within) (λ q. fewer q (l.goes.awaits q)) in
     let mid : SessionTied s middle core lanes [] = cancel_keeps s past core lanes [] lane b.tied in
     let end : SessionTied s now core (with_lane lanes lane (ended_lane v site)) (loose_of (site_of s now lane) (grant_places v.grants)) =
     end_keeps s middle core lanes lane outcome.Cancelled site mid there (cancelled_next s past lane, run) goes in
@@ -172,13 +171,13 @@ both_entries s past core lanes begun lane c site h there is any leaves less stay
         omega (arith, more, reads, slots, le))
 
 -- so it is where the slots stay
-same_entries : (s : Setting) (past : List Entry) (core : Core) (lanes : ℕ → LaneValue) (begun : List ℕ) (lane : ℕ) (c : Call) → AtRest s past core lanes begun → lane < length s.lanes → current s past lane ≡ Some c → list_any (λ l. l == lane) begun ≡ true
+same_entries : (s : Setting) (past : List Entry) (core : Core) (lanes : ℕ → LaneValue) (begun : ℕ → Bool) (lane : ℕ) (c : Call) → AtRest s past core lanes begun → lane < length s.lanes → current s past lane ≡ Some c → begun lane ≡ true → is_some (lanes lane).running ≡ true
     → Leaves past s c (lanes lane) (lanes lane).site → Ended s past core lanes begun lane (lanes lane).site
-same_entries s past core lanes begun lane c h there is any leaves =
-    both_entries s past core lanes begun lane c (lanes lane).site h there is any leaves (record { each = λ q. omega arith }) (record { count = refl; limit = λ within. within })
+same_entries s past core lanes begun lane c h there is any runs leaves =
+    both_entries s past core lanes begun lane c (lanes lane).site h there is any runs leaves (record { each = λ q. omega arith }) (record { count = refl; limit = λ within. within })
 
 -- what stands behind both entries then, where the tickets that are left are those of READs and WRITEs
-now_between : (s : Setting) (past : List Entry) (core new : Core) (lanes : ℕ → LaneValue) (begun : List ℕ) (lane : ℕ) (site : Site) (y : LaneValue) → AtRest s past core lanes begun → Ended s past core lanes begun lane site → y.running ≡ None
+now_between : (s : Setting) (past : List Entry) (core new : Core) (lanes : ℕ → LaneValue) (begun : ℕ → Bool) (lane : ℕ) (site : Site) (y : LaneValue) → AtRest s past core lanes begun → Ended s past core lanes begun lane site → y.running ≡ None
     → ((p : ℕ) → is_in p (ticket_places y.tickets) ≡ true → IsTransferAt past p)
     → Dues s (cancelled_past past lane) (loose_of y.site (grant_places y.grants)) → SessionTied s (cancelled_past past lane) new (with_lane lanes lane y) (loose_of y.site (grant_places y.grants)) → Counted past new → Cancels s past new lanes begun lane y
 now_between s past core new lanes begun lane site y h e idle transfers due tied counted =
@@ -194,16 +193,13 @@ now_between s past core new lanes begun lane site y h e idle transfers due tied 
         counted = counted_same past now new refl refl counted;
         asks = each_with (λ w x. LaneAsks now w x) lanes lane y (length s.lanes) (idle_asks now lane y idle (λ p has. transfer_on past now p (λ q below. refl) (transfers p has)))
             (λ w lt ne. asks_on past now w (lanes w) (λ p below. refl) (b.tied.each w lt).goes.awaits (b.asks w lt));
-        begins = λ w lt has.
-            (let but = but_begun begun lane w has in
-            ap (λ (x : Bool). is_some (if x then y else lanes w).running) (ne_eqb lane w but.0) ∙ b.begins w lt but.1);
       };
     }
 
 -- ---- the core gives up what was awaited
 
 -- What both ways to give up a ticket have in common: it is that of the call's own request.
-record GivenUp (s : Setting) (past : List Entry) (core : Core) (lanes : ℕ → LaneValue) (begun : List ℕ) (lane : ℕ) (k : ℕ) (t : Ticketed) : Type 0 where
+record GivenUp (s : Setting) (past : List Entry) (core : Core) (lanes : ℕ → LaneValue) (begun : ℕ → Bool) (lane : ℕ) (k : ℕ) (t : Ticketed) : Type 0 where
   pub rest : AtRest s past core lanes begun
   pub there : lane < length s.lanes
   pub here : slice_get (lanes lane).tickets k ≡ Some t
@@ -214,14 +210,14 @@ ticket_in : (v : LaneValue) (k : ℕ) (t : Ticketed) → slice_get v.tickets k �
 ticket_in v k t here = at_in (ticket_places v.tickets) k t.place (ticket_index v.tickets k t here)
 
 -- no other ticket has a HANDLE,
-one_ticket : (s : Setting) (past : List Entry) (core : Core) (lanes : ℕ → LaneValue) (begun : List ℕ) (lane k : ℕ) (t : Ticketed) → GivenUp s past core lanes begun lane k t → (q : ℕ) → is_in q (ticket_places (lanes lane).tickets) ≡ true → is_grant past q ≡ true → q ≡ t.place
+one_ticket : (s : Setting) (past : List Entry) (core : Core) (lanes : ℕ → LaneValue) (begun : ℕ → Bool) (lane k : ℕ) (t : Ticketed) → GivenUp s past core lanes begun lane k t → (q : ℕ) → is_in q (ticket_places (lanes lane).tickets) ≡ true → is_grant past q ≡ true → q ≡ t.place
 one_ticket s past core lanes begun lane k t g q has grant =
     let b = g.rest.between in
     let mine : own_place (lanes lane).running ≡ Some q = granted_own s past lane q (lanes lane) b.good.run (b.asks lane g.there) has grant in
     let both : ◌≡◌ {A = Option ℕ} (Some q) (Some t.place) = sym mine ∙ g.own in cc
 
 -- and READs and WRITEs are left without it
-transfers_left : (s : Setting) (past : List Entry) (core : Core) (lanes : ℕ → LaneValue) (begun : List ℕ) (lane k : ℕ) (t : Ticketed) → GivenUp s past core lanes begun lane k t → (q : ℕ) → is_in q (ticket_places (without k (lanes lane).tickets)) ≡ true → IsTransferAt past q
+transfers_left : (s : Setting) (past : List Entry) (core : Core) (lanes : ℕ → LaneValue) (begun : ℕ → Bool) (lane k : ℕ) (t : Ticketed) → GivenUp s past core lanes begun lane k t → (q : ℕ) → is_in q (ticket_places (without k (lanes lane).tickets)) ≡ true → IsTransferAt past q
 transfers_left s past core lanes begun lane k t g q has =
     let ps : List ℕ = ticket_places (lanes lane).tickets in
     let still : is_in q (without k ps) ≡ true = ap (is_in q) (sym (ticket_without (lanes lane).tickets k)) ∙ has in
@@ -233,11 +229,11 @@ transfers_left s past core lanes begun lane k t g q has =
     (in_left ps k q still)
 
 -- it is one of the call that is cancelled
-asked_it : (s : Setting) (past : List Entry) (core : Core) (lanes : ℕ → LaneValue) (begun : List ℕ) (lane k : ℕ) (t : Ticketed) → GivenUp s past core lanes begun lane k t → is_unended_asker past lane t.place ≡ true
+asked_it : (s : Setting) (past : List Entry) (core : Core) (lanes : ℕ → LaneValue) (begun : ℕ → Bool) (lane k : ℕ) (t : Ticketed) → GivenUp s past core lanes begun lane k t → is_unended_asker past lane t.place ≡ true
 asked_it s past core lanes begun lane k t g = awaits_own past lane t.place (lanes lane) (g.rest.between.tied.each lane g.there).ends (g.rest.between.asks lane g.there) g.own
 
 -- and the lane goes on without it
-goes_without : (s : Setting) (past : List Entry) (core : Core) (lanes : ℕ → LaneValue) (begun : List ℕ) (lane k : ℕ) (t : Ticketed) → GivenUp s past core lanes begun lane k t
+goes_without : (s : Setting) (past : List Entry) (core : Core) (lanes : ℕ → LaneValue) (begun : ℕ → Bool) (lane k : ℕ) (t : Ticketed) → GivenUp s past core lanes begun lane k t
     → LaneGoes s (cancelled_past past lane) lane None (lanes lane).site (without k (ticket_places (lanes lane).tickets))
 goes_without s past core lanes begun lane k t g =
     let v : LaneValue = lanes lane in
@@ -247,7 +243,7 @@ goes_without s past core lanes begun lane k t g =
 
 -- ---- the ticket is dropped
 
-drop_cancels : (s : Setting) (past : List Entry) (core : Core) (lanes : ℕ → LaneValue) (begun : List ℕ) (lane k : ℕ) (t : Ticketed) → GivenUp s past core lanes begun lane k t → ((handle : List ℕ) → reply_in (at core t.ticket) ≢ Some (reply.Handle handle))
+drop_cancels : (s : Setting) (past : List Entry) (core : Core) (lanes : ℕ → LaneValue) (begun : ℕ → Bool) (lane k : ℕ) (t : Ticketed) → GivenUp s past core lanes begun lane k t → ((handle : List ℕ) → reply_in (at core t.ticket) ≢ Some (reply.Handle handle))
     → Cancels s past (abandoned core t.ticket) lanes begun lane (ended_lane (spent_lane (lanes lane) k None (lanes lane).site) (lanes lane).site)
 drop_cancels s past core lanes begun lane k t g ungranted =
     let middle : List Entry = entry.Event (Cancel lane) ∷ past in
@@ -282,7 +278,7 @@ drop_cancels s past core lanes begun lane k t g ungranted =
 
 -- ---- the HANDLE is polled
 
-poll_cancels : (s : Setting) (past : List Entry) (core : Core) (lanes : ℕ → LaneValue) (begun : List ℕ) (lane k : ℕ) (t : Ticketed) (handle : List ℕ) → GivenUp s past core lanes begun lane k t → reply_in (at core t.ticket) ≡ Some (reply.Handle handle)
+poll_cancels : (s : Setting) (past : List Entry) (core : Core) (lanes : ℕ → LaneValue) (begun : ℕ → Bool) (lane k : ℕ) (t : Ticketed) (handle : List ℕ) → GivenUp s past core lanes begun lane k t → reply_in (at core t.ticket) ≡ Some (reply.Handle handle)
     → Cancels s past (after_poll core t.ticket) lanes begun lane (ended_lane (granted_lane (lanes lane) k t handle None (lanes lane).site) (lanes lane).site)
 poll_cancels s past core lanes begun lane k t handle g came =
     let middle : List Entry = entry.Event (Cancel lane) ∷ past in
@@ -316,7 +312,7 @@ poll_cancels s past core lanes begun lane k t handle g came =
 
 -- ---- the tickets are kept
 
-keep_cancels : (s : Setting) (past : List Entry) (core : Core) (lanes : ℕ → LaneValue) (begun : List ℕ) (lane : ℕ) (site : Site) → AtRest s past core lanes begun → lane < length s.lanes → own_place (lanes lane).running ≡ None
+keep_cancels : (s : Setting) (past : List Entry) (core : Core) (lanes : ℕ → LaneValue) (begun : ℕ → Bool) (lane : ℕ) (site : Site) → AtRest s past core lanes begun → lane < length s.lanes → own_place (lanes lane).running ≡ None
     → Ended s past core lanes begun lane site → Cancels s past core lanes begun lane (ended_lane (lanes lane) site)
 keep_cancels s past core lanes begun lane site h there none e =
     let middle : List Entry = entry.Event (Cancel lane) ∷ past in
@@ -331,16 +327,16 @@ keep_cancels s past core lanes begun lane site h there none e =
 -- ---- each way
 
 pub cancels_keep : CancelsKeepSessions
-cancels_keep s past core new lanes begun lane c now h there is any leaves (Dropped d) =
+cancels_keep s past core new lanes begun lane c now h there is any runs leaves (Dropped d) =
     let v : LaneValue = lanes lane in
-    let ends : Ended s past core lanes begun lane v.site = same_entries s past core lanes begun lane c h there is any (λ r running. leaves r running ∙ ap (λ (x : LaneValue). x.site) d.lane) in
+    let ends : Ended s past core lanes begun lane v.site = same_entries s past core lanes begun lane c h there is any runs (λ r running. leaves r running ∙ ap (λ (x : LaneValue). x.site) d.lane) in
     subst (λ (x : Core). Cancels s past x lanes begun lane now) (sym d.left) (subst (λ (x : LaneValue). Cancels s past (abandoned core d.ticket.ticket) lanes begun lane x) (sym d.lane)
     (drop_cancels s past core lanes begun lane d.k d.ticket (record { rest = h; there = there; here = d.here; own = d.own; ended = ends }) d.ungranted))
-cancels_keep s past core new lanes begun lane c now h there is any leaves (Polled d) =
+cancels_keep s past core new lanes begun lane c now h there is any runs leaves (Polled d) =
     let v : LaneValue = lanes lane in
-    let ends : Ended s past core lanes begun lane v.site = same_entries s past core lanes begun lane c h there is any (λ r running. leaves r running ∙ ap (λ (x : LaneValue). x.site) d.lane) in
+    let ends : Ended s past core lanes begun lane v.site = same_entries s past core lanes begun lane c h there is any runs (λ r running. leaves r running ∙ ap (λ (x : LaneValue). x.site) d.lane) in
     subst (λ (x : Core). Cancels s past x lanes begun lane now) (sym d.left) (subst (λ (x : LaneValue). Cancels s past (after_poll core d.ticket.ticket) lanes begun lane x) (sym d.lane)
     (poll_cancels s past core lanes begun lane d.k d.ticket d.handle (record { rest = h; there = there; here = d.here; own = d.own; ended = ends }) d.came))
-cancels_keep s past core new lanes begun lane c now h there is any leaves (Kept d) =
+cancels_keep s past core new lanes begun lane c now h there is any runs leaves (Kept d) =
     subst (λ (x : Core). Cancels s past x lanes begun lane now) (sym d.left) (subst (λ (x : LaneValue). Cancels s past core lanes begun lane x) (sym d.lane)
-    (keep_cancels s past core lanes begun lane now.site h there d.none (both_entries s past core lanes begun lane c now.site h there is any leaves d.fewer (d.stays s.facts))))
+    (keep_cancels s past core lanes begun lane now.site h there d.none (both_entries s past core lanes begun lane c now.site h there is any runs leaves d.fewer (d.stays s.facts))))

@@ -1,7 +1,6 @@
 -- The grant of a lane that is due next is closed.
-use Rattle.std.proofs.Common.{◌≡◌, ◌≢◌, ◌<◌, ◌≤◌, ◌^◌, ◌==◌, ℕ, true, List, ◌∷◌, Option, Some, ap, sym, ◌∙◌, subst}
-use Rattle.std.specs.Prelude.{length, slice_get, is_some}
-use Rattle.std.specs.List.{list_any}
+use Rattle.std.proofs.Common.{◌≡◌, ◌≢◌, ◌<◌, ◌≤◌, ◌^◌, ℕ, Bool, true, List, ◌∷◌, Option, Some, ap, sym, ◌∙◌, subst}
+use Rattle.std.specs.Prelude.{length, slice_get}
 use Rattle.sftp_model.specs.declared.request.Request.{Request}
 use Rattle.sftp_model.specs.declared.reply.Reply.{Reply}
 use Rattle.sftp_core.specs.Core.{Core, at}
@@ -61,21 +60,20 @@ must_close s past lane k v dues g l got small =
     (g.grant.id, ((small, free_state past g.grant.id (subst IsFreeState (sym state.1) tt)), close_is s past lane k v dues g l got))
 
 -- What the CLOSE of a lane's grant that is due next makes of the session, whatever is due behind it.
-pub record Closing (s : Setting) (past : List Entry) (core : Core) (lanes : ℕ → LaneValue) (begun : List ℕ) (lane k : ℕ) (g : Held) : Type 0 where
+pub record Closing (s : Setting) (past : List Entry) (core : Core) (lanes : ℕ → LaneValue) (begun : ℕ → Bool) (lane k : ℕ) (g : Held) : Type 0 where
   pub must : MustClose past g.place (close_entry g.grant)
   pub is : close_entry g.grant ≡ close_of past g.place g.grant.id
   pub next : IsNext s past (close_entry g.grant)
   pub good : Good s (close_entry g.grant ∷ past) begun
   pub counted : Counted (close_entry g.grant ∷ past) (let_go core g.grant)
   pub asks : (w : ℕ) → w < length s.lanes → LaneAsks (close_entry g.grant ∷ past) w (with_lane lanes lane (closed_lane (lanes lane) k) w)
-  pub begins : (w : ℕ) → w < length s.lanes → list_any (λ l. l == w) begun ≡ true → is_some (with_lane lanes lane (closed_lane (lanes lane) k) w).running ≡ true
   pub work : weigh (let_go core g.grant) < weigh core
 
-pub closing : (s : Setting) (past : List Entry) (core : Core) (lanes : ℕ → LaneValue) (dues begun : List ℕ) (lane k : ℕ) (g : Held) → Good s past begun → SessionTied s past core lanes dues → Counted past core
-    → ((w : ℕ) → w < length s.lanes → LaneAsks past w (lanes w)) → ((w : ℕ) → w < length s.lanes → list_any (λ l. l == w) begun ≡ true → is_some (lanes w).running ≡ true)
+pub closing : (s : Setting) (past : List Entry) (core : Core) (lanes : ℕ → LaneValue) (dues : List ℕ) (begun : ℕ → Bool) (lane k : ℕ) (g : Held) → Good s past begun → SessionTied s past core lanes dues → Counted past core
+    → ((w : ℕ) → w < length s.lanes → LaneAsks past w (lanes w))
     → orphan s past ≡ Some g.place → lane < length s.lanes → slice_get (lanes lane).grants k ≡ Some g → g.grant.id < 2 ^ 32 → opened_in (lanes lane).running ≢ Some g.place
     → Closing s past core lanes begun lane k g
-closing s past core lanes dues begun lane k g good tied counted asks begins due there got small apart =
+closing s past core lanes dues begun lane k g good tied counted asks due there got small apart =
     let v : LaneValue = lanes lane in
     let gs : List ℕ = grant_places v.grants in
     let l : LaneTied s past lane v dues = tied.each lane there in
@@ -95,7 +93,6 @@ closing s past core lanes dues begun lane k g good tied counted asks begins due 
           (asks_close past g.grant.id (request.Close g.grant.handle) lane v (without k v.grants) l.goes.awaits (asks lane there)
           (λ h is. ap (is_in h) left ∙ (without_other gs k g.place h at_k (λ same. apart (is ∙ ap (λ (n : ℕ). Some n) same)) ∙ (asks lane there).keeps h is)))
           (λ w lt ne. asks_close past g.grant.id (request.Close g.grant.handle) w (lanes w) (lanes w).grants (tied.each w lt).goes.awaits (asks w lt) (asks w lt).keeps);
-      begins = each_with (λ w x. list_any (λ l. l == w) begun ≡ true → is_some x.running ≡ true) lanes lane (closed_lane v k) (length s.lanes) (begins lane there) (λ w lt ne. begins w lt);
       work = weigh_let_go core g.grant here;
     }
 
@@ -104,7 +101,7 @@ closing s past core lanes dues begun lane k g good tied counted asks begins due 
 pub due_closed : DueGrantsAreClosed
 due_closed s past core lanes begun lane k g rest b letting there got small apart =
     let due : orphan s past ≡ Some g.place = orphan_first s past g.place rest letting b.due in
-    let c : Closing s past core lanes begun lane k g = closing s past core lanes (g.place ∷ rest) begun lane k g b.good b.tied b.counted b.asks b.begins due there got small apart in
+    let c : Closing s past core lanes begun lane k g = closing s past core lanes (g.place ∷ rest) begun lane k g b.good b.tied b.counted b.asks due there got small apart in
     let j : IsJournal s (close_of past g.place g.grant.id ∷ past) = subst (λ (e : Entry). IsJournal s (e ∷ past)) c.is c.good.run in
     record {
       due = due;
@@ -117,7 +114,6 @@ due_closed s past core lanes begun lane k g rest b letting there got small apart
             (closed_keeps s past core lanes (g.place ∷ rest) rest lane g.place k g.grant b.tied there j due (λ q ne out. out_more g.place q rest ne out) got);
         counted = c.counted;
         asks = c.asks;
-        begins = c.begins;
       };
       work = c.work;
     }

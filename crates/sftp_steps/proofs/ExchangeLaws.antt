@@ -56,7 +56,6 @@ sends_keep s past core lanes begun h some =
           tied = sent_keeps s past core lanes [] b.tied;
           counted = counted_send past core b.counted;
           asks = λ lane lt. asks_on past (e ∷ past) lane (lanes lane) (λ p below. refl) (b.tied.each lane lt).goes.awaits (b.asks lane lt);
-          begins = b.begins;
         };
         settled = none_next s (e ∷ past) refl due;
       };
@@ -135,7 +134,6 @@ replies_keep s past core lanes begun id r h x how =
           tied = taken_keeps s past core lanes id p.place p.asked true r b.tied b.good.run p.state wanted;
           counted = counted_take past core id r x.kind x.wanted x.here may how b.counted;
           asks = λ lane lt. asks_on past (e ∷ past) lane (lanes lane) (λ q below. refl) (b.tied.each lane lt).goes.awaits (b.asks lane lt);
-          begins = b.begins;
         };
         settled = none_next s (e ∷ past) refl due;
       };
@@ -181,7 +179,6 @@ unwanted_closed s past core lanes begun id handle h x unwanted =
               (unwanted_keeps s past core lanes id p.place p.asked true handle b.tied run p.state none_wants orphan_is);
           counted = counted_take_drop past core id r x.kind handle here may refl b.counted;
           asks = λ lane lt. asks_on past now lane (lanes lane) (λ q below. asked_other mid owner.Close id q (request.Close handle) below) (b.tied.each lane lt).goes.awaits (b.asks lane lt);
-          begins = b.begins;
         };
         settled = none_next s now refl due;
       };

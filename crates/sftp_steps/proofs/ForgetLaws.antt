@@ -1,7 +1,6 @@
 -- A lane that runs no call drops a ticket that no slot awaits.
-use Rattle.std.proofs.Common.{◌≡◌, ◌≢◌, ◌==◌, ℕ, true, false, List, [], Option, Some, None, refl, ap, sym, ◌∙◌, subst}
-use Rattle.std.specs.Prelude.{is_some, length, slice_get}
-use Rattle.std.specs.List.{list_any}
+use Rattle.std.proofs.Common.{◌≡◌, ◌≢◌, ℕ, true, false, List, [], Option, Some, None, refl, ap, sym, ◌∙◌, subst}
+use Rattle.std.specs.Prelude.{length, slice_get}
 use Rattle.sftp_model.specs.declared.reply.Reply.TheVariants as reply
 use Rattle.sftp_core.specs.Core.{at, is_ticket, reply_in}
 use Rattle.sftp_calls.specs.Moves.{Own}
@@ -56,8 +55,6 @@ unawaited_forgotten s past core lanes begun lane k t h there idle here unawaited
           asks = each_with (λ w x. LaneAsks past w x) lanes lane left (length s.lanes)
               (idle_asks past lane left refl (λ p has. idle_transfers past lane p v idle a (in_left ps k p (ap (is_in p) (sym (ticket_without v.tickets k)) ∙ has))))
               (λ w lt ne. b.asks w lt);
-          begins = each_with (λ w x. list_any (λ n. n == w) begun ≡ true → is_some x.running ≡ true) lanes lane left (length s.lanes)
-              (λ any. ap (λ (x : Option Running). is_some x) (sym idle) ∙ b.begins lane there any) (λ w lt ne. b.begins w lt);
         };
         settled = h.settled;
       };

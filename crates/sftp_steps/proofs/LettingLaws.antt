@@ -1,6 +1,6 @@
 -- A lane is let go, slot by slot.
-use Rattle.std.proofs.Common.{◌≡◌, ◌≢◌, ◌==◌, ℕ, Bool, true, false, List, [], ◌∷◌, Option, Some, None, refl, ap, sym, ◌∙◌, subst, inl, inr}
-use Rattle.std.specs.Prelude.{◌||◌, ◌⊎◌, length, slice_get, is_some}
+use Rattle.std.proofs.Common.{◌≡◌, ◌≢◌, ℕ, Bool, true, false, List, [], ◌∷◌, Option, Some, None, refl, ap, sym, ◌∙◌, subst, inl, inr}
+use Rattle.std.specs.Prelude.{◌||◌, ◌⊎◌, length, slice_get}
 use Rattle.std.specs.List.{list_any}
 use Rattle.std.proofs.lemmas.Bool.{eq-eqb, or_left, or_right}
 use Rattle.sftp_model.specs.declared.slot.Site.{Site}
@@ -41,7 +41,7 @@ use Rattle.sftp_history.specs.declared.entry.Entry.TheVariants as entry
 -- ---- a lane without a call
 
 -- it runs none, and has what it has between calls
-at_rest : (s : Setting) (past : List Entry) (lane : ℕ) (v : LaneValue) (dues : List ℕ) → LaneTied s past lane v dues → current s past lane ≡ None → (v.running ≡ None) × (v.site ≡ site_of s past lane)
+pub at_rest : (s : Setting) (past : List Entry) (lane : ℕ) (v : LaneValue) (dues : List ℕ) → LaneTied s past lane v dues → current s past lane ≡ None → (v.running ≡ None) × (v.site ≡ site_of s past lane)
 at_rest s past lane v dues l none = by_running v.running l.goes.runs
   where
     by_running : (x : Option Running) → AtTied s past lane x v.site → (x ≡ None) × (v.site ≡ site_of s past lane)
@@ -102,8 +102,6 @@ letting_begins s past core lanes begun lane r there over unlet =
         asks = each_with (λ w x. LaneAsks now w x) lanes lane (let_go_lane v) (length s.lanes)
             (idle_asks now lane (let_go_lane v) refl (λ p has. transfer_on past now p (λ q below. refl) (idle_transfers past lane p v bare.0 a has)))
             (λ w lt ne. asks_on past now w (lanes w) (λ p below. refl) (b.tied.each w lt).goes.awaits (b.asks w lt));
-        begins = each_with (λ w x. list_any (λ n. n == w) begun ≡ true → is_some x.running ≡ true) lanes lane (let_go_lane v) (length s.lanes)
-            (λ any. ap (λ (x : Option Running). is_some x) (sym bare.0) ∙ b.begins lane there any) (λ w lt ne. b.begins w lt);
         gone = λ g has out. slot_gone s past lane g v b.good.run l over a has (ap (λ (x : LaneValue). is_in g (grant_places x.grants)) (sym (this_lane lanes lane (let_go_lane v))) ∙ out);
         from = past;
         plain = dues_settled s past b.due;
@@ -128,7 +126,6 @@ slots_passed s past core lanes begun lane slot rest l stays =
       tied = l.tied;
       counted = l.counted;
       asks = l.asks;
-      begins = l.begins;
       gone = λ g has out. l.gone g (or_right (slot_has g slot) (list_any (slot_has g) rest) has) out;
       from = l.from;
       plain = l.plain;
@@ -156,7 +153,7 @@ slots_closed s past core lanes begun lane k g slot rest l there is none got smal
     let loose : (list_any (slot_has g.place) rest || is_one_of (closed s past) g.place) ≡ false = rw (none, unclosed) refl in
     let due : orphan s past ≡ Some g.place = letting_due s past l.site slot rest g.place l.letting is loose in
     let idle : v.running ≡ None = (at_rest s past lane v gs tied (calls_stay s (entry.LetGo lane ∷ l.from) past lane l.closes ∙ l.over)).0 in
-    let c : Closing s past core lanes begun lane k g = closing s past core lanes gs begun lane k g l.good l.tied l.counted l.asks l.begins due there got small (none_opened v.running g.place idle) in
+    let c : Closing s past core lanes begun lane k g = closing s past core lanes gs begun lane k g l.good l.tied l.counted l.asks due there got small (none_opened v.running g.place idle) in
     let j : IsJournal s (close_of past g.place g.grant.id ∷ past) = subst (λ (e : Entry). IsJournal s (e ∷ past)) c.is c.good.run in
     let both = let_go_closed_keeps s past core lanes lane g.place k g.grant l.site slot rest l.tied there j l.letting is loose got in
     record {
@@ -171,7 +168,6 @@ slots_closed s past core lanes begun lane k g slot rest l there is none got smal
             (subst (λ (x : LaneValue). SessionTied s (close_of past g.place g.grant.id ∷ past) (let_go core g.grant) (with_lane lanes lane new) (grant_places x.grants)) (sym (this_lane lanes lane new)) both.0);
         counted = c.counted;
         asks = c.asks;
-        begins = c.begins;
         gone = λ h has out. (let apart : h ≢ g.place = λ same. (let clash : false ≡ true = sym none ∙ (ap (λ (n : ℕ). list_any (slot_has n) rest) (sym same) ∙ has) in absurd cc) in
             let left : is_in h (without k gs) ≡ false = ap (is_in h) (sym (grant_without v.grants k)) ∙ (ap (λ (x : LaneValue). is_in h (grant_places x.grants)) (sym (this_lane lanes lane new)) ∙ out) in
             let was : is_one_of (closed s past) h ≡ true = l.gone h (or_right (slot_has h slot) (list_any (slot_has h) rest) has) (sym (without_other gs k g.place h at_k apart) ∙ left) in
@@ -196,7 +192,6 @@ letting_ends s past core lanes begun lane l =
         tied = rest_tied s past core lanes (grant_places (lanes lane).grants) l.good.run due l.tied;
         counted = l.counted;
         asks = l.asks;
-        begins = l.begins;
       };
       settled = settled;
     }

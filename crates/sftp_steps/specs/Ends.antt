@@ -1,5 +1,5 @@
 -- Calls are cancelled and end, grants that are due are closed, and lanes are let go.
-use Rattle.std.specs.Prelude.{◌≡◌, ◌≢◌, ◌⊎◌, ◌<◌, ◌≤◌, ◌^◌, ◌==◌, ℕ, true, false, List, [], ◌∷◌, length, Some, None, slice_get, is_some}
+use Rattle.std.specs.Prelude.{◌≡◌, ◌≢◌, ◌⊎◌, ◌<◌, ◌≤◌, ◌^◌, ℕ, Bool, true, false, List, [], ◌∷◌, length, Some, None, slice_get, is_some}
 use Rattle.std.specs.List.{list_any}
 use Rattle.sftp_model.specs.Slots.{grant_of, slot_has}
 use Rattle.sftp_model.specs.declared.request.Request.TheVariants as request
@@ -43,7 +43,7 @@ abbrev pub let_go : Core → GrantValue → Core
 let_go core grant = abandoned (released core grant) grant.id
 
 -- The grant at index k of a lane, which is due next, is closed.
-pub record Closes (s : Setting) (past : List Entry) (core : Core) (lanes : ℕ → LaneValue) (begun : List ℕ) (lane k : ℕ) (g : Held) (rest : List ℕ) : Type 0 where
+pub record Closes (s : Setting) (past : List Entry) (core : Core) (lanes : ℕ → LaneValue) (begun : ℕ → Bool) (lane k : ℕ) (g : Held) (rest : List ℕ) : Type 0 where
   pub due : orphan s past ≡ Some g.place
   pub must : MustClose past g.place (close_entry g.grant)
   pub next : IsNext s past (close_entry g.grant)
@@ -52,12 +52,12 @@ pub record Closes (s : Setting) (past : List Entry) (core : Core) (lanes : ℕ �
 
 -- So it is, unless the lane runs a call that opened the grant: such a call has it still.
 abbrev pub DueGrantsAreClosed : Type 0
-DueGrantsAreClosed = (s : Setting) (past : List Entry) (core : Core) (lanes : ℕ → LaneValue) (begun : List ℕ) (lane k : ℕ) (g : Held) (rest : List ℕ) → Between s past core lanes begun (g.place ∷ rest) → letting_go s past ≡ None → lane < length s.lanes
+DueGrantsAreClosed = (s : Setting) (past : List Entry) (core : Core) (lanes : ℕ → LaneValue) (begun : ℕ → Bool) (lane k : ℕ) (g : Held) (rest : List ℕ) → Between s past core lanes begun (g.place ∷ rest) → letting_go s past ≡ None → lane < length s.lanes
     → slice_get (lanes lane).grants k ≡ Some g → g.grant.id < 2 ^ 32 → opened_in (lanes lane).running ≢ Some g.place → Closes s past core lanes begun lane k g rest
 
 -- Where none is due, the session is at rest.
 abbrev pub NoneDueIsRest : Type 0
-NoneDueIsRest = (s : Setting) (past : List Entry) (core : Core) (lanes : ℕ → LaneValue) (begun : List ℕ) → Between s past core lanes begun [] → letting_go s past ≡ None → AtRest s past core lanes begun
+NoneDueIsRest = (s : Setting) (past : List Entry) (core : Core) (lanes : ℕ → LaneValue) (begun : ℕ → Bool) → Between s past core lanes begun [] → letting_go s past ≡ None → AtRest s past core lanes begun
 
 -- ---- a cancel
 
@@ -66,7 +66,7 @@ abbrev pub cancelled_past : List Entry → ℕ → List Entry
 cancelled_past past lane = cancelled_end (entry.Event (Cancel lane) ∷ past) lane ∷ entry.Event (Cancel lane) ∷ past
 
 -- The call of a lane was cancelled, and these grants of the lane are due then.
-pub record Cancels (s : Setting) (past : List Entry) (core : Core) (lanes : ℕ → LaneValue) (begun : List ℕ) (lane : ℕ) (v : LaneValue) : Type 0 where
+pub record Cancels (s : Setting) (past : List Entry) (core : Core) (lanes : ℕ → LaneValue) (begun : ℕ → Bool) (lane : ℕ) (v : LaneValue) : Type 0 where
   pub first : IsNext s past (entry.Event (Cancel lane))
   pub second : IsNext s (entry.Event (Cancel lane) ∷ past) (cancelled_end (entry.Event (Cancel lane) ∷ past) lane)
   pub between : Between s (cancelled_past past lane) core (with_lane lanes lane v) (begun_but begun lane) (loose_of v.site (grant_places v.grants))
@@ -112,32 +112,31 @@ LeavesSite past s c v now = (r : Running) → v.running ≡ Some r → left_behi
 
 -- A begun call is cancelled.
 abbrev pub CancelsKeepSessions : Type 0
-CancelsKeepSessions = (s : Setting) (past : List Entry) (core new : Core) (lanes : ℕ → LaneValue) (begun : List ℕ) (lane : ℕ) (c : Call) (now : LaneValue) → AtRest s past core lanes begun → lane < length s.lanes → current s past lane ≡ Some c
-    → list_any (λ l. l == lane) begun ≡ true → LeavesSite past s c (lanes lane) now → GivesUp core new (lanes lane) now → Cancels s past new lanes begun lane now
+CancelsKeepSessions = (s : Setting) (past : List Entry) (core new : Core) (lanes : ℕ → LaneValue) (begun : ℕ → Bool) (lane : ℕ) (c : Call) (now : LaneValue) → AtRest s past core lanes begun → lane < length s.lanes → current s past lane ≡ Some c
+    → begun lane ≡ true → is_some (lanes lane).running ≡ true → LeavesSite past s c (lanes lane) now → GivesUp core new (lanes lane) now → Cancels s past new lanes begun lane now
 
 -- ---- tickets that nothing awaits
 
 -- what a dropped ticket makes of a session at rest
-pub record Forgets (s : Setting) (past : List Entry) (core : Core) (lanes : ℕ → LaneValue) (begun : List ℕ) (lane k : ℕ) (t : Ticketed) : Type 0 where
+pub record Forgets (s : Setting) (past : List Entry) (core : Core) (lanes : ℕ → LaneValue) (begun : ℕ → Bool) (lane k : ℕ) (t : Ticketed) : Type 0 where
   pub rest : AtRest s past (abandoned core t.ticket) (with_lane lanes lane (spent_lane (lanes lane) k None (lanes lane).site)) begun
   pub work : weigh (abandoned core t.ticket) ≤ weigh core
 
 -- A lane that runs no call drops a ticket that no slot awaits.
 abbrev pub UnawaitedAreForgotten : Type 0
-UnawaitedAreForgotten = (s : Setting) (past : List Entry) (core : Core) (lanes : ℕ → LaneValue) (begun : List ℕ) (lane k : ℕ) (t : Ticketed) → AtRest s past core lanes begun → lane < length s.lanes → (lanes lane).running ≡ None
+UnawaitedAreForgotten = (s : Setting) (past : List Entry) (core : Core) (lanes : ℕ → LaneValue) (begun : ℕ → Bool) (lane k : ℕ) (t : Ticketed) → AtRest s past core lanes begun → lane < length s.lanes → (lanes lane).running ≡ None
     → slice_get (lanes lane).tickets k ≡ Some t → slots_times t.place (lanes lane).site.slots ≡ 0 → Forgets s past core lanes begun lane k t
 
 -- ---- a lane is let go
 
 -- A lane is being let go: of the slots that it had these are left.
-pub record LettingGo (s : Setting) (past : List Entry) (core : Core) (lanes : ℕ → LaneValue) (begun : List ℕ) (lane : ℕ) (rest : List Slot) : Type 0 where
+pub record LettingGo (s : Setting) (past : List Entry) (core : Core) (lanes : ℕ → LaneValue) (begun : ℕ → Bool) (lane : ℕ) (rest : List Slot) : Type 0 where
   pub good : Good s past begun
   pub site : Site
   pub letting : Letting s past site rest
   pub tied : SessionTied s past core lanes (grant_places (lanes lane).grants)
   pub counted : Counted past core
   pub asks : (w : ℕ) → w < length s.lanes → LaneAsks past w (lanes w)
-  pub begins : (w : ℕ) → w < length s.lanes → list_any (λ l. l == w) begun ≡ true → is_some (lanes w).running ≡ true
   -- a grant of these slots that the lane has no more has its CLOSE
   pub gone : (g : ℕ) → list_any (slot_has g) rest ≡ true → is_in g (grant_places (lanes lane).grants) ≡ false → is_one_of (closed s past) g ≡ true
   -- the journal before the lane was let go
@@ -148,7 +147,7 @@ pub record LettingGo (s : Setting) (past : List Entry) (core : Core) (lanes : �
 
 -- It begins with all the slots of a lane that has no call left.
 abbrev pub LettingGoBegins : Type 0
-LettingGoBegins = (s : Setting) (past : List Entry) (core : Core) (lanes : ℕ → LaneValue) (begun : List ℕ) (lane : ℕ) → AtRest s past core lanes begun → lane < length s.lanes → current s past lane ≡ None → was_let_go past lane ≡ false
+LettingGoBegins = (s : Setting) (past : List Entry) (core : Core) (lanes : ℕ → LaneValue) (begun : ℕ → Bool) (lane : ℕ) → AtRest s past core lanes begun → lane < length s.lanes → current s past lane ≡ None → was_let_go past lane ≡ false
     → IsNext s past (entry.LetGo lane) × LettingGo s (entry.LetGo lane ∷ past) core (with_lane lanes lane (let_go_lane (lanes lane))) begun lane (lanes lane).site.slots
 
 -- the slot's grant stays: it has none, a later slot has it, or the lane has it no more
@@ -156,20 +155,20 @@ abbrev pub StaysOpen : List Held → Slot → List Slot → Type 0
 StaysOpen grants slot rest = (g : ℕ) → grant_of slot ≡ Some g → (list_any (slot_has g) rest ≡ true) ⊎ (is_in g (grant_places grants) ≡ false)
 
 abbrev pub SlotsArePassed : Type 0
-SlotsArePassed = (s : Setting) (past : List Entry) (core : Core) (lanes : ℕ → LaneValue) (begun : List ℕ) (lane : ℕ) (slot : Slot) (rest : List Slot) → LettingGo s past core lanes begun lane (slot ∷ rest) → StaysOpen (lanes lane).grants slot rest
+SlotsArePassed = (s : Setting) (past : List Entry) (core : Core) (lanes : ℕ → LaneValue) (begun : ℕ → Bool) (lane : ℕ) (slot : Slot) (rest : List Slot) → LettingGo s past core lanes begun lane (slot ∷ rest) → StaysOpen (lanes lane).grants slot rest
     → LettingGo s past core lanes begun lane rest
 
 -- The grant of a slot, at index k of the lane's, is closed, and the slot is passed.
-pub record ClosesSlot (s : Setting) (past : List Entry) (core : Core) (lanes : ℕ → LaneValue) (begun : List ℕ) (lane k : ℕ) (g : Held) (rest : List Slot) : Type 0 where
+pub record ClosesSlot (s : Setting) (past : List Entry) (core : Core) (lanes : ℕ → LaneValue) (begun : ℕ → Bool) (lane k : ℕ) (g : Held) (rest : List Slot) : Type 0 where
   pub due : orphan s past ≡ Some g.place
   pub must : MustClose past g.place (close_entry g.grant)
   pub next : IsNext s past (close_entry g.grant)
   pub letting : LettingGo s (close_entry g.grant ∷ past) (let_go core g.grant) (with_lane lanes lane (closed_lane (lanes lane) k)) begun lane rest
 
 abbrev pub SlotsAreClosed : Type 0
-SlotsAreClosed = (s : Setting) (past : List Entry) (core : Core) (lanes : ℕ → LaneValue) (begun : List ℕ) (lane k : ℕ) (g : Held) (slot : Slot) (rest : List Slot) → LettingGo s past core lanes begun lane (slot ∷ rest) → lane < length s.lanes
+SlotsAreClosed = (s : Setting) (past : List Entry) (core : Core) (lanes : ℕ → LaneValue) (begun : ℕ → Bool) (lane k : ℕ) (g : Held) (slot : Slot) (rest : List Slot) → LettingGo s past core lanes begun lane (slot ∷ rest) → lane < length s.lanes
     → grant_of slot ≡ Some g.place → list_any (slot_has g.place) rest ≡ false → slice_get (lanes lane).grants k ≡ Some g → g.grant.id < 2 ^ 32 → ClosesSlot s past core lanes begun lane k g rest
 
 -- Where no slot is left, the session is at rest.
 abbrev pub LettingGoEnds : Type 0
-LettingGoEnds = (s : Setting) (past : List Entry) (core : Core) (lanes : ℕ → LaneValue) (begun : List ℕ) (lane : ℕ) → LettingGo s past core lanes begun lane [] → AtRest s past core lanes begun
+LettingGoEnds = (s : Setting) (past : List Entry) (core : Core) (lanes : ℕ → LaneValue) (begun : ℕ → Bool) (lane : ℕ) → LettingGo s past core lanes begun lane [] → AtRest s past core lanes begun

@@ -21,13 +21,13 @@ use Rattle.sftp_ties.specs.Lanes.{LaneValue}
 use Rattle.sftp_steps.specs.Rest.{AtRest, weigh}
 
 -- What was queued is sent.
-pub record Sends (s : Setting) (past : List Entry) (core : Core) (lanes : ℕ → LaneValue) (begun : List ℕ) : Type 0 where
+pub record Sends (s : Setting) (past : List Entry) (core : Core) (lanes : ℕ → LaneValue) (begun : ℕ → Bool) : Type 0 where
   pub next : IsNext s past (entry.Event Send)
   pub rest : AtRest s (entry.Event Send ∷ past) (handed_out core) lanes begun
   pub work : weigh (handed_out core) ≡ weigh core
 
 abbrev pub SendsKeepRest : Type 0
-SendsKeepRest = (s : Setting) (past : List Entry) (core : Core) (lanes : ℕ → LaneValue) (begun : List ℕ) → AtRest s past core lanes begun → sent past < asked past → Sends s past core lanes begun
+SendsKeepRest = (s : Setting) (past : List Entry) (core : Core) (lanes : ℕ → LaneValue) (begun : ℕ → Bool) → AtRest s past core lanes begun → sent past < asked past → Sends s past core lanes begun
 
 -- a request under this id was sent, awaits such a reply, and is wanted or not
 pub record IsAwaited (core : Core) (id : ℕ) (r : Reply) : Type 0 where
@@ -37,7 +37,7 @@ pub record IsAwaited (core : Core) (id : ℕ) (r : Reply) : Type 0 where
   pub allowed : allows kind r ≡ true
 
 -- A reply was taken, and the CLOSE that is due then was queued, if one is: the journal went on to `now`.
-pub record Takes (s : Setting) (past : List Entry) (core : Core) (lanes : ℕ → LaneValue) (begun : List ℕ) (id : ℕ) (r : Reply) (now : List Entry) : Type 0 where
+pub record Takes (s : Setting) (past : List Entry) (core : Core) (lanes : ℕ → LaneValue) (begun : ℕ → Bool) (id : ℕ) (r : Reply) (now : List Entry) : Type 0 where
   pub may : MayTake past id r
   pub next : IsNext s past (entry.Event (Take id r))
   pub closes : ClosesTo s (entry.Event (Take id r) ∷ past) now
@@ -46,10 +46,10 @@ pub record Takes (s : Setting) (past : List Entry) (core : Core) (lanes : ℕ �
 
 -- It is wanted, or brings no handle: nothing is due.
 abbrev pub RepliesKeepRest : Type 0
-RepliesKeepRest = (s : Setting) (past : List Entry) (core : Core) (lanes : ℕ → LaneValue) (begun : List ℕ) (id : ℕ) (r : Reply) → AtRest s past core lanes begun → (x : IsAwaited core id r) → (x.wanted ≡ true) ⊎ (brings r ≡ None)
+RepliesKeepRest = (s : Setting) (past : List Entry) (core : Core) (lanes : ℕ → LaneValue) (begun : ℕ → Bool) (id : ℕ) (r : Reply) → AtRest s past core lanes begun → (x : IsAwaited core id r) → (x.wanted ≡ true) ⊎ (brings r ≡ None)
     → Takes s past core lanes begun id r (entry.Event (Take id r) ∷ past)
 
 -- A HANDLE that no lane wants is closed at once.
 abbrev pub UnwantedHandlesAreClosed : Type 0
-UnwantedHandlesAreClosed = (s : Setting) (past : List Entry) (core : Core) (lanes : ℕ → LaneValue) (begun : List ℕ) (id : ℕ) (handle : List ℕ) → AtRest s past core lanes begun → (x : IsAwaited core id (reply.Handle handle)) → x.wanted ≡ false
+UnwantedHandlesAreClosed = (s : Setting) (past : List Entry) (core : Core) (lanes : ℕ → LaneValue) (begun : ℕ → Bool) (id : ℕ) (handle : List ℕ) → AtRest s past core lanes begun → (x : IsAwaited core id (reply.Handle handle)) → x.wanted ≡ false
     → Takes s past core lanes begun id (reply.Handle handle) (entry.Event (Submit owner.Close id (request.Close handle)) ∷ entry.Event (Take id (reply.Handle handle)) ∷ past)

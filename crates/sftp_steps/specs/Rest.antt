@@ -1,6 +1,5 @@
 -- A session of lanes between two entries of its journal, and at rest.
-use Rattle.std.specs.Prelude.{◌≡◌, ◌⊎◌, ◌<◌, ◌+◌, ◌*◌, ◌==◌, ℕ, Bool, true, false, List, [], Option, Some, None, length, is_some}
-use Rattle.std.specs.List.{list_any}
+use Rattle.std.specs.Prelude.{◌≡◌, ◌⊎◌, ◌<◌, ◌+◌, ◌*◌, ℕ, Bool, true, false, List, [], Option, Some, None, length, is_some}
 use Rattle.sftp_model.specs.declared.reply.Reply.{Reply}
 use Rattle.sftp_model.specs.declared.request.Request.{Request}
 use Rattle.sftp_model.specs.declared.request.Request.TheVariants as request
@@ -81,16 +80,20 @@ pub record LaneAsks (past : List Entry) (lane : ℕ) (v : LaneValue) : Type 0 wh
 
 -- ---- the session
 
--- Core and lanes are what the journal says, and these grants are due for their CLOSE.
-pub record Between (s : Setting) (past : List Entry) (core : Core) (lanes : ℕ → LaneValue) (begun : List ℕ) (dues : List ℕ) : Type 0 where
+-- the lanes that run a call
+abbrev pub begun_of : (ℕ → LaneValue) → ℕ → Bool
+begun_of lanes = λ lane. is_some (lanes lane).running
+
+-- Core and lanes are what the journal says, and these grants are due for their CLOSE. Between two steps the lanes that were
+-- begun are those that run a call; a turn that leaves no entry may leave a lane that runs one and was not begun.
+pub record Between (s : Setting) (past : List Entry) (core : Core) (lanes : ℕ → LaneValue) (begun : ℕ → Bool) (dues : List ℕ) : Type 0 where
   pub good : Good s past begun
   pub due : Dues s past dues
   pub tied : SessionTied s past core lanes dues
   pub counted : Counted past core
   pub asks : (lane : ℕ) → lane < length s.lanes → LaneAsks past lane (lanes lane)
-  pub begins : (lane : ℕ) → lane < length s.lanes → list_any (λ l. l == lane) begun ≡ true → is_some (lanes lane).running ≡ true
 
 -- and none is due
-pub record AtRest (s : Setting) (past : List Entry) (core : Core) (lanes : ℕ → LaneValue) (begun : List ℕ) : Type 0 where
+pub record AtRest (s : Setting) (past : List Entry) (core : Core) (lanes : ℕ → LaneValue) (begun : ℕ → Bool) : Type 0 where
   pub between : Between s past core lanes begun []
   pub settled : orphan s past ≡ None
