@@ -1,18 +1,20 @@
--- What is sent and got over several calls.
+-- What is got over several calls, and what is sent.
 use Rattle.std.proofs.Common.{◌≡◌, ◌<◌, ◌≤◌, ◌+◌, ◌-◌, ℕ, Bool, true, false, List, [], ◌∷◌, ◌++◌, length, length-append, Option, Some, None, refl, ap, sym, ◌∙◌, subst, append_assoc, arith, inl, inr}
 use Rattle.std.specs.Prelude.{nat_lt, Ok}
 use Rattle.std.proofs.lemmas.Bool.Decides.{nat_tests}
 use Rattle.std.proofs.lemmas.List.{append-nil, take-append-le}
 use Rattle.std.specs.Int.{w32, from_be_bytes}
 use Rattle.sftp_model.specs.declared.error.Error.{Error}
-use Rattle.sftp_model.specs.declared.error.Error.TheVariants as error
 use Rattle.sftp_model.specs.declared.frame_error.FormatKind.{FormatKind}
+use Rattle.sftp_link.specs.declared.device_error.DeviceError.{DeviceError}
+use Rattle.sftp_link.specs.declared.device_error.DeviceError.TheVariants as device
 use Rattle.sftp_link.specs.declared.piece.Piece.{Piece}
 use Rattle.sftp_link.specs.declared.piece.Piece.TheVariants.{Sent, Got}
 use Rattle.sftp_link.specs.Log.{AllSent, AllGot, SentOn, GotOn}
 use Rattle.sftp_link.specs.Told.{Told, GotLess, GotAll, Fills}
 use Rattle.sftp_wire.specs.FrameReader.{Received, Pushed, nothing, need_of, need_where, fault_of, fault_of_len, fault_where, fault_with, missing, told_len}
-use Rattle.sftp_driver.specs.Reading.{Pulled, PullFails, ReadFails, IsFramePrefix, IsFramePart, IsOfOneFrame, IsBadLength}
+use Rattle.sftp_driver.specs.Causes.{fault_of_link}
+use Rattle.sftp_driver.specs.Reading.{Pulled, PullFails, ReadFails, Grown, IsFramePrefix, IsFramePart, IsPartway, IsOfOneFrame, IsBadLength}
 
 all_got_both : (late early : List Piece) (a b : List ℕ) → AllGot early a → AllGot late b → AllGot (late ++ early) (a ++ b)
 all_got_both [] early a b e l = subst (λ (w : List ℕ). AllGot early w) (sym (ap (λ (w : List ℕ). a ++ w) l ∙ append-nil a)) e
@@ -114,15 +116,16 @@ part_came r room x y none unfaulted fits less =
     let cut = length-append less.0 less.1 in
     let whole : length room ≡ length (less.0 ++ less.1) = ap length less.2 in
     let fewer : length less.0 < missing r.bytes = omega (arith, need, cut, whole, fits, less.3) in
-    (less.0, ((still_missing r.bytes less.0 fewer, still_unfaulted r.bytes less.0 unfaulted fewer), less.4))
+    (less.0, (record { unfaulted = still_unfaulted r.bytes less.0 unfaulted fewer; short = still_missing r.bytes less.0 fewer }, less.4))
 
 -- a part of a frame is within it
 part_within : (bytes : List ℕ) → IsFramePart bytes → IsFramePrefix bytes
-part_within bytes p = record { unfaulted = p.1; within = λ le. (let m = missing_long bytes le in let s = p.0 in omega (arith, m, s)) }
+part_within bytes p = record { unfaulted = p.unfaulted; within = λ le. (let m = missing_long bytes le in let s = p.short in omega (arith, m, s)) }
 
--- there was no memory within a part
-pub part_starved : (r : Received) (room : List ℕ) (x y : List Piece) → r.refused ≡ None → fault_of r.bytes ≡ None → length room ≡ need_of r → GotLess room x y → PullFails error.OutOfMemory r x y
-part_starved r room x y none unfaulted fits less = let w = part_came r room x y none unfaulted fits less in (w.0, (inl (part_within (r.bytes ++ w.0) w.1.0), w.1.1))
+-- a part of a frame didn't come, for want of memory or by a fault
+pub part_fails : (e : DeviceError) (r : Received) (room : List ℕ) (x y : List Piece) → r.refused ≡ None → IsFramePrefix r.bytes → length room ≡ need_of r → GotLess room x y → PullFails (fault_of_link e) r x y
+part_fails device.OutOfMemory r room x y none prefix fits less = (let w = part_came r room x y none prefix.unfaulted fits less in (w.0, (inl (part_within (r.bytes ++ w.0) w.1.0), w.1.1)))
+part_fails device.Failed r room x y none prefix fits less = part_came r room x y none prefix.unfaulted fits less
 
 -- a frame's length, and bytes up to its end
 within_more : (bytes room : List ℕ) → 4 ≤ length bytes → length bytes ≤ 4 + told_len bytes → length room ≡ missing bytes → length (bytes ++ room) ≤ 4 + told_len (bytes ++ room)
@@ -148,10 +151,11 @@ of_frame : (bytes : List ℕ) → fault_of bytes ≡ None → IsOfOneFrame bytes
 of_frame bytes unfaulted (inl prefix) = prefix
 of_frame bytes unfaulted (inr four) = record { unfaulted = unfaulted; within = λ le. omega (arith, four) }
 
-pub part_grown : (r new : Received) (room : List ℕ) → r.refused ≡ None → IsFramePrefix r.bytes → length room ≡ need_of r → Pushed r room new → IsFramePrefix new.bytes
-part_grown r new room none prefix fits pushed =
-    let unfaulted : fault_of (r.bytes ++ room) ≡ None = sym (ap (λ (k : Option FormatKind). fault_where k (r.bytes ++ room)) none) ∙ pushed.0 in
-    subst (λ (w : Received). IsFramePrefix w.bytes) (sym pushed.1) (of_frame (r.bytes ++ room) unfaulted (part_got r room none prefix fits))
+pub part_grown : (r new : Received) (room : List ℕ) → IsPartway r → length room ≡ need_of r → Pushed r room new → Grown r room new
+part_grown r new room at fits pushed =
+    let unfaulted : fault_of (r.bytes ++ room) ≡ None = sym (ap (λ (k : Option FormatKind). fault_where k (r.bytes ++ room)) at.unrefused) ∙ pushed.0 in
+    let all : IsPartway (record { bytes = r.bytes ++ room; refused = None }) = record { unrefused = refl; prefix = of_frame (r.bytes ++ room) unfaulted (part_got r room at.unrefused at.prefix fits) } in
+    record { unfaulted = unfaulted; is = pushed.1; partway = subst IsPartway (sym pushed.1) all }
 
 -- a wrong length is four bytes
 bad_four : (bytes room : List ℕ) (kind : FormatKind) → IsFramePrefix bytes → length room ≡ missing bytes → fault_of (bytes ++ room) ≡ Some kind → length (bytes ++ room) ≡ 4
@@ -164,7 +168,7 @@ bad_four bytes room kind prefix fits bad = by_case (part_whole bytes room prefix
 pub part_bad : (r : Received) (room : List ℕ) (kind : FormatKind) → r.refused ≡ None → IsFramePrefix r.bytes → length room ≡ need_of r → fault_with r room ≡ Some kind → IsBadLength kind (r.bytes ++ room)
 part_bad r room kind none prefix fits is =
     let bad : fault_of (r.bytes ++ room) ≡ Some kind = sym (ap (λ (k : Option FormatKind). fault_where k (r.bytes ++ room)) none) ∙ is in
-    (bad, bad_four r.bytes room kind prefix (fits ∙ need_is r none) bad)
+    record { four = bad_four r.bytes room kind prefix (fits ∙ need_is r none) bad; bad = bad }
 
 -- what a new reader has was got
 pub first_part : (old new : Received) (x y : List Piece) → old ≡ nothing → Pulled old new x y → GotOn x y new.bytes

@@ -1,22 +1,15 @@
 -- How journals go on, part by part.
-use Rattle.std.proofs.Common.{◌≡◌, ◌≢◌, ◌<◌, ◌≤◌, ◌+◌, ◌-◌, ℕ, zero, suc, Bool, true, false, cond, List, [], ◌∷◌, add-one, ◌==◌, Option, Some, None, refl, ap, sym, ◌∙◌, subst, arith, inl, inr}
-use Rattle.std.specs.Prelude.{nat_lt, nat_le, is_none, MatchBool, slice_get, length, if◌then◌else◌}
+use Rattle.std.proofs.Common.{◌≡◌, ◌<◌, ◌≤◌, ◌+◌, ◌-◌, ℕ, zero, suc, Bool, true, false, List, [], ◌∷◌, None, refl, ap, sym, subst, arith, inl, inr}
+use Rattle.std.specs.Prelude.{nat_lt, nat_le, is_none, MatchBool, length, if◌then◌else◌}
 use Rattle.std.proofs.lemmas.Bool.Decides.{nat_tests}
-use Rattle.sftp_model.specs.declared.slot.Move.{Move}
-use Rattle.sftp_model.specs.declared.slot.Move.TheVariants.{Ask, Wait, Done}
-use Rattle.sftp_history.specs.declared.call.Call.{Call}
-use Rattle.sftp_model.specs.declared.outcome.Outcome.TheVariants as outcome
-use Rattle.sftp_history.specs.declared.event.Owner.TheVariants as owner
-use Rattle.sftp_history.specs.declared.event.Event.TheVariants.{Submit, Send, Take, Cancel, End}
+use Rattle.sftp_history.specs.declared.event.Event.TheVariants.{Send}
 use Rattle.sftp_history.specs.declared.entry.Entry.{Entry}
 use Rattle.sftp_history.specs.declared.entry.Entry.TheVariants as entry
-use Rattle.sftp_history.specs.Readings.{asked, sent, ended, awaited, unanswered, count_below, answer, was_let_go}
-use Rattle.sftp_history.specs.Calls.{Setting, current}
-use Rattle.sftp_history.specs.Journals.{cancelled_end}
-use Rattle.sftp_history.specs.Turns.{Stage, ClosesTo, SendsTo, RulesTo, SettlesTo, FlushesBy, is_full}
+use Rattle.sftp_history.specs.Readings.{asked, sent, awaited, unanswered, count_below, answer}
+use Rattle.sftp_history.specs.Calls.{Setting}
+use Rattle.sftp_history.specs.Turns.{Stage, SendsTo, RulesTo, SettlesTo, FlushesBy, is_full}
 use Rattle.sftp_history.specs.Grants.{orphan}
-use Rattle.sftp_driver.specs.declared.session.Stepped.{Stepped}
-use Rattle.sftp_driver.specs.Session.{IsLater, IsSteady, GoesOn, StepsTo, Cancels, Takes, HandsOut, LetsGo, Flushed}
+use Rattle.sftp_driver.specs.Session.{IsLater, LetsGo, Flushed}
 
 -- ---- later
 
@@ -29,90 +22,13 @@ later_on s a b [] l m = subst (λ (w : List Entry). IsLater s a w) m l
 later_on s a b (e ∷ past) l (inl same) = subst (λ (w : List Entry). IsLater s a w) same l
 later_on s a b (e ∷ past) l (inr m) = inr (m.0, later_on s a b past l m.1)
 
--- ---- steady
-
-pub steady_self : (s : Setting) (past : List Entry) → IsSteady s past past
-steady_self s past = ((λ lane none. none), (λ lane. refl))
-
-pub steady_on : (s : Setting) (a b c : List Entry) → IsSteady s a b → IsSteady s b c → IsSteady s a c
-steady_on s a b c l m = ((λ lane none. m.0 lane (l.0 lane none)), (λ lane. m.1 lane ∙ l.1 lane))
-
-steady_same : (s : Setting) (a b : List Entry) → b ≡ a → IsSteady s a b
-steady_same s a b same = subst (λ (w : List Entry). IsSteady s a w) (sym same) (steady_self s a)
-
--- CLOSEs by rule are steady
-pub closes_steady : (s : Setting) (before now : List Entry) → ClosesTo s before now → IsSteady s before now
-closes_steady s before [] same = steady_same s before [] (sym same)
-closes_steady s before (e ∷ past) (inl same) = steady_same s before (e ∷ past) (sym same)
-closes_steady s before (e ∷ past) (inr c) =
-    steady_on s before past (e ∷ past) (closes_steady s before past c.1)
-    (subst (λ (w : Entry). IsSteady s past (w ∷ past)) (sym c.0.1.1.1.1) ((λ lane none. none), (λ lane. refl)))
-
--- behind the last call there is none
-none_later : (calls : List Call) (n : ℕ) → slice_get calls n ≡ None → slice_get calls (suc n) ≡ None
-none_later [] n e = refl
-none_later (c ∷ calls) zero e = cc
-none_later (c ∷ calls) (suc n) e = none_later calls n e
-
-none_either : (calls : List Call) (n : ℕ) (b : Bool) → slice_get calls n ≡ None → slice_get calls (cond b (n + 1) n) ≡ None
-none_either calls n true e = rw add-one (none_later calls n e)
-none_either calls n false e = e
-
-end_steady : (s : Setting) (past : List Entry) (lane call : ℕ) (o : _) → IsSteady s past (entry.Event (End lane call o) ∷ past)
-end_steady s past lane call o = ((λ other none. none_either _ _ (lane == other) none), (λ other. refl))
-
-pub steps_steady : (s : Setting) (lane : ℕ) (before now : Stage) (m : Option Move) (event : Stepped) → StepsTo s lane before now m event → IsSteady s before.past now.past
-steps_steady s lane before now None event t = steady_same s _ _ (ap (λ (w : Stage). w.past) t.1)
-steps_steady s lane before now (Some (Wait place)) event t = steady_same s _ _ (ap (λ (w : Stage). w.past) t.1)
-steps_steady s lane before now (Some (Ask r)) event t =
-    let asks : List Entry = entry.Event (Submit (owner.Call lane (ended before.past lane)) t.2.0 r) ∷ before.past in
-    steady_on s before.past asks now.past ((λ other none. none), (λ other. refl)) (closes_steady s asks now.past t.2.1.1.0)
-steps_steady s lane before now (Some (Done o site)) event t =
-    let ends : List Entry = entry.Event (End lane (ended before.past lane) o) ∷ before.past in
-    steady_on s before.past ends now.past (end_steady s before.past lane (ended before.past lane) o) (closes_steady s ends now.past t.2.0)
-
-cancels_steady : (s : Setting) (lane : ℕ) (before now : Stage) (b event : Bool) (begun : List ℕ) → MatchBool b
-    ((event ≡ true) × (now.begun ≡ begun) × SettlesTo s (cancelled_end (entry.Event (Cancel lane) ∷ before.past) lane ∷ entry.Event (Cancel lane) ∷ before.past) now.past)
-    ((event ≡ false) × (now ≡ before)) → IsSteady s before.past now.past
-cancels_steady s lane before now true event begun t =
-    let cancels : List Entry = entry.Event (Cancel lane) ∷ before.past in
-    steady_on s before.past (cancelled_end cancels lane ∷ cancels) now.past (end_steady s cancels lane (ended cancels lane) outcome.Cancelled) (closes_steady s (cancelled_end cancels lane ∷ cancels) now.past t.2.0)
-cancels_steady s lane before now false event begun t = steady_same s before.past now.past (ap (λ (w : Stage). w.past) t.1)
-
--- ---- calls of a session go on
-
-pub goes_self : (s : Setting) (past : List Entry) → GoesOn s past past
-goes_self s past = (later_self s past, steady_self s past)
-
-pub goes_same : (s : Setting) (before now : Stage) → now ≡ before → GoesOn s before.past now.past
-goes_same s before now same = subst (λ (w : Stage). GoesOn s before.past w.past) (sym same) (goes_self s before.past)
-
-pub goes_on : (s : Setting) (a b c : List Entry) → GoesOn s a b → GoesOn s b c → GoesOn s a c
-goes_on s a b c l m = (later_on s a b c l.0 m.0, steady_on s a b c l.1 m.1)
-
-pub step_goes : (s : Setting) (lane : ℕ) (before now : Stage) (m : Option Move) (event : Stepped) → StepsTo s lane before now m event → IsLater s before.past now.past → GoesOn s before.past now.past
-step_goes s lane before now m event t later = (later, steps_steady s lane before now m event t)
-
-pub cancel_goes : (s : Setting) (lane : ℕ) (before now : Stage) (event : Bool) → Cancels s lane before now event → IsLater s before.past now.past → GoesOn s before.past now.past
-cancel_goes s lane before now event t later = (later, cancels_steady s lane before now _ event _ t)
-
-pub take_goes : (s : Setting) (read : _) (before now : Stage) → Takes s read before now → IsLater s before.past now.past → GoesOn s before.past now.past
-take_goes s read before now t later =
-    let takes : List Entry = entry.Event (Take t.0 t.1.0) ∷ before.past in
-    (later, steady_on s before.past takes now.past ((λ other none. none), (λ other. refl)) (closes_steady s takes now.past t.1.1.3.0))
-
-pub hand_goes : (s : Setting) (before now : Stage) (bytes : List ℕ) → HandsOut s before (Some bytes) now → GoesOn s before.past now.past
-hand_goes s before now bytes t =
-    let sends : Stage = record { past = entry.Event Send ∷ before.past; begun = before.begun } in
-    subst (λ (w : Stage). GoesOn s before.past w.past) (sym t.2) (inr (t.4, later_self s before.past), ((λ other none. none), (λ other. refl)))
-
 -- ---- what is unsent
 
-match_true : (b : Bool) (A B : Type 0) → b ≡ true → A → MatchBool b A B
+pub match_true : (b : Bool) (A B : Type 0) → b ≡ true → A → MatchBool b A B
 match_true true A B e x = x
 match_true false A B e x = absurd cc
 
-match_false : (b : Bool) (A B : Type 0) → b ≡ false → B → MatchBool b A B
+pub match_false : (b : Bool) (A B : Type 0) → b ≡ false → B → MatchBool b A B
 match_false true A B e x = absurd cc
 match_false false A B e x = x
 
@@ -190,18 +106,11 @@ pub lets_go : (s : Setting) (lane : ℕ) (before now : Stage) → LetsGo s lane 
 lets_go s lane before now t there =
     subst (λ (b : Bool). MatchBool b ((now.begun ≡ before.begun) × SettlesTo s (entry.LetGo lane ∷ before.past) now.past) (now ≡ before)) (is_below lane (length s.lanes) there) t
 
-let_go_steady : (s : Setting) (lane : ℕ) (before mid now : List Entry) → SettlesTo s (entry.LetGo lane ∷ before) mid → IsSteady s mid now → IsSteady s (entry.LetGo lane ∷ before) now
-let_go_steady s lane before mid now t steady = steady_on s (entry.LetGo lane ∷ before) mid now (closes_steady s (entry.LetGo lane ∷ before) mid t.0) steady
-
-pub let_go_done : (s : Setting) (lane : ℕ) (before mid now : List Entry) → SettlesTo s (entry.LetGo lane ∷ before) mid → IsSteady s mid now → (other : ℕ) → current s before other ≡ None → current s now other ≡ None
-let_go_done s lane before mid now t steady other none = (let_go_steady s lane before mid now t steady).0 other none
-
-not_same : (lane other : ℕ) → lane ≢ other → (lane == other) ≡ false
-not_same lane other apart = grind (arith, nat_tests)
-
-pub let_go_holds : (s : Setting) (lane : ℕ) (before mid now : List Entry) → SettlesTo s (entry.LetGo lane ∷ before) mid → IsSteady s mid now → (other : ℕ) → lane ≢ other → was_let_go now other ≡ was_let_go before other
-let_go_holds s lane before mid now t steady other apart =
-    (let_go_steady s lane before mid now t steady).1 other ∙ ap (λ (b : Bool). if b then true else was_let_go before other) (not_same lane other apart)
-
 pub some_awaited : (n m : ℕ) → n ≡ m → (n ≡ 0 → ⊥) → 0 < m
 some_awaited n m same some = grind (arith, nat_tests)
+
+pub none_awaited : (n m : ℕ) → n ≡ m → n ≡ 0 → nat_lt 0 m ≡ false
+none_awaited n m same none = grind (arith, nat_tests)
+
+pub is_awaited : (n : ℕ) → 0 < n → nat_lt 0 n ≡ true
+is_awaited n some = grind (arith, nat_tests)

@@ -2,6 +2,12 @@ pub mod Getting
 pub mod Gathered
 pub mod Journals
 pub mod Stopping
+pub mod Joining
+pub mod Parts
 pub mod Rounds
 pub mod Settled
 pub mod Bare
+pub mod Loops
+pub mod Whole
+pub mod Asking
+pub mod SoFarLaws

@@ -26,14 +26,12 @@ use Rattle.sftp_history.specs.Turns.{Stage, ClosesTo, SettlesTo}
 use Rattle.sftp_history.specs.Shown.{Shows, hello_frame}
 use Rattle.sftp_driver.specs.declared.session.Phase.{Phase}
 use Rattle.sftp_driver.specs.declared.session.Stepped.{Stepped}
-use Rattle.sftp_driver.specs.Session.{Begins, Given, IsFixed, IsLater, IsOpened, IsSoFar, StepsTo, Cancels, Takes, Tells}
-use Rattle.sftp_driver.specs.Causes.{EndCause}
+use Rattle.sftp_driver.specs.Session.{Begins, Given, IsLater, IsSoFar, StepsTo, Cancels, Takes, Tells}
+use Rattle.sftp_driver.specs.Causes.{EndCause, IsUnsent}
 use Rattle.sftp_driver.specs.Refusals.{refuses, refuses_hello, error_of}
 use Rattle.sftp_driver.specs.Reading.{IsFramePrefix, ReadFails}
-use Rattle.sftp_driver.specs.Logs.{Keeps, Showing, Stops, StopsAs, Ends, Behind, SentPart, HelloStops, BehindHello}
-use Rattle.sftp_driver.proofs.Journals.{later_self, later_on}
-use Rattle.sftp_driver.proofs.Settled.{still_fixed}
-use Rattle.sftp_history.specs.Settings.{greeting}
+use Rattle.sftp_driver.specs.Logs.{Keeps, Showing, StopsAs, EndsAs, Behind, SentPart, HelloStops, BehindHello}
+use Rattle.sftp_history.specs.Settings.{greeting, setting_of}
 
 -- ---- a run goes on
 
@@ -43,9 +41,8 @@ keeps_self past x = told_self _ x (λ p hello first shown. shown)
 pub keeps_on : (a b c : List Entry) (x y z : Option (List Piece)) → Told (Keeps a b) x y → Told (Keeps b c) y z → Told (Keeps a c) x z
 keeps_on a b c x y z k m = told_on _ _ _ x y z k m (λ p q r f g hello first shown. g hello first (f hello first shown))
 
--- what adds nothing to the log, and then more
-pub keeps_quiet : (a b c : List Entry) (x y : Option (List Piece)) → ((log : List Piece) → Keeps a b log log) → Told (Keeps b c) x y → Told (Keeps a c) x y
-keeps_quiet a b c x y quiet told = told_as _ _ x y told (λ p q k hello first shown. k hello first (quiet p hello first shown))
+pub keeps_quietly : (a b : List Entry) (x : Option (List Piece)) → ((log : List Piece) → Keeps a b log log) → Told (Keeps a b) x x
+keeps_quietly a b x quiet = told_self _ x quiet
 
 -- a CLOSE by rule is not in the log
 pub closes_keep : (s : Setting) (before now : List Entry) (hello : Reply) (first log : List Piece) → ClosesTo s before now → Shows hello before first log → Shows hello now first log
@@ -55,7 +52,7 @@ closes_keep s before (e ∷ past) hello first log (inr c) shown =
     let rest : Shows hello past first log = closes_keep s before past hello first log c.1 shown in
     subst (λ (w : Entry). Shows hello (w ∷ past) first log) (sym c.0.1.1.1.1) rest
 
-same_keep : (before now : Stage) → now ≡ before → (log : List Piece) → Keeps before.past now.past log log
+pub same_keep : (before now : Stage) → now ≡ before → (log : List Piece) → Keeps before.past now.past log log
 same_keep before now same log hello first shown = subst (λ (w : Stage). Shows hello w.past first log) (sym same) shown
 
 pub step_keeps : (s : Setting) (lane : ℕ) (before now : Stage) (m : Option Move) (event : Stepped) → StepsTo s lane before now m event → (log : List Piece) → Keeps before.past now.past log log
@@ -66,12 +63,12 @@ step_keeps s lane before now (Some (Ask r)) event t log hello first shown =
 step_keeps s lane before now (Some (Done o site)) event t log hello first shown =
     closes_keep s (entry.Event (End lane (ended before.past lane) o) ∷ before.past) now.past hello first log t.2.0 shown
 
-cancels_keep : (s : Setting) (lane : ℕ) (before now : Stage) (b event : Bool) (begun : List ℕ) → MatchBool b
-    ((event ≡ true) × (now.begun ≡ begun) × SettlesTo s (cancelled_end (entry.Event (Cancel lane) ∷ before.past) lane ∷ entry.Event (Cancel lane) ∷ before.past) now.past)
+cancels_keep : (s : Setting) (lane : ℕ) (before now : Stage) (b event : Bool) (Begun : Type 0) → MatchBool b
+    ((event ≡ true) × Begun × SettlesTo s (cancelled_end (entry.Event (Cancel lane) ∷ before.past) lane ∷ entry.Event (Cancel lane) ∷ before.past) now.past)
     ((event ≡ false) × (now ≡ before)) → (log : List Piece) → Keeps before.past now.past log log
-cancels_keep s lane before now true event begun t log hello first shown =
+cancels_keep s lane before now true event Begun t log hello first shown =
     closes_keep s (cancelled_end (entry.Event (Cancel lane) ∷ before.past) lane ∷ entry.Event (Cancel lane) ∷ before.past) now.past hello first log t.2.0 shown
-cancels_keep s lane before now false event begun t log hello first shown = same_keep before now t.1 log hello first shown
+cancels_keep s lane before now false event Begun t log hello first shown = same_keep before now t.1 log hello first shown
 
 pub cancel_keeps : (s : Setting) (lane : ℕ) (before now : Stage) (event : Bool) → Cancels s lane before now event → (log : List Piece) → Keeps before.past now.past log log
 cancel_keeps s lane before now event t = cancels_keep s lane before now _ event _ t
@@ -79,22 +76,19 @@ cancel_keeps s lane before now event t = cancels_keep s lane before now _ event 
 pub let_go_keeps : (s : Setting) (lane : ℕ) (before now : List Entry) → SettlesTo s (entry.LetGo lane ∷ before) now → (log : List Piece) → Keeps before now log log
 let_go_keeps s lane before now t log hello first shown = closes_keep s (entry.LetGo lane ∷ before) now hello first log t.0 shown
 
--- a reply was got and taken, and then more
-pub keeps_taken : (s : Setting) (before mid : Stage) (now : List Entry) (body bytes : List ℕ) (x y z : Option (List Piece)) → Takes s (reply_at body) before mid
-    → bytes ≡ string body → length body ≤ 1048575 → Told (GotAll bytes) x y → Told (Keeps mid.past now) y z → Told (Keeps before.past now) x z
-keeps_taken s before mid now body bytes x y z t framed short got told =
-    told_on _ _ _ x y z got told
-    (λ p q r g k hello first shown. k hello first
-    (closes_keep s (entry.Event (Take t.0 t.1.0) ∷ before.past) mid.past hello first q t.1.1.3.0
-    (p, (shown, (bytes, (record { body = body; framed = framed; short = short; reads = t.1.1.0 }, g))))))
+-- a reply was got and taken
+pub keeps_taken : (s : Setting) (before now : Stage) (body bytes : List ℕ) (x y : Option (List Piece)) → Takes s (reply_at body) before now
+    → bytes ≡ string body → length body ≤ 1048575 → Told (GotAll bytes) x y → Told (Keeps before.past now.past) x y
+keeps_taken s before now body bytes x y t framed short got =
+    told_as _ _ x y got
+    (λ p q g hello first shown.
+    closes_keep s (entry.Event (Take t.0 t.1.0) ∷ before.past) now.past hello first q t.1.1.3.0
+    (p, (shown, (bytes, (record { body = body; framed = framed; short = short; reads = t.1.1.0 }, g)))))
 
 -- ---- a run stops
 
 pub stops_here : (such : List Entry → Type 0) (ended : Bool) (past : List Entry) (x : Option (List Piece)) → such past → Told (StopsAs such ended error.OutOfMemory past) x x
 stops_here such ended past x is = told_self _ x (λ p hello first shown. (past, (p, (is, shown, inl (inl refl)))))
-
-pub stops_nothing : (s : Setting) (ended : Bool) (past : List Entry) (x : Option (List Piece)) → Told (Stops s ended error.OutOfMemory past) x x
-stops_nothing s ended past x = stops_here (IsLater s past) ended past x (later_self s past)
 
 pub stops_behind : (such there : List Entry → Type 0) (ended : Bool) (e : Error) (a b : List Entry) (x y z : Option (List Piece)) → ((now : List Entry) → there now → such now) → Told (Keeps a b) x y → Told (StopsAs there ended e b) y z → Told (StopsAs such ended e a) x z
 stops_behind such there ended e a b x y z goes k m =
@@ -102,46 +96,35 @@ stops_behind such there ended e a b x y z goes k m =
     (λ p q r f g hello first shown.
     let w = g hello first (f hello first shown) in (w.0, (w.1.0, (goes w.0 w.1.1.0, w.1.1.1, w.1.1.2))))
 
-pub stops_on : (s : Setting) (ended : Bool) (e : Error) (a b : List Entry) (x y z : Option (List Piece)) → IsLater s a b → Told (Keeps a b) x y → Told (Stops s ended e b) y z → Told (Stops s ended e a) x z
-stops_on s ended e a b x y z later k m = stops_behind (IsLater s a) (IsLater s b) ended e a b x y z (λ now. later_on s a b now later) k m
-
-pub stops_quiet : (s : Setting) (ended : Bool) (e : Error) (a b : List Entry) (x y : Option (List Piece)) → IsLater s a b → ((log : List Piece) → Keeps a b log log) → Told (Stops s ended e b) x y → Told (Stops s ended e a) x y
-stops_quiet s ended e a b x y later quiet m =
-    told_as _ _ x y m
-    (λ p q g hello first shown.
-    let w = g hello first (quiet p hello first shown) in (w.0, (w.1.0, (later_on s a b w.0 later w.1.1.0, w.1.1.1, w.1.1.2))))
-
 -- a part of what is unsent was sent
-pub sent_here : (such : List Entry → Type 0) (ended : Bool) (e : Error) (past : List Entry) (bytes : List ℕ) (x y : Option (List Piece)) → such past
-    → ((mid after : List Piece) → SentPart (unsent_bytes past) mid after → Behind ended e past mid after) → bytes ≡ unsent_bytes past → Told (SentLess bytes) x y → Told (StopsAs such ended e past) x y
-sent_here such ended e past bytes x y is behind same told =
-    told_as _ _ x y told
-    (λ p q less hello first shown. (past, (p, (is, shown, behind p q (inr (subst (λ (w : List ℕ). SentLess w p q) same less))))))
+unsent_behind : (ended : Bool) (e : Error) (past : List Entry) (mid after : List Piece) → IsUnsent e → SentPart (unsent_bytes past) mid after → Behind ended e past mid after
+unsent_behind ended error.OutOfMemory past mid after why part = inl part
+unsent_behind ended error.LinkFault past mid after why part = inl part
+unsent_behind ended other past mid after why part = absurd why
 
-pub stops_sent : (s : Setting) (ended : Bool) (e : Error) (past : List Entry) (bytes : List ℕ) (x y : Option (List Piece))
-    → ((mid after : List Piece) → SentPart (unsent_bytes past) mid after → Behind ended e past mid after) → bytes ≡ unsent_bytes past → Told (SentLess bytes) x y → Told (Stops s ended e past) x y
-stops_sent s ended e past bytes x y behind same told = sent_here (IsLater s past) ended e past bytes x y (later_self s past) behind same told
+pub sent_here : (such : List Entry → Type 0) (ended : Bool) (e : Error) (past : List Entry) (bytes : List ℕ) (x y : Option (List Piece)) → such past
+    → bytes ≡ unsent_bytes past → IsUnsent e → Told (SentLess bytes) x y → Told (StopsAs such ended e past) x y
+sent_here such ended e past bytes x y is same why told =
+    told_as _ _ x y told
+    (λ p q less hello first shown. (past, (p, (is, shown, unsent_behind ended e past p q why (inr (subst (λ (w : List ℕ). SentLess w p q) same less))))))
 
 -- ---- no frame came
 
 read_behind : (ended : Bool) (e : Error) (past : List Entry) (mid after : List Piece) → 0 < awaited past → EndCause {T = Unit {0}} ended (Err e) → ReadFails e mid after → Behind ended e past mid after
 read_behind ended error.OutOfMemory past mid after some end fails = inr (some, fails)
-read_behind ended error.LinkFault past mid after some end fails = inr (some, (fails.0, (fails.1.0.0, fails.1.0.1, fails.1.1)))
-read_behind ended error.LinkEnded past mid after some end fails = (end, some, (fails.0, (fails.1.0.0, fails.1.0.1, fails.1.1)))
-read_behind ended other past mid after some end fails = (some, inl (fails.1.0.0, (fails.1.0.1.0, (fails.0, (fails.1.0.1.1.0, fails.1.0.1.1.1, fails.1.1)))))
+read_behind ended error.LinkFault past mid after some end fails = inr (some, fails)
+read_behind ended error.LinkEnded past mid after some end fails = (end, some, fails)
+read_behind ended other past mid after some end fails = (some, inl (fails.1.0.0, (fails.1.0.1.0, (fails.0, (fails.1.0.1.1, fails.1.1)))))
 
 pub unread_here : (such : List Entry → Type 0) (ended : Bool) (e : Error) (past : List Entry) (x y : Option (List Piece)) → such past → 0 < awaited past → EndCause {T = Unit {0}} ended (Err e) → Told (ReadFails e) x y → Told (StopsAs such ended e past) x y
 unread_here such ended e past x y is some end told =
     told_as _ _ x y told (λ p q fails hello first shown. (past, (p, (is, shown, read_behind ended e past p q some end fails))))
 
-pub stops_unread : (s : Setting) (ended : Bool) (e : Error) (past : List Entry) (x y : Option (List Piece)) → 0 < awaited past → EndCause {T = Unit {0}} ended (Err e) → Told (ReadFails e) x y → Told (Stops s ended e past) x y
-stops_unread s ended e past x y some end told = unread_here (IsLater s past) ended e past x y (later_self s past) some end told
-
 read_hello : (ended : Bool) (e : Error) (mid after : List Piece) → EndCause {T = Unit {0}} ended (Err e) → ReadFails e mid after → BehindHello ended e mid after
 read_hello ended error.OutOfMemory mid after end fails = fails
-read_hello ended error.LinkFault mid after end fails = (fails.0, (fails.1.0.0, fails.1.0.1, fails.1.1))
-read_hello ended error.LinkEnded mid after end fails = (end, (fails.0, (fails.1.0.0, fails.1.0.1, fails.1.1)))
-read_hello ended other mid after end fails = inl (fails.1.0.0, (fails.1.0.1.0, (fails.0, (fails.1.0.1.1.0, fails.1.0.1.1.1, fails.1.1))))
+read_hello ended error.LinkFault mid after end fails = fails
+read_hello ended error.LinkEnded mid after end fails = (end, fails)
+read_hello ended other mid after end fails = inl (fails.1.0.0, (fails.1.0.1.0, (fails.0, (fails.1.0.1.1, fails.1.1))))
 
 pub hello_unread : (ended : Bool) (e : Error) (bytes : List ℕ) (x y z : Option (List Piece)) → bytes ≡ hello_frame → Told (SentAll bytes) x y → EndCause {T = Unit {0}} ended (Err e) → Told (ReadFails e) y z → Told (HelloStops ended e) x z
 hello_unread ended e bytes x y z same sent end told =
@@ -151,66 +134,78 @@ hello_unread ended e bytes x y z same sent end told =
 
 refused_behind : (ended : Bool) (t : TakeError) (past : List Entry) (body bytes : List ℕ) (mid after : List Piece) → 0 < awaited past → IsFramePrefix bytes → bytes ≡ string body → length body ≤ 1048575
     → IsFirst t (refuses past (reply_at body)) → GotOn mid after bytes → Behind ended (error_of t) past mid after
-refused_behind ended take.OutOfMemory past body bytes mid after some prefix framed short why got = inr (some, (bytes, (inl prefix, got)))
-refused_behind ended (take.Format kind) past body bytes mid after some prefix framed short why got = (some, inr (body, (short, subst (λ (w : List ℕ). GotOn mid after w) framed got, (take.Format kind, (why, refl)))))
-refused_behind ended (take.HandleTooLong len) past body bytes mid after some prefix framed short why got = (some, inr (body, (short, subst (λ (w : List ℕ). GotOn mid after w) framed got, (take.HandleTooLong len, (why, refl)))))
-refused_behind ended (take.InvalidResponseId id) past body bytes mid after some prefix framed short why got = (some, inr (body, (short, subst (λ (w : List ℕ). GotOn mid after w) framed got, (take.InvalidResponseId id, (why, refl)))))
-refused_behind ended (take.InvalidResponse id) past body bytes mid after some prefix framed short why got = (some, inr (body, (short, subst (λ (w : List ℕ). GotOn mid after w) framed got, (take.InvalidResponse id, (why, refl)))))
-refused_behind ended (take.LimitsRefused code message language) past body bytes mid after some prefix framed short why got = (some, inr (body, (short, subst (λ (w : List ℕ). GotOn mid after w) framed got, (take.LimitsRefused code message language, (why, refl)))))
-refused_behind ended (take.Protocol version) past body bytes mid after some prefix framed short why got = (some, inr (body, (short, subst (λ (w : List ℕ). GotOn mid after w) framed got, (take.Protocol version, (why, refl)))))
+refused_behind ended take.OutOfMemory past body bytes mid after some front framed short why got = inr (some, (bytes, (inl front, got)))
+refused_behind ended (take.Format kind) past body bytes mid after some front framed short why got = (some, inr (body, (short, subst (λ (w : List ℕ). GotOn mid after w) framed got, (take.Format kind, (why, refl)))))
+refused_behind ended (take.HandleTooLong len) past body bytes mid after some front framed short why got = (some, inr (body, (short, subst (λ (w : List ℕ). GotOn mid after w) framed got, (take.HandleTooLong len, (why, refl)))))
+refused_behind ended (take.InvalidResponseId id) past body bytes mid after some front framed short why got = (some, inr (body, (short, subst (λ (w : List ℕ). GotOn mid after w) framed got, (take.InvalidResponseId id, (why, refl)))))
+refused_behind ended (take.InvalidResponse id) past body bytes mid after some front framed short why got = (some, inr (body, (short, subst (λ (w : List ℕ). GotOn mid after w) framed got, (take.InvalidResponse id, (why, refl)))))
+refused_behind ended (take.LimitsRefused code message language) past body bytes mid after some front framed short why got = (some, inr (body, (short, subst (λ (w : List ℕ). GotOn mid after w) framed got, (take.LimitsRefused code message language, (why, refl)))))
+refused_behind ended (take.Protocol version) past body bytes mid after some front framed short why got = (some, inr (body, (short, subst (λ (w : List ℕ). GotOn mid after w) framed got, (take.Protocol version, (why, refl)))))
 
 pub refused_here : (such : List Entry → Type 0) (ended : Bool) (t : TakeError) (past : List Entry) (body bytes : List ℕ) (x y : Option (List Piece)) → such past → 0 < awaited past → IsFramePrefix bytes → bytes ≡ string body
     → length body ≤ 1048575 → IsFirst t (refuses past (reply_at body)) → Told (GotAll bytes) x y → Told (StopsAs such ended (error_of t) past) x y
-refused_here such ended t past body bytes x y is some prefix framed short why told =
-    told_as _ _ x y told (λ p q got hello first shown. (past, (p, (is, shown, refused_behind ended t past body bytes p q some prefix framed short why got))))
-
-pub stops_refused : (s : Setting) (ended : Bool) (t : TakeError) (past : List Entry) (body bytes : List ℕ) (x y : Option (List Piece)) → 0 < awaited past → IsFramePrefix bytes → bytes ≡ string body → length body ≤ 1048575
-    → IsFirst t (refuses past (reply_at body)) → Told (GotAll bytes) x y → Told (Stops s ended (error_of t) past) x y
-stops_refused s ended t past body bytes x y some prefix framed short why told =
-    refused_here (IsLater s past) ended t past body bytes x y (later_self s past) some prefix framed short why told
+refused_here such ended t past body bytes x y is some front framed short why told =
+    told_as _ _ x y told (λ p q got hello first shown. (past, (p, (is, shown, refused_behind ended t past body bytes p q some front framed short why got))))
 
 refused_hello : (ended : Bool) (t : TakeError) (body bytes : List ℕ) (mid after : List Piece) → IsFramePrefix bytes → bytes ≡ string body → length body ≤ 1048575
     → IsFirst t (refuses_hello (reply_at body)) → GotOn mid after bytes → BehindHello ended (error_of t) mid after
-refused_hello ended take.OutOfMemory body bytes mid after prefix framed short why got = (bytes, (inl prefix, got))
-refused_hello ended (take.Format kind) body bytes mid after prefix framed short why got = inr (body, (short, subst (λ (w : List ℕ). GotOn mid after w) framed got, (take.Format kind, (why, refl))))
-refused_hello ended (take.HandleTooLong len) body bytes mid after prefix framed short why got = inr (body, (short, subst (λ (w : List ℕ). GotOn mid after w) framed got, (take.HandleTooLong len, (why, refl))))
-refused_hello ended (take.InvalidResponseId id) body bytes mid after prefix framed short why got = inr (body, (short, subst (λ (w : List ℕ). GotOn mid after w) framed got, (take.InvalidResponseId id, (why, refl))))
-refused_hello ended (take.InvalidResponse id) body bytes mid after prefix framed short why got = inr (body, (short, subst (λ (w : List ℕ). GotOn mid after w) framed got, (take.InvalidResponse id, (why, refl))))
-refused_hello ended (take.LimitsRefused code message language) body bytes mid after prefix framed short why got = inr (body, (short, subst (λ (w : List ℕ). GotOn mid after w) framed got, (take.LimitsRefused code message language, (why, refl))))
-refused_hello ended (take.Protocol version) body bytes mid after prefix framed short why got = inr (body, (short, subst (λ (w : List ℕ). GotOn mid after w) framed got, (take.Protocol version, (why, refl))))
+refused_hello ended take.OutOfMemory body bytes mid after front framed short why got = (bytes, (inl front, got))
+refused_hello ended (take.Format kind) body bytes mid after front framed short why got = inr (body, (short, subst (λ (w : List ℕ). GotOn mid after w) framed got, (take.Format kind, (why, refl))))
+refused_hello ended (take.HandleTooLong len) body bytes mid after front framed short why got = inr (body, (short, subst (λ (w : List ℕ). GotOn mid after w) framed got, (take.HandleTooLong len, (why, refl))))
+refused_hello ended (take.InvalidResponseId id) body bytes mid after front framed short why got = inr (body, (short, subst (λ (w : List ℕ). GotOn mid after w) framed got, (take.InvalidResponseId id, (why, refl))))
+refused_hello ended (take.InvalidResponse id) body bytes mid after front framed short why got = inr (body, (short, subst (λ (w : List ℕ). GotOn mid after w) framed got, (take.InvalidResponse id, (why, refl))))
+refused_hello ended (take.LimitsRefused code message language) body bytes mid after front framed short why got = inr (body, (short, subst (λ (w : List ℕ). GotOn mid after w) framed got, (take.LimitsRefused code message language, (why, refl))))
+refused_hello ended (take.Protocol version) body bytes mid after front framed short why got = inr (body, (short, subst (λ (w : List ℕ). GotOn mid after w) framed got, (take.Protocol version, (why, refl))))
 
 pub hello_refused : (ended : Bool) (t : TakeError) (sent body bytes : List ℕ) (x y z : Option (List Piece)) → sent ≡ hello_frame → Told (SentAll sent) x y → IsFramePrefix bytes → bytes ≡ string body → length body ≤ 1048575
     → IsFirst t (refuses_hello (reply_at body)) → Told (GotAll bytes) y z → Told (HelloStops ended (error_of t)) x z
-hello_refused ended t sent body bytes x y z same told prefix framed short why got =
-    told_on _ _ _ x y z told got (λ p q r s g. inr (q, (subst (λ (w : List ℕ). SentOn p q w) same s, refused_hello ended t body bytes q r prefix framed short why g)))
+hello_refused ended t sent body bytes x y z same told front framed short why got =
+    told_on _ _ _ x y z told got (λ p q r s g. inr (q, (subst (λ (w : List ℕ). SentOn p q w) same s, refused_hello ended t body bytes q r front framed short why g)))
+
+-- a part of the hello was sent
+pub hello_unsent : (ended : Bool) (e : Error) (bytes : List ℕ) (x y : Option (List Piece)) → bytes ≡ hello_frame → IsUnsent e → Told (SentLess bytes) x y → Told (HelloStops ended e) x y
+hello_unsent ended e bytes x y same why told = told_as _ _ x y told (λ p q less. inl (why, inr (subst (λ (w : List ℕ). SentLess w p q) same less)))
+
+pub hello_unbegun : (ended : Bool) (x : Option (List Piece)) → Told (HelloStops ended error.OutOfMemory) x x
+hello_unbegun ended x = told_self _ x (λ p. inl (tt, inl refl))
 
 -- ---- the opening
 
 -- VERSION came, and then it stopped
-pub ends_on : (given : Given) (s : Setting) (ended : Bool) (e : Error) (version : Option Reply) (a : List Entry) (x y z : Option (List Piece)) → Told (Showing version a) x y
-    → Told (StopsAs (IsSoFar given version s) ended e a) y z → Told (Ends given ended e) x z
-ends_on given s ended e None a x y z shows stops = told_on _ _ _ x y z shows stops (λ p q r f g. absurd f)
-ends_on given s ended e (Some hello) a x y z shows stops =
+pub ends_on : (given : Given) (such : Setting → List Entry → Type 0) (may : List Entry → Type 0) (s : Setting) (ended : Bool) (e : Error) (version : Option Reply) (a : List Entry) (x y z : Option (List Piece))
+    → ((past : List Entry) → may past → IsSoFar given version s past × such s past) → Told (Showing version a) x y
+    → Told (StopsAs may ended e a) y z → Told (EndsAs given such ended e) x z
+ends_on given such may s ended e None a x y z is shows stops = told_on _ _ _ x y z shows stops (λ p q r f g. absurd f)
+ends_on given such may s ended e (Some hello) a x y z is shows stops =
     told_on _ _ _ x y z shows stops
     (λ p q r f g.
     let w = g hello p f in
-    let fixed = w.1.1.0.1 in
+    let m = is w.0 w.1.1.0 in
+    let fixed = m.0.1 in
     let extensions = fixed.0 in
     let greets : hello ≡ greeting extensions = cc in
-    inr (extensions, (w.0, (w.1.0, (subst (λ (t : Setting). IsLater t [] w.0) fixed.1.1 w.1.1.0.0, subst (λ (h : Reply). Shows h w.0 p w.1.0) greets w.1.1.1, w.1.1.2)))))
+    inr (record {
+      extensions = extensions;
+      now = w.0;
+      mid = w.1.0;
+      later = subst (λ (t : Setting). IsLater t [] w.0) fixed.1.1 m.0.0;
+      so_far = subst (λ (t : Setting). such t w.0) fixed.1.1 m.1;
+      shows = subst (λ (h : Reply). Shows h w.0 p w.1.0) greets w.1.1.1;
+      behind = w.1.1.2;
+    }))
 
--- an open session's journal went on, and then it stopped
-pub ends_open : (given : Given) (s : Setting) (ended : Bool) (e : Error) (version : Option Reply) (a : List Entry) (x y z : Option (List Piece)) → IsOpened given version a s → Told (Showing version a) x y
-    → Told (Stops s ended e a) y z → Told (Ends given ended e) x z
-ends_open given s ended e version a x y z opened shows stops =
-    ends_on given s ended e version a x y z shows
-    (told_as _ _ y z stops
-    (λ p q g hello first shown.
-    let w = g hello first shown in
-    (w.0, (w.1.0, ((later_on s [] a w.0 opened.later w.1.1.0, still_fixed given version a w.0 s opened.fixed opened.opens w.1.1.0), w.1.1.1, w.1.1.2)))))
+pub hello_ends : (given : Given) (such : Setting → List Entry → Type 0) (ended : Bool) (e : Error) (x y : Option (List Piece)) → Told (HelloStops ended e) x y → Told (EndsAs given such ended e) x y
+hello_ends given such ended e x y told = told_as _ _ x y told (λ p q h. inl h)
 
-pub hello_ends : (given : Given) (ended : Bool) (e : Error) (x y : Option (List Piece)) → Told (HelloStops ended e) x y → Told (Ends given ended e) x y
-hello_ends given ended e x y told = told_as _ _ x y told (λ p q h. inl h)
+ends_either : (given : Given) (such other : Setting → List Entry → Type 0) (ended : Bool) (e : Error) (p q : List Piece) → ((s : Setting) (past : List Entry) → such s past → other s past)
+    → EndsAs given such ended e p q → EndsAs given other ended e p q
+ends_either given such other ended e p q is (inl h) = inl h
+ends_either given such other ended e p q is (inr w) =
+    inr (record { extensions = w.extensions; now = w.now; mid = w.mid; later = w.later; so_far = is (setting_of given.lanes given.options w.extensions w.now) w.now w.so_far; shows = w.shows; behind = w.behind })
+
+pub ends_as : (given : Given) (such other : Setting → List Entry → Type 0) (ended : Bool) (e : Error) (x y : Option (List Piece)) → ((s : Setting) (past : List Entry) → such s past → other s past)
+    → Told (EndsAs given such ended e) x y → Told (EndsAs given other ended e) x y
+ends_as given such other ended e x y is told = told_as _ _ x y told (λ p q w. ends_either given such other ended e p q is w)
 
 -- the log shows VERSION and the journal that has gone on
 pub shows_on : (version now_version : Option Reply) (a b : List Entry) (x y z : Option (List Piece)) → now_version ≡ version → Told (Showing version a) x y → Told (Keeps a b) y z → Told (Showing now_version b) x z
@@ -237,8 +232,3 @@ keeps_told before now body bytes x y t framed short told =
 pub asked_awaits : (phase : Phase) (past now : List Entry) → Begins true phase past → now ≡ entry.Event Send ∷ past → 0 < awaited now
 asked_awaits phase past now begins is =
     subst (λ (w : List Entry). 0 < awaited w) (sym (is ∙ ap (λ (w : List Entry). entry.Event Send ∷ w) begins.1.1.1)) (omega arith)
-
--- the query was sent: no reply has come, and the setting stays
-pub query_so_far : (given : Given) (version : Option Reply) (s : Setting) (past now : List Entry) → IsSoFar given version s past → now ≡ entry.Event Send ∷ past → IsLater s past now → IsSoFar given version s now
-query_so_far given version s past now so_far is later =
-    (later_on s [] past now so_far.0 later, subst (λ (w : List Entry). IsFixed given version w s) (sym is) so_far.1)

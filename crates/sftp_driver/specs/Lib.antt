@@ -4,4 +4,7 @@ pub mod NoLanes
 pub mod Refusals
 pub mod Causes
 pub mod Logs
+pub mod Ongoing
 pub mod Reading
+pub mod RunsSoFar
+pub mod RunsSoFarRows

@@ -11,16 +11,19 @@ use Rattle.sftp_model.specs.ReplyReadings.{reply_at}
 use Rattle.sftp_core.specs.declared.errors.TakeError.{TakeError}
 use Rattle.sftp_link.specs.declared.piece.Piece.{Piece}
 use Rattle.sftp_link.specs.Log.{SentOn, GotOn}
-use Rattle.sftp_link.specs.Told.{SentLess}
-use Rattle.sftp_wire.specs.FrameReader.{fault_of, missing}
+use Rattle.sftp_link.specs.Told.{Told, SentLess}
 use Rattle.sftp_history.specs.declared.entry.Entry.{Entry}
 use Rattle.sftp_history.specs.Readings.{awaited, unsent_bytes}
+use Rattle.sftp_history.specs.declared.turn.Turn.{Turn}
 use Rattle.sftp_history.specs.Calls.{Setting}
+use Rattle.sftp_history.specs.Runs.{IsRun}
+use Rattle.sftp_driver.specs.Causes.{IsUnsent}
+use Rattle.sftp_driver.specs.RunsSoFar.{OpensSoFar, RunSoFar}
 use Rattle.sftp_history.specs.Shown.{Shows, hello_frame}
 use Rattle.sftp_history.specs.Settings.{greeting, setting_of}
 use Rattle.sftp_model.specs.declared.flags.Extensions.{Extensions}
-use Rattle.sftp_driver.specs.Reading.{IsOfOneFrame}
-use Rattle.sftp_driver.specs.Session.{Given, IsLater}
+use Rattle.sftp_driver.specs.Session.{Given, IsFixed, IsLater, Seen}
+use Rattle.sftp_driver.specs.Reading.{IsOfOneFrame, IsFramePart, IsBadLength}
 use Rattle.sftp_driver.specs.Refusals.{refuses, refuses_hello, error_of}
 
 -- whatever the log showed before, it shows the journal that has gone on
@@ -32,9 +35,15 @@ abbrev pub Showing : Option Reply → List Entry → List Piece → List Piece �
 Showing None past before after = ⊥
 Showing (Some hello) past before after = Shows hello past before after
 
+-- The lanes have run: the journal is a run of them under the schedule, and the log, where it is told, shows VERSION and it.
+pub record HasRun (given : Given) (schedule : List Turn) (now : Seen) (before after : Option (List Piece)) : Type 0 where
+  pub run : IsRun now.setting schedule now.stage.past
+  pub fixed : IsFixed given now.version now.stage.past now.setting
+  pub shows : Told (Showing now.version now.stage.past) before after
+
 -- ---- parts
 
--- nothing was sent, or a front of the bytes which is not the whole
+-- nothing was sent, or a prefix of the bytes which is not the whole
 abbrev pub SentPart : List ℕ → List Piece → List Piece → Type 0
 SentPart bytes before now = (now ≡ before) ⊎ SentLess bytes before now
 
@@ -44,11 +53,11 @@ GotBytes before now = (bytes : List ℕ) × (IsOfOneFrame bytes × GotOn before 
 
 -- the first bytes of a frame were got, and not all of them
 abbrev pub GotPart : List Piece → List Piece → Type 0
-GotPart before now = (bytes : List ℕ) × ((0 < missing bytes) × (fault_of bytes ≡ None) × GotOn before now bytes)
+GotPart before now = (bytes : List ℕ) × (IsFramePart bytes × GotOn before now bytes)
 
 -- the four bytes of a length were got which no frame may have, and no byte past them
 abbrev pub GotBadLength : FormatKind → List Piece → List Piece → Type 0
-GotBadLength kind before now = (bytes : List ℕ) × ((fault_of bytes ≡ Some kind) × (length bytes ≡ 4) × GotOn before now bytes)
+GotBadLength kind before now = (bytes : List ℕ) × (IsBadLength kind bytes × GotOn before now bytes)
 
 -- one frame was got, and by what it reads as it is refused with this error
 abbrev pub GotRefused : (Result (Option ℕ × Reply) FrameError → Option TakeError) → Error → List Piece → List Piece → Type 0
@@ -61,7 +70,7 @@ GotUnusable first e before now = ((kind : FormatKind) × ((e ≡ error.FormatErr
 
 -- ---- stops
 
--- Behind the journal that the log shows stands, where a run stops with this error, a part of the next Send's
+-- After the journal that the log shows stands, where a run stops with this error, a part of the next Send's
 -- frames, or what came where the reply to a sent request was awaited.
 abbrev pub Behind : Bool → Error → List Entry → List Piece → List Piece → Type 0
 Behind ended error.OutOfMemory past mid after = SentPart (unsent_bytes past) mid after ⊎ ((0 < awaited past) × GotBytes mid after)
@@ -75,10 +84,6 @@ StopsAs such ended e past before after =
     (hello : Reply) (first : List Piece) → Shows hello past first before
     → (now : List Entry) × ((mid : List Piece) × (such now × Shows hello now first mid × Behind ended e now mid after))
 
--- where a run stops, the log shows a journal that is the earlier one gone on, and then a part
-abbrev pub Stops : Setting → Bool → Error → List Entry → List Piece → List Piece → Type 0
-Stops s ended e past before after = StopsAs (IsLater s past) ended e past before after
-
 -- the hello was sent, and then came what can't be used, or less than a frame, or it failed within a frame
 abbrev pub BehindHello : Bool → Error → List Piece → List Piece → Type 0
 BehindHello ended error.OutOfMemory mid after = GotBytes mid after
@@ -86,20 +91,28 @@ BehindHello ended error.LinkFault mid after = GotPart mid after
 BehindHello ended error.LinkEnded mid after = (ended ≡ true) × GotPart mid after
 BehindHello ended other mid after = GotUnusable refuses_hello other mid after
 
--- why not all could be sent: for want of memory, or by a fault of the link
-abbrev pub IsUnsent : Error → Type 0
-IsUnsent error.OutOfMemory = Unit {0}
-IsUnsent error.LinkFault = Unit {0}
-IsUnsent other = ⊥
-
 -- before VERSION was taken: a part of the hello, where not all could be sent, or the hello and then a part
 abbrev pub HelloStops : Bool → Error → List Piece → List Piece → Type 0
 HelloStops ended e before after = (IsUnsent e × SentPart hello_frame before after) ⊎ ((mid : List Piece) × (SentOn before mid hello_frame × BehindHello ended e mid after))
 
--- where a session stops, VERSION was not taken, or the log shows VERSION, a journal that is a run of the lanes so
--- far, and a part
-abbrev pub Ends : Given → Bool → Error → List Piece → List Piece → Type 0
-Ends given ended e before after =
-    HelloStops ended e before after
-    ⊎ ((extensions : Extensions) × ((now : List Entry) × ((mid : List Piece)
-    × (IsLater (setting_of given.lanes given.options extensions now) [] now × Shows (greeting extensions) now before mid × Behind ended e now mid after))))
+-- VERSION was taken, and the log shows it, such a journal that is a run so far, and a part
+pub record StopsOpen (given : Given) (such : Setting → List Entry → Type 0) (ended : Bool) (e : Error) (before after : List Piece) : Type 0 where
+  pub extensions : Extensions
+  pub now : List Entry
+  pub mid : List Piece
+  pub later : IsLater (setting_of given.lanes given.options extensions now) [] now
+  pub so_far : such (setting_of given.lanes given.options extensions now) now
+  pub shows : Shows (greeting extensions) now before mid
+  pub behind : Behind ended e now mid after
+
+-- where a session stops, VERSION was not taken, or such a journal has come so far
+abbrev pub EndsAs : Given → (Setting → List Entry → Type 0) → Bool → Error → List Piece → List Piece → Type 0
+EndsAs given such ended e before after = HelloStops ended e before after ⊎ StopsOpen given such ended e before after
+
+-- where the opening stops
+abbrev pub OpeningStops : Given → Bool → Error → List Piece → List Piece → Type 0
+OpeningStops given = EndsAs given (λ s. OpensSoFar s.limits)
+
+-- where a session stops: VERSION was not taken, or the journal is a run so far of the lanes under the schedule
+abbrev pub Ends : Given → List Turn → Bool → Error → List Piece → List Piece → Type 0
+Ends given schedule = EndsAs given (λ s. RunSoFar s schedule)

@@ -16,10 +16,10 @@ use Rattle.sftp_history.specs.declared.entry.Entry.TheVariants as entry
 use Rattle.sftp_history.specs.Calls.{Setting}
 use Rattle.sftp_history.specs.Settings.{greeting, setting_of}
 use Rattle.sftp_core.specs.Info.{offers_limits}
-use Rattle.sftp_history.specs.Runs.{queried}
+use Rattle.sftp_history.specs.Runs.{at_first, queried}
 use Rattle.sftp_driver.specs.declared.session.Phase.{Phase}
 use Rattle.sftp_driver.specs.declared.session.Phase.TheVariants.{Fresh, Greeted, Asking, Queried, Open, Failed}
-use Rattle.sftp_driver.specs.Session.{Given}
+use Rattle.sftp_driver.specs.Session.{Given, Seen}
 
 -- what is seen of it
 pub record Bare : Type 0 where
@@ -42,6 +42,10 @@ offered other = record { 0 = 0 }
 
 abbrev pub setting_in : Bare → Setting
 setting_in b = setting_of [] b.options (offered b.version) b.past
+
+-- what a caller sees of it
+abbrev pub seen_in : Bare → Seen
+seen_in b = record { given = given_of b; setting = setting_in b; phase = b.phase; version = b.version; stage = at_first b.past; work = 0 }
 
 -- the query for limits stands in the queue
 abbrev pub asked_core : SftpOptions → Extensions → Core

@@ -8,22 +8,20 @@ use Rattle.sftp_model.specs.declared.request.Request.TheVariants as request
 use Rattle.sftp_model.specs.declared.slot.Move.{Move}
 use Rattle.sftp_model.specs.declared.slot.Move.TheVariants.{Ask, Wait, Done}
 use Rattle.sftp_history.specs.declared.call.Lane.{Lane}
-use Rattle.sftp_history.specs.declared.turn.Turn.{Turn}
-use Rattle.sftp_history.specs.declared.turn.Turn.TheVariants as turn
 use Rattle.sftp_history.specs.declared.event.Owner.TheVariants as owner
 use Rattle.sftp_history.specs.declared.event.Event.TheVariants.{Submit, Send, Take, Cancel, End}
 use Rattle.sftp_history.specs.declared.entry.Entry.{Entry}
 use Rattle.sftp_history.specs.declared.entry.Entry.TheVariants as entry
-use Rattle.sftp_history.specs.Readings.{asked, sent, ended, unanswered, was_let_go, unsent_bytes}
+use Rattle.sftp_history.specs.Readings.{asked, sent, ended, unanswered, unsent_bytes}
 use Rattle.sftp_history.specs.Calls.{Setting, current}
 use Rattle.sftp_history.specs.Settings.{greeting, setting_of}
 use Rattle.sftp_core.specs.Info.{offers_limits}
 use Rattle.sftp_history.specs.Grants.{orphan}
 use Rattle.sftp_history.specs.Journals.{IsNext, IsFree, MayTake, cancelled_end}
-use Rattle.sftp_history.specs.Runs.{Opens}
-use Rattle.sftp_history.specs.Turns.{Stage, SettlesTo, is_begun, begun_with, begun_but}
+use Rattle.sftp_history.specs.Runs.{Opens, at_first}
+use Rattle.sftp_history.specs.Turns.{Stage, SettlesTo, begun_with, begun_but}
 use Rattle.sftp_driver.specs.declared.session.Phase.{Phase}
-use Rattle.sftp_driver.specs.declared.session.Phase.TheVariants.{Asking, Open}
+use Rattle.sftp_driver.specs.declared.session.Phase.TheVariants.{Fresh, Greeted, Asking, Queried, Open}
 use Rattle.sftp_driver.specs.declared.session.Stepped.{Stepped}
 use Rattle.sftp_driver.specs.declared.session.Stepped.TheVariants as stepped
 
@@ -32,9 +30,24 @@ pub record Given : Type 0 where
   pub lanes : List Lane
   pub options : SftpOptions
 
+-- What is seen of a session: the lanes and options that it was made of, what its lanes go by, how far its opening has come,
+-- the server's VERSION once it was taken, its journal with the begun lanes, and what is left to do (each event makes it less).
+pub record Seen : Type 0 where
+  pub given : Given
+  pub setting : Setting
+  pub phase : Phase
+  pub version : Option Reply
+  pub stage : Stage
+  pub work : ℕ
+
 -- nothing has happened
 abbrev pub at_rest : Stage
-at_rest = record { past = []; begun = [] }
+at_rest = at_first []
+
+-- a session whose hello stands in the queue
+pub record IsFresh (now : Seen) : Type 0 where
+  pub fresh : now.phase ≡ Fresh
+  pub rest : now.stage ≡ at_rest
 
 -- ---- how journals go on
 
@@ -50,26 +63,6 @@ abbrev pub Begins : Bool → Phase → List Entry → Type 0
 Begins false phase past = (phase ≡ Open) × (past ≡ [])
 Begins true phase past = (phase ≡ Asking) × ((id : ℕ) × (IsFree [] id × (past ≡ entry.Event (Submit owner.Setup id request.LimitsQuery) ∷ [])))
 
--- a body is VERSION 3, and the session goes on by what it offers
-pub record Greets (body_reads : Result (Option ℕ × Reply) FrameError) (asks : Bool) (version : Option Reply) (phase : Phase) (past : List Entry) : Type 0 where
-  pub extensions : Extensions
-  pub reads : body_reads ≡ Ok (None, greeting extensions)
-  pub told : version ≡ Some (greeting extensions)
-  pub asked : asks ≡ offers_limits extensions
-  pub begins : Begins asks phase past
-
--- VERSION 3 was taken, and the session goes on by what it offers
-pub record Welcomed (asks : Bool) (version : Option Reply) (phase : Phase) (past : List Entry) : Type 0 where
-  pub extensions : Extensions
-  pub told : version ≡ Some (greeting extensions)
-  pub asked : asks ≡ offers_limits extensions
-  pub begins : Begins asks phase past
-
--- a body is the reply to the query for limits, and the session goes by it
-abbrev pub Tells : Result (Option ℕ × Reply) FrameError → List Entry → List Entry → Type 0
-Tells body_reads before now =
-    (id : ℕ) × ((r : Reply) × ((body_reads ≡ Ok (Some id, r)) × MayTake before id r × (now ≡ entry.Event (Take id r) ∷ before)))
-
 -- the setting is what the lanes, the options, VERSION and the limits fix
 abbrev pub IsFixed : Given → Option Reply → List Entry → Setting → Type 0
 IsFixed given version past s = (extensions : Extensions) × ((version ≡ Some (greeting extensions)) × (s ≡ setting_of given.lanes given.options extensions past))
@@ -78,12 +71,71 @@ IsFixed given version past s = (extensions : Extensions) × ((version ≡ Some (
 abbrev pub IsSoFar : Given → Option Reply → Setting → List Entry → Type 0
 IsSoFar given version s past = IsLater s [] past × IsFixed given version past s
 
+-- VERSION 3 was taken, and the session goes on by what it offers
+pub record IsWelcomed (given : Given) (asks : Bool) (now : Seen) : Type 0 where
+  pub extensions : Extensions
+  pub told : now.version ≡ Some (greeting extensions)
+  pub asked : asks ≡ offers_limits extensions
+  pub begins : Begins asks now.phase now.stage.past
+  pub begun : now.stage.begun ≡ at_rest.begun
+  pub later : IsLater now.setting [] now.stage.past
+  pub fixed : IsFixed given now.version now.stage.past now.setting
+  pub same : now.given ≡ given
+
+-- a body is VERSION 3, and it was taken
+pub record Greets (body_reads : Result (Option ℕ × Reply) FrameError) (given : Given) (asks : Bool) (now : Seen) : Type 0 where
+  pub welcomed : IsWelcomed given asks now
+  pub reads : body_reads ≡ Ok (None, greeting welcomed.extensions)
+
+-- a body is the reply to the query for limits, and the session goes by it
+abbrev pub Tells : Result (Option ℕ × Reply) FrameError → List Entry → List Entry → Type 0
+Tells body_reads before now =
+    (id : ℕ) × ((r : Reply) × ((body_reads ≡ Ok (Some id, r)) × MayTake before id r × (now ≡ entry.Event (Take id r) ∷ before)))
+
 -- the session was opened
-pub record IsOpened (given : Given) (version : Option Reply) (past : List Entry) (s : Setting) : Type 0 where
-  pub fixed : IsFixed given version past s
-  pub opens : Opens s.limits past
-  pub later : IsLater s [] past
-  pub holds : (lane : ℕ) → was_let_go past lane ≡ false
+pub record IsOpened (given : Given) (now : Seen) : Type 0 where
+  pub fixed : IsFixed given now.version now.stage.past now.setting
+  pub opens : Opens now.setting.limits now.stage.past
+  pub later : IsLater now.setting [] now.stage.past
+  pub is_open : now.phase ≡ Open
+  pub begun : now.stage.begun ≡ at_rest.begun
+
+-- the limits were asked for, and the session was opened
+pub record OpensOn (before now : Seen) : Type 0 where
+  pub opened : IsOpened before.given now
+  pub version : now.version ≡ before.version
+
+-- a body is the reply to the query for limits, it was taken, and the session goes by it
+pub record Limited (body_reads : Result (Option ℕ × Reply) FrameError) (before now : Seen) : Type 0 where
+  pub tells : Tells body_reads before.stage.past now.stage.past
+  pub is_open : now.phase ≡ Open
+  pub begun : now.stage.begun ≡ before.stage.begun
+  pub later : IsLater now.setting [] now.stage.past
+  pub fixed : IsFixed now.given now.version now.stage.past now.setting
+
+-- the hello was handed out
+abbrev pub IsGreeted : Seen → Seen → Type 0
+IsGreeted before now = now ≡ record before { phase = Greeted; work = now.work }
+
+-- the query for limits was handed out, where so much is left to do then
+abbrev pub queried_with : Seen → ℕ → Seen
+queried_with before work = record before { phase = Queried; stage = record { past = entry.Event Send ∷ before.stage.past; begun = before.stage.begun }; work = work }
+
+abbrev pub IsQueried : Seen → Seen → Type 0
+IsQueried before now = now ≡ queried_with before now.work
+
+-- what the session was made of, what its lanes go by, and VERSION are what they were, also after a refusal
+abbrev pub Holds : Seen → Seen → Type 0
+Holds before now = now ≡ record before { phase = now.phase; stage = now.stage; work = now.work }
+
+-- only the journal went on, and what is left to do may be less
+abbrev pub Stays : Seen → Seen → Type 0
+Stays before now = now ≡ record before { stage = now.stage; work = now.work }
+
+-- only the journal went on, by entries that may come next
+pub record Continues (before now : Seen) : Type 0 where
+  pub stays : Stays before now
+  pub later : IsLater before.setting before.stage.past now.stage.past
 
 -- ---- calls of an open session
 
@@ -101,7 +153,7 @@ StepsTo s lane before now (Some (Done o site)) event =
 -- the call of a begun lane is cancelled, and the CLOSEs that are due then
 abbrev pub Cancels : Setting → ℕ → Stage → Stage → Bool → Type 0
 Cancels s lane before now event =
-    MatchBool (is_some (current s before.past lane) && is_begun before lane)
+    MatchBool (is_some (current s before.past lane) && before.begun lane)
     ((event ≡ true) × (now.begun ≡ begun_but before.begun lane)
     × SettlesTo s (cancelled_end (entry.Event (Cancel lane) ∷ before.past) lane ∷ entry.Event (Cancel lane) ∷ before.past) now.past)
     ((event ≡ false) × (now ≡ before))
@@ -136,15 +188,6 @@ abbrev pub LessBy : Bool → ℕ → ℕ → Type 0
 LessBy true before now = now < before
 LessBy false before now = now ≤ before
 
--- no call of a lane that had none left has come, and no lane was let go
-abbrev pub IsSteady : Setting → List Entry → List Entry → Type 0
-IsSteady s before now =
-    ((lane : ℕ) → current s before lane ≡ None → current s now lane ≡ None) × ((lane : ℕ) → was_let_go now lane ≡ was_let_go before lane)
-
--- the journal went on, and let go of no lane
-abbrev pub GoesOn : Setting → List Entry → List Entry → Type 0
-GoesOn s before now = IsLater s before now × IsSteady s before now
-
 -- what is unsent was sent, where something is
 abbrev pub Flushed : Setting → Stage → Stage → Type 0
 Flushed s before now =
@@ -153,10 +196,6 @@ Flushed s before now =
     (now ≡ before)
 
 -- a lane was moved, or it has no call left, or something is unanswered
-abbrev pub Progresses : Setting → ℕ → Stage → Stage → ℕ → ℕ → Type 0
-Progresses s lane before now work left =
-    (left < work) ⊎ ((left ≤ work) × (current s before.past lane ≢ None → 0 < unanswered now.past))
-
--- a flush and a take
-abbrev pub drain_of : List Turn
-drain_of = turn.Flush ∷ turn.Take ∷ []
+abbrev pub Progresses : ℕ → Seen → Seen → Type 0
+Progresses lane before now =
+    (now.work < before.work) ⊎ ((now.work ≤ before.work) × (current before.setting before.stage.past lane ≢ None → 0 < unanswered now.stage.past))

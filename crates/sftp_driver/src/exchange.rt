@@ -1,17 +1,13 @@
-// What goes over a link: the pieces of a chunk, and one frame.
-ghost use Rattle.std.specs.Prelude.{◌≡◌, ◌<◌, ◌^◌, ◌-◌, length, None, IfOk, IfErr, OnOk};
-ghost use Rattle.sftp_model.specs.Pieces.{joined};
-ghost use Rattle.sftp_link.specs.Told.{Told, SendsAll, GotAll};
-ghost use Rattle.sftp_link.specs.Causes.{Cause as DeviceCause};
+// One frame that comes over a link, and what a refused frame and a refused call of a link are to a run.
+ghost use Rattle.std.specs.Prelude.{◌≡◌, ◌<◌, ◌^◌, ◌-◌, length, IfOk, IfErr, OnOk};
+ghost use Rattle.sftp_link.specs.Told.{Told, GotAll};
 ghost use Rattle.sftp_wire.specs.FrameReader.{need_of};
-ghost use Rattle.sftp_driver.specs.Causes.{Cause, EndCause, IsRunError};
-ghost use Rattle.sftp_driver.specs.Reading.{Pulled, PullFails, Grown, IsFramePrefix, IsWhole, ReadFails};
+ghost use Rattle.sftp_driver.specs.Causes.{Caused, IsRunError, fault_of_link};
+ghost use Rattle.sftp_driver.specs.Reading.{GotFor, Grown, IsPartway, IsWhole, ReadFails};
 ghost use Rattle.sftp_driver.specs.Refusals.{error_of};
 
-use crate::gather::send_gathered;
-use bytes::Bytes;
 use sftp_core::TakeError;
-use sftp_link::{DeviceError, LinkIn, LinkOut, recv_exact, send_all};
+use sftp_link::{DeviceError, LinkIn, recv_exact};
 use sftp_model::{Error, FrameError};
 use sftp_wire::FrameReader;
 use std::alloc::Global;
@@ -40,17 +36,13 @@ pub(crate) fn refused(e: TakeError) -> Error
     }
 }
 
-/// Sends pieces in their order, small neighbours gathered into one send. After an error a prefix of their bytes was
-/// sent, and not all.
-pub(crate) fn send_pieces<L: LinkOut>(link: &mut L, pieces: &[Bytes]) -> Result<(), DeviceError>
-    requires { L.LinkState.faults link.old < 2 ^ 64 - 1 }
-    ensures log { SendsAll (joined pieces.now) (L.LinkState.log link.old) (L.LinkState.log link.new) result }
-    ensures cause { DeviceCause (L.LinkState.faults link.old) (L.LinkState.faults link.new) result }
-    ensures service { L.LinkState.service link.new ≡ L.LinkState.service link.old }
+/// What a refused call of a link is to a run.
+pub(crate) fn fault(e: DeviceError) -> Error
+    ensures { result ≡ fault_of_link e }
 {
-    match pieces {
-        [piece] => send_all(link, piece),
-        _ => send_gathered(link, pieces),
+    match e {
+        DeviceError::OutOfMemory => Error::OutOfMemory,
+        DeviceError::Failed => Error::LinkFault,
     }
 }
 
@@ -60,24 +52,17 @@ fn take_part<L: LinkIn>(
     room: &mut [u8],
     reader: &mut FrameReader,
 ) -> Result<(), Error>
-    requires unrefused { reader.old.refused ≡ None }
+    requires partway { IsPartway reader.old }
     requires fits { length room.old ≡ need_of reader.old }
-    requires prefix { IsFramePrefix reader.old.bytes }
-    requires count { L.LinkState.faults link.old < 2 ^ 64 - 1 }
-    ensures ok { OnOk result (Told (Pulled reader.old reader.new) (L.LinkState.log link.old) (L.LinkState.log link.new)) }
+    requires count { (L.LinkState.state link.old).faults < 2 ^ 64 - 1 }
     ensures grown { OnOk result (Grown reader.old room.new reader.new) }
-    ensures prefix { OnOk result (IsFramePrefix reader.new.bytes) }
-    ensures stops { IfErr result (λ e. Told (PullFails e reader.old) (L.LinkState.log link.old) (L.LinkState.log link.new)) }
-    ensures cause { Cause (L.LinkState.faults link.old) (L.LinkState.faults link.new) result }
-    ensures end { EndCause (L.LinkState.ended link.new) result }
-    ensures only { IfErr result IsRunError }
-    ensures service { L.LinkState.service link.new ≡ L.LinkState.service link.old }
+    ensures log { GotFor reader.old reader.new (L.LinkState.state link.old).log (L.LinkState.state link.new).log result }
+    ensures caused { Caused (L.LinkState.state link.old) (L.LinkState.state link.new) result }
 {
     match recv_exact(link, room) {
         Ok(true) => {}
         Ok(false) => return Err(Error::LinkEnded),
-        Err(DeviceError::OutOfMemory) => return Err(Error::OutOfMemory),
-        Err(DeviceError::Failed) => return Err(Error::LinkFault),
+        Err(e) => return Err(fault(e)),
     }
     match reader.push(room) {
         Ok(()) => Ok(()),
@@ -89,26 +74,18 @@ fn take_part<L: LinkIn>(
 
 /// Takes one frame, and no byte past it.
 pub(crate) fn read_frame<L: LinkIn>(alloc: Global, link: &mut L) -> Result<FrameReader, Error>
-    requires { L.LinkState.faults link.old < 2 ^ 64 - 1 }
+    requires { (L.LinkState.state link.old).faults < 2 ^ 64 - 1 }
     ensures whole { IfOk result IsWhole }
-    ensures log { IfOk result (λ r. Told (GotAll r.bytes) (L.LinkState.log link.old) (L.LinkState.log link.new)) }
-    ensures stops { IfErr result (λ e. Told (ReadFails e) (L.LinkState.log link.old) (L.LinkState.log link.new)) }
-    ensures cause { Cause (L.LinkState.faults link.old) (L.LinkState.faults link.new) result }
-    ensures end { EndCause (L.LinkState.ended link.new) result }
-    ensures only { IfErr result IsRunError }
-    ensures service { L.LinkState.service link.new ≡ L.LinkState.service link.old }
+    ensures log { IfOk result (λ r. Told (GotAll r.bytes) (L.LinkState.state link.old).log (L.LinkState.state link.new).log) }
+    ensures stops { IfErr result (λ e. Told (ReadFails e) (L.LinkState.state link.old).log (L.LinkState.state link.new).log) }
+    ensures caused { Caused (L.LinkState.state link.old) (L.LinkState.state link.new) result }
 {
     let mut reader = FrameReader::new(alloc);
     let mut len = [0u8; 4];
-    match take_part(link, &mut len, &mut reader) {
-        Ok(()) => {}
-        Err(error) => return Err(error),
-    }
+    take_part(link, &mut len, &mut reader)?;
     let Ok(mut body) = vec![in alloc; 0u8; reader.need()] else {
         return Err(Error::OutOfMemory);
     };
-    match take_part(link, &mut body, &mut reader) {
-        Ok(()) => Ok(reader),
-        Err(error) => Err(error),
-    }
+    take_part(link, &mut body, &mut reader)?;
+    Ok(reader)
 }

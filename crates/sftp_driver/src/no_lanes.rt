@@ -72,20 +72,9 @@ fn query_entry() -> Entry
 }
 
 impl RunsLanes for NoLanes {
-    ghost use Rattle.std.specs.Prelude.{[]};
-    ghost use Rattle.sftp_driver.specs.NoLanes.{given_of, setting_in};
+    ghost use Rattle.sftp_driver.specs.NoLanes.{seen_in};
 
-    ghost given = { λ s. given_of s };
-
-    ghost setting = { λ s. setting_in s };
-
-    ghost phase = { λ s. s.phase };
-
-    ghost version = { λ s. s.version };
-
-    ghost stage = { λ s. record { past = s.past; begun = [] } };
-
-    ghost work = { λ _. 0 };
+    ghost seen = { λ s. seen_in s };
 
     fn greet(&mut self) -> Result<Chunk, OutOfMemory> {
         let chunk = self.core.hand_out()?;

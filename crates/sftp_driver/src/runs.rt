@@ -1,14 +1,12 @@
 // The parts of a run, each a loop of turns.
-ghost use Rattle.std.specs.Prelude.{◌≡◌, ◌≢◌, ◌<◌, ◌^◌, ◌-◌, ℕ, length, false, None, IfErr, OnOk};
-ghost use Rattle.sftp_link.specs.Told.{Told};
+ghost use Rattle.std.specs.Prelude.{◌≡◌, ◌≢◌, ◌<◌, ℕ, length, false, None, OnOk};
 ghost use Rattle.sftp_history.specs.Calls.{current};
 ghost use Rattle.sftp_history.specs.Readings.{unanswered, was_let_go};
-ghost use Rattle.sftp_history.specs.Runs.{TurnsTo, RoundsTo, EndsTo, LetGoTo, LetsGoTo, DrainsTo, round_of};
-ghost use Rattle.sftp_driver.specs.Session.{GoesOn, IsLater, drain_of};
-ghost use Rattle.sftp_driver.specs.Causes.{Cause, EndCause, IsRunError};
-ghost use Rattle.sftp_driver.specs.Logs.{Keeps, Stops};
+ghost use Rattle.sftp_history.specs.Runs.{round_of};
+ghost use Rattle.sftp_driver.specs.RunsSoFar.{drain_of};
+ghost use Rattle.sftp_driver.specs.Ongoing.{Ongoing, IsReady, at, turns_of, lane_of, lanes_end, let_go_of, lanes_go, draining};
 
-use crate::session::{Phase, RunsLanes};
+use crate::session::RunsLanes;
 use crate::turns::{flush_turn, one_turn, settle, step_turn, take_turn};
 use sftp_history::Turn;
 use sftp_link::Link;
@@ -22,25 +20,11 @@ pub(crate) fn run_turns<X: RunsLanes, L: Link>(
     link: &mut L,
     schedule: &[Turn],
 ) -> Result<(), Error>
-    requires open { X.phase session.old ≡ Phase.Open }
-    requires count { L.LinkState.faults link.old < 2 ^ 64 - 1 }
-    ensures turns { OnOk result (TurnsTo (X.setting session.old) schedule.now (X.stage session.old) (X.stage session.new)) }
-    ensures log { OnOk result (Told (Keeps (X.stage session.old).past (X.stage session.new).past) (L.LinkState.log link.old) (L.LinkState.log link.new)) }
-    ensures goes { OnOk result (GoesOn (X.setting session.old) (X.stage session.old).past (X.stage session.new).past) }
-    ensures stops { IfErr result (λ e. Told (Stops (X.setting session.old) (L.LinkState.ended link.new) e (X.stage session.old).past) (L.LinkState.log link.old) (L.LinkState.log link.new)) }
-    ensures phase { OnOk result (X.phase session.new ≡ X.phase session.old) }
-    ensures version { X.version session.new ≡ X.version session.old }
-    ensures same { X.setting session.new ≡ X.setting session.old }
-    ensures cause { Cause (L.LinkState.faults link.old) (L.LinkState.faults link.new) result }
-    ensures end { EndCause (L.LinkState.ended link.new) result }
-    ensures only { IfErr result IsRunError }
-    ensures service { L.LinkState.service link.new ≡ L.LinkState.service link.old }
+    requires ready { IsReady (at (X.seen session.old) (L.LinkState.state link.old)) }
+    ensures ongoing { Ongoing (turns_of schedule.now) (at (X.seen session.old) (L.LinkState.state link.old)) (at (X.seen session.new) (L.LinkState.state link.new)) result }
 {
     for turn in schedule {
-        match one_turn(alloc, session, link, *turn) {
-            Ok(()) => {}
-            Err(error) => return Err(error),
-        }
+        one_turn(alloc, session, link, *turn)?;
     }
     Ok(())
 }
@@ -52,33 +36,13 @@ fn one_round<X: RunsLanes, L: Link>(
     link: &mut L,
     lane: u32,
 ) -> Result<(), Error>
-    requires open { X.phase session.old ≡ Phase.Open }
-    requires count { L.LinkState.faults link.old < 2 ^ 64 - 1 }
-    ensures turns { OnOk result (TurnsTo (X.setting session.old) (round_of lane) (X.stage session.old) (X.stage session.new)) }
-    ensures less { OnOk result (current (X.setting session.old) (X.stage session.old).past lane ≢ None → X.work session.new < X.work session.old) }
-    ensures log { OnOk result (Told (Keeps (X.stage session.old).past (X.stage session.new).past) (L.LinkState.log link.old) (L.LinkState.log link.new)) }
-    ensures goes { OnOk result (GoesOn (X.setting session.old) (X.stage session.old).past (X.stage session.new).past) }
-    ensures stops { IfErr result (λ e. Told (Stops (X.setting session.old) (L.LinkState.ended link.new) e (X.stage session.old).past) (L.LinkState.log link.old) (L.LinkState.log link.new)) }
-    ensures phase { OnOk result (X.phase session.new ≡ X.phase session.old) }
-    ensures version { X.version session.new ≡ X.version session.old }
-    ensures same { X.setting session.new ≡ X.setting session.old }
-    ensures cause { Cause (L.LinkState.faults link.old) (L.LinkState.faults link.new) result }
-    ensures end { EndCause (L.LinkState.ended link.new) result }
-    ensures only { IfErr result IsRunError }
-    ensures service { L.LinkState.service link.new ≡ L.LinkState.service link.old }
+    requires ready { IsReady (at (X.seen session.old) (L.LinkState.state link.old)) }
+    ensures ongoing { Ongoing (turns_of (round_of lane)) (at (X.seen session.old) (L.LinkState.state link.old)) (at (X.seen session.new) (L.LinkState.state link.new)) result }
+    ensures less { OnOk result (current (X.seen session.old).setting (X.seen session.old).stage.past lane ≢ None → (X.seen session.new).work < (X.seen session.old).work) }
 {
-    match step_turn(session, link, lane) {
-        Ok(()) => {}
-        Err(error) => return Err(error),
-    }
-    match flush_turn(session, link) {
-        Ok(()) => {}
-        Err(error) => return Err(error),
-    }
-    match take_turn(alloc, session, link) {
-        Ok(()) => Ok(()),
-        Err(error) => Err(error),
-    }
+    step_turn(session, link, lane)?;
+    flush_turn(session, link)?;
+    take_turn(alloc, session, link)
 }
 
 /// Rounds until a lane has no call left.
@@ -88,26 +52,11 @@ fn end_lane<X: RunsLanes, L: Link>(
     link: &mut L,
     lane: u32,
 ) -> Result<(), Error>
-    requires open { X.phase session.old ≡ Phase.Open }
-    requires count { L.LinkState.faults link.old < 2 ^ 64 - 1 }
-    ensures rounds { OnOk result ((n : ℕ) × RoundsTo (X.setting session.old) lane n (X.stage session.old) (X.stage session.new)) }
-    ensures done { OnOk result (current (X.setting session.old) (X.stage session.new).past lane ≡ None) }
-    ensures log { OnOk result (Told (Keeps (X.stage session.old).past (X.stage session.new).past) (L.LinkState.log link.old) (L.LinkState.log link.new)) }
-    ensures goes { OnOk result (GoesOn (X.setting session.old) (X.stage session.old).past (X.stage session.new).past) }
-    ensures stops { IfErr result (λ e. Told (Stops (X.setting session.old) (L.LinkState.ended link.new) e (X.stage session.old).past) (L.LinkState.log link.old) (L.LinkState.log link.new)) }
-    ensures phase { OnOk result (X.phase session.new ≡ X.phase session.old) }
-    ensures version { X.version session.new ≡ X.version session.old }
-    ensures same { X.setting session.new ≡ X.setting session.old }
-    ensures cause { Cause (L.LinkState.faults link.old) (L.LinkState.faults link.new) result }
-    ensures end { EndCause (L.LinkState.ended link.new) result }
-    ensures only { IfErr result IsRunError }
-    ensures service { L.LinkState.service link.new ≡ L.LinkState.service link.old }
+    requires ready { IsReady (at (X.seen session.old) (L.LinkState.state link.old)) }
+    ensures ongoing { Ongoing (lane_of lane) (at (X.seen session.old) (L.LinkState.state link.old)) (at (X.seen session.new) (L.LinkState.state link.new)) result }
 {
     while !session.is_done(lane) {
-        match one_round(alloc, session, link, lane) {
-            Ok(()) => {}
-            Err(error) => return Err(error),
-        }
+        one_round(alloc, session, link, lane)?;
     }
     Ok(())
 }
@@ -118,56 +67,25 @@ pub(crate) fn end_lanes<X: RunsLanes, L: Link>(
     session: &mut X,
     link: &mut L,
 ) -> Result<(), Error>
-    requires open { X.phase session.old ≡ Phase.Open }
-    requires count { L.LinkState.faults link.old < 2 ^ 64 - 1 }
-    ensures ends { OnOk result (EndsTo (X.setting session.old) (length (X.setting session.old).lanes) (X.stage session.old) (X.stage session.new)) }
-    ensures done { OnOk result ((lane : ℕ) → lane < length (X.setting session.old).lanes → current (X.setting session.old) (X.stage session.new).past lane ≡ None) }
-    ensures log { OnOk result (Told (Keeps (X.stage session.old).past (X.stage session.new).past) (L.LinkState.log link.old) (L.LinkState.log link.new)) }
-    ensures goes { OnOk result (GoesOn (X.setting session.old) (X.stage session.old).past (X.stage session.new).past) }
-    ensures stops { IfErr result (λ e. Told (Stops (X.setting session.old) (L.LinkState.ended link.new) e (X.stage session.old).past) (L.LinkState.log link.old) (L.LinkState.log link.new)) }
-    ensures phase { OnOk result (X.phase session.new ≡ X.phase session.old) }
-    ensures version { X.version session.new ≡ X.version session.old }
-    ensures same { X.setting session.new ≡ X.setting session.old }
-    ensures cause { Cause (L.LinkState.faults link.old) (L.LinkState.faults link.new) result }
-    ensures end { EndCause (L.LinkState.ended link.new) result }
-    ensures only { IfErr result IsRunError }
-    ensures service { L.LinkState.service link.new ≡ L.LinkState.service link.old }
+    requires ready { IsReady (at (X.seen session.old) (L.LinkState.state link.old)) }
+    ensures ongoing { Ongoing lanes_end (at (X.seen session.old) (L.LinkState.state link.old)) (at (X.seen session.new) (L.LinkState.state link.new)) result }
 {
     for lane in 0..session.lane_count() {
-        match end_lane(alloc, session, link, lane) {
-            Ok(()) => {}
-            Err(error) => return Err(error),
-        }
+        end_lane(alloc, session, link, lane)?;
     }
     Ok(())
 }
 
 /// Lets go of one lane.
 fn let_go_one<X: RunsLanes, L: Link>(session: &mut X, link: &mut L, lane: u32) -> Result<(), Error>
-    requires open { X.phase session.old ≡ Phase.Open }
-    requires count { L.LinkState.faults link.old < 2 ^ 64 - 1 }
-    requires there { lane < length (X.setting session.old).lanes }
-    requires done { current (X.setting session.old) (X.stage session.old).past lane ≡ None }
-    requires holds { was_let_go (X.stage session.old).past lane ≡ false }
-    ensures lets_go { OnOk result (LetGoTo (X.setting session.old) lane (X.stage session.old) (X.stage session.new)) }
-    ensures done { OnOk result ((other : ℕ) → current (X.setting session.old) (X.stage session.old).past other ≡ None → current (X.setting session.old) (X.stage session.new).past other ≡ None) }
-    ensures holds { OnOk result ((other : ℕ) → lane ≢ other → was_let_go (X.stage session.new).past other ≡ was_let_go (X.stage session.old).past other) }
-    ensures log { OnOk result (Told (Keeps (X.stage session.old).past (X.stage session.new).past) (L.LinkState.log link.old) (L.LinkState.log link.new)) }
-    ensures later { OnOk result (IsLater (X.setting session.old) (X.stage session.old).past (X.stage session.new).past) }
-    ensures stops { IfErr result (λ e. Told (Stops (X.setting session.old) (L.LinkState.ended link.new) e (X.stage session.old).past) (L.LinkState.log link.old) (L.LinkState.log link.new)) }
-    ensures phase { OnOk result (X.phase session.new ≡ X.phase session.old) }
-    ensures version { X.version session.new ≡ X.version session.old }
-    ensures same { X.setting session.new ≡ X.setting session.old }
-    ensures cause { Cause (L.LinkState.faults link.old) (L.LinkState.faults link.new) result }
-    ensures end { EndCause (L.LinkState.ended link.new) result }
-    ensures only { IfErr result IsRunError }
-    ensures service { L.LinkState.service link.new ≡ L.LinkState.service link.old }
+    requires ready { IsReady (at (X.seen session.old) (L.LinkState.state link.old)) }
+    requires there { lane < length (X.seen session.old).setting.lanes }
+    requires done { current (X.seen session.old).setting (X.seen session.old).stage.past lane ≡ None }
+    requires holds { was_let_go (X.seen session.old).stage.past lane ≡ false }
+    ensures ongoing { Ongoing (let_go_of lane) (at (X.seen session.old) (L.LinkState.state link.old)) (at (X.seen session.new) (L.LinkState.state link.new)) result }
 {
     match session.let_go(lane) {
-        Ok(()) => match settle(session, link) {
-            Ok(()) => Ok(()),
-            Err(error) => Err(error),
-        },
+        Ok(()) => settle(session, link),
         Err(_) => Err(Error::OutOfMemory),
     }
 }
@@ -177,27 +95,13 @@ pub(crate) fn let_go_lanes<X: RunsLanes, L: Link>(
     session: &mut X,
     link: &mut L,
 ) -> Result<(), Error>
-    requires open { X.phase session.old ≡ Phase.Open }
-    requires count { L.LinkState.faults link.old < 2 ^ 64 - 1 }
-    requires done { (lane : ℕ) → lane < length (X.setting session.old).lanes → current (X.setting session.old) (X.stage session.old).past lane ≡ None }
-    requires holds { (lane : ℕ) → was_let_go (X.stage session.old).past lane ≡ false }
-    ensures lets_go { OnOk result (LetsGoTo (X.setting session.old) (length (X.setting session.old).lanes) (X.stage session.old) (X.stage session.new)) }
-    ensures log { OnOk result (Told (Keeps (X.stage session.old).past (X.stage session.new).past) (L.LinkState.log link.old) (L.LinkState.log link.new)) }
-    ensures later { OnOk result (IsLater (X.setting session.old) (X.stage session.old).past (X.stage session.new).past) }
-    ensures stops { IfErr result (λ e. Told (Stops (X.setting session.old) (L.LinkState.ended link.new) e (X.stage session.old).past) (L.LinkState.log link.old) (L.LinkState.log link.new)) }
-    ensures phase { OnOk result (X.phase session.new ≡ X.phase session.old) }
-    ensures version { X.version session.new ≡ X.version session.old }
-    ensures same { X.setting session.new ≡ X.setting session.old }
-    ensures cause { Cause (L.LinkState.faults link.old) (L.LinkState.faults link.new) result }
-    ensures end { EndCause (L.LinkState.ended link.new) result }
-    ensures only { IfErr result IsRunError }
-    ensures service { L.LinkState.service link.new ≡ L.LinkState.service link.old }
+    requires ready { IsReady (at (X.seen session.old) (L.LinkState.state link.old)) }
+    requires done { (lane : ℕ) → lane < length (X.seen session.old).setting.lanes → current (X.seen session.old).setting (X.seen session.old).stage.past lane ≡ None }
+    requires holds { (lane : ℕ) → was_let_go (X.seen session.old).stage.past lane ≡ false }
+    ensures ongoing { Ongoing lanes_go (at (X.seen session.old) (L.LinkState.state link.old)) (at (X.seen session.new) (L.LinkState.state link.new)) result }
 {
     for lane in 0..session.lane_count() {
-        match let_go_one(session, link, lane) {
-            Ok(()) => {}
-            Err(error) => return Err(error),
-        }
+        let_go_one(session, link, lane)?;
     }
     Ok(())
 }
@@ -208,29 +112,12 @@ fn one_drain<X: RunsLanes, L: Link>(
     session: &mut X,
     link: &mut L,
 ) -> Result<(), Error>
-    requires open { X.phase session.old ≡ Phase.Open }
-    requires count { L.LinkState.faults link.old < 2 ^ 64 - 1 }
-    ensures turns { OnOk result (TurnsTo (X.setting session.old) drain_of (X.stage session.old) (X.stage session.new)) }
-    ensures less { OnOk result (0 < unanswered (X.stage session.old).past → X.work session.new < X.work session.old) }
-    ensures log { OnOk result (Told (Keeps (X.stage session.old).past (X.stage session.new).past) (L.LinkState.log link.old) (L.LinkState.log link.new)) }
-    ensures goes { OnOk result (GoesOn (X.setting session.old) (X.stage session.old).past (X.stage session.new).past) }
-    ensures stops { IfErr result (λ e. Told (Stops (X.setting session.old) (L.LinkState.ended link.new) e (X.stage session.old).past) (L.LinkState.log link.old) (L.LinkState.log link.new)) }
-    ensures phase { OnOk result (X.phase session.new ≡ X.phase session.old) }
-    ensures version { X.version session.new ≡ X.version session.old }
-    ensures same { X.setting session.new ≡ X.setting session.old }
-    ensures cause { Cause (L.LinkState.faults link.old) (L.LinkState.faults link.new) result }
-    ensures end { EndCause (L.LinkState.ended link.new) result }
-    ensures only { IfErr result IsRunError }
-    ensures service { L.LinkState.service link.new ≡ L.LinkState.service link.old }
+    requires ready { IsReady (at (X.seen session.old) (L.LinkState.state link.old)) }
+    ensures ongoing { Ongoing (turns_of drain_of) (at (X.seen session.old) (L.LinkState.state link.old)) (at (X.seen session.new) (L.LinkState.state link.new)) result }
+    ensures less { OnOk result (0 < unanswered (X.seen session.old).stage.past → (X.seen session.new).work < (X.seen session.old).work) }
 {
-    match flush_turn(session, link) {
-        Ok(()) => {}
-        Err(error) => return Err(error),
-    }
-    match take_turn(alloc, session, link) {
-        Ok(()) => Ok(()),
-        Err(error) => Err(error),
-    }
+    flush_turn(session, link)?;
+    take_turn(alloc, session, link)
 }
 
 /// The last replies: flushes and takes until nothing is unanswered.
@@ -239,26 +126,11 @@ pub(crate) fn drain<X: RunsLanes, L: Link>(
     session: &mut X,
     link: &mut L,
 ) -> Result<(), Error>
-    requires open { X.phase session.old ≡ Phase.Open }
-    requires count { L.LinkState.faults link.old < 2 ^ 64 - 1 }
-    ensures drains { OnOk result ((n : ℕ) × DrainsTo (X.setting session.old) n (X.stage session.old) (X.stage session.new)) }
-    ensures answered { OnOk result (unanswered (X.stage session.new).past ≡ 0) }
-    ensures log { OnOk result (Told (Keeps (X.stage session.old).past (X.stage session.new).past) (L.LinkState.log link.old) (L.LinkState.log link.new)) }
-    ensures goes { OnOk result (GoesOn (X.setting session.old) (X.stage session.old).past (X.stage session.new).past) }
-    ensures stops { IfErr result (λ e. Told (Stops (X.setting session.old) (L.LinkState.ended link.new) e (X.stage session.old).past) (L.LinkState.log link.old) (L.LinkState.log link.new)) }
-    ensures phase { OnOk result (X.phase session.new ≡ X.phase session.old) }
-    ensures version { X.version session.new ≡ X.version session.old }
-    ensures same { X.setting session.new ≡ X.setting session.old }
-    ensures cause { Cause (L.LinkState.faults link.old) (L.LinkState.faults link.new) result }
-    ensures end { EndCause (L.LinkState.ended link.new) result }
-    ensures only { IfErr result IsRunError }
-    ensures service { L.LinkState.service link.new ≡ L.LinkState.service link.old }
+    requires ready { IsReady (at (X.seen session.old) (L.LinkState.state link.old)) }
+    ensures ongoing { Ongoing draining (at (X.seen session.old) (L.LinkState.state link.old)) (at (X.seen session.new) (L.LinkState.state link.new)) result }
 {
     while session.unanswered() > 0 {
-        match one_drain(alloc, session, link) {
-            Ok(()) => {}
-            Err(error) => return Err(error),
-        }
+        one_drain(alloc, session, link)?;
     }
     Ok(())
 }

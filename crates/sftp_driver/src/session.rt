@@ -1,16 +1,12 @@
-ghost use Rattle.std.specs.Prelude.{◌≡◌, ◌≢◌, ◌<◌, ◌∷◌, ◌↔◌, [], ℕ, false, Option, None, Ok, IsTrue, IfOk, IfErr, OnOk, OnErr, length};
+ghost use Rattle.std.specs.Prelude.{◌≡◌, ◌≢◌, ◌<◌, ◌↔◌, false, None, IsTrue, IfOk, IfErr, OnOk, length};
 ghost use Rattle.std.specs.Option.{option_map};
 ghost use Rattle.sftp_model.specs.Pieces.{joined};
-ghost use Rattle.sftp_model.specs.declared.reply.Reply.{Reply};
 ghost use Rattle.sftp_model.specs.ReplyReadings.{reply_at};
-ghost use Rattle.sftp_history.specs.Calls.{Setting, current, move_of};
+ghost use Rattle.sftp_history.specs.Calls.{current, move_of};
 ghost use Rattle.sftp_history.specs.Readings.{awaited, unanswered, unsent_bytes, was_let_go};
 ghost use Rattle.sftp_history.specs.Shown.{hello_frame};
-ghost use Rattle.sftp_history.specs.Turns.{Stage, SettlesTo, is_full};
-ghost use Rattle.sftp_history.specs.declared.entry.Entry.TheVariants as entry;
-ghost use Rattle.sftp_history.specs.declared.event.Event.TheVariants.{Send};
-ghost use Rattle.sftp_driver.specs.Session.{Given, IsLater, Greets, Tells, IsFixed, StepsTo, Cancels, Takes, HandsOut, LetsGo, is_event, LessBy, at_rest};
-ghost use Rattle.sftp_driver.specs.declared.session.Phase.{Phase};
+ghost use Rattle.sftp_history.specs.Turns.{is_full};
+ghost use Rattle.sftp_driver.specs.Session.{Seen, Continues, Holds, Stays, IsLater, Greets, Limited, StepsTo, Cancels, Takes, HandsOut, LetsGo, IsGreeted, IsQueried, is_event, LessBy, at_rest};
 ghost use Rattle.sftp_core.specs.Take.{IsFirst};
 ghost use Rattle.sftp_driver.specs.Refusals.{refuses, refuses_hello};
 
@@ -48,150 +44,111 @@ pub enum Stepped {
 /// A session that runs lanes, as the driver needs it. It keeps a journal, and closes each handle that nothing holds
 /// any more as soon as it is so.
 pub trait RunsLanes {
-    // The lanes and the options that it was made of.
-    ghost given: { Self → Given };
-
-    // What its lanes go by.
-    ghost setting: { Self → Setting };
-
-    // How far its opening has come.
-    ghost phase: { Self → Phase };
-
-    // The server's VERSION, once it was taken.
-    ghost version: { Self → Option Reply };
-
-    // Its journal, the newest entry first, and the lanes whose call was begun.
-    ghost stage: { Self → Stage };
-
-    // What is left to do: each event makes it less.
-    ghost work: { Self → ℕ };
+    // What is seen of it.
+    ghost seen: { Self → Seen };
 
     /// The frame of the hello. Refused for want of memory.
     fn greet(&mut self) -> Result<Chunk, OutOfMemory>
-        requires fresh { phase self.old ≡ Phase.Fresh }
+        requires fresh { (seen self.old).phase ≡ Phase.Fresh }
         ensures ok { IfOk result (λ chunk. joined chunk ≡ hello_frame) }
-        ensures phase { OnOk result (phase self.new ≡ Phase.Greeted) }
-        ensures stage { OnOk result (stage self.new ≡ stage self.old) }
-        ensures given { given self.new ≡ given self.old };
+        ensures now { OnOk result (IsGreeted (seen self.old) (seen self.new)) }
+        ensures holds { Holds (seen self.old) (seen self.new) };
 
     /// Takes the body of VERSION, and answers whether the limits are to be asked for. Refused by the first thing
     /// that is wrong with it, or for want of memory.
     fn take_version(&mut self, body: &[u8]) -> Result<bool, TakeError>
-        requires greeted { phase self.old ≡ Phase.Greeted }
-        requires rest { stage self.old ≡ at_rest }
-        ensures ok { IfOk result (λ asks. Greets (reply_at body.now) asks (version self.new) (phase self.new) (stage self.new).past) }
-        ensures begun { OnOk result ((stage self.new).begun ≡ (stage self.old).begun) }
-        ensures later { OnOk result (IsLater (setting self.new) (stage self.old).past (stage self.new).past) }
-        ensures fixed { OnOk result (IsFixed (given self.new) (version self.new) (stage self.new).past (setting self.new)) }
+        requires greeted { (seen self.old).phase ≡ Phase.Greeted }
+        requires rest { (seen self.old).stage ≡ at_rest }
+        ensures ok { IfOk result (λ asks. Greets (reply_at body.now) (seen self.old).given asks (seen self.new)) }
         ensures refused { IfErr result (λ e. IsFirst e (refuses_hello (reply_at body.now))) }
-        ensures given { given self.new ≡ given self.old };
+        ensures given { (seen self.new).given ≡ (seen self.old).given };
 
     /// The frame of the query for limits. Refused for want of memory.
     fn query(&mut self) -> Result<Chunk, OutOfMemory>
-        requires asking { phase self.old ≡ Phase.Asking }
-        ensures ok { IfOk result (λ chunk. joined chunk ≡ unsent_bytes (stage self.old).past) }
-        ensures phase { OnOk result (phase self.new ≡ Phase.Queried) }
-        ensures event { OnOk result ((stage self.new).past ≡ entry.Event Send ∷ (stage self.old).past) }
-        ensures begun { OnOk result ((stage self.new).begun ≡ (stage self.old).begun) }
-        ensures later { OnOk result (IsLater (setting self.new) (stage self.old).past (stage self.new).past) }
-        ensures same { setting self.new ≡ setting self.old }
-        ensures version { version self.new ≡ version self.old }
-        ensures given { given self.new ≡ given self.old };
+        requires asking { (seen self.old).phase ≡ Phase.Asking }
+        ensures ok { IfOk result (λ chunk. joined chunk ≡ unsent_bytes (seen self.old).stage.past) }
+        ensures now { OnOk result (IsQueried (seen self.old) (seen self.new)) }
+        ensures later { OnOk result (IsLater (seen self.new).setting (seen self.old).stage.past (seen self.new).stage.past) }
+        ensures holds { Holds (seen self.old) (seen self.new) };
 
     /// Takes the body of the reply to the query for limits. Refused by the first thing that is wrong with it, or for
     /// want of memory.
     fn take_limits(&mut self, body: &[u8]) -> Result<(), TakeError>
-        requires queried { phase self.old ≡ Phase.Queried }
-        ensures ok { OnOk result (Tells (reply_at body.now) (stage self.old).past (stage self.new).past) }
-        ensures phase { OnOk result (phase self.new ≡ Phase.Open) }
-        ensures begun { OnOk result ((stage self.new).begun ≡ (stage self.old).begun) }
-        ensures later { OnOk result (IsLater (setting self.new) [] (stage self.new).past) }
-        ensures fixed { OnOk result (IsFixed (given self.new) (version self.new) (stage self.new).past (setting self.new)) }
-        ensures refused { IfErr result (λ e. IsFirst e (refuses (stage self.old).past (reply_at body.now))) }
-        ensures version { version self.new ≡ version self.old }
-        ensures given { given self.new ≡ given self.old };
+        requires queried { (seen self.old).phase ≡ Phase.Queried }
+        ensures ok { OnOk result (Limited (reply_at body.now) (seen self.old) (seen self.new)) }
+        ensures refused { IfErr result (λ e. IsFirst e (refuses (seen self.old).stage.past (reply_at body.now))) }
+        ensures given { (seen self.new).given ≡ (seen self.old).given }
+        ensures version { (seen self.new).version ≡ (seen self.old).version };
 
     /// One step of a lane: its call's next request, or its end, or nothing. Refused for want of memory.
     fn step(&mut self, lane: u32) -> Result<Stepped, OutOfMemory>
-        requires open { phase self.old ≡ Phase.Open }
-        ensures ok { IfOk result (λ event. StepsTo (setting self.old) lane (stage self.old) (stage self.new) (move_of (setting self.old) (stage self.old).past lane) event) }
-        ensures later { OnOk result (IsLater (setting self.old) (stage self.old).past (stage self.new).past) }
-        ensures work { IfOk result (λ event. LessBy (is_event event) (work self.old) (work self.new)) }
-        ensures waits { IfOk result (λ event. is_event event ≡ false → current (setting self.old) (stage self.old).past lane ≢ None → 0 < unanswered (stage self.new).past) }
-        ensures phase { OnOk result (phase self.new ≡ phase self.old) }
-        ensures version { version self.new ≡ version self.old }
-        ensures same { setting self.new ≡ setting self.old };
+        requires open { (seen self.old).phase ≡ Phase.Open }
+        ensures ok { IfOk result (λ event. StepsTo (seen self.old).setting lane (seen self.old).stage (seen self.new).stage
+            (move_of (seen self.old).setting (seen self.old).stage.past lane) event) }
+        ensures goes { OnOk result (Continues (seen self.old) (seen self.new)) }
+        ensures work { IfOk result (λ event. LessBy (is_event event) (seen self.old).work (seen self.new).work) }
+        ensures waits { IfOk result (λ event. is_event event ≡ false
+            → current (seen self.old).setting (seen self.old).stage.past lane ≢ None → 0 < unanswered (seen self.new).stage.past) }
+        ensures holds { Holds (seen self.old) (seen self.new) };
 
     /// Cancels the call of a lane that was begun, and answers whether it was. Refused for want of memory.
     fn cancel(&mut self, lane: u32) -> Result<bool, OutOfMemory>
-        requires open { phase self.old ≡ Phase.Open }
-        ensures ok { IfOk result (λ event. Cancels (setting self.old) lane (stage self.old) (stage self.new) event) }
-        ensures later { OnOk result (IsLater (setting self.old) (stage self.old).past (stage self.new).past) }
-        ensures phase { OnOk result (phase self.new ≡ phase self.old) }
-        ensures version { version self.new ≡ version self.old }
-        ensures same { setting self.new ≡ setting self.old };
+        requires open { (seen self.old).phase ≡ Phase.Open }
+        ensures ok { IfOk result (λ event. Cancels (seen self.old).setting lane (seen self.old).stage (seen self.new).stage event) }
+        ensures goes { OnOk result (Continues (seen self.old) (seen self.new)) }
+        ensures holds { Holds (seen self.old) (seen self.new) };
 
     /// Lets go of all that the slots of a lane hold, where the lane is there. Refused for want of memory.
     fn let_go(&mut self, lane: u32) -> Result<(), OutOfMemory>
-        requires open { phase self.old ≡ Phase.Open }
-        requires done { current (setting self.old) (stage self.old).past lane ≡ None }
-        requires holds { was_let_go (stage self.old).past lane ≡ false }
-        ensures ok { OnOk result (LetsGo (setting self.old) lane (stage self.old) (stage self.new)) }
-        ensures later { OnOk result (IsLater (setting self.old) (stage self.old).past (stage self.new).past) }
-        ensures phase { OnOk result (phase self.new ≡ phase self.old) }
-        ensures version { version self.new ≡ version self.old }
-        ensures same { setting self.new ≡ setting self.old };
+        requires open { (seen self.old).phase ≡ Phase.Open }
+        requires done { current (seen self.old).setting (seen self.old).stage.past lane ≡ None }
+        requires holds { was_let_go (seen self.old).stage.past lane ≡ false }
+        ensures ok { OnOk result (LetsGo (seen self.old).setting lane (seen self.old).stage (seen self.new).stage) }
+        ensures goes { OnOk result (Continues (seen self.old) (seen self.new)) }
+        ensures holds { Holds (seen self.old) (seen self.new) };
 
     /// The frames of all unsent requests; None where nothing is unsent. Refused for want of memory.
     fn hand_out(&mut self) -> Result<Option<Chunk>, OutOfMemory>
-        requires open { phase self.old ≡ Phase.Open }
-        ensures ok { IfOk result (λ chunk. HandsOut (setting self.old) (stage self.old) (option_map joined chunk) (stage self.new)) }
-        ensures work { OnOk result (work self.new ≡ work self.old) }
-        ensures phase { OnOk result (phase self.new ≡ phase self.old) }
-        ensures version { version self.new ≡ version self.old }
-        ensures same { setting self.new ≡ setting self.old };
+        requires open { (seen self.old).phase ≡ Phase.Open }
+        ensures ok { IfOk result (λ chunk. HandsOut (seen self.old).setting (seen self.old).stage (option_map joined chunk) (seen self.new).stage) }
+        ensures stays { OnOk result (Stays (seen self.old) (seen self.new)) }
+        ensures work { OnOk result ((seen self.new).work ≡ (seen self.old).work) }
+        ensures holds { Holds (seen self.old) (seen self.new) };
 
     /// Takes a chunk back whose frames were sent.
     fn give_back(&mut self, chunk: Chunk)
-        ensures stage { stage self.new ≡ stage self.old }
-        ensures work { work self.new ≡ work self.old }
-        ensures phase { phase self.new ≡ phase self.old }
-        ensures version { version self.new ≡ version self.old }
-        ensures same { setting self.new ≡ setting self.old }
-        ensures given { given self.new ≡ given self.old };
+        ensures same { seen self.new ≡ seen self.old };
 
     /// Takes the body of one frame. Refused by the first thing that is wrong with it, or for want of memory.
     fn take(&mut self, body: &[u8]) -> Result<(), TakeError>
-        requires open { phase self.old ≡ Phase.Open }
-        ensures ok { OnOk result (Takes (setting self.old) (reply_at body.now) (stage self.old) (stage self.new)) }
-        ensures later { OnOk result (IsLater (setting self.old) (stage self.old).past (stage self.new).past) }
-        ensures work { OnOk result (work self.new < work self.old) }
-        ensures refused { IfErr result (λ e. IsFirst e (refuses (stage self.old).past (reply_at body.now))) }
-        ensures phase { OnOk result (phase self.new ≡ phase self.old) }
-        ensures version { version self.new ≡ version self.old }
-        ensures same { setting self.new ≡ setting self.old };
+        requires open { (seen self.old).phase ≡ Phase.Open }
+        ensures ok { OnOk result (Takes (seen self.old).setting (reply_at body.now) (seen self.old).stage (seen self.new).stage) }
+        ensures goes { OnOk result (Continues (seen self.old) (seen self.new)) }
+        ensures work { OnOk result ((seen self.new).work < (seen self.old).work) }
+        ensures refused { IfErr result (λ e. IsFirst e (refuses (seen self.old).stage.past (reply_at body.now))) }
+        ensures holds { Holds (seen self.old) (seen self.new) };
 
     /// Whether more requests are unsent than may be.
     fn wants_flush(&self) -> bool
-        requires open { phase self.now ≡ Phase.Open }
-        ensures { result ≡ is_full (setting self.now) (stage self.now).past };
+        requires open { (seen self.now).phase ≡ Phase.Open }
+        ensures { result ≡ is_full (seen self.now).setting (seen self.now).stage.past };
 
     /// How many sent requests have no reply.
     fn awaited(&self) -> u32
-        requires open { phase self.now ≡ Phase.Open }
-        ensures { result ≡ awaited (stage self.now).past };
+        requires open { (seen self.now).phase ≡ Phase.Open }
+        ensures { result ≡ awaited (seen self.now).stage.past };
 
     /// How many requests have no reply.
     fn unanswered(&self) -> u32
-        requires open { phase self.now ≡ Phase.Open }
-        ensures { result ≡ unanswered (stage self.now).past };
+        requires open { (seen self.now).phase ≡ Phase.Open }
+        ensures { result ≡ unanswered (seen self.now).stage.past };
 
     /// How many lanes there are.
     fn lane_count(&self) -> u32
-        ensures { result ≡ length (setting self.now).lanes };
+        ensures { result ≡ length (seen self.now).setting.lanes };
 
     /// Whether a lane has no call left.
     fn is_done(&self, lane: u32) -> bool
-        requires open { phase self.now ≡ Phase.Open }
-        ensures { IsTrue result ↔ (current (setting self.now) (stage self.now).past lane ≡ None) };
+        requires open { (seen self.now).phase ≡ Phase.Open }
+        ensures { IsTrue result ↔ (current (seen self.now).setting (seen self.now).stage.past lane ≡ None) };
 }

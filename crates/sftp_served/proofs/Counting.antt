@@ -26,7 +26,7 @@ use Rattle.sftp_history.specs.Journals.{IsJournal, IsNext, MayTake, cancelled_en
 use Rattle.sftp_history.proofs.CallLaws.{next_submit}
 use Rattle.sftp_history.specs.Lanes.{weight, lane_weight, weight_limit, is_within, are_ok}
 use Rattle.sftp_history.specs.Runs.{TurnsTo, RoundsTo, EndsTo, LetsGoTo, DrainsTo, Opens, round_of, IsRun}
-use Rattle.sftp_history.specs.Turns.{Stage, TurnTo, MovesBy, RulesTo, ClosesTo, is_full, is_begun, begun_but}
+use Rattle.sftp_history.specs.Turns.{Stage, TurnTo, MovesBy, RulesTo, ClosesTo, is_full, begun_but}
 use Rattle.sftp_machine.specs.MachineState.{MAX_HANDLES}
 use Rattle.sftp_served.proofs.Asking.{asks_handle, asks_first}
 use Rattle.sftp_served.proofs.Replying.{both_of, is_less}
@@ -76,7 +76,7 @@ turn_stays s turn.Take before now to p = by_test (nat_lt 0 (awaited before.past)
     by_test : (b : Bool) → MatchBool b ((now.begun ≡ before.begun) × ((id : ℕ) × ((r : Reply) × (MayTake before.past id r × RulesTo s (entry.Event (Take id r) ∷ before.past) now.past)))) (now ≡ before) → IsPlain now.past
     by_test true to = rules_stay s (entry.Event (Take to.1.0 to.1.1.0) ∷ before.past) now.past to.1.1.1.1 p
     by_test false e = same_stays before now e p
-turn_stays s (turn.Cancel lane) before now to p = by_test (is_some (current s before.past lane) && is_begun before lane) to
+turn_stays s (turn.Cancel lane) before now to p = by_test (is_some (current s before.past lane) && before.begun lane) to
   where
     by_test : (b : Bool) → MatchBool b ((now.begun ≡ begun_but before.begun lane) × RulesTo s (cancelled_end (entry.Event (Cancel lane) ∷ before.past) lane ∷ entry.Event (Cancel lane) ∷ before.past) now.past) (now ≡ before) → IsPlain now.past
     by_test true to = rules_stay s (cancelled_end (entry.Event (Cancel lane) ∷ before.past) lane ∷ entry.Event (Cancel lane) ∷ before.past) now.past to.1 p
@@ -106,7 +106,7 @@ opens_plain : (b : Bool) (past : List Entry) → Opens b past → IsPlain past
 opens_plain false past e = subst IsPlain (sym e) tt
 opens_plain true past to = subst IsPlain (sym to.1.1.2) tt
 
-run_plain : (s : Setting) (turns : List Turn) (past : List Entry) → IsRun s turns past → IsPlain past
+pub run_plain : (s : Setting) (turns : List Turn) (past : List Entry) → IsRun s turns past → IsPlain past
 run_plain s turns past (at, (by, is)) =
     subst IsPlain is
     (drains_stay s by.drains.0 at.let_go at.drained by.drains.1
@@ -172,7 +172,7 @@ added_none [] lane p = refl
 added_none (entry.Added l c ∷ past) lane p = absurd p
 added_none (_ ∷ past) lane p = added_none past lane p
 
-plain_calls : (s : Setting) (past : List Entry) (lane : ℕ) → IsPlain past → lane_calls s past lane ≡ calls_of (slice_get s.lanes lane)
+pub plain_calls : (s : Setting) (past : List Entry) (lane : ℕ) → IsPlain past → lane_calls s past lane ≡ calls_of (slice_get s.lanes lane)
 plain_calls s past lane p = ap (λ (w : List Call). calls_of (slice_get s.lanes lane) ++ w) (added_none past lane p) ∙ append-nil (calls_of (slice_get s.lanes lane))
 
 there_below : (calls : List Call) (n : ℕ) (c : Call) → slice_get calls n ≡ Some c → n < length calls

@@ -25,13 +25,14 @@ use Rattle.sftp_core.specs.declared.options.SftpOptions.{SftpOptions}
 use Rattle.sftp_link.specs.declared.piece.Piece.{Piece}
 use Rattle.sftp_link.specs.Log.{GotOn}
 use Rattle.sftp_wire.specs.FrameReader.{fault_of, missing}
-use Rattle.sftp_driver.specs.Causes.{Cause}
-use Rattle.sftp_driver.specs.Logs.{Behind, BehindHello, Ends, GotUnusable, IsUnsent}
+use Rattle.sftp_driver.specs.Causes.{Cause, IsUnsent}
+use Rattle.sftp_driver.specs.Logs.{Behind, BehindHello, Ends, GotUnusable}
 use Rattle.sftp_driver.specs.Refusals.{awaited_at, refuses, refuses_hello, refuses_limits, refuses_reply, sent_at}
 use Rattle.sftp_driver.specs.Session.{Given, IsLater}
 use Rattle.sftp_machine.specs.WaitingFrames.{WaitingFrames, turned}
 use Rattle.sftp_history.specs.declared.call.Lane.{Lane}
 use Rattle.sftp_history.specs.declared.entry.Entry.{Entry}
+use Rattle.sftp_history.specs.declared.turn.Turn.{Turn}
 use Rattle.sftp_history.specs.Calls.{Setting}
 use Rattle.sftp_history.specs.Journals.{IsJournal, MayReply, goes_on, is_read}
 use Rattle.sftp_history.specs.Readings.{Asked, asked_at, awaited, awaiting, sent}
@@ -122,9 +123,9 @@ one_bad bytes kind bad body rest some short e = absurd (let none = no_fault byte
 no_refusal : (good : Read → Type 0) (wrong : Result (Option ℕ × Reply) FrameError → Option TakeError) (ended : Bool) (e : Error) (mid after : List Piece) → ((read : Read) → good read → wrong (Ok read) ≡ None)
     → ((bytes : List ℕ) → GotOn mid after bytes → IsOne bytes → GivesGood good bytes ended) → GotUnusable wrong e mid after → ⊥
 no_refusal good wrong ended e mid after fine gives (inl bad) =
-    let g = gives bad.1.1.0 bad.1.1.1.2 (one_bad bad.1.1.0 bad.0 bad.1.1.1.0) in
+    let g = gives bad.1.1.0 bad.1.1.1.1 (one_bad bad.1.1.0 bad.0 bad.1.1.1.0.bad) in
     let none = no_fault bad.1.1.0 g.tail g.body g.rest g.framed g.some g.short in
-    let some = bad.1.1.1.0 in
+    let some = bad.1.1.1.0.bad in
     absurd cc
 no_refusal good wrong ended e mid after fine gives (inr bad) =
     let g = gives (string bad.0) bad.1.1 (one_frame bad.0 bad.1.0) in
@@ -139,14 +140,14 @@ journal_only : (ended : Bool) (e : Error) (past : List Entry) (mid after : List 
     → Behind ended e past mid after → Cause {T = Unit {0}} 0 0 (Err e) → e ≡ error.OutOfMemory
 journal_only ended error.OutOfMemory past mid after gives b why = refl
 journal_only ended error.LinkFault past mid after gives b why = absurd (omega (arith, why))
-journal_only ended error.LinkEnded past mid after gives b why = absurd (no_part (IsAllowed past) b.2.0 ended (gives b.1 b.2.0 b.2.1.2 (one_part b.2.0 b.2.1.0)) b.0 b.2.1.0)
+journal_only ended error.LinkEnded past mid after gives b why = absurd (no_part (IsAllowed past) b.2.0 ended (gives b.1 b.2.0 b.2.1.1 (one_part b.2.0 b.2.1.0.short)) b.0 b.2.1.0.short)
 journal_only ended other past mid after gives b why = absurd (no_refusal (IsAllowed past) (refuses past) ended other mid after (allowed_fine past) (gives b.0) b.1)
 
 hello_only : (ended : Bool) (e : Error) (mid after : List Piece) → ((bytes : List ℕ) → GotOn mid after bytes → IsOne bytes → GivesGood IsVersion bytes ended) → BehindHello ended e mid after → Cause {T = Unit {0}} 0 0 (Err e)
     → e ≡ error.OutOfMemory
 hello_only ended error.OutOfMemory mid after gives b why = refl
 hello_only ended error.LinkFault mid after gives b why = absurd (omega (arith, why))
-hello_only ended error.LinkEnded mid after gives b why = absurd (no_part IsVersion b.1.0 ended (gives b.1.0 b.1.1.2 (one_part b.1.0 b.1.1.0)) b.0 b.1.1.0)
+hello_only ended error.LinkEnded mid after gives b why = absurd (no_part IsVersion b.1.0 ended (gives b.1.0 b.1.1.1 (one_part b.1.0 b.1.1.0.short)) b.0 b.1.1.0.short)
 hello_only ended other mid after gives b why = absurd (no_refusal IsVersion refuses_hello ended other mid after version_fine gives b)
 
 unsent_only : (e : Error) → IsUnsent e → Cause {T = Unit {0}} 0 0 (Err e) → e ≡ error.OutOfMemory
@@ -155,13 +156,12 @@ unsent_only error.LinkFault u why = absurd (omega (arith, why))
 unsent_only other u why = absurd u
 
 -- over a link that serves, a run stops only for want of memory
-pub only_memory : (given : Given) (ended : Bool) (e : Error) (log : List Piece) → ServesLanes given log ended → Ends given ended e [] log → Cause {T = Unit {0}} 0 0 (Err e) → e ≡ error.OutOfMemory
-only_memory given ended e log serves (inl (inl part)) why = unsent_only e part.0 why
-only_memory given ended e log serves (inl (inr h)) why = hello_only ended e h.0 log (λ bytes. serves.greets h.0 bytes h.1.0) h.1.1 why
-only_memory given ended e log serves (inr x) why =
-    let past = x.1.0 in
-    let j = later_journal (setting_of given.lanes given.options x.0 past) past x.1.1.1.0 in
-    journal_only ended e past x.1.1.0 log (λ some bytes. serves.replies x.0 past x.1.1.0 bytes j x.1.1.1.1 some) x.1.1.1.2 why
+pub only_memory : (given : Given) (turns : List Turn) (ended : Bool) (e : Error) (log : List Piece) → ServesLanes given log ended → Ends given turns ended e [] log → Cause {T = Unit {0}} 0 0 (Err e) → e ≡ error.OutOfMemory
+only_memory given turns ended e log serves (inl (inl part)) why = unsent_only e part.0 why
+only_memory given turns ended e log serves (inl (inr h)) why = hello_only ended e h.0 log (λ bytes. serves.greets h.0 bytes h.1.0) h.1.1 why
+only_memory given turns ended e log serves (inr x) why =
+    let j = later_journal (setting_of given.lanes given.options x.extensions x.now) x.now x.later in
+    journal_only ended e x.now x.mid log (λ some bytes. serves.replies x.extensions x.now x.mid bytes j x.shows some) x.behind why
 
 -- ---- the server in memory
 

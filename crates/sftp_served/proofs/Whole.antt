@@ -72,9 +72,9 @@ server_serves given server ok new serving =
     serves_lanes given server.first.desk server.first.output.picks server.ended server.log server.now (first_is server.first new) ok (served_from server new serving) serving.end
 
 -- a run stops only for want of memory
-pub stops_for_memory : (given : Given) (server : Serving) (e : Error) → are_ok given.lanes ≡ true → IsUnopened server.first → IsServing server.first server.now server.log server.ended
-    → Ends given server.ended e [] server.log → Cause {T = Unit {0}} 0 0 (Err e) → e ≡ error.OutOfMemory
-stops_for_memory given server e ok new serving ends why = only_memory given server.ended e server.log (server_serves given server ok new serving) ends why
+pub stops_for_memory : (given : Given) (turns : List Turn) (server : Serving) (e : Error) → are_ok given.lanes ≡ true → IsUnopened server.first → IsServing server.first server.now server.log server.ended
+    → Ends given turns server.ended e [] server.log → Cause {T = Unit {0}} 0 0 (Err e) → e ≡ error.OutOfMemory
+stops_for_memory given turns server e ok new serving ends why = only_memory given turns server.ended e server.log (server_serves given server ok new serving) ends why
 
 -- what the replies of a journal are to which the log bears witness
 pub record IsAnswered (first : Server) (past : List Entry) (left : FileTree) : Type 0 where

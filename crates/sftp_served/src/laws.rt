@@ -34,16 +34,17 @@ pub fn runs_are_served()
         → IsServing server.first server.now server.log server.ended → are_ok given.lanes ≡ true → IsRun s turns past
         → IsFixed given version past s → Told (Showing version past) (Some []) (Some server.log)
         → IsServedRun server.first past server.now.desk.machine.tree }
-    ensures only { (given : Given) (server : Serving) (e : Error) → are_ok given.lanes ≡ true → IsUnopened server.first
-        → IsServing server.first server.now server.log server.ended → Ends given server.ended e [] server.log
+    ensures only { (given : Given) (turns : List Turn) (server : Serving) (e : Error) → are_ok given.lanes ≡ true
+        → IsUnopened server.first → IsServing server.first server.now server.log server.ended
+        → Ends given turns server.ended e [] server.log
         → Cause {T = Unit {0}} 0 0 (Err e) → e ≡ error.OutOfMemory }
 {}
 
 /// Over any link that serves the lanes of a session, whoever runs the session as `run_session` does stops only for want of
 /// memory, where the link counted no fault; and the server in memory is such a link where the lanes are ok.
 pub fn links_that_serve_end_well()
-    ensures only { (given : Given) (ended : Bool) (e : Error) (log : List Piece) → ServesLanes given log ended
-        → Ends given ended e [] log → Cause {T = Unit {0}} 0 0 (Err e) → e ≡ error.OutOfMemory }
+    ensures only { (given : Given) (turns : List Turn) (ended : Bool) (e : Error) (log : List Piece)
+        → ServesLanes given log ended → Ends given turns ended e [] log → Cause {T = Unit {0}} 0 0 (Err e) → e ≡ error.OutOfMemory }
     ensures server { (given : Given) (server : Serving) → are_ok given.lanes ≡ true → IsUnopened server.first
         → IsServing server.first server.now server.log server.ended → ServesLanes given server.log server.ended }
 {}

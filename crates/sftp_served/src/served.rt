@@ -2,12 +2,12 @@
 ghost use Rattle.std.specs.Prelude.{◌≡◌, [], true, Some, IfErr, OnOk};
 ghost use Rattle.sftp_model.specs.declared.error.Error.TheVariants as error;
 ghost use Rattle.sftp_history.specs.Lanes.{are_ok};
-ghost use Rattle.sftp_history.specs.Runs.{IsRun};
-ghost use Rattle.sftp_driver.specs.Session.{IsFixed, at_rest};
+ghost use Rattle.sftp_driver.specs.Logs.{HasRun};
+ghost use Rattle.sftp_driver.specs.Session.{IsFresh};
 ghost use Rattle.sftp_map_server.specs.Serving.{version_reply};
 ghost use Rattle.sftp_served.specs.Unopened.{IsServedRun, IsUnopened};
 
-use sftp_driver::{Phase, RunsLanes, run_session};
+use sftp_driver::{RunsLanes, run_session};
 use sftp_history::Turn;
 use sftp_map_server::MapServer;
 use sftp_model::Error;
@@ -25,15 +25,13 @@ pub fn run_served<X: RunsLanes>(
     server: &mut MapServer,
     schedule: &[Turn],
 ) -> Result<(), Error>
-    requires fresh { X.phase session.old ≡ Phase.Fresh }
-    requires rest { X.stage session.old ≡ at_rest }
-    requires lanes { are_ok (X.given session.old).lanes ≡ true }
+    requires fresh { IsFresh (X.seen session.old) }
+    requires lanes { are_ok (X.seen session.old).given.lanes ≡ true }
     requires unopened { IsUnopened server.old.first }
     requires quiet { server.old.log ≡ [] }
-    ensures run { OnOk result (IsRun (X.setting session.new) schedule.now (X.stage session.new).past) }
-    ensures fixed { OnOk result (IsFixed (X.given session.old) (X.version session.new) (X.stage session.new).past (X.setting session.new)) }
-    ensures version { OnOk result (X.version session.new ≡ Some (version_reply server.old.first.desk.machine.config)) }
-    ensures serves { OnOk result (IsServedRun server.old.first (X.stage session.new).past server.new.now.desk.machine.tree) }
+    ensures run { OnOk result (HasRun (X.seen session.old).given schedule.now (X.seen session.new) (Some server.old.log) (Some server.new.log)) }
+    ensures version { OnOk result ((X.seen session.new).version ≡ Some (version_reply server.old.first.desk.machine.config)) }
+    ensures serves { OnOk result (IsServedRun server.old.first (X.seen session.new).stage.past server.new.now.desk.machine.tree) }
     ensures only { IfErr result (λ e. e ≡ error.OutOfMemory) }
     ensures first { server.new.first ≡ server.old.first }
 {

@@ -1,36 +1,38 @@
-use Rattle.std.proofs.Common.{◌∙◌}
-use Rattle.sftp_driver.proofs.Journals.{later_on}
-use Rattle.sftp_driver.proofs.Stopping.{ends_open, stops_on, keeps_on}
-use Rattle.sftp_driver.proofs.Rounds.{is_run}
-use Rattle.sftp_driver.proofs.Settled.{still_fixed}
+use Rattle.sftp_driver.specs.RunsSoFar.{RunSoFar, OpensSoFar, in_opening}
+use Rattle.sftp_driver.proofs.Stopping.{ends_as}
+use Rattle.sftp_driver.proofs.Joining.{escaped}
+use Rattle.sftp_driver.proofs.Whole.{turns_stopped, ends_stopped, ended_on, go_stopped, gone_on, run_is, all_done, all_held, has_run, stops_told}
 use Rattle.sftp_driver.proofs.driver.run_session.Goals as goal
 
-pub returns-in-Err-run_turns-clause-stops : goal.returns-in-Err-run_turns-clause-stops
-returns-in-Err-run_turns-clause-stops g c =
-    (ends_open (g.X.RunsLanes.given c.args.session.now) (g.X.RunsLanes.setting c.open.new.session) (g.L.LinkState.ended c.run_turns.new.link) c.in-Err-run_turns.error (g.X.RunsLanes.version c.open.new.session) (g.X.RunsLanes.stage c.open.new.session).past (g.L.LinkState.log c.args.link.now) (g.L.LinkState.log c.open.new.link) (g.L.LinkState.log c.run_turns.new.link) c.in-Ok.ensures.opened c.in-Ok.ensures.log
-    (c.in-Err-run_turns.ensures.stops))
+pub returns-in_err-open-clause-stops : goal.returns-in_err-open-clause-stops
+returns-in_err-open-clause-stops g c =
+    rw (escaped c.from_residual.result c.in_err-open.field-0.0 c.from_residual.ensures.1)
+    (ends_as _ (λ s. OpensSoFar s.limits) (λ s. RunSoFar s c.args.schedule.now) _ _ _ _ (λ s past so_far. in_opening so_far) c.in_err-open.ensures.stops)
 
-pub returns-in-Err-end_lanes-clause-stops : goal.returns-in-Err-end_lanes-clause-stops
-returns-in-Err-end_lanes-clause-stops g c =
-    (ends_open (g.X.RunsLanes.given c.args.session.now) (g.X.RunsLanes.setting c.open.new.session) (g.L.LinkState.ended c.end_lanes.new.link) c.in-Err-end_lanes.error (g.X.RunsLanes.version c.open.new.session) (g.X.RunsLanes.stage c.open.new.session).past (g.L.LinkState.log c.args.link.now) (g.L.LinkState.log c.open.new.link) (g.L.LinkState.log c.end_lanes.new.link) c.in-Ok.ensures.opened c.in-Ok.ensures.log
-    (stops_on (g.X.RunsLanes.setting c.open.new.session) (g.L.LinkState.ended c.end_lanes.new.link) c.in-Err-end_lanes.error (g.X.RunsLanes.stage c.open.new.session).past (g.X.RunsLanes.stage c.run_turns.new.session).past (g.L.LinkState.log c.open.new.link) (g.L.LinkState.log c.run_turns.new.link) (g.L.LinkState.log c.end_lanes.new.link) c.in-Ok-run_turns.ensures.goes.0 c.in-Ok-run_turns.ensures.log (rw c.in-Ok-run_turns.ensures.same at c.in-Err-end_lanes.ensures.stops)))
+pub returns-in_err-run_turns-clause-stops : goal.returns-in_err-run_turns-clause-stops
+returns-in_err-run_turns-clause-stops g c =
+    rw (escaped c.from_residual-in_err-run_turns.result c.in_err-run_turns.field-0.0 c.from_residual-in_err-run_turns.ensures.1)
+    (stops_told _ c.args.schedule.now _ c.in_ok-open.ensures.opened c.in_ok-open.ensures.log (turns_stopped c.args.schedule.now c.in_err-run_turns.ensures.ongoing))
 
-pub returns-in-Err-let_go_lanes-clause-stops : goal.returns-in-Err-let_go_lanes-clause-stops
-returns-in-Err-let_go_lanes-clause-stops g c =
-    (ends_open (g.X.RunsLanes.given c.args.session.now) (g.X.RunsLanes.setting c.open.new.session) (g.L.LinkState.ended c.let_go_lanes.new.link) c.in-Err-let_go_lanes.error (g.X.RunsLanes.version c.open.new.session) (g.X.RunsLanes.stage c.open.new.session).past (g.L.LinkState.log c.args.link.now) (g.L.LinkState.log c.open.new.link) (g.L.LinkState.log c.let_go_lanes.new.link) c.in-Ok.ensures.opened c.in-Ok.ensures.log
-    (stops_on (g.X.RunsLanes.setting c.open.new.session) (g.L.LinkState.ended c.let_go_lanes.new.link) c.in-Err-let_go_lanes.error (g.X.RunsLanes.stage c.open.new.session).past (g.X.RunsLanes.stage c.end_lanes.new.session).past (g.L.LinkState.log c.open.new.link) (g.L.LinkState.log c.end_lanes.new.link) (g.L.LinkState.log c.let_go_lanes.new.link) (later_on (g.X.RunsLanes.setting c.open.new.session) (g.X.RunsLanes.stage c.open.new.session).past (g.X.RunsLanes.stage c.run_turns.new.session).past (g.X.RunsLanes.stage c.end_lanes.new.session).past c.in-Ok-run_turns.ensures.goes.0 (rw c.in-Ok-run_turns.ensures.same at c.in-Ok-end_lanes.ensures.goes.0)) (keeps_on (g.X.RunsLanes.stage c.open.new.session).past (g.X.RunsLanes.stage c.run_turns.new.session).past (g.X.RunsLanes.stage c.end_lanes.new.session).past (g.L.LinkState.log c.open.new.link) (g.L.LinkState.log c.run_turns.new.link) (g.L.LinkState.log c.end_lanes.new.link) c.in-Ok-run_turns.ensures.log c.in-Ok-end_lanes.ensures.log) (rw (c.in-Ok-end_lanes.ensures.same ∙ c.in-Ok-run_turns.ensures.same) at c.in-Err-let_go_lanes.ensures.stops)))
+pub returns-in_err-end_lanes-clause-stops : goal.returns-in_err-end_lanes-clause-stops
+returns-in_err-end_lanes-clause-stops g c =
+    rw (escaped c.from_residual-in_err-end_lanes.result c.in_err-end_lanes.field-0.0 c.from_residual-in_err-end_lanes.ensures.1)
+    (stops_told _ c.args.schedule.now _ c.in_ok-open.ensures.opened c.in_ok-open.ensures.log (ends_stopped c.args.schedule.now c.in_ok-run_turns.ensures.ongoing c.in_err-end_lanes.ensures.ongoing))
 
-pub returns-in-Err-drain-clause-stops : goal.returns-in-Err-drain-clause-stops
-returns-in-Err-drain-clause-stops g c =
-    (ends_open (g.X.RunsLanes.given c.args.session.now) (g.X.RunsLanes.setting c.open.new.session) (g.L.LinkState.ended c.drain.new.link) c.in-Err-drain.error (g.X.RunsLanes.version c.open.new.session) (g.X.RunsLanes.stage c.open.new.session).past (g.L.LinkState.log c.args.link.now) (g.L.LinkState.log c.open.new.link) (g.L.LinkState.log c.drain.new.link) c.in-Ok.ensures.opened c.in-Ok.ensures.log
-    (stops_on (g.X.RunsLanes.setting c.open.new.session) (g.L.LinkState.ended c.drain.new.link) c.in-Err-drain.error (g.X.RunsLanes.stage c.open.new.session).past (g.X.RunsLanes.stage c.let_go_lanes.new.session).past (g.L.LinkState.log c.open.new.link) (g.L.LinkState.log c.let_go_lanes.new.link) (g.L.LinkState.log c.drain.new.link) (later_on (g.X.RunsLanes.setting c.open.new.session) (g.X.RunsLanes.stage c.open.new.session).past (g.X.RunsLanes.stage c.end_lanes.new.session).past (g.X.RunsLanes.stage c.let_go_lanes.new.session).past (later_on (g.X.RunsLanes.setting c.open.new.session) (g.X.RunsLanes.stage c.open.new.session).past (g.X.RunsLanes.stage c.run_turns.new.session).past (g.X.RunsLanes.stage c.end_lanes.new.session).past c.in-Ok-run_turns.ensures.goes.0 (rw c.in-Ok-run_turns.ensures.same at c.in-Ok-end_lanes.ensures.goes.0)) (rw (c.in-Ok-end_lanes.ensures.same ∙ c.in-Ok-run_turns.ensures.same) at c.in-Ok-let_go_lanes.ensures.later)) (keeps_on (g.X.RunsLanes.stage c.open.new.session).past (g.X.RunsLanes.stage c.end_lanes.new.session).past (g.X.RunsLanes.stage c.let_go_lanes.new.session).past (g.L.LinkState.log c.open.new.link) (g.L.LinkState.log c.end_lanes.new.link) (g.L.LinkState.log c.let_go_lanes.new.link) (keeps_on (g.X.RunsLanes.stage c.open.new.session).past (g.X.RunsLanes.stage c.run_turns.new.session).past (g.X.RunsLanes.stage c.end_lanes.new.session).past (g.L.LinkState.log c.open.new.link) (g.L.LinkState.log c.run_turns.new.link) (g.L.LinkState.log c.end_lanes.new.link) c.in-Ok-run_turns.ensures.log c.in-Ok-end_lanes.ensures.log) c.in-Ok-let_go_lanes.ensures.log) (rw (c.in-Ok-let_go_lanes.ensures.same ∙ (c.in-Ok-end_lanes.ensures.same ∙ c.in-Ok-run_turns.ensures.same)) at c.in-Err-drain.ensures.stops)))
+pub returns-in_err-let_go_lanes-clause-stops : goal.returns-in_err-let_go_lanes-clause-stops
+returns-in_err-let_go_lanes-clause-stops g c =
+    rw (escaped c.from_residual-in_err-let_go_lanes.result c.in_err-let_go_lanes.field-0.0 c.from_residual-in_err-let_go_lanes.ensures.1)
+    (stops_told _ c.args.schedule.now _ c.in_ok-open.ensures.opened c.in_ok-open.ensures.log
+    (go_stopped c.args.schedule.now (ended_on c.args.schedule.now c.in_ok-run_turns.ensures.ongoing c.in_ok-end_lanes.ensures.ongoing) c.in_err-let_go_lanes.ensures.ongoing))
 
-pub returns-in-Ok-drain-clause-run : goal.returns-in-Ok-drain-clause-run
-returns-in-Ok-drain-clause-run g c =
-    rw (c.in-Ok-drain.ensures.same ∙ (c.in-Ok-let_go_lanes.ensures.same ∙ (c.in-Ok-end_lanes.ensures.same ∙ c.in-Ok-run_turns.ensures.same)))
-    (is_run (g.X.RunsLanes.setting c.open.new.session) c.args.schedule.now (g.X.RunsLanes.stage c.open.new.session) (g.X.RunsLanes.stage c.run_turns.new.session) (g.X.RunsLanes.stage c.end_lanes.new.session) (g.X.RunsLanes.stage c.let_go_lanes.new.session) (g.X.RunsLanes.stage c.drain.new.session) c.in-Ok.ensures.opened.opens c.in-Ok.ensures.begun c.in-Ok-run_turns.ensures.turns (rw c.in-Ok-run_turns.ensures.same at c.in-Ok-end_lanes.ensures.ends) (rw (c.in-Ok-end_lanes.ensures.same ∙ c.in-Ok-run_turns.ensures.same) at c.in-Ok-let_go_lanes.ensures.lets_go) (rw (c.in-Ok-let_go_lanes.ensures.same ∙ (c.in-Ok-end_lanes.ensures.same ∙ c.in-Ok-run_turns.ensures.same)) at c.in-Ok-drain.ensures.drains) c.in-Ok-drain.ensures.answered)
+pub let_go_lanes-requires-clause-done : goal.let_go_lanes-requires-clause-done
+let_go_lanes-requires-clause-done g c = all_done c.args.schedule.now (ended_on c.args.schedule.now c.in_ok-run_turns.ensures.ongoing c.in_ok-end_lanes.ensures.ongoing)
 
-pub returns-in-Ok-drain-clause-fixed : goal.returns-in-Ok-drain-clause-fixed
-returns-in-Ok-drain-clause-fixed g c =
-    rw ((c.in-Ok-drain.ensures.version ∙ (c.in-Ok-let_go_lanes.ensures.version ∙ (c.in-Ok-end_lanes.ensures.version ∙ c.in-Ok-run_turns.ensures.version))), (c.in-Ok-drain.ensures.same ∙ (c.in-Ok-let_go_lanes.ensures.same ∙ (c.in-Ok-end_lanes.ensures.same ∙ c.in-Ok-run_turns.ensures.same))))
-    (still_fixed (g.X.RunsLanes.given c.args.session.now) (g.X.RunsLanes.version c.open.new.session) (g.X.RunsLanes.stage c.open.new.session).past (g.X.RunsLanes.stage c.drain.new.session).past (g.X.RunsLanes.setting c.open.new.session) c.in-Ok.ensures.opened.fixed c.in-Ok.ensures.opened.opens (later_on (g.X.RunsLanes.setting c.open.new.session) (g.X.RunsLanes.stage c.open.new.session).past (g.X.RunsLanes.stage c.let_go_lanes.new.session).past (g.X.RunsLanes.stage c.drain.new.session).past (later_on (g.X.RunsLanes.setting c.open.new.session) (g.X.RunsLanes.stage c.open.new.session).past (g.X.RunsLanes.stage c.end_lanes.new.session).past (g.X.RunsLanes.stage c.let_go_lanes.new.session).past (later_on (g.X.RunsLanes.setting c.open.new.session) (g.X.RunsLanes.stage c.open.new.session).past (g.X.RunsLanes.stage c.run_turns.new.session).past (g.X.RunsLanes.stage c.end_lanes.new.session).past c.in-Ok-run_turns.ensures.goes.0 (rw c.in-Ok-run_turns.ensures.same at c.in-Ok-end_lanes.ensures.goes.0)) (rw (c.in-Ok-end_lanes.ensures.same ∙ c.in-Ok-run_turns.ensures.same) at c.in-Ok-let_go_lanes.ensures.later)) (rw (c.in-Ok-let_go_lanes.ensures.same ∙ (c.in-Ok-end_lanes.ensures.same ∙ c.in-Ok-run_turns.ensures.same)) at c.in-Ok-drain.ensures.goes.0)))
+pub let_go_lanes-requires-clause-holds : goal.let_go_lanes-requires-clause-holds
+let_go_lanes-requires-clause-holds g c = all_held c.args.schedule.now c.in_ok-open.ensures.opened.opens (ended_on c.args.schedule.now c.in_ok-run_turns.ensures.ongoing c.in_ok-end_lanes.ensures.ongoing)
+
+pub returns-clause-run : goal.returns-clause-run
+returns-clause-run g c = has_run _ c.args.schedule.now _ c.in_ok-open.ensures.opened c.in_ok-open.ensures.log (run_is c.args.schedule.now (gone_on c.args.schedule.now (ended_on c.args.schedule.now c.in_ok-run_turns.ensures.ongoing c.in_ok-end_lanes.ensures.ongoing) c.in_ok-let_go_lanes.ensures.ongoing) c.drain.ensures.ongoing)
+
+pub returns-clause-stops : goal.returns-clause-stops
+returns-clause-stops g c = stops_told _ c.args.schedule.now _ c.in_ok-open.ensures.opened c.in_ok-open.ensures.log (run_is c.args.schedule.now (gone_on c.args.schedule.now (ended_on c.args.schedule.now c.in_ok-run_turns.ensures.ongoing c.in_ok-end_lanes.ensures.ongoing) c.in_ok-let_go_lanes.ensures.ongoing) c.drain.ensures.ongoing)

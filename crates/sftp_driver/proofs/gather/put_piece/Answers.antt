@@ -1,12 +1,11 @@
+use Rattle.sftp_driver.proofs.Joining.{escaped}
 use Rattle.sftp_driver.proofs.Gathered.{gathers_next, gathers_less}
 use Rattle.sftp_driver.proofs.gather.put_piece.Goals as goal
 
-pub returns-in-Ok-clause-log : goal.returns-in-Ok-clause-log
-returns-in-Ok-clause-log g c =
-    gathers_next c.args.gathered.now.items c.args.piece.now c.send_or_gather.new.gathered.items
-    (g.L.LinkState.log c.args.link.now) (g.L.LinkState.log c.flush_gathered.new.link) (g.L.LinkState.log c.send_or_gather.new.link)
-    c.send_or_gather.result c.in-Ok.ensures.log c.send_or_gather.ensures.log
+pub returns-in_err-flush_gathered : goal.returns-in_err-flush_gathered
+returns-in_err-flush_gathered g c =
+    rw (escaped c.from_residual.result c.in_err-flush_gathered.field-0.0 c.from_residual.ensures.1)
+    (gathers_less c.args.gathered.now.items c.args.piece.now c.flush_gathered.new.gathered.items _ _ _ c.in_err-flush_gathered.ensures.sent)
 
-pub returns-in-Err-clause-log : goal.returns-in-Err-clause-log
-returns-in-Err-clause-log g c =
-    gathers_less c.args.gathered.now.items c.args.piece.now (g.L.LinkState.log c.args.link.now) (g.L.LinkState.log c.flush_gathered.new.link) c.in-Err.ensures.log
+pub returns : goal.returns
+returns g c = gathers_next c.in_ok-flush_gathered.ensures.sent c.send_or_gather.ensures

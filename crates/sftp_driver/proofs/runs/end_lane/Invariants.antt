@@ -1,18 +1,10 @@
-use Rattle.std.proofs.Common.{◌≡◌, ℕ}
-use Rattle.sftp_link.specs.Told.{Told}
-use Rattle.sftp_driver.specs.Session.{GoesOn}
-use Rattle.sftp_driver.specs.Logs.{Keeps}
-use Rattle.sftp_history.specs.Runs.{RoundsTo}
+use Rattle.std.proofs.Common.{Ok}
+use Rattle.sftp_driver.specs.Ongoing.{Ongoing, at}
+use Rattle.sftp_driver.proofs.Rounds.{some_rounds}
 use Rattle.sftp_driver.proofs.runs.end_lane.Given as goal
 
 abbrev pub invariant-loop-alloc : goal.invariant-loop-alloc
-invariant-loop-alloc g l =
-    ((g.X.RunsLanes.phase l.session ≡ g.X.RunsLanes.phase l.initial.session) × (g.X.RunsLanes.version l.session ≡ g.X.RunsLanes.version l.initial.session))
-    × ((g.X.RunsLanes.setting l.session) ≡ (g.X.RunsLanes.setting l.initial.session))
-    × ((g.L.LinkState.faults l.link ≡ g.L.LinkState.faults l.initial.link) × (g.L.LinkState.service l.link ≡ g.L.LinkState.service l.initial.link))
-    × Told (Keeps (g.X.RunsLanes.stage l.initial.session).past (g.X.RunsLanes.stage l.session).past) (g.L.LinkState.log l.initial.link) (g.L.LinkState.log l.link)
-    × GoesOn (g.X.RunsLanes.setting l.initial.session) (g.X.RunsLanes.stage l.initial.session).past (g.X.RunsLanes.stage l.session).past
-    × ((n : ℕ) × RoundsTo (g.X.RunsLanes.setting l.initial.session) l.lane n (g.X.RunsLanes.stage l.initial.session) (g.X.RunsLanes.stage l.session))
+invariant-loop-alloc g l = Ongoing (some_rounds l.lane) (at (g.X.RunsLanes.seen l.initial.session) (g.L.LinkState.state l.initial.link)) (at (g.X.RunsLanes.seen l.session) (g.L.LinkState.state l.link)) (Ok tt)
 
 abbrev pub decreases-loop-alloc : goal.decreases-loop-alloc
-decreases-loop-alloc g l = g.X.RunsLanes.work l.session
+decreases-loop-alloc g l = (g.X.RunsLanes.seen l.session).work

@@ -1,24 +1,16 @@
-use Rattle.std.proofs.Common.{◌∙◌, refl, arith}
-use Rattle.sftp_driver.proofs.Journals.{goes_self, goes_on}
-use Rattle.sftp_driver.proofs.Stopping.{keeps_self, keeps_on, stops_on}
-use Rattle.sftp_driver.proofs.Rounds.{ends_more, done_more}
+use Rattle.std.proofs.Common.{◌<◌, ℕ, subst, arith}
+use Rattle.sftp_driver.proofs.Joining.{escaped}
+use Rattle.sftp_driver.proofs.Loops.{ends_begin, ends_next, ends_fail, ends_done}
 use Rattle.sftp_driver.proofs.runs.end_lanes.Goals as goal
 
 pub loop-lane-init : goal.loop-lane-init
-loop-lane-init g c =
-    ((refl, refl), refl, (refl, refl), keeps_self (g.X.RunsLanes.stage c.args.session.now).past (g.L.LinkState.log c.args.link.now), goes_self (g.X.RunsLanes.setting c.args.session.now) (g.X.RunsLanes.stage c.args.session.now).past, refl, (λ k lt. absurd (omega (arith, lt))))
+loop-lane-init g c = ends_begin _ _ c.requires.ready
+
+pub returns-in_err-end_lane : goal.returns-in_err-end_lane
+returns-in_err-end_lane g c = rw (escaped c.from_residual.result c.in_err-end_lane.field-0.0 c.from_residual.ensures.1) (record { ongoing = ends_fail c.loop-lane.lane (subst (λ (n : ℕ). c.loop-lane.lane < n) c.lane_count-lane-end.ensures c.loop-lane-test.true) c.loop-lane.invariant c.in_err-end_lane.ensures.ongoing })
 
 pub loop-lane-preserved : goal.loop-lane-preserved
-loop-lane-preserved g c = (
-  (c.in-Ok.ensures.phase ∙ c.loop-lane.invariant.0.0, c.in-Ok.ensures.version ∙ c.loop-lane.invariant.0.1),
-  c.in-Ok.ensures.same ∙ c.loop-lane.invariant.1,
-  (c.in-Ok.ensures.cause ∙ c.loop-lane.invariant.2.0, c.in-Ok.ensures.service ∙ c.loop-lane.invariant.2.1),
-  keeps_on (g.X.RunsLanes.stage c.args.session.now).past (g.X.RunsLanes.stage c.loop-lane.session).past (g.X.RunsLanes.stage c.end_lane.new.session).past (g.L.LinkState.log c.args.link.now) (g.L.LinkState.log c.loop-lane.link) (g.L.LinkState.log c.end_lane.new.link) c.loop-lane.invariant.3 c.in-Ok.ensures.log,
-  goes_on (g.X.RunsLanes.setting c.args.session.now) (g.X.RunsLanes.stage c.args.session.now).past (g.X.RunsLanes.stage c.loop-lane.session).past (g.X.RunsLanes.stage c.end_lane.new.session).past c.loop-lane.invariant.4 (rw c.loop-lane.invariant.1 at c.in-Ok.ensures.goes),
-  ends_more (g.X.RunsLanes.setting c.args.session.now) c.loop-lane.lane (rw c.loop-lane.invariant.1 at c.in-Ok.ensures.rounds).0 (g.X.RunsLanes.stage c.args.session.now) (g.X.RunsLanes.stage c.loop-lane.session) (g.X.RunsLanes.stage c.end_lane.new.session) c.loop-lane.invariant.5 (rw c.loop-lane.invariant.1 at c.in-Ok.ensures.rounds).1 (rw c.loop-lane.invariant.1 at c.in-Ok.ensures.done),
-  done_more (g.X.RunsLanes.setting c.args.session.now) c.loop-lane.lane (g.X.RunsLanes.stage c.loop-lane.session).past (g.X.RunsLanes.stage c.end_lane.new.session).past (rw c.loop-lane.invariant.1 at c.in-Ok.ensures.goes).1 c.loop-lane.invariant.6 (rw c.loop-lane.invariant.1 at c.in-Ok.ensures.done),
-)
+loop-lane-preserved g c = ends_next c.loop-lane.lane c.loop-lane.invariant c.in_ok-end_lane.ensures.ongoing
 
-pub returns-in-Err-clause-stops : goal.returns-in-Err-clause-stops
-returns-in-Err-clause-stops g c =
-    stops_on (g.X.RunsLanes.setting c.args.session.now) (g.L.LinkState.ended c.end_lane.new.link) c.in-Err.error (g.X.RunsLanes.stage c.args.session.now).past (g.X.RunsLanes.stage c.loop-lane.session).past (g.L.LinkState.log c.args.link.now) (g.L.LinkState.log c.loop-lane.link) (g.L.LinkState.log c.end_lane.new.link) c.loop-lane.invariant.4.0 c.loop-lane.invariant.3 (rw c.loop-lane.invariant.1 at c.in-Err.ensures.stops)
+pub returns : goal.returns
+returns g c = record { ongoing = ends_done c.loop-lane.lane (let a = c.loop-lane.auto.lane-end in let f = c.loop-lane-test.false in let e = c.lane_count-lane-end.ensures in omega (arith, a, f, e)) c.loop-lane.invariant }

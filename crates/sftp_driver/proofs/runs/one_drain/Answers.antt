@@ -1,11 +1,13 @@
-use Rattle.sftp_driver.proofs.Journals.{goes_on}
-use Rattle.sftp_driver.proofs.Stopping.{stops_on}
+use Rattle.sftp_history.specs.declared.turn.Turn.TheVariants as turn
+use Rattle.std.proofs.Common.{[], ◌∷◌}
+use Rattle.sftp_driver.proofs.Joining.{escaped}
+use Rattle.sftp_driver.proofs.Loops.{first_fails, first_then, last_is}
 use Rattle.sftp_driver.proofs.runs.one_drain.Goals as goal
 
-pub returns-in-Ok-take_turn-clause-goes : goal.returns-in-Ok-take_turn-clause-goes
-returns-in-Ok-take_turn-clause-goes g c =
-    goes_on (g.X.RunsLanes.setting c.args.session.now) (g.X.RunsLanes.stage c.args.session.now).past (g.X.RunsLanes.stage c.flush_turn.new.session).past (g.X.RunsLanes.stage c.take_turn.new.session).past c.in-Ok.ensures.goes (rw c.in-Ok.ensures.same at c.in-Ok-take_turn.ensures.goes)
+pub returns-in_err-flush_turn-clause-ongoing : goal.returns-in_err-flush_turn-clause-ongoing
+returns-in_err-flush_turn-clause-ongoing g c =
+    rw (escaped c.from_residual.result c.in_err-flush_turn.field-0.0 c.from_residual.ensures.1)
+    (first_fails turn.Flush (turn.Take ∷ []) c.in_err-flush_turn.ensures.ongoing)
 
-pub returns-in-Err-take_turn-clause-stops : goal.returns-in-Err-take_turn-clause-stops
-returns-in-Err-take_turn-clause-stops g c =
-    stops_on (g.X.RunsLanes.setting c.args.session.now) (g.L.LinkState.ended c.take_turn.new.link) c.in-Err-take_turn.error (g.X.RunsLanes.stage c.args.session.now).past (g.X.RunsLanes.stage c.flush_turn.new.session).past (g.L.LinkState.log c.args.link.now) (g.L.LinkState.log c.flush_turn.new.link) (g.L.LinkState.log c.take_turn.new.link) c.in-Ok.ensures.goes.0 c.in-Ok.ensures.log (rw c.in-Ok.ensures.same at c.in-Err-take_turn.ensures.stops)
+pub returns-clause-ongoing : goal.returns-clause-ongoing
+returns-clause-ongoing g c = first_then turn.Flush (turn.Take ∷ []) c.in_ok-flush_turn.ensures.ongoing (last_is turn.Take c.take_turn.ensures.ongoing)

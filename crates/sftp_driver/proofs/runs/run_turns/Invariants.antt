@@ -1,15 +1,7 @@
-use Rattle.std.proofs.Common.{◌≡◌, take}
-use Rattle.sftp_link.specs.Told.{Told}
-use Rattle.sftp_driver.specs.Session.{GoesOn}
-use Rattle.sftp_driver.specs.Logs.{Keeps}
-use Rattle.sftp_history.specs.Runs.{TurnsTo}
+use Rattle.std.proofs.Common.{Ok}
+use Rattle.sftp_driver.specs.Ongoing.{Ongoing, at}
+use Rattle.sftp_driver.proofs.Rounds.{first_turns}
 use Rattle.sftp_driver.proofs.runs.run_turns.Given as goal
 
 abbrev pub invariant-loop-turn : goal.invariant-loop-turn
-invariant-loop-turn g l =
-    ((g.X.RunsLanes.phase l.session ≡ g.X.RunsLanes.phase l.initial.session) × (g.X.RunsLanes.version l.session ≡ g.X.RunsLanes.version l.initial.session))
-    × ((g.X.RunsLanes.setting l.session) ≡ (g.X.RunsLanes.setting l.initial.session))
-    × ((g.L.LinkState.faults l.link ≡ g.L.LinkState.faults l.initial.link) × (g.L.LinkState.service l.link ≡ g.L.LinkState.service l.initial.link))
-    × Told (Keeps (g.X.RunsLanes.stage l.initial.session).past (g.X.RunsLanes.stage l.session).past) (g.L.LinkState.log l.initial.link) (g.L.LinkState.log l.link)
-    × GoesOn (g.X.RunsLanes.setting l.initial.session) (g.X.RunsLanes.stage l.initial.session).past (g.X.RunsLanes.stage l.session).past
-    × TurnsTo (g.X.RunsLanes.setting l.initial.session) (take l.turn-index l.schedule) (g.X.RunsLanes.stage l.initial.session) (g.X.RunsLanes.stage l.session)
+invariant-loop-turn g l = Ongoing (first_turns l.schedule l.turn-index) (at (g.X.RunsLanes.seen l.initial.session) (g.L.LinkState.state l.initial.link)) (at (g.X.RunsLanes.seen l.session) (g.L.LinkState.state l.link)) (Ok tt)

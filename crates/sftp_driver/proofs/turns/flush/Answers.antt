@@ -1,11 +1,21 @@
-use Rattle.sftp_driver.proofs.Journals.{goes_same}
-use Rattle.sftp_driver.proofs.Stopping.{stops_nothing}
+use Rattle.std.proofs.Common.{refl, ap}
+use Rattle.sftp_model.specs.Pieces.{joined}
+use Rattle.sftp_driver.specs.Ongoing.{flushing}
+use Rattle.sftp_driver.proofs.Joining.{escaped, no_memory}
+use Rattle.sftp_driver.proofs.Parts.{flush_none, flush_sent, flush_unsent}
 use Rattle.sftp_driver.proofs.turns.flush.Goals as goal
 
-pub returns-in-Ok-None-clause-goes : goal.returns-in-Ok-None-clause-goes
-returns-in-Ok-None-clause-goes g c =
-    goes_same (g.X.RunsLanes.setting c.args.session.now) (g.X.RunsLanes.stage c.args.session.now) (g.X.RunsLanes.stage c.hand_out.new.self) (rw c.in-Ok-None.field-0-is at c.in-Ok-None.ensures.ok).1
+pub returns-in-Ok-None-clause-ongoing : goal.returns-in-Ok-None-clause-ongoing
+returns-in-Ok-None-clause-ongoing g c = flush_none _ _ _ tt (rw c.in-Ok-None.field-0-is at c.in-Ok-None.ensures.ok) c.in-Ok-None.ensures.stays c.requires.ready
 
-pub returns-in-Err-clause-stops : goal.returns-in-Err-clause-stops
-returns-in-Err-clause-stops g c =
-    stops_nothing (g.X.RunsLanes.setting c.args.session.now) (g.L.LinkState.ended c.args.link.now) (g.X.RunsLanes.stage c.args.session.now).past (g.L.LinkState.log c.args.link.now)
+pub returns-in-Err-clause-ongoing : goal.returns-in-Err-clause-ongoing
+returns-in-Err-clause-ongoing g c = no_memory flushing _ _ _ refl
+
+pub returns-in_err-send_pieces-clause-ongoing : goal.returns-in_err-send_pieces-clause-ongoing
+returns-in_err-send_pieces-clause-ongoing g c =
+    rw (escaped c.from_residual.result c.in_err-send_pieces.field-0.0 c.from_residual.ensures.1)
+    (flush_unsent _ (g.X.RunsLanes.seen c.hand_out.new.self) _ _ _ _ _ _ (rw c.in-Ok-Some.field-0-is at c.in-Ok-Some.ensures.ok) (ap joined c.pieces.ensures) c.in_err-send_pieces.ensures)
+
+pub returns-clause-ongoing : goal.returns-clause-ongoing
+returns-clause-ongoing g c =
+    flush_sent _ (g.X.RunsLanes.seen c.hand_out.new.self) _ _ _ _ _ tt tt c.requires.ready (rw c.in-Ok-Some.field-0-is at c.in-Ok-Some.ensures.ok) c.in-Ok-Some.ensures.stays c.give_back.ensures.same (ap joined c.pieces.ensures) c.in_ok-send_pieces.ensures

@@ -1,10 +1,8 @@
-use Rattle.sftp_driver.proofs.Journals.{flush_turns, flush_awaits}
+use Rattle.sftp_driver.proofs.Parts.{flush_is, flush_leaves}
 use Rattle.sftp_driver.proofs.turns.flush_turn.Goals as goal
 
-pub returns-in-Ok-clause-turn : goal.returns-in-Ok-clause-turn
-returns-in-Ok-clause-turn g c =
-    flush_turns (g.X.RunsLanes.setting c.args.session.now) (g.X.RunsLanes.stage c.args.session.now) (g.X.RunsLanes.stage c.flush.new.session) c.in-Ok.ensures.flushes
+pub returns-clause-ongoing : goal.returns-clause-ongoing
+returns-clause-ongoing g c = flush_is c.flush.ensures.ongoing
 
-pub returns-in-Ok-clause-awaits : goal.returns-in-Ok-clause-awaits
-returns-in-Ok-clause-awaits g c =
-    flush_awaits (g.X.RunsLanes.setting c.args.session.now) (g.X.RunsLanes.stage c.args.session.now) (g.X.RunsLanes.stage c.flush.new.session) c.in-Ok.ensures.flushes
+pub returns-clause-awaits : goal.returns-clause-awaits
+returns-clause-awaits g c = flush_leaves c.flush.ensures.ongoing

@@ -1,6 +1,9 @@
-use Rattle.sftp_driver.proofs.Journals.{goes_self}
+use Rattle.std.proofs.Common.{◌∙◌, sym}
+use Rattle.sftp_driver.proofs.Parts.{settle_full, settle_none}
 use Rattle.sftp_driver.proofs.turns.settle.Goals as goal
 
-pub returns-then-not-wants_flush-clause-goes : goal.returns-then-not-wants_flush-clause-goes
-returns-then-not-wants_flush-clause-goes g c =
-    goes_self (g.X.RunsLanes.setting c.args.session.now) (g.X.RunsLanes.stage c.args.session.now).past
+pub returns-then-not-wants_flush-clause-ongoing : goal.returns-then-not-wants_flush-clause-ongoing
+returns-then-not-wants_flush-clause-ongoing g c = settle_none _ _ (sym c.wants_flush.ensures ∙ c.if-not-wants_flush.true) c.requires.ready
+
+pub returns-clause-ongoing : goal.returns-clause-ongoing
+returns-clause-ongoing g c = settle_full (sym c.wants_flush.ensures ∙ c.if-not-wants_flush.false) c.flush.ensures.ongoing

@@ -8,6 +8,7 @@ use Rattle.sftp_history.specs.declared.entry.Entry.{Entry}
 use Rattle.sftp_history.specs.declared.entry.Entry.TheVariants as entry
 use Rattle.sftp_history.specs.Journals.{MayTake}
 use Rattle.sftp_history.specs.Runs.{queried}
+use Rattle.sftp_history.specs.Settings.{setting_of}
 use Rattle.sftp_driver.specs.declared.session.Phase.TheVariants.{Open}
 use Rattle.sftp_driver.specs.NoLanes.{offered, setting_in}
 use Rattle.sftp_driver.proofs.Bare.{queried_is, queried_first, came, may_take, opened_later}
@@ -34,22 +35,17 @@ returns-in-Ok-Limits-clause-ok c =
     let pushed : c.push.new.self.items ≡ c.self.inside.journal.items ++ one = search rules in
     let past : reverse c.push.new.self.items ≡ entry.Event (Take c.in-Ok-Limits.id c.in-Ok-Limits.reply) ∷ reverse c.self.inside.journal.items = ap reverse pushed ∙ reverse-append c.self.inside.journal.items one in
     rw (← c.self.view_is)
-    (0, (t.reply, (t.reads, subst (λ (w : List Entry). MayTake w 0 t.reply) (sym q.1.3) (may_take t.reply t.goes), past ∙ (λ i. entry.Event (Take (zero i) (same i)) ∷ reverse c.self.inside.journal.items))))
-
-pub returns-in-Ok-Limits-clause-later : goal.returns-in-Ok-Limits-clause-later
-returns-in-Ok-Limits-clause-later c =
-    let q = queried_is _ _ _ _ _ c.self.invariant (rw (← c.self.view_is) at c.requires.queried) in
-    let t = came _ q.0 _ _ _ _ q.1.2 c.in-Ok-Limits.ensures.only c.in-Ok-Limits.ensures.ok in
-    let zero : c.in-Ok-Limits.id ≡ 0 = cc in
-    let same : c.in-Ok-Limits.reply ≡ t.reply = cc in
-    let one : List Entry = entry.Event (Take c.in-Ok-Limits.id c.in-Ok-Limits.reply) ∷ [] in
-    let pushed : c.push.new.self.items ≡ c.self.inside.journal.items ++ one = search rules in
-    let past : reverse c.push.new.self.items ≡ entry.Event (Take c.in-Ok-Limits.id c.in-Ok-Limits.reply) ∷ reverse c.self.inside.journal.items = ap reverse pushed ∙ reverse-append c.self.inside.journal.items one in
-    rw (past ∙ (λ i. entry.Event (Take (zero i) (same i)) ∷ q.1.3 i))
-    (opened_later (setting_in (record { options = c.self.inside.options; phase = Open; version = c.self.inside.version; past = entry.Event (Take 0 t.reply) ∷ queried 0 })) t.reply (ap (λ (v : Option Reply). offers_limits (offered v)) q.1.0 ∙ q.1.1) t.goes)
+    (record {
+      tells = (0, (t.reply, (t.reads, subst (λ (w : List Entry). MayTake w 0 t.reply) (sym q.1.3) (may_take t.reply t.goes), past ∙ (λ i. entry.Event (Take (zero i) (same i)) ∷ reverse c.self.inside.journal.items))));
+      is_open = refl;
+      begun = refl;
+      later = rw (past ∙ (λ i. entry.Event (Take (zero i) (same i)) ∷ q.1.3 i))
+          (opened_later (setting_in (record { options = c.self.inside.options; phase = Open; version = c.self.inside.version; past = entry.Event (Take 0 t.reply) ∷ queried 0 })) t.reply (ap (λ (v : Option Reply). offers_limits (offered v)) q.1.0 ∙ q.1.1) t.goes);
+      fixed = (q.0, (q.1.0, ap (λ (v : Option Reply). setting_of [] c.self.inside.options (offered v) (reverse c.push.new.self.items)) q.1.0));
+    })
 
 pub returns-in-Err : goal.returns-in-Err
 returns-in-Err c =
     let q = queried_is _ _ _ _ _ c.self.invariant (rw (← c.self.view_is) at c.requires.queried) in
     rw (← c.self.view_is)
-    (record { ok = tt; phase = tt; begun = tt; later = tt; fixed = tt; refused = queried_first _ q.0 _ _ _ _ _ q.1.2 q.1.3 c.in-Err.ensures.refused; version = refl; given = refl })
+    (record { ok = tt; refused = queried_first _ q.0 _ _ _ _ _ q.1.2 q.1.3 c.in-Err.ensures.refused; given = refl; version = refl })
