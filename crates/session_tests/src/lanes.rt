@@ -1,9 +1,11 @@
 // A session over a scripted link. The bytes are laid out by draft-ietf-secsh-filexfer-02, sections 3 to 7.
+ghost use Rattle.std.specs.Prelude.{◌≡◌, ◌∷◌, [], true};
+
 use sftp_core::{Fault, SftpOptions};
-use sftp_driver::RunsLanes;
+use sftp_driver::{Phase, RunsLanes};
 use sftp_lanes::*;
 use sftp_link::{Scripted, ScriptedLink};
-use sftp_values::ByteText;
+use sftp_values::{ByteText, Items};
 use std::alloc::{AllocError, Global};
 use std::test::Fail;
 
@@ -107,5 +109,52 @@ fn reported(alloc: Global) -> Result<(usize, bool, bool), Fail> {
 #[test]
 fn a_new_session_reports_nothing(rt: HostRuntime) -> Result<(), Fail> {
     assert!(rt; reported(rt.alloc())? == (0, false, false));
+    Ok(())
+}
+
+/// Whether there is one lane, and it has no call.
+fn is_bare(lanes: &[Lane]) -> bool
+    ensures { result ≡ true → lanes.now ≡ record { calls = [] } ∷ [] }
+{
+    match lanes {
+        [lane] => lane.calls.as_slice().is_empty(),
+        _ => false,
+    }
+}
+
+/// Adds a change of the directory to the one lane of an open session, and steps the lane.
+fn change_directory(session: &mut Session, path: ByteText) -> Result<(), OutOfMemory> {
+    if session.phase() != Phase::Open || session.was_let_go(0) || !is_bare(session.calls()) {
+        return Ok(());
+    }
+    session.push_call(0, Call::Cwd { path })?;
+    let _stepped = session.step(0)?;
+    Ok(())
+}
+
+/// How many entries and how many outcomes a session tells that was opened with an empty lane, and whose lane was then given
+/// a call and stepped.
+fn added(alloc: Global) -> Result<(usize, usize), Fail> {
+    let lanes = [Lane {
+        calls: Items::new(Vec::new(alloc)),
+    }];
+    if !lanes_ok(&lanes) {
+        return Ok((0, 0));
+    }
+    let mut session = Session::new(alloc, &lanes, &SftpOptions::new())?;
+    if let Ok(chunk) = session.greet() {
+        session.give_back(chunk);
+        let _taken = session.take_version(b"\x02\x00\x00\x00\x03").is_ok();
+    }
+    let path = ByteText::new(Vec::from_slice(alloc, b"a")?);
+    change_directory(&mut session, path)?;
+    let outcomes = session.outcomes(0)?.as_slice().len();
+    Ok((session.journal().len(), outcomes))
+}
+
+/// The journal has the entry of the call, and its end.
+#[test]
+fn a_call_is_added(rt: HostRuntime) -> Result<(), Fail> {
+    assert!(rt; added(rt.alloc())? == (2, 1));
     Ok(())
 }

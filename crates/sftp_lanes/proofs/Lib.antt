@@ -1,3 +1,4 @@
+mod AddedLaws
 pub mod FaultLaws
 pub mod Opening
 pub mod Reporting

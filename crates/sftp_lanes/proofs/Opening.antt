@@ -1,6 +1,7 @@
 -- An opened session of lanes: what it is before a lane has done anything.
-use Rattle.std.proofs.Common.{◌≡◌, ◌==◌, ℕ, zero, suc, Bool, true, false, List, [], ◌∷◌, Option, Some, None, refl, ap, sym, ◌∙◌, subst, arith, inl, inr, if◌then◌else◌}
-use Rattle.std.specs.Prelude.{◌&&◌, ◌+◌, IfSome, length, Result, Ok, Err}
+use Rattle.std.proofs.Common.{◌≡◌, ◌==◌, ℕ, zero, suc, Bool, true, false, List, [], ◌∷◌, ◌++◌, Option, Some, None, refl, ap, sym, ◌∙◌, subst, arith, inl, inr, if◌then◌else◌}
+use Rattle.std.specs.Prelude.{◌&&◌, ◌+◌, IfSome, length, slice_get, Result, Ok, Err}
+use Rattle.std.proofs.lemmas.List.{append-nil}
 use Rattle.std.specs.FinMap.{get-empty}
 use Rattle.std.specs.Ordering.{nat_cmp}
 use Rattle.sftp_model.specs.declared.config.Limits.{Limits}
@@ -26,14 +27,15 @@ use Rattle.sftp_history.specs.declared.event.Event.TheVariants.{Take}
 use Rattle.sftp_history.specs.declared.event.Owner.TheVariants as owner
 use Rattle.sftp_history.specs.declared.entry.Entry.{Entry}
 use Rattle.sftp_history.specs.declared.entry.Entry.TheVariants as entry
-use Rattle.sftp_history.specs.Calls.{Setting, added}
+use Rattle.sftp_history.specs.declared.call.Call.{Call}
+use Rattle.sftp_history.specs.Calls.{Setting, added, calls_of}
 use Rattle.sftp_history.specs.Grants.{first_or, orphan}
 use Rattle.sftp_history.specs.Ids.{Free, Pending, id_state, now_replied, now_sent}
 use Rattle.sftp_history.specs.Lanes.{are_ok}
 use Rattle.sftp_history.specs.Readings.{Asked, answer, asked, awaited, unanswered, unsent}
 use Rattle.sftp_history.specs.Steady.{Good}
 use Rattle.sftp_history.specs.Runs.{queried}
-use Rattle.sftp_history.specs.Settings.{greeting, limits_told, limits_of, read_limits}
+use Rattle.sftp_history.specs.Settings.{facts_of, greeting, limits_told, limits_of, read_limits}
 use Rattle.sftp_driver.specs.declared.session.Phase.{Phase}
 use Rattle.sftp_driver.specs.declared.session.Phase.TheVariants.{Failed, Open}
 use Rattle.sftp_driver.specs.Session.{IsFixed}
@@ -43,7 +45,8 @@ use Rattle.sftp_ties.specs.Changes.{Unbegun, fresh_lane}
 use Rattle.sftp_ties.specs.Lanes.{CoreTied, LaneValue}
 use Rattle.sftp_ties.specs.Tables.{stand}
 use Rattle.sftp_ties.proofs.StartLaws.{start_dues, start_tied, unbegun_send, unbegun_setup, unbegun_start, unbegun_take}
-use Rattle.sftp_steps.specs.Rest.{AtRest, Counted, LaneAsks}
+use Rattle.sftp_steps.specs.Rest.{AtRest, Counted, LaneAsks, begun_of}
+use Rattle.sftp_history.specs.Turns.{none_begun}
 use Rattle.sftp_work.specs.declared.lanes.Lanes.{Lanes}
 use Rattle.sftp_work.specs.Fresh.{AreFresh, IsUntouched}
 use Rattle.sftp_work.specs.SoFar.{HasRoom, StaysSoFar}
@@ -58,6 +61,14 @@ fresh_in [] lane all = refl
 fresh_in (v ∷ states) zero all = all 0 v refl
 fresh_in (v ∷ states) (suc lane) all = fresh_in states lane (λ k. all (suc k))
 
+-- each lane is one that has done nothing
+fresh_lanes : (states : List LaneValue) → AreFresh states → lane_in states ≡ (λ lane. fresh_lane)
+fresh_lanes states all = λ i lane. fresh_in states lane all i
+
+-- and none of them was begun
+pub fresh_begun : (states : List LaneValue) → AreFresh states → begun_of (lane_in states) ≡ none_begun
+fresh_begun states all = ap begun_of (fresh_lanes states all)
+
 fresh_asks : (past : List Entry) (lane : ℕ) → LaneAsks past lane fresh_lane
 fresh_asks past lane = record { current = λ p e. absurd cc; only = λ p e. absurd cc; keeps = λ g e. absurd cc; fits = λ p a y e is may. absurd cc; reads = λ x among. absurd among }
 
@@ -65,7 +76,7 @@ fresh_asks past lane = record { current = λ p e. absurd cc; only = λ p e. absu
 
 -- no lane has done anything, and nothing is granted, queued or unanswered
 pub record IsIdle (s : Setting) (past : List Entry) : Type 0 where
-  pub good : Good s past []
+  pub good : Good s past none_begun
   pub settled : orphan s past ≡ None
   pub unbegun : Unbegun s past
   pub unsent : [] ≡ unsent past
@@ -147,12 +158,10 @@ counted s past options info core idle o =
     record { waiting = omega (arith, waits, w); sent = omega (arith, sends, a) }
 
 -- a session whose lanes have done nothing is at rest
-at_rest : (s : Setting) (past : List Entry) (options : SftpOptions) (info : Info) (core : Core) (states : List LaneValue) (begun : List ℕ) → IsIdle s past → s.facts.read_len ≡ info.read_len → core ≡ idle_core options info → IsOpen options core past
-    → AreFresh states → begun ≡ [] → AtRest s past core (lane_in states) begun
-at_rest s past options info core states begun idle len calm o each none =
-    let lanes_are : lane_in states ≡ (λ lane. fresh_lane) = (λ i lane. fresh_in states lane each i) in
-    subst (λ (x : ℕ → LaneValue). AtRest s past core x begun) (sym lanes_are)
-    (subst (λ (x : List ℕ). AtRest s past core (λ lane. fresh_lane) x) (sym none)
+at_rest : (s : Setting) (past : List Entry) (options : SftpOptions) (info : Info) (core : Core) (states : List LaneValue) → IsIdle s past → s.facts.read_len ≡ info.read_len → core ≡ idle_core options info → IsOpen options core past
+    → AreFresh states → AtRest s past core (lane_in states) (begun_of (lane_in states))
+at_rest s past options info core states idle len calm o each =
+    subst (λ (x : ℕ → LaneValue). AtRest s past core x (begun_of x)) (sym (fresh_lanes states each))
     (record {
       between = record {
         good = idle.good;
@@ -160,10 +169,9 @@ at_rest s past options info core states begun idle len calm o each none =
         tied = start_tied s past core idle.unbegun (core_idle s past options info core idle len calm) (λ id. ap (λ (x : Core). at x id) calm ∙ get-empty nat_cmp id ∙ sym (idle.free id));
         counted = counted s past options info core idle o;
         asks = λ lane lt. fresh_asks past lane;
-        begins = λ lane lt is. absurd cc;
       };
       settled = idle.settled;
-    }))
+    })
 
 -- ---- the opened session
 
@@ -173,14 +181,13 @@ still_untouched lanes old new is same u =
     record {
       calls = ap (λ (x : Lanes). x.calls) is ∙ u.calls;
       asked = ap (λ (x : Lanes). x.asked) is ∙ u.asked ∙ sym same;
-      begun = ap (λ (x : Lanes). x.begun.items) is ∙ u.begun;
       count = ap (λ (x : Lanes). length x.states.items) is ∙ u.count;
       each = subst AreFresh (sym (ap (λ (x : Lanes). x.states.items) is)) u.each;
     }
 
 -- and no more does what plans go by
 pub facts_untouched : (lanes : List Lane) (old : Lanes) (facts : Facts) → IsUntouched lanes old → IsUntouched lanes (record old { facts = facts })
-facts_untouched lanes old facts u = record { calls = u.calls; asked = u.asked; begun = u.begun; count = u.count; each = u.each }
+facts_untouched lanes old facts u = record { calls = u.calls; asked = u.asked; count = u.count; each = u.each }
 
 -- what was told is what plans go by
 pub facts_told : (facts : Facts) (options : SftpOptions) (extensions : Extensions) (known : Option Info) (info : Info) → IfSome known (λ k. facts ≡ facts_by options extensions (Some k)) → known ≡ Some info → facts ≡ facts_by options extensions (Some info)
@@ -190,6 +197,11 @@ facts_told facts options extensions known info told is = subst (λ (o : Option I
 pub fit_told : (facts : Facts) (known : Option Info) (info : Info) → IfSome known (λ k. FitsFacts facts) → known ≡ Some info → FitsFacts facts
 fit_told facts known info fit is = subst (λ (o : Option Info). IfSome o (λ k. FitsFacts facts)) is fit
 
+-- where none was added, the calls are those that were given
+given_calls : (lanes : List Lane) (past : List Entry) (lane : ℕ) (calls : List Lane) → calls ≡ lanes → added past lane ≡ [] → calls_of (slice_get calls lane) ≡ calls_of (slice_get lanes lane) ++ added past lane
+given_calls lanes past lane calls same none =
+    ap (λ (ls : List Lane). calls_of (slice_get ls lane)) same ∙ sym (append-nil (calls_of (slice_get lanes lane))) ∙ ap (λ (more : List Call). calls_of (slice_get lanes lane) ++ more) (sym none)
+
 -- no lane has done anything, and this is known of the server
 pub opened_working : (lanes : List Lane) (options : SftpOptions) (version : Option Reply) (info : Info) (known : Option Info) (w : Lanes) → are_ok lanes ≡ true → known ≡ Some info → w.facts ≡ facts_by options (offered version) (Some info)
     → FitsFacts w.facts → w.core ≡ idle_core options info → IsQuiet (past_of w) → IsUntouched lanes w → IsIdle (setting_by lanes options version known) (past_of w) → IsInPhase lanes options version known w Open
@@ -198,8 +210,8 @@ opened_working lanes options version info known w ok is goes_by fit calm quiet u
     let o : IsOpen options w.core (past_of w) = record { info = info; calm = calm; idle = quiet } in
     let facts_are : s.facts ≡ facts_by options (offered version) (Some info) = ap (facts_by options (offered version)) is in
     record {
-      stands = record { calls = u.calls; ok = ap are_ok u.calls ∙ ok; facts = goes_by ∙ sym facts_are; fit = subst FitsFacts (goes_by ∙ sym facts_are) fit; asked = u.asked; count = u.count; unadded = idle.unadded };
-      rest = at_rest s (past_of w) options info w.core w.states.items w.begun.items idle (ap (λ (f : Facts). f.read_len) facts_are) calm o u.each u.begun;
+      stands = record { lanes = ap length u.calls; calls = λ lane. given_calls lanes (past_of w) lane w.calls u.calls (idle.unadded lane); ok = ap are_ok u.calls ∙ ok; facts = goes_by ∙ sym facts_are; fit = subst FitsFacts (goes_by ∙ sym facts_are) fit; asked = u.asked; count = u.count };
+      rest = at_rest s (past_of w) options info w.core w.states.items idle (ap (λ (f : Facts). f.read_len) facts_are) calm o u.each;
     }
 
 -- what VERSION and the limits fix
@@ -227,6 +239,18 @@ in_told (reply.Attrs attrs) = refl
 -- the limits of the reply to the query for them
 pub limits_are : (offers : Bool) (past : List Entry) (r : Reply) → offers ≡ true → past ≡ entry.Event (Take 0 r) ∷ queried 0 → limits_in r ≡ limits_told offers (answer past 0)
 limits_are offers past r is e = in_told r ∙ (λ i. limits_told (sym is i) (answer (sym e i) 0))
+
+no_reply : (offers : Bool) → None ≡ limits_told offers None
+no_reply true = refl
+no_reply false = refl
+
+-- what VERSION fixes while the limits are asked for
+pub asked_fixed : (lanes : List Lane) (options : SftpOptions) (extensions : Extensions) (version : Option Reply) (known : Option Info) (past : List Entry) → version ≡ Some (greeting extensions) → known ≡ None → past ≡ asked_past
+    → IsFixed (record { lanes = lanes; options = options }) version past (setting_by lanes options version known)
+asked_fixed lanes options extensions version known past told none is =
+    let by_limits : Option Limits → Setting = λ l. record { lanes = lanes; facts = facts_of options extensions l; limits = offers_limits extensions; max_pending = options.max_pending_requests } in
+    let first : setting_by lanes options version known ≡ by_limits None = (λ i. setting_by lanes options (told i) (none i)) in
+    (extensions, (told, first ∙ ap by_limits (no_reply (offers_limits extensions) ∙ ap (λ (p : List Entry). limits_told (offers_limits extensions) (answer p 0)) (sym is))))
 
 pub no_limits : (offers : Bool) (r : Option Reply) → offers ≡ false → None ≡ limits_told offers r
 no_limits true r e = absurd cc

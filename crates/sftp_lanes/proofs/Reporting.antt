@@ -1,11 +1,11 @@
--- What is reported of a whole run; and a run whose report found no memory stops behind its journal.
+-- What is reported of a whole run; and a run whose report found no memory stops after its journal.
 use Rattle.std.proofs.Common.{◌≡◌, ◌∙◌, Bool, List, [], ◌∷◌, length, Option, Some, None, refl, ap, subst, inl, inr}
 use Rattle.sftp_core.specs.declared.options.SftpOptions.{SftpOptions}
 use Rattle.sftp_history.specs.declared.call.Lane.{Lane}
 use Rattle.sftp_history.specs.declared.report.Report.{Report}
 use Rattle.sftp_history.proofs.AllClosedLaws.{handles_closed}
 use Rattle.sftp_history.specs.Readings.{outcomes_below, trace_of}
-use Rattle.sftp_history.specs.Settings.{greeting}
+use Rattle.sftp_history.specs.Settings.{greeting, setting_of}
 use Rattle.sftp_history.specs.Shown.{Shows}
 use Rattle.sftp_lanes.specs.Reported.{IsReport}
 use Rattle.sftp_lanes.specs.Seen.{given}
@@ -19,42 +19,57 @@ use Rattle.sftp_history.specs.Calls.{Setting}
 use Rattle.sftp_history.specs.Journals.{IsJournal}
 use Rattle.sftp_history.proofs.OverLaws.{runs_are_journals}
 use Rattle.sftp_history.specs.Runs.{IsRun}
-use Rattle.sftp_driver.specs.Logs.{Ends, Showing}
-use Rattle.sftp_driver.specs.Session.{Given, IsFixed, IsLater}
+use Rattle.sftp_driver.specs.Logs.{Ends, HasRun, Showing}
+use Rattle.sftp_driver.specs.RunsSoFar.{whole}
+use Rattle.sftp_driver.specs.Session.{Given, IsFixed, IsLater, Seen}
 
 later_all : (s : Setting) (past : List Entry) → IsJournal s past → IsLater s [] past
 later_all s [] j = refl
 later_all s (e ∷ past) j = inr (j.0, later_all s past j.1)
 
 -- the log shows the whole run, and then nothing
-pub reported_stops : (first given : Given) (version : Option Reply) (past : List Entry) (s : Setting) (schedule : List Turn) (ended : Bool) (before after : Option (List Piece)) → first ≡ given → IsRun s schedule past
-    → IsFixed first version past s → Told (Showing version past) before after → Told (Ends given ended OutOfMemory) before after
-reported_stops first given version past s schedule ended None after same run fixed log = tt
-reported_stops first given version past s schedule ended (Some before) None same run fixed log = absurd log
-reported_stops first given version past s schedule ended (Some before) (Some after) same run fixed log =
-    let f : IsFixed given version past s = subst (λ (x : Given). IsFixed x version past s) same fixed in
-    let later = subst (λ (x : Setting). IsLater x [] past) f.1.1 (later_all s past (runs_are_journals s schedule past run)) in
-    let shows = subst (λ (v : Option Reply). Showing v past before after) f.1.0 log in
-    inr (f.0, (past, (after, (later, shows, inl (inl refl)))))
+pub reported_stops : (first given : Given) (now : Seen) (schedule : List Turn) (ended : Bool) (before after : Option (List Piece)) → first ≡ given → HasRun first schedule now before after
+    → Told (Ends given schedule ended OutOfMemory) before after
+reported_stops first given now schedule ended before after same ran = stops before after ran.shows
+  where
+    fixed : IsFixed given now.version now.stage.past now.setting
+    fixed = subst (λ (x : Given). IsFixed x now.version now.stage.past now.setting) same ran.fixed
+
+    stops : (b a : Option (List Piece)) → Told (Showing now.version now.stage.past) b a → Told (Ends given schedule ended OutOfMemory) b a
+    stops None a shows = tt
+    stops (Some b) None shows = absurd shows
+    stops (Some b) (Some a) shows =
+        let s : Setting = setting_of given.lanes given.options fixed.0 now.stage.past in
+        let run : IsRun s schedule now.stage.past = subst (λ (x : Setting). IsRun x schedule now.stage.past) fixed.1.1 ran.run in
+        inr (record {
+          extensions = fixed.0;
+          now = now.stage.past;
+          mid = a;
+          later = later_all s now.stage.past (runs_are_journals s schedule now.stage.past run);
+          so_far = whole run;
+          shows = subst (λ (v : Option Reply). Showing v now.stage.past b a) fixed.1.0 shows;
+          behind = inl (inl refl);
+        })
 
 -- what is reported of a whole run
-pub reported : (first : Given) (lanes : List Lane) (options : SftpOptions) (version : Option Reply) (past : List Entry) (s : Setting) (schedule : List Turn) (before after : Option (List Piece)) (report : Report) → first ≡ given lanes options
-    → IsRun s schedule past → IsFixed first version past s → Told (Showing version past) before after → report.hello ≡ version → report.trace ≡ trace_of past → report.outcomes ≡ outcomes_below past (length s.lanes)
-    → IsReport lanes options schedule before after report
-reported first lanes options version past s schedule before after report same run fixed log hello trace outcomes =
-    let f : IsFixed (given lanes options) version past s = subst (λ (x : Given). IsFixed x version past s) same fixed in
+pub reported : (first : Given) (lanes : List Lane) (options : SftpOptions) (now : Seen) (schedule : List Turn) (before after : Option (List Piece)) (report : Report) → first ≡ given lanes options → HasRun first schedule now before after
+    → report.hello ≡ now.version → report.trace ≡ trace_of now.stage.past → report.outcomes ≡ outcomes_below now.stage.past (length now.setting.lanes) → IsReport lanes options schedule before after report
+reported first lanes options now schedule before after report same ran hello trace outcomes =
     record {
-      extensions = f.0;
-      past = past;
-      run = subst (λ (x : Setting). IsRun x schedule past) f.1.1 run;
-      hello = hello ∙ f.1.0;
+      extensions = fixed.0;
+      past = now.stage.past;
+      run = subst (λ (x : Setting). IsRun x schedule now.stage.past) fixed.1.1 ran.run;
+      hello = hello ∙ fixed.1.0;
       trace = trace;
-      outcomes = outcomes ∙ ap (λ (x : Setting). outcomes_below past (length x.lanes)) f.1.1;
-      closed = handles_closed s schedule past run;
-      log = shown before after log f.1.0;
+      outcomes = outcomes ∙ ap (λ (x : Setting). outcomes_below now.stage.past (length x.lanes)) fixed.1.1;
+      closed = handles_closed now.setting schedule now.stage.past ran.run;
+      log = shown before after ran.shows;
     }
   where
-    shown : (b a : Option (List Piece)) → Told (Showing version past) b a → (is : version ≡ Some (greeting (subst (λ (x : Given). IsFixed x version past s) same fixed).0)) → Told (Shows (greeting (subst (λ (x : Given). IsFixed x version past s) same fixed).0) past) b a
-    shown None a h is = tt
-    shown (Some b) None h is = absurd h
-    shown (Some b) (Some a) h is = subst (λ (v : Option Reply). Showing v past b a) is h
+    fixed : IsFixed (given lanes options) now.version now.stage.past now.setting
+    fixed = subst (λ (x : Given). IsFixed x now.version now.stage.past now.setting) same ran.fixed
+
+    shown : (b a : Option (List Piece)) → Told (Showing now.version now.stage.past) b a → Told (Shows (greeting fixed.0) now.stage.past) b a
+    shown None a h = tt
+    shown (Some b) None h = absurd h
+    shown (Some b) (Some a) h = subst (λ (v : Option Reply). Showing v now.stage.past b a) fixed.1.0 h

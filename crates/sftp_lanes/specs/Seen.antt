@@ -1,5 +1,5 @@
--- What is seen of a session of lanes, and what it is in each phase.
-use Rattle.std.specs.Prelude.{◌≡◌, true, List, [], length, max, min, Option, Some, None}
+-- What a session of lanes is in each phase, and what a caller sees of it.
+use Rattle.std.specs.Prelude.{◌≡◌, true, List, length, max, min, Option, Some, None}
 use Rattle.sftp_model.specs.declared.flags.Extensions.{Extensions}
 use Rattle.sftp_model.specs.declared.reply.Reply.{Reply}
 use Rattle.sftp_model.specs.declared.slot.Facts.{Facts}
@@ -15,15 +15,15 @@ use Rattle.sftp_history.specs.Settings.{facts_of}
 use Rattle.sftp_driver.specs.declared.session.Phase.{Phase}
 use Rattle.sftp_driver.specs.declared.session.Phase.TheVariants.{Fresh, Greeted, Asking, Queried, Open, Failed}
 use Rattle.sftp_driver.specs.NoLanes.{IsBare, offered}
-use Rattle.sftp_driver.specs.Session.{Given}
+use Rattle.sftp_driver.specs.Session.{Given, IsFresh, Seen}
 use Rattle.sftp_work.specs.declared.lanes.Lanes.{Lanes}
 use Rattle.sftp_work.specs.Fresh.{IsUntouched}
 use Rattle.sftp_work.specs.SoFar.{HasRoom, IsSoFar}
-use Rattle.sftp_work.specs.Working.{IsWorking, past_of}
+use Rattle.sftp_work.specs.Working.{IsWorking, past_of, stage_of, work_of}
 
 -- the lanes that were handed in, the options, how far the opening has come, VERSION and what is known of the server once
 -- they were told, and what the lanes work with
-pub record Seen : Type 0 where
+pub record SessionValue : Type 0 where
   pub lanes : List Lane
   pub options : SftpOptions
   pub phase : Phase
@@ -34,7 +34,7 @@ pub record Seen : Type 0 where
 abbrev pub given : List Lane → SftpOptions → Given
 given lanes options = record { lanes = lanes; options = options }
 
-abbrev pub given_of : Seen → Given
+abbrev pub given_of : SessionValue → Given
 given_of s = record { lanes = s.lanes; options = s.options }
 
 -- the facts that plans go by; before the session is open no limits are told
@@ -58,8 +58,12 @@ setting_by lanes options version info =
       max_pending = options.max_pending_requests;
     }
 
-abbrev pub setting_at : Seen → Setting
+abbrev pub setting_at : SessionValue → Setting
 setting_at s = setting_by s.lanes s.options s.version s.info
+
+-- what a caller sees of it
+abbrev pub seen_of : SessionValue → Seen
+seen_of s = record { given = given_of s; setting = setting_at s; phase = s.phase; version = s.version; stage = stage_of s.work; work = work_of s.work }
 
 -- ---- before the session is open
 
@@ -84,19 +88,16 @@ pub record IsSession (lanes : List Lane) (options : SftpOptions) (version : Opti
   pub room : HasRoom w
   pub now : IsInPhase lanes options version info w phase
 
--- a session whose hello stands in the queue
-pub record IsNew (given : List Lane) (asked : SftpOptions) (s : Seen) : Type 0 where
-  pub lanes : s.lanes ≡ given
-  pub options : s.options ≡ asked
-  pub phase : s.phase ≡ Fresh
+-- a session of these lanes and options whose hello stands in the queue
+pub record IsNew (lanes : List Lane) (options : SftpOptions) (s : SessionValue) : Type 0 where
+  pub made_of : given_of s ≡ given lanes options
+  pub fresh : IsFresh (seen_of s)
   pub version : s.version ≡ None
-  pub past : past_of s.work ≡ []
-  pub begun : s.work.begun.items ≡ []
 
 -- ---- once it has ended
 
 -- what is reported of a session
-pub record Reports (s : Seen) (report : Report) : Type 0 where
+pub record Reports (s : SessionValue) (report : Report) : Type 0 where
   pub hello : report.hello ≡ s.version
   pub trace : report.trace ≡ trace_of (past_of s.work)
   pub outcomes : report.outcomes ≡ outcomes_below (past_of s.work) (length s.lanes)

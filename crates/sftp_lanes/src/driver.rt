@@ -2,7 +2,7 @@
 ghost use Rattle.std.specs.Prelude.{◌≡◌, ◌<◌, ◌^◌, ◌-◌, true, IfOk, IfErr};
 ghost use Rattle.sftp_link.specs.Told.{Told};
 ghost use Rattle.sftp_history.specs.Lanes.{are_ok};
-ghost use Rattle.sftp_driver.specs.Causes.{Cause, EndCause, IsRunError};
+ghost use Rattle.sftp_driver.specs.Causes.{Caused};
 ghost use Rattle.sftp_driver.specs.Logs.{Ends};
 ghost use Rattle.sftp_lanes.specs.Seen.{given};
 ghost use Rattle.sftp_lanes.specs.Reported.{IsReport};
@@ -24,8 +24,8 @@ use std::alloc::Global;
 /// log, where it tells one, shows VERSION and that journal; each handle was closed exactly as often as it was granted.
 /// `LinkFault` comes only where the link's count of faults rose, `LinkEnded` only where its last call found the end, and
 /// each other error but `OutOfMemory` is the first thing that is wrong with the frame that came last. After an error the
-/// log shows VERSION and a journal that is a run so far of the lanes, or the hello, and then nothing, a prefix of the next
-/// frames to be sent, or bytes of one frame that wasn't taken, and none past it.
+/// log shows VERSION and a journal that is a run so far of the lanes under these turns, or the hello, and then nothing, a
+/// prefix of the next frames to be sent, or bytes of one frame that wasn't taken, and none past it.
 pub fn run_lanes<L: Link>(
     alloc: Global,
     link: &mut L,
@@ -34,22 +34,16 @@ pub fn run_lanes<L: Link>(
     options: &SftpOptions,
 ) -> Result<Report, Error>
     requires lanes { are_ok lanes.now ≡ true }
-    requires count { L.LinkState.faults link.old < 2 ^ 64 - 1 }
-    ensures run { IfOk result (λ report. IsReport lanes.now options.now schedule.now (L.LinkState.log link.old) (L.LinkState.log link.new) report) }
-    ensures stops { IfErr result (λ e. Told (Ends (given lanes.now options.now) (L.LinkState.ended link.new) e) (L.LinkState.log link.old) (L.LinkState.log link.new)) }
-    ensures cause { Cause (L.LinkState.faults link.old) (L.LinkState.faults link.new) result }
-    ensures end { EndCause (L.LinkState.ended link.new) result }
-    ensures only { IfErr result IsRunError }
-    ensures service { L.LinkState.service link.new ≡ L.LinkState.service link.old }
+    requires count { (L.LinkState.state link.old).faults < 2 ^ 64 - 1 }
+    ensures run { IfOk result (λ report. IsReport lanes.now options.now schedule.now (L.LinkState.state link.old).log (L.LinkState.state link.new).log report) }
+    ensures stops { IfErr result (λ e. Told (Ends (given lanes.now options.now) schedule.now (L.LinkState.state link.new).ended e) (L.LinkState.state link.old).log (L.LinkState.state link.new).log) }
+    ensures caused { Caused (L.LinkState.state link.old) (L.LinkState.state link.new) result }
 {
     let mut session = match Session::new(alloc, lanes, options) {
         Ok(session) => session,
         Err(OutOfMemory) => return Err(Error::OutOfMemory),
     };
-    match run_session(alloc, &mut session, link, schedule) {
-        Ok(()) => {}
-        Err(error) => return Err(error),
-    }
+    run_session(alloc, &mut session, link, schedule)?;
     match session.into_report() {
         Ok(report) => Ok(report),
         Err(OutOfMemory) => Err(Error::OutOfMemory),

@@ -2,6 +2,7 @@
 #![tactic(auto)]
 
 mod driver;
+mod given;
 mod report;
 mod session;
 mod telling;

@@ -1,5 +1,5 @@
 // A session of lanes: its opening, and each call of its lanes.
-ghost use Rattle.std.specs.Prelude.{◌≡◌, [], None, Some, true, IfOk, reverse};
+ghost use Rattle.std.specs.Prelude.{◌≡◌, [], None, Some, true, IfOk, reverse, ◌<◌, false, length, OnErr, OnOk};
 ghost use Rattle.std.specs.Option.{unwrap_or};
 ghost use Rattle.sftp_core.specs.Core.{failed_with};
 ghost use Rattle.sftp_history.specs.Lanes.{are_ok};
@@ -7,15 +7,18 @@ ghost use Rattle.sftp_history.specs.Readings.{outcomes_of as of_lane, was_let_go
 ghost use Rattle.sftp_history.specs.declared.entry.Entry.TheVariants as entry;
 ghost use Rattle.sftp_history.specs.Journals.{IsJournal, IsNext};
 ghost use Rattle.sftp_driver.specs.declared.session.Phase.TheVariants as phases;
+ghost use Rattle.sftp_lanes.specs.Adding.{AddsCall, IsSame};
 ghost use Rattle.sftp_lanes.specs.Seen.{IsNew, Reports, setting_at};
+ghost use Rattle.sftp_work.specs.Adding.{with_call};
 ghost use Rattle.sftp_work.specs.SoFar.{kept_in, kept_past};
 ghost use Rattle.sftp_work.specs.Working.{past_of};
 
+use crate::given::GivenLanes;
 use crate::report::{events_of, lets_go, outcomes_below, outcomes_of};
 use crate::telling::{offers_limits, query_entry, tell};
 use sftp_core::{Chunk, Fault, Info, SftpOptions, TakeError, Taken};
 use sftp_driver::{Phase, RunsLanes, Stepped};
-use sftp_history::{Entry, Event, Lane, Outcome, Report};
+use sftp_history::{Call, Entry, Event, Lane, Outcome, Report};
 use sftp_model::Reply;
 use sftp_values::Items;
 use sftp_work::Lanes;
@@ -23,13 +26,14 @@ use ssh_encoding::OutOfMemory;
 use std::alloc::Global;
 use std::marker::Model;
 
-/// A session that runs the lanes that it was given. After an error of `step`, `cancel`, `let_go`, `hand_out` or `take` no
-/// call of its lanes can be made any more, and it tells what happened still. Its journal is a run so far in every phase,
-/// and has the kept fault. Dropped, it lets all go that its lanes hold, and sends nothing.
+/// A session that runs the lanes that it was given, and the calls that are added to them. After an error of `step`,
+/// `cancel`, `let_go`, `hand_out` or `take` no call of its lanes can be made any more, and it tells what happened still.
+/// Its journal is a run so far in every phase, and has the kept fault. Dropped, it lets all go that its lanes hold, and
+/// sends nothing.
 #[derive(Drop)]
-pub struct Session<'a> {
+pub struct Session {
     alloc: Global,
-    lanes: &'a [Lane],
+    lanes: GivenLanes,
     options: SftpOptions,
     phase: Phase,
     version: Option<Reply>,
@@ -37,34 +41,31 @@ pub struct Session<'a> {
     work: Lanes,
 }
 
-impl<'a> Model for Session<'a> {
+impl Model for Session {
     ghost use Rattle.std.specs.Coded.{codes};
     ghost use Rattle.sftp_work.specs.contracts.lanes.Lanes as of_lanes;
-    ghost use Rattle.sftp_lanes.specs.Seen.{Seen, IsSession};
+    ghost use Rattle.sftp_lanes.specs.Seen.{SessionValue, IsSession};
 
-    ghost Value = { Seen };
+    ghost Value = { SessionValue };
 
     ghost coded = { Prim.hlevel (codes, of_lanes.the_row.coded) };
 
-    ghost view = { λ s. record { lanes = s.lanes.now; options = s.options; phase = s.phase; version = s.version; info = s.info; work = s.work } };
+    ghost view = { λ s. record { lanes = s.lanes; options = s.options; phase = s.phase; version = s.version; info = s.info; work = s.work } };
 
-    ghost invariant = { λ s. IsSession s.lanes.now s.options s.version s.info s.work s.phase };
+    ghost invariant = { λ s. IsSession s.lanes s.options s.version s.info s.work s.phase };
 }
 
-impl<'a> Session<'a> {
+impl Session {
     /// A session whose hello stands in the queue. Refused for want of memory.
-    pub fn new(
-        alloc: Global,
-        lanes: &'a [Lane],
-        options: &SftpOptions,
-    ) -> Result<Session<'a>, OutOfMemory>
+    pub fn new(alloc: Global, lanes: &[Lane], options: &SftpOptions) -> Result<Session, OutOfMemory>
         requires { are_ok lanes.now ≡ true }
         ensures { IfOk result (λ session. IsNew lanes.now options.now session) }
     {
         let work = Lanes::new(alloc, lanes, options)?;
+        let given = GivenLanes::of(&work.calls);
         Ok(Session {
             alloc,
-            lanes,
+            lanes: given,
             options: *options,
             phase: Phase::Fresh,
             version: None,
@@ -110,6 +111,34 @@ impl<'a> Session<'a> {
         lets_go(self.work.journal.as_slice(), lane)
     }
 
+    /// How far its opening has come.
+    pub fn phase(&self) -> Phase
+        ensures { result ≡ self.now.phase }
+    {
+        self.phase
+    }
+
+    /// The calls of each lane: those that it was given, and then those that were added.
+    pub fn calls(&self) -> &[Lane]
+        ensures { result.now ≡ self.now.work.calls }
+    {
+        self.work.calls.as_slice()
+    }
+
+    /// Puts a call behind those of a lane that is there and was not let go, and notes it in the journal. Whether a session
+    /// can have its lanes with the call is what `lanes_ok` tells of them. Refused for want of memory; nothing has changed
+    /// then, and the session goes on.
+    pub fn push_call(&mut self, lane: u32, call: Call) -> Result<(), OutOfMemory>
+        requires open { self.old.phase ≡ phases.Open }
+        requires there { lane < length self.old.work.calls }
+        requires held { was_let_go (past_of self.old.work) lane ≡ false }
+        requires ok { are_ok (with_call self.old.work.calls lane call) ≡ true }
+        ensures adds { OnOk result (AddsCall lane call self.old self.new) }
+        ensures left { OnErr result (IsSame self.old self.new) }
+    {
+        self.work.push_call(self.alloc, lane, call)
+    }
+
     /// Keeps a fault, also as the last entry of the journal; where one is kept already, that one stays, and nothing is
     /// added. No call of the lanes can be made any more. Takes no memory.
     pub fn fail(&mut self, fault: Fault)
@@ -127,7 +156,7 @@ impl<'a> Session<'a> {
 
     /// Ends the session, and reports what it did. Refused for want of memory. Nothing is sent.
     pub fn into_report(self) -> Result<Report, OutOfMemory>
-        ensures { IfOk result (λ report. Reports self.entry report) }
+        ensures { IfOk result (λ report. Reports self report) }
     {
         let Session {
             alloc,
@@ -139,7 +168,7 @@ impl<'a> Session<'a> {
             work,
         } = self;
         let journal = work.into_journal();
-        let outcomes = outcomes_below(alloc, journal.as_slice(), lanes.len() as u32)?;
+        let outcomes = outcomes_below(alloc, journal.as_slice(), lanes.count())?;
         Ok(Report {
             hello: version,
             trace: events_of(alloc, journal)?,
@@ -148,21 +177,10 @@ impl<'a> Session<'a> {
     }
 }
 
-impl<'a> RunsLanes for Session<'a> {
-    ghost use Rattle.sftp_lanes.specs.Seen.{given_of, setting_at};
-    ghost use Rattle.sftp_work.specs.Working.{stage_of, work_of};
+impl RunsLanes for Session {
+    ghost use Rattle.sftp_lanes.specs.Seen.{seen_of};
 
-    ghost given = { λ s. given_of s };
-
-    ghost setting = { λ s. setting_at s };
-
-    ghost phase = { λ s. s.phase };
-
-    ghost version = { λ s. s.version };
-
-    ghost stage = { λ s. stage_of s.work };
-
-    ghost work = { λ s. work_of s.work };
+    ghost seen = { λ s. seen_of s };
 
     fn greet(&mut self) -> Result<Chunk, OutOfMemory> {
         let chunk = self.work.core.hand_out()?;
@@ -290,7 +308,7 @@ impl<'a> RunsLanes for Session<'a> {
     }
 
     fn lane_count(&self) -> u32 {
-        self.lanes.len() as u32
+        self.lanes.count()
     }
 
     fn is_done(&self, lane: u32) -> bool {

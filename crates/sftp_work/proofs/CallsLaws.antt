@@ -1,22 +1,20 @@
--- The calls of a session that were all handed in, and numbers that are small.
-use Rattle.std.proofs.Common.{◌≡◌, ◌<◌, ◌≤◌, ◌+◌, ◌^◌, ℕ, zero, suc, Bool, true, false, List, [], ◌∷◌, ◌++◌, length, Some, refl, ap, sym, ◌∙◌, arith}
+-- The calls of a session, and numbers that are small.
+use Rattle.std.proofs.Common.{◌≡◌, ◌<◌, ◌≤◌, ◌+◌, ◌^◌, ℕ, zero, suc, Bool, true, false, List, [], ◌∷◌, length, Some, refl, ap, sym, ◌∙◌, arith}
 use Rattle.std.specs.Prelude.{◌&&◌, slice_get, nat_lt}
 use Rattle.std.specs.List.{list_all, sum_by}
 use Rattle.std.proofs.lemmas.Bool.Decides.{nat_tests}
-use Rattle.std.proofs.lemmas.List.{append-nil}
 use Rattle.std.proofs.lemmas.List.Sums.{sum_by-cons}
 use Rattle.sftp_history.specs.declared.call.Call.{Call}
 use Rattle.sftp_history.specs.declared.call.Call.TheVariants as call
 use Rattle.sftp_history.specs.declared.call.Lane.{Lane}
-use Rattle.sftp_history.specs.declared.entry.Entry.{Entry}
 use Rattle.sftp_history.specs.Readings.{ended}
-use Rattle.sftp_history.specs.Calls.{Setting, added, calls_of, current}
+use Rattle.sftp_history.specs.Calls.{Setting, calls_of, current}
 use Rattle.sftp_history.specs.Lanes.{is_within, weight, lane_weight, are_ok}
+use Rattle.sftp_work.specs.Working.{Contents, Stands}
 
--- the calls of a lane are those that were handed in
-pub current_is : (s : Setting) (past : List Entry) (lane : ℕ) → added past lane ≡ [] → current s past lane ≡ slice_get (calls_of (slice_get s.lanes lane)) (ended past lane)
-current_is s past lane none =
-    ap (λ more. slice_get (calls_of (slice_get s.lanes lane) ++ more) (ended past lane)) none ∙ ap (λ calls. slice_get calls (ended past lane)) (append-nil (calls_of (slice_get s.lanes lane)))
+-- the current call of a lane is that of its calls which has not ended
+pub current_is : (s : Setting) (c : Contents) (lane : ℕ) → Stands s c → current s c.past lane ≡ slice_get (calls_of (slice_get c.calls lane)) (ended c.past lane)
+current_is s c lane t = ap (λ (calls : List Call). slice_get calls (ended c.past lane)) (sym (t.calls lane))
 
 -- ---- lanes that a session can be given
 

@@ -1,7 +1,6 @@
 -- A call that is cancelled.
-use Rattle.std.proofs.Common.{◌≡◌, ◌≢◌, ◌<◌, ◌≤◌, ◌^◌, ◌==◌, ◌⊎◌, ℕ, zero, suc, Bool, true, false, List, [], ◌∷◌, Option, Some, None, refl, ap, sym, ◌∙◌, subst, arith, inl, inr}
+use Rattle.std.proofs.Common.{◌≡◌, ◌≢◌, ◌<◌, ◌≤◌, ◌^◌, ◌⊎◌, ℕ, zero, suc, Bool, true, false, List, [], ◌∷◌, Option, Some, None, refl, ap, sym, ◌∙◌, subst, arith, inl, inr}
 use Rattle.std.specs.Prelude.{◌&&◌, length, slice_get, slice_index_or, slice_set, is_some, MatchBool}
-use Rattle.std.specs.List.{list_any}
 use Rattle.std.proofs.lemmas.List.{length-set}
 use Rattle.std.proofs.lemmas.Option.{slice_get_within}
 use Rattle.sftp_core.specs.Core.{Core}
@@ -33,8 +32,8 @@ use Rattle.sftp_lane.proofs.Turned.{lanes_may}
 
 none_current : (s : Setting) (c : Contents) (lane : ℕ) → Works s c → length c.states ≤ lane → current s c.past lane ≡ None
 none_current s c lane w out =
-    (let none : slice_get s.lanes lane ≡ None = beyond s.lanes lane (let count = w.stands.count in omega (arith, out, count)) in
-    current_is s c.past lane (w.stands.unadded lane) ∙ ap (λ (o : Option Lane). slice_get (calls_of o) (ended c.past lane)) none ∙ nothing (ended c.past lane))
+    (let none : slice_get c.calls lane ≡ None = beyond c.calls lane (let count = w.stands.count in let lanes = w.stands.lanes in omega (arith, out, count, lanes)) in
+    current_is s c lane w.stands ∙ ap (λ (o : Option Lane). slice_get (calls_of o) (ended c.past lane)) none ∙ nothing (ended c.past lane))
   where
     beyond : (xs : List Lane) (k : ℕ) → length xs ≤ k → slice_get xs k ≡ None
     beyond [] k le = refl
@@ -50,18 +49,14 @@ not_both true false X Y how y = y
 not_both true true X Y (inl e) y = absurd cc
 not_both true true X Y (inr e) y = absurd cc
 
-pub cancels_nothing : (s : Setting) (lane : ℕ) (c : Contents) → Works s c → (length c.states ≤ lane) ⊎ (list_any (λ l. l == lane) c.begun ≡ false) → CancelsIn s lane c c false
-cancels_nothing s lane c w how = record { cancels = not_both (is_some (current s c.past lane)) (list_any (λ l. l == lane) c.begun) _ _ (either how) (refl, refl); later = later_self s c.past; working = w }
+pub cancels_nothing : (s : Setting) (lane : ℕ) (c : Contents) → Works s c → (length c.states ≤ lane) ⊎ (c.begun lane ≡ false) → CancelsIn s lane c c false
+cancels_nothing s lane c w how = record { cancels = not_both (is_some (current s c.past lane)) (c.begun lane) _ _ (either how) (refl, refl); later = later_self s c.past; working = w }
   where
-    either : (length c.states ≤ lane) ⊎ (list_any (λ l. l == lane) c.begun ≡ false) → (is_some (current s c.past lane) ≡ false) ⊎ (list_any (λ l. l == lane) c.begun ≡ false)
+    either : (length c.states ≤ lane) ⊎ (c.begun lane ≡ false) → (is_some (current s c.past lane) ≡ false) ⊎ (c.begun lane ≡ false)
     either (inl out) = inl (ap is_some (none_current s c lane w out))
     either (inr out) = inr out
 
 -- ---- a begun call
-
--- a begun lane runs a call
-pub runs_begun : (s : Setting) (lane : ℕ) (c : Contents) → Works s c → lane < length s.lanes → list_any (λ l. l == lane) c.begun ≡ true → is_some (lane_in c.states lane).running ≡ true
-runs_begun s lane c w there begun = w.rest.between.begins lane there begun
 
 current_begun : (s : Setting) (lane : ℕ) (c : Contents) → Works s c → lane < length s.lanes → is_some (lane_in c.states lane).running ≡ true → (call : Call) × (current s c.past lane ≡ Some call)
 current_begun s lane c w there runs = by_running (lane_in c.states lane).running refl runs
@@ -81,7 +76,7 @@ leaves_site : (s : Setting) (lane : ℕ) (c : Contents) (call : Call) (now : Lan
 leaves_site s lane c call now w there behind r runs =
     behind r (bytes_of (planned call)) s.facts (answer c.past) runs (λ k t here. replies_agree s c.past c.core (lane_in c.states) [] lane k t w.rest.between.tied there here)
 
-gives_idle : (core new : Core) (v now : LaneValue) → GivesUp core new v now → now.running ≡ None
+pub gives_idle : (core new : Core) (v now : LaneValue) → GivesUp core new v now → now.running ≡ None
 gives_idle core new v now (Dropped x) = ap (λ (y : LaneValue). y.running) x.lane
 gives_idle core new v now (Polled x) = ap (λ (y : LaneValue). y.running) x.lane
 gives_idle core new v now (Kept x) = ap (λ (y : LaneValue). y.running) x.lane
@@ -97,18 +92,18 @@ pub record Cancelling (s : Setting) (lane : ℕ) (c : Contents) (new : Core) (no
   pub cancelled : IsCancelled s c.past new (lane_in c.states) c.begun lane now
   pub closing : Closing s (cancelled_past c.past lane) lane (cancelled_in c lane new now)
 
-pub cancelling : (s : Setting) (lane : ℕ) (c : Contents) (new : Core) (now : LaneValue) → Works s c → lane < length s.lanes → list_any (λ l. l == lane) c.begun ≡ true → GivesUp c.core new (lane_in c.states lane) now → LeavesBehind c.core (lane_in c.states lane) now → Cancelling s lane c new now
-cancelling s lane c new now w there begun gives behind =
-    let call = current_begun s lane c w there (runs_begun s lane c w there begun) in
+pub cancelling : (s : Setting) (lane : ℕ) (c : Contents) (new : Core) (now : LaneValue) → Works s c → lane < length s.lanes → c.begun lane ≡ true → is_some (lane_in c.states lane).running ≡ true → GivesUp c.core new (lane_in c.states lane) now → LeavesBehind c.core (lane_in c.states lane) now → Cancelling s lane c new now
+cancelling s lane c new now w there begun runs gives behind =
+    let call = current_begun s lane c w there runs in
     let lt : lane < length c.states = (let count = w.stands.count in omega (arith, there, count)) in
-    let x = cancels_keep s c.past c.core new (lane_in c.states) c.begun lane call.0 now w.rest there call.1 begun (leaves_site s lane c call.0 now w there behind) gives in
+    let x = cancels_keep s c.past c.core new (lane_in c.states) c.begun lane call.0 now w.rest there call.1 begun runs (leaves_site s lane c call.0 now w there behind) gives in
     let here : lane_in (slice_set c.states lane now) lane ≡ now = set_here c.states lane now lt in
     record {
       call = call.0;
       is = call.1;
       cancelled = x;
       closing = record {
-        stands = record { calls = w.stands.calls; ok = w.stands.ok; facts = w.stands.facts; fit = w.stands.fit; asked = w.stands.asked; count = length-set c.states lane now ∙ w.stands.count; unadded = w.stands.unadded };
+        stands = record { calls = w.stands.calls; ok = w.stands.ok; facts = w.stands.facts; fit = w.stands.fit; asked = w.stands.asked; count = length-set c.states lane now ∙ w.stands.count; lanes = w.stands.lanes };
         there = there;
         plain = refl;
         idle = ap (λ (y : LaneValue). y.running) here ∙ gives_idle c.core new (lane_in c.states lane) now gives;
@@ -125,10 +120,10 @@ both_true true false X Y ea eb x = absurd cc
 both_true false b X Y ea eb x = absurd cc
 
 -- and once they are closed, the call was cancelled
-pub cancels_call : (s : Setting) (lane : ℕ) (c last : Contents) (new : Core) (now : LaneValue) → list_any (λ l. l == lane) c.begun ≡ true → Cancelling s lane c new now → IsClosed s (cancelled_past c.past lane) (cancelled_in c lane new now) last → CancelsIn s lane c last true
+pub cancels_call : (s : Setting) (lane : ℕ) (c last : Contents) (new : Core) (now : LaneValue) → c.begun lane ≡ true → Cancelling s lane c new now → IsClosed s (cancelled_past c.past lane) (cancelled_in c lane new now) last → CancelsIn s lane c last true
 cancels_call s lane c last new now begun x closed =
     record {
-      cancels = both_true (is_some (current s c.past lane)) (list_any (λ l. l == lane) c.begun) _ _ (ap is_some x.is) begun (refl, closed.begun, (closed.closes, closed.works.rest.settled));
+      cancels = both_true (is_some (current s c.past lane)) (c.begun lane) _ _ (ap is_some x.is) begun (refl, closed.begun, (closed.closes, closed.works.rest.settled));
       later = later_on s c.past (cancelled_past c.past lane) last.past (inr (x.cancelled.second, inr (x.cancelled.first, later_self s c.past))) closed.later;
       working = closed.works;
     }
@@ -146,10 +141,10 @@ pub record MayCancel (core : Core) (v : LaneValue) : Type 0 where
   pub counted : AreTickets core v.tickets
   pub few : v.ended < 2 ^ 31
 
-pub may_cancel : (s : Setting) (lane : ℕ) (c : Contents) (v : LaneValue) → Works s c → lane < length c.states → list_any (λ l. l == lane) c.begun ≡ true → v ≡ slice_index_or c.states lane v → MayCancel c.core v
-may_cancel s lane c v w lt begun value =
+pub may_cancel : (s : Setting) (lane : ℕ) (c : Contents) (v : LaneValue) → Works s c → lane < length c.states → is_some (lane_in c.states lane).running ≡ true → v ≡ slice_index_or c.states lane v → MayCancel c.core v
+may_cancel s lane c v w lt runs value =
     (let there = there_of s c lane w lt in
-    let call = current_begun s lane c w there (runs_begun s lane c w there begun) in
+    let call = current_begun s lane c w there runs in
     let goes = lanes_may s c.past c.core (lane_in c.states) [] lane call.0 w.rest.between.tied there call.1 in
     let number = ends_few s c lane call.0 w there call.1 in
     subst (λ (y : LaneValue). MayCancel c.core y) (sym (state_at c.states lane v lt value)) (record {
@@ -172,9 +167,9 @@ may_cancel s lane c v w lt begun value =
 
     ends_few : (s : Setting) (c : Contents) (lane : ℕ) (call : Call) → Works s c → lane < length s.lanes → current s c.past lane ≡ Some call → (lane_in c.states lane).ended < 2 ^ 31
     ends_few s c lane call w there is =
-        (let got : slice_get (calls_of (slice_get s.lanes lane)) (ended c.past lane) ≡ Some call = sym (current_is s c.past lane (w.stands.unadded lane)) ∙ is in
-        let l = lane_at (slice_get s.lanes lane) (ended c.past lane) call got in
+        (let got : slice_get (calls_of (slice_get c.calls lane)) (ended c.past lane) ≡ Some call = sym (current_is s c lane w.stands) ∙ is in
+        let l = lane_at (slice_get c.calls lane) (ended c.past lane) call got in
         let within = slice_get_within l.0.calls (ended c.past lane) call (sym (ap (λ (o : Option Lane). slice_get (calls_of o) (ended c.past lane)) l.1) ∙ got) in
-        let few = calls_few c.calls lane l.0 w.stands.ok (ap (λ (ls : List Lane). slice_get ls lane) w.stands.calls ∙ l.1) in
+        let few = calls_few c.calls lane l.0 w.stands.ok l.1 in
         let number = (w.rest.between.tied.each lane there).ends in
         omega (arith, within, few, number))

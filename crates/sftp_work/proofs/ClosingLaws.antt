@@ -44,7 +44,7 @@ stands_on s c lane k g t =
       fit = t.fit;
       asked = ap (λ (n : ℕ). n + 1) t.asked;
       count = length-set c.states lane (closed_lane (lane_in c.states lane) k) ∙ t.count;
-      unadded = t.unadded;
+      lanes = t.lanes;
     }
 
 pub there_in : (s : Setting) (before : List Entry) (lane : ℕ) (c : Contents) → Closing s before lane c → lane < length c.states

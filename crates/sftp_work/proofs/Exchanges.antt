@@ -1,6 +1,6 @@
 -- What is handed out, and what is taken.
 use Rattle.std.proofs.Common.{◌≡◌, ◌≢◌, ◌<◌, ◌+◌, ℕ, zero, suc, Bool, true, false, List, [], ◌∷◌, ◌++◌, Option, Some, None, refl, ap, sym, ◌∙◌, subst, arith, if◌then◌else◌, inl, inr}
-use Rattle.std.specs.Prelude.{◌⊎◌, Result, Ok, length, reverse}
+use Rattle.std.specs.Prelude.{◌⊎◌, Result, Ok, length, reverse, slice_get}
 use Rattle.std.proofs.lemmas.Bool.Decides.{nat_tests}
 use Rattle.sftp_model.specs.Answers.{allows}
 use Rattle.sftp_model.specs.declared.answers.Expected.{Expected}
@@ -25,7 +25,8 @@ use Rattle.sftp_history.specs.declared.event.Event.TheVariants.{Submit, Send, Ta
 use Rattle.sftp_history.specs.declared.entry.Entry.{Entry}
 use Rattle.sftp_history.specs.declared.entry.Entry.TheVariants as entry
 use Rattle.sftp_history.specs.Readings.{asked, frames_of, sent, unsent, unsent_bytes}
-use Rattle.sftp_history.specs.Calls.{Setting, added}
+use Rattle.sftp_history.specs.declared.call.Call.{Call}
+use Rattle.sftp_history.specs.Calls.{Setting, added, calls_of}
 use Rattle.sftp_driver.proofs.Journals.{later_on, later_self}
 use Rattle.sftp_steps.specs.Exchanges.{IsAwaited, Takes}
 use Rattle.sftp_steps.specs.Rest.{weigh}
@@ -58,7 +59,7 @@ hands_unsent s c w some =
     record {
       hands = ((grind (arith, nat_tests)), refl, refl, x.rest.settled, x.next);
       work = (λ i. same i + x.work i);
-      working = record { stands = record { calls = t.calls; ok = t.ok; facts = t.facts; fit = t.fit; asked = t.asked; count = t.count; unadded = t.unadded }; rest = x.rest };
+      working = record { stands = record { calls = t.calls; ok = t.ok; facts = t.facts; fit = t.fit; asked = t.asked; count = t.count; lanes = t.lanes }; rest = x.rest };
     }
   where
     less : (n a b : ℕ) → n ≢ 0 → n + a ≡ b → a < b
@@ -142,7 +143,7 @@ take_by s c id r now n w x counts same_added =
       takes = (id, (r, (refl, x.may, refl, (x.closes, x.rest.settled))));
       later = later_on s c.past mid now (inr (x.next, later_self s c.past)) (closes_later s mid now x.closes refl);
       working = record {
-        stands = record { calls = t.calls; ok = t.ok; facts = t.facts; fit = t.fit; asked = counts; count = t.count; unadded = λ lane. same_added lane ∙ t.unadded lane };
+        stands = record { calls = λ lane. t.calls lane ∙ sym (ap (λ (more : List Call). calls_of (slice_get s.lanes lane) ++ more) (same_added lane)); ok = t.ok; facts = t.facts; fit = t.fit; asked = counts; count = t.count; lanes = t.lanes };
         rest = x.rest;
       };
       less = less_work (lanes_left c.facts c.past c.calls 0) (lanes_left c.facts now c.calls 0) (weigh (take_leaves c.core id r (at c.core id))) (weigh c.core) left x.work;

@@ -1,6 +1,6 @@
 -- A lane that is let go.
 use Rattle.std.proofs.Common.{◌≡◌, ◌<◌, ◌≤◌, ◌+◌, ◌-◌, ◌^◌, ℕ, drop, take, take_all, Bool, true, false, List, [], ◌∷◌, Some, None, refl, ap, sym, ◌∙◌, subst, arith, inl, inr}
-use Rattle.std.specs.Prelude.{length, nat_lt, slice_get, slice_index_or, slice_set, MatchBool}
+use Rattle.std.specs.Prelude.{is_some, length, nat_lt, slice_get, slice_index_or, slice_set, MatchBool}
 use Rattle.std.specs.List.{list_any}
 use Rattle.std.proofs.lemmas.Bool.Decides.{nat_tests}
 use Rattle.std.proofs.lemmas.List.{length-set}
@@ -16,10 +16,12 @@ use Rattle.sftp_ties.specs.Lanes.{Held, LaneValue}
 use Rattle.sftp_ties.proofs.LaneLaws.{grants_count}
 use Rattle.sftp_lane.specs.Tokens.{AreGrants}
 use Rattle.sftp_steps.specs.Ends.{LettingGo, StaysOpen, close_entry, let_go}
-use Rattle.sftp_steps.proofs.LettingLaws.{letting_begins, letting_ends, slots_closed, slots_passed}
+use Rattle.sftp_steps.proofs.LettingLaws.{at_rest, letting_begins, letting_ends, slots_closed, slots_passed}
+use Rattle.sftp_steps.specs.Rest.{begun_of}
 use Rattle.sftp_work.specs.Closing.{closed_in}
 use Rattle.sftp_work.specs.Letting.{IsLetGo, Letting}
 use Rattle.sftp_work.specs.Working.{Contents, LetsGoIn, Works, lane_in}
+use Rattle.sftp_work.proofs.BegunLaws.{begun_same}
 use Rattle.sftp_work.proofs.Contents.{lane_set, set_here}
 
 -- ---- slot by slot
@@ -47,7 +49,7 @@ letting_closes s before lane k c g slot rest h grant none here small =
         fit = h.stands.fit;
         asked = ap (λ (n : ℕ). n + 1) h.stands.asked;
         count = length-set c.states lane (closed_lane v k) ∙ h.stands.count;
-        unadded = h.stands.unadded;
+        lanes = h.stands.lanes;
       };
       there = h.there;
       idle = ap (λ (y : LaneValue). y.running) (set_here c.states lane (closed_lane v k) lt) ∙ h.idle;
@@ -66,13 +68,23 @@ letting_over s before lane old c h begun =
 abbrev pub let_go_in : Contents → ℕ → Contents
 let_go_in c lane = record c { past = entry.LetGo lane ∷ c.past; states = slice_set c.states lane (let_go_lane (lane_in c.states lane)) }
 
+-- a lane that has no call left runs none
+pub idle_over : (s : Setting) (lane : ℕ) (c : Contents) → Works s c → lane < length s.lanes → current s c.past lane ≡ None → (lane_in c.states lane).running ≡ None
+idle_over s lane c w there none = (at_rest s c.past lane (lane_in c.states lane) [] (w.rest.between.tied.each lane there) none).0
+
+-- so its letting go leaves those that were begun
+pub let_go_begun : (s : Setting) (lane : ℕ) (c : Contents) (now : LaneValue) → Works s c → lane < length c.states → current s c.past lane ≡ None → let_go_lane (lane_in c.states lane) ≡ now → begun_of (lane_in c.states) ≡ begun_of (lane_in (slice_set c.states lane now))
+let_go_begun s lane c now w lt none is =
+    let there : lane < length s.lanes = (let count = w.stands.count in omega (arith, lt, count)) in
+    sym (begun_same c.states lane now lt (ap (λ (y : LaneValue). is_some y.running) (sym is) ∙ sym (ap is_some (idle_over s lane c w there none))))
+
 pub letting_starts : (s : Setting) (lane : ℕ) (c : Contents) → Works s c → lane < length s.lanes → current s c.past lane ≡ None → was_let_go c.past lane ≡ false → Letting s (entry.LetGo lane ∷ c.past) lane (let_go_in c lane) (lane_in c.states lane).site.slots
 letting_starts s lane c w there none held =
     let lt : lane < length c.states = (let count = w.stands.count in omega (arith, there, count)) in
     let v : LaneValue = lane_in c.states lane in
     let x = letting_begins s c.past c.core (lane_in c.states) c.begun lane w.rest there none held in
     record {
-      stands = record { calls = w.stands.calls; ok = w.stands.ok; facts = w.stands.facts; fit = w.stands.fit; asked = w.stands.asked; count = length-set c.states lane (let_go_lane v) ∙ w.stands.count; unadded = w.stands.unadded };
+      stands = record { calls = w.stands.calls; ok = w.stands.ok; facts = w.stands.facts; fit = w.stands.fit; asked = w.stands.asked; count = length-set c.states lane (let_go_lane v) ∙ w.stands.count; lanes = w.stands.lanes };
       there = there;
       idle = ap (λ (y : LaneValue). y.running) (set_here c.states lane (let_go_lane v) lt);
       going = subst (λ (f : ℕ → LaneValue). LettingGo s (entry.LetGo lane ∷ c.past) c.core f c.begun lane v.site.slots) (sym (lane_set c.states lane (let_go_lane v) lt)) x.1;

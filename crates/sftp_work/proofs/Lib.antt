@@ -1,3 +1,5 @@
+pub mod AddedLaws
+pub mod BegunLaws
 pub mod BufferLaws
 pub mod CallsLaws
 pub mod CancellingLaws
@@ -8,7 +10,6 @@ pub mod Entries
 pub mod Exchanges
 pub mod FaultLaws
 pub mod FreshLaws
-pub mod Leaving
 pub mod LeftLaws
 pub mod LettingLaws
 pub mod NotingLaws

@@ -1,6 +1,6 @@
 -- What is noted of a lane's turn is a step.
-use Rattle.std.proofs.Common.{◌≡◌, ◌<◌, ◌≤◌, ◌+◌, ◌^◌, ℕ, List, ◌∷◌, Option, Some, None, true, refl, ap, sym, ◌∙◌, subst, arith, inl, inr}
-use Rattle.std.specs.Prelude.{length, reverse, slice_get, slice_set}
+use Rattle.std.proofs.Common.{◌≡◌, ◌<◌, ◌≤◌, ◌+◌, ◌^◌, ℕ, Bool, List, ◌∷◌, Option, Some, None, true, false, refl, ap, sym, ◌∙◌, subst, arith, inl, inr}
+use Rattle.std.specs.Prelude.{is_some, length, reverse, slice_get, slice_set}
 use Rattle.std.proofs.lemmas.List.{length-set}
 use Rattle.std.proofs.lemmas.Option.{get_or_from_slice_get, slice_get_within}
 use Rattle.sftp_model.specs.declared.outcome.Outcome.{Outcome}
@@ -18,9 +18,7 @@ use Rattle.sftp_history.specs.Calls.{Setting, calls_of, current, planned}
 use Rattle.sftp_history.specs.Readings.{ended, own}
 use Rattle.sftp_history.specs.Turns.{begun_but, begun_with}
 use Rattle.sftp_history.proofs.CallLaws.{own_fresh}
-use Rattle.sftp_history.specs.Lanes.{are_ok}
 use Rattle.sftp_history.proofs.PlannedLaws.{planned_fits}
-use Rattle.sftp_history.proofs.WithinLaws.{calls_ok, current_within}
 use Rattle.sftp_driver.specs.Session.{StepsTo}
 use Rattle.sftp_driver.specs.declared.session.Stepped.TheVariants as stepped
 use Rattle.sftp_driver.proofs.Journals.{later_on, later_self}
@@ -28,15 +26,16 @@ use Rattle.sftp_ties.specs.Changes.{ended_lane, fresh_lane, with_lane}
 use Rattle.sftp_ties.specs.Dues.{loose_of}
 use Rattle.sftp_ties.specs.Lanes.{LaneValue, grant_places}
 use Rattle.sftp_ties.specs.Running.{own_request}
-use Rattle.sftp_steps.specs.Rest.{AtRest, Between, weigh}
+use Rattle.sftp_steps.specs.Rest.{AtRest, Between, begun_of, weigh}
 use Rattle.sftp_lane.specs.Rests.{Asked, Ended, Goes, Waits}
 use Rattle.sftp_lane.specs.declared.lane.Moved.{Moved}
 use Rattle.sftp_lane.specs.declared.lane.Moved.TheVariants as moved
 use Rattle.sftp_lane.proofs.Holding.{with_again}
 use Rattle.sftp_work.specs.Closing.{Closing, IsClosed}
-use Rattle.sftp_work.specs.Noting.{HasCall, Turning, asked_in, call_by, call_in, ended_in, turned_in}
+use Rattle.sftp_work.specs.Noting.{HasCall, OthersRun, Turning, amid, asked_in, call_by, call_in, ended_in, turned_in}
 use Rattle.sftp_work.specs.Working.{Contents, Stands, StepsIn, Unnoted, Works, lane_in, lanes_left, stage_in}
-use Rattle.sftp_work.proofs.CallsLaws.{calls_few, current_is}
+use Rattle.sftp_work.proofs.BegunLaws.{begun_ends, begun_runs, others_kept}
+use Rattle.sftp_work.proofs.CallsLaws.{call_within, calls_few, current_is}
 use Rattle.sftp_work.proofs.ClosingLaws.{counted_in}
 use Rattle.sftp_work.proofs.Contents.{get_set, lane_set, set_here}
 use Rattle.sftp_work.proofs.Remaining.{asked_left, asks_within, ended_left}
@@ -83,14 +82,12 @@ more_calls s c lane call w a = slice_get_within a.calls.calls (ended c.past lane
 -- and is the lane's current call by the journal
 pub current_at : (s : Setting) (c : Contents) (lane : ℕ) (call : Call) → Works s c → AtCall c lane call → current s c.past lane ≡ Some call
 current_at s c lane call w a =
-    (let lane_is : slice_get s.lanes lane ≡ Some a.calls = ap (λ (ls : List Lane). slice_get ls lane) (sym w.stands.calls) ∙ a.lane_is in
-    current_is s c.past lane (w.stands.unadded lane) ∙ ap (λ (o : Option Lane). slice_get (calls_of o) (ended c.past lane)) lane_is ∙ call_here s c lane call w a)
+    current_is s c lane w.stands ∙ ap (λ (o : Option Lane). slice_get (calls_of o) (ended c.past lane)) a.lane_is ∙ call_here s c lane call w a
 
 -- its numbers fit their fields
 pub call_fits : (s : Setting) (c : Contents) (lane : ℕ) (call : Call) → Works s c → AtCall c lane call → FitsCall (planned call)
 call_fits s c lane call w a =
-    (let ok : are_ok s.lanes ≡ true = ap are_ok (sym w.stands.calls) ∙ w.stands.ok in
-    planned_fits call (current_within s c.past lane call (calls_ok s.lanes ok) w.rest.between.good.run (current_at s c lane call w a)))
+    planned_fits call (call_within c.calls lane (ended c.past lane) a.calls call w.stands.ok a.lane_is (call_here s c lane call w a))
 
 -- ---- the three kinds of turn
 
@@ -107,7 +104,7 @@ waits_in s lane old c t =
       steps = subst (λ (m : Option Move). StepsTo s lane (stage_in old) (stage_in made) m stepped.Nothing) (sym x.move) (refl, refl);
       later = later_self s old.past;
       working = record {
-        stands = record { calls = t.works.stands.calls; ok = t.works.stands.ok; facts = t.works.stands.facts; fit = t.works.stands.fit; asked = t.works.stands.asked; count = turned_stands s old lane t.now t.works.stands; unadded = t.works.stands.unadded };
+        stands = record { calls = t.works.stands.calls; ok = t.works.stands.ok; facts = t.works.stands.facts; fit = t.works.stands.fit; asked = t.works.stands.asked; count = turned_stands s old lane t.now t.works.stands; lanes = t.works.stands.lanes };
         rest = subst (λ (f : ℕ → LaneValue). AtRest s old.past t.new f (begun_with old.begun lane)) (sym (lane_set old.states lane t.now lt)) x.rest;
       };
       less = (let work = x.work in omega (arith, work));
@@ -132,7 +129,7 @@ asked_step s lane id r old c t =
       steps = subst (λ (m : Option Move). StepsTo s lane (stage_in old) (stage_in made) m stepped.Submitted) (sym x.move) (refl, refl, (id, (x.free, (inl refl, x.rest.settled))));
       later = inr (x.next, later_self s old.past);
       working = record {
-        stands = record { calls = t.works.stands.calls; ok = t.works.stands.ok; facts = t.works.stands.facts; fit = t.works.stands.fit; asked = ap (λ (n : ℕ). n + 1) t.works.stands.asked; count = turned_stands s old lane t.now t.works.stands; unadded = t.works.stands.unadded };
+        stands = record { calls = t.works.stands.calls; ok = t.works.stands.ok; facts = t.works.stands.facts; fit = t.works.stands.fit; asked = ap (λ (n : ℕ). n + 1) t.works.stands.asked; count = turned_stands s old lane t.now t.works.stands; lanes = t.works.stands.lanes };
         rest = subst (λ (f : ℕ → LaneValue). AtRest s now t.new f (begun_with old.begun lane)) (sym (lane_set old.states lane t.now lt)) x.rest;
       };
       less = less_asked (lanes_left old.facts old.past old.calls 0) (lanes_left old.facts now old.calls 0) (weigh old.core) (weigh t.new) left x.work;
@@ -155,7 +152,7 @@ ended_closing s lane o old c t =
     lane_set mid lane last mid_lt ∙ ap (λ (f : ℕ → LaneValue). with_lane f lane last) (lane_set old.states lane t.now lt) ∙ with_again (lane_in old.states) lane t.now last ∙ ap (with_lane (lane_in old.states) lane) last_is in
     let last_here : lane_in (slice_set mid lane last) lane ≡ ended_lane t.now t.now.site = set_here mid lane last mid_lt ∙ last_is in
     subst (λ (y : Contents). Closing s now lane (ended_in y lane (ended old.past lane) o)) (sym t.is) (record {
-      stands = record { calls = t.works.stands.calls; ok = t.works.stands.ok; facts = t.works.stands.facts; fit = t.works.stands.fit; asked = t.works.stands.asked; count = length-set mid lane last ∙ turned_stands s old lane t.now t.works.stands; unadded = t.works.stands.unadded };
+      stands = record { calls = t.works.stands.calls; ok = t.works.stands.ok; facts = t.works.stands.facts; fit = t.works.stands.fit; asked = t.works.stands.asked; count = length-set mid lane last ∙ turned_stands s old lane t.now t.works.stands; lanes = t.works.stands.lanes };
       there = t.there;
       plain = refl;
       idle = ap (λ (v : LaneValue). v.running) last_here;
@@ -185,6 +182,49 @@ ended_step s lane o old c new t closed =
       waits = λ e some. absurd cc;
     }
 
+-- ---- the lane behind its turn
+
+-- it runs a call that waits, or whose request was submitted
+pub waits_runs : (s : Setting) (lane : ℕ) (old c : Contents) → Turning s lane old c moved.Waits → is_some (lane_in c.states lane).running ≡ true
+waits_runs s lane old c t =
+    let lt : lane < length old.states = within_states old lane t.call (at_call old lane t.call t.calls) in
+    let x : Waits s old.past old.core t.new (with_lane (lane_in old.states) lane t.now) old.begun lane = t.leaves in
+    ap (λ (y : Contents). is_some (lane_in y.states lane).running) t.is ∙ ap (λ (f : ℕ → LaneValue). is_some (f lane).running) (lane_set old.states lane t.now lt) ∙ x.runs
+
+pub asked_runs : (s : Setting) (lane id : ℕ) (r : Request) (old c : Contents) → Turning s lane old c (moved.Asked id r) → is_some (lane_in c.states lane).running ≡ true
+asked_runs s lane id r old c t =
+    let lt : lane < length old.states = within_states old lane t.call (at_call old lane t.call t.calls) in
+    let x : Asked s old.past old.core t.new (with_lane (lane_in old.states) lane t.now) old.begun lane id r = t.leaves in
+    ap (λ (y : Contents). is_some (lane_in y.states lane).running) t.is ∙ ap (λ (f : ℕ → LaneValue). is_some (f lane).running) (lane_set old.states lane t.now lt) ∙ x.runs
+
+-- it is one of the lanes
+pub turned_there : (s : Setting) (lane : ℕ) (old c : Contents) (m : Moved) → Turning s lane old c m → lane < length c.states
+turned_there s lane old c m t =
+    (let lt : lane < length old.states = within_states old lane t.call (at_call old lane t.call t.calls) in
+    let same : length c.states ≡ length old.states = ap (λ (y : Contents). length y.states) t.is ∙ length-set old.states lane t.now in
+    omega (arith, lt, same))
+
+-- ---- what stands in the contents behind a note
+
+-- a request: the lane was begun
+pub asked_noted : (lane n id : ℕ) (r : Request) (begun : ℕ → Bool) (c new : Contents) → OthersRun begun lane c.states → is_some (lane_in c.states lane).running ≡ true → new ≡ amid (begun_of (lane_in new.states)) (asked_in c lane n id r)
+    → asked_in (amid begun c) lane n id r ≡ new
+asked_noted lane n id r begun c new others runs noted =
+    let kept : new.states ≡ c.states = ap (λ (y : Contents). y.states) noted in
+    let are : begun_with begun lane ≡ begun_of (lane_in new.states) = begun_runs begun lane c.states others runs ∙ ap (λ (ss : List LaneValue). begun_of (lane_in ss)) (sym kept) in
+    ap (λ (b : ℕ → Bool). amid b (asked_in c lane n id r)) are ∙ sym noted
+
+-- an end: it is not begun any more
+pub ended_noted : (lane n : ℕ) (o : Outcome) (begun : ℕ → Bool) (c new : Contents) → OthersRun begun lane c.states → lane < length c.states → new ≡ amid (begun_of (lane_in new.states)) (ended_in c lane n o) → ended_in (amid begun c) lane n o ≡ new
+ended_noted lane n o begun c new others lt noted =
+    let v : LaneValue = lane_in c.states lane in
+    let left : List LaneValue = slice_set c.states lane (ended_lane v v.site) in
+    let kept : new.states ≡ left = ap (λ (y : Contents). y.states) noted in
+    let none : is_some (lane_in left lane).running ≡ false = ap (λ (y : LaneValue). is_some y.running) (set_here c.states lane (ended_lane v v.site) lt) in
+    let are : begun_but begun lane ≡ begun_of (lane_in new.states) =
+    begun_ends begun lane left (others_kept c.states lane (ended_lane v v.site) lt begun others) none ∙ ap (λ (ss : List LaneValue). begun_of (lane_in ss)) (sym kept) in
+    ap (λ (b : ℕ → Bool). amid b (ended_in c lane n o)) are ∙ sym noted
+
 -- ---- a turn without an entry
 
 -- it leaves the session at rest as it was
@@ -194,7 +234,7 @@ went_unnoted s lane old c t =
     let x : Goes s old.past old.core t.new (with_lane (lane_in old.states) lane t.now) old.begun = t.leaves in
     subst (λ (y : Contents). Unnoted s old y) (sym t.is) (record {
       works = record {
-        stands = record { calls = t.works.stands.calls; ok = t.works.stands.ok; facts = t.works.stands.facts; fit = t.works.stands.fit; asked = t.works.stands.asked; count = turned_stands s old lane t.now t.works.stands; unadded = t.works.stands.unadded };
+        stands = record { calls = t.works.stands.calls; ok = t.works.stands.ok; facts = t.works.stands.facts; fit = t.works.stands.fit; asked = t.works.stands.asked; count = turned_stands s old lane t.now t.works.stands; lanes = t.works.stands.lanes };
         rest = subst (λ (f : ℕ → LaneValue). AtRest s old.past t.new f old.begun) (sym (lane_set old.states lane t.now lt)) x.rest;
       };
       same = refl;

@@ -1,6 +1,6 @@
 -- What leaves no entry: a turn up to the next one, and tickets that are dropped.
 use Rattle.std.proofs.Common.{◌≡◌, ◌<◌, ◌≤◌, ◌+◌, ℕ, Bool, true, false, List, [], Some, None, refl, ap, sym, ◌∙◌, subst, arith}
-use Rattle.std.specs.Prelude.{length, slice_get, slice_index_or, slice_set}
+use Rattle.std.specs.Prelude.{is_some, length, slice_get, slice_index_or, slice_set}
 use Rattle.std.proofs.lemmas.List.{length-set}
 use Rattle.std.proofs.lemmas.Option.{slice_get-get_or}
 use Rattle.sftp_core.specs.Core.{Core, abandoned}
@@ -14,12 +14,13 @@ use Rattle.sftp_ties.specs.Changes.{spent_lane}
 use Rattle.sftp_ties.specs.Lanes.{LaneValue, Ticketed}
 use Rattle.sftp_ties.proofs.LaneLaws.{tickets_count}
 use Rattle.sftp_lane.specs.Tokens.{AreTickets}
-use Rattle.sftp_steps.specs.Rest.{AtRest, weigh}
+use Rattle.sftp_steps.specs.Rest.{AtRest, begun_of, weigh}
 use Rattle.sftp_steps.proofs.ForgetLaws.{unawaited_forgotten}
 use Rattle.sftp_work.specs.Closing.{IsClosed}
 use Rattle.sftp_work.specs.Letting.{IsLetGo}
-use Rattle.sftp_work.specs.Noting.{turned_in}
+use Rattle.sftp_work.specs.Noting.{amid, turned_in}
 use Rattle.sftp_work.specs.Working.{Contents, StepsIn, Unnoted, Works, lane_in, lanes_left, work_in}
+use Rattle.sftp_work.proofs.BegunLaws.{begun_same}
 use Rattle.sftp_work.proofs.CancellingLaws.{there_of}
 use Rattle.sftp_work.proofs.ClosingLaws.{fewer_grants}
 use Rattle.sftp_work.proofs.Contents.{lane_set, set_here, state_at}
@@ -90,7 +91,7 @@ ticket_forgotten s lane k c t w lt idle here none =
     let st = w.stands in
     record {
       works = record {
-        stands = record { calls = st.calls; ok = st.ok; facts = st.facts; fit = st.fit; asked = st.asked; count = length-set c.states lane now ∙ st.count; unadded = st.unadded };
+        stands = record { calls = st.calls; ok = st.ok; facts = st.facts; fit = st.fit; asked = st.asked; count = length-set c.states lane now ∙ st.count; lanes = st.lanes };
         rest = subst (λ (f : ℕ → LaneValue). AtRest s c.past (abandoned c.core t.ticket) f c.begun) (sym (lane_set c.states lane now lt)) x.rest;
       };
       same = refl;
@@ -121,13 +122,20 @@ forgot_is : (core new : Core) (v now : LaneValue) (k : ℕ) → HasForgotten cor
 forgot_is core new v now k x idle = x.lane ∙ ap (λ (r : _). spent_lane v k r v.site) idle
 
 -- it leaves no entry,
-pub forgets_unnoted : (s : Setting) (lane k : ℕ) (c : Contents) (new : Core) (now : LaneValue) → Works s c → lane < length c.states → (lane_in c.states lane).running ≡ None → HasForgotten c.core new (lane_in c.states lane) now k → Unnoted s c (turned_in c lane new now)
-forgets_unnoted s lane k c new now w lt idle x =
+forgets_turned : (s : Setting) (lane k : ℕ) (c : Contents) (new : Core) (now : LaneValue) → Works s c → lane < length c.states → (lane_in c.states lane).running ≡ None → HasForgotten c.core new (lane_in c.states lane) now k → Unnoted s c (turned_in c lane new now)
+forgets_turned s lane k c new now w lt idle x =
     let v : LaneValue = lane_in c.states lane in
     let none : Ticketed = record { place = 0; ticket = 0 } in
     let t : Ticketed = slice_index_or v.tickets k none in
     let here : slice_get v.tickets k ≡ Some t = slice_get-get_or v.tickets k none x.within in
     subst (λ (y : Contents). Unnoted s c y) (λ i. turned_in c lane (sym (x.left t here) i) (sym (forgot_is c.core new v now k x idle) i)) (ticket_forgotten s lane k c t w lt idle here (x.unawaited t here))
+
+-- and the lanes that run a call are those that ran one,
+pub forgets_unnoted : (s : Setting) (lane k : ℕ) (c : Contents) (new : Core) (now : LaneValue) → Works s c → lane < length c.states → (lane_in c.states lane).running ≡ None → HasForgotten c.core new (lane_in c.states lane) now k → c.begun ≡ begun_of (lane_in c.states)
+    → Unnoted s c (amid (begun_of (lane_in (slice_set c.states lane now))) (turned_in c lane new now))
+forgets_unnoted s lane k c new now w lt idle x are =
+    let none : is_some now.running ≡ is_some (lane_in c.states lane).running = ap (λ (y : LaneValue). is_some y.running) (forgot_is c.core new (lane_in c.states lane) now k x idle) ∙ sym (ap is_some idle) in
+    subst (λ (b : ℕ → Bool). Unnoted s c (amid b (turned_in c lane new now))) (are ∙ sym (begun_same c.states lane now lt none)) (forgets_turned s lane k c new now w lt idle x)
 
 -- the lane runs no call then,
 pub forgets_idle : (lane k : ℕ) (c : Contents) (new : Core) (now : LaneValue) → lane < length c.states → (lane_in c.states lane).running ≡ None → HasForgotten c.core new (lane_in c.states lane) now k → (lane_in (slice_set c.states lane now) lane).running ≡ None

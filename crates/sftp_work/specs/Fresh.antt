@@ -17,7 +17,6 @@ AreFresh states = (lane : ℕ) (v : LaneValue) → slice_get states lane ≡ Som
 pub record IsUntouched (lanes : List Lane) (w : Lanes) : Type 0 where
   pub calls : w.calls ≡ lanes
   pub asked : w.asked ≡ asked (past_of w)
-  pub begun : w.begun.items ≡ []
   pub count : length w.states.items ≡ length lanes
   pub each : AreFresh w.states.items
 

@@ -1,6 +1,7 @@
 pub mod Working
 pub mod SoFar
 pub mod Fresh
+pub mod Adding
 pub mod Closing
 pub mod Noting
 pub mod Letting

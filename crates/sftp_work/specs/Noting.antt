@@ -47,6 +47,23 @@ ended_in c lane n o =
       begun = begun_but c.begun lane;
     }
 
+-- ---- in the midst of a step
+
+-- these lanes were begun before it
+abbrev pub amid : (ℕ → Bool) → Contents → Contents
+amid begun c = record c { begun = begun }
+
+-- the lanes but the one that is stepped run a call where they were begun
+abbrev pub OthersRun : (ℕ → Bool) → ℕ → List LaneValue → Type 0
+OthersRun begun lane states = (w : ℕ) → lane ≢ w → begun w ≡ is_some (lane_in states w).running
+
+abbrev pub KeepsOthers : ℕ → List LaneValue → List LaneValue → Type 0
+KeepsOthers lane before now = (begun : ℕ → Bool) → OthersRun begun lane before → OthersRun begun lane now
+
+-- the session is at rest, but for a lane that may run a call which was not begun
+abbrev pub IsAmid : Lanes → Type 0
+IsAmid w = (s : Setting) × ((begun : ℕ → Bool) × Works s (amid begun (contents_of w)))
+
 -- ---- a turn that was not noted yet
 
 -- the lane had its turn: it has another value, and the core is another
@@ -72,7 +89,7 @@ is_went moved.Went = true
 is_went other = false
 
 abbrev pub IsTurning : ℕ → Lanes → Moved → Type 0
-IsTurning lane w m = (s : Setting) × ((old : Contents) × Turning s lane old (contents_of w) m)
+IsTurning lane w m = (s : Setting) × ((old : Contents) × (Turning s lane old (amid old.begun (contents_of w)) m × OthersRun old.begun lane w.states.items))
 
 -- the lane has a call
 abbrev pub HasCall : Contents → ℕ → Type 0
@@ -83,5 +100,5 @@ abbrev pub turns_left : LaneValue → ℕ
 turns_left v = length v.tickets + (if is_some (awaited_in v.running v.site) then 0 else 1)
 
 -- behind its note it is a step
-abbrev pub Noted : Setting → ℕ → Contents → Contents → Contents → Moved → Stepped → Type 0
-Noted s lane old c new m event = Turning s lane old c m → StepsIn s lane old new event
+abbrev pub Noted : Setting → ℕ → Contents → Lanes → Contents → Moved → Stepped → Type 0
+Noted s lane old w new m event = Turning s lane old (amid old.begun (contents_of w)) m → OthersRun old.begun lane w.states.items → StepsIn s lane old new event

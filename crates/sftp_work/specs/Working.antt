@@ -1,5 +1,5 @@
 -- The lanes of an open session, and what each call does to them.
-use Rattle.std.specs.Prelude.{◌≡◌, ◌≢◌, ◌<◌, ◌≤◌, ◌+◌, ◌*◌, ◌-◌, ℕ, suc, Bool, true, false, reverse, List, [], ◌∷◌, drop, length, Option, None, Result, slice_index_or}
+use Rattle.std.specs.Prelude.{◌≡◌, ◌≢◌, ◌<◌, ◌≤◌, ◌+◌, ◌*◌, ◌-◌, ℕ, suc, Bool, true, false, reverse, List, [], ◌∷◌, drop, length, Option, None, Result, slice_get, slice_index_or}
 use Rattle.sftp_model.specs.declared.frame_error.FrameError.{FrameError}
 use Rattle.sftp_model.specs.declared.reply.Reply.{Reply}
 use Rattle.sftp_model.specs.declared.slot.Facts.{Facts}
@@ -9,7 +9,7 @@ use Rattle.sftp_calls.specs.RequestCounts.{work as most_requests}
 use Rattle.sftp_history.specs.declared.call.Call.{Call}
 use Rattle.sftp_history.specs.declared.call.Lane.{Lane}
 use Rattle.sftp_history.specs.declared.entry.Entry.{Entry}
-use Rattle.sftp_history.specs.Calls.{Setting, added, current, move_of, planned}
+use Rattle.sftp_history.specs.Calls.{Setting, calls_of, current, lane_calls, move_of, planned}
 use Rattle.sftp_history.specs.Lanes.{are_ok}
 use Rattle.sftp_history.specs.Readings.{asked, ended, own, unanswered}
 use Rattle.sftp_history.specs.Turns.{Stage}
@@ -17,7 +17,7 @@ use Rattle.sftp_driver.specs.declared.session.Stepped.{Stepped}
 use Rattle.sftp_driver.specs.Session.{IsLater, StepsTo, Cancels, LetsGo, Takes, HandsOut, LessBy, is_event}
 use Rattle.sftp_ties.specs.Changes.{fresh_lane}
 use Rattle.sftp_ties.specs.Lanes.{LaneValue}
-use Rattle.sftp_steps.specs.Rest.{AtRest, weigh}
+use Rattle.sftp_steps.specs.Rest.{AtRest, begun_of, weigh}
 use Rattle.sftp_work.specs.declared.lanes.Lanes.{Lanes}
 
 -- what the lanes work with: their calls, the core, the facts that plans go by, the journal with its newest entry first,
@@ -29,10 +29,24 @@ pub record Contents : Type 0 where
   pub past : List Entry
   pub asked : ℕ
   pub states : List LaneValue
-  pub begun : List ℕ
+  pub begun : ℕ → Bool
 
+-- a lane by its number
+abbrev pub lane_in : List LaneValue → ℕ → LaneValue
+lane_in states lane = slice_index_or states lane fresh_lane
+
+-- Between two steps the lanes that were begun are those that run a call.
 abbrev pub contents_of : Lanes → Contents
-contents_of w = record { calls = w.calls; core = w.core; facts = w.facts; past = reverse w.journal.items; asked = w.asked; states = w.states.items; begun = w.begun.items }
+contents_of w =
+    record {
+      calls = w.calls;
+      core = w.core;
+      facts = w.facts;
+      past = reverse w.journal.items;
+      asked = w.asked;
+      states = w.states.items;
+      begun = begun_of (lane_in w.states.items);
+    }
 
 -- the journal, the newest entry first
 abbrev pub past_of : Lanes → List Entry
@@ -43,10 +57,6 @@ stage_in c = record { past = c.past; begun = c.begun }
 
 abbrev pub stage_of : Lanes → Stage
 stage_of w = stage_in (contents_of w)
-
--- a lane by its number
-abbrev pub lane_in : List LaneValue → ℕ → LaneValue
-lane_in states lane = slice_index_or states lane fresh_lane
 
 -- ---- what is left to do
 
@@ -73,15 +83,16 @@ work_of w = work_in (contents_of w)
 
 -- ---- the lanes
 
--- the lanes of a session with this setting, whatever is due
+-- The lanes of a session with this setting, whatever is due: the calls of each are those that were handed in and then those
+-- that were added.
 pub record Stands (s : Setting) (c : Contents) : Type 0 where
-  pub calls : c.calls ≡ s.lanes
+  pub lanes : length c.calls ≡ length s.lanes
+  pub calls : (lane : ℕ) → calls_of (slice_get c.calls lane) ≡ lane_calls s c.past lane
   pub ok : are_ok c.calls ≡ true
   pub facts : c.facts ≡ s.facts
   pub fit : FitsFacts s.facts
   pub asked : c.asked ≡ asked c.past
   pub count : length c.states ≡ length s.lanes
-  pub unadded : (lane : ℕ) → added c.past lane ≡ []
 
 -- the lanes of an open session at rest
 pub record Works (s : Setting) (c : Contents) : Type 0 where

@@ -6,7 +6,6 @@ ghost use Rattle.sftp_work.specs.Working.{CancelsLane, IsOpened, IsWorking};
 
 use crate::closing::add_entry;
 use crate::lanes::Lanes;
-use crate::noting::leave;
 use crate::stepping::entries_for;
 use sftp_history::{Entry, Event};
 use sftp_model::Outcome;
@@ -21,7 +20,7 @@ impl Lanes {
         ensures left { OnErr result (IsLeft self.old self.new) }
         ensures room { HasRoom self.new }
     {
-        if lane as usize >= self.states.len() || !self.begun.contains(&lane) {
+        if lane as usize >= self.states.len() || !self.states[lane as usize].runs() {
             return Ok(false);
         }
         let state = &mut self.states[lane as usize];
@@ -37,7 +36,6 @@ impl Lanes {
                 outcome: Outcome::Cancelled,
             }),
         );
-        leave(&mut self.begun, lane);
         self.close_loose(lane);
         Ok(true)
     }

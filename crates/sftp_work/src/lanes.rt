@@ -12,7 +12,7 @@ use ssh_encoding::OutOfMemory;
 use std::alloc::Global;
 
 /// The lanes of a session, and what they work with: their calls, the core, the facts that plans go by, the journal and
-/// how many requests it has, which lanes were begun, and what each lane holds and awaits.
+/// how many requests it has, and what each lane holds and awaits.
 pub struct Lanes {
     /// The calls of each lane.
     pub calls: Items<Lane>,
@@ -24,8 +24,6 @@ pub struct Lanes {
     pub journal: Vec<Entry>,
     /// How many requests were submitted, which is the place of the next.
     pub asked: u64,
-    /// The lanes whose call was begun.
-    pub begun: Vec<u32>,
     /// What each lane holds and awaits.
     pub states: Vec<LaneState>,
 }
@@ -78,7 +76,6 @@ impl Lanes {
             facts: untold(),
             journal: Vec::with_capacity(alloc, 1)?,
             asked: 0,
-            begun: Vec::new(alloc),
             states: Vec::with_capacity(alloc, lanes.len())?,
         };
         for _ in 0..lanes.len() {
@@ -98,7 +95,6 @@ impl Lanes {
             facts: _,
             journal,
             asked: _,
-            begun: _,
             states,
         } = self;
         let_go_states(states, core.end());

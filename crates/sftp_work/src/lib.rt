@@ -3,6 +3,7 @@
 //! journal.
 #![tactic(auto)]
 
+mod calls;
 mod cancelling;
 mod closing;
 mod counts;

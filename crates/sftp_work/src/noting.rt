@@ -2,8 +2,8 @@
 ghost use Rattle.std.specs.Prelude.{◌≡◌, ◌<◌, ◌≤◌, ◌+◌, ◌^◌, ◌∷◌, ◌++◌, [], false, length, slice_get, vec_len, vec_capacity};
 ghost use Rattle.std.specs.Option.{option_copied};
 ghost use Rattle.sftp_history.specs.Calls.{Setting};
-ghost use Rattle.sftp_history.specs.Turns.{begun_but, begun_with};
-ghost use Rattle.sftp_work.specs.Noting.{IsTurning, Noted, asked_in, call_in, ended_in, is_went};
+ghost use Rattle.sftp_steps.specs.Rest.{begun_of};
+ghost use Rattle.sftp_work.specs.Noting.{IsTurning, Noted, amid, asked_in, call_in, ended_in, is_went};
 ghost use Rattle.sftp_work.specs.Working.{Contents, contents_of, lane_in};
 
 use crate::closing::add_entry;
@@ -47,38 +47,12 @@ pub(crate) fn current_call<'a>(
     call_at(calls.calls.as_slice(), state.ended() as usize)
 }
 
-/// Takes a lane out of those that were begun.
-pub(crate) fn leave(begun: &mut Vec<u32>, lane: u32)
-    ensures { begun.new.items ≡ begun_but begun.old.items lane }
-{
-    let mut k = 0;
-    while k < begun.len() {
-        if begun[k] == lane {
-            begun.remove(k);
-        } else {
-            k += 1;
-        }
-    }
-}
-
 impl Lanes {
-    /// The call of a lane is begun.
-    fn begin(&mut self, lane: u32)
-        requires { vec_len self.old.begun < vec_capacity self.old.begun }
-        ensures rest { self.new ≡ record self.old { begun = self.new.begun } }
-        ensures begun { self.new.begun.items ≡ begun_with self.old.begun.items lane }
-    {
-        if !self.begun.contains(&lane) {
-            self.begun.push(lane).unwrap();
-        }
-    }
-
     /// A request of a lane's call was submitted.
     fn note_asked(&mut self, lane: u32, call: u32, id: u32, request: Request)
         requires journal { vec_len self.old.journal < vec_capacity self.old.journal }
-        requires begun { vec_len self.old.begun < vec_capacity self.old.begun }
         requires counted { self.old.asked ≤ vec_len self.old.journal }
-        ensures noted { contents_of self.new ≡ asked_in (contents_of self.old) lane call id request }
+        ensures noted { contents_of self.new ≡ amid (begun_of (lane_in self.new.states.items)) (asked_in (contents_of self.old) lane call id request) }
         ensures len { vec_len self.new.journal ≡ vec_len self.old.journal + 1 }
         ensures capacity { vec_capacity self.old.journal ≤ vec_capacity self.new.journal }
     {
@@ -91,7 +65,6 @@ impl Lanes {
             }),
         );
         self.asked += 1;
-        self.begin(lane);
     }
 
     /// The call of a lane has ended.
@@ -99,7 +72,7 @@ impl Lanes {
         requires there { lane < length self.old.states.items }
         requires few { (lane_in self.old.states.items lane).ended < 2 ^ 31 }
         requires room { vec_len self.old.journal < vec_capacity self.old.journal }
-        ensures noted { contents_of self.new ≡ ended_in (contents_of self.old) lane call outcome }
+        ensures noted { contents_of self.new ≡ amid (begun_of (lane_in self.new.states.items)) (ended_in (contents_of self.old) lane call outcome) }
         ensures len { vec_len self.new.journal ≡ vec_len self.old.journal + 1 }
         ensures capacity { vec_capacity self.old.journal ≤ vec_capacity self.new.journal }
     {
@@ -112,7 +85,6 @@ impl Lanes {
             }),
         );
         self.states[lane as usize].end_call();
-        leave(&mut self.begun, lane);
     }
 
     /// What a lane's turn was is noted, and the grants are closed that are due then.
@@ -121,15 +93,11 @@ impl Lanes {
         requires ends { is_went moved ≡ false }
         requires number { (lane_in self.old.states.items lane).ended ≡ call }
         requires journal { vec_len self.old.journal + length (lane_in self.old.states.items lane).grants + 1 < vec_capacity self.old.journal }
-        requires begun { vec_len self.old.begun < vec_capacity self.old.begun }
-        ensures noted { (s : Setting) (old : Contents) → Noted s lane old (contents_of self.old) (contents_of self.new) moved result }
+        ensures noted { (s : Setting) (old : Contents) → Noted s lane old self.old (contents_of self.new) moved result }
         ensures room { vec_len self.new.journal < vec_capacity self.new.journal }
     {
         match moved {
-            Moved::Waits => {
-                self.begin(lane);
-                Stepped::Nothing
-            }
+            Moved::Waits => Stepped::Nothing,
             Moved::Went => unreachable!(),
             Moved::Asked { id, request } => {
                 self.note_asked(lane, call, id, request);

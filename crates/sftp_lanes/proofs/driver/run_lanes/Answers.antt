@@ -1,24 +1,30 @@
-use Rattle.std.proofs.Common.{◌≡◌}
-use Rattle.sftp_lanes.specs.Seen.{given, setting_at}
-use Rattle.sftp_work.specs.Working.{past_of}
+use Rattle.sftp_driver.proofs.Joining.{escaped}
+use Rattle.sftp_driver.proofs.Parts.{same_caused}
+use Rattle.sftp_lanes.specs.Seen.{given, seen_of}
 use Rattle.sftp_lanes.proofs.Reporting.{reported, reported_stops}
+use Rattle.sftp_driver.specs.Session.{Given}
+use Rattle.sftp_driver.specs.Logs.{Ends}
+use Rattle.sftp_link.specs.Told.{Told}
+use Rattle.std.proofs.Common.{subst}
 use Rattle.sftp_lanes.proofs.driver.run_lanes.Goals as goal
+
+pub returns-in_err-run_session-clause-stops : goal.returns-in_err-run_session-clause-stops
+returns-in_err-run_session-clause-stops g c =
+    rw (escaped c.from_residual.result c.in_err-run_session.field-0.0 c.from_residual.ensures.1)
+    (subst (λ (x : Given). Told (Ends x c.args.schedule.now (g.L.LinkState.state c.run_session.new.link).ended c.in_err-run_session.field-0.0) (g.L.LinkState.state c.args.link.now).log (g.L.LinkState.state c.run_session.new.link).log) c.in-Ok.ensures.made_of c.in_err-run_session.ensures.stops)
+
+pub returns-in_err-run_session-clause-caused : goal.returns-in_err-run_session-clause-caused
+returns-in_err-run_session-clause-caused g c =
+    rw (escaped c.from_residual.result c.in_err-run_session.field-0.0 c.from_residual.ensures.1)
+    (same_caused _ _ c.in_err-run_session.field-0.0 c.in_err-run_session.ensures.caused)
 
 pub returns-in-Err-into_report-clause-stops : goal.returns-in-Err-into_report-clause-stops
 returns-in-Err-into_report-clause-stops g c =
-    let now = c.run_session.new.session in
-    let n = c.in-Ok.ensures in
-    let ran = c.in-Ok-run_session.ensures in
-    let same : given c.in-Ok.session.lanes c.in-Ok.session.options ≡ given c.args.lanes.now c.args.options.now = (λ i. given (n.lanes i) (n.options i)) in
-    reported_stops (given c.in-Ok.session.lanes c.in-Ok.session.options) (given c.args.lanes.now c.args.options.now) now.version (past_of now.work) (setting_at now) c.args.schedule.now (g.L.LinkState.ended c.run_session.new.link)
-    (g.L.LinkState.log c.args.link.now) (g.L.LinkState.log c.run_session.new.link) same ran.run ran.fixed ran.log
+    reported_stops _ (given c.args.lanes.now c.args.options.now) (seen_of c.run_session.new.session) c.args.schedule.now (g.L.LinkState.state c.run_session.new.link).ended
+    (g.L.LinkState.state c.args.link.now).log (g.L.LinkState.state c.run_session.new.link).log c.in-Ok.ensures.made_of c.in_ok-run_session.ensures.run
 
 pub returns-in-Ok-into_report-clause-run : goal.returns-in-Ok-into_report-clause-run
 returns-in-Ok-into_report-clause-run g c =
-    let now = c.run_session.new.session in
-    let n = c.in-Ok.ensures in
-    let ran = c.in-Ok-run_session.ensures in
     let told = c.in-Ok-into_report.ensures in
-    let same : given c.in-Ok.session.lanes c.in-Ok.session.options ≡ given c.args.lanes.now c.args.options.now = (λ i. given (n.lanes i) (n.options i)) in
-    reported (given c.in-Ok.session.lanes c.in-Ok.session.options) c.args.lanes.now c.args.options.now now.version (past_of now.work) (setting_at now) c.args.schedule.now
-    (g.L.LinkState.log c.args.link.now) (g.L.LinkState.log c.run_session.new.link) c.in-Ok-into_report.report same ran.run ran.fixed ran.log told.hello told.trace told.outcomes
+    reported _ c.args.lanes.now c.args.options.now (seen_of c.run_session.new.session) c.args.schedule.now
+    (g.L.LinkState.state c.args.link.now).log (g.L.LinkState.state c.run_session.new.link).log c.in-Ok-into_report.report c.in-Ok.ensures.made_of c.in_ok-run_session.ensures.run told.hello told.trace told.outcomes

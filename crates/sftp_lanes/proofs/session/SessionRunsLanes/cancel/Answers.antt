@@ -1,3 +1,4 @@
+use Rattle.std.proofs.Common.{refl}
 use Rattle.sftp_history.specs.Calls.{Setting}
 use Rattle.sftp_lanes.specs.Seen.{setting_by}
 use Rattle.sftp_driver.specs.declared.session.Phase.TheVariants.{Open}
@@ -7,16 +8,22 @@ use Rattle.sftp_lanes.proofs.session.SessionRunsLanes.cancel.Goals as goal
 
 pub invariant_of-self : goal.invariant_of-self
 invariant_of-self c =
-    let s : Setting = setting_by c.self.inside.lanes.now c.self.inside.options c.self.inside.version c.self.inside.info in
-    works_on c.self.inside.lanes.now c.self.inside.options c.self.inside.version c.self.inside.info c.self.inside.work c.cancel.new.self c.self.inside.phase c.self.invariant (rw (← c.self.view_is) at c.requires.open)
+    let s : Setting = setting_by c.self.inside.lanes c.self.inside.options c.self.inside.version c.self.inside.info in
+    works_on c.self.inside.lanes c.self.inside.options c.self.inside.version c.self.inside.info c.self.inside.work c.cancel.new.self c.self.inside.phase c.self.invariant (rw (← c.self.view_is) at c.requires.open)
     c.cancel.ensures.room (λ working. (c.in-Ok.ensures.cancels s working).working)
 
 pub returns-in-Ok-clause-ok : goal.returns-in-Ok-clause-ok
 returns-in-Ok-clause-ok c =
-    let s : Setting = setting_by c.self.inside.lanes.now c.self.inside.options c.self.inside.version c.self.inside.info in
-    let f = in_phase c.self.inside.lanes.now c.self.inside.options c.self.inside.version c.self.inside.info c.self.inside.work c.self.inside.phase Open c.self.invariant (rw (← c.self.view_is) at c.requires.open) in
+    let s : Setting = setting_by c.self.inside.lanes c.self.inside.options c.self.inside.version c.self.inside.info in
+    let f = in_phase c.self.inside.lanes c.self.inside.options c.self.inside.version c.self.inside.info c.self.inside.work c.self.inside.phase Open c.self.invariant (rw (← c.self.view_is) at c.requires.open) in
     rw (← c.self.view_is) (c.in-Ok.ensures.cancels s f).cancels
 
 pub invariant_of-self-in-Err : goal.invariant_of-self-in-Err
 invariant_of-self-in-Err c =
-    fails_by c.self.inside.lanes.now c.self.inside.options c.self.inside.version c.self.inside.info c.self.inside.work c.cancel.new.self c.self.inside.phase c.self.invariant c.cancel.ensures.room (λ s. left_so_far s c.self.inside.work c.cancel.new.self c.in-Err.ensures.left)
+    fails_by c.self.inside.lanes c.self.inside.options c.self.inside.version c.self.inside.info c.self.inside.work c.cancel.new.self c.self.inside.phase c.self.invariant c.cancel.ensures.room (λ s. left_so_far s c.self.inside.work c.cancel.new.self c.in-Err.ensures.left)
+
+pub returns-in-Ok-clause-goes : goal.returns-in-Ok-clause-goes
+returns-in-Ok-clause-goes c =
+    let s : Setting = setting_by c.self.inside.lanes c.self.inside.options c.self.inside.version c.self.inside.info in
+    let f = in_phase c.self.inside.lanes c.self.inside.options c.self.inside.version c.self.inside.info c.self.inside.work c.self.inside.phase Open c.self.invariant (rw (← c.self.view_is) at c.requires.open) in
+    rw (← c.self.view_is) (record { stays = refl; later = (c.in-Ok.ensures.cancels s f).later })

@@ -19,13 +19,14 @@ use Rattle.sftp_driver.specs.Session.{IsLater}
 use Rattle.sftp_driver.proofs.Bare.{came, may_take, opened_later, queried_first}
 use Rattle.sftp_lanes.specs.Seen.{IsInPhase, setting_by}
 use Rattle.sftp_work.specs.declared.lanes.Lanes.{Lanes}
+use Rattle.sftp_work.specs.Working.{stage_of}
 use Rattle.sftp_work.proofs.FaultLaws.{refused_so_far}
 use Rattle.sftp_lanes.proofs.Opening.{facts_told, facts_untouched, fails_by, fit_told, in_phase, info_came, is_fixed, limits_are, opens_told, same_limits, still_untouched}
 use Rattle.sftp_lanes.proofs.session.SessionRunsLanes.take_limits.Goals as goal
 
 pub invariant_of-self : goal.invariant_of-self
 invariant_of-self c =
-    let f = in_phase c.self.inside.lanes.now c.self.inside.options c.self.inside.version c.self.inside.info c.self.inside.work c.self.inside.phase Queried c.self.invariant (rw (← c.self.view_is) at c.requires.queried) in
+    let f = in_phase c.self.inside.lanes c.self.inside.options c.self.inside.version c.self.inside.info c.self.inside.work c.self.inside.phase Queried c.self.invariant (rw (← c.self.view_is) at c.requires.queried) in
     let q = f.0 in
     let t = came _ q.0 _ _ _ _ q.1.2 c.in-Ok-Limits.ensures.only c.in-Ok-Limits.ensures.ok in
     let named : c.in-Ok-Limits.field-0 ≡ taken_of.Limits c.in-Ok-Limits.id c.in-Ok-Limits.reply = c.in-Ok-Limits.field-0-is in
@@ -42,54 +43,23 @@ invariant_of-self c =
     let facts = facts_told tells.new.work.facts c.self.inside.options (offered c.self.inside.version) _ _ (tells.ensures.facts (offered c.self.inside.version)) known in
     let fit = fit_told tells.new.work.facts _ _ tells.ensures.fit known in
     let before : Lanes = record c.take_frame.new.self { journal = c.push.new.self } in
-    let still = still_untouched c.self.inside.lanes.now c.self.inside.work before (λ i. record (c.take_frame.ensures.rest i) { journal = c.push.new.self }) (ap asked past) f.1.1 in
+    let still = still_untouched c.self.inside.lanes c.self.inside.work before (λ i. record (c.take_frame.ensures.rest i) { journal = c.push.new.self }) (ap asked past) f.1.1 in
     record {
       ok = c.self.invariant.ok;
       room = search rules;
-      now = subst (λ (x : Lanes). IsInPhase c.self.inside.lanes.now c.self.inside.options c.self.inside.version tells.result (record x { journal = c.push.new.self }) Open) (sym tells.ensures.rest)
+      now = subst (λ (x : Lanes). IsInPhase c.self.inside.lanes c.self.inside.options c.self.inside.version tells.result (record x { journal = c.push.new.self }) Open) (sym tells.ensures.rest)
           (opens_told _ _ _ _ q.0 (limits_in t.reply) t.reply (record before { facts = tells.new.work.facts }) c.self.invariant.ok q.1.0 q.1.1 known facts fit calm t.goes all (facts_untouched _ before tells.new.work.facts still));
     }
 
 pub invariant_of-self-in-Err : goal.invariant_of-self-in-Err
 invariant_of-self-in-Err c =
-    let q = (in_phase c.self.inside.lanes.now c.self.inside.options c.self.inside.version c.self.inside.info c.self.inside.work c.self.inside.phase Queried c.self.invariant (rw (← c.self.view_is) at c.requires.queried)).0 in
-    fails_by c.self.inside.lanes.now c.self.inside.options c.self.inside.version c.self.inside.info c.self.inside.work c.take_frame.new.self c.self.inside.phase c.self.invariant c.take_frame.ensures.room
+    let q = (in_phase c.self.inside.lanes c.self.inside.options c.self.inside.version c.self.inside.info c.self.inside.work c.self.inside.phase Queried c.self.invariant (rw (← c.self.view_is) at c.requires.queried)).0 in
+    fails_by c.self.inside.lanes c.self.inside.options c.self.inside.version c.self.inside.info c.self.inside.work c.take_frame.new.self c.self.inside.phase c.self.invariant c.take_frame.ensures.room
     (λ s. refused_so_far s c.in-Err.e _ _ _ _ _ (ap (λ (k : Core). k.fault) q.1.2) c.in-Err.ensures.refused c.in-Err.ensures.noted)
 
 pub returns-in-Ok-Limits-clause-ok : goal.returns-in-Ok-Limits-clause-ok
 returns-in-Ok-Limits-clause-ok c =
-    let f = in_phase c.self.inside.lanes.now c.self.inside.options c.self.inside.version c.self.inside.info c.self.inside.work c.self.inside.phase Queried c.self.invariant (rw (← c.self.view_is) at c.requires.queried) in
-    let q = f.0 in
-    let t = came _ q.0 _ _ _ _ q.1.2 c.in-Ok-Limits.ensures.only c.in-Ok-Limits.ensures.ok in
-    let named : c.in-Ok-Limits.field-0 ≡ taken_of.Limits c.in-Ok-Limits.id c.in-Ok-Limits.reply = c.in-Ok-Limits.field-0-is in
-    let both = same_limits c.in-Ok-Limits.id 0 c.in-Ok-Limits.reply t.reply (sym named ∙ t.tells) in
-    let zero : c.in-Ok-Limits.id ≡ 0 = both.0 in
-    let same : c.in-Ok-Limits.reply ≡ t.reply = both.1 in
-    let one : List Entry = entry.Event (Take c.in-Ok-Limits.id c.in-Ok-Limits.reply) ∷ [] in
-    let pushed : c.push.new.self.items ≡ c.self.inside.work.journal.items ++ one = search rules in
-    let past : reverse c.push.new.self.items ≡ entry.Event (Take c.in-Ok-Limits.id c.in-Ok-Limits.reply) ∷ reverse c.self.inside.work.journal.items = ap reverse pushed ∙ reverse-append c.self.inside.work.journal.items one in
-    rw (← c.self.view_is)
-    (0, (t.reply, (t.reads, subst (λ (w : List Entry). MayTake w 0 t.reply) (sym q.1.3) (may_take t.reply t.goes), past ∙ (λ i. entry.Event (Take (zero i) (same i)) ∷ reverse c.self.inside.work.journal.items))))
-
-pub returns-in-Ok-Limits-clause-later : goal.returns-in-Ok-Limits-clause-later
-returns-in-Ok-Limits-clause-later c =
-    let f = in_phase c.self.inside.lanes.now c.self.inside.options c.self.inside.version c.self.inside.info c.self.inside.work c.self.inside.phase Queried c.self.invariant (rw (← c.self.view_is) at c.requires.queried) in
-    let q = f.0 in
-    let t = came _ q.0 _ _ _ _ q.1.2 c.in-Ok-Limits.ensures.only c.in-Ok-Limits.ensures.ok in
-    let named : c.in-Ok-Limits.field-0 ≡ taken_of.Limits c.in-Ok-Limits.id c.in-Ok-Limits.reply = c.in-Ok-Limits.field-0-is in
-    let both = same_limits c.in-Ok-Limits.id 0 c.in-Ok-Limits.reply t.reply (sym named ∙ t.tells) in
-    let zero : c.in-Ok-Limits.id ≡ 0 = both.0 in
-    let same : c.in-Ok-Limits.reply ≡ t.reply = both.1 in
-    let one : List Entry = entry.Event (Take c.in-Ok-Limits.id c.in-Ok-Limits.reply) ∷ [] in
-    let pushed : c.push.new.self.items ≡ c.self.inside.work.journal.items ++ one = search rules in
-    let past : reverse c.push.new.self.items ≡ entry.Event (Take c.in-Ok-Limits.id c.in-Ok-Limits.reply) ∷ reverse c.self.inside.work.journal.items = ap reverse pushed ∙ reverse-append c.self.inside.work.journal.items one in
-    let all : reverse c.push.new.self.items ≡ entry.Event (Take 0 t.reply) ∷ queried 0 = past ∙ (λ i. entry.Event (Take (zero i) (same i)) ∷ q.1.3 i) in
-    let s : Setting = setting_by c.self.inside.lanes.now c.self.inside.options c.self.inside.version c.tell-self-inside.result in
-    subst (IsLater s []) (sym all) (opened_later s t.reply (ap (λ (v : Option Reply). offers_limits (offered v)) q.1.0 ∙ q.1.1) t.goes)
-
-pub returns-in-Ok-Limits-clause-fixed : goal.returns-in-Ok-Limits-clause-fixed
-returns-in-Ok-Limits-clause-fixed c =
-    let f = in_phase c.self.inside.lanes.now c.self.inside.options c.self.inside.version c.self.inside.info c.self.inside.work c.self.inside.phase Queried c.self.invariant (rw (← c.self.view_is) at c.requires.queried) in
+    let f = in_phase c.self.inside.lanes c.self.inside.options c.self.inside.version c.self.inside.info c.self.inside.work c.self.inside.phase Queried c.self.invariant (rw (← c.self.view_is) at c.requires.queried) in
     let q = f.0 in
     let t = came _ q.0 _ _ _ _ q.1.2 c.in-Ok-Limits.ensures.only c.in-Ok-Limits.ensures.ok in
     let named : c.in-Ok-Limits.field-0 ≡ taken_of.Limits c.in-Ok-Limits.id c.in-Ok-Limits.reply = c.in-Ok-Limits.field-0-is in
@@ -102,10 +72,18 @@ returns-in-Ok-Limits-clause-fixed c =
     let all : reverse c.push.new.self.items ≡ entry.Event (Take 0 t.reply) ∷ queried 0 = past ∙ (λ i. entry.Event (Take (zero i) (same i)) ∷ q.1.3 i) in
     let calm = info_came _ q.0 _ _ _ _ t.reply q.1.2 c.in-Ok-Limits.ensures.only c.in-Ok-Limits.ensures.ok t.reads in
     let known = c.tell-self-inside.ensures.info ∙ ap (λ (k : Core). info_of k.phase) calm in
-    is_fixed c.self.inside.lanes.now c.self.inside.options q.0 (limits_in t.reply) c.self.inside.version c.tell-self-inside.result (reverse c.push.new.self.items) q.1.0 known (limits_are (offers_limits q.0) (reverse c.push.new.self.items) t.reply q.1.1 all)
+    let s : Setting = setting_by c.self.inside.lanes c.self.inside.options c.self.inside.version c.tell-self-inside.result in
+    rw (← c.self.view_is)
+    (record {
+      tells = (0, (t.reply, (t.reads, subst (λ (w : List Entry). MayTake w 0 t.reply) (sym q.1.3) (may_take t.reply t.goes), past ∙ (λ i. entry.Event (Take (zero i) (same i)) ∷ reverse c.self.inside.work.journal.items))));
+      is_open = refl;
+      begun = ap (λ (w : Lanes). (stage_of w).begun) c.tell-self-inside.ensures.rest ∙ ap (λ (w : Lanes). (stage_of w).begun) c.take_frame.ensures.rest;
+      later = subst (IsLater s []) (sym all) (opened_later s t.reply (ap (λ (v : Option Reply). offers_limits (offered v)) q.1.0 ∙ q.1.1) t.goes);
+      fixed = is_fixed c.self.inside.lanes c.self.inside.options q.0 (limits_in t.reply) c.self.inside.version c.tell-self-inside.result (reverse c.push.new.self.items) q.1.0 known (limits_are (offers_limits q.0) (reverse c.push.new.self.items) t.reply q.1.1 all);
+    })
 
 pub returns-in-Err : goal.returns-in-Err
 returns-in-Err c =
-    let q = (in_phase c.self.inside.lanes.now c.self.inside.options c.self.inside.version c.self.inside.info c.self.inside.work c.self.inside.phase Queried c.self.invariant (rw (← c.self.view_is) at c.requires.queried)).0 in
+    let q = (in_phase c.self.inside.lanes c.self.inside.options c.self.inside.version c.self.inside.info c.self.inside.work c.self.inside.phase Queried c.self.invariant (rw (← c.self.view_is) at c.requires.queried)).0 in
     rw (← c.self.view_is)
-    (record { ok = tt; phase = tt; begun = tt; later = tt; fixed = tt; refused = queried_first _ q.0 _ _ _ _ _ q.1.2 q.1.3 c.in-Err.ensures.refused; version = refl; given = refl })
+    (record { ok = tt; refused = queried_first _ q.0 _ _ _ _ _ q.1.2 q.1.3 c.in-Err.ensures.refused; given = refl; version = refl })

@@ -1,5 +1,5 @@
 use Rattle.std.proofs.Common.{◌≡◌, ◌<◌, ◌^◌, ◌+◌, ◌∷◌, ℕ, List, ap, subst, ◌∙◌}
-use Rattle.std.specs.Prelude.{reverse, slice_get, slice_set}
+use Rattle.std.specs.Prelude.{is_some, reverse, slice_get, slice_set}
 use Rattle.sftp_model.specs.declared.request.Request.TheVariants as request
 use Rattle.sftp_history.specs.declared.event.Event.TheVariants.{Submit}
 use Rattle.sftp_history.specs.declared.event.Owner.TheVariants as owner
@@ -8,7 +8,9 @@ use Rattle.sftp_history.specs.declared.entry.Entry.TheVariants as entry
 use Rattle.sftp_ties.specs.Changes.{closed_lane}
 use Rattle.sftp_ties.specs.Lanes.{LaneValue}
 use Rattle.sftp_steps.specs.Ends.{close_entry}
+use Rattle.sftp_steps.specs.Rest.{begun_of}
 use Rattle.sftp_work.specs.Working.{lane_in}
+use Rattle.sftp_work.proofs.BegunLaws.{begun_same}
 use Rattle.sftp_work.proofs.Contents.{pushed, state_at}
 use Rattle.sftp_work.proofs.lanes.Lanes.close.Goals as goal
 
@@ -23,7 +25,8 @@ returns-clause-closed c = λ g here.
     let closes : close ≡ close_entry g.grant = λ i. entry.Event (Submit owner.Close (x.0 i) (request.Close (x.1.0 i))) in
     let past : reverse c.add_entry.new.journal.items ≡ close_entry g.grant ∷ reverse journal = ap reverse c.add_entry.ensures.items ∙ pushed journal close ∙ ap (λ (e : Entry). e ∷ reverse journal) closes in
     let lane : c.release-id.new.self ≡ closed_lane (lane_in states c.args.lane) c.args.k = c.release-id.ensures.lane ∙ ap (λ (y : LaneValue). closed_lane y c.args.k) is in
+    let begun : begun_of (lane_in (slice_set states c.args.lane c.release-id.new.self)) ≡ begun_of (lane_in states) = begun_same states c.args.lane c.release-id.new.self c.requires.there (ap (λ (y : LaneValue). is_some y.running) lane) in
     record {
-      is = λ i. record { calls = c.args.self.now.calls; core = x.1.1 i; facts = c.args.self.now.facts; past = past i; asked = c.args.self.now.asked + 1; states = slice_set states c.args.lane (lane i); begun = c.args.self.now.begun.items };
+      is = λ i. record { calls = c.args.self.now.calls; core = x.1.1 i; facts = c.args.self.now.facts; past = past i; asked = c.args.self.now.asked + 1; states = slice_set states c.args.lane (lane i); begun = begun i };
       small = subst (λ (n : ℕ). n < 2 ^ 32) x.0 c.release-id.ensures.small;
     }

@@ -2,6 +2,7 @@ use Rattle.std.proofs.Common.{◌≡◌, ◌<◌, ◌+◌, List, length}
 use Rattle.std.specs.Prelude.{vec_len, vec_capacity}
 use Rattle.sftp_history.specs.declared.entry.Entry.{Entry}
 use Rattle.sftp_history.specs.Calls.{Setting}
+use Rattle.sftp_steps.specs.Rest.{begun_of}
 use Rattle.sftp_work.specs.Letting.{Letting}
 use Rattle.sftp_work.specs.Working.{contents_of, lane_in}
 use Rattle.sftp_work.proofs.lanes.Lanes.close_slots.Given as goal
@@ -10,7 +11,7 @@ abbrev pub invariant-loop-rest : goal.invariant-loop-rest
 invariant-loop-rest l =
     (vec_len l.self.journal + length (lane_in l.self.states.items l.lane).grants < vec_capacity l.self.journal)
     × ((s : Setting) (before : List Entry) → Letting s before l.lane (contents_of l.fn.self) l.fn.slots → Letting s before l.lane (contents_of l.self) l.rest)
-    × (l.self.begun.items ≡ l.fn.self.begun.items)
+    × (begun_of (lane_in l.self.states.items) ≡ begun_of (lane_in l.fn.self.states.items))
 
 abbrev pub decreases-loop-rest : goal.decreases-loop-rest
 decreases-loop-rest l = length l.rest

@@ -57,7 +57,7 @@ loop-k-preserved c =
     (λ t here. c.unawaited.ensures.some k t c.in-Some.is here) c.forget.ensures.core c.forget.ensures.lane in (
       (let same = length-set mid.states c.args.lane c.forget.new.self in omega (arith, lt, same)),
       forgets_idle c.args.lane k mid c.forget.new.core c.forget.new.self lt idle has,
-      λ s w. (let u : Unnoted s old mid = c.loop-k.invariant.2 s w in unnoted_on s old mid _ u (forgets_unnoted s c.args.lane k mid c.forget.new.core c.forget.new.self u.works lt idle has)),
+      λ s w. (let u : Unnoted s old mid = c.loop-k.invariant.2 s w in unnoted_on s old mid _ u (forgets_unnoted s c.args.lane k mid c.forget.new.core c.forget.new.self u.works lt idle has refl)),
       c.loop-k.invariant.3,
     )
 

@@ -5,11 +5,12 @@ use Rattle.sftp_history.specs.declared.entry.Entry.{Entry}
 use Rattle.sftp_history.specs.declared.entry.Entry.TheVariants as entry
 use Rattle.sftp_ties.specs.Changes.{let_go_lane}
 use Rattle.sftp_ties.specs.Lanes.{LaneValue}
+use Rattle.sftp_steps.specs.Rest.{begun_of}
 use Rattle.sftp_work.specs.Letting.{IsLetGo, Letting}
 use Rattle.sftp_work.specs.Working.{Contents, contents_of, lane_in}
 use Rattle.sftp_work.proofs.CancellingLaws.{there_of}
 use Rattle.sftp_work.proofs.Contents.{pushed, state_at}
-use Rattle.sftp_work.proofs.LettingLaws.{let_go_in, letting_starts, lets_lane_go, lets_none_go}
+use Rattle.sftp_work.proofs.LettingLaws.{let_go_begun, let_go_in, letting_starts, lets_lane_go, lets_none_go}
 use Rattle.sftp_work.proofs.lanes.Lanes.let_go.Goals as goal
 
 pub returns-then-lane-len-clause-lets_go : goal.returns-then-lane-len-clause-lets_go
@@ -27,13 +28,14 @@ close_slots-requires-clause-letting c =
     let all : (lane_in old.states c.args.lane).site.slots ≡ c.as_slice.result.now = ap (λ (y : LaneValue). y.site.slots) (sym is) ∙ sym slots in
     let past : reverse c.add_entry.new.journal.items ≡ entry.LetGo c.args.lane ∷ old.past = ap reverse c.add_entry.ensures.items ∙ pushed c.reserve.new.self.items (entry.LetGo c.args.lane) ∙ ap (λ (es : List Entry). entry.LetGo c.args.lane ∷ reverse es) kept in
     let lane : let_go_lane (lane_in old.states c.args.lane) ≡ c.empty-slots.new.self = ap let_go_lane (sym is) ∙ sym c.empty-slots.ensures.lane in
+    let begun : begun_of (lane_in old.states) ≡ begun_of (lane_in (slice_set old.states c.args.lane c.empty-slots.new.self)) = let_go_begun o.0 c.args.lane old c.empty-slots.new.self o.1.0 there o.1.1.0 lane in
     let first = letting_starts o.0 c.args.lane old o.1.0 (there_of o.0 old c.args.lane o.1.0 there) o.1.1.0 o.1.1.1 in (
       o.0,
       (
         entry.LetGo c.args.lane ∷ old.past,
-        subst (λ (xs : List Slot). Letting o.0 (entry.LetGo c.args.lane ∷ old.past) c.args.lane (record { calls = old.calls; core = old.core; facts = old.facts; past = reverse c.add_entry.new.journal.items; asked = old.asked; states = slice_set old.states c.args.lane c.empty-slots.new.self; begun = old.begun }) xs) all
+        subst (λ (xs : List Slot). Letting o.0 (entry.LetGo c.args.lane ∷ old.past) c.args.lane (record { calls = old.calls; core = old.core; facts = old.facts; past = reverse c.add_entry.new.journal.items; asked = old.asked; states = slice_set old.states c.args.lane c.empty-slots.new.self; begun = begun_of (lane_in (slice_set old.states c.args.lane c.empty-slots.new.self)) }) xs) all
             (subst (λ (y : Contents). Letting o.0 (entry.LetGo c.args.lane ∷ old.past) c.args.lane y (lane_in old.states c.args.lane).site.slots)
-            (λ i. record { calls = old.calls; core = old.core; facts = old.facts; past = sym past i; asked = old.asked; states = slice_set old.states c.args.lane (lane i); begun = old.begun }) first),
+            (λ i. record { calls = old.calls; core = old.core; facts = old.facts; past = sym past i; asked = old.asked; states = slice_set old.states c.args.lane (lane i); begun = begun i }) first),
       ),
     )
 
@@ -48,9 +50,10 @@ returns-clause-lets_go c =
     let all : (lane_in old.states c.args.lane).site.slots ≡ c.as_slice.result.now = ap (λ (y : LaneValue). y.site.slots) (sym is) ∙ sym slots in
     let past : reverse c.add_entry.new.journal.items ≡ entry.LetGo c.args.lane ∷ old.past = ap reverse c.add_entry.ensures.items ∙ pushed c.reserve.new.self.items (entry.LetGo c.args.lane) ∙ ap (λ (es : List Entry). entry.LetGo c.args.lane ∷ reverse es) kept in
     let lane : let_go_lane (lane_in old.states c.args.lane) ≡ c.empty-slots.new.self = ap let_go_lane (sym is) ∙ sym c.empty-slots.ensures.lane in
-    let mid : Contents = record { calls = old.calls; core = old.core; facts = old.facts; past = reverse c.add_entry.new.journal.items; asked = old.asked; states = slice_set old.states c.args.lane c.empty-slots.new.self; begun = old.begun } in
-    let same : let_go_in old c.args.lane ≡ mid = λ i. record { calls = old.calls; core = old.core; facts = old.facts; past = sym past i; asked = old.asked; states = slice_set old.states c.args.lane (lane i); begun = old.begun } in
+    let mid : Contents = record { calls = old.calls; core = old.core; facts = old.facts; past = reverse c.add_entry.new.journal.items; asked = old.asked; states = slice_set old.states c.args.lane c.empty-slots.new.self; begun = begun_of (lane_in (slice_set old.states c.args.lane c.empty-slots.new.self)) } in
     λ s w done holds.
+    let begun : begun_of (lane_in old.states) ≡ begun_of (lane_in (slice_set old.states c.args.lane c.empty-slots.new.self)) = let_go_begun s c.args.lane old c.empty-slots.new.self w there done lane in
+    let same : let_go_in old c.args.lane ≡ mid = λ i. record { calls = old.calls; core = old.core; facts = old.facts; past = sym past i; asked = old.asked; states = slice_set old.states c.args.lane (lane i); begun = begun i } in
     let within = there_of s old c.args.lane w there in
     let first : Letting s (entry.LetGo c.args.lane ∷ old.past) c.args.lane mid c.as_slice.result.now =
     subst (λ (xs : List Slot). Letting s (entry.LetGo c.args.lane ∷ old.past) c.args.lane mid xs) all

@@ -7,4 +7,4 @@ pub loop-preserved : goal.loop-preserved
 loop-preserved c =
     let i = c.loop.invariant in
     let count : length c.push_reserved.new.self.items ≡ c.loop.counter + 1 = search rules in
-    (i.0, i.1, i.2, i.3, i.4, i.5, count, search rules, search rules, subst AreFresh (sym c.push_reserved.ensures.items) (more_fresh c.loop.work.states.items c.in_ok-state.state i.9 c.in_ok-state.ensures))
+    (i.0, i.1, i.2, i.3, i.4, count, search rules, search rules, subst AreFresh (sym c.push_reserved.ensures.items) (more_fresh c.loop.work.states.items c.in_ok-state.state i.8 c.in_ok-state.ensures))

@@ -1,7 +1,7 @@
-use Rattle.std.proofs.Common.{◌≡◌, ◌<◌}
-use Rattle.std.specs.Prelude.{vec_capacity, vec_len}
+use Rattle.std.proofs.Common.{◌≡◌}
+use Rattle.sftp_steps.specs.Rest.{begun_of}
 use Rattle.sftp_history.specs.Calls.{Setting}
-use Rattle.sftp_work.specs.Noting.{HasCall, turns_left}
+use Rattle.sftp_work.specs.Noting.{HasCall, OthersRun, amid, turns_left}
 use Rattle.sftp_work.specs.SoFar.{HasRoom}
 use Rattle.sftp_work.specs.Working.{IsWorking, Unnoted, contents_of, lane_in}
 use Rattle.sftp_work.proofs.lanes.Lanes.step.Given as goal
@@ -9,10 +9,10 @@ use Rattle.sftp_work.proofs.lanes.Lanes.step.Given as goal
 -- the turns so far left no entry, and the lane has the call that it had
 abbrev pub invariant-loop-moved : goal.invariant-loop-moved
 invariant-loop-moved l =
-    ((s : Setting) → IsWorking s l.fn.self → Unnoted s (contents_of l.fn.self) (contents_of l.self))
+    ((s : Setting) → IsWorking s l.fn.self → Unnoted s (contents_of l.fn.self) (amid (begun_of (lane_in l.fn.self.states.items)) (contents_of l.self)))
     × HasCall (contents_of l.self) l.lane
     × ((lane_in l.self.states.items l.lane).ended ≡ l.number)
-    × (vec_len l.self.begun < vec_capacity l.self.begun)
+    × OthersRun (begun_of (lane_in l.fn.self.states.items)) l.lane l.self.states.items
     × HasRoom l.self
 
 abbrev pub decreases-loop-moved : goal.decreases-loop-moved

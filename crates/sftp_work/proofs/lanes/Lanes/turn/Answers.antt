@@ -4,8 +4,9 @@ use Rattle.std.proofs.lemmas.Result.{IfOk-weaker}
 use Rattle.sftp_lane.specs.Turning.{Turned}
 use Rattle.sftp_lane.specs.declared.lane.Moved.{Moved}
 use Rattle.sftp_ties.specs.Lanes.{LaneValue}
-use Rattle.sftp_work.specs.Noting.{Turning, call_in, is_went, turns_left}
+use Rattle.sftp_work.specs.Noting.{KeepsOthers, Turning, amid, call_in, is_went, turns_left}
 use Rattle.sftp_work.specs.Working.{Contents, contents_of, lane_in}
+use Rattle.sftp_work.proofs.BegunLaws.{others_kept}
 use Rattle.sftp_work.proofs.Contents.{set_here, state_at}
 use Rattle.sftp_work.proofs.NotingLaws.{at_call, within_states}
 use Rattle.sftp_work.proofs.TurningLaws.{may_have, turned_fewer, turned_grants, turned_ok, turned_same, turning_ok}
@@ -15,49 +16,55 @@ pub turn-requires-clause-call : goal.turn-requires-clause-call
 turn-requires-clause-call c =
     let some : call_in c.args.self.now.calls c.args.self.now.states.items c.args.lane ≡ Some c.in-Some.call.now = search rules in
     let o = c.requires.opened in
-    (may_have o.0 (contents_of c.args.self.now) c.args.lane c.in-Some.call.now c.index_mut-state.result.now o.1 some c.index_mut-state.ensures.value).call_within
+    (may_have o.0 (amid o.1.0 (contents_of c.args.self.now)) c.args.lane c.in-Some.call.now c.index_mut-state.result.now o.1.1 some c.index_mut-state.ensures.value).call_within
 
 pub turn-requires-clause-counted : goal.turn-requires-clause-counted
 turn-requires-clause-counted c =
     let some : call_in c.args.self.now.calls c.args.self.now.states.items c.args.lane ≡ Some c.in-Some.call.now = search rules in
     let o = c.requires.opened in
-    (may_have o.0 (contents_of c.args.self.now) c.args.lane c.in-Some.call.now c.index_mut-state.result.now o.1 some c.index_mut-state.ensures.value).counted
+    (may_have o.0 (amid o.1.0 (contents_of c.args.self.now)) c.args.lane c.in-Some.call.now c.index_mut-state.result.now o.1.1 some c.index_mut-state.ensures.value).counted
 
 pub turn-requires-clause-held : goal.turn-requires-clause-held
 turn-requires-clause-held c =
     let some : call_in c.args.self.now.calls c.args.self.now.states.items c.args.lane ≡ Some c.in-Some.call.now = search rules in
     let o = c.requires.opened in
-    (may_have o.0 (contents_of c.args.self.now) c.args.lane c.in-Some.call.now c.index_mut-state.result.now o.1 some c.index_mut-state.ensures.value).held
+    (may_have o.0 (amid o.1.0 (contents_of c.args.self.now)) c.args.lane c.in-Some.call.now c.index_mut-state.result.now o.1.1 some c.index_mut-state.ensures.value).held
+
+pub turn-requires-clause-ready : goal.turn-requires-clause-ready
+turn-requires-clause-ready c =
+    let some : call_in c.args.self.now.calls c.args.self.now.states.items c.args.lane ≡ Some c.in-Some.call.now = search rules in
+    let o = c.requires.opened in
+    (may_have o.0 (amid o.1.0 (contents_of c.args.self.now)) c.args.lane c.in-Some.call.now c.index_mut-state.result.now o.1.1 some c.index_mut-state.ensures.value).ready
 
 pub turn-requires-clause-safe : goal.turn-requires-clause-safe
 turn-requires-clause-safe c =
     let some : call_in c.args.self.now.calls c.args.self.now.states.items c.args.lane ≡ Some c.in-Some.call.now = search rules in
     let o = c.requires.opened in
-    (may_have o.0 (contents_of c.args.self.now) c.args.lane c.in-Some.call.now c.index_mut-state.result.now o.1 some c.index_mut-state.ensures.value).safe
+    (may_have o.0 (amid o.1.0 (contents_of c.args.self.now)) c.args.lane c.in-Some.call.now c.index_mut-state.result.now o.1.1 some c.index_mut-state.ensures.value).safe
 
 pub turn-requires-clause-fits : goal.turn-requires-clause-fits
 turn-requires-clause-fits c =
     let some : call_in c.args.self.now.calls c.args.self.now.states.items c.args.lane ≡ Some c.in-Some.call.now = search rules in
     let o = c.requires.opened in
-    (may_have o.0 (contents_of c.args.self.now) c.args.lane c.in-Some.call.now c.index_mut-state.result.now o.1 some c.index_mut-state.ensures.value).fits
+    (may_have o.0 (amid o.1.0 (contents_of c.args.self.now)) c.args.lane c.in-Some.call.now c.index_mut-state.result.now o.1.1 some c.index_mut-state.ensures.value).fits
 
 pub turn-requires-clause-range : goal.turn-requires-clause-range
 turn-requires-clause-range c =
     let some : call_in c.args.self.now.calls c.args.self.now.states.items c.args.lane ≡ Some c.in-Some.call.now = search rules in
     let o = c.requires.opened in
-    (may_have o.0 (contents_of c.args.self.now) c.args.lane c.in-Some.call.now c.index_mut-state.result.now o.1 some c.index_mut-state.ensures.value).range
+    (may_have o.0 (amid o.1.0 (contents_of c.args.self.now)) c.args.lane c.in-Some.call.now c.index_mut-state.result.now o.1.1 some c.index_mut-state.ensures.value).range
 
 pub turn-requires-clause-awaits : goal.turn-requires-clause-awaits
 turn-requires-clause-awaits c =
     let some : call_in c.args.self.now.calls c.args.self.now.states.items c.args.lane ≡ Some c.in-Some.call.now = search rules in
     let o = c.requires.opened in
-    (may_have o.0 (contents_of c.args.self.now) c.args.lane c.in-Some.call.now c.index_mut-state.result.now o.1 some c.index_mut-state.ensures.value).awaits
+    (may_have o.0 (amid o.1.0 (contents_of c.args.self.now)) c.args.lane c.in-Some.call.now c.index_mut-state.result.now o.1.1 some c.index_mut-state.ensures.value).awaits
 
 pub turn-requires-clause-holds : goal.turn-requires-clause-holds
 turn-requires-clause-holds c =
     let some : call_in c.args.self.now.calls c.args.self.now.states.items c.args.lane ≡ Some c.in-Some.call.now = search rules in
     let o = c.requires.opened in
-    (may_have o.0 (contents_of c.args.self.now) c.args.lane c.in-Some.call.now c.index_mut-state.result.now o.1 some c.index_mut-state.ensures.value).holds
+    (may_have o.0 (amid o.1.0 (contents_of c.args.self.now)) c.args.lane c.in-Some.call.now c.index_mut-state.result.now o.1.1 some c.index_mut-state.ensures.value).holds
 
 pub returns-clause-turned : goal.returns-clause-turned
 returns-clause-turned c =
@@ -69,9 +76,17 @@ returns-clause-turned c =
     let now : LaneValue = c.turn.new.self in
     let kept : c.reserve.new.self.items ≡ c.args.self.now.journal.items = search rules in
     let t = turned_ok c.in-Some.call.now old.facts old.asked old.core c.turn.new.core v now (lane_in old.states c.args.lane) c.turn.result is c.turn.ensures.turned in
-    λ s w. subst (λ (x : Contents). IfOk c.turn.result (Turning s c.args.lane old x))
-    (λ i. record { calls = old.calls; core = c.turn.new.core; facts = old.facts; past = reverse (sym kept i); asked = old.asked; states = slice_set old.states c.args.lane now; begun = old.begun })
-    (turning_ok s old c.args.lane c.in-Some.call.now c.turn.new.core now c.turn.result w some t c.turn.ensures.small)
+    λ s begun w. subst (λ (x : Contents). IfOk c.turn.result (Turning s c.args.lane (amid begun old) x))
+    (λ i. record { calls = old.calls; core = c.turn.new.core; facts = old.facts; past = reverse (sym kept i); asked = old.asked; states = slice_set old.states c.args.lane now; begun = begun })
+    (turning_ok s (amid begun old) c.args.lane c.in-Some.call.now c.turn.new.core now c.turn.result w some t c.turn.ensures.small)
+
+pub returns-clause-others : goal.returns-clause-others
+returns-clause-others c =
+    let some : call_in c.args.self.now.calls c.args.self.now.states.items c.args.lane ≡ Some c.in-Some.call.now = search rules in
+    let old : Contents = contents_of c.args.self.now in
+    let lt = within_states old c.args.lane c.in-Some.call.now (at_call old c.args.lane c.in-Some.call.now some) in
+    IfOk-weaker c.turn.result (λ (m : Moved). Turned c.in-Some.call.now old.facts old.asked old.core c.turn.new.core c.index_mut-state.result.now c.turn.new.self m)
+    (λ (m : Moved). KeepsOthers c.args.lane old.states (slice_set old.states c.args.lane c.turn.new.self)) (λ m t. others_kept old.states c.args.lane c.turn.new.self lt) c.turn.ensures.turned
 
 pub returns-clause-number : goal.returns-clause-number
 returns-clause-number c =

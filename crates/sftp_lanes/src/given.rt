@@ -1,0 +1,46 @@
+// The lanes that a session was given.
+ghost use Rattle.std.specs.Prelude.{◌≡◌, ◌<◌, ◌^◌, length};
+
+use sftp_history::Lane;
+use sftp_values::Items;
+use std::marker::Model;
+use std::snapshot::Snapshot;
+
+/// The lanes that a session was given. Only their count is kept; a contract sees the lanes themselves.
+#[derive(Drop)]
+pub struct GivenLanes {
+    count: u32,
+    // What clauses alone read.
+    lanes: Snapshot<Items<Lane>>,
+}
+
+impl Model for GivenLanes {
+    ghost use Rattle.std.specs.Prelude.{◌≡◌, List, length};
+    ghost use Rattle.sftp_history.specs.declared.call.Lane.{Lane as LaneValue};
+
+    ghost Value = { List LaneValue };
+
+    ghost view = { λ g. g.lanes.value };
+
+    ghost invariant = { λ g. g.count ≡ length g.lanes.value };
+}
+
+impl GivenLanes {
+    /// What is kept of these lanes.
+    pub fn of(lanes: &Items<Lane>) -> GivenLanes
+        requires { length lanes.now < 2 ^ 32 }
+        ensures { result ≡ lanes.now }
+    {
+        GivenLanes {
+            count: lanes.as_slice().len() as u32,
+            lanes: Snapshot::of(lanes),
+        }
+    }
+
+    /// How many there are.
+    pub fn count(&self) -> u32
+        ensures { result ≡ length self.now }
+    {
+        self.count
+    }
+}

@@ -1,0 +1,66 @@
+// Calls that are added to lanes.
+ghost use Rattle.std.specs.Prelude.{◌≡◌, ◌<◌, ◌∷◌, ◌++◌, [], length, OnErr, OnOk};
+ghost use Rattle.sftp_history.specs.Calls.{Setting};
+ghost use Rattle.sftp_work.specs.Adding.{AddsCall, MayAdd, with_call};
+ghost use Rattle.sftp_work.specs.SoFar.{HasRoom};
+ghost use Rattle.sftp_work.specs.Working.{IsOpened, IsWorking, contents_of};
+
+use crate::closing::add_entry;
+use crate::lanes::Lanes;
+use sftp_history::{Call, Entry, Lane};
+use sftp_model::TryCopy;
+use sftp_values::Items;
+use ssh_encoding::OutOfMemory;
+use std::alloc::Global;
+
+/// Puts a call behind others. Refused for want of memory; they are as before then.
+fn push_last(calls: &mut Vec<Call>, call: Call) -> Result<(), OutOfMemory>
+    ensures last { OnOk result (calls.new.items ≡ calls.old.items ++ call ∷ []) }
+    ensures left { OnErr result (calls.new.items ≡ calls.old.items) }
+{
+    calls.push(call)?;
+    Ok(())
+}
+
+/// Puts a call behind those of a lane. Refused for want of memory; the lanes are as before then.
+fn add_call(
+    alloc: Global,
+    lanes: &mut Items<Lane>,
+    lane: usize,
+    call: Call,
+) -> Result<(), OutOfMemory>
+    requires { lane < length lanes.old }
+    ensures added { OnOk result (lanes.new ≡ with_call lanes.old lane call) }
+    ensures left { OnErr result (lanes.new ≡ lanes.old) }
+{
+    let empty = Lane {
+        calls: Items::new(Vec::new(alloc)),
+    };
+    let was = lanes.replace(lane, empty);
+    let mut calls = was.calls.into_vec();
+    let added = push_last(&mut calls, call);
+    let now = Lane {
+        calls: Items::new(calls),
+    };
+    lanes.set(lane, now);
+    added
+}
+
+impl Lanes {
+    /// Puts a call behind those of a lane, and notes it in the journal. Refused for want of memory; nothing has changed
+    /// then.
+    pub fn push_call(&mut self, alloc: Global, lane: u32, call: Call) -> Result<(), OutOfMemory>
+        requires opened { IsOpened self.old }
+        requires may { MayAdd lane call self.old }
+        requires room { HasRoom self.old }
+        ensures adds { (s : Setting) → IsWorking s self.old → OnOk result (AddsCall s lane call self.old self.new) }
+        ensures left { OnErr result (contents_of self.new ≡ contents_of self.old) }
+        ensures room { HasRoom self.new }
+    {
+        let copy = call.try_copy(alloc)?;
+        self.journal.reserve(2)?;
+        add_call(alloc, &mut self.calls, lane as usize, call)?;
+        add_entry(&mut self.journal, Entry::Added { lane, call: copy });
+        Ok(())
+    }
+}
