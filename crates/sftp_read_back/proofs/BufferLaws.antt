@@ -177,7 +177,7 @@ like_write other x handle offset part e is =
     record { handle = handle; is = (let same : Ask other ≡ Ask (request.Write handle offset part) = sym e ∙ is in ap (asked_of (request.Write handle offset part)) same) }
 
 -- each of these requests writes by the handle
-abbrev WriteBy : List ℕ → Own → Type 0
+abbrev pub WriteBy : List ℕ → Own → Type 0
 WriteBy h [] = Unit {0}
 WriteBy h (asked ∷ later) = WritesBy asked.1 h × WriteBy h later
 
@@ -269,14 +269,18 @@ bear config file h [] (asked ∷ later) tree stand = absurd stand
 bear config file h (s ∷ steps) (asked ∷ later) tree (inl own) = (own.3, bear config file h steps later (answer_to config tree s).1 own.4)
 bear config file h (s ∷ steps) (asked ∷ later) tree (inr other) = bear config file h steps (asked ∷ later) (answer_to config tree s).1 other.2
 
--- A call writes bytes, of which there are some, to a buffered file, and is done; a flush of what it left is done. Where no
--- other request changes the file from the first of its WRITEs to the last, the file holds after the last what it held before
--- the first, with the bytes at the offset; zeros fill a gap.
-pub flushed_writes : (config : ServerConfig) (answers : Answers) (slot : ℕ) (file : FileAt) (buffer : Buffer) (bytes : List ℕ) (site flush_site : Site) (facts flush_facts : Facts) (own flush_own : Own) (h : List ℕ) (held : Held)
-    (tree : FileTree) (steps : List Step) → IsWellFormed tree → opened_at tree h ≡ Some (opened.File held) → ToWrite held → AreServed config answers tree steps → StandAlone config held.file h own tree steps
-    → 0 < length bytes → slot_at site slot ≡ Buffered file buffer → (written : HasEnded (call.BufWriteAll slot bytes) site facts own answers outcome.Done) → slot_at flush_site slot ≡ slot_at written.left slot
-    → HasEnded (call.BufFlush slot) flush_site flush_facts flush_own answers outcome.Done → bytes_of (after config tree steps) held.file ≡ put (bytes_of tree held.file) file.offset bytes
-flushed_writes config answers slot file buffer bytes site flush_site facts flush_facts own flush_own h held tree steps well_formed open_is way served stand some stands written same flush =
+-- what a call asked that is done, and flushed
+pub record AreFlushed (h : List ℕ) (offset : ℕ) (bytes : List ℕ) (answers : Answers) (own : Own) : Type 0 where
+  pub asks : AreWrites h offset own
+  pub all : carried own ≡ bytes
+  pub said : AreWritten answers (places own)
+
+-- A call writes bytes to a buffered file, by requests that write by a handle, and is done; a flush of what it left is done. The requests
+-- carry the bytes, part after part, and each was answered by a STATUS 0.
+pub flushed_asks : (answers : Answers) (slot : ℕ) (file : FileAt) (buffer : Buffer) (bytes : List ℕ) (site flush_site : Site) (facts flush_facts : Facts) (own flush_own : Own) (h : List ℕ) → WriteBy h own → slot_at site slot ≡ Buffered file buffer
+    → (written : HasEnded (call.BufWriteAll slot bytes) site facts own answers outcome.Done) → slot_at flush_site slot ≡ slot_at written.left slot → HasEnded (call.BufFlush slot) flush_site flush_facts flush_own answers outcome.Done
+    → AreFlushed h file.offset bytes answers own
+flushed_asks answers slot file buffer bytes site flush_site facts flush_facts own flush_own h bears stands written same flush =
     let like = buf_write_all_like slot bytes site facts written.by answers written.stay in
     let follow_all : FollowLike (λ later. buf_write_all_next slot bytes site facts later answers) own =
     follow_like_still (λ later. buf_write_all_next slot bytes site facts later written.by) (λ later. buf_write_all_next slot bytes site facts later answers) own like
@@ -289,10 +293,9 @@ flushed_writes config answers slot file buffer bytes site flush_site facts flush
     let on_it : buffered_rest slot bytes file buffer site facts own answers ≡ Done outcome.Done written.left = sym (on_slot own) ∙ done in
     let w = buffer_writes slot h facts answers own bytes file buffer site written.left stands
     (follow_like_as (λ later. buf_write_all_next slot bytes site facts later answers) (λ later. buffered_rest slot bytes file buffer site facts later answers) own on_slot follow_all)
-    (bear config held.file h steps own tree stand) on_it in
+    bears on_it in
     let statuses : AreWritten flush.by (places_of w.buffer.deferred) = flushed slot w.file w.buffer flush_site flush.left flush_facts flush_own flush.by (same ∙ w.there) flush.ends in
-    let each : AreWritten answers (places own) = rest_of (places_of buffer.deferred) (w.written (written_now flush.by answers (places_of w.buffer.deferred) flush.stay statuses)) in
-    by_own own w.asks w.all each stand
+    record { asks = w.asks; all = w.all; said = rest_of (places_of buffer.deferred) (w.written (written_now flush.by answers (places_of w.buffer.deferred) flush.stay statuses)) }
   where
     still : (x : Move) → x ≡ Done outcome.Done written.left → StaysLike x (buf_write_all_next slot bytes site facts own answers) → buf_write_all_next slot bytes site facts own answers ≡ Done outcome.Done written.left
     still x e stays = (let at : StaysLike (Done outcome.Done written.left) (buf_write_all_next slot bytes site facts own answers) = subst (λ (v : Move). StaysLike v (buf_write_all_next slot bytes site facts own answers)) e stays in at refl)
@@ -301,6 +304,16 @@ flushed_writes config answers slot file buffer bytes site flush_site facts flush
     rest_of [] w = w
     rest_of (place ∷ at) w = rest_of at w.1
 
+-- A call writes bytes, of which there are some, to a buffered file, and is done; a flush of what it left is done. Where no
+-- other request changes the file from the first of its WRITEs to the last, the file holds after the last what it held before
+-- the first, with the bytes at the offset; zeros fill a gap.
+pub flushed_writes : (config : ServerConfig) (answers : Answers) (slot : ℕ) (file : FileAt) (buffer : Buffer) (bytes : List ℕ) (site flush_site : Site) (facts flush_facts : Facts) (own flush_own : Own) (h : List ℕ) (held : Held)
+    (tree : FileTree) (steps : List Step) → IsWellFormed tree → opened_at tree h ≡ Some (opened.File held) → ToWrite held → AreServed config answers tree steps → StandAlone config held.file h own tree steps
+    → 0 < length bytes → slot_at site slot ≡ Buffered file buffer → (written : HasEnded (call.BufWriteAll slot bytes) site facts own answers outcome.Done) → slot_at flush_site slot ≡ slot_at written.left slot
+    → HasEnded (call.BufFlush slot) flush_site flush_facts flush_own answers outcome.Done → bytes_of (after config tree steps) held.file ≡ put (bytes_of tree held.file) file.offset bytes
+flushed_writes config answers slot file buffer bytes site flush_site facts flush_facts own flush_own h held tree steps well_formed open_is way served stand some stands written same flush =
+    let f = flushed_asks answers slot file buffer bytes site flush_site facts flush_facts own flush_own h (bear config held.file h steps own tree stand) stands written same flush in by_own own f.asks f.all f.said stand
+  where
     by_own : (mine : Own) → AreWrites h file.offset mine → carried mine ≡ bytes → AreWritten answers (places mine) → StandAlone config held.file h mine tree steps
         → bytes_of (after config tree steps) held.file ≡ put (bytes_of tree held.file) file.offset bytes
     by_own [] asks all each stand = absurd (let l : 0 ≡ length bytes = ap length all in omega (arith, l, some))

@@ -27,7 +27,7 @@ journal_before : (s : Setting) (more past : List Entry) → IsJournal s (more ++
 journal_before s [] past j = j
 journal_before s (e ∷ more) past j = journal_before s more past j.1
 
-answers_stay : (s : Setting) (more past : List Entry) → IsJournal s (more ++ past) → Extends (answer past) (answer (more ++ past))
+pub answers_stay : (s : Setting) (more past : List Entry) → IsJournal s (more ++ past) → Extends (answer past) (answer (more ++ past))
 answers_stay s [] past j = λ place r e. e
 answers_stay s (entry.Event (Take id r) ∷ more) past j = later (answers_stay s more past j.1)
   where
@@ -35,7 +35,7 @@ answers_stay s (entry.Event (Take id r) ∷ more) past j = later (answers_stay s
     later stays place q e = answer_stays (more ++ past) id r q place (next_take s (more ++ past) id r j.0).0 (stays place q e)
 answers_stay s (_ ∷ more) past j = answers_stay s more past j.1
 
-ended_grows : (more past : List Entry) (lane : ℕ) → ended past lane ≤ ended (more ++ past) lane
+pub ended_grows : (more past : List Entry) (lane : ℕ) → ended past lane ≤ ended (more ++ past) lane
 ended_grows [] past lane = omega arith
 ended_grows (entry.Event (End l call o) ∷ more) past lane = by_test (l == lane) (ended_grows more past lane)
   where
@@ -45,7 +45,7 @@ ended_grows (entry.Event (End l call o) ∷ more) past lane = by_test (l == lane
 ended_grows (_ ∷ more) past lane = ended_grows more past lane
 
 -- a call that has ended makes no further request
-own_stays : (s : Setting) (more past : List Entry) (lane call : ℕ) → IsJournal s (more ++ past) → call < ended past lane → own (more ++ past) lane call ≡ own past lane call
+pub own_stays : (s : Setting) (more past : List Entry) (lane call : ℕ) → IsJournal s (more ++ past) → call < ended past lane → own (more ++ past) lane call ≡ own past lane call
 own_stays s [] past lane call j lt = refl
 own_stays s (entry.Event (Submit (owner.Call l n) id r) ∷ more) past lane call j lt =
     let now : n ≡ ended (more ++ past) l = (next_submit s (more ++ past) l n id r j.0).0 in

@@ -181,7 +181,7 @@ all_below n [] below = tt
 all_below n (r ∷ requests) below = (below r.0 (inl refl), all_below n requests (λ place h. below place (inr h)))
 
 -- a request passes the name by where the other lanes keep off it and the lane's own passes it by
-place_passes : (s : Setting) (past : List Entry) (name : Name) (lane place : ℕ) → IsJournal s past → IsOfLane past name lane → ((call : ℕ) → is_asked_by (asked_at past place) lane call ≡ true → PassesAt s past name place)
+pub place_passes : (s : Setting) (past : List Entry) (name : Name) (lane place : ℕ) → IsJournal s past → IsOfLane past name lane → ((call : ℕ) → is_asked_by (asked_at past place) lane call ≡ true → PassesAt s past name place)
     → PassesAt s past name place
 place_passes s past name lane place j t mine_passes = by_asked (asked_at past place) refl
   where
@@ -202,7 +202,7 @@ place_passes s past name lane place j t mine_passes = by_asked (asked_at past pl
     by_asked (Some a) is = by_who a is (who_asked s past place a j is)
 
 -- and each but OPENs of the name avoids it
-lane_comes : (s : Setting) (past : List Entry) (name : Name) (lane n : ℕ) → IsJournal s past → IsOfLane past name lane → ComeByOpens past name n
+pub lane_comes : (s : Setting) (past : List Entry) (name : Name) (lane n : ℕ) → IsJournal s past → IsOfLane past name lane → ComeByOpens past name n
 lane_comes s past name lane n j t place a lt is plain = by_who (who_asked s past place a j is)
   where
     by_who : WhoAsked past place a → Avoids name a.request

@@ -38,3 +38,6 @@ pub mod LaneLaws
 pub mod LaneBackLaws
 pub mod WholeRunSent
 pub mod RunBackLaws
+pub mod LeftLaws
+pub mod AnewLaws
+pub mod AnewRuns

@@ -21,7 +21,7 @@ use Rattle.sftp_read_back.specs.GrantUses.{AllPassBy, AreAmong, IsCallOn, IsRunO
 use Rattle.sftp_read_back.specs.Steps.{Step, answer_to, after, AllSpare, AreServed, HasBytes}
 use Rattle.sftp_read_back.proofs.GrantLaws.{AreKept, AreKinds, grants_are_kept, kinds_as, kinds_of}
 use Rattle.sftp_read_back.proofs.PassingLaws.{AreSpared, passing_steps_spare}
-use Rattle.sftp_read_back.proofs.StepLaws.{served_first, served_rest, steps_bytes, steps_node, steps_well_formed}
+use Rattle.sftp_read_back.proofs.StepLaws.{after_two, served_first, served_rest, steps_bytes, steps_node, steps_well_formed}
 use Rattle.sftp_read_back.proofs.WholeReadLaws.{whole_reads, whole_refused}
 use Rattle.sftp_read_back.proofs.WholeWriteLaws.{whole_writes}
 
@@ -149,3 +149,36 @@ refused_first config answers grant_of elsewhere name tree before rest r path bou
     let same : node_at now name ≡ node_at tree name = steps_node config name tree before (all_spare config answers grant_of elsewhere name tree before (r ∷ rest) pass orderly.spared) in
     whole_refused config answers name path bound site facts read ended now r rest (subst HasNoFile (sym same) none) one denotes is.unrefused (served_rest config answers tree before (r ∷ rest) run.served) e
     ∙ ap (λ (w : Option Node). outcome.Refused (error.SftpError (refusal_of w) [] [])) same
+
+-- ---- what is left
+
+-- a call stands on the name to the end of the run
+pub call_stands : (config : ServerConfig) (answers : Answers) (grant_of : ℕ → Option ℕ) (elsewhere : ℕ → Bool) (name : Name) (tree : FileTree) (before rest : List Step) (w : Step) (written : Own) → IsWellFormed tree
+    → IsRunOn config answers grant_of elsewhere name tree (before ++ w ∷ rest) → IsCallOn answers grant_of elsewhere name written w rest → StandsOnName config answers name written (after config tree before) w rest
+call_stands config answers grant_of elsewhere name tree before rest w written well_formed run is =
+    let now : FileTree = after config tree before in
+    let orderly = run_orderly config answers grant_of elsewhere name tree (before ++ w ∷ rest) well_formed run in
+    let from_w : IsOrderly config answers grant_of elsewhere name (seen_after [] before) now (w ∷ rest) = orderly_rest config answers grant_of elsewhere name [] tree before (w ∷ rest) orderly in
+    stands_by config answers grant_of elsewhere name written (seen_after [] before) now w rest [] (served_rest config answers tree before (w ∷ rest) run.served)
+    (subst (λ (l : List Step). IsOrderly config answers grant_of elsewhere name (seen_after [] before) now (w ∷ l)) (sym (append-nil rest)) from_w) is
+
+-- a whole write leaves its bytes where what comes after it passes the name by
+pub write_stays : (config : ServerConfig) (answers : Answers) (grant_of : ℕ → Option ℕ) (elsewhere : ℕ → Bool) (name : Name) (tree : FileTree) (before rest : List Step) (w : Step) (path bytes : List ℕ) (site : Site)
+    (facts : Facts) (written : Own)
+    → IsWellFormed tree → IsRunOn config answers grant_of elsewhere name tree (before ++ w ∷ rest) → components (from_directory site path) ≡ name → IsCallOn answers grant_of elsewhere name written w rest
+    → HasEnded (call.FsWrite path bytes) site facts (asked_by w ∷ written) answers outcome.Done → HasBytes (after config tree (before ++ w ∷ rest)) name bytes
+write_stays config answers grant_of elsewhere name tree before rest w path bytes site facts written well_formed run denotes is e =
+    subst (λ (left : FileTree). HasBytes left name bytes) (sym (after_two config tree before (w ∷ rest)))
+    (whole_writes config answers name path bytes site facts written (after config tree before) w rest (steps_well_formed config tree before well_formed) denotes
+    (call_stands config answers grant_of elsewhere name tree before rest w written well_formed run is) e)
+
+-- and steps that pass the name by leave what it has
+pub name_stays : (config : ServerConfig) (answers : Answers) (grant_of : ℕ → Option ℕ) (elsewhere : ℕ → Bool) (name : Name) (tree : FileTree) (steps : List Step) → IsWellFormed tree
+    → IsRunOn config answers grant_of elsewhere name tree steps → AllPassBy answers grant_of elsewhere name steps
+    → (node_at (after config tree steps) name ≡ node_at tree name) × ((bytes : List ℕ) → HasBytes tree name bytes → HasBytes (after config tree steps) name bytes)
+name_stays config answers grant_of elsewhere name tree steps well_formed run pass =
+    let orderly = run_orderly config answers grant_of elsewhere name tree steps well_formed run in
+    let spare : AllSpare config name tree steps =
+    all_spare config answers grant_of elsewhere name tree steps [] pass (subst (AreSpared config answers grant_of elsewhere name tree) (sym (append-nil steps)) orderly.spared)
+    in
+    (steps_node config name tree steps spare, λ bytes has. steps_bytes config name bytes tree steps well_formed spare has)

@@ -9,3 +9,4 @@ pub mod Bearing
 pub mod InJournals
 pub mod BearingRows
 pub mod InJournalRows
+pub mod FilesLeft

@@ -23,6 +23,7 @@ pub use rows::{
 };
 pub use sessions::{
     lanes_read_what_they_wrote, lanes_read_what_was_there, lanes_that_keep_off_pass_by,
-    runs_read_what_they_wrote, runs_read_what_was_there, served_journals_are_runs_on_names,
-    served_reads_give_what_was_there, served_writes_are_read_back,
+    runs_leave_what_they_flushed, runs_leave_what_they_wrote, runs_read_what_they_wrote,
+    runs_read_what_was_there, served_journals_are_runs_on_names, served_reads_give_what_was_there,
+    served_writes_are_read_back,
 };

@@ -6,8 +6,12 @@ ghost use Rattle.sftp_model.specs.declared.error.Error.TheVariants as error;
 ghost use Rattle.sftp_model.specs.declared.outcome.Outcome.{Outcome};
 ghost use Rattle.sftp_model.specs.declared.outcome.Outcome.TheVariants as outcome;
 ghost use Rattle.sftp_model.specs.declared.request.Request.{Request};
+ghost use Rattle.sftp_model.specs.Slots.{slot_at};
+ghost use Rattle.sftp_model.specs.declared.slot.Buffer.{Buffer};
 ghost use Rattle.sftp_model.specs.declared.slot.Facts.{Facts};
+ghost use Rattle.sftp_model.specs.declared.slot.FileAt.{FileAt};
 ghost use Rattle.sftp_model.specs.declared.slot.Site.{Site};
+ghost use Rattle.sftp_model.specs.declared.slot.Slot.TheVariants.{Buffered};
 ghost use Rattle.sftp_tree.specs.Changes.{IsWellFormed};
 ghost use Rattle.sftp_tree.specs.Components.{Name, components};
 ghost use Rattle.sftp_tree.specs.FileTree.{FileTree, node_at};
@@ -23,6 +27,7 @@ ghost use Rattle.sftp_history.specs.Served.{Serves};
 ghost use Rattle.sftp_history.specs.declared.turn.Turn.{Turn};
 ghost use Rattle.sftp_read_back.specs.Bearing.{grant_at};
 ghost use Rattle.sftp_read_back.specs.CallsAmong.{Gives, HasEnded, HasNoFile, refusal_of};
+ghost use Rattle.sftp_read_back.specs.FilesLeft.{IsUntouched, LaneAnew, LaneLast, LaneNever};
 ghost use Rattle.sftp_read_back.specs.GrantUses.{IsRunOn};
 ghost use Rattle.sftp_read_back.specs.InJournals.{AloneOn, AreBelow, ComeByOpens, InTurn, KeepsOff, LaneFirst, LaneInTurn, PassesAt, is_elsewhere, is_of_call};
 ghost use Rattle.sftp_read_back.specs.Steps.{HasBytes, RefuseNone, RunOf};
@@ -159,4 +164,38 @@ pub fn runs_read_what_was_there()
         → components (from_directory site path) ≡ name → 1 ≤ facts.read_len
         → HasEnded (call.FsRead path bound) site facts (r ∷ read) (answer past) ended
         → ended ≡ outcome.Refused (error.SftpError (refusal_of (node_at first name)) [] []) }
+{}
+
+/// In a whole run that a file machine serves whose choices refuse nothing, a call of a lane wrote a file as a whole and
+/// ended well; the other lanes keep off the name, and the lane's later calls pass it by. Then the run leaves the file
+/// with the bytes of the write. Where all calls of the lane pass the name by, it leaves what the name had.
+pub fn runs_leave_what_they_wrote()
+    ensures written { (s : Setting) (config : ServerConfig) (choices : List Choice) (first now : FileTree)
+        (turns : List Turn) (past : List Entry) (name : Name) (lane writer : ℕ) (w : ℕ × Request) (written : Own)
+        (path bytes : List ℕ) (site : Site) (facts : Facts)
+        → IsRun s turns past → Serves config choices first past now → RefuseNone choices → IsWellFormed first
+        → LaneLast s past name lane writer w written → components (from_directory site path) ≡ name
+        → HasEnded (call.FsWrite path bytes) site facts (w ∷ written) (answer past) outcome.Done
+        → HasBytes now name bytes }
+    ensures untouched { (s : Setting) (config : ServerConfig) (choices : List Choice) (first now : FileTree)
+        (turns : List Turn) (past : List Entry) (name : Name) (lane : ℕ)
+        → IsRun s turns past → Serves config choices first past now → RefuseNone choices → IsWellFormed first
+        → LaneNever s past name lane → IsUntouched first now name }
+{}
+
+/// What was written to a buffer and flushed is left. In a whole run that a file machine serves whose choices refuse nothing,
+/// a lane to whom a name is opened it to be written anew, by a later call wrote bytes to what was opened, from its start on,
+/// and flushed them, and all ended well; the other lanes keep off the name, and the lane's other calls behind the first
+/// pass it by. Then the run leaves the file with the bytes.
+pub fn runs_leave_what_they_flushed()
+    ensures { (s : Setting) (config : ServerConfig) (choices : List Choice) (first now : FileTree) (turns : List Turn)
+        (past : List Entry) (name : Name) (lane opener writer slot : ℕ) (w : ℕ × Request) (written flush_own : Own)
+        (file : FileAt) (buffer : Buffer) (bytes : List ℕ) (site flush_site : Site) (facts flush_facts : Facts)
+        → IsRun s turns past → Serves config choices first past now → RefuseNone choices → IsWellFormed first
+        → LaneAnew s past name lane opener writer w written → slot_at site slot ≡ Buffered file buffer
+        → file.offset ≡ 0
+        → (wrote : HasEnded (call.BufWriteAll slot bytes) site facts written (answer past) outcome.Done)
+        → slot_at flush_site slot ≡ slot_at wrote.left slot
+        → HasEnded (call.BufFlush slot) flush_site flush_facts flush_own (answer past) outcome.Done
+        → HasBytes now name bytes }
 {}

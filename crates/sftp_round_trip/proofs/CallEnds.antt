@@ -1,6 +1,7 @@
 -- How a call ended whose outcome is reported.
 use Rattle.std.proofs.Common.{◌≡◌, ◌≢◌, ◌==◌, ◌+◌, ℕ, zero, suc, Bool, true, false, List, [], ◌∷◌, ◌++◌, length, Option, Some, None, if◌then◌else◌, refl, ap, sym, ◌∙◌, subst, arith, inl, inr}
 use Rattle.std.specs.Prelude.{◌⊎◌, MatchOption, slice_get}
+use Rattle.std.specs.List.{list_all}
 use Rattle.std.proofs.lemmas.Bool.Decides.{eqb_tells}
 use Rattle.std.proofs.lemmas.List.{length-append}
 use Rattle.sftp_model.specs.declared.outcome.Outcome.{Outcome}
@@ -20,8 +21,8 @@ use Rattle.sftp_history.specs.Readings.{answer, ended, last_cancel, outcomes_of,
 use Rattle.sftp_read_back.specs.CallsAmong.{HasEnded}
 use Rattle.sftp_read_back.proofs.JournalCalls.{ended_calls}
 use Rattle.sftp_read_back.proofs.UsedLaws.{some_is}
-use Rattle.sftp_round_trip.specs.RoundTrips.{AreWhole, outcome_at}
-use Rattle.sftp_round_trip.proofs.LaneCalls.{call_stays, whole_before}
+use Rattle.sftp_round_trip.specs.RoundTrips.{outcome_at}
+use Rattle.sftp_round_trip.proofs.LaneCalls.{all_before, call_stays, is_still}
 
 -- ---- lists
 
@@ -32,7 +33,7 @@ get_last (z ∷ xs) x zero y e = inl e
 get_last (z ∷ xs) x (suc n) y e = elim (get_last xs x n y e) [ inl old ↦ inl old | inr new ↦ inr (ap suc new.0, new.1) ]
 
 -- a lane has as many outcomes as calls of it ended
-outcomes_count : (past : List Entry) (lane : ℕ) → length (outcomes_of past lane) ≡ ended past lane
+pub outcomes_count : (past : List Entry) (lane : ℕ) → length (outcomes_of past lane) ≡ ended past lane
 outcomes_count [] lane = refl
 outcomes_count (entry.Event (End l k o) ∷ past) lane = by_test (l == lane) (outcomes_count past lane)
   where
@@ -97,7 +98,7 @@ call_there (Some c) site facts own answers ended left e = (c, refl)
 -- a call that ended, uncancelled, made its requests by its plan and ended so
 pub record EndedByPlan (s : Setting) (past : List Entry) (lane k : ℕ) (c : Call) (o : Outcome) : Type 0 where
   pub before : List Entry
-  pub whole : AreWhole (lane_calls s past lane) → AreWhole (lane_calls s before lane)
+  pub still : list_all is_still (lane_calls s past lane) ≡ true → list_all is_still (lane_calls s before lane) ≡ true
   pub did : HasEnded (planned c) (site_of s before lane) s.facts (own past lane k) (answer past) o
 
 pub call_ended : (s : Setting) (past : List Entry) (lane k : ℕ) (c : Call) (o : Outcome) → IsJournal s past → call_at s past lane k ≡ Some c → o ≢ outcome.Cancelled → outcome_at past lane k ≡ Some o → EndedByPlan s past lane k c o
@@ -116,7 +117,7 @@ call_ended s past lane k c o j is ne e =
     in
     record {
       before = t.before;
-      whole = λ w. whole_before s t.more (end ∷ t.before) lane (subst (λ (l : List Entry). AreWhole (lane_calls s l lane)) (sym t.is) w);
+      still = λ w. all_before is_still s t.more (end ∷ t.before) lane (subst (λ (l : List Entry). list_all is_still (lane_calls s l lane) ≡ true) (sym t.is) w);
       did =
           subst (λ (d : Call). HasEnded (planned d) (site_of s t.before lane) s.facts (own past lane k) (answer past) o) same
           (subst (λ (l : List Entry). HasEnded (planned found.0) (site_of s t.before lane) s.facts (own l lane k) (answer l) o) t.is

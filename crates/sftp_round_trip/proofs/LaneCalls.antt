@@ -1,27 +1,31 @@
--- The calls of a lane as its journal grows, and the directory of a lane whose calls are whole writes and whole reads.
+-- The calls of a lane as its journal grows, and the directory of a lane none of whose calls changes it.
 use Rattle.std.proofs.Common.{append_assoc, ◌≡◌, ◌==◌, ℕ, zero, suc, Bool, true, false, List, [], ◌∷◌, ◌++◌, Option, Some, None, if◌then◌else◌, refl, ap, sym, ◌∙◌, subst, inl, inr}
 use Rattle.std.specs.Prelude.{slice_get}
+use Rattle.std.specs.List.{list_all}
+use Rattle.std.proofs.lemmas.Bool.{and_parts}
 use Rattle.std.proofs.lemmas.Bool.Decides.{eqb_tells}
 use Rattle.std.proofs.lemmas.List.{append-nil}
+use Rattle.std.proofs.lemmas.List.Folds.{list_all-append}
 use Rattle.sftp_model.specs.Slots.{fresh_site}
 use Rattle.sftp_model.specs.declared.slot.Facts.{Facts}
 use Rattle.sftp_model.specs.declared.slot.Move.{Move}
 use Rattle.sftp_model.specs.declared.slot.Move.TheVariants.{Ask, Wait, Done}
 use Rattle.sftp_model.specs.declared.slot.Site.{Site}
-use Rattle.sftp_calls.specs.Ends.{Leaves}
+use Rattle.sftp_model.specs.declared.request.Request.{Request}
+use Rattle.sftp_tree.specs.Components.{Name}
 use Rattle.sftp_calls.specs.Moves.{Answers, Own}
 use Rattle.sftp_calls.specs.PathPlans.{from_directory}
-use Rattle.sftp_model.specs.Paths.{is_absolute_path}
 use Rattle.sftp_history.specs.declared.call.Call.{Call}
 use Rattle.sftp_history.specs.declared.call.Call.TheVariants as call
 use Rattle.sftp_history.specs.declared.entry.Entry.{Entry}
 use Rattle.sftp_history.specs.declared.entry.Entry.TheVariants as entry
 use Rattle.sftp_history.specs.declared.event.Event.TheVariants.{End}
-use Rattle.sftp_history.specs.Calls.{Setting, call_at, lane_calls, left_by, next, site_left, site_of}
+use Rattle.sftp_history.specs.Calls.{Setting, call_at, lane_calls, left_by, next, planned, site_left, site_of}
 use Rattle.sftp_history.specs.Readings.{answer, last_cancel, own}
 use Rattle.sftp_history.proofs.CallLaws.{added_here, added_other}
-use Rattle.sftp_round_trip.specs.RoundTrips.{AreWhole, IsWhole}
-use Rattle.sftp_round_trip.proofs.WholeMoves.{read_leaves_site, write_leaves_site}
+use Rattle.sftp_round_trip.specs.NameCalls.{keeps_off, may_own}
+use Rattle.sftp_round_trip.proofs.CallMoves.{AsksPath, GoesSo, call_goes, cancelled_stays}
+use Rattle.sftp_round_trip.proofs.OffRequests.{plain_joined}
 
 -- ---- lists
 
@@ -30,14 +34,19 @@ get_left [] ys n x e = absurd cc
 get_left (y ∷ xs) ys zero x e = e
 get_left (y ∷ xs) ys (suc n) x e = get_left xs ys n x e
 
-pub whole_left : (xs ys : List Call) → AreWhole (xs ++ ys) → AreWhole xs
-whole_left [] ys w = tt
-whole_left (c ∷ xs) ys w = (w.0, whole_left xs ys w.1)
+pub all_left : (test : Call → Bool) (xs ys : List Call) → list_all test (xs ++ ys) ≡ true → list_all test xs ≡ true
+all_left test xs ys all = (and_parts (list_all test xs) (list_all test ys) (sym (list_all-append test xs ys) ∙ all)).0
 
-pub whole_at : (xs : List Call) (n : ℕ) (c : Call) → AreWhole xs → slice_get xs n ≡ Some c → IsWhole c
-whole_at [] n c w e = absurd cc
-whole_at (d ∷ xs) zero c w e = (let same : d ≡ c = cc in subst IsWhole same w.0)
-whole_at (d ∷ xs) (suc n) c w e = whole_at xs n c w.1 e
+pub each_is : {A : Type 0} (test : A → Bool) (xs : List A) (n : ℕ) (x : A) → list_all test xs ≡ true → slice_get xs n ≡ Some x → test x ≡ true
+each_is test [] n x all e = absurd cc
+each_is test (y ∷ xs) zero x all e = (let same : y ≡ x = cc in ap test (sym same) ∙ (and_parts (test y) (list_all test xs) all).0)
+each_is test (y ∷ xs) (suc n) x all e = each_is test xs n x (and_parts (test y) (list_all test xs) all).1 e
+
+-- what passes one test passes another
+pub all_more : (test other : Call → Bool) (xs : List Call) → ((c : Call) → test c ≡ true → other c ≡ true) → list_all test xs ≡ true → list_all other xs ≡ true
+all_more test other [] more all = refl
+all_more test other (c ∷ xs) more all =
+    let both = and_parts (test c) (list_all test xs) all in rw (more c both.0, all_more test other xs more both.1) refl
 
 -- ---- the calls of a lane
 
@@ -60,56 +69,83 @@ pub call_stays : (s : Setting) (more past : List Entry) (lane k : ℕ) (c : Call
 call_stays s more past lane k c is =
     let g = calls_grow s more past lane in ap (λ (cs : List Call). slice_get cs k) g.1 ∙ get_left (lane_calls s past lane) g.0 k c is
 
-pub whole_before : (s : Setting) (more past : List Entry) (lane : ℕ) → AreWhole (lane_calls s (more ++ past) lane) → AreWhole (lane_calls s past lane)
-whole_before s more past lane w = let g = calls_grow s more past lane in whole_left (lane_calls s past lane) g.0 (subst AreWhole g.1 w)
+pub all_before : (test : Call → Bool) (s : Setting) (more past : List Entry) (lane : ℕ) → list_all test (lane_calls s (more ++ past) lane) ≡ true → list_all test (lane_calls s past lane) ≡ true
+all_before test s more past lane all =
+    let g = calls_grow s more past lane in all_left test (lane_calls s past lane) g.0 (subst (λ (calls : List Call). list_all test calls ≡ true) g.1 all)
 
 -- ---- the directory
+
+-- the call changes no directory
+abbrev pub is_still : Call → Bool
+is_still (call.Cwd path) = false
+is_still other = true
 
 -- the lane is in no directory
 abbrev pub HasNone : Site → Type 0
 HasNone site = site.directory ≡ []
 
-left_so : (P : Site → Type 0) (m : Move) (site : Site) → P site → Leaves P m → P (left_by m site)
-left_so P (Done ended after) site b l = l
-left_so P (Ask r) site b l = b
-left_so P (Wait place) site b l = b
+left_so : (P : Request → Type 0) (m : Move) (site : Site) → GoesSo P site.directory m → (left_by m site).directory ≡ site.directory
+left_so P (Done ended after) site goes = goes
+left_so P (Ask r) site goes = refl
+left_so P (Wait place) site goes = refl
 
-call_left : (c : Call) (cancel : Option ℕ) (site : Site) (facts : Facts) (own : Own) (answers : Answers) → IsWhole c → HasNone site → HasNone (site_left (Some c) cancel site facts own answers)
-call_left (call.FsWrite path bytes) None site facts own answers w b =
-    left_so HasNone (next (call.FsWrite path bytes) site facts own answers) site b (write_leaves_site HasNone path bytes site facts own answers b)
-call_left (call.FsRead path bound) None site facts own answers w b =
-    left_so HasNone (next (call.FsRead path bound) site facts own answers) site b (read_leaves_site HasNone path bound site facts own answers b)
-call_left (call.FsWrite path bytes) (Some lane) site facts own answers w b = b
-call_left (call.FsRead path bound) (Some lane) site facts own answers w b = b
-call_left other cancel site facts own answers w b = absurd w
+-- any request
+abbrev IsAny : Request → Type 0
+IsAny r = Unit {0}
 
--- whole writes and whole reads leave a lane in no directory
-pub plain_site : (s : Setting) (past : List Entry) (lane : ℕ) → AreWhole (lane_calls s past lane) → HasNone (site_of s past lane)
-plain_site s [] lane w = refl
-plain_site s (entry.Event (End l k o) ∷ past) lane w = by_test (l == lane) (plain_site s past lane w)
+any_rename : (b : Bool) (p q : Request) → IsAny (if b then p else q)
+any_rename true p q = tt
+any_rename false p q = tt
+
+any_path : (site : Site) (facts : Facts) (c : Call) → is_still c ≡ true → AsksPath IsAny site facts (planned c)
+any_path site facts (call.Cwd path) e = absurd cc
+any_path site facts (call.List path bound) e = (tt, λ handle. tt)
+any_path site facts (call.OpenFile slot flags path) e = tt
+any_path site facts (call.FsRead path bound) e = tt
+any_path site facts (call.FsWrite path bytes) e = tt
+any_path site facts other e = tt
+
+call_left : (c : Call) (cancel : Option ℕ) (site : Site) (facts : Facts) (own : Own) (answers : Answers) → is_still c ≡ true → (site_left (Some c) cancel site facts own answers).directory ≡ site.directory
+call_left c None site facts own answers still =
+    left_so IsAny (next c site facts own answers) site (call_goes IsAny (planned c) site facts own answers (λ r x. tt) (any_path site facts c still))
+call_left c (Some lane) site facts own answers still = cancelled_stays (planned c) site facts own answers
+
+-- a lane none of whose calls changes its directory is in none
+pub plain_site : (s : Setting) (past : List Entry) (lane : ℕ) → list_all is_still (lane_calls s past lane) ≡ true → HasNone (site_of s past lane)
+plain_site s [] lane still = refl
+plain_site s (entry.Event (End l k o) ∷ past) lane still = by_test (l == lane) (plain_site s past lane still)
   where
     by_call : (c : Option Call) → call_at s past lane k ≡ c → HasNone (site_of s past lane) → HasNone (site_left c (last_cancel past) (site_of s past lane) s.facts (own past lane k) (answer past))
     by_call None is b = b
-    by_call (Some c) is b = call_left c (last_cancel past) (site_of s past lane) s.facts (own past lane k) (answer past) (whole_at (lane_calls s past lane) k c w is) b
+    by_call (Some c) is b = call_left c (last_cancel past) (site_of s past lane) s.facts (own past lane k) (answer past) (each_is is_still (lane_calls s past lane) k c still is) ∙ b
 
     by_test : (b : Bool) → HasNone (site_of s past lane) → HasNone (if b then site_left (call_at s past lane k) (last_cancel past) (site_of s past lane) s.facts (own past lane k) (answer past) else site_of s past lane)
     by_test true h = by_call (call_at s past lane k) refl h
     by_test false h = h
-plain_site s (entry.LetGo l ∷ past) lane w = by_test (l == lane) (plain_site s past lane w)
+plain_site s (entry.LetGo l ∷ past) lane still = by_test (l == lane) (plain_site s past lane still)
   where
     by_test : (b : Bool) → HasNone (site_of s past lane) → HasNone (if b then record { slots = fresh_site.slots; directory = (site_of s past lane).directory } else site_of s past lane)
     by_test true h = h
     by_test false h = h
-plain_site s (entry.Added l c ∷ past) lane w = plain_site s past lane (whole_before s (entry.Added l c ∷ []) past lane w)
-plain_site s (_ ∷ past) lane w = plain_site s past lane w
+plain_site s (entry.Added l c ∷ past) lane still = plain_site s past lane (all_before is_still s (entry.Added l c ∷ []) past lane still)
+plain_site s (_ ∷ past) lane still = plain_site s past lane still
 
--- a path of theirs is meant as it stands
-plain_joined : (directory path : List ℕ) → directory ≡ [] → from_directory (record { slots = []; directory = directory }) path ≡ path
-plain_joined directory path none = ap (λ (d : List ℕ). from_directory (record { slots = []; directory = d }) path) none ∙ by_test (is_absolute_path path)
-  where
-    by_test : (b : Bool) → (if b then path else path) ≡ path
-    by_test true = refl
-    by_test false = refl
+-- so its paths are meant as they stand
+pub plain_path : (s : Setting) (past : List Entry) (lane : ℕ) (path : List ℕ) → list_all is_still (lane_calls s past lane) ≡ true → from_directory (site_of s past lane) path ≡ path
+plain_path s past lane path still = plain_joined (site_of s past lane).directory path (plain_site s past lane still)
 
-pub plain_path : (s : Setting) (past : List Entry) (lane : ℕ) (path : List ℕ) → AreWhole (lane_calls s past lane) → from_directory (site_of s past lane) path ≡ path
-plain_path s past lane path w = plain_joined (site_of s past lane).directory path (plain_site s past lane w)
+-- ---- lanes by what they have to do with a name
+
+off_still : (name : Name) (c : Call) → keeps_off name c ≡ true → is_still c ≡ true
+off_still name (call.Cwd path) e = absurd cc
+off_still name other e = refl
+
+pub all_off_still : (name : Name) (calls : List Call) → list_all (keeps_off name) calls ≡ true → list_all is_still calls ≡ true
+all_off_still name calls all = all_more (keeps_off name) is_still calls (off_still name) all
+
+own_still : (name : Name) (c : Call) → may_own name c ≡ true → is_still c ≡ true
+own_still name (call.Cwd path) e = absurd cc
+own_still name other e = refl
+
+pub all_own_still : (name : Name) (calls : List Call) → list_all (may_own name) calls ≡ true → list_all is_still calls ≡ true
+all_own_still name calls all = all_more (may_own name) is_still calls (own_still name) all

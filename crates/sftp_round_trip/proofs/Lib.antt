@@ -1,5 +1,11 @@
+pub mod CallMoves
+pub mod OffRequests
 pub mod WholeMoves
+pub mod BufferedMoves
 pub mod LaneCalls
 pub mod CallRequests
 pub mod CallEnds
+pub mod CallSites
 pub mod RoundTripLaws
+pub mod FlushedLaws
+pub mod ReadsBackLaws

@@ -1,5 +1,7 @@
--- A lane whose calls are whole writes and whole reads reads what it wrote, and what was there, in a run over a server of files in memory.
-use Rattle.std.proofs.Common.{◌≡◌, ◌≤◌, ℕ, Bool, true, false, List, [], ◌∷◌, Option, Some, None, if◌then◌else◌, refl, ap, sym, ◌∙◌, subst, arith}
+-- A lane that alone has to do with a name reads what it wrote, and what was there, in a run over a server of files in memory.
+use Rattle.std.proofs.Common.{◌≡◌, ◌<◌, ◌≤◌, ℕ, zero, suc, Bool, true, false, List, [], ◌∷◌, length, Option, Some, None, if◌then◌else◌, refl, ap, sym, ◌∙◌, subst, arith}
+use Rattle.std.specs.Prelude.{slice_get}
+use Rattle.std.specs.List.{list_all}
 use Rattle.sftp_model.specs.Lengths.{session_len}
 use Rattle.sftp_model.specs.declared.error.Error.TheVariants as error
 use Rattle.sftp_model.specs.declared.error.IoKind.TheVariants as kind
@@ -32,15 +34,18 @@ use Rattle.sftp_history.specs.Runs.{IsRun}
 use Rattle.sftp_history.proofs.OverLaws.{runs_are_journals}
 use Rattle.sftp_map_server.specs.Serving.{Server}
 use Rattle.sftp_read_back.specs.CallsAmong.{Gives, HasEnded, HasNoFile, refusal_of}
-use Rattle.sftp_read_back.specs.InJournals.{IsOfLane, KeepsOff, LaneFirst, LaneInTurn, PassesAt, is_of_call, is_open_of}
+use Rattle.sftp_read_back.specs.FilesLeft.{IsUntouched, LaneLast}
+use Rattle.sftp_read_back.specs.InJournals.{IsOfLane, KeepsOff, LaneFirst, LaneInTurn, PassesAt, is_of_call}
 use Rattle.sftp_read_back.specs.Steps.{HasBytes, RefuseNone}
+use Rattle.sftp_read_back.proofs.LeftLaws.{never_left, write_left}
 use Rattle.sftp_read_back.proofs.MoveWords.{is_all_done, is_done, outcome_of}
 use Rattle.sftp_read_back.proofs.RunBackLaws.{run_back, run_reads, run_refused}
 use Rattle.sftp_served.specs.Unopened.{IsServedRun, IsUnopened}
-use Rattle.sftp_round_trip.specs.RoundTrips.{AreWhole, HasRead, HasWritten, IsOneLanes, NoneNames, NoneWrites, WritesWhole, passes_length}
+use Rattle.sftp_round_trip.specs.NameCalls.{keeps_off, may_own}
+use Rattle.sftp_round_trip.specs.RoundTrips.{HasRead, HasWritten, IsOneLanes, NoneWrites, WritesWhole, passes_length}
 use Rattle.sftp_round_trip.proofs.CallEnds.{EndedByPlan, call_ended}
-use Rattle.sftp_round_trip.proofs.CallRequests.{IsAsked, asked_whole, avoids_plain, opens_none, passes_so}
-use Rattle.sftp_round_trip.proofs.LaneCalls.{plain_path}
+use Rattle.sftp_round_trip.proofs.CallRequests.{IsAsked, asked_own, avoids_plain, may_hold, off_asked, own_held, own_writes, passes_so}
+use Rattle.sftp_round_trip.proofs.LaneCalls.{all_more, all_own_still, each_is, plain_path}
 
 -- ---- the setting and the server
 
@@ -52,7 +57,7 @@ some_len (Some most) len = omega arith
 reads_some : (given : Given) (version : Option Reply) (s : Setting) (past : List Entry) → IsFixed given version past s → 1 ≤ s.facts.read_len
 reads_some given version s past f = subst (λ (x : Setting). 1 ≤ x.facts.read_len) (sym f.1.1) (some_len given.options.max_read_len _)
 
-begins_well : (first : Server) → IsUnopened first → IsWellFormed first.desk.machine.tree
+pub begins_well : (first : Server) → IsUnopened first → IsWellFormed first.desk.machine.tree
 begins_well first u = subst (λ (x : Server). IsWellFormed x.desk.machine.tree) (sym u.is) (first_well_formed u.files u.dirs u.may)
 
 -- ---- a call that made no request
@@ -94,7 +99,7 @@ write_did s past name lane writer reader bytes j one w = by_own (own past lane w
     by_own : (o : Own) → own past lane writer ≡ o → HasEnded (plan.FsWrite w.path bytes) (site_of s e.before lane) s.facts o (answer past) outcome.Done → Did (plan.FsWrite w.path bytes) s past name lane writer w.path outcome.Done
     by_own [] is did = absurd (first_of_write w.path bytes (site_of s e.before lane) did.left did.ends)
     by_own (first ∷ later) is did =
-        record { site = site_of s e.before lane; first = first; later = later; asks = is; denotes = ap components (plain_path s e.before lane w.path (e.whole one.whole)) ∙ w.denotes; did = did }
+        record { site = site_of s e.before lane; first = first; later = later; asks = is; denotes = ap components (plain_path s e.before lane w.path (e.still (all_own_still name (lane_calls s past lane) one.own))) ∙ w.denotes; did = did }
 
 read_did : (s : Setting) (past : List Entry) (name : Name) (lane reader : ℕ) (ended : Outcome) → IsJournal s past → IsOneLanes s past name lane → (r : HasRead s past name lane reader ended)
     → Did (plan.FsRead r.path r.bound) s past name lane reader r.path ended
@@ -104,7 +109,7 @@ read_did s past name lane reader ended j one r = by_own (own past lane reader) r
     e = call_ended s past lane reader (call.FsRead r.path r.bound) ended j r.is r.uncancelled r.ends
 
     plain : from_directory (site_of s e.before lane) r.path ≡ r.path
-    plain = plain_path s e.before lane r.path (e.whole one.whole)
+    plain = plain_path s e.before lane r.path (e.still (all_own_still name (lane_calls s past lane) one.own))
 
     by_own : (o : Own) → own past lane reader ≡ o → HasEnded (plan.FsRead r.path r.bound) (site_of s e.before lane) s.facts o (answer past) ended → Did (plan.FsRead r.path r.bound) s past name lane reader r.path ended
     by_own [] is did = absurd (first_of_read r.path (site_of s e.before lane) did.left ended (ap passes_length plain ∙ r.short) did.ends)
@@ -112,18 +117,19 @@ read_did s past name lane reader ended j one r = by_own (own past lane reader) r
 
 -- ---- what the lane's requests have to do with the name
 
+held : (name : Name) (calls : List Call) → list_all (may_own name) calls ≡ true → list_all (may_hold name) calls ≡ true
+held name calls own = all_more (may_own name) (may_hold name) calls (own_held name) own
+
 of_lane : (s : Setting) (past : List Entry) (name : Name) (lane : ℕ) → IsJournal s past → IsOneLanes s past name lane → IsOfLane past name lane
 of_lane s past name lane j one =
     record {
       others = one.others;
-      by_opens = λ place k a is mine plain. (let x : IsAsked s past lane k place a.request = asked_whole s past lane k place a j one.whole is mine in avoids_plain s past name place x.c a.request x.asks plain);
+      by_opens = λ place k a is mine plain. (let x : IsAsked name s past lane k place a.request = asked_own name s past lane k place a j (held name (lane_calls s past lane) one.own) is mine in avoids_plain s past name place x.c a.request x.asks plain);
     }
 
--- a lane whose whole writes and whole reads are of other names keeps off this one
-pub keeps_off : (s : Setting) (turns : List Turn) (past : List Entry) (name : Name) (lane : ℕ) → IsRun s turns past → AreWhole (lane_calls s past lane) → NoneNames s past name lane → KeepsOff past name lane
-keeps_off s turns past name lane run whole none place k a is mine =
-    let x : IsAsked s past lane k place a.request = asked_whole s past lane k place a (runs_are_journals s turns past run) whole is mine in
-    let plain : is_open_of name a.request ≡ false = opens_none s past name place x.c a.request x.asks (none k x.c x.is) in (avoids_plain s past name place x.c a.request x.asks plain, plain)
+-- a lane whose calls keep off the name keeps off it
+pub lane_keeps_off : (s : Setting) (turns : List Turn) (past : List Entry) (name : Name) (lane : ℕ) → IsRun s turns past → list_all (keeps_off name) (lane_calls s past lane) ≡ true → KeepsOff past name lane
+lane_keeps_off s turns past name lane run off place k a is mine = off_asked name s past lane k place a (runs_are_journals s turns past run) off is mine
 
 -- what a call asks that doesn't write the name passes it by
 call_passes : (s : Setting) (past : List Entry) (name : Name) (lane k place : ℕ) → IsJournal s past → IsOneLanes s past name lane → is_of_call past (lane, k) place ≡ true → ((c : Call) → call_at s past lane k ≡ Some c → WritesWhole name c → ⊥)
@@ -133,7 +139,7 @@ call_passes s past name lane k place j one mine spares = by_asked (asked_at past
     by_asked : (x : Option Asked) → asked_at past place ≡ x → PassesAt s past name place
     by_asked None none = record { avoids = λ b at. absurd (let both : None ≡ Some b = sym none ∙ at in cc); writes = λ b h grant at w uses. absurd (let both : None ≡ Some b = sym none ∙ at in cc) }
     by_asked (Some a) is =
-        let x : IsAsked s past lane k place a.request = asked_whole s past lane k place a j one.whole is mine in passes_so s past name lane k place a is x (spares x.c x.is)
+        let x : IsAsked name s past lane k place a.request = asked_own name s past lane k place a j (held name (lane_calls s past lane) one.own) is mine in passes_so s past name lane k place a is x (λ w. spares x.c x.is (own_writes name x.c (each_is (may_own name) (lane_calls s past lane) k x.c one.own x.is) w))
 
 -- ---- the laws
 
@@ -182,3 +188,35 @@ refused_first given version s turns past first left name lane reader ended run f
     let read = read_did s past name lane reader ended j one r in
     run_refused s first.desk.machine.config first.desk.choices first.desk.machine.tree left turns past name lane reader read.first read.later r.path r.bound read.site s.facts ended run served.serves none (begins_well first unopened) has
     (lane_reads_first s past name lane reader ended j one r before read) read.denotes (reads_some given version s past fixed) read.did
+
+-- ---- what is left
+
+got_below : {A : Type 0} (xs : List A) (k : ℕ) (x : A) → slice_get xs k ≡ Some x → k < length xs
+got_below [] k x e = absurd cc
+got_below (y ∷ xs) zero x e = omega arith
+got_below (y ∷ xs) (suc k) x e = (let below = got_below xs k x e in omega (arith, below))
+
+-- the bytes of the lane's last write are left
+pub writes_left : (s : Setting) (turns : List Turn) (past : List Entry) (first : Server) (left : FileTree) (name : Name) (lane writer : ℕ) (bytes : List ℕ)
+    → IsRun s turns past → IsUnopened first → IsServedRun first past left → RefuseNone first.desk.choices → IsOneLanes s past name lane
+    → HasWritten s past name lane writer (length (lane_calls s past lane)) bytes → HasBytes left name bytes
+writes_left s turns past first left name lane writer bytes run unopened served none one w =
+    let j : IsJournal s past = runs_are_journals s turns past run in
+    let wrote = write_did s past name lane writer (length (lane_calls s past lane)) bytes j one w in
+    let last : LaneLast s past name lane writer wrote.first wrote.later =
+    record {
+      lanes = of_lane s past name lane j one;
+      asks = wrote.asks;
+      later = λ place k above mine. call_passes s past name lane k place j one mine (λ c is. w.last k c above (got_below (lane_calls s past lane) k c is) is);
+    }
+    in
+    write_left s first.desk.machine.config first.desk.choices first.desk.machine.tree left turns past name lane writer wrote.first wrote.later w.path bytes wrote.site s.facts run served.serves none (begins_well first unopened) last wrote.denotes wrote.did
+
+-- and where it wrote none, what was there
+pub left_untouched : (s : Setting) (turns : List Turn) (past : List Entry) (first : Server) (left : FileTree) (name : Name) (lane : ℕ)
+    → IsRun s turns past → IsUnopened first → IsServedRun first past left → RefuseNone first.desk.choices → IsOneLanes s past name lane → NoneWrites s past name lane (length (lane_calls s past lane))
+    → IsUntouched first.desk.machine.tree left name
+left_untouched s turns past first left name lane run unopened served none one before =
+    let j : IsJournal s past = runs_are_journals s turns past run in
+    never_left s first.desk.machine.config first.desk.choices first.desk.machine.tree left turns past name lane run served.serves none (begins_well first unopened)
+    (record { lanes = of_lane s past name lane j one; passes = λ place k mine. call_passes s past name lane k place j one mine (λ c is. before k c (got_below (lane_calls s past lane) k c is) is) })

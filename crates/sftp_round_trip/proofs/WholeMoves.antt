@@ -1,4 +1,4 @@
--- What whole writes and whole reads ask, and what they leave of a site.
+-- What whole writes and whole reads ask.
 use Rattle.std.proofs.Common.{◌≡◌, ◌==◌, ℕ, List, [], ◌∷◌, length, Option, Some, None, refl, ap, subst}
 use Rattle.std.specs.Prelude.{not, nat_lt, drop}
 use Rattle.sftp_model.specs.declared.error.IoKind.TheVariants as kind
@@ -13,15 +13,12 @@ use Rattle.sftp_model.specs.declared.slot.Move.{Move}
 use Rattle.sftp_model.specs.declared.slot.Move.TheVariants.{Ask, Done}
 use Rattle.sftp_model.specs.declared.slot.Site.{Site}
 use Rattle.sftp_calls.specs.CallPlans as plan
-use Rattle.sftp_calls.specs.Ends.{Leaves}
-use Rattle.sftp_calls.specs.FilePlans.{open_request, opened_file}
+use Rattle.sftp_calls.specs.FilePlans.{opened_file}
 use Rattle.sftp_calls.specs.Moves.{Answers, Own, further, handle_of, overflows, refuses}
-use Rattle.sftp_calls.specs.PathPlans.{from_directory}
 use Rattle.sftp_calls.specs.TransferPlans.{next_part, part_len, rest_next}
 use Rattle.sftp_calls.specs.WholePlans.{nowhere, to_replace}
-use Rattle.sftp_calls.specs.WindowPlans.{answered_prefix, ask_more, await_first, contents, ends_or, first_refusal, gaps, go_on, least, least_end, outside, reaches, to_read, unless_refused, window_next}
+use Rattle.sftp_calls.specs.WindowPlans.{answered_prefix, ask_more, await_first, contents, ends_or, first_refusal, gaps, go_on, least, least_end, outside, reaches, unless_refused, window_next}
 use Rattle.sftp_calls.proofs.CountLaws.{answered_in, on_granted}
-use Rattle.sftp_calls.proofs.LeftSites.{opened_leaves, parts_leave, path_leaves, window_leaves}
 use Rattle.sftp_calls.proofs.MoveLaws.{by_refusal, by_status, either}
 use Rattle.sftp_read_back.proofs.BackLaws.{write_opens}
 
@@ -107,15 +104,3 @@ read_asks path bound site facts first later answers r e =
     asks_so IsRead _ r
     (answered_in (AsksSo IsRead) answers first.0 (answers first.0) _ refl tt
     (λ x is. on_granted (AsksSo IsRead) x site _ (λ o. tt) (λ handle. window_asks handle (Some bound) later (answered_prefix later answers) (outside later answers) site facts))) e
-
--- ---- what they leave
-
-pub write_leaves_site : (P : Site → Type 0) (path bytes : List ℕ) (site : Site) (facts : Facts) (own : Own) (answers : Answers) → P site → Leaves P (plan.next (plan.FsWrite path bytes) site facts own answers)
-write_leaves_site P path bytes site facts own answers b =
-    opened_leaves P _ site _ own answers b (path_leaves P (open_request to_replace (from_directory site path)) site b)
-    (λ place handle later. parts_leave P facts nowhere (opened_file to_replace place) bytes site later answers (λ x f w. w) b)
-
-pub read_leaves_site : (P : Site → Type 0) (path : List ℕ) (bound : ℕ) (site : Site) (facts : Facts) (own : Own) (answers : Answers) → P site → Leaves P (plan.next (plan.FsRead path bound) site facts own answers)
-read_leaves_site P path bound site facts own answers b =
-    opened_leaves P _ site _ own answers b (path_leaves P (open_request to_read (from_directory site path)) site b)
-    (λ place handle later. window_leaves P facts handle (Some bound) later (answered_prefix later answers) (outside later answers) site b)

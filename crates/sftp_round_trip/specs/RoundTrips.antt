@@ -1,5 +1,6 @@
 -- Lanes that write and read files as a whole, by their calls and the outcomes of these.
-use Rattle.std.specs.Prelude.{◌≡◌, ◌≢◌, ◌<◌, ℕ, Bool, false, List, [], ◌∷◌, Option, Some, slice_get}
+use Rattle.std.specs.Prelude.{◌≡◌, ◌≢◌, ◌<◌, ℕ, Bool, true, false, List, Option, Some, slice_get}
+use Rattle.std.specs.List.{list_all}
 use Rattle.sftp_model.specs.declared.outcome.Outcome.{Outcome}
 use Rattle.sftp_model.specs.declared.outcome.Outcome.TheVariants as outcome
 use Rattle.sftp_tree.specs.Components.{Name, components}
@@ -12,30 +13,14 @@ use Rattle.sftp_history.specs.declared.entry.Entry.{Entry}
 use Rattle.sftp_history.specs.Calls.{Setting, call_at, lane_calls}
 use Rattle.sftp_history.specs.Readings.{outcomes_of}
 use Rattle.sftp_read_back.specs.InJournals.{KeepsOff}
+use Rattle.sftp_round_trip.specs.NameCalls.{may_own}
 
 -- ---- calls
-
--- the call writes or reads a file as a whole
-abbrev pub IsWhole : Call → Type 0
-IsWhole (call.FsWrite path bytes) = Unit {0}
-IsWhole (call.FsRead path bound) = Unit {0}
-IsWhole other = ⊥
-
--- each of these calls does
-abbrev pub AreWhole : List Call → Type 0
-AreWhole [] = Unit {0}
-AreWhole (c ∷ calls) = IsWhole c × AreWhole calls
 
 -- the call writes the name's file as a whole
 abbrev pub WritesWhole : Name → Call → Type 0
 WritesWhole name (call.FsWrite path bytes) = components path ≡ name
 WritesWhole name other = ⊥
-
--- the call writes or reads it so
-abbrev pub NamesWhole : Name → Call → Type 0
-NamesWhole name (call.FsWrite path bytes) = components path ≡ name
-NamesWhole name (call.FsRead path bound) = components path ≡ name
-NamesWhole name other = ⊥
 
 -- the OPEN of a whole read of this path is too long for a frame
 abbrev pub passes_length : List ℕ → Bool
@@ -49,9 +34,10 @@ outcome_at past lane k = slice_get (outcomes_of past lane) k
 
 -- ---- lanes
 
--- A name that is one lane's: its calls write and read files as a whole, and all other lanes keep off the name.
+-- A name that is one lane's: its calls write and read files as a whole, or keep off the name on paths; and all other lanes keep off
+-- the name.
 pub record IsOneLanes (s : Setting) (past : List Entry) (name : Name) (lane : ℕ) : Type 0 where
-  pub whole : AreWhole (lane_calls s past lane)
+  pub own : list_all (may_own name) (lane_calls s past lane) ≡ true
   pub others : (other : ℕ) → other ≢ lane → KeepsOff past name other
 
 -- A call of a lane read the name's file as a whole, by a path that fits a frame, and ended so without being cancelled.
@@ -76,7 +62,3 @@ pub record HasWritten (s : Setting) (past : List Entry) (name : Name) (lane writ
 -- no call of a lane before this one writes the name's file as a whole
 abbrev pub NoneWrites : Setting → List Entry → Name → ℕ → ℕ → Type 0
 NoneWrites s past name lane reader = (k : ℕ) (c : Call) → k < reader → call_at s past lane k ≡ Some c → WritesWhole name c → ⊥
-
--- no call of a lane writes or reads the name's file as a whole
-abbrev pub NoneNames : Setting → List Entry → Name → ℕ → Type 0
-NoneNames s past name lane = (k : ℕ) (c : Call) → call_at s past lane k ≡ Some c → NamesWhole name c → ⊥

@@ -1,25 +1,52 @@
 // Laws of whole runs over a server of files in memory. The functions do nothing: what they ensure holds of all values.
-ghost use Rattle.std.specs.Prelude.{◌≡◌, ℕ, List, [], Option};
+ghost use Rattle.std.specs.Prelude.{◌≡◌, ℕ, true, List, [], Option, length};
+ghost use Rattle.std.specs.List.{list_all};
+ghost use Rattle.sftp_core.specs.declared.options.SftpOptions.{SftpOptions};
 ghost use Rattle.sftp_model.specs.declared.error.Error.TheVariants as error;
+ghost use Rattle.sftp_model.specs.declared.flags.Extensions.{Extensions};
 ghost use Rattle.sftp_model.specs.declared.outcome.Outcome.{Outcome};
 ghost use Rattle.sftp_model.specs.declared.outcome.Outcome.TheVariants as outcome;
 ghost use Rattle.sftp_model.specs.declared.reply.Reply.{Reply};
 ghost use Rattle.sftp_tree.specs.Components.{Name};
 ghost use Rattle.sftp_tree.specs.FileTree.{FileTree, node_at};
 ghost use Rattle.sftp_driver.specs.Session.{Given, IsFixed};
+ghost use Rattle.sftp_history.specs.declared.call.Lane.{Lane};
 ghost use Rattle.sftp_history.specs.declared.entry.Entry.{Entry};
 ghost use Rattle.sftp_history.specs.declared.turn.Turn.{Turn};
 ghost use Rattle.sftp_history.specs.Calls.{Setting, lane_calls};
+ghost use Rattle.sftp_history.specs.Readings.{outcomes_below};
 ghost use Rattle.sftp_history.specs.Runs.{IsRun};
+ghost use Rattle.sftp_history.specs.Settings.{setting_of};
 ghost use Rattle.sftp_map_server.specs.Serving.{Server};
 ghost use Rattle.sftp_read_back.specs.CallsAmong.{Gives, HasNoFile, refusal_of};
 ghost use Rattle.sftp_read_back.specs.InJournals.{KeepsOff};
 ghost use Rattle.sftp_read_back.specs.Steps.{HasBytes, RefuseNone};
 ghost use Rattle.sftp_served.specs.Unopened.{IsServedRun, IsUnopened};
-ghost use Rattle.sftp_round_trip.specs.RoundTrips.{AreWhole, HasRead, HasWritten, IsOneLanes, NoneNames, NoneWrites};
+ghost use Rattle.sftp_round_trip.specs.LeavesFiles.{LeavesFiles};
+ghost use Rattle.sftp_round_trip.specs.NameCalls.{keeps_off};
+ghost use Rattle.sftp_round_trip.specs.ReadsBack.{ReadsBack};
+ghost use Rattle.sftp_round_trip.specs.RoundTrips.{HasRead, HasWritten, IsOneLanes, NoneWrites};
 
-/// What was written is read back. In a run that a server in memory serves whose choices refuse nothing, a lane writes and
-/// reads files as a whole, and the other lanes keep off a name. Where a call of the lane wrote the name's file and ended
+/// What was written is read back, in each whole run of lanes over a server in memory that nothing was sent to: by the lanes that
+/// were handed in and the outcomes that are reported of their calls.
+pub fn runs_read_back_what_they_wrote()
+    ensures { (lanes : List Lane) (options : SftpOptions) (extensions : Extensions) (turns : List Turn)
+        (past : List Entry) (first : Server) (left : FileTree)
+        → IsRun (setting_of lanes options extensions past) turns past → IsUnopened first → IsServedRun first past left
+        → ReadsBack lanes first (outcomes_below past (length lanes)) }
+{}
+
+/// What was written is left, in each such run: by the lanes that were handed in, the outcomes that are reported of their calls, and
+/// the files and directories that the server is left with.
+pub fn runs_leave_what_they_wrote()
+    ensures { (lanes : List Lane) (options : SftpOptions) (extensions : Extensions) (turns : List Turn)
+        (past : List Entry) (first : Server) (left : FileTree)
+        → IsRun (setting_of lanes options extensions past) turns past → IsUnopened first → IsServedRun first past left
+        → LeavesFiles lanes first left (outcomes_below past (length lanes)) }
+{}
+
+/// What was written is read back. In a run that a server in memory serves whose choices refuse nothing, each call of a lane
+/// writes or reads a file as a whole or keeps off a name on paths, and the other lanes keep off the name. Where a call of the lane wrote the name's file and ended
 /// well, it is the last that did so before a later call, and this one read the file and wasn't cancelled, the read ended
 /// with the bytes of the write, or has reached its bound.
 pub fn lanes_read_back_what_they_wrote()
@@ -46,9 +73,8 @@ pub fn lanes_read_back_what_was_there()
         → ended ≡ outcome.Refused (error.SftpError (refusal_of (node_at first.desk.machine.tree name)) [] []) }
 {}
 
-/// In a run, a lane that writes and reads files as a whole, none of them the name's, keeps off the name: so lanes that each
-/// have their own names are such lanes.
+/// In a run, a lane each of whose calls keeps off a name keeps off it: so lanes that each have their own names are such lanes.
 pub fn lanes_of_other_names_keep_off()
     ensures { (s : Setting) (turns : List Turn) (past : List Entry) (name : Name) (lane : ℕ) → IsRun s turns past
-        → AreWhole (lane_calls s past lane) → NoneNames s past name lane → KeepsOff past name lane }
+        → list_all (keeps_off name) (lane_calls s past lane) ≡ true → KeepsOff past name lane }
 {}

@@ -7,5 +7,9 @@ mod rows;
 
 pub use laws::{
     lanes_of_other_names_keep_off, lanes_read_back_what_they_wrote, lanes_read_back_what_was_there,
+    runs_leave_what_they_wrote, runs_read_back_what_they_wrote,
 };
-pub use rows::{first_read_as_worked_out, no_round_trips_as_worked_out, round_trip_as_worked_out};
+pub use rows::{
+    first_read_as_worked_out, lanes_alone_as_worked_out, no_round_trips_as_worked_out,
+    read_back_as_worked_out, round_trip_as_worked_out,
+};

@@ -1,17 +1,27 @@
 // Worked runs. The functions do nothing: what they ensure is computed.
-ghost use Rattle.std.specs.Prelude.{[], ◌∷◌, List, Some, codes};
+ghost use Rattle.std.specs.Prelude.{◌≡◌, true, [], ◌∷◌, List, Some, codes, length};
+ghost use Rattle.std.specs.List.{list_all};
+ghost use Rattle.sftp_core.specs.Options.{default_options};
+ghost use Rattle.sftp_model.specs.declared.outcome.Outcome.{Outcome};
 ghost use Rattle.sftp_model.specs.declared.outcome.Outcome.TheVariants as outcome;
 ghost use Rattle.sftp_tree.specs.FileTree.{node_at};
 ghost use Rattle.sftp_driver.specs.Session.{IsFixed};
 ghost use Rattle.sftp_history.specs.declared.call.Call.TheVariants as call;
 ghost use Rattle.sftp_history.specs.declared.entry.Entry.{Entry};
+ghost use Rattle.sftp_history.specs.Calls.{lane_calls};
+ghost use Rattle.sftp_history.specs.Readings.{outcomes_below};
 ghost use Rattle.sftp_history.specs.RowWords.{setting_with};
 ghost use Rattle.sftp_history.specs.Runs.{IsRun};
-ghost use Rattle.sftp_history.specs.Settings.{greeting};
+ghost use Rattle.sftp_history.specs.Settings.{greeting, setting_of};
 ghost use Rattle.sftp_read_back.specs.CallsAmong.{HasNoFile};
 ghost use Rattle.sftp_read_back.specs.ReadBackRows.{name};
+ghost use Rattle.sftp_read_back.specs.Steps.{HasBytes, RefuseNone};
 ghost use Rattle.sftp_served.specs.Unopened.{IsServedRun, IsUnopened};
-ghost use Rattle.sftp_round_trip.specs.RoundTrips.{HasRead, HasWritten, IsOneLanes, NoneNames, NoneWrites};
+ghost use Rattle.sftp_round_trip.specs.Flushes.{Flushes, IsAloneBut};
+ghost use Rattle.sftp_round_trip.specs.NameCalls.{keeps_off};
+ghost use Rattle.sftp_round_trip.specs.ReadsBack.{IsAlone, Reads, WritesLast, calls_in};
+ghost use Rattle.sftp_round_trip.specs.ReadsBackRows.{beside, flushed_outcomes, flushing, lanes, many_calls, outcomes, writes_again};
+ghost use Rattle.sftp_round_trip.specs.RoundTrips.{HasRead, HasWritten, IsOneLanes, NoneWrites};
 ghost use Rattle.sftp_round_trip.specs.RoundTripRows.{empty_server, given, given_reads, left_there, no_such_file, nothing_read, reads_alone, writes_then_reads, written_then_read};
 
 /// A lane writes a file as a whole and reads it, and another lane reads one of another name, over a server that had none: all
@@ -22,9 +32,37 @@ pub fn round_trip_as_worked_out()
     ensures unopened { IsUnopened empty_server }
     ensures served { IsServedRun empty_server written_then_read left_there }
     ensures lane { IsOneLanes writes_then_reads written_then_read name 0 }
-    ensures other { NoneNames writes_then_reads written_then_read name 1 }
+    ensures other { list_all (keeps_off name) (lane_calls writes_then_reads written_then_read 1) ≡ true }
     ensures written { HasWritten writes_then_reads written_then_read name 0 0 1 (codes "hi") }
     ensures read { HasRead writes_then_reads written_then_read name 0 1 (outcome.Bytes (codes "hi")) }
+{}
+
+/// The same run by the lanes that were handed in and what is reported of them: all that `ReadsBack` and `LeavesFiles` ask holds
+/// of it, and the file is left.
+pub fn read_back_as_worked_out()
+    ensures run { IsRun (setting_of lanes default_options (record { 0 = 0 }) written_then_read) [] written_then_read }
+    ensures reported { outcomes_below written_then_read (length lanes) ≡ outcomes }
+    ensures unrefused { RefuseNone empty_server.desk.choices }
+    ensures alone { IsAlone lanes name 0 }
+    ensures written { WritesLast lanes outcomes name 0 0 1 (codes "hi") }
+    ensures read { Reads lanes outcomes name 0 1 (outcome.Bytes (codes "hi")) }
+    ensures to_end { WritesLast lanes outcomes name 0 0 (length (calls_in lanes 0)) (codes "hi") }
+    ensures left { HasBytes left_there name (codes "hi") }
+{}
+
+/// A name is one lane's alone also where the lane looks at its file and changes other names, and where another lane opens,
+/// reads and moves other files; but not where another lane reads its file, takes it away, moves it or changes its own
+/// directory. A write behind which the lane writes the name again isn't its last. A lane that opens a file anew, buffers
+/// it, writes to it and flushes it meets what `LeavesFiles` asks of it.
+pub fn lanes_alone_as_worked_out()
+    ensures many { IsAlone many_calls name 0 }
+    ensures shared { IsAlone (beside (call.FsRead (codes "/a") 4 ∷ [])) name 0 → ⊥ }
+    ensures removed { IsAlone (beside (call.Remove (codes "a") ∷ [])) name 0 → ⊥ }
+    ensures moved { IsAlone (beside (call.Rename (codes "a") (codes "b") ∷ [])) name 0 → ⊥ }
+    ensures directory { IsAlone (beside (call.Cwd (codes "d") ∷ [])) name 0 → ⊥ }
+    ensures flushing { IsAloneBut flushing name 0 0 }
+    ensures flushes { Flushes flushing flushed_outcomes name 0 0 (codes "hi") }
+    ensures again { (reported : List (List Outcome)) → WritesLast writes_again reported name 0 0 2 (codes "hi") → ⊥ }
 {}
 
 /// A lane reads a file as a whole over a server that has none: all that the laws ask holds of this run.

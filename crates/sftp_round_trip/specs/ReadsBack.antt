@@ -1,0 +1,72 @@
+-- What was written is read back: of the lanes that were handed in, and the outcomes that are reported of their calls.
+use Rattle.std.specs.Prelude.{◌≡◌, ◌≢◌, ◌<◌, ℕ, suc, true, false, List, [], take, drop, Option, Some, slice_get, slice_index_or}
+use Rattle.std.specs.List.{list_all}
+use Rattle.sftp_model.specs.declared.error.Error.TheVariants as error
+use Rattle.sftp_model.specs.declared.outcome.Outcome.{Outcome}
+use Rattle.sftp_model.specs.declared.outcome.Outcome.TheVariants as outcome
+use Rattle.sftp_tree.specs.Components.{Name, components}
+use Rattle.sftp_tree.specs.FileTree.{node_at}
+use Rattle.sftp_history.specs.declared.call.Call.{Call}
+use Rattle.sftp_history.specs.declared.call.Call.TheVariants as call
+use Rattle.sftp_history.specs.declared.call.Lane.{Lane}
+use Rattle.sftp_history.specs.Calls.{calls_of}
+use Rattle.sftp_map_server.specs.Serving.{Server}
+use Rattle.sftp_read_back.specs.CallsAmong.{Gives, HasNoFile, refusal_of}
+use Rattle.sftp_read_back.specs.Steps.{HasBytes, RefuseNone}
+use Rattle.sftp_round_trip.specs.NameCalls.{keeps_off, may_own, none_writes}
+use Rattle.sftp_round_trip.specs.RoundTrips.{passes_length}
+
+-- ---- calls and outcomes, by their lanes and numbers
+
+-- the calls of a lane
+abbrev pub calls_in : List Lane → ℕ → List Call
+calls_in lanes lane = calls_of (slice_get lanes lane)
+
+-- a call of a lane
+abbrev pub call_in : List Lane → ℕ → ℕ → Option Call
+call_in lanes lane k = slice_get (calls_in lanes lane) k
+
+-- the outcome of a call of a lane
+abbrev pub outcome_in : List (List Outcome) → ℕ → ℕ → Option Outcome
+outcome_in outcomes lane k = slice_get (slice_index_or outcomes lane []) k
+
+-- ---- lanes
+
+-- A name is one lane's alone: each call of the lane writes or reads a file as a whole, or keeps off the name and opens no file, and
+-- the calls of all other lanes keep off the name.
+pub record IsAlone (lanes : List Lane) (name : Name) (lane : ℕ) : Type 0 where
+  pub own : list_all (may_own name) (calls_in lanes lane) ≡ true
+  pub others : (other : ℕ) → other ≢ lane → list_all (keeps_off name) (calls_in lanes other) ≡ true
+
+-- A call of a lane reads the name's file as a whole, by a path that fits a frame, and it ended so, and wasn't cancelled.
+pub record Reads (lanes : List Lane) (outcomes : List (List Outcome)) (name : Name) (lane reader : ℕ) (ended : Outcome) : Type 0 where
+  pub path : List ℕ
+  pub bound : ℕ
+  pub is : call_in lanes lane reader ≡ Some (call.FsRead path bound)
+  pub denotes : components path ≡ name
+  pub short : passes_length path ≡ false
+  pub ends : outcome_in outcomes lane reader ≡ Some ended
+  pub uncancelled : ended ≢ outcome.Cancelled
+
+-- A call of a lane writes the name's file as a whole, and it ended well; it is the lane's last before a later call that does so.
+pub record WritesLast (lanes : List Lane) (outcomes : List (List Outcome)) (name : Name) (lane writer reader : ℕ) (bytes : List ℕ) : Type 0 where
+  pub path : List ℕ
+  pub is : call_in lanes lane writer ≡ Some (call.FsWrite path bytes)
+  pub denotes : components path ≡ name
+  pub ends : outcome_in outcomes lane writer ≡ Some outcome.Done
+  pub earlier : writer < reader
+  pub last : none_writes name (drop (suc writer) (take reader (calls_in lanes lane))) ≡ true
+
+-- ---- a whole run
+
+-- What a whole run over a server gives whose choices refuse no request, by the outcomes of its lanes. Where a name is one lane's
+-- alone, a call of the lane that reads its file as a whole gives the bytes that the lane wrote last before it; and where the
+-- lane wrote none before, what the server began with: the bytes of the file, or the refusal where there was none.
+pub record ReadsBack (lanes : List Lane) (first : Server) (outcomes : List (List Outcome)) : Type 0 where
+  pub written : (name : Name) (lane writer reader : ℕ) (bytes : List ℕ) (ended : Outcome) → RefuseNone first.desk.choices → IsAlone lanes name lane
+      → WritesLast lanes outcomes name lane writer reader bytes → Reads lanes outcomes name lane reader ended → Gives ended bytes
+  pub there : (name : Name) (lane reader : ℕ) (bytes : List ℕ) (ended : Outcome) → RefuseNone first.desk.choices → IsAlone lanes name lane
+      → none_writes name (take reader (calls_in lanes lane)) ≡ true → HasBytes first.desk.machine.tree name bytes → Reads lanes outcomes name lane reader ended → Gives ended bytes
+  pub absent : (name : Name) (lane reader : ℕ) (ended : Outcome) → RefuseNone first.desk.choices → IsAlone lanes name lane
+      → none_writes name (take reader (calls_in lanes lane)) ≡ true → HasNoFile (node_at first.desk.machine.tree name) → Reads lanes outcomes name lane reader ended
+      → ended ≡ outcome.Refused (error.SftpError (refusal_of (node_at first.desk.machine.tree name)) [] [])
