@@ -5,8 +5,7 @@
 #
 #     tools/bench.sh [FIRST] [LAST]     requests in flight, doubled from FIRST to LAST: from 5000 to 40000
 #
-# A ratio of 2 at a doubling is linear. Each call of the core takes constant time; the session above it still walks its
-# lanes and its journal, so a ratio over 2 is of the session. `sftp` waits for each reply, so it is measured at FIRST alone
+# A ratio of 2 at a doubling is linear. `sftp` waits for each reply, so it is measured at FIRST alone
 # where replies are late. BENCH_LIMIT is the most seconds that one run may take: 1200. Memory below that of python3 itself,
 # some 15 MiB, shows as that.
 set -u

@@ -8,13 +8,15 @@ use Rattle.sftp_history.specs.declared.script.Script.{Script}
 use Rattle.sftp_history.specs.Lines.{lines_of}
 use Rattle.sftp_history.specs.Scripts.{script_of, MAX_SCRIPT_LEN, read_lines, empty_script}
 use Rattle.sftp_link.specs.Told.{Told, Same, Went, ReadUpTo}
+use Rattle.sftp_link.specs.Views.{LastLink}
 use Rattle.sftp_map_server.specs.Serving.{Serving}
 use Rattle.sftp_cli.specs.declared.failure.Failure.{Failure}
 use Rattle.sftp_cli.specs.declared.failure.Failure.TheVariants.{SourceFailed, SinkFailed, OutOfMemory, DialFailed}
-use Rattle.sftp_cli.specs.Dialled.{LastLink, IsShown, IsStopped, RunsOver, Undialled}
+use Rattle.sftp_cli.specs.Dialled.{IsShown, IsStopped, RunsOver, Undialled}
+use Rattle.sftp_cli.specs.declared.printed.Form.TheVariants as form
 use Rattle.sftp_cli.specs.Printed.{IsAnswer, IsPrinted, RunsInMemory}
-use Rattle.sftp_cli.specs.Ended.{read_limit, GaveAll, IsScript, IsRead, Ran, Refused, Answered, Stopped, code, IsStatus, Unfinished, EndsInMemory, EndsOverLink, DialsLast, IsUndialled, HasCause, EndsFor, Completes, IsWhole, IsLinkStatus, SourceCause, SinkCause, DialCause}
-use Rattle.sftp_cli.specs.Words.{is_script, is_unix, takes_script}
+use Rattle.sftp_cli.specs.Ended.{read_limit, GaveAll, IsScript, IsRead, Ran, Refused, Answered, Stopped, code, IsStatus, Unfinished, EndsInMemory, EndsOverLink, EndsSummed, SummaryStopped, DialsLast, IsUndialled, HasCause, EndsFor, Completes, IsWhole, IsLinkStatus, SourceCause, SinkCause, DialCause}
+use Rattle.sftp_cli.specs.Words.{bulk_of, is_script, is_unix, takes_script}
 
 -- ---- what was read is what there was
 
@@ -265,8 +267,8 @@ pub ruleset endings = (no_cause, source_cause, sink_cause, dial_cause)
 memory_small : (kept : Option Serving) → Small (RunsInMemory kept)
 memory_small kept script status text a = let zero : status ≡ 0 = a.0 in omega (arith, zero)
 
-pub memory_ran : (kept : Option Serving) (status : ℕ) (left left_now written written_now : Option (List ℕ)) → Answered (RunsInMemory kept) status left left_now written written_now → status ≡ 0 → Ran (λ script text. IsPrinted kept script text) left left_now written written_now
-memory_ran kept status left left_now written written_now a is = answer_ran (RunsInMemory kept) (λ script text. IsPrinted kept script text) 0 status left left_now written written_now (λ script n text r e. r.1) (omega arith) a is
+pub memory_ran : (kept : Option Serving) (status : ℕ) (left left_now written written_now : Option (List ℕ)) → Answered (RunsInMemory kept) status left left_now written written_now → status ≡ 0 → Ran (λ script text. IsPrinted form.Whole kept script text) left left_now written written_now
+memory_ran kept status left left_now written written_now a is = answer_ran (RunsInMemory kept) (λ script text. IsPrinted form.Whole kept script text) 0 status left left_now written written_now (λ script n text r e. r.1) (omega arith) a is
 
 memory_refused : (kept : Option Serving) (status : ℕ) (left left_now written written_now : Option (List ℕ)) → Answered (RunsInMemory kept) status left left_now written written_now → status ≡ 2 → Refused left left_now written written_now
 memory_refused kept status left left_now written written_now a is = answer_refused (RunsInMemory kept) status left left_now written written_now (memory_small kept) a is
@@ -299,44 +301,44 @@ pub ruleset in_memory = (memory_ran, memory_ends, memory_failure, memory_small_s
 
 -- ---- over a link
 
-link_small : (last : LastLink) → Small (RunsOver last)
+link_small : (last : Option LastLink) → Small (RunsOver last)
 link_small last script status text (inl a) = let zero : status ≡ 0 = a.0 in omega (arith, zero)
 link_small last script status text (inr a) = let one : status ≡ 1 = a.0 in omega (arith, one)
 
-shown_by : (last : LastLink) → Picks (RunsOver last) 0 (λ script text. IsShown last script text)
+shown_by : (last : Option LastLink) → Picks (RunsOver last) 0 (λ script text. IsShown last script text)
 shown_by last script status text (inl a) is = a.1
 shown_by last script status text (inr a) is = absurd (let bad : 1 ≡ 0 = sym a.0 ∙ is in cc bad)
 
-stopped_by : (last : LastLink) → Picks (RunsOver last) 1 (λ script text. IsStopped last script text)
+stopped_by : (last : Option LastLink) → Picks (RunsOver last) 1 (λ script text. IsStopped last script text)
 stopped_by last script status text (inl a) is = absurd (let bad : 0 ≡ 1 = sym a.0 ∙ is in cc bad)
 stopped_by last script status text (inr a) is = a.1
 
-link_ran : (last : LastLink) (status : ℕ) (left left_now written written_now : Option (List ℕ)) → Answered (RunsOver last) status left left_now written written_now → status ≡ 0
+link_ran : (last : Option LastLink) (status : ℕ) (left left_now written written_now : Option (List ℕ)) → Answered (RunsOver last) status left left_now written written_now → status ≡ 0
     → Ran (λ script text. IsShown last script text) left left_now written written_now
 link_ran last status left left_now written written_now a is = answer_ran (RunsOver last) (λ script text. IsShown last script text) 0 status left left_now written written_now (shown_by last) (omega arith) a is
 
-link_stopped : (last : LastLink) (status : ℕ) (left left_now written written_now : Option (List ℕ)) → Answered (RunsOver last) status left left_now written written_now → status ≡ 1
+link_stopped : (last : Option LastLink) (status : ℕ) (left left_now written written_now : Option (List ℕ)) → Answered (RunsOver last) status left left_now written written_now → status ≡ 1
     → Ran (λ script text. IsStopped last script text) left left_now written written_now
 link_stopped last status left left_now written written_now a is = answer_ran (RunsOver last) (λ script text. IsStopped last script text) 1 status left left_now written written_now (stopped_by last) (omega arith) a is
 
-link_refused : (last : LastLink) (status : ℕ) (left left_now written written_now : Option (List ℕ)) → Answered (RunsOver last) status left left_now written written_now → status ≡ 2 → Refused left left_now written written_now
+link_refused : (last : Option LastLink) (status : ℕ) (left left_now written written_now : Option (List ℕ)) → Answered (RunsOver last) status left left_now written written_now → status ≡ 2 → Refused left left_now written written_now
 link_refused last status left left_now written written_now a is = answer_refused (RunsOver last) status left left_now written written_now (link_small last) a is
 
-pub link_small_status : (last : LastLink) (status : ℕ) (left left_now written written_now : Option (List ℕ)) → Answered (RunsOver last) status left left_now written written_now → status < 3
+pub link_small_status : (last : Option LastLink) (status : ℕ) (left left_now written written_now : Option (List ℕ)) → Answered (RunsOver last) status left left_now written written_now → status < 3
 link_small_status last status left left_now written written_now a = answer_small (RunsOver last) status left left_now written written_now (link_small last) a
 
-link_status : (last : LastLink) (script : Script) (status : ℕ) (text : List ℕ) → RunsOver last script status text → IsLinkStatus status
+link_status : (last : Option LastLink) (script : Script) (status : ℕ) (text : List ℕ) → RunsOver last script status text → IsLinkStatus status
 link_status last script status text (inl a) = inl a.0
 link_status last script status text (inr a) = inr (inl a.0)
 
-pub link_completes : (last : LastLink) (status : ℕ) (left left_now written written_now : Option (List ℕ)) → Answered (RunsOver last) status left left_now written written_now → Completes IsLinkStatus status left
+pub link_completes : (last : Option LastLink) (status : ℕ) (left left_now written written_now : Option (List ℕ)) → Answered (RunsOver last) status left left_now written written_now → Completes IsLinkStatus status left
 link_completes last status left left_now written written_now a =
     answer_completes (RunsOver last) IsLinkStatus status left left_now written written_now (λ script text r. link_status last script status text r) a
 
-link_finished : (last : LastLink) (status : ℕ) (left left_now written written_now : Option (List ℕ)) → Answered (RunsOver last) status left left_now written written_now → Unfinished (RunsOver last) status left left_now written written_now
+link_finished : (last : Option LastLink) (status : ℕ) (left left_now written written_now : Option (List ℕ)) → Answered (RunsOver last) status left left_now written written_now → Unfinished (RunsOver last) status left left_now written written_now
 link_finished last status left left_now written written_now a = answer_finished (RunsOver last) status left left_now written written_now (link_small last) a
 
-pub link_ends : (last : LastLink) (status : ℕ) (left left_now written written_now : Option (List ℕ)) → Answered (RunsOver last) status left left_now written written_now → EndsOverLink last status left left_now written written_now
+pub link_ends : (last : Option LastLink) (status : ℕ) (left left_now written written_now : Option (List ℕ)) → Answered (RunsOver last) status left left_now written written_now → EndsOverLink last status left left_now written written_now
 link_ends last status left left_now written written_now a =
     record {
       ran = link_ran last status left left_now written written_now a;
@@ -345,7 +347,7 @@ link_ends last status left left_now written written_now a =
       unfinished = link_finished last status left left_now written written_now a;
     }
 
-pub link_failure : (last : LastLink) (why : Failure) (status : ℕ) (left left_now written written_now : Option (List ℕ)) → Stopped (RunsOver last) why left left_now written written_now → status ≡ code why
+pub link_failure : (last : Option LastLink) (why : Failure) (status : ℕ) (left left_now written written_now : Option (List ℕ)) → Stopped (RunsOver last) why left left_now written written_now → status ≡ code why
     → EndsOverLink last status left left_now written written_now
 link_failure last why status left left_now written written_now stopped is =
     record {
@@ -391,6 +393,29 @@ failure_undialled OutOfMemory status h is = (
 
 pub ruleset over_link = (link_ends, link_failure, link_small_status, link_completes, link_stops, answer_undialled, failure_undialled, failure_status, small_status)
 
+-- ---- a script that three numbers make
+
+pub summary_failed : (kept : Option Serving) (script : Script) (why : Failure) (status : ℕ) (written written_now : Option (List ℕ)) → SummaryStopped kept script why written written_now → status ≡ code why
+    → EndsSummed kept script status written written_now
+summary_failed kept script why status written written_now stopped is = inr (why, (is, stopped))
+
+-- without a fault of the sink it ends whole, or for want of memory
+pub summary_completes : (kept : Option Serving) (script : Script) (why : Failure) (status before now : ℕ) (written written_now : Option (List ℕ)) → SummaryStopped kept script why written written_now
+    → SinkCause {T = ℕ} (Err why) before now → status ≡ code why → now ≡ before → (status ≡ 0) ⊎ (status ≡ 5)
+summary_completes kept script SourceFailed status before now written written_now stopped cause is same = absurd stopped
+summary_completes kept script SinkFailed status before now written written_now stopped cause is same = absurd (let less : before < now = cause in omega (arith, less, same))
+summary_completes kept script OutOfMemory status before now written written_now stopped cause is same = inr is
+summary_completes kept script DialFailed status before now written written_now stopped cause is same = absurd stopped
+
+pub summary_status : (kept : Option Serving) (script : Script) (why : Failure) (status : ℕ) (written written_now : Option (List ℕ)) → SummaryStopped kept script why written written_now → status ≡ code why
+    → (status ≡ 0) ⊎ (status ≡ 4) ⊎ (status ≡ 5)
+summary_status kept script SourceFailed status written written_now stopped is = absurd stopped
+summary_status kept script SinkFailed status written written_now stopped is = inr (inl is)
+summary_status kept script OutOfMemory status written written_now stopped is = inr (inr is)
+summary_status kept script DialFailed status written written_now stopped is = absurd stopped
+
+pub ruleset summed = (summary_failed, summary_completes, summary_status)
+
 -- ---- the words
 
 -- words that ask for a script in memory ask for no link
@@ -402,4 +427,16 @@ one_job (word ∷ path ∷ words) e = absurd (let bad : false ≡ true = e in cc
 pub no_job : (words : List (List ℕ)) → is_script words ≡ false → is_unix words ≡ false → takes_script words ≡ false
 no_job words e u = rw (e, u) refl
 
-pub ruleset dispatch = (one_job, no_job)
+-- words that ask for a script name no three numbers
+pub script_no_bulk : (words : List (List ℕ)) → is_script words ≡ true → bulk_of words ≡ None
+script_no_bulk [] e = refl
+script_no_bulk (word ∷ []) e = refl
+script_no_bulk (word ∷ another ∷ words) e = absurd (let bad : false ≡ true = e in cc bad)
+
+pub unix_no_bulk : (words : List (List ℕ)) → is_unix words ≡ true → bulk_of words ≡ None
+unix_no_bulk [] e = refl
+unix_no_bulk (word ∷ []) e = refl
+unix_no_bulk (word ∷ path ∷ []) e = refl
+unix_no_bulk (word ∷ path ∷ another ∷ words) e = absurd (let bad : false ≡ true = e in cc bad)
+
+pub ruleset dispatch = (one_job, no_job, script_no_bulk, unix_no_bulk)

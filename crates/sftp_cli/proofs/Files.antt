@@ -1,11 +1,12 @@
 -- The lines of a server's files and directories, up to one of them.
-use Rattle.std.proofs.Common.{◌≡◌, ◌<◌, ◌≤◌, ℕ, zero, suc, get_or, append-nil, ◌+◌, Bool, true, false, List, [], ◌∷◌, ◌++◌, filter, length, take, refl, ap, sym, ◌∙◌, append_assoc, arith, if◌then◌else◌, add-one}
+use Rattle.std.proofs.Common.{◌≡◌, ◌<◌, ◌≤◌, ℕ, zero, suc, get_or, append-nil, ◌+◌, ◌-◌, ◌^◌, min, Bool, true, false, List, [], ◌∷◌, ◌++◌, filter, length, take, refl, ap, sym, ◌∙◌, append_assoc, arith, if◌then◌else◌, add-one}
 use Rattle.std.specs.Prelude.{Option}
-use Rattle.std.specs.List.{flat_map}
+use Rattle.std.specs.List.{flat_map, sum_by}
 use Rattle.std.specs.Option.{option_map}
 use Rattle.std.proofs.lemmas.Option.{slice_get-get_or}
 use Rattle.std.proofs.Math.Seq.{take-suc, take-length}
 use Rattle.std.proofs.lemmas.Grind.{flat_map-append}
+use Rattle.std.proofs.lemmas.List.Sums.{sum_by_push}
 use Rattle.sftp_tree.specs.Components.{Name, written}
 use Rattle.sftp_tree.specs.FileTree.{FileTree}
 use Rattle.sftp_tree.specs.Listing.{dir_at, file_at, has_directory, has_file, in_name_order, node_bytes, placed_name}
@@ -13,7 +14,8 @@ use Rattle.sftp_tree.specs.NameRequests.{is_before}
 use Rattle.sftp_tree.specs.declared.node.Node.{Node}
 use Rattle.sftp_tree.specs.declared.node.Node.TheVariants as node
 use Rattle.sftp_history.specs.Texts.{dir_lines, dir_text, file_lines, file_text}
-use Rattle.sftp_cli.specs.Printed.{dir_text_of, file_text_of}
+use Rattle.sftp_bulk.specs.Summary.{limited}
+use Rattle.sftp_cli.specs.Printed.{bytes_left, dir_text_of, file_len_of, file_text_of}
 
 -- the first k lines
 abbrev lines_below : (ℕ → List ℕ) → ℕ → List ℕ
@@ -101,3 +103,38 @@ dirs_end tree n is =
     let xs : List Pair = filter has_directory (in_name_order tree.names) in
     all_lines xs (λ k. dir_text_of (dir_at tree k)) (λ pair. dir_text (written pair.0)) n
     (λ i lt. ap (λ (o : Option Pair). dir_text_of (option_map (λ pair. written pair.0) o)) (slice_get-get_or xs i nowhere lt)) (is ∙ sym (counted has_directory tree.names))
+
+-- ---- the bytes of all files
+
+-- how many bytes the first k files have
+abbrev pub file_lens_below : FileTree → ℕ → ℕ
+file_lens_below tree zero = 0
+file_lens_below tree (suc k) = file_lens_below tree k + file_len_of (file_at tree k)
+
+limited_again : (a b : ℕ) → min (min a (2 ^ 64 - 1) + b) (2 ^ 64 - 1) ≡ min (a + b) (2 ^ 64 - 1)
+limited_again a b = omega arith
+
+-- one file more
+pub len_step : (mid new : ℕ) (tree : FileTree) (k : ℕ) → mid ≡ limited (file_lens_below tree k) → new ≡ min (mid + file_len_of (file_at tree k)) (2 ^ 64 - 1) → new ≡ limited (file_lens_below tree (k + 1))
+len_step mid new tree k h n =
+    rw (add-one k) (n ∙ ap (λ (m : ℕ). min (m + file_len_of (file_at tree k)) (2 ^ 64 - 1)) h ∙ limited_again (file_lens_below tree k) (file_len_of (file_at tree k)))
+
+lens_are : (tree : FileTree) (xs : List Pair) (len : Pair → ℕ) (k : ℕ) → ((i : ℕ) → i < length xs → file_len_of (file_at tree i) ≡ len (get_or xs i nowhere)) → k ≤ length xs → file_lens_below tree k ≡ sum_by len (take k xs)
+lens_are tree xs len zero each le = refl
+lens_are tree xs len (suc k) each le =
+    let lt : k < length xs = omega (arith, le) in
+    let x : Pair = get_or xs k nowhere in
+    ap (λ (n : ℕ). n + file_len_of (file_at tree k)) (lens_are tree xs len k each (omega (arith, le)))
+    ∙ ap (λ (n : ℕ). sum_by len (take k xs) + n) (each k lt)
+    ∙ sym (sum_by_push len (take k xs) x)
+    ∙ ap (λ (l : List Pair). sum_by len l) (sym (take-suc xs k nowhere lt))
+
+-- all of them
+pub lens_end : (tree : FileTree) (n : ℕ) → n ≡ length (filter has_file tree.names) → limited (file_lens_below tree n) ≡ bytes_left tree
+lens_end tree n is =
+    let xs : List Pair = filter has_file (in_name_order tree.names) in
+    let len : Pair → ℕ = λ pair. length (node_bytes tree pair.1) in
+    let all : n ≡ length xs = is ∙ sym (counted has_file tree.names) in
+    ap (λ (m : ℕ). limited m)
+    (lens_are tree xs len n (λ i lt. ap (λ (o : Option Pair). file_len_of (option_map (λ pair. (written pair.0, node_bytes tree pair.1)) o)) (slice_get-get_or xs i nowhere lt)) (omega (arith, all))
+    ∙ ap (λ (l : List Pair). sum_by len l) (ap (λ (k : ℕ). take k xs) all ∙ take-length xs))

@@ -1,20 +1,17 @@
 -- A script fixes what is written for it.
-use Rattle.std.proofs.Common.{◌≡◌, ℕ, List, length, ap, sym, ◌∙◌, subst}
+use Rattle.std.proofs.Common.{◌≡◌, ℕ, List, ap, sym, ◌∙◌, subst}
 use Rattle.std.specs.Prelude.{Option}
-use Rattle.sftp_model.specs.declared.config.Choice.{Choice}
-use Rattle.sftp_model.specs.declared.config.ServerConfig.{ServerConfig}
 use Rattle.sftp_model.specs.declared.flags.Extensions.{Extensions}
 use Rattle.sftp_model.specs.declared.reply.Reply.{Reply}
 use Rattle.sftp_model.specs.declared.reply.Reply.TheVariants as reply
-use Rattle.sftp_tree.specs.FileTree.{FileTree}
 use Rattle.sftp_tree.specs.FirstTree.{first_tree}
-use Rattle.sftp_history.specs.declared.entry.Entry.{Entry}
 use Rattle.sftp_history.specs.declared.script.Script.{Script}
 use Rattle.sftp_history.specs.Served.{IsPicked, Serves}
 use Rattle.sftp_history.specs.Settings.{greeting}
 use Rattle.sftp_fixed.specs.Fixed.{IsFixedBy}
 use Rattle.sftp_fixed.proofs.OneText.{one_text as same_text}
 use Rattle.sftp_map_server.specs.Serving.{Server, Serving}
+use Rattle.sftp_cli.specs.declared.printed.Form.TheVariants as form
 use Rattle.sftp_cli.specs.Printed.{IsPrinted}
 
 -- the extensions of a greeting
@@ -26,7 +23,7 @@ one_greeting : (a b : Extensions) (r : Reply) → greeting a ≡ r → greeting 
 one_greeting a b r e f = ap told (e ∙ sym f)
 
 -- the run of a text, by what the script gives
-fixed_by : (script : Script) (kept : Option Serving) (text : List ℕ) → (p : IsPrinted kept script text)
+fixed_by : (script : Script) (kept : Option Serving) (text : List ℕ) → (p : IsPrinted form.Whole kept script text)
     → IsFixedBy script.lanes script.options p.extensions script.turns script.server script.choices script.picks (first_tree script.files script.dirs) p.past p.server.now.desk.machine.tree
 fixed_by script kept text p = record {
   run = p.run;
@@ -35,7 +32,7 @@ fixed_by script kept text p = record {
   numbered = p.served.numbered;
 }
 
-pub one_text : (script : Script) (one other : Option Serving) (text same : List ℕ) → IsPrinted one script text → IsPrinted other script same → text ≡ same
+pub one_text : (script : Script) (one other : Option Serving) (text same : List ℕ) → IsPrinted form.Whole one script text → IsPrinted form.Whole other script same → text ≡ same
 one_text script one other text same p q =
     let both : p.extensions ≡ q.extensions = one_greeting p.extensions q.extensions _ p.version q.version in
     let second = subst (λ (e : Extensions). IsFixedBy script.lanes script.options e script.turns script.server script.choices script.picks (first_tree script.files script.dirs) q.past q.server.now.desk.machine.tree) (sym both) (fixed_by script other same q) in

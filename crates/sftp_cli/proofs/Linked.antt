@@ -1,12 +1,13 @@
 -- A run of a script's lanes over a link whose log was empty, and what the dial tells of the link then.
 use Rattle.std.proofs.Common.{◌≡◌, ◌∙◌, ℕ, Bool, List, [], refl, ap, subst}
-use Rattle.std.specs.Prelude.{Option, Some, Err, reverse}
+use Rattle.std.specs.Prelude.{Some, Err, reverse}
 use Rattle.sftp_link.specs.declared.piece.Piece.{Piece}
 use Rattle.sftp_link.specs.Told.{Told}
 use Rattle.sftp_model.specs.declared.error.Error.{Error}
 use Rattle.sftp_history.specs.declared.call.Lane.{Lane}
 use Rattle.sftp_history.specs.declared.report.Report.{Report}
 use Rattle.sftp_history.specs.declared.script.Script.{Script}
+use Rattle.sftp_history.specs.declared.turn.Turn.{Turn}
 use Rattle.sftp_history.specs.Settings.{greeting}
 use Rattle.sftp_history.specs.Shown.{Shows}
 use Rattle.sftp_history.specs.Texts.{text_of}
@@ -17,35 +18,37 @@ use Rattle.sftp_lanes.specs.Seen.{given}
 use Rattle.sftp_text.specs.Traces.{journal_of}
 use Rattle.sftp_text.proofs.TraceLaws.{trace_text}
 use Rattle.sftp_cli.proofs.Running.{from_empty}
-use Rattle.sftp_cli.specs.Dialled.{LastLink, IsShown, IsStopped, last_link, error_name, error_line}
+use Rattle.sftp_cli.specs.Dialled.{IsShown, IsStopped, error_name, error_line}
 
 pub is_shown : (script : Script) (before log : List Piece) (faults : ℕ) (ended : Bool) (report : Report) (text : List ℕ) → before ≡ []
-    → IsReport script.lanes script.options script.turns (Some (reverse before)) (Some log) report → text ≡ text_of (journal_of report.trace) report.outcomes → IsShown (last_link (Some log) faults ended) script text
+    → IsReport script.lanes script.options script.turns (Some (reverse before)) (Some log) report → text ≡ text_of (journal_of report.trace) report.outcomes → IsShown (Some (record { log = log; faults = faults; ended = ended })) script text
 is_shown script before log faults ended report text none run is =
     record {
       extensions = run.extensions;
       past = run.past;
-      log = log;
-      told = refl;
+      link = record { log = log; faults = faults; ended = ended };
+      back = refl;
       run = run.run;
       shown = from_empty (λ (b now : List Piece). Shows (greeting run.extensions) run.past (reverse b) now) before log none run.log;
       closed = run.closed;
       is = is ∙ ap (λ t. text_of (journal_of t) report.outcomes) run.trace ∙ trace_text run.past report.outcomes ∙ ap (λ o. text_of run.past o) run.outcomes;
     }
 
-pub is_stopped : (script : Script) (lanes : List Lane) (before log : List Piece) (first faults : ℕ) (ended : Bool) (e : Error) (name text : List ℕ) → lanes ≡ script.lanes → before ≡ [] → first ≡ 0
-    → Told (Ends (given lanes script.options) ended e) (Some (reverse before)) (Some log) → Cause {T = Report} first faults (Err e) → EndCause {T = Report} ended (Err e)
-    → error_name e ≡ Some name → text ≡ error_line name → IsStopped (last_link (Some log) faults ended) script text
-is_stopped script lanes before log first faults ended e name text same none zero stops cause end named is =
+pub is_stopped : (script : Script) (lanes : List Lane) (turns : List Turn) (before log : List Piece) (first faults : ℕ) (ended : Bool) (e : Error) (name text : List ℕ) → lanes ≡ script.lanes → turns ≡ script.turns → before ≡ [] → first ≡ 0
+    → Told (Ends (given lanes script.options) turns ended e) (Some (reverse before)) (Some log) → Cause {T = Report} first faults (Err e) → EndCause {T = Report} ended (Err e)
+    → error_name e ≡ Some name → text ≡ error_line name → IsStopped (Some (record { log = log; faults = faults; ended = ended })) script text
+is_stopped script lanes turns before log first faults ended e name text same order none zero stops cause end named is =
     record {
       error = e;
-      log = log;
-      told = refl;
+      link = record { log = log; faults = faults; ended = ended };
+      back = refl;
       name = name;
       named = named;
       cause = subst (λ (n : ℕ). Cause {T = Report} n faults (Err e)) zero cause;
       end = end;
-      stops = subst (λ (l : List Lane). Ends (given l script.options) ended e [] log) same (from_empty (λ (b now : List Piece). Ends (given lanes script.options) ended e (reverse b) now) before log none stops);
+      stops = subst (λ (t : List Turn). Ends (given script.lanes script.options) t ended e [] log) order
+          (subst (λ (l : List Lane). Ends (given l script.options) turns ended e [] log) same
+          (from_empty (λ (b now : List Piece). Ends (given lanes script.options) turns ended e (reverse b) now) before log none stops));
       is = is;
     }
 

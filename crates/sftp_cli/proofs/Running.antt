@@ -1,6 +1,6 @@
 -- A run of lanes over a server that nothing was sent to is served, and stops only for want of memory.
 use Rattle.std.proofs.Common.{◌≡◌, ℕ, true, List, [], ◌++◌, refl, ap, sym, ◌∙◌, subst}
-use Rattle.std.specs.Prelude.{Option, Some, Result, Ok, Err, IfOk, Vec}
+use Rattle.std.specs.Prelude.{Option, Some, None, Result, Ok, Err, IfOk, Vec}
 use Rattle.std.specs.declared.alloc.Global.{Global}
 use Rattle.ssh_encoding.specs.declared.out_of_memory.OutOfMemory.{OutOfMemory}
 use Rattle.std.specs.Option.{unwrap_or}
@@ -16,7 +16,13 @@ use Rattle.sftp_history.specs.declared.turn.Turn.{Turn}
 use Rattle.sftp_history.specs.Lanes.{are_ok}
 use Rattle.sftp_history.specs.Settings.{greeting, setting_of}
 use Rattle.sftp_history.specs.Shown.{Shows}
-use Rattle.sftp_history.specs.Texts.{dir_lines, file_lines, text_of, text_with_files}
+use Rattle.sftp_history.specs.Texts.{dir_lines, file_lines, text_of}
+use Rattle.sftp_history.specs.Readings.{trace_of}
+use Rattle.sftp_history.specs.declared.entry.Entry.{Entry}
+use Rattle.sftp_tree.specs.FileTree.{FileTree}
+use Rattle.sftp_bulk.specs.Summary.{summary_text}
+use Rattle.sftp_cli.specs.declared.printed.Form.{Form}
+use Rattle.sftp_cli.specs.declared.printed.Form.TheVariants as form
 use Rattle.sftp_driver.specs.Causes.{Cause}
 use Rattle.sftp_driver.specs.Logs.{Ends}
 use Rattle.sftp_driver.specs.Session.{Given, IsFixed}
@@ -25,9 +31,10 @@ use Rattle.sftp_map_server.specs.Serving.{IsServing, Server, Serving, first_desk
 use Rattle.sftp_served.specs.Unopened.{IsUnopened, unopened}
 use Rattle.sftp_served.proofs.Whole.{version_is_told, run_is_served, stops_for_memory}
 use Rattle.sftp_lanes.specs.Reported.{IsReport}
+use Rattle.sftp_round_trip.proofs.ReadsBackLaws.{run_leaves_files, run_reads_back}
 use Rattle.sftp_text.specs.Traces.{journal_of}
 use Rattle.sftp_text.proofs.TraceLaws.{trace_text}
-use Rattle.sftp_cli.specs.Printed.{IsPrinted, IsServedReport, IsTextOver}
+use Rattle.sftp_cli.specs.Printed.{IsPrinted, IsServedReport, IsTextOver, report_text, run_text, summary_left}
 
 -- a value in Some
 some_is : {A : Type 0} (x y : A) → Some x ≡ Some y → x ≡ y
@@ -47,14 +54,17 @@ served_report lanes options turns old now r ok new none same serving report =
     let fresh : IsUnopened now.first = subst IsUnopened (sym same) new in
     let shown : Shows (greeting report.extensions) report.past [] now.log = from_empty (Shows (greeting report.extensions) report.past) old.log now.log none report.log in
     let told = version_is_told given hello s report.past now fresh serving fixed shown in
+    let served = run_is_served given hello s turns report.past now fresh serving ok report.run fixed shown in
     record {
       extensions = report.extensions;
       past = report.past;
       run = report.run;
       version = some_is (greeting report.extensions) (version_reply now.first.desk.machine.config) told;
       shown = shown;
-      served = run_is_served given hello s turns report.past now fresh serving ok report.run fixed shown;
+      served = served;
       closed = report.closed;
+      reads_back = run_reads_back lanes options report.extensions turns report.past now.first now.now.desk.machine.tree report.run fresh served;
+      leaves = run_leaves_files lanes options report.extensions turns report.past now.first now.now.desk.machine.tree report.run fresh served;
       trace = report.trace;
       outcomes = report.outcomes;
     }
@@ -74,34 +84,34 @@ cause_of (error.UnsupportedExtension set) h = h
 cause_of (error.IOError kind) h = h
 cause_of (error.BackgroundTaskFailure fault) h = h
 
-pub only_for_memory : (lanes : List Lane) (options : SftpOptions) (old now : Serving) (e : Error) → are_ok lanes ≡ true → IsUnopened old.first → old.log ≡ [] → now.first ≡ old.first
-    → IsServing now.first now.now now.log now.ended → Told (Ends (record { lanes = lanes; options = options }) now.ended e) (Some old.log) (Some now.log) → Cause {T = Report} 0 0 (Err e) → e ≡ error.OutOfMemory
-only_for_memory lanes options old now e ok new none same serving ends why =
+pub only_for_memory : (lanes : List Lane) (options : SftpOptions) (turns : List Turn) (old now : Serving) (e : Error) → are_ok lanes ≡ true → IsUnopened old.first → old.log ≡ [] → now.first ≡ old.first
+    → IsServing now.first now.now now.log now.ended → Told (Ends (record { lanes = lanes; options = options }) turns now.ended e) (Some old.log) (Some now.log) → Cause {T = Report} 0 0 (Err e) → e ≡ error.OutOfMemory
+only_for_memory lanes options turns old now e ok new none same serving ends why =
     let given : Given = record { lanes = lanes; options = options } in
-    stops_for_memory given now e ok (subst IsUnopened (sym same) new) serving (from_empty (Ends given now.ended e) old.log now.log none ends) (cause_of e why)
+    stops_for_memory given turns now e ok (subst IsUnopened (sym same) new) serving (from_empty (Ends given turns now.ended e) old.log now.log none ends) (cause_of e why)
 
 -- the text that was made of the report
-pub text_is : (lanes : List Lane) (options : SftpOptions) (turns : List Turn) (server : Serving) (report : Report) (r : Result (Vec ℕ Global) OutOfMemory) → IsServedReport lanes options turns server report
-    → IfOk r (λ text. text.items ≡ text_of (journal_of report.trace) report.outcomes ++ file_lines server.now.desk.machine.tree ++ dir_lines server.now.desk.machine.tree)
-    → IfOk r (λ text. IsTextOver lanes options turns server text.items)
-text_is lanes options turns server report (Ok text) run written = record {
-  report = report;
-  run = run;
-  is = written ∙ ap (λ (l : List ℕ). l ++ file_lines server.now.desk.machine.tree ++ dir_lines server.now.desk.machine.tree)
-      (ap (λ t. text_of (journal_of t) report.outcomes) run.trace ∙ trace_text run.past report.outcomes);
-}
-text_is lanes options turns server report (Err e) run written = tt
+-- what is written of the report of a journal is what is written of the journal
+written_is : (form : Form) (past : List Entry) (report : Report) (tree : FileTree) → report.trace ≡ trace_of past → report_text form report tree ≡ run_text form past report.outcomes tree
+written_is form.Whole past report tree same =
+    ap (λ (l : List ℕ). l ++ file_lines tree ++ dir_lines tree) (ap (λ t. text_of (journal_of t) report.outcomes) same ∙ trace_text past report.outcomes)
+written_is form.Summary past report tree same = ap (λ t. summary_text (summary_left (record { hello = None; trace = t; outcomes = report.outcomes }) tree)) same
+
+pub text_is : (form : Form) (lanes : List Lane) (options : SftpOptions) (turns : List Turn) (server : Serving) (report : Report) (r : Result (Vec ℕ Global) OutOfMemory) → IsServedReport lanes options turns server report
+    → IfOk r (λ text. text.items ≡ report_text form report server.now.desk.machine.tree) → IfOk r (λ text. IsTextOver form lanes options turns server text.items)
+text_is form lanes options turns server report (Ok text) run written = record { report = report; run = run; is = written ∙ written_is form run.past report server.now.desk.machine.tree run.trace }
+text_is form lanes options turns server report (Err e) run written = tt
 
 -- over the server of a script, which was kept, it is the script's
-pub printed_if : (script : Script) (kept : Option Serving) (files : List FirstFile) (dirs : List (List ℕ)) (lanes : List Lane) (turns : List Turn) (old now : Serving) (r : Result (Vec ℕ Global) OutOfMemory)
+pub printed_if : (form : Form) (script : Script) (kept : Option Serving) (files : List FirstFile) (dirs : List (List ℕ)) (lanes : List Lane) (turns : List Turn) (old now : Serving) (r : Result (Vec ℕ Global) OutOfMemory)
     → files ≡ script.files → dirs ≡ script.dirs → lanes ≡ script.lanes → turns ≡ script.turns → old ≡ unopened files dirs script.server script.choices script.picks → now.first ≡ old.first → kept ≡ Some now
-    → IfOk r (λ text. IsTextOver lanes script.options turns now text.items) → IfOk r (λ text. IsPrinted kept script text.items)
-printed_if script kept files dirs lanes turns old now (Ok text) f d l t is same k run =
+    → IfOk r (λ text. IsTextOver form lanes script.options turns now text.items) → IfOk r (λ text. IsPrinted form kept script text.items)
+printed_if form script kept files dirs lanes turns old now (Ok text) f d l t is same k run =
     let first : now.first ≡ opened (first_desk script.files script.dirs script.server script.choices) script.picks =
     same ∙ (ap (λ (s : Serving). s.first) is
     ∙ (ap (λ (x : List FirstFile). opened (first_desk x dirs script.server script.choices) script.picks) f ∙ ap (λ (x : List (List ℕ)). opened (first_desk script.files x script.server script.choices) script.picks) d)) in
-    let over : IsTextOver script.lanes script.options script.turns now text.items =
-    subst (λ (x : List Turn). IsTextOver script.lanes script.options x now text.items) t (subst (λ (x : List Lane). IsTextOver x script.options turns now text.items) l run) in
+    let over : IsTextOver form script.lanes script.options script.turns now text.items =
+    subst (λ (x : List Turn). IsTextOver form script.lanes script.options x now text.items) t (subst (λ (x : List Lane). IsTextOver form x script.options turns now text.items) l run) in
     record {
       extensions = over.run.extensions;
       past = over.run.past;
@@ -113,6 +123,8 @@ printed_if script kept files dirs lanes turns old now (Ok text) f d l t is same 
       shown = over.run.shown;
       served = over.run.served;
       closed = over.run.closed;
-      is = over.is ∙ ap (λ o. text_with_files over.run.past o now.now.desk.machine.tree) over.run.outcomes;
+      reads_back = over.run.reads_back;
+      leaves = over.run.leaves;
+      is = over.is ∙ ap (λ o. run_text form over.run.past o now.now.desk.machine.tree) over.run.outcomes;
     }
-printed_if script kept files dirs lanes turns old now (Err e) f d l t is same k run = tt
+printed_if form script kept files dirs lanes turns old now (Err e) f d l t is same k run = tt

@@ -1,6 +1,6 @@
 -- What the program has to write for a script whose lanes run over a link to a server elsewhere.
-use Rattle.std.specs.Prelude.{◌≡◌, ◌⊎◌, ℕ, Bool, List, [], ◌++◌, length, codes, Option, Some, None, Err}
-use Rattle.sftp_link.specs.declared.piece.Piece.{Piece}
+use Rattle.std.specs.Prelude.{◌≡◌, ◌⊎◌, ℕ, List, [], ◌++◌, length, codes, Option, Some, None, Err}
+use Rattle.sftp_link.specs.Views.{LastLink}
 use Rattle.sftp_model.specs.declared.error.Error.{Error}
 use Rattle.sftp_model.specs.declared.error.Error.TheVariants as errors
 use Rattle.sftp_model.specs.declared.flags.Extensions.{Extensions}
@@ -19,26 +19,17 @@ use Rattle.sftp_lanes.specs.Seen.{given}
 use Rattle.sftp_cli.specs.declared.failure.Failure.{Failure}
 use Rattle.sftp_cli.specs.declared.failure.Failure.TheVariants.{SourceFailed, SinkFailed, OutOfMemory, DialFailed}
 
--- what a dial tells of the link that was put back last: its log, how often it failed, and whether its last call found the end
-pub record LastLink : Type 0 where
-  pub log : Option (List Piece)
-  pub faults : ℕ
-  pub ended : Bool
-
-abbrev pub last_link : Option (List Piece) → ℕ → Bool → LastLink
-last_link log faults ended = record { log = log; faults = faults; ended = ended }
-
 -- ---- a whole run
 
 -- The text is that of a run of the script's lanes: the frames of its journal and the outcomes, which are the values of the
--- plans. The link's log shows VERSION and that journal, and each handle was closed exactly as often as it was granted.
-pub record IsShown (last : LastLink) (script : Script) (text : List ℕ) : Type 0 where
+-- plans. The log of the link that was put back shows VERSION and that journal, and each handle was closed exactly as often as it was granted.
+pub record IsShown (last : Option LastLink) (script : Script) (text : List ℕ) : Type 0 where
   pub extensions : Extensions
   pub past : List Entry
-  pub log : List Piece
-  pub told : last.log ≡ Some log
+  pub link : LastLink
+  pub back : last ≡ Some link
   pub run : IsRun (setting_of script.lanes script.options extensions past) script.turns past
-  pub shown : Shows (greeting extensions) past [] log
+  pub shown : Shows (greeting extensions) past [] link.log
   pub closed : AreClosed past
   pub is : text ≡ text_of past (outcomes_below past (length script.lanes))
 
@@ -66,21 +57,21 @@ error_line name = line (codes "error " ++ name)
 -- The run stopped with an error other than want of memory, and the line names it. The link failed only where its count of
 -- faults rose and ended only where its last call found the end; any other error is the first thing that is wrong with the
 -- frame that came last. The log shows how far the run had come.
-pub record IsStopped (last : LastLink) (script : Script) (text : List ℕ) : Type 0 where
+pub record IsStopped (last : Option LastLink) (script : Script) (text : List ℕ) : Type 0 where
   pub error : Error
-  pub log : List Piece
-  pub told : last.log ≡ Some log
+  pub link : LastLink
+  pub back : last ≡ Some link
   pub name : List ℕ
   pub named : error_name error ≡ Some name
-  pub cause : Cause {T = Report} 0 last.faults (Err error)
-  pub end : EndCause {T = Report} last.ended (Err error)
-  pub stops : Ends (given script.lanes script.options) last.ended error [] log
+  pub cause : Cause {T = Report} 0 link.faults (Err error)
+  pub end : EndCause {T = Report} link.ended (Err error)
+  pub stops : Ends (given script.lanes script.options) script.turns link.ended error [] link.log
   pub is : text ≡ error_line name
 
 -- ---- both
 
 -- the status and the text of a run over a link: 0 and the run's, or 1 and the error that stopped it
-abbrev pub RunsOver : LastLink → Script → ℕ → List ℕ → Type 0
+abbrev pub RunsOver : Option LastLink → Script → ℕ → List ℕ → Type 0
 RunsOver last script status text = ((status ≡ 0) × IsShown last script text) ⊎ ((status ≡ 1) × IsStopped last script text)
 
 -- Of a failure, what holds of the dial: where the source failed it is untouched, and where it failed itself no link was put back.

@@ -5,11 +5,13 @@ use Rattle.sftp_history.specs.declared.reason.Reason.{Reason}
 use Rattle.sftp_history.specs.declared.script.Script.{Script}
 use Rattle.sftp_history.specs.Scripts.{script_of}
 use Rattle.sftp_link.specs.Told.{Told, Same, Went, WentLess, ReadUpTo}
+use Rattle.sftp_link.specs.Views.{LastLink}
 use Rattle.sftp_map_server.specs.Serving.{Serving}
 use Rattle.sftp_cli.specs.declared.failure.Failure.{Failure}
 use Rattle.sftp_cli.specs.declared.failure.Failure.TheVariants.{SourceFailed, SinkFailed, OutOfMemory, DialFailed}
-use Rattle.sftp_cli.specs.Dialled.{LastLink, IsShown, IsStopped, RunsOver}
-use Rattle.sftp_cli.specs.Printed.{IsAnswer, RunsInMemory, refusal_line}
+use Rattle.sftp_cli.specs.Dialled.{IsShown, IsStopped, RunsOver}
+use Rattle.sftp_cli.specs.declared.printed.Form.TheVariants as form
+use Rattle.sftp_cli.specs.Printed.{IsAnswer, IsPrinted, RunsInMemory, refusal_line}
 
 -- one byte more than a script may have
 abbrev pub read_limit : ℕ
@@ -96,11 +98,40 @@ pub record EndsInMemory (kept : Option Serving) (status : ℕ) (left left_now wr
   pub unfinished : Unfinished (RunsInMemory kept) status left left_now written written_now
 
 -- how the program ends with a script over a link
-pub record EndsOverLink (last : LastLink) (status : ℕ) (left left_now written written_now : Option (List ℕ)) : Type 0 where
+pub record EndsOverLink (last : Option LastLink) (status : ℕ) (left left_now written written_now : Option (List ℕ)) : Type 0 where
   pub ran : status ≡ 0 → Ran (λ script text. IsShown last script text) left left_now written written_now
   pub stopped : status ≡ 1 → Ran (λ script text. IsStopped last script text) left left_now written written_now
   pub refused : status ≡ 2 → Refused left left_now written written_now
   pub unfinished : Unfinished (RunsOver last) status left left_now written written_now
+
+-- ---- a script that three numbers make
+
+-- it was run over a server in memory, and the whole summary of the run was written
+pub record Summed (kept : Option Serving) (script : Script) (written written_now : Option (List ℕ)) : Type 0 where
+  pub text : List ℕ
+  pub summary : IsPrinted form.Summary kept script text
+  pub wrote : Told (Went text) written written_now
+
+-- it was run, and a prefix of the summary was written, and not the whole
+pub record SummedLess (kept : Option Serving) (script : Script) (written written_now : Option (List ℕ)) : Type 0 where
+  pub text : List ℕ
+  pub summary : IsPrinted form.Summary kept script text
+  pub wrote : Told (WentLess text) written written_now
+
+-- where the sink failed a prefix of the summary was written; where there was no memory, that or nothing
+abbrev pub SummaryStopped : Option Serving → Script → Failure → Option (List ℕ) → Option (List ℕ) → Type 0
+SummaryStopped kept script SourceFailed written written_now = ⊥
+SummaryStopped kept script SinkFailed written written_now = SummedLess kept script written written_now
+SummaryStopped kept script OutOfMemory written written_now = Told Same written written_now ⊎ SummedLess kept script written written_now
+SummaryStopped kept script DialFailed written written_now = ⊥
+
+-- how the program ends with such a script: the summary was written, or a failure says why it was not
+abbrev pub EndsSummed : Option Serving → Script → ℕ → Option (List ℕ) → Option (List ℕ) → Type 0
+EndsSummed kept script status written written_now =
+    ((status ≡ 0) × Summed kept script written written_now)
+    ⊎ ((why : Failure) × ((status ≡ code why) × SummaryStopped kept script why written written_now))
+
+-- ---- the dial, and causes
 
 -- The dial comes behind the script: it is untouched, or the source was read to its end and gave a script.
 abbrev pub DialsLast : Type 0 → Option (List ℕ) → Option (List ℕ) → Type 0

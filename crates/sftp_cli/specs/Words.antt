@@ -1,17 +1,25 @@
 -- What the program writes and answers for the words of its command line.
-use Rattle.std.specs.Prelude.{◌≡◌, ◌⊎◌, ℕ, Bool, false, ◌||◌, List, [], ◌∷◌, ◌++◌, Option, codes, if◌then◌else◌}
+use Rattle.std.specs.Prelude.{◌≡◌, ◌≤◌, ◌⊎◌, ℕ, ◌*◌, ◌-◌, ◌^◌, nat_le, Bool, false, ◌||◌, List, [], ◌∷◌, ◌++◌, Option, None, Result, Ok, Err, codes, if◌then◌else◌}
+use Rattle.std.specs.Result.{result_ok}
 use Rattle.std.specs.Str.{bytes_eq}
+use Rattle.ssh_encoding.specs.Reading.{◌>>=◌}
+use Rattle.sftp_history.specs.declared.reason.Reason.{Reason}
+use Rattle.sftp_history.specs.declared.reason.Reason.TheVariants as reason
+use Rattle.sftp_history.specs.Lines.{number_in}
 use Rattle.sftp_link.specs.Told.{Told, Went, WentLess}
+use Rattle.sftp_cli.specs.declared.bulk.Numbers.{Numbers}
 
 -- ---- texts
 
 -- what `--help` writes
 unfoldable pub help_text : List ℕ
 help_text =
-    codes "Usage: sftp_cli script | unix PATH | --help | --version\n"
+    codes "Usage: sftp_cli script | unix PATH | bulk START LANES CALLS | --help | --version\n"
     ++ codes "\n"
     ++ codes "  script       runs the script on standard input over a server of its files in memory\n"
     ++ codes "  unix PATH    runs it over the SFTP server that listens on the Unix socket PATH\n"
+    ++ codes "  bulk START LANES CALLS\n"
+    ++ codes "               runs a script that the three numbers make, and writes a summary\n"
     ++ codes "  --help       writes this text\n"
     ++ codes "  --version    writes the version\n"
     ++ codes "\n"
@@ -55,6 +63,29 @@ is_unix [] = false
 is_unix (word ∷ []) = false
 is_unix (word ∷ path ∷ []) = bytes_eq word (codes "unix")
 is_unix (word ∷ path ∷ another ∷ words) = false
+
+-- three numbers: a start of 64 bits, up to 256 lanes, and up to 4096 calls for each, which are up to 16384 in all
+abbrev pub numbers_in : List ℕ → List ℕ → List ℕ → Result Numbers Reason
+numbers_in start lanes calls =
+    number_in 0 (2 ^ 64 - 1) start >>= λ s.
+    number_in 0 256 lanes >>= λ l.
+    number_in 0 4096 calls >>= λ c.
+    if nat_le (l * c) 16384 then Ok (record { start = s; lanes = l; calls = c }) else Err reason.Range
+
+-- numbers that are within these ranges
+pub record IsBulk (n : Numbers) : Type 0 where
+  pub lanes : n.lanes ≤ 256
+  pub calls : n.calls ≤ 4096
+  pub all : n.lanes * n.calls ≤ 16384
+
+-- the word `bulk`, and three such numbers behind it
+abbrev pub bulk_of : List (List ℕ) → Option Numbers
+bulk_of [] = None
+bulk_of (word ∷ []) = None
+bulk_of (word ∷ start ∷ []) = None
+bulk_of (word ∷ start ∷ lanes ∷ []) = None
+bulk_of (word ∷ start ∷ lanes ∷ calls ∷ []) = if bytes_eq word (codes "bulk") then result_ok (numbers_in start lanes calls) else None
+bulk_of (word ∷ start ∷ lanes ∷ calls ∷ another ∷ words) = None
 
 -- words with which a script is read
 abbrev pub takes_script : List (List ℕ) → Bool

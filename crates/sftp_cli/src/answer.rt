@@ -8,10 +8,12 @@ fn help_text() -> &'static str
     ensures { result.now ≡ help_text }
 {
     "\
-Usage: sftp_cli script | unix PATH | --help | --version
+Usage: sftp_cli script | unix PATH | bulk START LANES CALLS | --help | --version
 
   script       runs the script on standard input over a server of its files in memory
   unix PATH    runs it over the SFTP server that listens on the Unix socket PATH
+  bulk START LANES CALLS
+               runs a script that the three numbers make, and writes a summary
   --help       writes this text
   --version    writes the version
 

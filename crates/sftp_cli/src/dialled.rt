@@ -1,8 +1,9 @@
 // A script that was read is run over a link that a dial gives, and the text of the run is made.
-ghost use Rattle.std.specs.Prelude.{◌≡◌, ◌<◌, ◌-◌, ◌^◌, [], Some, true, false, reverse, IfOk, IfErr, if◌then◌else◌};
+ghost use Rattle.std.specs.Prelude.{◌≡◌, ◌<◌, ◌-◌, ◌^◌, [], Some, true, IfOk, IfErr};
+ghost use Rattle.sftp_link.specs.Views.{last_of};
 ghost use Rattle.sftp_history.specs.Lanes.{are_ok};
 ghost use Rattle.sftp_cli.specs.declared.failure.Failure.TheVariants as failure;
-ghost use Rattle.sftp_cli.specs.Dialled.{RunsOver, Undialled, last_link};
+ghost use Rattle.sftp_cli.specs.Dialled.{RunsOver, Undialled};
 ghost use Rattle.sftp_cli.specs.Ended.{DialCause};
 
 use crate::failure::Failure;
@@ -11,7 +12,7 @@ use crate::script::Reply;
 use sftp_history::Script;
 use sftp_lanes::run_lanes;
 use sftp_link::{DeviceError, Dial, Link, Logged};
-use sftp_text::{traces_keep_texts, write_text};
+use sftp_text::write_text;
 use ssh_encoding::OutOfMemory;
 use std::alloc::Global;
 
@@ -28,15 +29,12 @@ fn reply_over<L: Link>(
 ) -> Result<Reply, OutOfMemory>
     requires lanes { are_ok script.now.lanes ≡ true }
     requires quiet { link.old.pieces ≡ [] }
-    requires unfailed { L.LinkState.faults link.old.link ≡ 0 }
-    ensures { IfOk result (λ reply. RunsOver
-        (last_link (Some (reverse link.new.pieces)) (L.LinkState.faults link.new.link) (if link.new.starved then false else L.LinkState.ended link.new.link))
-        script.now reply.status reply.text.items) }
+    requires unfailed { (L.LinkState.state link.old.link).faults ≡ 0 }
+    ensures { IfOk result (λ reply. RunsOver (Some (last_of L.LinkState.state link.new)) script.now reply.status reply.text.items) }
 {
     let lanes = script.lanes.as_slice();
     match run_lanes(alloc, link, lanes, script.turns.as_slice(), &script.options) {
         Ok(report) => {
-            traces_keep_texts();
             let mut text = Vec::new(alloc);
             write_text(alloc, &report, &mut text)?;
             Ok(Reply { status: 0, text })
@@ -60,10 +58,10 @@ pub(crate) fn reply_dialled<D: Dial>(
 ) -> Result<Reply, Failure>
     requires lanes { are_ok script.now.lanes ≡ true }
     requires dial { D.faults dial.old < 2 ^ 64 - 1 }
-    ensures ok { IfOk result (λ reply. RunsOver (last_link (D.last dial.new) (D.last_faults dial.new) (D.last_ended dial.new)) script.now reply.status reply.text.items) }
+    ensures ok { IfOk result (λ reply. RunsOver (D.last dial.new) script.now reply.status reply.text.items) }
     ensures cause { DialCause result (D.faults dial.old) (D.faults dial.new) }
     ensures undialled { IfErr result (λ e. Undialled e (dial.new ≡ dial.old)
-        (last_link (D.last dial.new) (D.last_faults dial.new) (D.last_ended dial.new) ≡ last_link (D.last dial.old) (D.last_faults dial.old) (D.last_ended dial.old))) }
+        (D.last dial.new ≡ D.last dial.old)) }
     ensures only { IfErr result (λ e. (e ≡ failure.SourceFailed → ⊥) × (e ≡ failure.SinkFailed → ⊥)) }
 {
     let link = match dial.dial(path) {

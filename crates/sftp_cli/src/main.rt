@@ -2,6 +2,7 @@
 #![tactic(auto)]
 
 mod answer;
+mod bulk;
 mod dialled;
 mod failure;
 mod laws;

@@ -1,24 +1,34 @@
 // A script that was read is run over a server of its files and directories, and the text of the run is made.
 ghost use Rattle.std.specs.Prelude.{◌≡◌, ◌++◌, [], true, IfOk, OnOk};
 ghost use Rattle.sftp_history.specs.Lanes.{are_ok};
-ghost use Rattle.sftp_history.specs.Texts.{dir_lines, file_lines, text_of};
+ghost use Rattle.sftp_history.specs.Texts.{dir_lines, file_lines};
+ghost use Rattle.sftp_cli.specs.declared.printed.Form.TheVariants as form;
 ghost use Rattle.sftp_model.specs.Fits.{FitsSet};
 ghost use Rattle.sftp_model.specs.declared.error.Error.TheVariants as errors;
 ghost use Rattle.sftp_tree.specs.FirstTree.{may_begin};
 ghost use Rattle.sftp_tree.specs.Listing.{dir_at, file_at};
 ghost use Rattle.sftp_served.specs.Unopened.{IsUnopened};
-ghost use Rattle.sftp_text.specs.Traces.{journal_of};
-ghost use Rattle.sftp_cli.specs.Printed.{IsPrinted, IsServedReport, IsTextOver, dir_text_of, file_text_of};
+ghost use Rattle.sftp_cli.specs.Printed.{IsPrinted, IsServedReport, IsTextOver, bytes_left, dir_text_of, file_len_of, file_text_of, report_text};
 
+use sftp_bulk::{summary_of, traces_keep_requests, write_summary};
 use sftp_core::SftpOptions;
 use sftp_history::{Lane, Report, Script, Turn};
 use sftp_lanes::run_lanes;
 use sftp_map_server::MapServer;
 use sftp_model::Error;
 use sftp_served::new_server;
-use sftp_text::{traces_keep_texts, write_dir, write_file, write_text};
+use sftp_text::{write_dir, write_file, write_text};
 use ssh_encoding::OutOfMemory;
 use std::alloc::Global;
+
+/// What is written of a run.
+#[derive(Clone, Copy, Debug, PartialEq, Eq)]
+pub enum Form {
+    /// Its frames, the outcomes, and the files and directories that are left.
+    Whole,
+    /// The numbers of these.
+    Summary,
+}
 
 /// The only error that is left to a run over a server in memory.
 fn want_of_memory(error: Error) -> OutOfMemory
@@ -109,14 +119,49 @@ fn write_dirs(alloc: Global, server: &MapServer, out: &mut Vec<u8>) -> Result<()
     Ok(())
 }
 
-/// The text of a report, and of the files and directories that a server has.
+/// How many bytes file k has.
+fn file_len_at(server: &MapServer, k: u64) -> u64
+    ensures { result ≡ file_len_of (file_at server.now.now.desk.machine.tree k) }
+{
+    match server.file(k) {
+        Some((_, content)) => content.len() as u64,
+        None => 0,
+    }
+}
+
+/// How many bytes all files have, or the greatest number of 64 bits where they are more.
+#[tactic(auto, using(crate::proofs::Files::len_step, crate::proofs::Files::lens_end))]
+fn bytes_left(server: &MapServer) -> u64
+    ensures { result ≡ bytes_left server.now.now.desk.machine.tree }
+{
+    let mut count: u64 = 0;
+    for k in 0..server.file_count() {
+        count = count.saturating_add(file_len_at(server, k));
+    }
+    count
+}
+
+/// The numbers of a report, and of the files that a server has.
+fn summary_with_files(
+    alloc: Global,
+    report: &Report,
+    server: &MapServer,
+) -> Result<Vec<u8>, OutOfMemory>
+    ensures { IfOk result (λ text. text.items ≡ report_text form.Summary report.now server.now.now.desk.machine.tree) }
+{
+    let summary = summary_of(report, server.file_count(), bytes_left(server));
+    let mut text = Vec::new(alloc);
+    write_summary(&summary, &mut text)?;
+    Ok(text)
+}
+
+/// The frames and outcomes of a report, and the files and directories that a server has.
 fn text_with_files(
     alloc: Global,
     report: &Report,
     server: &MapServer,
 ) -> Result<Vec<u8>, OutOfMemory>
-    ensures { IfOk result (λ text. text.items ≡ text_of (journal_of report.now.trace) report.now.outcomes
-        ++ file_lines server.now.now.desk.machine.tree ++ dir_lines server.now.now.desk.machine.tree) }
+    ensures { IfOk result (λ text. text.items ≡ report_text form.Whole report.now server.now.now.desk.machine.tree) }
 {
     let mut text = Vec::new(alloc);
     write_text(alloc, report, &mut text)?;
@@ -125,10 +170,25 @@ fn text_with_files(
     Ok(text)
 }
 
-/// Runs lanes over a server, and gives the text of the run: its frames, the outcomes, and the files and directories that are
-/// left.
+/// The text of a report, and of the files and directories that a server has.
+fn report_text(
+    alloc: Global,
+    form: Form,
+    report: &Report,
+    server: &MapServer,
+) -> Result<Vec<u8>, OutOfMemory>
+    ensures { IfOk result (λ text. text.items ≡ report_text form report.now server.now.now.desk.machine.tree) }
+{
+    match form {
+        Form::Whole => text_with_files(alloc, report, server),
+        Form::Summary => summary_with_files(alloc, report, server),
+    }
+}
+
+/// Runs lanes over a server, and gives the text of the run.
 fn text_over(
     alloc: Global,
+    form: Form,
     server: &mut MapServer,
     lanes: &[Lane],
     turns: &[Turn],
@@ -137,25 +197,25 @@ fn text_over(
     requires lanes { are_ok lanes.now ≡ true }
     requires unopened { IsUnopened server.old.first }
     requires quiet { server.old.log ≡ [] }
-    ensures text { IfOk result (λ text. IsTextOver lanes.now options.now turns.now server.new text.items) }
+    ensures text { IfOk result (λ text. IsTextOver form lanes.now options.now turns.now server.new text.items) }
     ensures first { server.new.first ≡ server.old.first }
 {
     let report = served_run(alloc, server, lanes, turns, options)?;
-    traces_keep_texts();
-    text_with_files(alloc, &report, server)
+    report_text(alloc, form, &report, server)
 }
 
 /// Runs a script over a server of its files and directories, and gives the text of the run. The server is left in `kept`, also
 /// where the run stopped for want of memory.
 pub(crate) fn text_of_run(
     alloc: Global,
+    form: Form,
     script: Script,
     kept: &mut Option<MapServer>,
 ) -> Result<Vec<u8>, OutOfMemory>
     requires lanes { are_ok script.lanes ≡ true }
     requires files { may_begin script.files script.dirs ≡ true }
     requires known { FitsSet script.server.extensions.0 }
-    ensures { IfOk result (λ text. IsPrinted kept.new script text.items) }
+    ensures { IfOk result (λ text. IsPrinted form kept.new script text.items) }
 {
     let Script {
         options,
@@ -177,6 +237,7 @@ pub(crate) fn text_of_run(
     )?;
     let text = text_over(
         alloc,
+        form,
         &mut server,
         lanes.as_slice(),
         turns.as_slice(),

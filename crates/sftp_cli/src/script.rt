@@ -5,13 +5,13 @@ ghost use Rattle.sftp_history.specs.Lanes.{are_ok};
 ghost use Rattle.sftp_history.specs.Scripts.{script_of};
 ghost use Rattle.sftp_history.specs.declared.script.Script.{Script};
 ghost use Rattle.sftp_cli.specs.declared.failure.Failure.TheVariants as failure;
-ghost use Rattle.sftp_cli.specs.Dialled.{RunsOver, Undialled, last_link};
+ghost use Rattle.sftp_cli.specs.Dialled.{RunsOver, Undialled};
 ghost use Rattle.sftp_cli.specs.Printed.{IsAnswer, RunsInMemory, refusal_line};
 ghost use Rattle.sftp_cli.specs.Ended.{Answered, Stopped, IsScript, DialsLast, SourceCause, SinkCause, DialCause, read_limit};
 
 use crate::dialled::reply_dialled;
 use crate::failure::Failure;
-use crate::printed::text_of_run;
+use crate::printed::{Form, text_of_run};
 use crate::refusal::refusal_line;
 use sftp_history::Reason;
 use sftp_link::{DeviceError, Dial, Sink, Source, read_up_to, write_all};
@@ -25,7 +25,7 @@ use std::alloc::Global;
 const READ_LIMIT: usize = 16777217;
 
 /// The status of a script that was run.
-const RAN: u8 = 0;
+pub(crate) const RAN: u8 = 0;
 
 /// The status of a script that was refused.
 const REFUSED: u8 = 2;
@@ -81,7 +81,7 @@ fn reply_in_memory(
             scripts_are_known();
             scripts_are_fit();
             scripts_may_begin();
-            let text = text_of_run(alloc, script, kept)?;
+            let text = text_of_run(alloc, Form::Whole, script, kept)?;
             Ok(Reply { status: RAN, text })
         }
         Err(ScriptError::OutOfMemory) => Err(OutOfMemory),
@@ -97,14 +97,14 @@ fn reply_at<D: Dial>(
     path: &str,
 ) -> Result<Reply, Failure>
     requires { D.faults dial.old < 2 ^ 64 - 1 }
-    ensures ok { IfOk result (λ reply. IsAnswer (RunsOver (last_link (D.last dial.new) (D.last_faults dial.new) (D.last_ended dial.new)))
+    ensures ok { IfOk result (λ reply. IsAnswer (RunsOver (D.last dial.new))
         (script_of bytes.now) reply.status reply.text.items) }
     ensures refused { IfOk result (λ reply. reply.status ≡ 2 → dial.new ≡ dial.old) }
     ensures order { (dial.new ≡ dial.old) ⊎ IsScript bytes.now }
     ensures dialled { IfErr result (λ e. e ≡ failure.DialFailed → IsScript bytes.now) }
     ensures cause { DialCause result (D.faults dial.old) (D.faults dial.new) }
     ensures undialled { IfErr result (λ e. Undialled e (dial.new ≡ dial.old)
-        (last_link (D.last dial.new) (D.last_faults dial.new) (D.last_ended dial.new) ≡ last_link (D.last dial.old) (D.last_faults dial.old) (D.last_ended dial.old))) }
+        (D.last dial.new ≡ D.last dial.old)) }
     ensures only { IfErr result (λ e. (e ≡ failure.SourceFailed → ⊥) × (e ≡ failure.SinkFailed → ⊥)) }
 {
     match read_script(alloc, bytes) {
@@ -169,14 +169,14 @@ pub(crate) fn run_unix<S: Source, K: Sink, D: Dial>(
     requires source { S.faults source.old < 2 ^ 64 - 1 }
     requires sink { K.faults sink.old < 2 ^ 64 - 1 }
     requires dial { D.faults dial.old < 2 ^ 64 - 1 }
-    ensures answered { IfOk result (λ status. Answered (RunsOver (last_link (D.last dial.new) (D.last_faults dial.new) (D.last_ended dial.new)))
+    ensures answered { IfOk result (λ status. Answered (RunsOver (D.last dial.new))
         status (S.left source.old) (S.left source.new) (K.written sink.old) (K.written sink.new)) }
-    ensures stopped { IfErr result (λ e. Stopped (RunsOver (last_link (D.last dial.new) (D.last_faults dial.new) (D.last_ended dial.new)))
+    ensures stopped { IfErr result (λ e. Stopped (RunsOver (D.last dial.new))
         e (S.left source.old) (S.left source.new) (K.written sink.old) (K.written sink.new)) }
     ensures refused { IfOk result (λ status. status ≡ 2 → dial.new ≡ dial.old) }
     ensures order { DialsLast (dial.new ≡ dial.old) (S.left source.old) (S.left source.new) }
     ensures undialled { IfErr result (λ e. Undialled e (dial.new ≡ dial.old)
-        (last_link (D.last dial.new) (D.last_faults dial.new) (D.last_ended dial.new) ≡ last_link (D.last dial.old) (D.last_faults dial.old) (D.last_ended dial.old))) }
+        (D.last dial.new ≡ D.last dial.old)) }
     ensures source { SourceCause result (S.faults source.old) (S.faults source.new) }
     ensures sink { SinkCause result (K.faults sink.old) (K.faults sink.new) }
     ensures dial { DialCause result (D.faults dial.old) (D.faults dial.new) }

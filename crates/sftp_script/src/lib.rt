@@ -21,5 +21,6 @@ mod words;
 
 pub use error::ScriptError;
 pub use laws::{scripts_have_a_write_limit, scripts_may_begin};
+pub use number::number_in;
 pub use script::read_script;
 pub use sftp_history::{Reason, Script};

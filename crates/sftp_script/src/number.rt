@@ -28,9 +28,10 @@ fn number_of(word: &[u8]) -> Option<u128>
     Some(n)
 }
 
-/// A number of any number of digits, from `least` to `most`.
+/// A number of any number of digits, from `least` to `most`. Refused with `Number` where it is no digits, and with `Range`
+/// where it is less or more.
 #[tactic(auto, using(crate::proofs::Numbers::within_capped))]
-pub(crate) fn number_in(least: u64, most: u64, word: &[u8]) -> Result<u64, Reason>
+pub fn number_in(least: u64, most: u64, word: &[u8]) -> Result<u64, Reason>
     ensures value { result ≡ number_in least most word.now }
     ensures range { IfOk result (λ n. (least ≤ n) × (n ≤ most)) }
 {

@@ -8,7 +8,7 @@ returns-in-Some g c =
     let link = c.run_lanes.new.link in
     inr (
       refl,
-      is_stopped c.args.script.now c.as_slice-lanes.result.now c.args.link.now.pieces (reverse link.pieces) (g.L.LinkState.faults c.args.link.now.link) (g.L.LinkState.faults link.link)
-          (if link.starved then false else g.L.LinkState.ended link.link) c.in-Err.error c.in-Some.name.now c.in_ok-error_line-in-Some.field-0.items c.as_slice-lanes.ensures c.requires.quiet c.requires.unfailed
-          c.in-Err.ensures.stops c.in-Err.ensures.cause c.in-Err.ensures.end (sym c.in-Some.ensures) c.in_ok-error_line-in-Some.ensures,
+      is_stopped c.args.script.now c.as_slice-lanes.result.now c.as_slice.result.now c.args.link.now.pieces (reverse link.pieces) (g.L.LinkState.state c.args.link.now.link).faults (g.L.LinkState.state link.link).faults
+          (if link.starved then false else (g.L.LinkState.state link.link).ended) c.in-Err.error c.in-Some.name.now c.in_ok-error_line-in-Some.field-0.items c.as_slice-lanes.ensures c.as_slice.ensures c.requires.quiet c.requires.unfailed
+          c.in-Err.ensures.stops c.in-Err.ensures.caused.cause c.in-Err.ensures.caused.end (sym c.in-Some.ensures) c.in_ok-error_line-in-Some.ensures,
     )
