@@ -31,6 +31,7 @@ is_shown script before log faults ended report text none run is =
       run = run.run;
       shown = from_empty (λ (b now : List Piece). Shows (greeting run.extensions) run.past (reverse b) now) before log none run.log;
       closed = run.closed;
+      files = run.files;
       is = is ∙ ap (λ t. text_of (journal_of t) report.outcomes) run.trace ∙ trace_text run.past report.outcomes ∙ ap (λ o. text_of run.past o) run.outcomes;
     }
 

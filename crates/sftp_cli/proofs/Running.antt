@@ -19,7 +19,9 @@ use Rattle.sftp_history.specs.Shown.{Shows}
 use Rattle.sftp_history.specs.Texts.{dir_lines, file_lines, text_of}
 use Rattle.sftp_history.specs.Readings.{trace_of}
 use Rattle.sftp_history.specs.declared.entry.Entry.{Entry}
+use Rattle.sftp_tree.specs.Changes.{IsWellFormed}
 use Rattle.sftp_tree.specs.FileTree.{FileTree}
+use Rattle.sftp_tree.proofs.FirstFiles.{first_well_formed}
 use Rattle.sftp_bulk.specs.Summary.{summary_text}
 use Rattle.sftp_cli.specs.declared.printed.Form.{Form}
 use Rattle.sftp_cli.specs.declared.printed.Form.TheVariants as form
@@ -31,10 +33,10 @@ use Rattle.sftp_map_server.specs.Serving.{IsServing, Server, Serving, first_desk
 use Rattle.sftp_served.specs.Unopened.{IsUnopened, unopened}
 use Rattle.sftp_served.proofs.Whole.{version_is_told, run_is_served, stops_for_memory}
 use Rattle.sftp_lanes.specs.Reported.{IsReport}
-use Rattle.sftp_round_trip.proofs.ReadsBackLaws.{run_leaves_files, run_reads_back}
+use Rattle.sftp_lanes.specs.ServesFiles.{ServesFiles}
 use Rattle.sftp_text.specs.Traces.{journal_of}
 use Rattle.sftp_text.proofs.TraceLaws.{trace_text}
-use Rattle.sftp_cli.specs.Printed.{IsPrinted, IsServedReport, IsTextOver, report_text, run_text, summary_left}
+use Rattle.sftp_cli.specs.Printed.{IsPrinted, IsServedReport, IsTextOver, KeepsOver, report_text, run_text, summary_left}
 
 -- a value in Some
 some_is : {A : Type 0} (x y : A) → Some x ≡ Some y → x ≡ y
@@ -43,6 +45,16 @@ some_is x y e = ap (λ o. unwrap_or o x) e
 -- the log was empty
 pub from_empty : {A : Type 0} (R : List A → List A → Type 0) (before now : List A) → before ≡ [] → R before now → R [] now
 from_empty R before now none h = subst (λ b. R b now) none h
+
+-- the server's files and directories are a tree
+begins_well : (first : Server) → IsUnopened first → IsWellFormed first.desk.machine.tree
+begins_well first u = subst (λ (x : Server). IsWellFormed x.desk.machine.tree) (sym u.is) (first_well_formed u.files u.dirs u.may)
+
+-- its link serves files to whichever lanes a session can be given
+pub server_serves_files : (lanes : List Lane) (options : SftpOptions) (server : Serving) → are_ok lanes ≡ true → IsUnopened server.first → IsServing server.first server.now server.log server.ended
+    → ServesFiles lanes options server.first.desk.machine.config server.first.desk.choices server.first.desk.machine.tree server.now.desk.machine.tree [] server.log
+server_serves_files lanes options server ok new serving extensions turns past run shown =
+    (run_is_served (record { lanes = lanes; options = options }) (Some (greeting extensions)) (setting_of lanes options extensions past) turns past server new serving ok run (extensions, (refl, refl)) shown).serves
 
 pub served_report : (lanes : List Lane) (options : SftpOptions) (turns : List Turn) (old now : Serving) (r : Report) → are_ok lanes ≡ true → IsUnopened old.first → old.log ≡ [] → now.first ≡ old.first
     → IsServing now.first now.now now.log now.ended → IsReport lanes options turns (Some old.log) (Some now.log) r → IsServedReport lanes options turns now r
@@ -63,8 +75,7 @@ served_report lanes options turns old now r ok new none same serving report =
       shown = shown;
       served = served;
       closed = report.closed;
-      reads_back = run_reads_back lanes options report.extensions turns report.past now.first now.now.desk.machine.tree report.run fresh served;
-      leaves = run_leaves_files lanes options report.extensions turns report.past now.first now.now.desk.machine.tree report.run fresh served;
+      files = report.files now.first.desk.machine.config now.first.desk.choices now.first.desk.machine.tree now.now.desk.machine.tree (begins_well now.first fresh) served.serves;
       trace = report.trace;
       outcomes = report.outcomes;
     }
@@ -123,8 +134,7 @@ printed_if form script kept files dirs lanes turns old now (Ok text) f d l t is 
       shown = over.run.shown;
       served = over.run.served;
       closed = over.run.closed;
-      reads_back = over.run.reads_back;
-      leaves = over.run.leaves;
+      files = subst (λ (x : Server). KeepsOver x script.lanes (setting_of script.lanes script.options over.run.extensions over.run.past) over.run.past now.now.desk.machine.tree) first over.run.files;
       is = over.is ∙ ap (λ o. run_text form over.run.past o now.now.desk.machine.tree) over.run.outcomes;
     }
 printed_if form script kept files dirs lanes turns old now (Err e) f d l t is same k run = tt

@@ -15,6 +15,7 @@ use Rattle.sftp_history.specs.Shown.{Shows}
 use Rattle.sftp_history.specs.Texts.{line, text_of}
 use Rattle.sftp_driver.specs.Causes.{Cause, EndCause}
 use Rattle.sftp_driver.specs.Logs.{Ends}
+use Rattle.sftp_lanes.specs.Reported.{KeepsServed}
 use Rattle.sftp_lanes.specs.Seen.{given}
 use Rattle.sftp_cli.specs.declared.failure.Failure.{Failure}
 use Rattle.sftp_cli.specs.declared.failure.Failure.TheVariants.{SourceFailed, SinkFailed, OutOfMemory, DialFailed}
@@ -22,7 +23,8 @@ use Rattle.sftp_cli.specs.declared.failure.Failure.TheVariants.{SourceFailed, Si
 -- ---- a whole run
 
 -- The text is that of a run of the script's lanes: the frames of its journal and the outcomes, which are the values of the
--- plans. The log of the link that was put back shows VERSION and that journal, and each handle was closed exactly as often as it was granted.
+-- plans. The log of the link that was put back shows VERSION and that journal, and each handle was closed exactly as often as it
+-- was granted. Where the replies are those of a file machine, what was written is read back and is left.
 pub record IsShown (last : Option LastLink) (script : Script) (text : List ℕ) : Type 0 where
   pub extensions : Extensions
   pub past : List Entry
@@ -31,6 +33,7 @@ pub record IsShown (last : Option LastLink) (script : Script) (text : List ℕ) 
   pub run : IsRun (setting_of script.lanes script.options extensions past) script.turns past
   pub shown : Shows (greeting extensions) past [] link.log
   pub closed : AreClosed past
+  pub files : KeepsServed script.lanes (setting_of script.lanes script.options extensions past) past
   pub is : text ≡ text_of past (outcomes_below past (length script.lanes))
 
 -- ---- a run that stopped

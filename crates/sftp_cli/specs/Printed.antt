@@ -5,6 +5,7 @@ use Rattle.sftp_core.specs.declared.options.SftpOptions.{SftpOptions}
 use Rattle.sftp_model.specs.declared.flags.Extensions.{Extensions}
 use Rattle.sftp_model.specs.declared.outcome.Outcome.{Outcome}
 use Rattle.sftp_tree.specs.FileTree.{FileTree}
+use Rattle.sftp_tree.specs.FirstTree.{first_tree}
 use Rattle.sftp_tree.specs.Listing.{has_file, in_name_order, node_bytes}
 use Rattle.sftp_bulk.specs.declared.summary.Summary.{Summary}
 use Rattle.sftp_bulk.specs.Summary.{limited, summary_of, summary_text}
@@ -15,16 +16,16 @@ use Rattle.sftp_history.specs.declared.reason.Reason.TheVariants as reason
 use Rattle.sftp_history.specs.declared.report.Report.{Report}
 use Rattle.sftp_history.specs.declared.script.Script.{Script}
 use Rattle.sftp_history.specs.declared.turn.Turn.{Turn}
+use Rattle.sftp_history.specs.Calls.{Setting}
 use Rattle.sftp_history.specs.Closes.{AreClosed}
 use Rattle.sftp_history.specs.Readings.{trace_of, outcomes_below}
 use Rattle.sftp_history.specs.Runs.{IsRun}
 use Rattle.sftp_history.specs.Settings.{greeting, setting_of}
 use Rattle.sftp_history.specs.Shown.{Shows}
 use Rattle.sftp_history.specs.Texts.{dir_text, file_text, line, number_text, text_with_files}
-use Rattle.sftp_map_server.specs.Serving.{Serving, first_desk, opened, version_reply}
+use Rattle.sftp_map_server.specs.Serving.{Server, Serving, first_desk, opened, version_reply}
 use Rattle.sftp_served.specs.Unopened.{IsServedRun}
-use Rattle.sftp_round_trip.specs.LeavesFiles.{LeavesFiles}
-use Rattle.sftp_round_trip.specs.ReadsBack.{ReadsBack}
+use Rattle.sftp_round_trip.specs.KeepsFiles.{KeepsFiles}
 use Rattle.sftp_text.specs.Traces.{journal_of}
 use Rattle.sftp_cli.specs.declared.printed.Form.{Form}
 use Rattle.sftp_cli.specs.declared.printed.Form.TheVariants as form
@@ -51,6 +52,10 @@ run_text form.Summary past outcomes tree = summary_text (summary_left (record { 
 
 -- ---- a run
 
+-- what a run of lanes gives of files and leaves of them, over a server that was this one at first
+abbrev pub KeepsOver : Server → List Lane → Setting → List Entry → FileTree → Type 0
+KeepsOver first lanes s past left = KeepsFiles lanes first.desk.machine.config first.desk.choices first.desk.machine.tree s past left (outcomes_below past (length lanes))
+
 -- The text is that of a run of the script's lanes: of its journal, of the outcomes, which are the values of the plans, and of the
 -- files and directories that are left. It ran over a server of the script's files and directories, choices and
 -- picks, which was kept: VERSION told what the server offers, the server's log shows VERSION and the journal, the replies are
@@ -68,8 +73,7 @@ pub record IsPrinted (form : Form) (kept : Option Serving) (script : Script) (te
   pub shown : Shows (greeting extensions) past [] server.log
   pub served : IsServedRun server.first past server.now.desk.machine.tree
   pub closed : AreClosed past
-  pub reads_back : ReadsBack script.lanes server.first (outcomes_below past (length script.lanes))
-  pub leaves : LeavesFiles script.lanes server.first server.now.desk.machine.tree (outcomes_below past (length script.lanes))
+  pub files : KeepsFiles script.lanes script.server script.choices (first_tree script.files script.dirs) (setting_of script.lanes script.options extensions past) past server.now.desk.machine.tree (outcomes_below past (length script.lanes))
   pub is : text ≡ run_text form past (outcomes_below past (length script.lanes)) server.now.desk.machine.tree
 
 -- the report is that of a run of lanes over this server, whose log shows it
@@ -81,8 +85,7 @@ pub record IsServedReport (lanes : List Lane) (options : SftpOptions) (turns : L
   pub shown : Shows (greeting extensions) past [] server.log
   pub served : IsServedRun server.first past server.now.desk.machine.tree
   pub closed : AreClosed past
-  pub reads_back : ReadsBack lanes server.first (outcomes_below past (length lanes))
-  pub leaves : LeavesFiles lanes server.first server.now.desk.machine.tree (outcomes_below past (length lanes))
+  pub files : KeepsOver server.first lanes (setting_of lanes options extensions past) past server.now.desk.machine.tree
   pub trace : report.trace ≡ trace_of past
   pub outcomes : report.outcomes ≡ outcomes_below past (length lanes)
 

@@ -13,7 +13,7 @@ mod script;
 #[cfg(test)]
 mod tests;
 
-pub use laws::scripts_fix_texts;
+pub use laws::{scripts_fix_texts, servers_in_memory_serve_files};
 pub use run::run;
 use sftp_link::{ReadSource, UnixDial, WriteSink};
 use std::env;

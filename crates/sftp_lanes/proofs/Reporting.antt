@@ -1,5 +1,5 @@
 -- What is reported of a whole run; and a run whose report found no memory stops after its journal.
-use Rattle.std.proofs.Common.{◌≡◌, ◌∙◌, Bool, List, [], ◌∷◌, length, Option, Some, None, refl, ap, subst, inl, inr}
+use Rattle.std.proofs.Common.{◌≡◌, ◌∙◌, Bool, List, [], ◌∷◌, length, Option, Some, None, refl, ap, sym, subst, inl, inr}
 use Rattle.sftp_core.specs.declared.options.SftpOptions.{SftpOptions}
 use Rattle.sftp_history.specs.declared.call.Lane.{Lane}
 use Rattle.sftp_history.specs.declared.report.Report.{Report}
@@ -9,6 +9,13 @@ use Rattle.sftp_history.specs.Settings.{greeting, setting_of}
 use Rattle.sftp_history.specs.Shown.{Shows}
 use Rattle.sftp_lanes.specs.Reported.{IsReport}
 use Rattle.sftp_lanes.specs.Seen.{given}
+use Rattle.sftp_lanes.specs.ServesFiles.{ServesFiles}
+use Rattle.sftp_model.specs.declared.config.Choice.{Choice}
+use Rattle.sftp_model.specs.declared.config.ServerConfig.{ServerConfig}
+use Rattle.sftp_model.specs.declared.outcome.Outcome.{Outcome}
+use Rattle.sftp_tree.specs.Changes.{IsWellFormed}
+use Rattle.sftp_tree.specs.FileTree.{FileTree}
+use Rattle.sftp_round_trip.specs.KeepsFiles.{KeepsFiles}
 use Rattle.sftp_model.specs.declared.error.Error.TheVariants.{OutOfMemory}
 use Rattle.sftp_model.specs.declared.reply.Reply.{Reply}
 use Rattle.sftp_link.specs.declared.piece.Piece.{Piece}
@@ -22,6 +29,7 @@ use Rattle.sftp_history.specs.Runs.{IsRun}
 use Rattle.sftp_driver.specs.Logs.{Ends, HasRun, Showing}
 use Rattle.sftp_driver.specs.RunsSoFar.{whole}
 use Rattle.sftp_driver.specs.Session.{Given, IsFixed, IsLater, Seen}
+use Rattle.sftp_round_trip.proofs.KeepsFilesLaws.{run_keeps_files}
 
 later_all : (s : Setting) (past : List Entry) → IsJournal s past → IsLater s [] past
 later_all s [] j = refl
@@ -58,18 +66,30 @@ reported first lanes options now schedule before after report same ran hello tra
     record {
       extensions = fixed.0;
       past = now.stage.past;
-      run = subst (λ (x : Setting). IsRun x schedule now.stage.past) fixed.1.1 ran.run;
+      run = is_run;
       hello = hello ∙ fixed.1.0;
       trace = trace;
       outcomes = outcomes ∙ ap (λ (x : Setting). outcomes_below now.stage.past (length x.lanes)) fixed.1.1;
       closed = handles_closed now.setting schedule now.stage.past ran.run;
       log = shown before after ran.shows;
+      files = λ config choices tree left well served. run_keeps_files lanes options fixed.0 schedule now.stage.past config choices tree left is_run well served;
     }
   where
     fixed : IsFixed (given lanes options) now.version now.stage.past now.setting
     fixed = subst (λ (x : Given). IsFixed x now.version now.stage.past now.setting) same ran.fixed
 
+    is_run : IsRun (setting_of lanes options fixed.0 now.stage.past) schedule now.stage.past
+    is_run = subst (λ (x : Setting). IsRun x schedule now.stage.past) fixed.1.1 ran.run
+
     shown : (b a : Option (List Piece)) → Told (Showing now.version now.stage.past) b a → Told (Shows (greeting fixed.0) now.stage.past) b a
     shown None a h = tt
     shown (Some b) None h = absurd h
     shown (Some b) (Some a) h = subst (λ (v : Option Reply). Showing v now.stage.past b a) fixed.1.0 h
+
+-- over a link that served files, as its log tells, what was written is read back and is left
+pub link_keeps_files : (lanes : List Lane) (options : SftpOptions) (schedule : List Turn) (before log : List Piece) (report : Report) (config : ServerConfig) (choices : List Choice) (tree left : FileTree)
+    → (run : IsReport lanes options schedule (Some before) (Some log) report) → IsWellFormed tree → ServesFiles lanes options config choices tree left before log
+    → KeepsFiles lanes config choices tree (setting_of lanes options run.extensions run.past) run.past left report.outcomes
+link_keeps_files lanes options schedule before log report config choices tree left run well serves =
+    subst (λ (o : List (List Outcome)). KeepsFiles lanes config choices tree (setting_of lanes options run.extensions run.past) run.past left o) (sym run.outcomes)
+    (run.files config choices tree left well (serves run.extensions schedule run.past run.run run.log))

@@ -1,3 +1,4 @@
 pub mod Seen
 pub mod Adding
 pub mod Reported
+pub mod ServesFiles

@@ -1,7 +1,11 @@
 -- What the report of a whole run of lanes says.
 use Rattle.std.specs.Prelude.{◌≡◌, ◌++◌, ◌∷◌, [], ℕ, List, length, Option, Some, slice_index_or, slice_set}
-use Rattle.sftp_model.specs.declared.outcome.Outcome.{Outcome}
+use Rattle.sftp_model.specs.declared.config.Choice.{Choice}
+use Rattle.sftp_model.specs.declared.config.ServerConfig.{ServerConfig}
 use Rattle.sftp_model.specs.declared.flags.Extensions.{Extensions}
+use Rattle.sftp_model.specs.declared.outcome.Outcome.{Outcome}
+use Rattle.sftp_tree.specs.Changes.{IsWellFormed}
+use Rattle.sftp_tree.specs.FileTree.{FileTree}
 use Rattle.sftp_core.specs.declared.options.SftpOptions.{SftpOptions}
 use Rattle.sftp_link.specs.declared.piece.Piece.{Piece}
 use Rattle.sftp_link.specs.Told.{Told}
@@ -11,14 +15,24 @@ use Rattle.sftp_history.specs.declared.entry.Entry.TheVariants as entry
 use Rattle.sftp_history.specs.declared.event.Event.TheVariants.{End}
 use Rattle.sftp_history.specs.declared.report.Report.{Report}
 use Rattle.sftp_history.specs.declared.turn.Turn.{Turn}
+use Rattle.sftp_history.specs.Calls.{Setting}
 use Rattle.sftp_history.specs.Closes.{AreClosed}
 use Rattle.sftp_history.specs.Readings.{outcomes_below, trace_of}
 use Rattle.sftp_history.specs.Runs.{IsRun}
+use Rattle.sftp_history.specs.Served.{Serves}
 use Rattle.sftp_history.specs.Settings.{greeting, setting_of}
 use Rattle.sftp_history.specs.Shown.{Shows}
+use Rattle.sftp_round_trip.specs.KeepsFiles.{KeepsFiles}
+
+-- Where the replies are those of a file machine, what was written is read back and is left.
+abbrev pub KeepsServed : List Lane → Setting → List Entry → Type 0
+KeepsServed lanes s past =
+    (config : ServerConfig) (choices : List Choice) (tree left : FileTree) → IsWellFormed tree → Serves config choices tree past left
+    → KeepsFiles lanes config choices tree s past left (outcomes_below past (length lanes))
 
 -- The report is that of a run of the lanes under these turns, which the link's log shows where it tells one. Each handle was
--- closed exactly as often as it was granted.
+-- closed exactly as often as it was granted. Where the replies are those of a file machine, what was written is read back
+-- and is left.
 pub record IsReport (lanes : List Lane) (options : SftpOptions) (schedule : List Turn) (before after : Option (List Piece)) (report : Report) : Type 0 where
   pub extensions : Extensions
   pub past : List Entry
@@ -28,6 +42,7 @@ pub record IsReport (lanes : List Lane) (options : SftpOptions) (schedule : List
   pub outcomes : report.outcomes ≡ outcomes_below past (length lanes)
   pub closed : AreClosed past
   pub log : Told (Shows (greeting extensions) past) before after
+  pub files : KeepsServed lanes (setting_of lanes options extensions past) past
 
 -- these lists, and the outcome as the last one of the list of its lane, where that lane has one
 abbrev pub with_outcome : List (List Outcome) → ℕ → Outcome → List (List Outcome)

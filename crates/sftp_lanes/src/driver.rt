@@ -22,6 +22,8 @@ use std::alloc::Global;
 ///
 /// With Ok the report is that of a run of the lanes under these turns: its events are the run's journal, and the link's
 /// log, where it tells one, shows VERSION and that journal; each handle was closed exactly as often as it was granted.
+/// Where the replies are those of a file machine, as over a link to a server of files, what was written is read back: a name
+/// that is one lane's alone was read as the lane wrote it, and its file is left so, where the machine refuses nothing by choice.
 /// `LinkFault` comes only where the link's count of faults rose, `LinkEnded` only where its last call found the end, and
 /// each other error but `OutOfMemory` is the first thing that is wrong with the frame that came last. After an error the
 /// log shows VERSION and a journal that is a run so far of the lanes under these turns, or the hello, and then nothing, a

@@ -3,11 +3,13 @@
 
 mod driver;
 mod given;
+mod laws;
 mod report;
 mod session;
 mod telling;
 
 pub use driver::run_lanes;
+pub use laws::serving_links_keep_files;
 pub use session::Session;
 pub use sftp_history::{Call, Entry, Event, Lane, Report, Script, Turn, lanes_ok};
 pub use sftp_model::{Error, Outcome};

@@ -164,7 +164,7 @@ anew_left s config choices first now turns past name lane opener writer w writte
 
 -- ---- written to a buffer and flushed
 
-bear_all : (past : List Entry) (n lane writer : ℕ) (h : List ℕ) (requests : Own) → AreKnown past n requests → ((place : ℕ) → HasRequest requests place → is_of_call past (lane, writer) place ≡ true)
+pub bear_all : (past : List Entry) (n lane writer : ℕ) (h : List ℕ) (requests : Own) → AreKnown past n requests → ((place : ℕ) → HasRequest requests place → is_of_call past (lane, writer) place ≡ true)
     → ((place : ℕ) (a : Asked) → is_of_call past (lane, writer) place ≡ true → asked_at past place ≡ Some a → WritesBy a.request h) → WriteBy h requests
 bear_all past n lane writer h [] known mine bears = tt
 bear_all past n lane writer h (r ∷ requests) known mine bears =

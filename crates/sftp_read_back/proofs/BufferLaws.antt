@@ -266,7 +266,7 @@ bear : (config : ServerConfig) (file : ℕ) (h : List ℕ) (steps : List Step) (
 bear config file h [] [] tree stand = tt
 bear config file h (s ∷ steps) [] tree stand = tt
 bear config file h [] (asked ∷ later) tree stand = absurd stand
-bear config file h (s ∷ steps) (asked ∷ later) tree (inl own) = (own.3, bear config file h steps later (answer_to config tree s).1 own.4)
+bear config file h (s ∷ steps) (asked ∷ later) tree (inl own) = (own.2, bear config file h steps later (answer_to config tree s).1 own.3)
 bear config file h (s ∷ steps) (asked ∷ later) tree (inr other) = bear config file h steps (asked ∷ later) (answer_to config tree s).1 other.2
 
 -- what a call asked that is done, and flushed

@@ -94,7 +94,7 @@ pub record BeginsWith (r : ℕ × Request) (steps : List Step) : Type 0 where
   pub is : steps ≡ first ∷ rest
   pub asks : asked_by first ≡ r
 
-pair_is : (s : Step) (r : ℕ × Request) → s.place ≡ r.0 → s.request ≡ r.1 → asked_by s ≡ r
+pub pair_is : (s : Step) (r : ℕ × Request) → s.place ≡ r.0 → s.request ≡ r.1 → asked_by s ≡ r
 pair_is s r place asks = λ i. (let p : ℕ × Request = (place i, asks i) in p)
 
 pub begins_with : (past : List Entry) (m : ℕ) (r : ℕ × Request) (steps : List Step) → IsAt past r → AreKnown past m (asked_in steps) → AreRising (asked_in steps) → ((place : ℕ) → HasRequest (asked_in steps) place → r.0 ≤ place)

@@ -22,7 +22,7 @@ use Rattle.sftp_read_back.specs.DeferredWrites.{AreWrites, AreWritten, StandAlon
 use Rattle.sftp_read_back.specs.Steps.{Step, answer_to, after, AreServed}
 use Rattle.sftp_read_back.proofs.HandleLaws.{file_stays}
 use Rattle.sftp_read_back.proofs.MoveWords.{code_of}
-use Rattle.sftp_read_back.proofs.StepLaws.{reply_is, step_well_formed}
+use Rattle.sftp_read_back.proofs.StepLaws.{reply_is, unrefused_by, step_well_formed}
 use Rattle.sftp_read_back.proofs.WriteLaws.{step_puts}
 
 -- ---- one piece written after another
@@ -55,10 +55,11 @@ record Puts (tree now : FileTree) (h : List ℕ) (held : Held) (offset : ℕ) (p
   open_is : opened_at now h ≡ Some (opened.File held)
 
 puts : (config : ServerConfig) (answers : Answers) (tree : FileTree) (h part : List ℕ) (offset : ℕ) (held : Held) (s : Step) (steps : List Step) (place : ℕ) (message language : List ℕ) → IsWellFormed tree
-    → opened_at tree h ≡ Some (opened.File held) → ToWrite held → AreServed config answers tree (s ∷ steps) → s.place ≡ place → s.request ≡ request.Write h offset part → s.choice.refuse ≡ SSH_FX_OK
+    → opened_at tree h ≡ Some (opened.File held) → ToWrite held → AreServed config answers tree (s ∷ steps) → s.place ≡ place → s.request ≡ request.Write h offset part
     → answers place ≡ Some (reply.Status SSH_FX_OK message language) → Puts tree (answer_to config tree s).1 h held offset part
-puts config answers tree h part offset held s steps place message language well_formed open_is way served here asks unrefused said =
+puts config answers tree h part offset held s steps place message language well_formed open_is way served here asks said =
     let answer = reply_is (answers s.place) (reply.Status SSH_FX_OK message language) (answer_to config tree s).0 (ap answers here ∙ said) served.1 in
+    let unrefused : s.choice.refuse ≡ SSH_FX_OK = unrefused_by tree config s.request s.choice s.handle (reply.Status SSH_FX_OK message language) (λ code ne e. ne (sym (ap code_of e))) answer in
     let is = step_puts config tree h part offset held s open_is way asks unrefused (sym (ap code_of answer)) in
     let lt : held.file < length tree.files = well_formed.held h held (found_has bytes_eq handles_tell tree.handles h (opened.File held) open_is) in
     record {
@@ -79,11 +80,11 @@ puts_rest config answers h held bytes start (s ∷ steps) (asked ∷ later) tree
     elim stand [
       | inl own ↦
           (let part : List ℕ = content_in asked.1 in
-          let p = puts config answers tree h part (start + length before) held s steps asked.0 said.0.0 said.0.1.0 well_formed open_is way served own.0 (own.1 ∙ asks.0) own.2 said.0.1.1 in
+          let p = puts config answers tree h part (start + length before) held s steps asked.0 said.0.0 said.0.1.0 well_formed open_is way served own.0 (own.1 ∙ asks.0) said.0.1.1 in
           let now : bytes_of (answer_to config tree s).1 held.file ≡ put bytes start (before ++ part) =
           p.bytes_are ∙ (ap (λ (w : List ℕ). put w (start + length before) part) is ∙ put_more bytes start before part) in
           let further : start + length before + length part ≡ start + length (before ++ part) = let l = length-append before part in omega (arith, l) in
-          puts_rest config answers h held bytes start steps later (answer_to config tree s).1 (before ++ part) (step_well_formed config tree s well_formed) p.open_is way now served.2 own.4
+          puts_rest config answers h held bytes start steps later (answer_to config tree s).1 (before ++ part) (step_well_formed config tree s well_formed) p.open_is way now served.2 own.3
           (subst (λ (k : ℕ). AreWrites h k later) further asks.1) said.1
           ∙ ap (put bytes start) (append_assoc before part (carried later)))
       | inr other ↦
@@ -101,8 +102,8 @@ deferred_writes config answers h held offset (s ∷ steps) first later tree well
     elim stand [
       | inl own ↦
           (let part : List ℕ = content_in first.1 in
-          let p = puts config answers tree h part offset held s steps first.0 said.0.0 said.0.1.0 well_formed open_is way served own.0 (own.1 ∙ asks.0) own.2 said.0.1.1 in
-          puts_rest config answers h held (bytes_of tree held.file) offset steps later (answer_to config tree s).1 part (step_well_formed config tree s well_formed) p.open_is way p.bytes_are served.2 own.4 asks.1 said.1)
+          let p = puts config answers tree h part offset held s steps first.0 said.0.0 said.0.1.0 well_formed open_is way served own.0 (own.1 ∙ asks.0) said.0.1.1 in
+          puts_rest config answers h held (bytes_of tree held.file) offset steps later (answer_to config tree s).1 part (step_well_formed config tree s well_formed) p.open_is way p.bytes_are served.2 own.3 asks.1 said.1)
       | inr other ↦
           deferred_writes config answers h held offset steps first later (answer_to config tree s).1 (step_well_formed config tree s well_formed) (file_stays config tree s h held other.1 open_is) way served.2 other.2 asks said
           ∙ ap (λ (w : List ℕ). put w offset (carried (first ∷ later))) other.0

@@ -96,17 +96,20 @@ pub grants_are_borne : (config : ServerConfig) (answers : Answers) (grant_of : �
 grants_are_borne config answers grant_of kind tree steps served uses kinds =
     borne_by config answers grant_of kind tree [] steps served uses kinds (record { has = λ g there used. absurd there; apart = λ a b there there' used used' same. absurd there })
 
--- a step closes no grant's handle that a later step bears
+-- a step closes no grant's handle that a later step bears, and bears it as that grant's alone
 abbrev pub AreKept : Answers → (ℕ → Option ℕ) → List ℕ → List Step → Type 0
 AreKept answers grant_of seen [] = Unit {0}
 AreKept answers grant_of seen (s ∷ steps) =
-    ((g : ℕ) → Has seen g → IsUsed grant_of g steps → Closes s.request (handle_of (answers g)) → ⊥) × AreKept answers grant_of (s.place ∷ seen) steps
+    ((g : ℕ) → Has seen g → IsUsed grant_of g steps
+    → (Closes s.request (handle_of (answers g)) → ⊥) × ((other : ℕ) → grant_of s.place ≡ Some other → handle_of (answers other) ≡ handle_of (answers g) → other ≡ g))
+    × AreKept answers grant_of (s.place ∷ seen) steps
 
 kept_by : (config : ServerConfig) (answers : Answers) (grant_of : ℕ → Option ℕ) (kind : ℕ → Option Held) (tree : FileTree) (seen : List ℕ) (steps : List Step) → AreServed config answers tree steps
     → UseGrants answers grant_of seen steps → AreKinds config answers kind tree steps → AreLive answers grant_of kind tree seen steps → AreKept answers grant_of seen steps
 kept_by config answers grant_of kind tree seen [] served uses kinds live = tt
 kept_by config answers grant_of kind tree seen (s ∷ steps) served uses kinds live = (
-  λ g there used. keeps_open config answers grant_of kind tree seen s steps live uses g there used,
+  λ g there used.
+      (keeps_open config answers grant_of kind tree seen s steps live uses g there used, λ other is same. live.apart other g (uses.0 other is) there (inl is) (inr used) same),
   kept_by config answers grant_of kind (answer_to config tree s).1 (s.place ∷ seen) steps served.2 uses.3 kinds.1 (live_on config answers grant_of kind tree seen s steps served uses kinds live),
 )
 

@@ -1,6 +1,7 @@
 -- A call that ended in a journal: what it asked and ended by, whatever came later.
 use Rattle.std.proofs.Common.{◌≡◌, ◌<◌, ◌≤◌, ◌==◌, ◌+◌, ℕ, Bool, true, false, List, [], ◌∷◌, ◌++◌, Option, Some, None, if◌then◌else◌, refl, ap, sym, ◌∙◌, subst, arith, inl, inr}
 use Rattle.std.specs.Prelude.{MatchOption}
+use Rattle.std.proofs.lemmas.Bool.{eq-eqb, ne_eqb}
 use Rattle.std.proofs.lemmas.Bool.Decides.{eqb_tells}
 use Rattle.sftp_model.specs.declared.outcome.Outcome.{Outcome}
 use Rattle.sftp_model.specs.declared.slot.Move.TheVariants.{Done}
@@ -20,6 +21,7 @@ use Rattle.sftp_history.specs.declared.entry.Entry.TheVariants as entry
 use Rattle.sftp_history.specs.declared.event.Event.TheVariants.{End, Submit, Take}
 use Rattle.sftp_history.specs.declared.event.Owner.TheVariants as owner
 use Rattle.sftp_read_back.specs.CallsAmong.{HasEnded}
+use Rattle.sftp_read_back.specs.Listings.{site_at}
 
 -- ---- what comes later
 
@@ -97,3 +99,23 @@ ended_calls s past more lane c o j calm is =
       left = site;
       ends = subst (λ (w : Own). next c (site_of s past lane) s.facts w (answer past) ≡ Done o site) (sym same) done;
     }
+
+-- ---- what the lane held as the call began
+
+pub site_later : (s : Setting) (e : Entry) (past : List Entry) (lane k : ℕ) → k < ended (e ∷ past) lane → site_at s (e ∷ past) lane k ≡ site_at s past lane k
+site_later s e past lane k lt = rw (ne_eqb (ended (e ∷ past) lane) k (λ same. absurd (omega (arith, same, lt)))) refl
+
+pub site_now : (s : Setting) (past : List Entry) (lane : ℕ) → site_at s past lane (ended past lane) ≡ site_of s past lane
+site_now s [] lane = refl
+site_now s (e ∷ past) lane = rw (eq-eqb (ended (e ∷ past) lane) (ended (e ∷ past) lane) refl) refl
+
+-- what it held before the call's End
+pub site_began : (s : Setting) (more past : List Entry) (lane : ℕ) (o : Outcome) → site_at s (more ++ entry.Event (End lane (ended past lane) o) ∷ past) lane (ended past lane) ≡ site_of s past lane
+site_began s [] past lane o =
+    let one : ended (entry.Event (End lane (ended past lane) o) ∷ past) lane ≡ ended past lane + 1 = ended_end past lane (ended past lane) o in
+    site_later s (entry.Event (End lane (ended past lane) o)) past lane (ended past lane) (omega (arith, one)) ∙ site_now s past lane
+site_began s (e ∷ more) past lane o =
+    let end : List Entry = entry.Event (End lane (ended past lane) o) ∷ past in
+    let one : ended end lane ≡ ended past lane + 1 = ended_end past lane (ended past lane) o in
+    let le : ended end lane ≤ ended ((e ∷ more) ++ end) lane = ended_grows (e ∷ more) end lane in
+    site_later s e (more ++ end) lane (ended past lane) (omega (arith, one, le)) ∙ site_began s more past lane o

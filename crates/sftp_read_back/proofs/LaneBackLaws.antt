@@ -20,11 +20,12 @@ use Rattle.sftp_history.specs.Journals.{IsJournal}
 use Rattle.sftp_history.specs.Readings.{answer, sent}
 use Rattle.sftp_history.specs.Served.{Serves}
 use Rattle.sftp_read_back.specs.CallsAmong.{Gives, HasEnded, HasNoFile, refusal_of}
+use Rattle.sftp_read_back.specs.DeferredWrites.{behind}
 use Rattle.sftp_read_back.specs.InJournals.{AreBelow, LaneFirst, LaneInTurn}
 use Rattle.sftp_read_back.specs.Steps.{HasBytes, RefuseNone}
 use Rattle.sftp_read_back.proofs.BackLaws.{back}
 use Rattle.sftp_read_back.proofs.FirstLaws.{first_read, first_refused}
-use Rattle.sftp_read_back.proofs.LaneLaws.{behind, lane_first, lane_in_turn}
+use Rattle.sftp_read_back.proofs.LaneLaws.{lane_first, lane_in_turn}
 
 pub lane_back : (s : Setting) (config : ServerConfig) (choices : List Choice) (first now : FileTree) (past : List Entry) (name : Name) (lane writer reader : ℕ) (w r : ℕ × Request) (written read : Own)
     (write_path read_path bytes : List ℕ) (bound : ℕ) (write_site read_site : Site) (write_facts read_facts : Facts) (ended : Outcome)

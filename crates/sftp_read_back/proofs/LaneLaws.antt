@@ -18,6 +18,7 @@ use Rattle.sftp_history.specs.Journals.{IsJournal}
 use Rattle.sftp_history.specs.Readings.{Asked, asked, asked_at, ended, is_by, own, sent}
 use Rattle.sftp_history.proofs.CallLaws.{asker_owns, has_place, next_submit, own_fresh}
 use Rattle.sftp_read_back.specs.Bearing.{IsOfAsker, UsesGrant, used}
+use Rattle.sftp_read_back.specs.DeferredWrites.{behind}
 use Rattle.sftp_read_back.specs.GrantUses.{WritesBy}
 use Rattle.sftp_read_back.specs.InJournals.{AloneOn, AreBelow, ComeByOpens, InTurn, IsOfLane, KeepsOff, LaneFirst, LaneInTurn, PassesAt, is_of_call, opens_at}
 use Rattle.sftp_read_back.specs.Sparing.{Avoids}
@@ -102,11 +103,11 @@ itself : (lane call : ℕ) → ((lane == lane) && (call == call)) ≡ true
 itself lane call = rw (eq-eqb lane lane refl, eq-eqb call call refl) refl
 
 -- the request at a place is one of a call, or passes each name by
-data WhoAsked (past : List Entry) (place : ℕ) (a : Asked) : Type 0 where
+pub data WhoAsked (past : List Entry) (place : ℕ) (a : Asked) : Type 0 where
   ACall : (lane call : ℕ) → is_asked_by (asked_at past place) lane call ≡ true → WhoAsked past place a
   TheSession : (is_close a.request ≡ true) ⊎ (a.request ≡ request.LimitsQuery) → WhoAsked past place a
 
-who_asked : (s : Setting) (past : List Entry) (place : ℕ) (a : Asked) → IsJournal s past → asked_at past place ≡ Some a → WhoAsked past place a
+pub who_asked : (s : Setting) (past : List Entry) (place : ℕ) (a : Asked) → IsJournal s past → asked_at past place ≡ Some a → WhoAsked past place a
 who_asked s past place a j is = by_owner a.by refl
   where
     by_owner : (o : Owner) → a.by ≡ o → WhoAsked past place a
@@ -115,7 +116,7 @@ who_asked s past place a j is = by_owner a.by refl
     by_owner owner.Close e = TheSession (session_request s past place a j is (λ lane call same. let both : owner.Close ≡ owner.Call lane call = sym e ∙ same in cc))
 
 -- one lane asked
-one_lane : (past : List Entry) (place l m c d : ℕ) → is_asked_by (asked_at past place) l c ≡ true → is_asked_by (asked_at past place) m d ≡ true → (l ≡ m) × (c ≡ d)
+pub one_lane : (past : List Entry) (place l m c d : ℕ) → is_asked_by (asked_at past place) l c ≡ true → is_asked_by (asked_at past place) m d ≡ true → (l ≡ m) × (c ≡ d)
 one_lane past place l m c d x y = by_asked (asked_at past place) x y
   where
     by_owner : (o : Owner) → is_by o l c ≡ true → is_by o m d ≡ true → (l ≡ m) × (c ≡ d)
@@ -158,12 +159,7 @@ off_passes s past name lane call place j off mine =
 
 -- ---- two calls of a lane
 
--- the place behind these requests
-abbrev pub behind : ℕ × Request → Own → ℕ
-behind r [] = r.0 + 1
-behind r (a ∷ later) = behind a later
-
-all_behind : (r : ℕ × Request) (later : Own) → AreRising (r ∷ later) → AreBelow (behind r later) (r ∷ later)
+pub all_behind : (r : ℕ × Request) (later : Own) → AreRising (r ∷ later) → AreBelow (behind r later) (r ∷ later)
 all_behind r [] rising = (omega arith, tt)
 all_behind r (a ∷ later) rising = (let more = all_behind a later rising.1 in let lt : a.0 < behind a later = more.0 in let step : r.0 < a.0 = rising.0.0 in (omega (arith, lt, step), more))
 

@@ -37,7 +37,11 @@ pub mod FirstLaws
 pub mod LaneLaws
 pub mod LaneBackLaws
 pub mod WholeRunSent
+pub mod TreeAtLaws
+pub mod ListedLaws
 pub mod RunBackLaws
 pub mod LeftLaws
 pub mod AnewLaws
 pub mod AnewRuns
+pub mod AloneLaws
+pub mod PlainRuns

@@ -43,7 +43,7 @@ run_orderly config answers grant_of elsewhere name tree steps well_formed run =
     }
 
 -- the grants that the steps may have made
-abbrev seen_after : List ℕ → List Step → List ℕ
+abbrev pub seen_after : List ℕ → List Step → List ℕ
 seen_after seen [] = seen
 seen_after seen (s ∷ steps) = seen_after (s.place ∷ seen) steps
 
@@ -77,7 +77,7 @@ stand_by config answers grant_of elsewhere name grant (s ∷ steps) more (asked 
 stand_by config answers grant_of elsewhere name grant (s ∷ steps) more (asked ∷ later) seen tree there orderly (inr other) =
     inr (
       orderly.spared.0 other.0.0 other.0.1,
-      orderly.kept.0 grant there (is_used answers grant_of elsewhere name grant asked later steps more other.1),
+      (orderly.kept.0 grant there (is_used answers grant_of elsewhere name grant asked later steps more other.1)).0,
       stand_by config answers grant_of elsewhere name grant steps more (asked ∷ later) (s.place ∷ seen) (answer_to config tree s).1 (inr there) (record { spared = orderly.spared.1; kept = orderly.kept.1 }) other.1,
     )
 

@@ -89,19 +89,19 @@ steps_of config past tree choices (r ∷ requests) now s =
     record { place = r.0; request = r.1; choice = first_choice choices; handle = s.0 }
     ∷ steps_of config past (apply tree config r.1 (first_choice choices) s.0).1 (drop 1 choices) requests now s.1.2
 
-steps_ask : (config : ServerConfig) (past : List Entry) (tree : FileTree) (choices : List Choice) (requests : Own) (now : FileTree) (s : ServesAll config past tree choices requests now)
+pub steps_ask : (config : ServerConfig) (past : List Entry) (tree : FileTree) (choices : List Choice) (requests : Own) (now : FileTree) (s : ServesAll config past tree choices requests now)
     → asked_in (steps_of config past tree choices requests now s) ≡ requests
 steps_ask config past tree choices [] now s = refl
 steps_ask config past tree choices (r ∷ requests) now s =
     ap (λ (w : Own). r ∷ w) (steps_ask config past (apply tree config r.1 (first_choice choices) s.0).1 (drop 1 choices) requests now s.1.2)
 
-steps_served : (config : ServerConfig) (past : List Entry) (tree : FileTree) (choices : List Choice) (requests : Own) (now : FileTree) (s : ServesAll config past tree choices requests now)
+pub steps_served : (config : ServerConfig) (past : List Entry) (tree : FileTree) (choices : List Choice) (requests : Own) (now : FileTree) (s : ServesAll config past tree choices requests now)
     → AreServed config (answer past) tree (steps_of config past tree choices requests now s)
 steps_served config past tree choices [] now s = tt
 steps_served config past tree choices (r ∷ requests) now s =
     (s.1.0, s.1.1, steps_served config past (apply tree config r.1 (first_choice choices) s.0).1 (drop 1 choices) requests now s.1.2)
 
-steps_leave : (config : ServerConfig) (past : List Entry) (tree : FileTree) (choices : List Choice) (requests : Own) (now : FileTree) (s : ServesAll config past tree choices requests now)
+pub steps_leave : (config : ServerConfig) (past : List Entry) (tree : FileTree) (choices : List Choice) (requests : Own) (now : FileTree) (s : ServesAll config past tree choices requests now)
     → now ≡ after config tree (steps_of config past tree choices requests now s)
 steps_leave config past tree choices [] now s = s
 steps_leave config past tree choices (r ∷ requests) now s = steps_leave config past (apply tree config r.1 (first_choice choices) s.0).1 (drop 1 choices) requests now s.1.2

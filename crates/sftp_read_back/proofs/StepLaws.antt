@@ -1,11 +1,18 @@
 -- What steps that spare a name leave of it, and parts of runs.
-use Rattle.std.proofs.Common.{◌≡◌, ℕ, List, [], ◌∷◌, ◌++◌, Option, Some, None, refl, sym, ◌∙◌}
+use Rattle.std.proofs.Common.{◌≡◌, ◌≢◌, ℕ, ◌==◌, false, List, [], ◌∷◌, ◌++◌, Option, Some, None, refl, ap, sym, ◌∙◌, inl, inr}
+use Rattle.std.proofs.lemmas.Bool.Decides.{eqb_tells}
+use Rattle.sftp_model.specs.Numbers.{SSH_FX_OK}
+use Rattle.sftp_model.specs.declared.config.Choice.{Choice}
 use Rattle.sftp_model.specs.declared.config.ServerConfig.{ServerConfig}
 use Rattle.sftp_model.specs.declared.reply.Reply.{Reply}
+use Rattle.sftp_model.specs.declared.reply.Reply.TheVariants as reply
+use Rattle.sftp_model.specs.declared.request.Request.{Request}
 use Rattle.sftp_tree.proofs.WellFormedLaws.{well_formed_after}
 use Rattle.sftp_tree.specs.Changes.{IsWellFormed}
 use Rattle.sftp_tree.specs.Components.{Name}
 use Rattle.sftp_tree.specs.FileTree.{FileTree, node_at}
+use Rattle.sftp_tree.specs.HandleRequests.{Answer, refuses}
+use Rattle.sftp_tree.specs.TreeAnswers.{apply}
 use Rattle.sftp_calls.specs.Moves.{Answers}
 use Rattle.sftp_calls.specs.OwnRequests.{Extends}
 use Rattle.sftp_history.specs.Served.{IsReply}
@@ -80,3 +87,18 @@ served_before config before now tree (s ∷ steps) stays served = (
   reply_before (before s.place) (now s.place) (answer_to config tree s).0 (stays s.place) served.1,
   served_before config before now (answer_to config tree s).1 steps stays served.2,
 )
+
+-- ---- choices
+
+-- a request that is refused by choice
+pub refused_as : (tree : FileTree) (config : ServerConfig) (r : Request) (choice : Choice) (handle : List ℕ) → (choice.refuse == SSH_FX_OK) ≡ false → apply tree config r choice handle ≡ refuses tree choice.refuse
+refused_as tree config r choice handle e = rw e refl
+
+-- what is answered otherwise is not refused so
+pub unrefused_by : (tree : FileTree) (config : ServerConfig) (r : Request) (choice : Choice) (handle : List ℕ) (x : Reply) → ((code : ℕ) → code ≢ SSH_FX_OK → x ≡ reply.Status code [] [] → ⊥) → x ≡ (apply tree config r choice handle).0
+    → choice.refuse ≡ SSH_FX_OK
+unrefused_by tree config r choice handle x other said =
+    elim (eqb_tells choice.refuse SSH_FX_OK) [
+      | inl t ↦ t.1
+      | inr t ↦ absurd (other choice.refuse t.1 (said ∙ ap (λ (w : Answer). w.0) (refused_as tree config r choice handle t.0)))
+    ]

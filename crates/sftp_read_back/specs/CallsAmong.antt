@@ -1,6 +1,7 @@
 -- The requests of one call among those of others, and how it ended.
 use Rattle.std.specs.Prelude.{◌≡◌, ℕ, ◌⊎◌, true, false, List, [], ◌∷◌, Option, Some, None}
 use Rattle.sftp_model.specs.Numbers.{SSH_FX_FAILURE, SSH_FX_NO_SUCH_FILE, SSH_FX_OK}
+use Rattle.sftp_model.specs.declared.config.Choice.{Choice}
 use Rattle.sftp_model.specs.declared.config.ServerConfig.{ServerConfig}
 use Rattle.sftp_model.specs.declared.outcome.Outcome.{Outcome}
 use Rattle.sftp_model.specs.declared.outcome.Outcome.TheVariants as outcome
@@ -54,21 +55,20 @@ pub record StandsOnName (config : ServerConfig) (answers : Answers) (name : Name
 
 -- ---- a call on a directory
 
--- These requests stand among the steps in their order, and none of them is refused by choice. Up to the last of them no other
--- step takes entries by the handle or closes it.
-abbrev pub StandListing : ServerConfig → List ℕ → Own → FileTree → List Step → Type 0
-StandListing config handle [] tree steps = Unit {0}
-StandListing config handle (asked ∷ later) tree [] = ⊥
-StandListing config handle (asked ∷ later) tree (s ∷ steps) =
-    ((s.place ≡ asked.0) × (s.request ≡ asked.1) × (s.choice.refuse ≡ SSH_FX_OK) × StandListing config handle later (answer_to config tree s).1 steps)
-    ⊎ ((Closes s.request handle → ⊥) × (Lists s.request handle → ⊥) × StandListing config handle (asked ∷ later) (answer_to config tree s).1 steps)
+-- These requests stand among the steps in their order, and the choice for each is one of these. Up to the last of them no other step
+-- takes entries by the handle or closes it.
+abbrev pub StandListing : (Choice → Type 0) → ServerConfig → List ℕ → Own → FileTree → List Step → Type 0
+StandListing choices config handle [] tree steps = Unit {0}
+StandListing choices config handle (asked ∷ later) tree [] = ⊥
+StandListing choices config handle (asked ∷ later) tree (s ∷ steps) =
+    ((s.place ≡ asked.0) × (s.request ≡ asked.1) × choices s.choice × StandListing choices config handle later (answer_to config tree s).1 steps)
+    ⊎ ((Closes s.request handle → ⊥) × (Lists s.request handle → ⊥) × StandListing choices config handle (asked ∷ later) (answer_to config tree s).1 steps)
 
 -- A call opens a directory by the first step, and its further requests bear the handle that this was granted: they stand
 -- among the steps after it.
-pub record StandsOnDirectory (config : ServerConfig) (answers : Answers) (later : Own) (tree : FileTree) (first : Step) (steps : List Step) : Type 0 where
+pub record StandsOnDirectory (choices : Choice → Type 0) (config : ServerConfig) (answers : Answers) (later : Own) (tree : FileTree) (first : Step) (steps : List Step) : Type 0 where
   pub served : AreServed config answers tree (first ∷ steps)
-  pub unrefused : first.choice.refuse ≡ SSH_FX_OK
-  pub stands : StandListing config (handle_of (answers first.place)) later (answer_to config tree first).1 steps
+  pub stands : StandListing choices config (handle_of (answers first.place)) later (answer_to config tree first).1 steps
 
 -- the place and the request of a step
 abbrev pub asked_by : Step → ℕ × Request

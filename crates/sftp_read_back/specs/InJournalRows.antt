@@ -29,9 +29,10 @@ use Rattle.sftp_history.specs.Served.{Serves}
 use Rattle.sftp_read_back.specs.CallsAmong.{HasEnded}
 use Rattle.sftp_read_back.specs.GrantUses.{WritesBy}
 use Rattle.sftp_read_back.specs.InJournals.{AloneOn, ComeByOpens, InTurn, IsOfLane, KeepsOff, LaneFirst, LaneInTurn, PassesAt, is_of_call, is_open_of}
-use Rattle.sftp_read_back.specs.ReadBackRows.{apart, empty, name}
+use Rattle.sftp_read_back.specs.ReadBackRows.{apart, empty, empty_is_well_formed, name}
 use Rattle.sftp_read_back.specs.Sparing.{Avoids}
 use Rattle.sftp_read_back.specs.Steps.{Step, after}
+use Rattle.sftp_read_back.specs.WholeCalls.{IsWholeRead, IsWholeWrite, ServesUnrefused}
 
 -- ---- the journal
 
@@ -101,6 +102,9 @@ left_there = after (config 0) empty (step 0 makes 7 ∷ step 1 (open_of (codes "
 pub made_then_read_is_served : Serves (config 0) [] empty made_then_read left_there
 unfolding components
 made_then_read_is_served = ((handle 7, ((omega arith, refl), refl, (handle 8, ((omega arith, refl), refl, (handle 8, ((omega arith, refl), refl, refl)))))), tt)
+
+pub made_then_read_is_unrefused : ServesUnrefused (config 0) [] empty made_then_read left_there
+made_then_read_is_unrefused = record { served = made_then_read_is_served; unrefused = tt; well_formed = empty_is_well_formed }
 
 -- ---- what its requests have to do with the name
 
@@ -271,3 +275,13 @@ write_is_no_passing p = (let both : true ≡ false = p.writes (the_open 0 2 0 wr
 pub not_in_turn : InTurn makes_then_reads (send ∷ submit 0 1 2 (open_of (codes "a")) ∷ submit 1 0 1 (request.Remove (codes "a")) ∷ submit 0 0 0 makes ∷ []) name 3 (0, 0) (0, makes) [] (0, 1) (2, open_of (codes "a")) [] → ⊥
 unfolding components
 not_in_turn t = ((t.others_pass 1 (omega arith) (omega arith) refl refl).avoids (the_open 1 0 1 (request.Remove (codes "a"))) refl).denotes refl
+
+-- ---- the two calls as whole ones
+
+pub is_whole_write : IsWholeWrite made_then_read name ((0, makes) ∷ []) []
+unfolding components
+is_whole_write = record { path = codes "a"; site = fresh_site; facts = makes_then_reads.facts; denotes = refl; ended_well = nothing_written }
+
+pub is_whole_read : IsWholeRead made_then_read name ((2, open_of (codes "a")) ∷ []) outcome.GivenUp
+unfolding components
+is_whole_read = record { path = codes "a"; bound = 0; site = fresh_site; facts = makes_then_reads.facts; denotes = refl; some = omega arith; ended_so = nothing_read }

@@ -10,3 +10,6 @@ pub mod InJournals
 pub mod BearingRows
 pub mod InJournalRows
 pub mod FilesLeft
+pub mod WholeCalls
+pub mod Listings
+pub mod ListedRows

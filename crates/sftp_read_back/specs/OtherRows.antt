@@ -22,7 +22,7 @@ use Rattle.sftp_calls.specs.PlanWords.{buffered, granted, handle, offering}
 use Rattle.sftp_read_back.specs.CallsAmong.{HasEnded, StandsOnDirectory, asked_by}
 use Rattle.sftp_read_back.specs.DeferredWrites.{StandAlone}
 use Rattle.sftp_read_back.specs.ReadBackRows.{extends_more, two_at_once}
-use Rattle.sftp_read_back.specs.Steps.{Step, after, AreServed}
+use Rattle.sftp_read_back.specs.Steps.{FeignsNoEnd, Step, after, AreServed}
 
 -- ---- a listing of the root, in which the first NAME is cut to one entry
 
@@ -58,13 +58,12 @@ readdirs = readdir 1 1 ∷ readdir 2 0 ∷ readdir 3 0 ∷ []
 abbrev pub listed : Own
 listed = asked_by (readdir 1 1) ∷ asked_by (readdir 2 0) ∷ asked_by (readdir 3 0) ∷ []
 
-pub listing_stands : StandsOnDirectory (config 0) listing_answers listed two_names opendir readdirs
+pub listing_stands : StandsOnDirectory FeignsNoEnd (config 0) listing_answers listed two_names opendir readdirs
 unfolding components
 listing_stands =
     record {
       served = ((omega arith, refl), refl, ((omega arith, refl), refl, ((omega arith, refl), refl, ((omega arith, refl), refl, tt))));
-      unrefused = refl;
-      stands = inl (refl, refl, refl, inl (refl, refl, refl, inl (refl, refl, refl, tt)));
+      stands = inl (refl, refl, λ e. cc e, inl (refl, refl, λ e. cc e, inl (refl, refl, λ e. cc e, tt)));
     }
 
 pub listing_ends : HasEnded (call.Names (codes "/") 9) fresh_site two_at_once (asked_by opendir ∷ listed) listing_answers (outcome.Names entries)
@@ -123,7 +122,7 @@ pub writes_are_served : AreServed (config 0) write_answers hello_open writes
 writes_are_served = ((omega arith, refl), refl, ((omega arith, refl), refl, tt))
 
 pub writes_stand_alone : StandAlone (config 0) 0 handle deferred hello_open writes
-writes_stand_alone = inl (refl, refl, refl, refl, inl (refl, refl, refl, refl, tt))
+writes_stand_alone = inl (refl, refl, refl, inl (refl, refl, refl, tt))
 
 pub buffered_write_ends : HasEnded (call.BufWriteAll 0 (codes "abc")) (buffered 1 [] [] None) offering deferred write_answers outcome.Done
 buffered_write_ends =

@@ -1,6 +1,6 @@
 -- Runs of the file machine as lists of steps.
 use Rattle.std.specs.Prelude.{◌≡◌, ◌≢◌, ℕ, ◌⊎◌, List, [], ◌∷◌, map, Some}
-use Rattle.sftp_model.specs.Numbers.{SSH_FX_OK}
+use Rattle.sftp_model.specs.Numbers.{SSH_FX_EOF, SSH_FX_OK}
 use Rattle.sftp_model.specs.declared.config.Choice.{Choice}
 use Rattle.sftp_model.specs.declared.config.ServerConfig.{ServerConfig}
 use Rattle.sftp_model.specs.declared.request.Request.{Request}
@@ -61,6 +61,17 @@ asked_in steps = map (λ (s : Step). (let p : ℕ × Request = (s.place, s.reque
 abbrev pub RefuseNone : List Choice → Type 0
 RefuseNone [] = Unit {0}
 RefuseNone (choice ∷ choices) = (choice.refuse ≡ SSH_FX_OK) × RefuseNone choices
+
+-- the choice doesn't refuse a request by the status that tells an end, as a READDIR's behind the last entry
+abbrev pub FeignsNoEnd : Choice → Type 0
+FeignsNoEnd choice = choice.refuse ≢ SSH_FX_EOF
+
+abbrev pub FeignNoEnd : List Choice → Type 0
+FeignNoEnd [] = Unit {0}
+FeignNoEnd (choice ∷ choices) = FeignsNoEnd choice × FeignNoEnd choices
+
+abbrev pub IsAnyChoice : Choice → Type 0
+IsAnyChoice choice = Unit {0}
 
 abbrev pub AreUnrefused : List Step → Type 0
 AreUnrefused [] = Unit {0}

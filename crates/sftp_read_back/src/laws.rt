@@ -35,7 +35,7 @@ ghost use Rattle.sftp_history.specs.Served.{Serves};
 ghost use Rattle.sftp_read_back.specs.CallsAmong.{Gives, HasEnded, HasNoFile, StandsOnDirectory, StandsOnName, ToWrite, asked_by, refusal_of};
 ghost use Rattle.sftp_read_back.specs.DeferredWrites.{AreWrites, AreWritten, StandAlone, carried, places};
 ghost use Rattle.sftp_read_back.specs.GrantUses.{AllPassBy, IsCallOn, IsRunOn};
-ghost use Rattle.sftp_read_back.specs.Steps.{Step, after, AllSpare, AreServed, HasBytes, RunOf};
+ghost use Rattle.sftp_read_back.specs.Steps.{Step, after, AllSpare, AreServed, FeignsNoEnd, HasBytes, IsAnyChoice, RunOf};
 
 /// A journal that a file machine serves is a run of the machine: its requests are the steps, each at its place.
 pub fn served_journals_are_runs()
@@ -63,17 +63,22 @@ pub fn spared_names_stay()
         → HasBytes (after config tree steps) name content }
 {}
 
-/// A listing that ends with names gives the entries that its directory had as its OPENDIR was answered, in their order;
-/// in a tree it gives each of them once.
+/// A listing that ends with names gives the first of the entries that its directory had as its OPENDIR was answered, in
+/// their order: all of them, where no choice feigns an end to one of its requests. In a tree it gives each of them once.
 pub fn listings_give_directories()
+    ensures begins { (config : ServerConfig) (answers : Answers) (path : List ℕ) (bound : ℕ) (site : Site)
+        (facts : Facts) (later : Own) (entries : List NameEntry) (tree : FileTree) (first : Step) (steps : List Step)
+        → StandsOnDirectory IsAnyChoice config answers later tree first steps
+        → HasEnded (call.Names path bound) site facts (asked_by first ∷ later) answers (outcome.Names entries)
+        → (rest : List NameEntry) × (entries_at tree (components (from_directory site path)) ≡ entries ++ rest) }
     ensures in_order { (config : ServerConfig) (answers : Answers) (path : List ℕ) (bound : ℕ) (site : Site)
         (facts : Facts) (later : Own) (entries : List NameEntry) (tree : FileTree) (first : Step) (steps : List Step)
-        → StandsOnDirectory config answers later tree first steps
+        → StandsOnDirectory FeignsNoEnd config answers later tree first steps
         → HasEnded (call.Names path bound) site facts (asked_by first ∷ later) answers (outcome.Names entries)
         → entries ≡ entries_at tree (components (from_directory site path)) }
     ensures once { (config : ServerConfig) (answers : Answers) (path : List ℕ) (bound : ℕ) (site : Site)
         (facts : Facts) (later : Own) (entries : List NameEntry) (tree : FileTree) (first : Step) (steps : List Step)
-        → IsTree tree → StandsOnDirectory config answers later tree first steps
+        → IsTree tree → StandsOnDirectory IsAnyChoice config answers later tree first steps
         → HasEnded (call.Names path bound) site facts (asked_by first ∷ later) answers (outcome.Names entries)
         → ListOnce entries }
 {}

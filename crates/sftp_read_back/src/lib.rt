@@ -18,12 +18,13 @@ pub use laws::{
     writes_are_read_back,
 };
 pub use rows::{
-    buffered_writes_as_worked_out, grants_as_worked_out, listings_as_worked_out,
-    runs_as_worked_out, served_journals_as_worked_out,
+    buffered_writes_as_worked_out, grants_as_worked_out, listed_runs_as_worked_out,
+    listings_as_worked_out, runs_as_worked_out, served_journals_as_worked_out,
 };
 pub use sessions::{
     lanes_read_what_they_wrote, lanes_read_what_was_there, lanes_that_keep_off_pass_by,
-    runs_leave_what_they_flushed, runs_leave_what_they_wrote, runs_read_what_they_wrote,
-    runs_read_what_was_there, served_journals_are_runs_on_names, served_reads_give_what_was_there,
+    runs_hold_what_they_flushed, runs_leave_what_they_flushed, runs_leave_what_they_wrote,
+    runs_list_directories, runs_read_what_they_wrote, runs_read_what_was_there,
+    served_journals_are_runs_on_names, served_reads_give_what_was_there,
     served_writes_are_read_back,
 };

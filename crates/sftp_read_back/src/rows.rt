@@ -5,14 +5,15 @@ ghost use Rattle.sftp_model.specs.Slots.{fresh_site};
 ghost use Rattle.sftp_model.specs.declared.outcome.Outcome.TheVariants as outcome;
 ghost use Rattle.sftp_tree.specs.Changes.{IsWellFormed};
 ghost use Rattle.sftp_tree.specs.FileTree.{bytes_of};
-ghost use Rattle.sftp_tree.specs.RowWords.{config};
+ghost use Rattle.sftp_tree.specs.RowWords.{choice, config};
 ghost use Rattle.sftp_calls.specs.CallPlans as call;
 ghost use Rattle.sftp_calls.specs.PlanWords.{buffered, handle, offering};
 ghost use Rattle.sftp_model.specs.declared.request.Request.TheVariants as request;
 ghost use Rattle.sftp_history.specs.declared.event.Owner.TheVariants as owner;
 ghost use Rattle.sftp_history.specs.Journals.{IsJournal};
 ghost use Rattle.sftp_history.specs.RowWords.{handle as granted_handle, send, submit};
-ghost use Rattle.sftp_history.specs.Readings.{answer};
+ghost use Rattle.sftp_history.specs.Readings.{outcomes_of};
+ghost use Rattle.sftp_history.specs.Runs.{IsRun};
 ghost use Rattle.sftp_history.specs.Served.{Serves};
 ghost use Rattle.sftp_calls.specs.FilePlans.{open_request};
 ghost use Rattle.sftp_calls.specs.WholePlans.{to_replace};
@@ -24,8 +25,11 @@ ghost use Rattle.sftp_read_back.specs.BearingRows.{read_again, reads_twice};
 ghost use Rattle.sftp_read_back.specs.CallsAmong.{HasEnded, StandsOnDirectory, asked_by};
 ghost use Rattle.sftp_read_back.specs.DeferredWrites.{StandAlone};
 ghost use Rattle.sftp_read_back.specs.GrantUses.{IsCallOn, IsRunOn};
+ghost use Rattle.sftp_read_back.specs.Listings.{IsListed};
+ghost use Rattle.sftp_read_back.specs.ListedRows.{directory, listed_run, lists, two_files};
 ghost use Rattle.sftp_read_back.specs.OtherRows.{deferred, entries, hello_open, listed, listing_answers, opendir, readdirs, two_names, write_answers, writes};
-ghost use Rattle.sftp_read_back.specs.Steps.{after, AreServed};
+ghost use Rattle.sftp_read_back.specs.Steps.{after, AreServed, FeignNoEnd, FeignsNoEnd};
+ghost use Rattle.sftp_read_back.specs.WholeCalls.{IsWholeRead, IsWholeWrite, ServesUnrefused};
 ghost use Rattle.sftp_read_back.specs.ReadBackRows.{answers, between, elsewhere, empty, first_read, first_write, grant_of, name, read, rest, run, two_at_once, written};
 
 /// A run that meets all that a read of what was written asks for: a call writes `hello` to a file in two parts, and one
@@ -43,9 +47,19 @@ pub fn runs_as_worked_out()
 
 /// A listing of two names, of which the first NAME brings one.
 pub fn listings_as_worked_out()
-    ensures stands { StandsOnDirectory (config 0) listing_answers listed two_names opendir readdirs }
+    ensures stands { StandsOnDirectory FeignsNoEnd (config 0) listing_answers listed two_names opendir readdirs }
     ensures ended { HasEnded (call.Names (codes "/") 9) fresh_site two_at_once
         (asked_by opendir ∷ listed) listing_answers (outcome.Names entries) }
+{}
+
+/// A whole run in which a lane lists a directory of two files: it meets all that the law of listings asks for, and gives both
+/// files in the order of their names. By a choice that feigns the end of a directory it would have given none.
+pub fn listed_runs_as_worked_out()
+    ensures run { IsRun lists [] listed_run }
+    ensures served { Serves (config 0) [] directory listed_run directory }
+    ensures reported { outcomes_of listed_run 0 ≡ outcome.Names two_files ∷ [] }
+    ensures listed { IsListed lists (config 0) [] directory listed_run 0 0 (codes "d") two_files }
+    ensures feigned { FeignNoEnd (choice 0 0 ∷ choice 1 0 ∷ []) → ⊥ }
 {}
 
 /// A buffered write of three bytes in two WRITEs, no status of which had come as it ended, and its flush.
@@ -82,7 +96,7 @@ pub fn grants_as_worked_out()
 /// or write by its handle don't pass it by.
 pub fn served_journals_as_worked_out()
     ensures run { IsJournal makes_then_reads made_then_read }
-    ensures served { Serves (config 0) [] empty made_then_read left_there }
+    ensures served { ServesUnrefused (config 0) [] empty made_then_read left_there }
     ensures turn { InTurn makes_then_reads made_then_read name 3 (0, 0) (0, open_request to_replace (codes "a")) []
         (0, 1) (2, open_request to_read (codes "a")) [] }
     ensures off { KeepsOff made_then_read name 1 }
@@ -94,10 +108,8 @@ pub fn served_journals_as_worked_out()
     ensures not_first { LaneFirst makes_then_reads made_then_read name 0 1 (2, open_request to_read (codes "a")) [] → ⊥ }
     ensures alone { AloneOn makes_then_reads made_then_read name 1 (0, 0) (0, open_request to_replace (codes "a")) [] }
     ensures not_alone { AloneOn makes_then_reads made_then_read name 3 (0, 1) (2, open_request to_read (codes "a")) [] → ⊥ }
-    ensures written { HasEnded (call.FsWrite (codes "a") []) fresh_site makes_then_reads.facts
-        ((0, open_request to_replace (codes "a")) ∷ []) (answer made_then_read) outcome.Done }
-    ensures read { HasEnded (call.FsRead (codes "a") 0) fresh_site makes_then_reads.facts
-        ((2, open_request to_read (codes "a")) ∷ []) (answer made_then_read) outcome.GivenUp }
+    ensures written { IsWholeWrite made_then_read name ((0, open_request to_replace (codes "a")) ∷ []) [] }
+    ensures read { IsWholeRead made_then_read name ((2, open_request to_read (codes "a")) ∷ []) outcome.GivenUp }
     ensures passes { PassesAt makes_then_reads made_then_read name 1 }
     ensures removes { PassesAt makes_then_reads
         (submit 1 1 1 (request.Remove (codes "a")) ∷ made_then_read) name 3 → ⊥ }

@@ -1,35 +1,32 @@
 // Laws of journals that a file machine serves. The functions do nothing: what they ensure holds of all values.
-ghost use Rattle.std.specs.Prelude.{◌≡◌, ◌≤◌, ℕ, true, List, [], ◌∷◌};
+ghost use Rattle.std.specs.Prelude.{◌≡◌, ◌<◌, ℕ, true, List, [], ◌∷◌, length};
 ghost use Rattle.sftp_model.specs.declared.config.Choice.{Choice};
 ghost use Rattle.sftp_model.specs.declared.config.ServerConfig.{ServerConfig};
 ghost use Rattle.sftp_model.specs.declared.error.Error.TheVariants as error;
 ghost use Rattle.sftp_model.specs.declared.outcome.Outcome.{Outcome};
 ghost use Rattle.sftp_model.specs.declared.outcome.Outcome.TheVariants as outcome;
+ghost use Rattle.sftp_model.specs.declared.reply.NameEntry.{NameEntry};
 ghost use Rattle.sftp_model.specs.declared.request.Request.{Request};
-ghost use Rattle.sftp_model.specs.Slots.{slot_at};
-ghost use Rattle.sftp_model.specs.declared.slot.Buffer.{Buffer};
-ghost use Rattle.sftp_model.specs.declared.slot.Facts.{Facts};
-ghost use Rattle.sftp_model.specs.declared.slot.FileAt.{FileAt};
-ghost use Rattle.sftp_model.specs.declared.slot.Site.{Site};
-ghost use Rattle.sftp_model.specs.declared.slot.Slot.TheVariants.{Buffered};
 ghost use Rattle.sftp_tree.specs.Changes.{IsWellFormed};
-ghost use Rattle.sftp_tree.specs.Components.{Name, components};
+ghost use Rattle.sftp_tree.specs.Components.{Name};
 ghost use Rattle.sftp_tree.specs.FileTree.{FileTree, node_at};
 ghost use Rattle.sftp_calls.specs.CallPlans as call;
 ghost use Rattle.sftp_calls.specs.Moves.{Own};
-ghost use Rattle.sftp_calls.specs.PathPlans.{from_directory};
 ghost use Rattle.sftp_history.specs.declared.entry.Entry.{Entry};
 ghost use Rattle.sftp_history.specs.Calls.{Setting};
 ghost use Rattle.sftp_history.specs.Journals.{IsJournal};
-ghost use Rattle.sftp_history.specs.Readings.{answer, sent};
+ghost use Rattle.sftp_history.specs.Readings.{answer, own, sent};
 ghost use Rattle.sftp_history.specs.Runs.{IsRun};
 ghost use Rattle.sftp_history.specs.Served.{Serves};
 ghost use Rattle.sftp_history.specs.declared.turn.Turn.{Turn};
 ghost use Rattle.sftp_read_back.specs.Bearing.{grant_at};
 ghost use Rattle.sftp_read_back.specs.CallsAmong.{Gives, HasEnded, HasNoFile, refusal_of};
+ghost use Rattle.sftp_read_back.specs.DeferredWrites.{AllWriteBy, ArePut, IsFlushedWrite, WritesAlone};
 ghost use Rattle.sftp_read_back.specs.FilesLeft.{IsUntouched, LaneAnew, LaneLast, LaneNever};
 ghost use Rattle.sftp_read_back.specs.GrantUses.{IsRunOn};
 ghost use Rattle.sftp_read_back.specs.InJournals.{AloneOn, AreBelow, ComeByOpens, InTurn, KeepsOff, LaneFirst, LaneInTurn, PassesAt, is_elsewhere, is_of_call};
+ghost use Rattle.sftp_read_back.specs.Listings.{IsListed, site_at};
+ghost use Rattle.sftp_read_back.specs.WholeCalls.{IsWholeRead, IsWholeWrite, ServesUnrefused};
 ghost use Rattle.sftp_read_back.specs.Steps.{HasBytes, RefuseNone, RunOf};
 
 /// Where a file machine whose choices refuse nothing serves a journal that is a run so far, and its requests come to a
@@ -47,16 +44,10 @@ pub fn served_journals_are_runs_on_names()
 /// its bound.
 pub fn served_writes_are_read_back()
     ensures { (s : Setting) (config : ServerConfig) (choices : List Choice) (first now : FileTree) (past : List Entry)
-        (name : Name) (n : ℕ) (writer reader : ℕ × ℕ) (w r : ℕ × Request) (written read : Own)
-        (write_path read_path bytes : List ℕ) (bound : ℕ) (write_site read_site : Site)
-        (write_facts read_facts : Facts) (ended : Outcome)
-        → IsJournal s past → Serves config choices first past now → RefuseNone choices → IsWellFormed first
-        → InTurn s past name n writer w written reader r read
-        → components (from_directory write_site write_path) ≡ name
-        → HasEnded (call.FsWrite write_path bytes) write_site write_facts (w ∷ written) (answer past) outcome.Done
-        → components (from_directory read_site read_path) ≡ name → 1 ≤ read_facts.read_len
-        → HasEnded (call.FsRead read_path bound) read_site read_facts (r ∷ read) (answer past) ended
-        → Gives ended bytes }
+        (name : Name) (n : ℕ) (writer reader : ℕ × ℕ) (w r : ℕ × Request) (written read : Own) (bytes : List ℕ)
+        (ended : Outcome) → IsJournal s past → ServesUnrefused config choices first past now
+        → InTurn s past name n writer w written reader r read → IsWholeWrite past name (w ∷ written) bytes
+        → IsWholeRead past name (r ∷ read) ended → Gives ended bytes }
 {}
 
 /// In a journal that a file machine serves whose choices refuse nothing, a call read a name as a whole, and each request
@@ -64,19 +55,14 @@ pub fn served_writes_are_read_back()
 /// has reached its bound, and where it has none, the refusal of its OPEN.
 pub fn served_reads_give_what_was_there()
     ensures gives { (s : Setting) (config : ServerConfig) (choices : List Choice) (first now : FileTree)
-        (past : List Entry) (name : Name) (n : ℕ) (reader : ℕ × ℕ) (r : ℕ × Request) (read : Own)
-        (path bytes : List ℕ) (bound : ℕ) (site : Site) (facts : Facts) (ended : Outcome)
-        → IsJournal s past → Serves config choices first past now → RefuseNone choices → IsWellFormed first
-        → HasBytes first name bytes → AloneOn s past name n reader r read
-        → components (from_directory site path) ≡ name → 1 ≤ facts.read_len
-        → HasEnded (call.FsRead path bound) site facts (r ∷ read) (answer past) ended → Gives ended bytes }
+        (past : List Entry) (name : Name) (n : ℕ) (reader : ℕ × ℕ) (r : ℕ × Request) (read : Own) (bytes : List ℕ)
+        (ended : Outcome) → IsJournal s past → ServesUnrefused config choices first past now
+        → HasBytes first name bytes → AloneOn s past name n reader r read → IsWholeRead past name (r ∷ read) ended
+        → Gives ended bytes }
     ensures refused { (s : Setting) (config : ServerConfig) (choices : List Choice) (first now : FileTree)
-        (past : List Entry) (name : Name) (n : ℕ) (reader : ℕ × ℕ) (r : ℕ × Request) (read : Own) (path : List ℕ)
-        (bound : ℕ) (site : Site) (facts : Facts) (ended : Outcome)
-        → IsJournal s past → Serves config choices first past now → RefuseNone choices → IsWellFormed first
-        → HasNoFile (node_at first name) → AloneOn s past name n reader r read
-        → components (from_directory site path) ≡ name → 1 ≤ facts.read_len
-        → HasEnded (call.FsRead path bound) site facts (r ∷ read) (answer past) ended
+        (past : List Entry) (name : Name) (n : ℕ) (reader : ℕ × ℕ) (r : ℕ × Request) (read : Own) (ended : Outcome)
+        → IsJournal s past → ServesUnrefused config choices first past now → HasNoFile (node_at first name)
+        → AloneOn s past name n reader r read → IsWholeRead past name (r ∷ read) ended
         → ended ≡ outcome.Refused (error.SftpError (refusal_of (node_at first name)) [] []) }
 {}
 
@@ -89,20 +75,14 @@ pub fn lanes_that_keep_off_pass_by()
 
 /// A lane reads what it wrote. In a journal that a file machine serves whose choices refuse nothing, a call of a lane
 /// wrote a file as a whole and ended well, and a later call of the lane read the name as a whole, all its requests were
-/// sent, and it ended; the other lanes keep off the name, and the lane's calls between the two pass it by. Then the read ended with the bytes of the
-/// write, or has reached its bound.
+/// sent, and it ended; the other lanes keep off the name, and the lane's calls between the two pass it by. Then the read
+/// ended with the bytes of the write, or has reached its bound.
 pub fn lanes_read_what_they_wrote()
     ensures { (s : Setting) (config : ServerConfig) (choices : List Choice) (first now : FileTree) (past : List Entry)
-        (name : Name) (lane writer reader : ℕ) (w r : ℕ × Request) (written read : Own)
-        (write_path read_path bytes : List ℕ) (bound : ℕ) (write_site read_site : Site)
-        (write_facts read_facts : Facts) (ended : Outcome)
-        → IsJournal s past → Serves config choices first past now → RefuseNone choices → IsWellFormed first
+        (name : Name) (lane writer reader : ℕ) (w r : ℕ × Request) (written read : Own) (bytes : List ℕ)
+        (ended : Outcome) → IsJournal s past → ServesUnrefused config choices first past now
         → LaneInTurn s past name lane writer w written reader r read → AreBelow (sent past) (r ∷ read)
-        → components (from_directory write_site write_path) ≡ name
-        → HasEnded (call.FsWrite write_path bytes) write_site write_facts (w ∷ written) (answer past) outcome.Done
-        → components (from_directory read_site read_path) ≡ name → 1 ≤ read_facts.read_len
-        → HasEnded (call.FsRead read_path bound) read_site read_facts (r ∷ read) (answer past) ended
-        → Gives ended bytes }
+        → IsWholeWrite past name (w ∷ written) bytes → IsWholeRead past name (r ∷ read) ended → Gives ended bytes }
 {}
 
 /// A lane reads what was there. In a journal that a file machine serves whose choices refuse nothing, a call of a lane
@@ -110,19 +90,15 @@ pub fn lanes_read_what_they_wrote()
 /// earlier calls pass it by. Then the read ended with what the name had at first.
 pub fn lanes_read_what_was_there()
     ensures gives { (s : Setting) (config : ServerConfig) (choices : List Choice) (first now : FileTree)
-        (past : List Entry) (name : Name) (lane reader : ℕ) (r : ℕ × Request) (read : Own) (path bytes : List ℕ)
-        (bound : ℕ) (site : Site) (facts : Facts) (ended : Outcome)
-        → IsJournal s past → Serves config choices first past now → RefuseNone choices → IsWellFormed first
+        (past : List Entry) (name : Name) (lane reader : ℕ) (r : ℕ × Request) (read : Own) (bytes : List ℕ)
+        (ended : Outcome) → IsJournal s past → ServesUnrefused config choices first past now
         → HasBytes first name bytes → LaneFirst s past name lane reader r read → AreBelow (sent past) (r ∷ read)
-        → components (from_directory site path) ≡ name → 1 ≤ facts.read_len
-        → HasEnded (call.FsRead path bound) site facts (r ∷ read) (answer past) ended → Gives ended bytes }
+        → IsWholeRead past name (r ∷ read) ended → Gives ended bytes }
     ensures refused { (s : Setting) (config : ServerConfig) (choices : List Choice) (first now : FileTree)
-        (past : List Entry) (name : Name) (lane reader : ℕ) (r : ℕ × Request) (read : Own) (path : List ℕ)
-        (bound : ℕ) (site : Site) (facts : Facts) (ended : Outcome)
-        → IsJournal s past → Serves config choices first past now → RefuseNone choices → IsWellFormed first
-        → HasNoFile (node_at first name) → LaneFirst s past name lane reader r read
-        → AreBelow (sent past) (r ∷ read) → components (from_directory site path) ≡ name → 1 ≤ facts.read_len
-        → HasEnded (call.FsRead path bound) site facts (r ∷ read) (answer past) ended
+        (past : List Entry) (name : Name) (lane reader : ℕ) (r : ℕ × Request) (read : Own) (ended : Outcome)
+        → IsJournal s past → ServesUnrefused config choices first past now → HasNoFile (node_at first name)
+        → LaneFirst s past name lane reader r read → AreBelow (sent past) (r ∷ read)
+        → IsWholeRead past name (r ∷ read) ended
         → ended ≡ outcome.Refused (error.SftpError (refusal_of (node_at first name)) [] []) }
 {}
 
@@ -133,15 +109,9 @@ pub fn lanes_read_what_was_there()
 pub fn runs_read_what_they_wrote()
     ensures { (s : Setting) (config : ServerConfig) (choices : List Choice) (first now : FileTree) (turns : List Turn)
         (past : List Entry) (name : Name) (lane writer reader : ℕ) (w r : ℕ × Request) (written read : Own)
-        (write_path read_path bytes : List ℕ) (bound : ℕ) (write_site read_site : Site)
-        (write_facts read_facts : Facts) (ended : Outcome)
-        → IsRun s turns past → Serves config choices first past now → RefuseNone choices → IsWellFormed first
-        → LaneInTurn s past name lane writer w written reader r read
-        → components (from_directory write_site write_path) ≡ name
-        → HasEnded (call.FsWrite write_path bytes) write_site write_facts (w ∷ written) (answer past) outcome.Done
-        → components (from_directory read_site read_path) ≡ name → 1 ≤ read_facts.read_len
-        → HasEnded (call.FsRead read_path bound) read_site read_facts (r ∷ read) (answer past) ended
-        → Gives ended bytes }
+        (bytes : List ℕ) (ended : Outcome) → IsRun s turns past → ServesUnrefused config choices first past now
+        → LaneInTurn s past name lane writer w written reader r read → IsWholeWrite past name (w ∷ written) bytes
+        → IsWholeRead past name (r ∷ read) ended → Gives ended bytes }
 {}
 
 /// In a whole run that a file machine serves whose choices refuse nothing, a call of a lane read a name as a whole and
@@ -151,18 +121,14 @@ pub fn runs_read_what_they_wrote()
 pub fn runs_read_what_was_there()
     ensures gives { (s : Setting) (config : ServerConfig) (choices : List Choice) (first now : FileTree)
         (turns : List Turn) (past : List Entry) (name : Name) (lane reader : ℕ) (r : ℕ × Request) (read : Own)
-        (path bytes : List ℕ) (bound : ℕ) (site : Site) (facts : Facts) (ended : Outcome)
-        → IsRun s turns past → Serves config choices first past now → RefuseNone choices → IsWellFormed first
+        (bytes : List ℕ) (ended : Outcome) → IsRun s turns past → ServesUnrefused config choices first past now
         → HasBytes first name bytes → LaneFirst s past name lane reader r read
-        → components (from_directory site path) ≡ name → 1 ≤ facts.read_len
-        → HasEnded (call.FsRead path bound) site facts (r ∷ read) (answer past) ended → Gives ended bytes }
+        → IsWholeRead past name (r ∷ read) ended → Gives ended bytes }
     ensures refused { (s : Setting) (config : ServerConfig) (choices : List Choice) (first now : FileTree)
         (turns : List Turn) (past : List Entry) (name : Name) (lane reader : ℕ) (r : ℕ × Request) (read : Own)
-        (path : List ℕ) (bound : ℕ) (site : Site) (facts : Facts) (ended : Outcome)
-        → IsRun s turns past → Serves config choices first past now → RefuseNone choices → IsWellFormed first
+        (ended : Outcome) → IsRun s turns past → ServesUnrefused config choices first past now
         → HasNoFile (node_at first name) → LaneFirst s past name lane reader r read
-        → components (from_directory site path) ≡ name → 1 ≤ facts.read_len
-        → HasEnded (call.FsRead path bound) site facts (r ∷ read) (answer past) ended
+        → IsWholeRead past name (r ∷ read) ended
         → ended ≡ outcome.Refused (error.SftpError (refusal_of (node_at first name)) [] []) }
 {}
 
@@ -172,15 +138,12 @@ pub fn runs_read_what_was_there()
 pub fn runs_leave_what_they_wrote()
     ensures written { (s : Setting) (config : ServerConfig) (choices : List Choice) (first now : FileTree)
         (turns : List Turn) (past : List Entry) (name : Name) (lane writer : ℕ) (w : ℕ × Request) (written : Own)
-        (path bytes : List ℕ) (site : Site) (facts : Facts)
-        → IsRun s turns past → Serves config choices first past now → RefuseNone choices → IsWellFormed first
-        → LaneLast s past name lane writer w written → components (from_directory site path) ≡ name
-        → HasEnded (call.FsWrite path bytes) site facts (w ∷ written) (answer past) outcome.Done
+        (bytes : List ℕ) → IsRun s turns past → ServesUnrefused config choices first past now
+        → LaneLast s past name lane writer w written → IsWholeWrite past name (w ∷ written) bytes
         → HasBytes now name bytes }
     ensures untouched { (s : Setting) (config : ServerConfig) (choices : List Choice) (first now : FileTree)
-        (turns : List Turn) (past : List Entry) (name : Name) (lane : ℕ)
-        → IsRun s turns past → Serves config choices first past now → RefuseNone choices → IsWellFormed first
-        → LaneNever s past name lane → IsUntouched first now name }
+        (turns : List Turn) (past : List Entry) (name : Name) (lane : ℕ) → IsRun s turns past
+        → ServesUnrefused config choices first past now → LaneNever s past name lane → IsUntouched first now name }
 {}
 
 /// What was written to a buffer and flushed is left. In a whole run that a file machine serves whose choices refuse nothing,
@@ -189,13 +152,32 @@ pub fn runs_leave_what_they_wrote()
 /// pass it by. Then the run leaves the file with the bytes.
 pub fn runs_leave_what_they_flushed()
     ensures { (s : Setting) (config : ServerConfig) (choices : List Choice) (first now : FileTree) (turns : List Turn)
-        (past : List Entry) (name : Name) (lane opener writer slot : ℕ) (w : ℕ × Request) (written flush_own : Own)
-        (file : FileAt) (buffer : Buffer) (bytes : List ℕ) (site flush_site : Site) (facts flush_facts : Facts)
-        → IsRun s turns past → Serves config choices first past now → RefuseNone choices → IsWellFormed first
-        → LaneAnew s past name lane opener writer w written → slot_at site slot ≡ Buffered file buffer
-        → file.offset ≡ 0
-        → (wrote : HasEnded (call.BufWriteAll slot bytes) site facts written (answer past) outcome.Done)
-        → slot_at flush_site slot ≡ slot_at wrote.left slot
-        → HasEnded (call.BufFlush slot) flush_site flush_facts flush_own (answer past) outcome.Done
+        (past : List Entry) (name : Name) (lane opener writer : ℕ) (w : ℕ × Request) (written : Own) (bytes : List ℕ)
+        → IsRun s turns past → ServesUnrefused config choices first past now
+        → LaneAnew s past name lane opener writer w written → IsFlushedWrite past written 0 bytes
         → HasBytes now name bytes }
+{}
+
+/// Calls list what directories had. In a whole run that a file machine serves, a call of a lane that ended with names gives
+/// the first of the entries that its directory had as the call's OPENDIR came, in their order, and all of them where no
+/// choice feigns an end; whatever the other lanes did.
+pub fn runs_list_directories()
+    ensures { (s : Setting) (config : ServerConfig) (choices : List Choice) (first now : FileTree) (turns : List Turn)
+        (past : List Entry) (lane k : ℕ) (path : List ℕ) (bound : ℕ) (names : List NameEntry)
+        → IsRun s turns past → Serves config choices first past now
+        → HasEnded (call.Names path bound) (site_at s past lane k) s.facts (own past lane k) (answer past)
+        (outcome.Names names) → IsListed s config choices first past lane k path names }
+{}
+
+/// Bytes that were written to a buffered file and flushed are in the file. In a whole run that a file machine serves, a call
+/// of a lane wrote bytes to a buffered file by a handle, a flush of what it left ended well, and up to the last of the
+/// call's WRITEs each request of others leaves the file's bytes. Then the file has what it had as the first of them came, with the bytes
+/// at the offset at which it stood.
+pub fn runs_hold_what_they_flushed()
+    ensures { (s : Setting) (config : ServerConfig) (choices : List Choice) (first now : FileTree) (turns : List Turn)
+        (past : List Entry) (lane k offset : ℕ) (bytes handle : List ℕ) (run : RunOf config choices first past now)
+        → IsRun s turns past → IsWellFormed first → 0 < length bytes
+        → IsFlushedWrite past (own past lane k) offset bytes → AllWriteBy past lane k handle
+        → (t : WritesAlone config first past run.steps lane k handle)
+        → ArePut config first past run.steps lane k handle t offset bytes }
 {}

@@ -19,7 +19,8 @@ use Rattle.sftp_history.specs.Grants.{orphan}
 use Rattle.sftp_history.specs.Journals.{IsJournal, IsNext, MayCome, MustClose, cancelled_end}
 use Rattle.sftp_history.specs.Readings.{answer, ended, last_cancel, outcomes_of, own}
 use Rattle.sftp_read_back.specs.CallsAmong.{HasEnded}
-use Rattle.sftp_read_back.proofs.JournalCalls.{ended_calls}
+use Rattle.sftp_read_back.specs.Listings.{site_at}
+use Rattle.sftp_read_back.proofs.JournalCalls.{ended_calls, site_began}
 use Rattle.sftp_read_back.proofs.UsedLaws.{some_is}
 use Rattle.sftp_round_trip.specs.RoundTrips.{outcome_at}
 use Rattle.sftp_round_trip.proofs.LaneCalls.{all_before, call_stays, is_still}
@@ -95,9 +96,16 @@ call_there : (o : Option Call) (site : Site) (facts : Facts) (own : Own) (answer
 call_there None site facts own answers ended left e = absurd cc
 call_there (Some c) site facts own answers ended left e = (c, refl)
 
+-- what the lane held as the call began
+pub began_at : (s : Setting) (past : List Entry) (lane k : ℕ) (o : Outcome) (t : EndsAt s past lane k o) → site_at s past lane k ≡ site_of s t.before lane
+began_at s past lane k o t =
+    subst (λ (l : List Entry). site_at s l lane k ≡ site_of s t.before lane) t.is
+    (subst (λ (n : ℕ). site_at s (t.more ++ entry.Event (End lane (ended t.before lane) o) ∷ t.before) lane n ≡ site_of s t.before lane) t.at (site_began s t.more t.before lane o))
+
 -- a call that ended, uncancelled, made its requests by its plan and ended so
 pub record EndedByPlan (s : Setting) (past : List Entry) (lane k : ℕ) (c : Call) (o : Outcome) : Type 0 where
   pub before : List Entry
+  pub began : site_at s past lane k ≡ site_of s before lane
   pub still : list_all is_still (lane_calls s past lane) ≡ true → list_all is_still (lane_calls s before lane) ≡ true
   pub did : HasEnded (planned c) (site_of s before lane) s.facts (own past lane k) (answer past) o
 
@@ -117,6 +125,7 @@ call_ended s past lane k c o j is ne e =
     in
     record {
       before = t.before;
+      began = began_at s past lane k o t;
       still = λ w. all_before is_still s t.more (end ∷ t.before) lane (subst (λ (l : List Entry). list_all is_still (lane_calls s l lane) ≡ true) (sym t.is) w);
       did =
           subst (λ (d : Call). HasEnded (planned d) (site_of s t.before lane) s.facts (own past lane k) (answer past) o) same

@@ -26,15 +26,16 @@ use Rattle.sftp_history.specs.declared.call.Call.TheVariants as call
 use Rattle.sftp_history.specs.declared.entry.Entry.{Entry}
 use Rattle.sftp_history.specs.declared.entry.Entry.TheVariants as entry
 use Rattle.sftp_history.specs.declared.event.Event.TheVariants.{End}
-use Rattle.sftp_history.specs.Calls.{GoesByPlan, Setting, call_at, calls_of, current, move_at, move_of, next, site_of}
+use Rattle.sftp_history.specs.Calls.{GoesByPlan, Setting, call_at, calls_of, current, move_at, next, site_of}
 use Rattle.sftp_history.specs.Journals.{IsJournal, MayCome}
-use Rattle.sftp_history.specs.Readings.{answer, ended, last_cancel, outcomes_of, own}
+use Rattle.sftp_history.specs.Readings.{answer, ended, outcomes_of, own}
 use Rattle.sftp_history.proofs.CallLaws.{end_site, ended_end}
 use Rattle.sftp_history.proofs.CallsSoFar.{calls_so_far}
 use Rattle.sftp_history.proofs.HolderLaws.{may_of}
-use Rattle.sftp_read_back.proofs.JournalCalls.{answers_stay, ended_grows, own_stays}
+use Rattle.sftp_read_back.specs.Listings.{site_at}
+use Rattle.sftp_read_back.proofs.JournalCalls.{answers_stay, ended_grows, own_stays, site_later, site_now}
 use Rattle.sftp_read_back.proofs.OpenLaws.{open_is}
-use Rattle.sftp_served.proofs.Counting.{IsPlain, plain_calls}
+use Rattle.sftp_read_back.proofs.PlainRuns.{IsPlain, plain_calls}
 use Rattle.sftp_round_trip.specs.RoundTrips.{outcome_at}
 use Rattle.sftp_round_trip.proofs.BufferedMoves.{Buffers, Opens, buffer_leaves, open_leaves, open_once, set_is}
 use Rattle.sftp_round_trip.proofs.CallEnds.{EndsAt, ends_at, outcomes_count}
@@ -79,45 +80,57 @@ given_call s lane k = slice_get (calls_of (slice_get s.lanes lane)) k
 pub plain_call : (s : Setting) (past : List Entry) (lane k : ℕ) (c : Call) → IsPlain past → given_call s lane k ≡ Some c → call_at s past lane k ≡ Some c
 plain_call s past lane k c p e = ap (λ (calls : List Call). slice_get calls k) (plain_calls s past lane p) ∙ e
 
+-- ---- the site within a call
+
+-- what a lane holds stays until its call has ended
+site_stays : (s : Setting) (more before : List Entry) (lane : ℕ) (c : Call) → IsJournal s (more ++ before) → ended (more ++ before) lane ≡ ended before lane → call_at s before lane (ended before lane) ≡ Some c
+    → site_of s (more ++ before) lane ≡ site_of s before lane
+site_stays s [] before lane c j at is = refl
+site_stays s (entry.Event (End l k p) ∷ more) before lane c j at is =
+    elim (eqb_tells l lane) [
+      | inl t ↦ absurd (let now : ended (more ++ before) lane + 1 ≡ ended before lane = rw t.0 at at in let grows : ended before lane ≤ ended (more ++ before) lane = ended_grows more before lane in omega (arith, now, grows))
+      | inr t ↦ rw t.0 (site_stays s more before lane c j.1 (rw t.0 at at) is)
+    ]
+site_stays s (entry.LetGo l ∷ more) before lane c j at is =
+    elim (eqb_tells l lane) [
+      | inl t ↦ absurd (gone (subst (λ (x : ℕ). current s (more ++ before) x ≡ None) t.1 may.1))
+      | inr t ↦ rw t.0 (site_stays s more before lane c j.1 at is)
+    ]
+  where
+    may : MayCome s (more ++ before) (entry.LetGo l)
+    may = may_of s (more ++ before) (entry.LetGo l) j.0 (λ g m. cc (m.1.1)) (λ la e. cc e)
+
+    there : current s (more ++ before) lane ≡ Some c
+    there = ap (call_at s (more ++ before) lane) at ∙ call_stays s more before lane (ended before lane) c is
+
+    gone : current s (more ++ before) lane ≡ None → ⊥
+    gone none = (let both : None ≡ Some c = sym none ∙ there in cc)
+site_stays s (entry.Added l d ∷ more) before lane c j at is = site_stays s more before lane c j.1 at is
+site_stays s (_ ∷ more) before lane c j at is = site_stays s more before lane c j.1 at is
+
+-- and is what it held as the call began
+pub site_within : (s : Setting) (more before : List Entry) (lane k : ℕ) (c : Call) → IsJournal s (more ++ before) → ended before lane ≡ k → call_at s before lane k ≡ Some c → site_at s (more ++ before) lane k ≡ site_of s before lane
+site_within s [] before lane k c j at is = subst (λ (n : ℕ). site_at s before lane n ≡ site_of s before lane) at (site_now s before lane)
+site_within s (e ∷ more) before lane k c j at is =
+    elim (eqb_tells (ended (e ∷ (more ++ before)) lane) k) [
+      | inl t ↦ subst (λ (n : ℕ). site_at s (e ∷ (more ++ before)) lane n ≡ site_of s (e ∷ (more ++ before)) lane) t.1 (site_now s (e ∷ (more ++ before)) lane)
+          ∙ site_stays s (e ∷ more) before lane c j (t.1 ∙ sym at) (subst (λ (n : ℕ). call_at s before lane n ≡ Some c) (sym at) is)
+      | inr t ↦ site_later s e (more ++ before) lane k (let grows : ended before lane ≤ ended ((e ∷ more) ++ before) lane = ended_grows (e ∷ more) before lane in let ne : ended (e ∷ (more ++ before)) lane ≢ k = t.1 in omega (arith, grows, ne, at))
+          ∙ site_within s more before lane k c j.1 at is
+    ]
+
 -- ---- the site after an end
 
 -- what an end left is what the lane holds until its next one
-site_since : (s : Setting) (more before : List Entry) (lane : ℕ) (o : Outcome) (site : Site) (c : Call) → IsJournal s (more ++ entry.Event (End lane (ended before lane) o) ∷ before) → last_cancel before ≡ None → move_of s before lane ≡ Some (Done o site)
-    → ended (more ++ entry.Event (End lane (ended before lane) o) ∷ before) lane ≡ ended before lane + 1 → call_at s before lane (ended before lane + 1) ≡ Some c → site_of s (more ++ entry.Event (End lane (ended before lane) o) ∷ before) lane ≡ site
-site_since s [] before lane o site c j calm moves at is = end_site s before lane o site calm moves
-site_since s (entry.Event (End l k p) ∷ more) before lane o site c j calm moves at is =
-    elim (eqb_tells l lane) [
-      | inl t ↦ absurd (let now : ended (more ++ entry.Event (End lane (ended before lane) o) ∷ before) lane + 1 ≡ ended before lane + 1 = rw t.0 at at in
-          let grows : ended (entry.Event (End lane (ended before lane) o) ∷ before) lane ≤ ended (more ++ entry.Event (End lane (ended before lane) o) ∷ before) lane = ended_grows more (entry.Event (End lane (ended before lane) o) ∷ before) lane in
-          let one : ended (entry.Event (End lane (ended before lane) o) ∷ before) lane ≡ ended before lane + 1 = ended_end before lane (ended before lane) o in omega (arith, now, grows, one))
-      | inr t ↦ rw t.0 (site_since s more before lane o site c j.1 calm moves (rw t.0 at at) is)
-    ]
-site_since s (entry.LetGo l ∷ more) before lane o site c j calm moves at is =
-    elim (eqb_tells l lane) [
-      | inl t ↦ absurd (gone (subst (λ (x : ℕ). current s (more ++ entry.Event (End lane (ended before lane) o) ∷ before) x ≡ None) t.1 may.1))
-      | inr t ↦ rw t.0 (site_since s more before lane o site c j.1 calm moves at is)
-    ]
-  where
-    may : MayCome s (more ++ entry.Event (End lane (ended before lane) o) ∷ before) (entry.LetGo l)
-    may = may_of s (more ++ entry.Event (End lane (ended before lane) o) ∷ before) (entry.LetGo l) j.0 (λ g m. cc (m.1.1)) (λ la e. cc e)
-
-    there : current s (more ++ entry.Event (End lane (ended before lane) o) ∷ before) lane ≡ Some c
-    there = ap (call_at s (more ++ entry.Event (End lane (ended before lane) o) ∷ before) lane) at ∙ call_stays s more (entry.Event (End lane (ended before lane) o) ∷ before) lane (ended before lane + 1) c is
-
-    gone : current s (more ++ entry.Event (End lane (ended before lane) o) ∷ before) lane ≡ None → ⊥
-    gone none = (let both : None ≡ Some c = sym none ∙ there in cc)
-site_since s (entry.Added l d ∷ more) before lane o site c j calm moves at is = site_since s more before lane o site c j.1 calm moves at is
-site_since s (_ ∷ more) before lane o site c j calm moves at is = site_since s more before lane o site c j.1 calm moves at is
-
--- the same where the end is one at its place, and the lane's next call hasn't ended
 pub site_left : (s : Setting) (past : List Entry) (lane k : ℕ) (o : Outcome) (c : Call) (t : EndsAt s past lane k o) → IsJournal s past → IsPlain past → ended past lane ≡ k + 1 → given_call s lane (k + 1) ≡ Some c → site_of s past lane ≡ t.site
 site_left s past lane k o c t j p at is =
     let end : Entry = entry.Event (End lane (ended t.before lane) o) in
     let whole : List Entry = t.more ++ end ∷ t.before in
-    let plain : IsPlain t.before = plain_before (end ∷ []) t.before (plain_before t.more (end ∷ t.before) (subst IsPlain (sym t.is) p)) in
-    let count : ended whole lane ≡ ended t.before lane + 1 = (let here = t.at in let all : ended whole lane ≡ k + 1 = ap (λ (l : List Entry). ended l lane) t.is ∙ at in omega (arith, here, all)) in
-    let next_is : call_at s t.before lane (ended t.before lane + 1) ≡ Some c = subst (λ (n : ℕ). call_at s t.before lane (n + 1) ≡ Some c) (sym t.at) (plain_call s t.before lane (k + 1) c plain is) in
-    ap (λ (l : List Entry). site_of s l lane) (sym t.is) ∙ site_since s t.more t.before lane o t.site c (subst (IsJournal s) (sym t.is) j) t.calm t.moves count next_is
+    let plain : IsPlain (end ∷ t.before) = plain_before t.more (end ∷ t.before) (subst IsPlain (sym t.is) p) in
+    let one : ended (end ∷ t.before) lane ≡ k + 1 = (let here = t.at in let step : ended (end ∷ t.before) lane ≡ ended t.before lane + 1 = ended_end t.before lane (ended t.before lane) o in omega (arith, here, step)) in
+    let count : ended whole lane ≡ ended (end ∷ t.before) lane = ap (λ (l : List Entry). ended l lane) t.is ∙ (at ∙ sym one) in
+    let next_is : call_at s (end ∷ t.before) lane (ended (end ∷ t.before) lane) ≡ Some c = subst (λ (n : ℕ). call_at s (end ∷ t.before) lane n ≡ Some c) (sym one) (plain_call s (end ∷ t.before) lane (k + 1) c plain is) in
+    ap (λ (l : List Entry). site_of s l lane) (sym t.is) ∙ (site_stays s t.more (end ∷ t.before) lane c (subst (IsJournal s) (sym t.is) j) count next_is ∙ end_site s t.before lane o t.site t.calm t.moves)
 
 -- ---- the call that ended there
 

@@ -1,14 +1,17 @@
--- A lane that opened a file anew, buffered it, wrote to it and flushed it leaves the bytes, in a run over a server of files in memory.
+-- A lane that opened a file anew, buffered it, wrote to it and flushed it leaves the bytes, in a run over a file machine.
 use Rattle.std.proofs.Common.{◌≡◌, ◌≢◌, ◌<◌, ◌≤◌, ◌+◌, ◌==◌, ℕ, true, false, List, [], ◌∷◌, ◌++◌, Option, Some, None, refl, ap, sym, ◌∙◌, subst, arith}
 use Rattle.std.specs.List.{list_all}
 use Rattle.std.proofs.lemmas.Bool.{and_parts, eq-eqb, eqb-true, ne_eqb, or_left}
 use Rattle.sftp_model.specs.Slots.{grant_of, has_grant, slot_at}
+use Rattle.sftp_model.specs.declared.config.Choice.{Choice}
+use Rattle.sftp_model.specs.declared.config.ServerConfig.{ServerConfig}
 use Rattle.sftp_model.specs.declared.outcome.Outcome.{Outcome}
 use Rattle.sftp_model.specs.declared.outcome.Outcome.TheVariants as outcome
 use Rattle.sftp_model.specs.declared.reply.Reply.TheVariants as reply
 use Rattle.sftp_model.specs.declared.request.Request.{Request}
 use Rattle.sftp_model.specs.declared.slot.Move.TheVariants.{Ask, Done}
 use Rattle.sftp_model.specs.declared.slot.Site.{Site}
+use Rattle.sftp_tree.specs.Changes.{IsWellFormed}
 use Rattle.sftp_tree.specs.Components.{Name, components}
 use Rattle.sftp_tree.specs.FileTree.{FileTree}
 use Rattle.sftp_file.specs.OpenOptions.{flags_of}
@@ -31,10 +34,10 @@ use Rattle.sftp_history.specs.Grants.{closed, holds, is_asked_by, is_one_of, is_
 use Rattle.sftp_history.specs.Journals.{IsJournal}
 use Rattle.sftp_history.specs.Readings.{Asked, answer, asked, asked_at, ended, is_by, own}
 use Rattle.sftp_history.specs.Runs.{IsRun}
+use Rattle.sftp_history.specs.Served.{Serves}
 use Rattle.sftp_history.proofs.CallLaws.{next_submit}
 use Rattle.sftp_history.proofs.CallsSoFar.{calls_so_far}
 use Rattle.sftp_history.proofs.OverLaws.{runs_are_journals}
-use Rattle.sftp_map_server.specs.Serving.{Server}
 use Rattle.sftp_read_back.specs.CallsAmong.{HasEnded}
 use Rattle.sftp_read_back.specs.GrantUses.{WritesBy}
 use Rattle.sftp_read_back.specs.InJournals.{IsOfLane, KeepsOff, PassesAt, is_of_call}
@@ -42,15 +45,13 @@ use Rattle.sftp_read_back.specs.Steps.{HasBytes, RefuseNone}
 use Rattle.sftp_read_back.proofs.AnewRuns.{LaneOpened, opened_left}
 use Rattle.sftp_read_back.proofs.BearingLaws.{asker_there, unclosed_held}
 use Rattle.sftp_read_back.proofs.JournalCalls.{answers_stay, own_stays}
+use Rattle.sftp_read_back.proofs.PlainRuns.{IsPlain, run_plain}
 use Rattle.sftp_read_back.proofs.UsedLaws.{closed_before, some_is}
-use Rattle.sftp_served.specs.Unopened.{IsServedRun, IsUnopened}
-use Rattle.sftp_served.proofs.Counting.{IsPlain, run_plain}
 use Rattle.sftp_round_trip.specs.RoundTrips.{outcome_at}
 use Rattle.sftp_round_trip.proofs.BufferedMoves.{buffered_asks}
 use Rattle.sftp_round_trip.proofs.CallEnds.{EndsAt, ends_at}
 use Rattle.sftp_round_trip.proofs.CallRequests.{IsAsked, MayWrite, Split, asked_grows, asked_own, avoids_plain, journal_before, may_hold, move_is, passes_so, split_at}
 use Rattle.sftp_round_trip.proofs.CallSites.{BufferedAt, answer_since, buffered_at, given_call, journal_at, outcome_at_end, outcome_before, own_since, plain_at, plain_before, plain_call, plan_done, site_left}
-use Rattle.sftp_round_trip.proofs.RoundTripLaws.{begins_well}
 
 -- A lane's call opens the name's file in a slot to be written anew, and the next three buffer it, write bytes to it and flush it. All ended well.
 pub record FlushedCalls (s : Setting) (past : List Entry) (name : Name) (lane k : ℕ) (bytes : List ℕ) : Type 0 where
@@ -89,6 +90,54 @@ ended_as s past lane n o c t j p is =
       refl,
     )
 
+-- A call writes bytes to a slot, and the next one flushes it. Both ended well.
+pub record WrittenThenFlushed (s : Setting) (past : List Entry) (lane n m slot : ℕ) (bytes : List ℕ) : Type 0 where
+  pub second : EndsAt s past lane m outcome.Done
+  pub first : EndsAt s second.before lane n outcome.Done
+  pub wrote : HasEnded (plan.BufWriteAll slot bytes) (site_of s first.before lane) s.facts (own past lane n) (answer past) outcome.Done
+  pub same : slot_at (site_of s second.before lane) slot ≡ slot_at wrote.left slot
+  pub flush : HasEnded (plan.BufFlush slot) (site_of s second.before lane) s.facts (own past lane m) (answer past) outcome.Done
+
+pub written_then_flushed : (s : Setting) (past : List Entry) (lane n m slot : ℕ) (bytes : List ℕ) → IsJournal s past → IsPlain past → m ≡ n + 1 → given_call s lane n ≡ Some (call.BufWriteAll slot bytes)
+    → given_call s lane m ≡ Some (call.BufFlush slot) → outcome_at past lane n ≡ Some outcome.Done → outcome_at past lane m ≡ Some outcome.Done → WrittenThenFlushed s past lane n m slot bytes
+written_then_flushed s past lane n m slot bytes j p next writes flushes written flushed =
+    record { second = second; first = first; wrote = wrote; same = same; flush = (ended_as s past lane m outcome.Done (call.BufFlush slot) second j p flushes).0 }
+  where
+    second : EndsAt s past lane m outcome.Done
+    second = ends_at s past lane m outcome.Done j (λ e. cc) flushed
+
+    j2 : IsJournal s second.before
+    j2 = journal_at s past lane m outcome.Done second j
+
+    p2 : IsPlain second.before
+    p2 = plain_at s past lane m outcome.Done second p
+
+    first : EndsAt s second.before lane n outcome.Done
+    first = ends_at s second.before lane n outcome.Done j2 (λ e. cc) (outcome_at_end s past lane m n outcome.Done outcome.Done second (omega (arith, next)) written)
+
+    wrote_so : (e : HasEnded (plan.BufWriteAll slot bytes) (site_of s first.before lane) s.facts (own second.before lane n) (answer second.before) outcome.Done) × (e.left ≡ first.site)
+    wrote_so = ended_as s second.before lane n outcome.Done (call.BufWriteAll slot bytes) first j2 p2 writes
+
+    own_same : own second.before lane n ≡ own past lane n
+    own_same = sym (own_since s past lane m n outcome.Done second j (omega (arith, next)))
+
+    wrote : HasEnded (plan.BufWriteAll slot bytes) (site_of s first.before lane) s.facts (own past lane n) (answer past) outcome.Done
+    wrote =
+        record {
+          by = wrote_so.0.by;
+          stay = λ place r x. answer_since s past lane m outcome.Done second j place r (wrote_so.0.stay place r x);
+          requests = wrote_so.0.requests;
+          are = wrote_so.0.are ∙ own_same;
+          so_far = wrote_so.0.so_far;
+          left = wrote_so.0.left;
+          ends = subst (λ (l : Own). plan.next (plan.BufWriteAll slot bytes) (site_of s first.before lane) s.facts l wrote_so.0.by ≡ Done outcome.Done wrote_so.0.left) own_same wrote_so.0.ends;
+        }
+
+    same : slot_at (site_of s second.before lane) slot ≡ slot_at wrote.left slot
+    same =
+        ap (λ (x : Site). slot_at x slot)
+        (site_left s second.before lane n outcome.Done (call.BufFlush slot) first j2 p2 (second.at ∙ next) (subst (λ (i : ℕ). given_call s lane i ≡ Some (call.BufFlush slot)) next flushes) ∙ sym wrote_so.1)
+
 -- ---- grants without a CLOSE
 
 closed_now : (s : Setting) (more before : List Entry) (by : Owner) (id : ℕ) (r : Request) → closed_before s (more ++ entry.Event (Submit by id r) ∷ before) (asked before) ≡ closed s before
@@ -100,13 +149,13 @@ closed_now s (_ ∷ more) before by id r = closed_now s more before by id r
 
 -- ---- the law
 
-pub flush_left : (s : Setting) (turns : List Turn) (past : List Entry) (first : Server) (left : FileTree) (name : Name) (lane k : ℕ) (bytes : List ℕ) → IsRun s turns past → IsUnopened first → IsServedRun first past left → RefuseNone first.desk.choices
+pub flush_left : (s : Setting) (turns : List Turn) (past : List Entry) (config : ServerConfig) (choices : List Choice) (tree left : FileTree) (name : Name) (lane k : ℕ) (bytes : List ℕ) → IsRun s turns past → IsWellFormed tree → Serves config choices tree past left → RefuseNone choices
     → list_all (may_hold name) (lane_calls s past lane) ≡ true → ((other : ℕ) → other ≢ lane → KeepsOff past name other) → ((n : ℕ) (c : Call) → k < n → n ≢ k + 2 → call_at s past lane n ≡ Some c → MayWrite name c → ⊥)
     → FlushedCalls s past name lane k bytes → HasBytes left name bytes
-flush_left s turns past first left name lane k bytes run unopened served none own_calls others spares f =
-    opened_left s first.desk.machine.config first.desk.choices first.desk.machine.tree left turns past name lane k (k + 2) f.slot ba.w (own past lane (k + 2)) (own past lane (k + 3)) ba.file ba.buffer bytes (site_of s t2.before lane)
-    (site_of s t3.before lane) s.facts s.facts run served.serves none (begins_well first unopened) opened (λ place a mine is. (at_write place a is mine).0) unclosed ba.there ba.start wrote flush_site
-    (ended_as s past lane (k + 3) outcome.Done (call.BufFlush f.slot) t3 j p f.flushes).0
+flush_left s turns past config choices tree left name lane k bytes run well served none own_calls others spares f =
+    opened_left s config choices tree left turns past name lane k (k + 2) f.slot ba.w (own past lane (k + 2)) (own past lane (k + 3)) ba.file ba.buffer bytes (site_of s t2.before lane)
+    (site_of s t3.before lane) s.facts s.facts run served none well opened (λ place a mine is. (at_write place a is mine).0) unclosed ba.there ba.start two.wrote two.same
+    two.flush
   where
     c2 : Call
     c2 = call.BufWriteAll f.slot bytes
@@ -117,8 +166,11 @@ flush_left s turns past first left name lane k bytes run unopened served none ow
     p : IsPlain past
     p = run_plain s turns past run
 
+    two : WrittenThenFlushed s past lane (k + 2) (k + 3) f.slot bytes
+    two = written_then_flushed s past lane (k + 2) (k + 3) f.slot bytes j p (omega arith) f.writes f.flushes f.written f.flushed
+
     t3 : EndsAt s past lane (k + 3) outcome.Done
-    t3 = ends_at s past lane (k + 3) outcome.Done j (λ e. cc) f.flushed
+    t3 = two.second
 
     j3 : IsJournal s t3.before
     j3 = journal_at s past lane (k + 3) outcome.Done t3 j
@@ -127,37 +179,13 @@ flush_left s turns past first left name lane k bytes run unopened served none ow
     p3 = plain_at s past lane (k + 3) outcome.Done t3 p
 
     t2 : EndsAt s t3.before lane (k + 2) outcome.Done
-    t2 = ends_at s t3.before lane (k + 2) outcome.Done j3 (λ e. cc) (outcome_at_end s past lane (k + 3) (k + 2) outcome.Done outcome.Done t3 (omega arith) f.written)
+    t2 = two.first
 
     ba : BufferedAt s t2.before lane k f.slot (flags_of f.options) f.path
     ba =
         buffered_at s t2.before lane k f.slot f.options f.path f.len c2 (journal_at s t3.before lane (k + 2) outcome.Done t2 j3) (plain_at s t3.before lane (k + 2) outcome.Done t2 p3) t2.at f.opens f.buffers f.writes
         (outcome_at_end s t3.before lane (k + 2) k outcome.Done outcome.Opened t2 (omega arith) (outcome_at_end s past lane (k + 3) k outcome.Done outcome.Opened t3 (omega arith) f.opened))
         (outcome_at_end s t3.before lane (k + 2) (k + 1) outcome.Done outcome.Done t2 (omega arith) (outcome_at_end s past lane (k + 3) (k + 1) outcome.Done outcome.Done t3 (omega arith) f.buffered))
-
-    wrote_so : (e : HasEnded (plan.BufWriteAll f.slot bytes) (site_of s t2.before lane) s.facts (own t3.before lane (k + 2)) (answer t3.before) outcome.Done) × (e.left ≡ t2.site)
-    wrote_so = ended_as s t3.before lane (k + 2) outcome.Done c2 t2 j3 p3 f.writes
-
-    own_same : own t3.before lane (k + 2) ≡ own past lane (k + 2)
-    own_same = sym (own_since s past lane (k + 3) (k + 2) outcome.Done t3 j (omega arith))
-
-    wrote : HasEnded (plan.BufWriteAll f.slot bytes) (site_of s t2.before lane) s.facts (own past lane (k + 2)) (answer past) outcome.Done
-    wrote =
-        record {
-          by = wrote_so.0.by;
-          stay = λ place r x. answer_since s past lane (k + 3) outcome.Done t3 j place r (wrote_so.0.stay place r x);
-          requests = wrote_so.0.requests;
-          are = wrote_so.0.are ∙ own_same;
-          so_far = wrote_so.0.so_far;
-          left = wrote_so.0.left;
-          ends = subst (λ (l : Own). plan.next (plan.BufWriteAll f.slot bytes) (site_of s t2.before lane) s.facts l wrote_so.0.by ≡ Done outcome.Done wrote_so.0.left) own_same wrote_so.0.ends;
-        }
-
-    flush_site : slot_at (site_of s t3.before lane) f.slot ≡ slot_at wrote.left f.slot
-    flush_site =
-        let three : k + 2 + 1 ≡ k + 3 = omega arith in
-        ap (λ (x : Site). slot_at x f.slot)
-        (site_left s t3.before lane (k + 2) outcome.Done (call.BufFlush f.slot) t2 j3 p3 (t3.at ∙ sym three) (subst (λ (n : ℕ). given_call s lane n ≡ Some (call.BufFlush f.slot)) (sym three) f.flushes) ∙ sym wrote_so.1)
 
     asked_open : own past lane k ≡ ba.w ∷ []
     asked_open = own_since s past lane (k + 3) k outcome.Done t3 j (omega arith) ∙ (own_since s t3.before lane (k + 2) k outcome.Done t2 j3 (omega arith) ∙ ba.opens)

@@ -9,3 +9,5 @@ pub mod CallSites
 pub mod RoundTripLaws
 pub mod FlushedLaws
 pub mod ReadsBackLaws
+pub mod ListsFlushes
+pub mod KeepsFilesLaws

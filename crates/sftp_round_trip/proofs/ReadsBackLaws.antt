@@ -6,12 +6,14 @@ use Rattle.std.proofs.lemmas.Bool.{cases_lt}
 use Rattle.std.proofs.lemmas.Bool.Decides.{eqb_tells}
 use Rattle.std.proofs.lemmas.List.{length-append}
 use Rattle.sftp_core.specs.declared.options.SftpOptions.{SftpOptions}
+use Rattle.sftp_model.specs.Lengths.{session_len}
+use Rattle.sftp_model.specs.declared.config.Choice.{Choice}
+use Rattle.sftp_model.specs.declared.config.ServerConfig.{ServerConfig}
 use Rattle.sftp_model.specs.declared.flags.Extensions.{Extensions}
 use Rattle.sftp_model.specs.declared.outcome.Outcome.{Outcome}
-use Rattle.sftp_model.specs.declared.reply.Reply.{Reply}
+use Rattle.sftp_tree.specs.Changes.{IsWellFormed}
 use Rattle.sftp_tree.specs.Components.{Name}
 use Rattle.sftp_tree.specs.FileTree.{FileTree}
-use Rattle.sftp_driver.specs.Session.{Given, IsFixed}
 use Rattle.sftp_history.specs.declared.call.Call.{Call}
 use Rattle.sftp_history.specs.declared.call.Call.TheVariants as call
 use Rattle.sftp_history.specs.declared.call.Lane.{Lane}
@@ -20,13 +22,12 @@ use Rattle.sftp_history.specs.declared.turn.Turn.{Turn}
 use Rattle.sftp_history.specs.Calls.{Setting, lane_calls}
 use Rattle.sftp_history.specs.Readings.{outcomes_below, outcomes_of}
 use Rattle.sftp_history.specs.Runs.{IsRun}
-use Rattle.sftp_history.specs.Settings.{greeting, setting_of}
-use Rattle.sftp_map_server.specs.Serving.{Server}
+use Rattle.sftp_history.specs.Served.{Serves}
+use Rattle.sftp_history.specs.Settings.{setting_of}
 use Rattle.sftp_read_back.specs.FilesLeft.{IsUntouched}
 use Rattle.sftp_read_back.specs.Steps.{RefuseNone}
+use Rattle.sftp_read_back.proofs.PlainRuns.{plain_calls, run_plain}
 use Rattle.sftp_read_back.proofs.UsedLaws.{some_is}
-use Rattle.sftp_served.specs.Unopened.{IsServedRun, IsUnopened}
-use Rattle.sftp_served.proofs.Counting.{plain_calls, run_plain}
 use Rattle.sftp_round_trip.specs.Flushes.{Flushes, IsAloneBut}
 use Rattle.sftp_round_trip.specs.LeavesFiles.{LeavesFiles}
 use Rattle.sftp_round_trip.specs.NameCalls.{keeps_off, may_own, none_writes, writes}
@@ -74,7 +75,7 @@ outcomes_are past (suc n) lane =
       | inr new ↦ inl (new.1 ∙ ap (outcomes_of past) (sym (lanes_counted past n) ∙ new.0))
     ]
 
-outcome_is : (past : List Entry) (n lane k : ℕ) (o : Outcome) → outcome_in (outcomes_below past n) lane k ≡ Some o → outcome_at past lane k ≡ Some o
+pub outcome_is : (past : List Entry) (n lane k : ℕ) (o : Outcome) → outcome_in (outcomes_below past n) lane k ≡ Some o → outcome_at past lane k ≡ Some o
 outcome_is past n lane k o e =
     elim (outcomes_are past n lane) [
       | inl own ↦ ap (λ (xs : List Outcome). slice_get xs k) (sym own) ∙ e
@@ -88,13 +89,13 @@ writes_none name (call.FsWrite path bytes) e names = told_apart path name e name
 writes_none name other e names = names
 
 -- the calls of lanes are those that were handed in
-abbrev AreHandedIn : List Lane → Setting → List Entry → Type 0
+abbrev pub AreHandedIn : List Lane → Setting → List Entry → Type 0
 AreHandedIn lanes s past = (lane : ℕ) → lane_calls s past lane ≡ calls_in lanes lane
 
-handed_in : (lanes : List Lane) (options : SftpOptions) (extensions : Extensions) (turns : List Turn) (past : List Entry) → IsRun (setting_of lanes options extensions past) turns past → AreHandedIn lanes (setting_of lanes options extensions past) past
+pub handed_in : (lanes : List Lane) (options : SftpOptions) (extensions : Extensions) (turns : List Turn) (past : List Entry) → IsRun (setting_of lanes options extensions past) turns past → AreHandedIn lanes (setting_of lanes options extensions past) past
 handed_in lanes options extensions turns past run lane = plain_calls (setting_of lanes options extensions past) past lane (run_plain (setting_of lanes options extensions past) turns past run)
 
-call_is : (lanes : List Lane) (s : Setting) (past : List Entry) (lane k : ℕ) (o : Option Call) → AreHandedIn lanes s past → slice_get (calls_in lanes lane) k ≡ o → slice_get (lane_calls s past lane) k ≡ o
+pub call_is : (lanes : List Lane) (s : Setting) (past : List Entry) (lane k : ℕ) (o : Option Call) → AreHandedIn lanes s past → slice_get (calls_in lanes lane) k ≡ o → slice_get (lane_calls s past lane) k ≡ o
 call_is lanes s past lane k o are e = ap (λ (calls : List Call). slice_get calls k) (are lane) ∙ e
 
 call_was : (lanes : List Lane) (s : Setting) (past : List Entry) (lane k : ℕ) (o : Option Call) → AreHandedIn lanes s past → slice_get (lane_calls s past lane) k ≡ o → slice_get (calls_in lanes lane) k ≡ o
@@ -202,46 +203,42 @@ others_write_none lanes outcomes name lane k bytes alone f n c above ne e = by_p
 
 -- ---- runs
 
-some_setting : (lanes : List Lane) (options : SftpOptions) (extensions : Extensions) (past : List Entry) → IsFixed (record { lanes = lanes; options = options }) (Some (greeting extensions)) past (setting_of lanes options extensions past)
-some_setting lanes options extensions past = (extensions, (refl, refl))
+some_len : (most : Option ℕ) (len : ℕ) → 1 ≤ session_len most len
+some_len None len = omega arith
+some_len (Some most) len = omega arith
 
 -- what a whole run gives of what was written
-pub run_reads_back : (lanes : List Lane) (options : SftpOptions) (extensions : Extensions) (turns : List Turn) (past : List Entry) (first : Server) (left : FileTree) → IsRun (setting_of lanes options extensions past) turns past
-    → IsUnopened first → IsServedRun first past left → ReadsBack lanes first (outcomes_below past (length lanes))
-run_reads_back lanes options extensions turns past first left run unopened served =
+pub run_reads_back : (lanes : List Lane) (options : SftpOptions) (extensions : Extensions) (turns : List Turn) (past : List Entry) (config : ServerConfig) (choices : List Choice) (tree left : FileTree) → IsRun (setting_of lanes options extensions past) turns past
+    → IsWellFormed tree → Serves config choices tree past left → ReadsBack lanes choices tree (outcomes_below past (length lanes))
+run_reads_back lanes options extensions turns past config choices tree left run well served =
     record {
-      written = λ name lane writer reader bytes ended none alone w r. laws.reads_back given version s turns past first left name lane writer reader bytes ended run fixed unopened served none (one_lanes lanes s turns past name lane are run alone)
+      written = λ name lane writer reader bytes ended none alone w r. laws.reads_back s turns past config choices tree left name lane writer reader bytes ended run reads_some well served none (one_lanes lanes s turns past name lane are run alone)
           (has_written lanes s past name lane writer reader bytes are w) (has_read lanes s past name lane reader ended are r);
-      there = λ name lane reader bytes ended none alone before has r. laws.reads_first given version s turns past first left name lane reader bytes ended run fixed unopened served none (one_lanes lanes s turns past name lane are run alone)
+      there = λ name lane reader bytes ended none alone before has r. laws.reads_first s turns past config choices tree left name lane reader bytes ended run reads_some well served none (one_lanes lanes s turns past name lane are run alone)
           (writes_before lanes s past name lane reader are before) has (has_read lanes s past name lane reader ended are r);
-      absent = λ name lane reader ended none alone before has r. laws.refused_first given version s turns past first left name lane reader ended run fixed unopened served none (one_lanes lanes s turns past name lane are run alone)
+      absent = λ name lane reader ended none alone before has r. laws.refused_first s turns past config choices tree left name lane reader ended run reads_some well served none (one_lanes lanes s turns past name lane are run alone)
           (writes_before lanes s past name lane reader are before) has (has_read lanes s past name lane reader ended are r);
     }
   where
     s : Setting
     s = setting_of lanes options extensions past
 
-    given : Given
-    given = record { lanes = lanes; options = options }
-
-    version : Option Reply
-    version = Some (greeting extensions)
-
-    fixed : IsFixed given version past s
-    fixed = some_setting lanes options extensions past
+    -- a session's READs ask for a byte or more
+    reads_some : 1 ≤ s.facts.read_len
+    reads_some = some_len options.max_read_len _
 
     are : AreHandedIn lanes s past
     are = handed_in lanes options extensions turns past run
 
 -- and what it leaves
-pub run_leaves_files : (lanes : List Lane) (options : SftpOptions) (extensions : Extensions) (turns : List Turn) (past : List Entry) (first : Server) (left : FileTree) → IsRun (setting_of lanes options extensions past) turns past
-    → IsUnopened first → IsServedRun first past left → LeavesFiles lanes first left (outcomes_below past (length lanes))
-run_leaves_files lanes options extensions turns past first left run unopened served =
+pub run_leaves_files : (lanes : List Lane) (options : SftpOptions) (extensions : Extensions) (turns : List Turn) (past : List Entry) (config : ServerConfig) (choices : List Choice) (tree left : FileTree) → IsRun (setting_of lanes options extensions past) turns past
+    → IsWellFormed tree → Serves config choices tree past left → LeavesFiles lanes choices tree left (outcomes_below past (length lanes))
+run_leaves_files lanes options extensions turns past config choices tree left run well served =
     record {
-      written = λ name lane writer bytes none alone w. laws.writes_left s turns past first left name lane writer bytes run unopened served none (one_lanes lanes s turns past name lane are run alone) (to_end name lane writer bytes w);
+      written = λ name lane writer bytes none alone w. laws.writes_left s turns past config choices tree left name lane writer bytes run well served none (one_lanes lanes s turns past name lane are run alone) (to_end name lane writer bytes w);
       there = λ name lane bytes none alone never has. (untouched name lane none alone never).bytes bytes has;
       as_begun = λ name lane none alone never. (untouched name lane none alone never).node;
-      flushed = λ name lane k bytes none alone f. flush_left s turns past first left name lane k bytes run unopened served none
+      flushed = λ name lane k bytes none alone f. flush_left s turns past config choices tree left name lane k bytes run well served none
           (subst (λ (calls : List Call). list_all (may_hold name) calls ≡ true) (sym (are lane)) (may_hold_all lanes (outcomes_below past (length lanes)) name lane k bytes alone f))
           (λ other ne. laws.lane_keeps_off s turns past name other run (subst (λ (calls : List Call). list_all (keeps_off name) calls ≡ true) (sym (are other)) (alone.others other ne)))
           (λ n c above ne is. others_write_none lanes (outcomes_below past (length lanes)) name lane k bytes alone f n c above ne (call_was lanes s past lane n (Some c) are is)) (flushed_calls name lane k bytes f);
@@ -260,9 +257,9 @@ run_leaves_files lanes options extensions turns past first left run unopened ser
     none_before name lane never k c below is names =
         writes_none name c (each_is (λ (c : Call). not (writes name c)) (calls_in lanes lane) k c never (call_was lanes s past lane k (Some c) are is)) names
 
-    untouched : (name : Name) (lane : ℕ) → RefuseNone first.desk.choices → IsAlone lanes name lane → none_writes name (calls_in lanes lane) ≡ true → IsUntouched first.desk.machine.tree left name
+    untouched : (name : Name) (lane : ℕ) → RefuseNone choices → IsAlone lanes name lane → none_writes name (calls_in lanes lane) ≡ true → IsUntouched tree left name
     untouched name lane none alone never =
-        laws.left_untouched s turns past first left name lane run unopened served none (one_lanes lanes s turns past name lane are run alone) (none_before name lane never)
+        laws.left_untouched s turns past config choices tree left name lane run well served none (one_lanes lanes s turns past name lane are run alone) (none_before name lane never)
 
     flushed_calls : (name : Name) (lane k : ℕ) (bytes : List ℕ) → Flushes lanes (outcomes_below past (length lanes)) name lane k bytes → FlushedCalls s past name lane k bytes
     flushed_calls name lane k bytes f =

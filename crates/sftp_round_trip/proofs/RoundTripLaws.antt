@@ -1,13 +1,13 @@
--- A lane that alone has to do with a name reads what it wrote, and what was there, in a run over a server of files in memory.
-use Rattle.std.proofs.Common.{◌≡◌, ◌<◌, ◌≤◌, ℕ, zero, suc, Bool, true, false, List, [], ◌∷◌, length, Option, Some, None, if◌then◌else◌, refl, ap, sym, ◌∙◌, subst, arith}
+-- A lane that alone has to do with a name reads what it wrote, and what was there, in a run over a file machine.
+use Rattle.std.proofs.Common.{◌≡◌, ◌<◌, ◌≤◌, ℕ, zero, suc, Bool, true, false, List, [], ◌∷◌, length, Option, Some, None, if◌then◌else◌, refl, ap, sym, ◌∙◌, arith}
 use Rattle.std.specs.Prelude.{slice_get}
 use Rattle.std.specs.List.{list_all}
-use Rattle.sftp_model.specs.Lengths.{session_len}
+use Rattle.sftp_model.specs.declared.config.Choice.{Choice}
+use Rattle.sftp_model.specs.declared.config.ServerConfig.{ServerConfig}
 use Rattle.sftp_model.specs.declared.error.Error.TheVariants as error
 use Rattle.sftp_model.specs.declared.error.IoKind.TheVariants as kind
 use Rattle.sftp_model.specs.declared.outcome.Outcome.{Outcome}
 use Rattle.sftp_model.specs.declared.outcome.Outcome.TheVariants as outcome
-use Rattle.sftp_model.specs.declared.reply.Reply.{Reply}
 use Rattle.sftp_model.specs.declared.request.Request.{Request}
 use Rattle.sftp_model.specs.declared.slot.Move.{Move}
 use Rattle.sftp_model.specs.declared.slot.Move.TheVariants.{Ask, Done}
@@ -15,14 +15,12 @@ use Rattle.sftp_model.specs.declared.slot.Site.{Site}
 use Rattle.sftp_tree.specs.Changes.{IsWellFormed}
 use Rattle.sftp_tree.specs.Components.{Name, components}
 use Rattle.sftp_tree.specs.FileTree.{FileTree, node_at}
-use Rattle.sftp_tree.proofs.FirstFiles.{first_well_formed}
 use Rattle.sftp_calls.specs.CallPlans as plan
 use Rattle.sftp_calls.specs.FilePlans.{open_request}
 use Rattle.sftp_calls.specs.Moves.{Own, ask_path, is_too_long, refuses}
 use Rattle.sftp_calls.specs.PathPlans.{from_directory}
 use Rattle.sftp_calls.specs.WholePlans.{to_replace}
 use Rattle.sftp_calls.specs.WindowPlans.{to_read}
-use Rattle.sftp_driver.specs.Session.{Given, IsFixed}
 use Rattle.sftp_history.specs.declared.call.Call.{Call}
 use Rattle.sftp_history.specs.declared.call.Call.TheVariants as call
 use Rattle.sftp_history.specs.declared.entry.Entry.{Entry}
@@ -31,8 +29,8 @@ use Rattle.sftp_history.specs.Calls.{Setting, call_at, lane_calls, site_of}
 use Rattle.sftp_history.specs.Journals.{IsJournal}
 use Rattle.sftp_history.specs.Readings.{Asked, answer, asked_at, own}
 use Rattle.sftp_history.specs.Runs.{IsRun}
+use Rattle.sftp_history.specs.Served.{Serves}
 use Rattle.sftp_history.proofs.OverLaws.{runs_are_journals}
-use Rattle.sftp_map_server.specs.Serving.{Server}
 use Rattle.sftp_read_back.specs.CallsAmong.{Gives, HasEnded, HasNoFile, refusal_of}
 use Rattle.sftp_read_back.specs.FilesLeft.{IsUntouched, LaneLast}
 use Rattle.sftp_read_back.specs.InJournals.{IsOfLane, KeepsOff, LaneFirst, LaneInTurn, PassesAt, is_of_call}
@@ -40,25 +38,11 @@ use Rattle.sftp_read_back.specs.Steps.{HasBytes, RefuseNone}
 use Rattle.sftp_read_back.proofs.LeftLaws.{never_left, write_left}
 use Rattle.sftp_read_back.proofs.MoveWords.{is_all_done, is_done, outcome_of}
 use Rattle.sftp_read_back.proofs.RunBackLaws.{run_back, run_reads, run_refused}
-use Rattle.sftp_served.specs.Unopened.{IsServedRun, IsUnopened}
 use Rattle.sftp_round_trip.specs.NameCalls.{keeps_off, may_own}
 use Rattle.sftp_round_trip.specs.RoundTrips.{HasRead, HasWritten, IsOneLanes, NoneWrites, WritesWhole, passes_length}
 use Rattle.sftp_round_trip.proofs.CallEnds.{EndedByPlan, call_ended}
 use Rattle.sftp_round_trip.proofs.CallRequests.{IsAsked, asked_own, avoids_plain, may_hold, off_asked, own_held, own_writes, passes_so}
 use Rattle.sftp_round_trip.proofs.LaneCalls.{all_more, all_own_still, each_is, plain_path}
-
--- ---- the setting and the server
-
-some_len : (most : Option ℕ) (len : ℕ) → 1 ≤ session_len most len
-some_len None len = omega arith
-some_len (Some most) len = omega arith
-
--- a session's READs ask for a byte or more
-reads_some : (given : Given) (version : Option Reply) (s : Setting) (past : List Entry) → IsFixed given version past s → 1 ≤ s.facts.read_len
-reads_some given version s past f = subst (λ (x : Setting). 1 ≤ x.facts.read_len) (sym f.1.1) (some_len given.options.max_read_len _)
-
-pub begins_well : (first : Server) → IsUnopened first → IsWellFormed first.desk.machine.tree
-begins_well first u = subst (λ (x : Server). IsWellFormed x.desk.machine.tree) (sym u.is) (first_well_formed u.files u.dirs u.may)
 
 -- ---- a call that made no request
 
@@ -143,10 +127,10 @@ call_passes s past name lane k place j one mine spares = by_asked (asked_at past
 
 -- ---- the laws
 
-pub reads_back : (given : Given) (version : Option Reply) (s : Setting) (turns : List Turn) (past : List Entry) (first : Server) (left : FileTree) (name : Name) (lane writer reader : ℕ) (bytes : List ℕ) (ended : Outcome)
-    → IsRun s turns past → IsFixed given version past s → IsUnopened first → IsServedRun first past left → RefuseNone first.desk.choices → IsOneLanes s past name lane
+pub reads_back : (s : Setting) (turns : List Turn) (past : List Entry) (config : ServerConfig) (choices : List Choice) (tree left : FileTree) (name : Name) (lane writer reader : ℕ) (bytes : List ℕ) (ended : Outcome)
+    → IsRun s turns past → 1 ≤ s.facts.read_len → IsWellFormed tree → Serves config choices tree past left → RefuseNone choices → IsOneLanes s past name lane
     → HasWritten s past name lane writer reader bytes → HasRead s past name lane reader ended → Gives ended bytes
-reads_back given version s turns past first left name lane writer reader bytes ended run fixed unopened served none one w r =
+reads_back s turns past config choices tree left name lane writer reader bytes ended run some well served none one w r =
     let j : IsJournal s past = runs_are_journals s turns past run in
     let wrote = write_did s past name lane writer reader bytes j one w in
     let read = read_did s past name lane reader ended j one r in
@@ -159,8 +143,7 @@ reads_back given version s turns past first left name lane writer reader bytes e
       between = λ place k above below mine. call_passes s past name lane k place j one mine (λ c is. w.last k c above below is);
     }
     in
-    run_back s first.desk.machine.config first.desk.choices first.desk.machine.tree left turns past name lane writer reader wrote.first read.first wrote.later read.later w.path r.path bytes r.bound wrote.site read.site s.facts s.facts ended run served.serves none
-    (begins_well first unopened) in_turn wrote.denotes wrote.did read.denotes (reads_some given version s past fixed) read.did
+    run_back s config choices tree left turns past name lane writer reader wrote.first read.first wrote.later read.later w.path r.path bytes r.bound wrote.site read.site s.facts s.facts ended run served none well in_turn wrote.denotes wrote.did read.denotes some read.did
 
 lane_reads_first : (s : Setting) (past : List Entry) (name : Name) (lane reader : ℕ) (ended : Outcome) (j : IsJournal s past) (one : IsOneLanes s past name lane) (r : HasRead s past name lane reader ended) → NoneWrites s past name lane reader
     → (d : Did (plan.FsRead r.path r.bound) s past name lane reader r.path ended) → LaneFirst s past name lane reader d.first d.later
@@ -171,23 +154,23 @@ lane_reads_first s past name lane reader ended j one r before d =
       earlier = λ place k below mine. call_passes s past name lane k place j one mine (λ c is. before k c below is);
     }
 
-pub reads_first : (given : Given) (version : Option Reply) (s : Setting) (turns : List Turn) (past : List Entry) (first : Server) (left : FileTree) (name : Name) (lane reader : ℕ) (bytes : List ℕ) (ended : Outcome)
-    → IsRun s turns past → IsFixed given version past s → IsUnopened first → IsServedRun first past left → RefuseNone first.desk.choices → IsOneLanes s past name lane → NoneWrites s past name lane reader
-    → HasBytes first.desk.machine.tree name bytes → HasRead s past name lane reader ended → Gives ended bytes
-reads_first given version s turns past first left name lane reader bytes ended run fixed unopened served none one before has r =
+pub reads_first : (s : Setting) (turns : List Turn) (past : List Entry) (config : ServerConfig) (choices : List Choice) (tree left : FileTree) (name : Name) (lane reader : ℕ) (bytes : List ℕ) (ended : Outcome)
+    → IsRun s turns past → 1 ≤ s.facts.read_len → IsWellFormed tree → Serves config choices tree past left → RefuseNone choices → IsOneLanes s past name lane → NoneWrites s past name lane reader
+    → HasBytes tree name bytes → HasRead s past name lane reader ended → Gives ended bytes
+reads_first s turns past config choices tree left name lane reader bytes ended run some well served none one before has r =
     let j : IsJournal s past = runs_are_journals s turns past run in
     let read = read_did s past name lane reader ended j one r in
-    run_reads s first.desk.machine.config first.desk.choices first.desk.machine.tree left turns past name lane reader read.first read.later r.path bytes r.bound read.site s.facts ended run served.serves none (begins_well first unopened) has
-    (lane_reads_first s past name lane reader ended j one r before read) read.denotes (reads_some given version s past fixed) read.did
+    run_reads s config choices tree left turns past name lane reader read.first read.later r.path bytes r.bound read.site s.facts ended run served none well has
+    (lane_reads_first s past name lane reader ended j one r before read) read.denotes some read.did
 
-pub refused_first : (given : Given) (version : Option Reply) (s : Setting) (turns : List Turn) (past : List Entry) (first : Server) (left : FileTree) (name : Name) (lane reader : ℕ) (ended : Outcome)
-    → IsRun s turns past → IsFixed given version past s → IsUnopened first → IsServedRun first past left → RefuseNone first.desk.choices → IsOneLanes s past name lane → NoneWrites s past name lane reader
-    → HasNoFile (node_at first.desk.machine.tree name) → HasRead s past name lane reader ended → ended ≡ outcome.Refused (error.SftpError (refusal_of (node_at first.desk.machine.tree name)) [] [])
-refused_first given version s turns past first left name lane reader ended run fixed unopened served none one before has r =
+pub refused_first : (s : Setting) (turns : List Turn) (past : List Entry) (config : ServerConfig) (choices : List Choice) (tree left : FileTree) (name : Name) (lane reader : ℕ) (ended : Outcome)
+    → IsRun s turns past → 1 ≤ s.facts.read_len → IsWellFormed tree → Serves config choices tree past left → RefuseNone choices → IsOneLanes s past name lane → NoneWrites s past name lane reader
+    → HasNoFile (node_at tree name) → HasRead s past name lane reader ended → ended ≡ outcome.Refused (error.SftpError (refusal_of (node_at tree name)) [] [])
+refused_first s turns past config choices tree left name lane reader ended run some well served none one before has r =
     let j : IsJournal s past = runs_are_journals s turns past run in
     let read = read_did s past name lane reader ended j one r in
-    run_refused s first.desk.machine.config first.desk.choices first.desk.machine.tree left turns past name lane reader read.first read.later r.path r.bound read.site s.facts ended run served.serves none (begins_well first unopened) has
-    (lane_reads_first s past name lane reader ended j one r before read) read.denotes (reads_some given version s past fixed) read.did
+    run_refused s config choices tree left turns past name lane reader read.first read.later r.path r.bound read.site s.facts ended run served none well has
+    (lane_reads_first s past name lane reader ended j one r before read) read.denotes some read.did
 
 -- ---- what is left
 
@@ -197,10 +180,10 @@ got_below (y ∷ xs) zero x e = omega arith
 got_below (y ∷ xs) (suc k) x e = (let below = got_below xs k x e in omega (arith, below))
 
 -- the bytes of the lane's last write are left
-pub writes_left : (s : Setting) (turns : List Turn) (past : List Entry) (first : Server) (left : FileTree) (name : Name) (lane writer : ℕ) (bytes : List ℕ)
-    → IsRun s turns past → IsUnopened first → IsServedRun first past left → RefuseNone first.desk.choices → IsOneLanes s past name lane
+pub writes_left : (s : Setting) (turns : List Turn) (past : List Entry) (config : ServerConfig) (choices : List Choice) (tree left : FileTree) (name : Name) (lane writer : ℕ) (bytes : List ℕ)
+    → IsRun s turns past → IsWellFormed tree → Serves config choices tree past left → RefuseNone choices → IsOneLanes s past name lane
     → HasWritten s past name lane writer (length (lane_calls s past lane)) bytes → HasBytes left name bytes
-writes_left s turns past first left name lane writer bytes run unopened served none one w =
+writes_left s turns past config choices tree left name lane writer bytes run well served none one w =
     let j : IsJournal s past = runs_are_journals s turns past run in
     let wrote = write_did s past name lane writer (length (lane_calls s past lane)) bytes j one w in
     let last : LaneLast s past name lane writer wrote.first wrote.later =
@@ -210,13 +193,13 @@ writes_left s turns past first left name lane writer bytes run unopened served n
       later = λ place k above mine. call_passes s past name lane k place j one mine (λ c is. w.last k c above (got_below (lane_calls s past lane) k c is) is);
     }
     in
-    write_left s first.desk.machine.config first.desk.choices first.desk.machine.tree left turns past name lane writer wrote.first wrote.later w.path bytes wrote.site s.facts run served.serves none (begins_well first unopened) last wrote.denotes wrote.did
+    write_left s config choices tree left turns past name lane writer wrote.first wrote.later w.path bytes wrote.site s.facts run served none well last wrote.denotes wrote.did
 
 -- and where it wrote none, what was there
-pub left_untouched : (s : Setting) (turns : List Turn) (past : List Entry) (first : Server) (left : FileTree) (name : Name) (lane : ℕ)
-    → IsRun s turns past → IsUnopened first → IsServedRun first past left → RefuseNone first.desk.choices → IsOneLanes s past name lane → NoneWrites s past name lane (length (lane_calls s past lane))
-    → IsUntouched first.desk.machine.tree left name
-left_untouched s turns past first left name lane run unopened served none one before =
+pub left_untouched : (s : Setting) (turns : List Turn) (past : List Entry) (config : ServerConfig) (choices : List Choice) (tree left : FileTree) (name : Name) (lane : ℕ)
+    → IsRun s turns past → IsWellFormed tree → Serves config choices tree past left → RefuseNone choices → IsOneLanes s past name lane → NoneWrites s past name lane (length (lane_calls s past lane))
+    → IsUntouched tree left name
+left_untouched s turns past config choices tree left name lane run well served none one before =
     let j : IsJournal s past = runs_are_journals s turns past run in
-    never_left s first.desk.machine.config first.desk.choices first.desk.machine.tree left turns past name lane run served.serves none (begins_well first unopened)
+    never_left s config choices tree left turns past name lane run served none well
     (record { lanes = of_lane s past name lane j one; passes = λ place k mine. call_passes s past name lane k place j one mine (λ c is. before k c (got_below (lane_calls s past lane) k c is) is) })

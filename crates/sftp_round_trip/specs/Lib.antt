@@ -3,5 +3,9 @@ pub mod RoundTrips
 pub mod ReadsBack
 pub mod Flushes
 pub mod LeavesFiles
+pub mod ListsDirectories
+pub mod FlushesWrites
+pub mod KeepsFiles
 pub mod RoundTripRows
 pub mod ReadsBackRows
+pub mod FlushedRows

@@ -1,16 +1,16 @@
 -- What was written is read back: of the lanes that were handed in, and the outcomes that are reported of their calls.
 use Rattle.std.specs.Prelude.{◌≡◌, ◌≢◌, ◌<◌, ℕ, suc, true, false, List, [], take, drop, Option, Some, slice_get, slice_index_or}
 use Rattle.std.specs.List.{list_all}
+use Rattle.sftp_model.specs.declared.config.Choice.{Choice}
 use Rattle.sftp_model.specs.declared.error.Error.TheVariants as error
 use Rattle.sftp_model.specs.declared.outcome.Outcome.{Outcome}
 use Rattle.sftp_model.specs.declared.outcome.Outcome.TheVariants as outcome
 use Rattle.sftp_tree.specs.Components.{Name, components}
-use Rattle.sftp_tree.specs.FileTree.{node_at}
+use Rattle.sftp_tree.specs.FileTree.{FileTree, node_at}
 use Rattle.sftp_history.specs.declared.call.Call.{Call}
 use Rattle.sftp_history.specs.declared.call.Call.TheVariants as call
 use Rattle.sftp_history.specs.declared.call.Lane.{Lane}
 use Rattle.sftp_history.specs.Calls.{calls_of}
-use Rattle.sftp_map_server.specs.Serving.{Server}
 use Rattle.sftp_read_back.specs.CallsAmong.{Gives, HasNoFile, refusal_of}
 use Rattle.sftp_read_back.specs.Steps.{HasBytes, RefuseNone}
 use Rattle.sftp_round_trip.specs.NameCalls.{keeps_off, may_own, none_writes}
@@ -59,14 +59,14 @@ pub record WritesLast (lanes : List Lane) (outcomes : List (List Outcome)) (name
 
 -- ---- a whole run
 
--- What a whole run over a server gives whose choices refuse no request, by the outcomes of its lanes. Where a name is one lane's
--- alone, a call of the lane that reads its file as a whole gives the bytes that the lane wrote last before it; and where the
--- lane wrote none before, what the server began with: the bytes of the file, or the refusal where there was none.
-pub record ReadsBack (lanes : List Lane) (first : Server) (outcomes : List (List Outcome)) : Type 0 where
-  pub written : (name : Name) (lane writer reader : ℕ) (bytes : List ℕ) (ended : Outcome) → RefuseNone first.desk.choices → IsAlone lanes name lane
+-- What a whole run over a file machine gives whose choices refuse no request, by the outcomes of its lanes. Where a name is one
+-- lane's alone, a call of the lane that reads its file as a whole gives the bytes that the lane wrote last before it; and where
+-- the lane wrote none before, what the machine had at first: the bytes of the file, or the refusal where there was none.
+pub record ReadsBack (lanes : List Lane) (choices : List Choice) (tree : FileTree) (outcomes : List (List Outcome)) : Type 0 where
+  pub written : (name : Name) (lane writer reader : ℕ) (bytes : List ℕ) (ended : Outcome) → RefuseNone choices → IsAlone lanes name lane
       → WritesLast lanes outcomes name lane writer reader bytes → Reads lanes outcomes name lane reader ended → Gives ended bytes
-  pub there : (name : Name) (lane reader : ℕ) (bytes : List ℕ) (ended : Outcome) → RefuseNone first.desk.choices → IsAlone lanes name lane
-      → none_writes name (take reader (calls_in lanes lane)) ≡ true → HasBytes first.desk.machine.tree name bytes → Reads lanes outcomes name lane reader ended → Gives ended bytes
-  pub absent : (name : Name) (lane reader : ℕ) (ended : Outcome) → RefuseNone first.desk.choices → IsAlone lanes name lane
-      → none_writes name (take reader (calls_in lanes lane)) ≡ true → HasNoFile (node_at first.desk.machine.tree name) → Reads lanes outcomes name lane reader ended
-      → ended ≡ outcome.Refused (error.SftpError (refusal_of (node_at first.desk.machine.tree name)) [] [])
+  pub there : (name : Name) (lane reader : ℕ) (bytes : List ℕ) (ended : Outcome) → RefuseNone choices → IsAlone lanes name lane
+      → none_writes name (take reader (calls_in lanes lane)) ≡ true → HasBytes tree name bytes → Reads lanes outcomes name lane reader ended → Gives ended bytes
+  pub absent : (name : Name) (lane reader : ℕ) (ended : Outcome) → RefuseNone choices → IsAlone lanes name lane
+      → none_writes name (take reader (calls_in lanes lane)) ≡ true → HasNoFile (node_at tree name) → Reads lanes outcomes name lane reader ended
+      → ended ≡ outcome.Refused (error.SftpError (refusal_of (node_at tree name)) [] [])

@@ -18,7 +18,7 @@ use Rattle.sftp_read_back.specs.Steps.{HasBytes, RefuseNone}
 use Rattle.sftp_round_trip.specs.Flushes.{Flushes, IsAloneBut}
 use Rattle.sftp_round_trip.specs.NameCalls.{keeps_off}
 use Rattle.sftp_round_trip.specs.ReadsBack.{IsAlone, Reads, WritesLast, calls_in}
-use Rattle.sftp_round_trip.specs.RoundTripRows.{empty_server, left_there, no_such_file, writes_then_reads, written_then_read}
+use Rattle.sftp_round_trip.specs.RoundTripRows.{left_there, no_such_file, writes_then_reads, written_then_read}
 
 -- ---- the run in which a lane writes a and reads it, and another one reads b
 
@@ -32,7 +32,7 @@ outcomes = (outcome.Done ∷ outcome.Bytes (codes "hi") ∷ []) ∷ (no_such_fil
 pub reported : outcomes_below written_then_read (length lanes) ≡ outcomes
 reported = refl
 
-pub none_refused : RefuseNone empty_server.desk.choices
+pub none_refused : RefuseNone []
 none_refused = tt
 
 pub alone : IsAlone lanes name 0

@@ -4,7 +4,6 @@ use Rattle.std.proofs.Common.{sym, arith, inl, inr, subst}
 use Rattle.std.proofs.lemmas.Bool.{and_parts, eqb-true}
 use Rattle.std.specs.List.{list_all}
 use Rattle.ssh_encoding.specs.Writing.{string, uint32}
-use Rattle.sftp_core.specs.Options.{default_options}
 use Rattle.sftp_model.specs.Frames.{attributes, request_body}
 use Rattle.sftp_model.specs.declared.error.Error.TheVariants as error
 use Rattle.sftp_model.specs.declared.outcome.Outcome.{Outcome}
@@ -18,25 +17,21 @@ use Rattle.sftp_tree.specs.RowWords.{config}
 use Rattle.sftp_tree.specs.declared.node.Node.TheVariants as node
 use Rattle.sftp_calls.specs.FilePlans.{open_request}
 use Rattle.sftp_calls.specs.WholePlans.{to_replace}
-use Rattle.sftp_driver.specs.Session.{Given, IsFixed}
 use Rattle.sftp_history.specs.declared.call.Call.TheVariants as call
 use Rattle.sftp_history.specs.declared.entry.Entry.{Entry}
 use Rattle.sftp_history.specs.declared.entry.Entry.TheVariants as entry
 use Rattle.sftp_history.specs.declared.event.Owner.TheVariants as owner
 use Rattle.sftp_history.specs.Calls.{Setting, lane_calls}
-use Rattle.sftp_history.specs.Readings.{Asked, answer, asked_at}
+use Rattle.sftp_history.specs.Readings.{Asked, asked_at}
 use Rattle.sftp_history.specs.RowWords.{close, end, ok, open_of, refusal, send, setting_with, submit, take}
 use Rattle.sftp_history.specs.Runs.{IsRun, TurnsTo, round_of}
-use Rattle.sftp_history.specs.Served.{IsNumbered}
-use Rattle.sftp_history.specs.Settings.{greeting}
+use Rattle.sftp_history.specs.Served.{Serves}
 use Rattle.sftp_history.specs.Turns.{Stage, begun_but, begun_with, none_begun}
-use Rattle.sftp_history.proofs.RequestLaws.{answer_beyond, asked_beyond}
-use Rattle.sftp_map_server.specs.Serving.{Server, first_desk, opened}
+use Rattle.sftp_history.proofs.RequestLaws.{asked_beyond}
 use Rattle.sftp_read_back.specs.CallsAmong.{HasNoFile}
 use Rattle.sftp_read_back.specs.InJournals.{KeepsOff, is_open_of}
-use Rattle.sftp_read_back.specs.ReadBackRows.{apart, name}
+use Rattle.sftp_read_back.specs.ReadBackRows.{apart, empty, name}
 use Rattle.sftp_read_back.specs.Sparing.{Avoids}
-use Rattle.sftp_served.specs.Unopened.{IsServedRun, IsUnopened}
 use Rattle.sftp_round_trip.specs.NameCalls.{keeps_off}
 use Rattle.sftp_round_trip.specs.RoundTrips.{HasRead, HasWritten, IsOneLanes, NoneWrites}
 
@@ -45,9 +40,6 @@ use Rattle.sftp_round_trip.specs.RoundTrips.{HasRead, HasWritten, IsOneLanes, No
 -- a lane writes a and reads it, and another one reads b
 abbrev pub writes_then_reads : Setting
 writes_then_reads = setting_with ((call.FsWrite (codes "a") (codes "hi") ∷ call.FsRead (codes "a") 4 ∷ []) ∷ (call.FsRead (codes "b") 4 ∷ []) ∷ [])
-
-abbrev pub given : Given
-given = record { lanes = writes_then_reads.lanes; options = default_options }
 
 -- the handles of the first two grants
 abbrev first_handle : List ℕ
@@ -174,74 +166,46 @@ is_run = (
   ),
 )
 
--- the server offers no extensions
-pub is_fixed : IsFixed given (Some (greeting (record { 0 = 0 }))) written_then_read writes_then_reads
-is_fixed = (record { 0 = 0 }, (refl, refl))
-
--- ---- the server
-
--- a server without files and directories
-abbrev pub empty_server : Server
-empty_server = opened (first_desk [] [] (config 0) []) []
-
-pub is_unopened : IsUnopened empty_server
-is_unopened = record { files = []; dirs = []; may = refl; is = refl; fits = record { known = omega arith; limits = tt; codes = λ k d below. absurd (omega (arith, below)) } }
+-- ---- the files
 
 abbrev pub left_there : FileTree
 left_there = record { names = (codes "a" ∷ [], node.File 0) ∷ []; files = codes "hi" ∷ []; handles = [] }
 
-numbered : IsNumbered written_then_read
-unfolding uint32
-numbered zero handle e = (let same : first_handle ≡ handle = cc in sym same)
-numbered (suc zero) handle e = absurd cc
-numbered (suc (suc zero)) handle e = absurd cc
-numbered (suc (suc (suc zero))) handle e = (let same : second_handle ≡ handle = cc in sym same)
-numbered (suc (suc (suc (suc zero)))) handle e = absurd cc
-numbered (suc (suc (suc (suc (suc zero))))) handle e = absurd cc
-numbered (suc (suc (suc (suc (suc (suc zero)))))) handle e = absurd cc
-numbered (suc (suc (suc (suc (suc (suc (suc zero))))))) handle e = absurd cc
-numbered (suc (suc (suc (suc (suc (suc (suc (suc place)))))))) handle e =
-    absurd (let none : answer written_then_read (suc (suc (suc (suc (suc (suc (suc (suc place)))))))) ≡ None = answer_beyond written_then_read (suc (suc (suc (suc (suc (suc (suc (suc place)))))))) (omega arith) in cc)
-
-pub is_served : IsServedRun empty_server written_then_read left_there
+-- a machine that had no files and directories
+pub is_served : Serves (config 0) [] empty written_then_read left_there
 unfolding components
-is_served =
-    record {
-      serves = (
+is_served = (
+  (
+    first_handle,
+    (
+      (omega arith, refl),
+      refl,
+      (
+        second_handle,
         (
-          first_handle,
+          (omega arith, refl),
+          refl,
           (
-            (omega arith, refl),
-            refl,
+            second_handle,
             (
-              second_handle,
+              (omega arith, refl),
+              refl,
               (
-                (omega arith, refl),
-                refl,
+                second_handle,
                 (
-                  second_handle,
-                  (
-                    (omega arith, refl),
-                    refl,
-                    (
-                      second_handle,
-                      (
-                        (omega arith, refl),
-                        refl,
-                        (first_handle, ((omega arith, refl), refl, (first_handle, ((omega arith, refl), refl, (first_handle, ((omega arith, refl), refl, (first_handle, ((omega arith, refl), refl, refl)))))))),
-                      ),
-                    ),
-                  ),
+                  (omega arith, refl),
+                  refl,
+                  (first_handle, ((omega arith, refl), refl, (first_handle, ((omega arith, refl), refl, (first_handle, ((omega arith, refl), refl, (first_handle, ((omega arith, refl), refl, refl)))))))),
                 ),
               ),
             ),
           ),
         ),
-        tt,
-      );
-      by_picks = (refl, (refl, (refl, (refl, (refl, (refl, (refl, (refl, tt))))))));
-      numbered = numbered;
-    }
+      ),
+    ),
+  ),
+  tt,
+)
 
 -- ---- the lane
 
@@ -290,9 +254,6 @@ has_read = record { path = codes "a"; bound = 4; is = refl; denotes = refl; shor
 abbrev pub reads_alone : Setting
 reads_alone = setting_with ((call.FsRead (codes "a") 4 ∷ []) ∷ [])
 
-abbrev pub given_reads : Given
-given_reads = record { lanes = reads_alone.lanes; options = default_options }
-
 -- The OPEN is refused.
 abbrev pub nothing_read : List Entry
 nothing_read =
@@ -334,16 +295,9 @@ nothing_is_run = (
   ),
 )
 
-pub nothing_is_fixed : IsFixed given_reads (Some (greeting (record { 0 = 0 }))) nothing_read reads_alone
-nothing_is_fixed = (record { 0 = 0 }, (refl, refl))
-
-nothing_numbered : IsNumbered nothing_read
-nothing_numbered zero handle e = absurd cc
-nothing_numbered (suc place) handle e = absurd (let none : answer nothing_read (suc place) ≡ None = answer_beyond nothing_read (suc place) (omega arith) in cc)
-
-pub nothing_is_served : IsServedRun empty_server nothing_read empty_server.desk.machine.tree
+pub nothing_is_served : Serves (config 0) [] empty nothing_read empty
 unfolding components
-nothing_is_served = record { serves = ((first_handle, ((omega arith, refl), refl, refl)), tt); by_picks = (refl, tt); numbered = nothing_numbered }
+nothing_is_served = ((first_handle, ((omega arith, refl), refl, refl)), tt)
 
 others_keep_off_nothing : (other : ℕ) → other ≢ 0 → KeepsOff nothing_read name other
 others_keep_off_nothing other ne zero k a is mine = absurd (ne (sym (eqb-true 0 other (and_parts (0 == other) (0 == k) mine).0)))
@@ -356,7 +310,7 @@ nothing_is_one_lanes = record { own = refl; others = others_keep_off_nothing }
 pub none_writes : NoneWrites reads_alone nothing_read name 0 0
 none_writes k c below is writes = absurd (omega (arith, below))
 
-pub has_no_file : HasNoFile (node_at empty_server.desk.machine.tree name)
+pub has_no_file : HasNoFile (node_at empty name)
 has_no_file = tt
 
 pub has_read_nothing : HasRead reads_alone nothing_read name 0 0 no_such_file

@@ -1,118 +1,33 @@
 -- The calls of a run ask for fewer handles than there are: each call for one at most.
 use Rattle.std.proofs.Common.{◌≡◌, ◌≢◌, ◌<◌, ◌≤◌, ◌==◌, ℕ, zero, suc, ◌+◌, Bool, true, false, List, [], ◌∷◌, ◌++◌, length, Option, Some, None, refl, ap, sym, ◌∙◌, subst, arith, if◌then◌else◌, inl, inr}
-use Rattle.std.specs.Prelude.{◌&&◌, nat_lt, is_some, slice_get, MatchBool}
+use Rattle.std.specs.Prelude.{slice_get}
 use Rattle.std.specs.List.{sum_by, list_all}
 use Rattle.std.proofs.lemmas.Bool.Decides.{eqb_tells}
 use Rattle.std.proofs.lemmas.Bool.{ne_eqb, eq-eqb}
-use Rattle.std.proofs.lemmas.List.{append-nil}
 use Rattle.std.proofs.lemmas.List.Sums.{sum_by-cons}
-use Rattle.sftp_model.specs.declared.reply.Reply.{Reply}
 use Rattle.sftp_model.specs.declared.request.Request.{Request}
 use Rattle.sftp_model.specs.declared.slot.Move.{Move}
-use Rattle.sftp_model.specs.declared.slot.Move.TheVariants.{Ask, Wait, Done}
+use Rattle.sftp_model.specs.declared.slot.Move.TheVariants.{Ask}
 use Rattle.sftp_calls.specs.Moves.{Own}
 use Rattle.sftp_history.specs.declared.call.Call.{Call}
 use Rattle.sftp_history.specs.declared.call.Call.TheVariants.{BufWrite, BufWriteAll}
 use Rattle.sftp_history.specs.declared.call.Lane.{Lane}
 use Rattle.sftp_history.specs.declared.turn.Turn.{Turn}
-use Rattle.sftp_history.specs.declared.turn.Turn.TheVariants as turn
 use Rattle.sftp_history.specs.declared.event.Owner.TheVariants as owner
-use Rattle.sftp_history.specs.declared.event.Event.TheVariants.{Submit, Send, Take, Cancel, End}
+use Rattle.sftp_history.specs.declared.event.Event.TheVariants.{Submit, End}
 use Rattle.sftp_history.specs.declared.entry.Entry.{Entry}
 use Rattle.sftp_history.specs.declared.entry.Entry.TheVariants as entry
-use Rattle.sftp_history.specs.Readings.{asked, answer, sent, own, ended, awaited}
-use Rattle.sftp_history.specs.Calls.{Setting, added, calls_of, lane_calls, current, move_at, move_of, site_of}
-use Rattle.sftp_history.specs.Journals.{IsJournal, IsNext, MayTake, cancelled_end}
+use Rattle.sftp_history.specs.Readings.{asked, answer, own, ended}
+use Rattle.sftp_history.specs.Calls.{Setting, calls_of, current, move_at, move_of, site_of}
+use Rattle.sftp_history.specs.Journals.{IsJournal, IsNext}
 use Rattle.sftp_history.proofs.CallLaws.{next_submit}
 use Rattle.sftp_history.specs.Lanes.{weight, lane_weight, weight_limit, is_within, are_ok}
-use Rattle.sftp_history.specs.Runs.{TurnsTo, RoundsTo, EndsTo, LetsGoTo, DrainsTo, Opens, round_of, IsRun}
-use Rattle.sftp_history.specs.Turns.{Stage, TurnTo, MovesBy, RulesTo, ClosesTo, is_full, begun_but}
+use Rattle.sftp_history.specs.Runs.{IsRun}
 use Rattle.sftp_machine.specs.MachineState.{MAX_HANDLES}
+use Rattle.sftp_read_back.proofs.PlainRuns.{IsPlain, plain_calls, run_plain}
 use Rattle.sftp_served.proofs.Asking.{asks_handle, asks_first}
 use Rattle.sftp_served.proofs.Replying.{both_of, is_less}
 use Rattle.sftp_served.proofs.Serving.{handles_asked, called}
-
--- ---- a run adds no call
-
--- no call was added
-abbrev pub IsPlain : List Entry → Type 0
-IsPlain [] = Unit {0}
-IsPlain (entry.Added lane c ∷ past) = ⊥
-IsPlain (_ ∷ past) = IsPlain past
-
-abbrev Stays : List Entry → List Entry → Type 0
-Stays before now = IsPlain before → IsPlain now
-
-same_stays : (before now : Stage) → now ≡ before → Stays before.past now.past
-same_stays before now e p = subst (λ (w : Stage). IsPlain w.past) (sym e) p
-
-closes_stay : (s : Setting) (before now : List Entry) → ClosesTo s before now → Stays before now
-closes_stay s before [] e p = tt
-closes_stay s before (e ∷ past) (inl same) p = subst IsPlain same p
-closes_stay s before (e ∷ past) (inr (due, rest)) p = subst (λ (w : Entry). IsPlain (w ∷ past)) (sym due.1.1.1.1) (closes_stay s before past rest p)
-
-sends_stay : (b : Bool) (mid now : List Entry) → MatchBool b (now ≡ entry.Event Send ∷ mid) (now ≡ mid) → Stays mid now
-sends_stay true mid now e p = subst IsPlain (sym e) p
-sends_stay false mid now e p = subst IsPlain (sym e) p
-
-rules_stay : (s : Setting) (before now : List Entry) → RulesTo s before now → Stays before now
-rules_stay s before now to p = sends_stay (is_full s to.0) to.0 now to.1.1 (closes_stay s before to.0 to.1.0.0 p)
-
-moves_stay : (s : Setting) (lane : ℕ) (before now : Stage) (m : Option Move) → MovesBy (RulesTo s) lane before now m → Stays before.past now.past
-moves_stay s lane before now None e p = same_stays before now e p
-moves_stay s lane before now (Some (Wait place)) e p = subst (λ (w : Stage). IsPlain w.past) (sym e) p
-moves_stay s lane before now (Some (Ask r)) to p = rules_stay s (entry.Event (Submit (owner.Call lane (ended before.past lane)) to.1.0 r) ∷ before.past) now.past to.1.1.1 p
-moves_stay s lane before now (Some (Done o site)) to p = rules_stay s (entry.Event (End lane (ended before.past lane) o) ∷ before.past) now.past to.1 p
-
-turn_stays : (s : Setting) (t : Turn) (before now : Stage) → TurnTo s t before now → Stays before.past now.past
-turn_stays s (turn.Step lane) before now to p = moves_stay s lane before now (move_of s before.past lane) to p
-turn_stays s turn.Flush before now to p = by_test (nat_lt (sent before.past) (asked before.past)) to
-  where
-    by_test : (b : Bool) → MatchBool b ((now.begun ≡ before.begun) × RulesTo s (entry.Event Send ∷ before.past) now.past) (now ≡ before) → IsPlain now.past
-    by_test true to = rules_stay s (entry.Event Send ∷ before.past) now.past to.1 p
-    by_test false e = same_stays before now e p
-turn_stays s turn.Take before now to p = by_test (nat_lt 0 (awaited before.past)) to
-  where
-    by_test : (b : Bool) → MatchBool b ((now.begun ≡ before.begun) × ((id : ℕ) × ((r : Reply) × (MayTake before.past id r × RulesTo s (entry.Event (Take id r) ∷ before.past) now.past)))) (now ≡ before) → IsPlain now.past
-    by_test true to = rules_stay s (entry.Event (Take to.1.0 to.1.1.0) ∷ before.past) now.past to.1.1.1.1 p
-    by_test false e = same_stays before now e p
-turn_stays s (turn.Cancel lane) before now to p = by_test (is_some (current s before.past lane) && before.begun lane) to
-  where
-    by_test : (b : Bool) → MatchBool b ((now.begun ≡ begun_but before.begun lane) × RulesTo s (cancelled_end (entry.Event (Cancel lane) ∷ before.past) lane ∷ entry.Event (Cancel lane) ∷ before.past) now.past) (now ≡ before) → IsPlain now.past
-    by_test true to = rules_stay s (cancelled_end (entry.Event (Cancel lane) ∷ before.past) lane ∷ entry.Event (Cancel lane) ∷ before.past) now.past to.1 p
-    by_test false e = same_stays before now e p
-
-turns_stay : (s : Setting) (turns : List Turn) (before now : Stage) → TurnsTo s turns before now → Stays before.past now.past
-turns_stay s [] before now e p = same_stays before now e p
-turns_stay s (t ∷ turns) before now to p = turns_stay s turns to.0 now to.1.1 (turn_stays s t before to.0 to.1.0 p)
-
-rounds_stay : (s : Setting) (lane n : ℕ) (before now : Stage) → RoundsTo s lane n before now → Stays before.past now.past
-rounds_stay s lane zero before now e p = same_stays before now e p
-rounds_stay s lane (suc n) before now to p = rounds_stay s lane n to.1.0 now to.1.1.1 (turns_stay s (round_of lane) before to.1.0 to.1.1.0 p)
-
-ends_stay : (s : Setting) (n : ℕ) (before now : Stage) → EndsTo s n before now → Stays before.past now.past
-ends_stay s zero before now e p = same_stays before now e p
-ends_stay s (suc lane) before now to p = rounds_stay s lane to.1.1.0 to.0 now to.1.1.1 (ends_stay s lane before to.0 to.1.0 p)
-
-lets_go_stay : (s : Setting) (n : ℕ) (before now : Stage) → LetsGoTo s n before now → Stays before.past now.past
-lets_go_stay s zero before now e p = same_stays before now e p
-lets_go_stay s (suc lane) before now to p = rules_stay s (entry.LetGo lane ∷ to.0.past) now.past to.1.1.1 (lets_go_stay s lane before to.0 to.1.0 p)
-
-drains_stay : (s : Setting) (n : ℕ) (before now : Stage) → DrainsTo s n before now → Stays before.past now.past
-drains_stay s zero before now e p = same_stays before now e p
-drains_stay s (suc n) before now to p = drains_stay s n to.1.0 now to.1.1.1 (turns_stay s (turn.Flush ∷ turn.Take ∷ []) before to.1.0 to.1.1.0 p)
-
-opens_plain : (b : Bool) (past : List Entry) → Opens b past → IsPlain past
-opens_plain false past e = subst IsPlain (sym e) tt
-opens_plain true past to = subst IsPlain (sym to.1.1.2) tt
-
-pub run_plain : (s : Setting) (turns : List Turn) (past : List Entry) → IsRun s turns past → IsPlain past
-run_plain s turns past (at, (by, is)) =
-    subst IsPlain is
-    (drains_stay s by.drains.0 at.let_go at.drained by.drains.1
-    (lets_go_stay s (length s.lanes) at.ended at.let_go by.lets_go
-    (ends_stay s (length s.lanes) at.turned at.ended by.ends
-    (turns_stay s turns _ at.turned by.turns (opens_plain s.limits at.opened by.opens)))))
 
 -- ---- each call asks for one handle at most
 
@@ -166,14 +81,6 @@ by_ends s (entry.Event (End l call o) ∷ past) lane j =
       | inr t ↦ rw t.0 old
     ]
 by_ends s (_ ∷ past) lane j = by_ends s past lane j.1
-
-added_none : (past : List Entry) (lane : ℕ) → IsPlain past → added past lane ≡ []
-added_none [] lane p = refl
-added_none (entry.Added l c ∷ past) lane p = absurd p
-added_none (_ ∷ past) lane p = added_none past lane p
-
-pub plain_calls : (s : Setting) (past : List Entry) (lane : ℕ) → IsPlain past → lane_calls s past lane ≡ calls_of (slice_get s.lanes lane)
-plain_calls s past lane p = ap (λ (w : List Call). calls_of (slice_get s.lanes lane) ++ w) (added_none past lane p) ∙ append-nil (calls_of (slice_get s.lanes lane))
 
 there_below : (calls : List Call) (n : ℕ) (c : Call) → slice_get calls n ≡ Some c → n < length calls
 there_below [] n c e = absurd cc

@@ -1,0 +1,25 @@
+// Laws of the definitions. The functions do nothing: what they ensure holds of all values.
+ghost use Rattle.std.specs.Prelude.{List, Some};
+ghost use Rattle.sftp_core.specs.declared.options.SftpOptions.{SftpOptions};
+ghost use Rattle.sftp_model.specs.declared.config.Choice.{Choice};
+ghost use Rattle.sftp_model.specs.declared.config.ServerConfig.{ServerConfig};
+ghost use Rattle.sftp_tree.specs.Changes.{IsWellFormed};
+ghost use Rattle.sftp_tree.specs.FileTree.{FileTree};
+ghost use Rattle.sftp_link.specs.declared.piece.Piece.{Piece};
+ghost use Rattle.sftp_history.specs.declared.call.Lane.{Lane};
+ghost use Rattle.sftp_history.specs.declared.report.Report.{Report};
+ghost use Rattle.sftp_history.specs.declared.turn.Turn.{Turn};
+ghost use Rattle.sftp_history.specs.Settings.{setting_of};
+ghost use Rattle.sftp_round_trip.specs.KeepsFiles.{KeepsFiles};
+ghost use Rattle.sftp_lanes.specs.Reported.{IsReport};
+ghost use Rattle.sftp_lanes.specs.ServesFiles.{ServesFiles};
+
+/// What `run_lanes` reports of a run over a link that served files, as its log tells, gives what was written, and the files are
+/// left so.
+pub fn serving_links_keep_files()
+    ensures { (lanes : List Lane) (options : SftpOptions) (schedule : List Turn) (before log : List Piece) (report : Report)
+        (config : ServerConfig) (choices : List Choice) (tree left : FileTree)
+        → (run : IsReport lanes options schedule (Some before) (Some log) report) → IsWellFormed tree
+        → ServesFiles lanes options config choices tree left before log
+        → KeepsFiles lanes config choices tree (setting_of lanes options run.extensions run.past) run.past left report.outcomes }
+{}
