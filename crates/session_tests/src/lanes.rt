@@ -100,7 +100,7 @@ fn sessions(rt: HostRuntime) -> Result<(), Fail> {
 /// How many outcomes a session tells that did nothing, whether it let a lane go, and whether it reports a VERSION.
 fn reported(alloc: Global) -> Result<(usize, bool, bool), Fail> {
     let session = Session::new(alloc, &[], &SftpOptions::new())?;
-    let count = session.outcomes(0)?.as_slice().len();
+    let count = session.outcomes(0).len();
     let was_let_go = session.was_let_go(0);
     let report = session.into_report()?;
     Ok((count, was_let_go, report.hello.is_some()))
@@ -148,7 +148,7 @@ fn added(alloc: Global) -> Result<(usize, usize), Fail> {
     }
     let path = ByteText::new(Vec::from_slice(alloc, b"a")?);
     change_directory(&mut session, path)?;
-    let outcomes = session.outcomes(0)?.as_slice().len();
+    let outcomes = session.outcomes(0).len();
     Ok((session.journal().len(), outcomes))
 }
 

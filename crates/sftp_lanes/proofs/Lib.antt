@@ -2,4 +2,3 @@ mod AddedLaws
 pub mod FaultLaws
 pub mod Opening
 pub mod Reporting
-mod OutcomeLaws

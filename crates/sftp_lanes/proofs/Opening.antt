@@ -5,6 +5,7 @@ use Rattle.std.proofs.lemmas.List.{append-nil}
 use Rattle.std.specs.FinMap.{get-empty}
 use Rattle.std.specs.Ordering.{nat_cmp}
 use Rattle.sftp_model.specs.declared.config.Limits.{Limits}
+use Rattle.sftp_model.specs.declared.error.Fault.{Fault}
 use Rattle.sftp_model.specs.declared.flags.Extensions.{Extensions}
 use Rattle.sftp_model.specs.declared.frame_error.FrameError.{FrameError}
 use Rattle.sftp_model.specs.declared.reply.Reply.{Reply}
@@ -49,9 +50,11 @@ use Rattle.sftp_steps.specs.Rest.{AtRest, Counted, LaneAsks, begun_of}
 use Rattle.sftp_history.specs.Turns.{none_begun}
 use Rattle.sftp_work.specs.declared.lanes.Lanes.{Lanes}
 use Rattle.sftp_work.specs.Fresh.{AreFresh, IsUntouched}
-use Rattle.sftp_work.specs.SoFar.{HasRoom, StaysSoFar}
+use Rattle.sftp_work.specs.Reports.{lane_report, reports_of}
+use Rattle.sftp_work.specs.SoFar.{HasRoom, IsIntact, StaysSoFar, refused_past}
 use Rattle.sftp_work.specs.Working.{IsWorking, lane_in, past_of}
 use Rattle.sftp_lanes.specs.Seen.{IsInPhase, IsSession, facts_by, setting_by}
+use Rattle.sftp_work.proofs.ReportLaws.{leaves_intact, refused_told}
 use Rattle.sftp_lanes.proofs.FaultLaws.{so_far}
 
 -- ---- lanes that have done nothing
@@ -296,13 +299,40 @@ pub in_phase : (lanes : List Lane) (options : SftpOptions) (version : Option Rep
     → IsInPhase lanes options version known w other
 in_phase lanes options version known w phase other is e = subst (IsInPhase lanes options version known w) e is.now
 
--- an open session is open still, where its lanes work on
-pub works_on : (lanes : List Lane) (options : SftpOptions) (version : Option Reply) (known : Option Info) (old new : Lanes) (phase : Phase) → IsSession lanes options version known old phase → phase ≡ Open → HasRoom new
-    → (IsWorking (setting_by lanes options version known) old → IsWorking (setting_by lanes options version known) new) → IsSession lanes options version known new phase
-works_on lanes options version known old new phase is open_is room on =
-    record { ok = is.ok; room = room; now = subst (IsInPhase lanes options version known new) (sym open_is) (on (subst (IsInPhase lanes options version known old) open_is is.now)) }
+-- the lanes of an open session are as many as were given
+open_count : (lanes : List Lane) (options : SftpOptions) (version : Option Reply) (known : Option Info) (w : Lanes) (phase : Phase) → IsSession lanes options version known w phase → phase ≡ Open → length w.calls ≡ length lanes
+open_count lanes options version known w phase is open_is =
+    let works : IsWorking (setting_by lanes options version known) w = in_phase lanes options version known w phase Open is open_is in works.stands.lanes
 
--- and it has failed where its journal is one that may stand
-pub fails_by : (lanes : List Lane) (options : SftpOptions) (version : Option Reply) (known : Option Info) (old new : Lanes) (phase : Phase) → IsSession lanes options version known old phase → HasRoom new → StaysSoFar old new
+pub open_intact : (lanes : List Lane) (options : SftpOptions) (version : Option Reply) (known : Option Info) (w : Lanes) (phase : Phase) → IsSession lanes options version known w phase → phase ≡ Open → IsIntact (length w.calls) w
+open_intact lanes options version known w phase is open_is = subst (λ (n : ℕ). IsIntact n w) (sym (open_count lanes options version known w phase is open_is)) is.intact
+
+-- an open session is open still, where its lanes work on
+pub works_on : (lanes : List Lane) (options : SftpOptions) (version : Option Reply) (known : Option Info) (old new : Lanes) (phase : Phase) → IsSession lanes options version known old phase → phase ≡ Open → IsIntact (length old.calls) new
+    → (IsWorking (setting_by lanes options version known) old → IsWorking (setting_by lanes options version known) new) → IsSession lanes options version known new phase
+works_on lanes options version known old new phase is open_is intact on =
+    record {
+      ok = is.ok;
+      intact = subst (λ (n : ℕ). IsIntact n new) (open_count lanes options version known old phase is open_is) intact;
+      now = subst (IsInPhase lanes options version known new) (sym open_is) (on (subst (IsInPhase lanes options version known old) open_is is.now));
+    }
+
+-- and it has failed where its journal is one that may stand,
+pub fails_by : (lanes : List Lane) (options : SftpOptions) (version : Option Reply) (known : Option Info) (old new : Lanes) (phase : Phase) → IsSession lanes options version known old phase → phase ≡ Open → IsIntact (length old.calls) new → StaysSoFar old new
     → IsSession lanes options version known new Failed
-fails_by lanes options version known old new phase is room stays = record { ok = is.ok; room = room; now = stays (setting_by lanes options version known) (so_far lanes options version known old phase is) }
+fails_by lanes options version known old new phase is open_is intact stays =
+    record {
+      ok = is.ok;
+      intact = subst (λ (n : ℕ). IsIntact n new) (open_count lanes options version known old phase is open_is) intact;
+      now = stays (setting_by lanes options version known) (so_far lanes options version known old phase is);
+    }
+
+-- also where a frame was refused before
+pub refused_by : (lanes : List Lane) (options : SftpOptions) (version : Option Reply) (known : Option Info) (old new : Lanes) (phase : Phase) (fault : Option Fault) → IsSession lanes options version known old phase
+    → new ≡ record old { core = new.core; journal = new.journal } → past_of new ≡ refused_past fault (past_of old) → HasRoom new → StaysSoFar old new → IsSession lanes options version known new Failed
+refused_by lanes options version known old new phase fault is rest noted room stays =
+    record {
+      ok = is.ok;
+      intact = leaves_intact (length lanes) old new is.intact (record { kept = ap reports_of rest; past = λ lane. ap (λ (p : List Entry). lane_report p lane) noted ∙ refused_told fault (past_of old) lane }) room;
+      now = stays (setting_by lanes options version known) (so_far lanes options version known old phase is);
+    }

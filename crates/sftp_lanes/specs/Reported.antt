@@ -1,9 +1,8 @@
 -- What the report of a whole run of lanes says.
-use Rattle.std.specs.Prelude.{◌≡◌, ◌++◌, ◌∷◌, [], ℕ, List, length, Option, Some, slice_index_or, slice_set}
+use Rattle.std.specs.Prelude.{◌≡◌, List, length, Option, Some}
 use Rattle.sftp_model.specs.declared.config.Choice.{Choice}
 use Rattle.sftp_model.specs.declared.config.ServerConfig.{ServerConfig}
 use Rattle.sftp_model.specs.declared.flags.Extensions.{Extensions}
-use Rattle.sftp_model.specs.declared.outcome.Outcome.{Outcome}
 use Rattle.sftp_tree.specs.Changes.{IsWellFormed}
 use Rattle.sftp_tree.specs.FileTree.{FileTree}
 use Rattle.sftp_core.specs.declared.options.SftpOptions.{SftpOptions}
@@ -11,8 +10,6 @@ use Rattle.sftp_link.specs.declared.piece.Piece.{Piece}
 use Rattle.sftp_link.specs.Told.{Told}
 use Rattle.sftp_history.specs.declared.call.Lane.{Lane}
 use Rattle.sftp_history.specs.declared.entry.Entry.{Entry}
-use Rattle.sftp_history.specs.declared.entry.Entry.TheVariants as entry
-use Rattle.sftp_history.specs.declared.event.Event.TheVariants.{End}
 use Rattle.sftp_history.specs.declared.report.Report.{Report}
 use Rattle.sftp_history.specs.declared.turn.Turn.{Turn}
 use Rattle.sftp_history.specs.Calls.{Setting}
@@ -43,12 +40,3 @@ pub record IsReport (lanes : List Lane) (options : SftpOptions) (schedule : List
   pub closed : AreClosed past
   pub log : Told (Shows (greeting extensions) past) before after
   pub files : KeepsServed lanes (setting_of lanes options extensions past) past
-
--- these lists, and the outcome as the last one of the list of its lane, where that lane has one
-abbrev pub with_outcome : List (List Outcome) → ℕ → Outcome → List (List Outcome)
-with_outcome lists lane o = slice_set lists lane (slice_index_or lists lane [] ++ o ∷ [])
-
--- these lists, with the outcome that the entry tells, where it is the end of a call
-abbrev pub with_ended : List (List Outcome) → Entry → List (List Outcome)
-with_ended lists (entry.Event (End lane call outcome)) = with_outcome lists lane outcome
-with_ended lists other = lists

@@ -18,7 +18,7 @@ use Rattle.sftp_driver.specs.NoLanes.{IsBare, offered}
 use Rattle.sftp_driver.specs.Session.{Given, IsFresh, Seen}
 use Rattle.sftp_work.specs.declared.lanes.Lanes.{Lanes}
 use Rattle.sftp_work.specs.Fresh.{IsUntouched}
-use Rattle.sftp_work.specs.SoFar.{HasRoom, IsSoFar}
+use Rattle.sftp_work.specs.SoFar.{IsIntact, IsSoFar}
 use Rattle.sftp_work.specs.Working.{IsWorking, past_of, stage_of, work_of}
 
 -- the lanes that were handed in, the options, how far the opening has come, VERSION and what is known of the server once
@@ -82,10 +82,10 @@ IsInPhase lanes options version info w Queried = IsBare options version (past_of
 IsInPhase lanes options version info w Open = IsWorking (setting_by lanes options version info) w
 IsInPhase lanes options version info w Failed = IsSoFar (setting_by lanes options version info) w.core.fault (past_of w)
 
--- its lanes are ones that can be run, and the entry of a fault has room
+-- its lanes are ones that can be run, and they are intact
 pub record IsSession (lanes : List Lane) (options : SftpOptions) (version : Option Reply) (info : Option Info) (w : Lanes) (phase : Phase) : Type 0 where
   pub ok : are_ok lanes ≡ true
-  pub room : HasRoom w
+  pub intact : IsIntact (length lanes) w
   pub now : IsInPhase lanes options version info w phase
 
 -- a session of these lanes and options whose hello stands in the queue

@@ -14,13 +14,12 @@ ghost use Rattle.sftp_work.specs.SoFar.{kept_in, kept_past};
 ghost use Rattle.sftp_work.specs.Working.{past_of};
 
 use crate::given::GivenLanes;
-use crate::report::{events_of, lets_go, outcomes_below, outcomes_of};
+use crate::report::events_of;
 use crate::telling::{offers_limits, query_entry, tell};
 use sftp_core::{Chunk, Fault, Info, SftpOptions, TakeError, Taken};
 use sftp_driver::{Phase, RunsLanes, Stepped};
 use sftp_history::{Call, Entry, Event, Lane, Outcome, Report};
 use sftp_model::Reply;
-use sftp_values::Items;
 use sftp_work::Lanes;
 use ssh_encoding::OutOfMemory;
 use std::alloc::Global;
@@ -97,18 +96,18 @@ impl Session {
         self.work.journal.as_slice()
     }
 
-    /// The outcomes of the calls of a lane that have ended, in their order. Refused for want of memory.
-    pub fn outcomes(&self, lane: u32) -> Result<Items<Outcome>, OutOfMemory>
-        ensures { IfOk result (λ outcomes. outcomes ≡ of_lane (past_of self.now.work) lane) }
+    /// The outcomes of the calls of a lane that have ended, in their order; none where the lane isn't there.
+    pub fn outcomes(&self, lane: u32) -> &[Outcome]
+        ensures { result.now ≡ of_lane (past_of self.now.work) lane }
     {
-        outcomes_of(self.alloc, self.work.journal.as_slice(), lane)
+        self.work.outcomes(lane)
     }
 
     /// Whether a lane was let go.
     pub fn was_let_go(&self, lane: u32) -> bool
         ensures { result ≡ was_let_go (past_of self.now.work) lane }
     {
-        lets_go(self.work.journal.as_slice(), lane)
+        self.work.was_let_go(lane)
     }
 
     /// How far its opening has come.
@@ -160,15 +159,14 @@ impl Session {
     {
         let Session {
             alloc,
-            lanes,
+            lanes: _,
             options: _,
             phase: _,
             version,
             info: _,
             work,
         } = self;
-        let journal = work.into_journal();
-        let outcomes = outcomes_below(alloc, journal.as_slice(), lanes.count())?;
+        let (journal, outcomes) = work.into_told();
         Ok(Report {
             hello: version,
             trace: events_of(alloc, journal)?,
@@ -251,7 +249,7 @@ impl RunsLanes for Session {
     }
 
     fn cancel(&mut self, lane: u32) -> Result<bool, OutOfMemory> {
-        match self.work.cancel(lane) {
+        match self.work.cancel(self.alloc, lane) {
             Ok(event) => Ok(event),
             Err(e) => {
                 self.phase = Phase::Failed;

@@ -15,5 +15,6 @@ pub mod LettingLaws
 pub mod NotingLaws
 pub mod Refusals
 pub mod Remaining
+pub mod ReportLaws
 pub mod TurningLaws
 pub mod UnnotedLaws

@@ -241,6 +241,13 @@ went_unnoted s lane old c t =
       work = x.work;
     })
 
+-- the core has no fault behind a turn
+pub turning_unfailed : (s : Setting) (lane : ℕ) (old c : Contents) (m : Moved) → Turning s lane old c m → c.core.fault ≡ None
+turning_unfailed s lane old c moved.Waits t = (waits_in s lane old c t).working.rest.between.tied.work.unfailed
+turning_unfailed s lane old c moved.Went t = (went_unnoted s lane old c t).works.rest.between.tied.work.unfailed
+turning_unfailed s lane old c (moved.Asked id r) t = (asked_step s lane id r old c t).working.rest.between.tied.work.unfailed
+turning_unfailed s lane old c (moved.Ended o) t = (ended_closing s lane o old c t).between.tied.work.unfailed
+
 -- behind a turn the lane has the call that it had
 turning_call : (s : Setting) (lane : ℕ) (old c : Contents) (m : Moved) → (t : Turning s lane old c m) → call_in c.calls c.states lane ≡ Some t.call
 turning_call s lane old c m t =

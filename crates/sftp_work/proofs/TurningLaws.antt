@@ -1,6 +1,6 @@
 -- A lane of a session at rest may have its turn, and what it was is to be noted.
 use Rattle.std.proofs.Common.{◌≡◌, ◌<◌, ◌≤◌, ◌+◌, ℕ, Bool, true, false, if◌then◌else◌, List, [], ◌∷◌, Option, Some, refl, ap, sym, subst, arith}
-use Rattle.std.specs.Prelude.{Result, Ok, Err, IfOk, is_some, length, slice_get, slice_index_or}
+use Rattle.std.specs.Prelude.{Result, Ok, Err, IfOk, None, OnErr, is_some, length, slice_get, slice_index_or}
 use Rattle.std.proofs.lemmas.List.{length-append}
 use Rattle.std.proofs.lemmas.Option.{slice_get_within}
 use Rattle.sftp_model.specs.declared.reply.Reply.{Reply}
@@ -35,7 +35,7 @@ use Rattle.sftp_work.specs.Working.{Contents, Works, lane_in}
 use Rattle.sftp_work.proofs.CallsLaws.{call_within}
 use Rattle.sftp_work.proofs.ClosingLaws.{fewer_grants}
 use Rattle.sftp_work.proofs.Contents.{state_at}
-use Rattle.sftp_work.proofs.NotingLaws.{AtCall, at_call, call_fits, current_at, there_at, within_states}
+use Rattle.sftp_work.proofs.NotingLaws.{AtCall, at_call, call_fits, current_at, there_at, turning_unfailed, within_states}
 
 -- ---- what a turn leaves of the lane
 
@@ -161,6 +161,11 @@ pub turning_ok : {E : Type 0} (s : Setting) (c : Contents) (lane : ℕ) (call : 
     → IfOk r (λ m. Turned call c.facts c.asked c.core new (lane_in c.states lane) now m) → IfOk r IsSmall → IfOk r (Turning s lane c (turned_in c lane new now))
 turning_ok s c lane call new now (Ok m) w calls t small = turning s c lane call new now m w calls t small
 turning_ok s c lane call new now (Err e) w calls t small = tt
+
+-- the core has no fault, also where it was refused
+pub turned_unfailed : {E : Type 0} (s : Setting) (c now : Contents) (lane : ℕ) (r : Result Moved E) → IfOk r (Turning s lane c now) → OnErr r (IsOpen now.core) → now.core.fault ≡ None
+turned_unfailed s c now lane (Ok m) t left = turning_unfailed s lane c now m t
+turned_unfailed s c now lane (Err e) t left = left.unfailed
 
 pub is_moved_went : (m : Moved) → is_went m ≡ true → m ≡ moved.Went
 is_moved_went moved.Went e = refl

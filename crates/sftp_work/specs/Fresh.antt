@@ -7,7 +7,7 @@ use Rattle.sftp_history.specs.Readings.{asked}
 use Rattle.sftp_ties.specs.Changes.{fresh_lane}
 use Rattle.sftp_ties.specs.Lanes.{LaneValue}
 use Rattle.sftp_work.specs.declared.lanes.Lanes.{Lanes}
-use Rattle.sftp_work.specs.SoFar.{HasRoom}
+use Rattle.sftp_work.specs.SoFar.{IsIntact}
 use Rattle.sftp_work.specs.Working.{past_of}
 
 abbrev pub AreFresh : List LaneValue → Type 0
@@ -25,4 +25,4 @@ pub record IsMade (lanes : List Lane) (options : SftpOptions) (w : Lanes) : Type
   pub core : w.core ≡ fresh options
   pub past : past_of w ≡ []
   pub untouched : IsUntouched lanes w
-  pub room : HasRoom w
+  pub intact : IsIntact (length lanes) w

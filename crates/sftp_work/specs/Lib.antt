@@ -1,4 +1,5 @@
 pub mod Working
+pub mod Reports
 pub mod SoFar
 pub mod Fresh
 pub mod Adding

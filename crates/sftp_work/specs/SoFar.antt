@@ -1,11 +1,12 @@
 -- What the journal of a session is in every phase, also once it has failed.
-use Rattle.std.specs.Prelude.{◌≡◌, ◌<◌, List, [], ◌∷◌, Option, Some, None, vec_len, vec_capacity}
+use Rattle.std.specs.Prelude.{◌≡◌, ◌<◌, ℕ, List, [], ◌∷◌, Option, Some, None, length, vec_len, vec_capacity}
 use Rattle.sftp_model.specs.declared.error.Fault.{Fault}
 use Rattle.sftp_history.specs.declared.entry.Entry.{Entry}
 use Rattle.sftp_history.specs.declared.entry.Entry.TheVariants as entry
 use Rattle.sftp_history.specs.Calls.{Setting}
 use Rattle.sftp_history.specs.Journals.{IsJournal, IsNext}
 use Rattle.sftp_work.specs.declared.lanes.Lanes.{Lanes}
+use Rattle.sftp_work.specs.Reports.{AreReports, reports_of}
 use Rattle.sftp_work.specs.Working.{past_of}
 
 -- the fault that a journal keeps
@@ -34,11 +35,20 @@ pub record IsSoFar (s : Setting) (fault : Option Fault) (past : List Entry) : Ty
 abbrev pub HasRoom : Lanes → Type 0
 HasRoom w = w.core.fault ≡ None → vec_len w.journal < vec_capacity w.journal
 
+-- So many lanes are intact: there is room for the entry of a fault, and what is kept of each lane for its report is what the
+-- journal tells.
+pub record IsIntact (n : ℕ) (w : Lanes) : Type 0 where
+  pub room : HasRoom w
+  pub lists : length w.outcomes ≡ n
+  pub marks : length w.gone ≡ n
+  pub reports : AreReports (reports_of w) (past_of w)
+
 -- whatever the journal was a run so far of, it is one now
 abbrev pub StaysSoFar : Lanes → Lanes → Type 0
 StaysSoFar old new = (s : Setting) → IsSoFar s old.core.fault (past_of old) → IsSoFar s new.core.fault (past_of new)
 
--- what a call leaves where there was no memory: the journal and the kept fault are as before
+-- what a call leaves where there was no memory: the journal, the kept fault and what is kept for the report are as before
 pub record IsLeft (old new : Lanes) : Type 0 where
   pub past : past_of new ≡ past_of old
   pub fault : new.core.fault ≡ old.core.fault
+  pub reports : reports_of new ≡ reports_of old

@@ -2,7 +2,7 @@
 ghost use Rattle.std.specs.Prelude.{◌≡◌, ◌<◌, ◌∷◌, ◌++◌, [], length, OnErr, OnOk};
 ghost use Rattle.sftp_history.specs.Calls.{Setting};
 ghost use Rattle.sftp_work.specs.Adding.{AddsCall, MayAdd, with_call};
-ghost use Rattle.sftp_work.specs.SoFar.{HasRoom};
+ghost use Rattle.sftp_work.specs.SoFar.{IsIntact};
 ghost use Rattle.sftp_work.specs.Working.{IsOpened, IsWorking, contents_of};
 
 use crate::closing::add_entry;
@@ -13,12 +13,12 @@ use sftp_values::Items;
 use ssh_encoding::OutOfMemory;
 use std::alloc::Global;
 
-/// Puts a call behind others. Refused for want of memory; they are as before then.
-fn push_last(calls: &mut Vec<Call>, call: Call) -> Result<(), OutOfMemory>
-    ensures last { OnOk result (calls.new.items ≡ calls.old.items ++ call ∷ []) }
-    ensures left { OnErr result (calls.new.items ≡ calls.old.items) }
+/// Puts an item behind others. Refused for want of memory; they are as before then.
+pub(crate) fn push_last<T: Drop>(items: &mut Vec<T>, item: T) -> Result<(), OutOfMemory>
+    ensures last { OnOk result (items.new.items ≡ items.old.items ++ item ∷ []) }
+    ensures left { OnErr result (items.new.items ≡ items.old.items) }
 {
-    calls.push(call)?;
+    items.push(item)?;
     Ok(())
 }
 
@@ -52,10 +52,10 @@ impl Lanes {
     pub fn push_call(&mut self, alloc: Global, lane: u32, call: Call) -> Result<(), OutOfMemory>
         requires opened { IsOpened self.old }
         requires may { MayAdd lane call self.old }
-        requires room { HasRoom self.old }
+        requires intact { IsIntact (length self.old.calls) self.old }
         ensures adds { (s : Setting) → IsWorking s self.old → OnOk result (AddsCall s lane call self.old self.new) }
         ensures left { OnErr result (contents_of self.new ≡ contents_of self.old) }
-        ensures room { HasRoom self.new }
+        ensures intact { IsIntact (length self.old.calls) self.new }
     {
         let copy = call.try_copy(alloc)?;
         self.journal.reserve(2)?;

@@ -1,5 +1,5 @@
 // CLOSEs that a session submits by itself.
-ghost use Rattle.std.specs.Prelude.{◌≡◌, ◌<◌, ◌≤◌, ◌+◌, ◌∷◌, ◌++◌, [], ℕ, List, Some, None, true, false, length, slice_get, vec_len, vec_capacity};
+ghost use Rattle.std.specs.Prelude.{◌≡◌, ◌<◌, ◌≤◌, ◌+◌, ◌∷◌, ◌++◌, [], ℕ, List, Some, None, true, false, length, reverse, slice_get, vec_len, vec_capacity};
 ghost use Rattle.sftp_model.specs.declared.request.Request.{Request as RequestValue};
 ghost use Rattle.sftp_model.specs.declared.request.Request.TheVariants as request;
 ghost use Rattle.sftp_history.specs.declared.entry.Entry.{Entry as EntryValue};
@@ -9,6 +9,7 @@ ghost use Rattle.sftp_history.specs.declared.event.Owner.TheVariants as owner;
 ghost use Rattle.sftp_history.specs.Calls.{Setting};
 ghost use Rattle.sftp_ties.specs.Lanes.{Held};
 ghost use Rattle.sftp_lane.specs.Tokens.{AreGrants};
+ghost use Rattle.sftp_work.specs.Reports.{LeavesReports, lane_report};
 ghost use Rattle.sftp_work.specs.Closing.{Closed, HasClosed, IsClosing, closed_in};
 ghost use Rattle.sftp_work.specs.Working.{contents_of, lane_in};
 
@@ -33,6 +34,7 @@ pub(crate) fn note_close(core: &Core, journal: &mut Vec<Entry>, before: u32) -> 
     ensures none { length core.now.queue ≡ before → (result ≡ false) × (journal.new.items ≡ journal.old.items) }
     ensures close { (queue : List (ℕ × RequestValue)) (id : ℕ) (handle : List ℕ) → core.now.queue ≡ queue ++ (id, request.Close handle) ∷ []
         → length queue ≡ before → (result ≡ true) × (journal.new.items ≡ journal.old.items ++ entry.Event (Submit owner.Close id (request.Close handle)) ∷ []) }
+    ensures reports { (lane : ℕ) → lane_report (reverse journal.new.items) lane ≡ lane_report (reverse journal.old.items) lane }
     ensures len { vec_len journal.new ≤ vec_len journal.old + 1 }
     ensures room { vec_capacity journal.old ≤ vec_capacity journal.new }
 {
@@ -63,6 +65,7 @@ impl Lanes {
         requires counted { self.old.asked ≤ vec_len self.old.journal }
         requires room { vec_len self.old.journal < vec_capacity self.old.journal }
         ensures closed { (g : Held) → slice_get (lane_in self.old.states.items lane).grants k ≡ Some g → HasClosed (contents_of self.old) (contents_of self.new) lane k g }
+        ensures reports { LeavesReports self.old self.new }
         ensures len { vec_len self.new.journal ≡ vec_len self.old.journal + 1 }
         ensures capacity { vec_capacity self.old.journal ≤ vec_capacity self.new.journal }
     {
@@ -84,6 +87,7 @@ impl Lanes {
         requires closing { IsClosing lane self.old }
         requires room { vec_len self.old.journal + length (lane_in self.old.states.items lane).grants < vec_capacity self.old.journal }
         ensures closed { (s : Setting) (before : List EntryValue) → Closed s before lane (contents_of self.old) (contents_of self.new) }
+        ensures reports { LeavesReports self.old self.new }
         ensures room { vec_len self.new.journal < vec_capacity self.new.journal }
     {
         while let Some(k) = self.states[lane as usize].loose() {

@@ -3,6 +3,7 @@ ghost use Rattle.std.specs.Prelude.{◌≡◌, ◌≢◌, ◌<◌, ℕ, Some, No
 ghost use Rattle.sftp_plan.specs.Pending.{slots_times};
 ghost use Rattle.sftp_history.specs.Calls.{Setting};
 ghost use Rattle.sftp_ties.specs.Lanes.{Ticketed};
+ghost use Rattle.sftp_work.specs.Reports.{LeavesReports};
 ghost use Rattle.sftp_work.specs.Working.{IsOpened, IsWorking, Unnoted, contents_of, lane_in};
 
 use crate::lanes::Lanes;
@@ -17,6 +18,7 @@ impl Lanes {
         ensures none { (k : ℕ) (t : Ticketed) → slice_get (lane_in self.new.states.items lane).tickets k ≡ Some t
             → slots_times t.place (lane_in self.new.states.items lane).site.slots ≢ 0 }
         ensures journal { self.new.journal ≡ self.old.journal }
+        ensures reports { LeavesReports self.old self.new }
     {
         while let Some(k) = self.states[lane as usize].unawaited() {
             self.states[lane as usize].forget(&mut self.core, k);

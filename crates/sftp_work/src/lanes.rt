@@ -2,17 +2,18 @@
 ghost use Rattle.std.specs.Prelude.{◌≡◌, IfOk};
 ghost use Rattle.sftp_work.specs.Fresh.{IsMade};
 
+use crate::reports::{empty_lists, unmarked};
 use bitflags::Flags;
 use sftp_core::{Core, Ended, SftpOptions};
 use sftp_history::{Entry, Lane};
 use sftp_lane::LaneState;
-use sftp_model::{Extensions, Facts, TryCopy};
+use sftp_model::{Extensions, Facts, Outcome, TryCopy};
 use sftp_values::Items;
 use ssh_encoding::OutOfMemory;
 use std::alloc::Global;
 
 /// The lanes of a session, and what they work with: their calls, the core, the facts that plans go by, the journal and
-/// how many requests it has, and what each lane holds and awaits.
+/// how many requests it has, what each lane holds and awaits, and what is kept of it for the report.
 pub struct Lanes {
     /// The calls of each lane.
     pub calls: Items<Lane>,
@@ -26,12 +27,16 @@ pub struct Lanes {
     pub asked: u64,
     /// What each lane holds and awaits.
     pub states: Vec<LaneState>,
+    /// Of each lane the outcomes of its calls that have ended, in their order.
+    pub outcomes: Items<Items<Outcome>>,
+    /// Which lanes were let go.
+    pub gone: Items<bool>,
 }
 
 impl Drop for Lanes {
     /// Lets all go that the lanes hold. Nothing is sent.
     fn drop(self) {
-        let _journal = self.into_journal();
+        let _told = self.into_told();
     }
 }
 
@@ -76,6 +81,8 @@ impl Lanes {
             facts: untold(),
             journal: Vec::with_capacity(alloc, 1)?,
             asked: 0,
+            outcomes: empty_lists(alloc, lanes.len())?,
+            gone: unmarked(alloc, lanes.len())?,
             states: Vec::with_capacity(alloc, lanes.len())?,
         };
         for _ in 0..lanes.len() {
@@ -85,9 +92,9 @@ impl Lanes {
         Ok(work)
     }
 
-    /// The journal; all that the lanes hold is let go. Nothing is sent.
-    pub fn into_journal(self) -> Vec<Entry>
-        ensures { result ≡ self.journal }
+    /// The journal, and the outcomes of each lane; all that the lanes hold is let go. Nothing is sent.
+    pub fn into_told(self) -> (Vec<Entry>, Items<Items<Outcome>>)
+        ensures { result ≡ (self.journal, self.outcomes) }
     {
         let Lanes {
             calls: _,
@@ -96,8 +103,10 @@ impl Lanes {
             journal,
             asked: _,
             states,
+            outcomes,
+            gone: _,
         } = self;
         let_go_states(states, core.end());
-        journal
+        (journal, outcomes)
     }
 }

@@ -4,7 +4,8 @@ ghost use Rattle.sftp_history.specs.Calls.{Setting, current};
 ghost use Rattle.sftp_history.specs.Readings.{was_let_go};
 ghost use Rattle.sftp_history.specs.declared.entry.Entry.{Entry as EntryValue};
 ghost use Rattle.sftp_work.specs.Letting.{IsDone, IsLetting, LetGo};
-ghost use Rattle.sftp_work.specs.SoFar.{HasRoom, IsLeft};
+ghost use Rattle.sftp_work.specs.Reports.{LeavesReports};
+ghost use Rattle.sftp_work.specs.SoFar.{IsIntact, IsLeft};
 ghost use Rattle.sftp_work.specs.Working.{IsWorking, LetsLaneGo, contents_of, lane_in, past_of};
 
 use crate::closing::add_entry;
@@ -23,6 +24,7 @@ impl Lanes {
         requires letting { IsLetting lane self.old slots.now }
         requires room { vec_len self.old.journal + length (lane_in self.old.states.items lane).grants < vec_capacity self.old.journal }
         ensures let_go { (s : Setting) (before : List EntryValue) → LetGo s before lane (contents_of self.old) (contents_of self.new) slots.now }
+        ensures reports { LeavesReports self.old self.new }
         ensures room { vec_len self.new.journal < vec_capacity self.new.journal }
     {
         let mut rest = slots;
@@ -45,11 +47,11 @@ impl Lanes {
     /// Lets go of all that the slots of a lane hold, where the lane is there. Refused for want of memory.
     pub fn let_go(&mut self, alloc: Global, lane: u32) -> Result<(), OutOfMemory>
         requires done { IsDone lane self.old }
-        requires room { HasRoom self.old }
+        requires intact { IsIntact (length self.old.calls) self.old }
         ensures lets_go { (s : Setting) → IsWorking s self.old → current s (past_of self.old) lane ≡ None → was_let_go (past_of self.old) lane ≡ false
             → OnOk result (LetsLaneGo s lane self.old self.new) }
         ensures left { OnErr result (IsLeft self.old self.new) }
-        ensures room { HasRoom self.new }
+        ensures intact { IsIntact (length self.old.calls) self.new }
     {
         if lane as usize >= self.states.len() {
             return Ok(());
@@ -59,6 +61,7 @@ impl Lanes {
         self.journal.reserve(entries_for(state.grant_count())?)?;
         let slots = state.empty(empty);
         add_entry(&mut self.journal, Entry::LetGo { lane });
+        self.gone.set(lane as usize, true);
         self.close_slots(lane, slots.as_slice());
         Ok(())
     }

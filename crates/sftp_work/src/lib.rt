@@ -12,6 +12,7 @@ mod keeping;
 mod lanes;
 mod letting;
 mod noting;
+mod reports;
 mod stepping;
 mod taking;
 

@@ -4,7 +4,10 @@ ghost use Rattle.std.specs.Option.{option_copied};
 ghost use Rattle.sftp_history.specs.Calls.{Setting};
 ghost use Rattle.sftp_steps.specs.Rest.{begun_of};
 ghost use Rattle.sftp_work.specs.Noting.{IsTurning, Noted, amid, asked_in, call_in, ended_in, is_went};
-ghost use Rattle.sftp_work.specs.Working.{Contents, contents_of, lane_in};
+ghost use Rattle.sftp_history.specs.declared.entry.Entry.TheVariants as entry;
+ghost use Rattle.sftp_history.specs.declared.event.Event.TheVariants.{End};
+ghost use Rattle.sftp_work.specs.Reports.{HasReports, LeavesReports, ended_past};
+ghost use Rattle.sftp_work.specs.Working.{Contents, contents_of, lane_in, past_of};
 
 use crate::closing::add_entry;
 use crate::lanes::Lanes;
@@ -53,6 +56,7 @@ impl Lanes {
         requires journal { vec_len self.old.journal < vec_capacity self.old.journal }
         requires counted { self.old.asked ≤ vec_len self.old.journal }
         ensures noted { contents_of self.new ≡ amid (begun_of (lane_in self.new.states.items)) (asked_in (contents_of self.old) lane call id request) }
+        ensures reports { LeavesReports self.old self.new }
         ensures len { vec_len self.new.journal ≡ vec_len self.old.journal + 1 }
         ensures capacity { vec_capacity self.old.journal ≤ vec_capacity self.new.journal }
     {
@@ -73,6 +77,7 @@ impl Lanes {
         requires few { (lane_in self.old.states.items lane).ended < 2 ^ 31 }
         requires room { vec_len self.old.journal < vec_capacity self.old.journal }
         ensures noted { contents_of self.new ≡ amid (begun_of (lane_in self.new.states.items)) (ended_in (contents_of self.old) lane call outcome) }
+        ensures reports { HasReports (entry.Event (End lane call outcome) ∷ past_of self.old) self.old self.new }
         ensures len { vec_len self.new.journal ≡ vec_len self.old.journal + 1 }
         ensures capacity { vec_capacity self.old.journal ≤ vec_capacity self.new.journal }
     {
@@ -94,6 +99,7 @@ impl Lanes {
         requires number { (lane_in self.old.states.items lane).ended ≡ call }
         requires journal { vec_len self.old.journal + length (lane_in self.old.states.items lane).grants + 1 < vec_capacity self.old.journal }
         ensures noted { (s : Setting) (old : Contents) → Noted s lane old self.old (contents_of self.new) moved result }
+        ensures reports { HasReports (ended_past lane call moved (past_of self.old)) self.old self.new }
         ensures room { vec_len self.new.journal < vec_capacity self.new.journal }
     {
         match moved {

@@ -3,11 +3,12 @@ ghost use Rattle.std.specs.Prelude.{◌≡◌, ◌<◌, ◌+◌, ◌^◌, ℕ, B
 ghost use Rattle.sftp_history.specs.Calls.{Setting};
 ghost use Rattle.sftp_lane.specs.declared.lane.Moved.{Moved as MovedValue};
 ghost use Rattle.sftp_work.specs.Noting.{HasCall, IsAmid, KeepsOthers, Turning, amid, is_went, turns_left};
-ghost use Rattle.sftp_work.specs.SoFar.{HasRoom, IsLeft};
+ghost use Rattle.sftp_work.specs.SoFar.{HasRoom, IsIntact, IsLeft};
 ghost use Rattle.sftp_work.specs.Working.{IsOpened, IsWorking, Steps, Works, contents_of, lane_in};
 
 use crate::lanes::Lanes;
 use crate::noting::current_call;
+use crate::reports::keep_moved;
 use sftp_driver::Stepped;
 use sftp_lane::Moved;
 use ssh_encoding::OutOfMemory;
@@ -31,7 +32,7 @@ fn is_went(moved: &Moved) -> bool
 }
 
 impl Lanes {
-    /// One turn of a lane that has a call. Refused for want of memory.
+    /// One turn of a lane that has a call. Refused for want of memory. It notes nothing.
     fn turn(&mut self, alloc: Global, lane: u32) -> Result<Moved, OutOfMemory>
         requires opened { IsAmid self.old }
         requires call { HasCall (contents_of self.old) lane }
@@ -41,7 +42,7 @@ impl Lanes {
         ensures fewer { IfOk result (λ m. is_went m ≡ true → turns_left (lane_in self.new.states.items lane) < turns_left (lane_in self.old.states.items lane)) }
         ensures journal { IfOk result (λ m. vec_len self.new.journal + length (lane_in self.new.states.items lane).grants + 1 < vec_capacity self.new.journal) }
         ensures others { IfOk result (λ m. KeepsOthers lane self.old.states.items self.new.states.items) }
-        ensures left { OnErr result (IsLeft self.old self.new) }
+        ensures left { IsLeft self.old self.new }
         ensures room { HasRoom self.new }
     {
         let Some(call) = current_call(self.calls.as_slice(), &self.states, lane) else {
@@ -55,10 +56,10 @@ impl Lanes {
     /// One step of a lane: turns of its call, up to one that leaves an entry or waits. Refused for want of memory.
     pub fn step(&mut self, alloc: Global, lane: u32) -> Result<Stepped, OutOfMemory>
         requires opened { IsOpened self.old }
-        requires room { HasRoom self.old }
+        requires intact { IsIntact (length self.old.calls) self.old }
         ensures steps { (s : Setting) → IsWorking s self.old → IfOk result (λ event. Steps s lane self.old self.new event) }
         ensures left { OnErr result (IsLeft self.old self.new) }
-        ensures room { HasRoom self.new }
+        ensures intact { IsIntact (length self.old.calls) self.new }
     {
         if current_call(self.calls.as_slice(), &self.states, lane).is_none() {
             return Ok(Stepped::Nothing);
@@ -67,6 +68,7 @@ impl Lanes {
         loop {
             let moved = self.turn(alloc, lane)?;
             if !is_went(&moved) {
+                keep_moved(alloc, &mut self.outcomes, lane as usize, &moved)?;
                 return Ok(self.note(lane, number, moved));
             }
         }

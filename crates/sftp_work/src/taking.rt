@@ -1,12 +1,12 @@
 // What the lanes of an open session hand out and take.
-ghost use Rattle.std.specs.Prelude.{◌≡◌, false, None, IfOk, IfErr, OnErr, OnOk};
+ghost use Rattle.std.specs.Prelude.{◌≡◌, false, None, IfOk, IfErr, OnErr, OnOk, length};
 ghost use Rattle.std.specs.Option.{option_map};
 ghost use Rattle.sftp_model.specs.Pieces.{joined};
 ghost use Rattle.sftp_model.specs.ReplyReadings.{reply_at};
 ghost use Rattle.sftp_core.specs.Take.{IsFirst};
 ghost use Rattle.sftp_history.specs.Calls.{Setting};
 ghost use Rattle.sftp_driver.specs.Refusals.{refuses};
-ghost use Rattle.sftp_work.specs.SoFar.{HasRoom, IsLeft, StaysSoFar};
+ghost use Rattle.sftp_work.specs.SoFar.{IsIntact, IsLeft, StaysSoFar};
 ghost use Rattle.sftp_work.specs.Working.{IsOpened, IsWorking, HandsAll, TakesBody, past_of};
 
 use crate::closing::{add_entry, note_close};
@@ -19,10 +19,10 @@ impl Lanes {
     /// The frames of all unsent requests; None where nothing is unsent. Refused for want of memory.
     pub fn hand_out(&mut self) -> Result<Option<Chunk>, OutOfMemory>
         requires opened { IsOpened self.old }
-        requires room { HasRoom self.old }
+        requires intact { IsIntact (length self.old.calls) self.old }
         ensures hands_out { (s : Setting) → IsWorking s self.old → IfOk result (λ chunk. HandsAll s self.old self.new (option_map joined chunk)) }
         ensures left { OnErr result (IsLeft self.old self.new) }
-        ensures room { HasRoom self.new }
+        ensures intact { IsIntact (length self.old.calls) self.new }
     {
         if self.core.queued() == 0 {
             return Ok(None);
@@ -37,11 +37,11 @@ impl Lanes {
     /// of memory.
     pub fn take(&mut self, body: &[u8]) -> Result<(), TakeError>
         requires opened { IsOpened self.old }
-        requires room { HasRoom self.old }
+        requires intact { IsIntact (length self.old.calls) self.old }
         ensures takes { (s : Setting) → IsWorking s self.old → OnOk result (TakesBody s (reply_at body.now) self.old self.new) }
         ensures refused { IfErr result (λ e. IsFirst e (refuses (past_of self.old) (reply_at body.now))) }
         ensures stays { OnErr result (StaysSoFar self.old self.new) }
-        ensures room { HasRoom self.new }
+        ensures intact { IsIntact (length self.old.calls) self.new }
     {
         let before = self.core.queued();
         match self.take_frame(body) {

@@ -3,14 +3,17 @@ use Rattle.sftp_history.specs.Calls.{Setting}
 use Rattle.sftp_lanes.specs.Seen.{setting_by}
 use Rattle.sftp_driver.specs.declared.session.Phase.TheVariants.{Open}
 use Rattle.sftp_work.proofs.FaultLaws.{left_so_far}
-use Rattle.sftp_lanes.proofs.Opening.{fails_by, in_phase, works_on}
+use Rattle.sftp_lanes.proofs.Opening.{fails_by, in_phase, open_intact, works_on}
 use Rattle.sftp_lanes.proofs.session.SessionRunsLanes.cancel.Goals as goal
+
+pub cancel-requires-clause-intact : goal.cancel-requires-clause-intact
+cancel-requires-clause-intact c = open_intact c.self.inside.lanes c.self.inside.options c.self.inside.version c.self.inside.info c.self.inside.work c.self.inside.phase c.self.invariant (rw (← c.self.view_is) at c.requires.open)
 
 pub invariant_of-self : goal.invariant_of-self
 invariant_of-self c =
     let s : Setting = setting_by c.self.inside.lanes c.self.inside.options c.self.inside.version c.self.inside.info in
     works_on c.self.inside.lanes c.self.inside.options c.self.inside.version c.self.inside.info c.self.inside.work c.cancel.new.self c.self.inside.phase c.self.invariant (rw (← c.self.view_is) at c.requires.open)
-    c.cancel.ensures.room (λ working. (c.in-Ok.ensures.cancels s working).working)
+    c.cancel.ensures.intact (λ working. (c.in-Ok.ensures.cancels s working).working)
 
 pub returns-in-Ok-clause-ok : goal.returns-in-Ok-clause-ok
 returns-in-Ok-clause-ok c =
@@ -20,7 +23,7 @@ returns-in-Ok-clause-ok c =
 
 pub invariant_of-self-in-Err : goal.invariant_of-self-in-Err
 invariant_of-self-in-Err c =
-    fails_by c.self.inside.lanes c.self.inside.options c.self.inside.version c.self.inside.info c.self.inside.work c.cancel.new.self c.self.inside.phase c.self.invariant c.cancel.ensures.room (λ s. left_so_far s c.self.inside.work c.cancel.new.self c.in-Err.ensures.left)
+    fails_by c.self.inside.lanes c.self.inside.options c.self.inside.version c.self.inside.info c.self.inside.work c.cancel.new.self c.self.inside.phase c.self.invariant (rw (← c.self.view_is) at c.requires.open) c.cancel.ensures.intact (λ s. left_so_far s c.self.inside.work c.cancel.new.self c.in-Err.ensures.left)
 
 pub returns-in-Ok-clause-goes : goal.returns-in-Ok-clause-goes
 returns-in-Ok-clause-goes c =

@@ -1,11 +1,11 @@
-use Rattle.std.proofs.Common.{◌≡◌, ◌∙◌, ◌∷◌, [], ◌++◌, sym, refl, ap, subst, rules, List, Option}
+use Rattle.std.proofs.Common.{◌≡◌, ◌∙◌, ◌∷◌, [], ◌++◌, sym, refl, ap, subst, rules, length, List, Option}
 use Rattle.std.specs.Prelude.{reverse}
 use Rattle.std.proofs.lemmas.List.{reverse-append}
 use Rattle.sftp_model.specs.declared.reply.Reply.{Reply}
 use Rattle.sftp_core.specs.declared.tokens.Taken.TheVariants as taken_of
 use Rattle.sftp_core.specs.Core.{Core}
 use Rattle.sftp_core.specs.Info.{info_of, offers_limits}
-use Rattle.sftp_core.specs.Take.{limits_in}
+use Rattle.sftp_core.specs.Take.{fault_of, limits_in}
 use Rattle.sftp_history.specs.Calls.{Setting}
 use Rattle.sftp_history.specs.declared.event.Event.TheVariants.{Take}
 use Rattle.sftp_history.specs.declared.entry.Entry.{Entry}
@@ -19,9 +19,11 @@ use Rattle.sftp_driver.specs.Session.{IsLater}
 use Rattle.sftp_driver.proofs.Bare.{came, may_take, opened_later, queried_first}
 use Rattle.sftp_lanes.specs.Seen.{IsInPhase, setting_by}
 use Rattle.sftp_work.specs.declared.lanes.Lanes.{Lanes}
+use Rattle.sftp_work.specs.Reports.{lane_report, reports_of}
 use Rattle.sftp_work.specs.Working.{stage_of}
 use Rattle.sftp_work.proofs.FaultLaws.{refused_so_far}
-use Rattle.sftp_lanes.proofs.Opening.{facts_told, facts_untouched, fails_by, fit_told, in_phase, info_came, is_fixed, limits_are, opens_told, same_limits, still_untouched}
+use Rattle.sftp_work.proofs.ReportLaws.{leaves_intact}
+use Rattle.sftp_lanes.proofs.Opening.{facts_told, facts_untouched, fit_told, in_phase, info_came, is_fixed, limits_are, opens_told, refused_by, same_limits, still_untouched}
 use Rattle.sftp_lanes.proofs.session.SessionRunsLanes.take_limits.Goals as goal
 
 pub invariant_of-self : goal.invariant_of-self
@@ -46,7 +48,7 @@ invariant_of-self c =
     let still = still_untouched c.self.inside.lanes c.self.inside.work before (λ i. record (c.take_frame.ensures.rest i) { journal = c.push.new.self }) (ap asked past) f.1.1 in
     record {
       ok = c.self.invariant.ok;
-      room = search rules;
+      intact = leaves_intact (length c.self.inside.lanes) c.self.inside.work (record tells.new.work { journal = c.push.new.self }) c.self.invariant.intact (record { kept = ap reports_of tells.ensures.rest ∙ ap reports_of c.take_frame.ensures.rest; past = λ lane. ap (λ (p : List Entry). lane_report p lane) past }) (search rules);
       now = subst (λ (x : Lanes). IsInPhase c.self.inside.lanes c.self.inside.options c.self.inside.version tells.result (record x { journal = c.push.new.self }) Open) (sym tells.ensures.rest)
           (opens_told _ _ _ _ q.0 (limits_in t.reply) t.reply (record before { facts = tells.new.work.facts }) c.self.invariant.ok q.1.0 q.1.1 known facts fit calm t.goes all (facts_untouched _ before tells.new.work.facts still));
     }
@@ -54,7 +56,7 @@ invariant_of-self c =
 pub invariant_of-self-in-Err : goal.invariant_of-self-in-Err
 invariant_of-self-in-Err c =
     let q = (in_phase c.self.inside.lanes c.self.inside.options c.self.inside.version c.self.inside.info c.self.inside.work c.self.inside.phase Queried c.self.invariant (rw (← c.self.view_is) at c.requires.queried)).0 in
-    fails_by c.self.inside.lanes c.self.inside.options c.self.inside.version c.self.inside.info c.self.inside.work c.take_frame.new.self c.self.inside.phase c.self.invariant c.take_frame.ensures.room
+    refused_by c.self.inside.lanes c.self.inside.options c.self.inside.version c.self.inside.info c.self.inside.work c.take_frame.new.self c.self.inside.phase (fault_of c.in-Err.e) c.self.invariant c.take_frame.ensures.rest c.in-Err.ensures.noted c.take_frame.ensures.room
     (λ s. refused_so_far s c.in-Err.e _ _ _ _ _ (ap (λ (k : Core). k.fault) q.1.2) c.in-Err.ensures.refused c.in-Err.ensures.noted)
 
 pub returns-in-Ok-Limits-clause-ok : goal.returns-in-Ok-Limits-clause-ok

@@ -1,9 +1,11 @@
-use Rattle.std.proofs.Common.{◌≡◌, ◌∙◌, ◌++◌, ◌+◌, ◌∷◌, [], refl, sym, ap, inr, arith, rules, subst, true, false, Some, None}
+use Rattle.std.proofs.Common.{◌≡◌, ◌∙◌, ◌++◌, ◌+◌, ◌∷◌, [], refl, sym, ap, inr, arith, rules, subst, true, false, length, List, Some, None}
 use Rattle.std.specs.Prelude.{reverse}
 use Rattle.sftp_model.specs.declared.reply.Reply.{Reply}
 use Rattle.sftp_core.specs.declared.tokens.Taken.TheVariants as taken_of
 use Rattle.sftp_core.specs.Core.{Core}
+use Rattle.sftp_core.specs.Take.{fault_of}
 use Rattle.sftp_core.specs.Info.{info_of, info_with, offers_limits}
+use Rattle.sftp_history.specs.declared.entry.Entry.{Entry}
 use Rattle.sftp_history.specs.Readings.{asked}
 use Rattle.sftp_history.specs.Settings.{greeting}
 use Rattle.sftp_driver.specs.declared.session.Phase.TheVariants.{Greeted, Open}
@@ -11,12 +13,14 @@ use Rattle.sftp_driver.specs.NoLanes.{asked_past, idle_core, offered}
 use Rattle.sftp_driver.proofs.Bare.{asked_is, greets, opened_idle}
 use Rattle.sftp_work.proofs.FaultLaws.{refused_so_far}
 use Rattle.sftp_work.specs.declared.lanes.Lanes.{Lanes}
+use Rattle.sftp_work.specs.Reports.{lane_report, reports_of}
 use Rattle.sftp_work.specs.SoFar.{HasRoom}
 use Rattle.sftp_work.specs.Working.{past_of, stage_of}
 use Rattle.sftp_history.specs.Turns.{Stage}
 use Rattle.sftp_lanes.specs.Seen.{IsInPhase}
-use Rattle.sftp_lanes.proofs.Opening.{asked_fixed, facts_told, facts_untouched, fails_by, fit_told, in_phase, is_fixed, no_limits, opens_at_once, same_version, still_untouched}
+use Rattle.sftp_lanes.proofs.Opening.{asked_fixed, facts_told, facts_untouched, fit_told, in_phase, is_fixed, no_limits, opens_at_once, refused_by, same_version, still_untouched}
 use Rattle.sftp_work.proofs.Entries.{pushed}
+use Rattle.sftp_work.proofs.ReportLaws.{leaves_intact}
 use Rattle.sftp_lanes.proofs.session.SessionRunsLanes.take_version.Goals as goal
 
 pub invariant_of-self : goal.invariant_of-self
@@ -30,9 +34,10 @@ invariant_of-self c =
     let past = ap reverse items ∙ pushed c.take_frame.new.self.journal.items c.query_entry.result ∙ ap (λ w. c.query_entry.result ∷ w) (ap reverse c.in-Ok-Version.ensures.journal ∙ f.0.2) ∙ c.query_entry.ensures in
     let u = still_untouched _ _ c.take_frame.new.self c.take_frame.ensures.rest (ap (λ xs. asked (reverse xs)) c.in-Ok-Version.ensures.journal) f.1.1 in
     let none : c.take_frame.new.self.asked ≡ 0 = u.asked ∙ ap asked (ap reverse c.in-Ok-Version.ensures.journal ∙ f.0.2) in
+    let now : Lanes = record c.take_frame.new.self { journal = c.push.new.self; asked = c.take_frame.new.self.asked + 1 } in
     record {
       ok = c.self.invariant.ok;
-      room = search rules;
+      intact = leaves_intact (length c.self.inside.lanes) c.self.inside.work now c.self.invariant.intact (record { kept = ap reports_of c.take_frame.ensures.rest; past = λ lane. ap (λ (p : List Entry). lane_report p lane) past ∙ sym (ap (λ (p : List Entry). lane_report p lane) f.0.2) }) (search rules);
       now = ((v.extensions, (ap Some same, some, asked_is _ v.extensions _ v.leaves some, past)), (f.1.0, record { calls = u.calls; asked = ap (λ n. n + 1) none ∙ sym (ap asked past); count = u.count; each = u.each }));
     }
 
@@ -52,7 +57,7 @@ invariant_of-self-in-Ok-Version c =
     let u = facts_untouched _ c.take_frame.new.self t.new.work.facts (still_untouched _ _ c.take_frame.new.self c.take_frame.ensures.rest (ap (λ xs. asked (reverse xs)) c.in-Ok-Version.ensures.journal) f.1.1) in
     record {
       ok = c.self.invariant.ok;
-      room = subst HasRoom (sym t.ensures.rest) c.take_frame.ensures.room;
+      intact = leaves_intact (length c.self.inside.lanes) c.self.inside.work t.new.work c.self.invariant.intact (record { kept = ap reports_of t.ensures.rest ∙ ap reports_of c.take_frame.ensures.rest; past = λ lane. ap (λ (p : List Entry). lane_report p lane) (ap past_of t.ensures.rest ∙ ap reverse c.in-Ok-Version.ensures.journal) }) (subst HasRoom (sym t.ensures.rest) c.take_frame.ensures.room);
       now = subst (λ (x : Lanes). IsInPhase c.self.inside.lanes c.self.inside.options (Some c.in-Ok-Version.reply) t.result x Open) (sym t.ensures.rest)
           (opens_at_once _ _ _ _ v.extensions now c.self.invariant.ok (ap Some same) none known facts fit calm (ap reverse c.in-Ok-Version.ensures.journal ∙ f.0.2) u);
     }
@@ -60,7 +65,7 @@ invariant_of-self-in-Ok-Version c =
 pub invariant_of-self-in-Err : goal.invariant_of-self-in-Err
 invariant_of-self-in-Err c =
     let f = in_phase c.self.inside.lanes c.self.inside.options c.self.inside.version c.self.inside.info c.self.inside.work c.self.inside.phase Greeted c.self.invariant (rw (← c.self.view_is) at c.requires.greeted) in
-    fails_by c.self.inside.lanes c.self.inside.options c.self.inside.version c.self.inside.info c.self.inside.work c.take_frame.new.self c.self.inside.phase c.self.invariant c.take_frame.ensures.room
+    refused_by c.self.inside.lanes c.self.inside.options c.self.inside.version c.self.inside.info c.self.inside.work c.take_frame.new.self c.self.inside.phase (fault_of c.in-Err.e) c.self.invariant c.take_frame.ensures.rest c.in-Err.ensures.noted c.take_frame.ensures.room
     (λ s. refused_so_far s c.in-Err.e _ _ _ _ _ (ap (λ (k : Core). k.fault) f.0.0) c.in-Err.ensures.refused c.in-Err.ensures.noted)
 
 pub returns-then-offers_limits-clause-ok : goal.returns-then-offers_limits-clause-ok

@@ -5,9 +5,10 @@ use Rattle.sftp_ties.specs.Dues.{loose_of}
 use Rattle.sftp_ties.specs.Lanes.{LaneValue, grant_places}
 use Rattle.sftp_ties.specs.Places.{without}
 use Rattle.sftp_work.specs.Closing.{HasClosed, IsClosed, closed_in}
-use Rattle.sftp_work.specs.Working.{Contents, contents_of, lane_in}
+use Rattle.sftp_work.specs.Working.{Contents, contents_of, lane_in, past_of}
 use Rattle.sftp_work.proofs.ClosingLaws.{Goes, closed_all, counted_in, goes_next, goes_on, grants_in, grants_left, there_in}
 use Rattle.sftp_work.proofs.Contents.{state_at}
+use Rattle.sftp_work.proofs.ReportLaws.{leaves_on}
 use Rattle.sftp_work.proofs.UnnotedLaws.{closed_on}
 use Rattle.sftp_work.proofs.lanes.Lanes.close_loose.Goals as goal
 
@@ -78,6 +79,7 @@ loop-k-preserved c =
       λ s before base. (let was : Goes s before c.args.lane (contents_of c.args.self.now) (contents_of c.loop-k.self) = c.loop-k.invariant.1 s before base in
           goes_on s before c.args.lane (contents_of c.args.self.now) (contents_of c.loop-k.self) (contents_of c.close.new.self) was
           (subst (λ (x : Contents). Goes s before c.args.lane (contents_of c.loop-k.self) x) (sym closed.is) (goes_next s before c.args.lane k (contents_of c.loop-k.self) f.0 was.closing here first closed.small))),
+      leaves_on (past_of c.args.self.now) c.args.self.now c.loop-k.self c.close.new.self c.loop-k.invariant.2 c.close.ensures.reports,
     )
 
 pub forget_unawaited-requires-clause-opened : goal.forget_unawaited-requires-clause-opened
@@ -106,3 +108,6 @@ returns-clause-closed c = λ s before base.
     let closed : IsClosed s before (contents_of c.args.self.now) (contents_of c.loop-k.self) =
     closed_all s before c.args.lane (contents_of c.args.self.now) (contents_of c.loop-k.self) was (subst (λ (y : LaneValue). loose_of y.site (grant_places y.grants) ≡ []) is (c.loose.ensures.none c.in_default.is)) in
     closed_on s before (contents_of c.args.self.now) (contents_of c.loop-k.self) (contents_of c.forget_unawaited.new.self) closed (c.forget_unawaited.ensures.forgets s closed.works)
+
+pub returns-clause-reports : goal.returns-clause-reports
+returns-clause-reports c = leaves_on (past_of c.args.self.now) c.args.self.now c.loop-k.self c.forget_unawaited.new.self c.loop-k.invariant.2 c.forget_unawaited.ensures.reports

@@ -3,6 +3,7 @@ use Rattle.std.specs.Prelude.{vec_len, vec_capacity}
 use Rattle.sftp_history.specs.declared.entry.Entry.{Entry}
 use Rattle.sftp_history.specs.Calls.{Setting}
 use Rattle.sftp_work.specs.Closing.{Closing}
+use Rattle.sftp_work.specs.Reports.{LeavesReports}
 use Rattle.sftp_work.specs.Working.{contents_of, lane_in}
 use Rattle.sftp_work.proofs.ClosingLaws.{Goes}
 use Rattle.sftp_work.proofs.lanes.Lanes.close_loose.Given as goal
@@ -11,6 +12,7 @@ abbrev pub invariant-loop-k : goal.invariant-loop-k
 invariant-loop-k l =
     (vec_len l.self.journal + length (lane_in l.self.states.items l.lane).grants < vec_capacity l.self.journal)
     × ((s : Setting) (before : List Entry) → Closing s before l.lane (contents_of l.fn.self) → Goes s before l.lane (contents_of l.fn.self) (contents_of l.self))
+    × LeavesReports l.fn.self l.self
 
 abbrev pub decreases-loop-k : goal.decreases-loop-k
 decreases-loop-k l = length (lane_in l.self.states.items l.lane).grants

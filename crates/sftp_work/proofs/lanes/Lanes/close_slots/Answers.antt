@@ -6,10 +6,11 @@ use Rattle.sftp_ties.specs.Lanes.{LaneValue}
 use Rattle.sftp_steps.specs.Ends.{StaysOpen}
 use Rattle.sftp_work.specs.Closing.{HasClosed, closed_in}
 use Rattle.sftp_work.specs.Letting.{IsLetGo, Letting}
-use Rattle.sftp_work.specs.Working.{Contents, contents_of, lane_in}
+use Rattle.sftp_work.specs.Working.{Contents, contents_of, lane_in, past_of}
 use Rattle.sftp_work.proofs.ClosingLaws.{counted_in, grants_left}
 use Rattle.sftp_work.proofs.Contents.{state_at}
 use Rattle.sftp_work.proofs.LettingLaws.{first_is, letting_closes, letting_grants, letting_over, letting_passes, letting_there, none_left}
+use Rattle.sftp_work.proofs.ReportLaws.{leaves_on}
 use Rattle.sftp_work.proofs.UnnotedLaws.{let_go_on}
 use Rattle.sftp_work.proofs.lanes.Lanes.close_slots.Goals as goal
 
@@ -91,6 +92,7 @@ loop-rest-preserved-in-Some c =
       λ s before base. (let h : Letting s before c.args.lane (contents_of c.loop-rest.self) (slot ∷ later) = subst (λ (xs : List Slot). Letting s before c.args.lane (contents_of c.loop-rest.self) xs) split (c.loop-rest.invariant.1 s before base) in
           subst (λ (x : Contents). Letting s before c.args.lane x later) (sym closed.is) (letting_closes s before c.args.lane k (contents_of c.loop-rest.self) f.0 slot later h f.1.1 f.1.2 here closed.small)),
       ap (λ (x : Contents). x.begun) closed.is ∙ c.loop-rest.invariant.2,
+      leaves_on (past_of c.args.self.now) c.args.self.now c.loop-rest.self c.close.new.self c.loop-rest.invariant.3 c.close.ensures.reports,
     )
 
 pub loop-rest-preserved : goal.loop-rest-preserved
@@ -107,4 +109,8 @@ loop-rest-preserved c =
       λ s before base. (let h : Letting s before c.args.lane (contents_of c.loop-rest.self) (slot ∷ later) = subst (λ (xs : List Slot). Letting s before c.args.lane (contents_of c.loop-rest.self) xs) split (c.loop-rest.invariant.1 s before base) in
           letting_passes s before c.args.lane (contents_of c.loop-rest.self) slot later h (subst (λ (y : LaneValue). StaysOpen y.grants slot later) is (c.closing.ensures.none c.in_default.is))),
       c.loop-rest.invariant.2,
+      c.loop-rest.invariant.3,
     )
+
+pub returns-in-empty-clause-reports : goal.returns-in-empty-clause-reports
+returns-in-empty-clause-reports c = leaves_on (past_of c.args.self.now) c.args.self.now c.loop-rest.self c.forget_unawaited.new.self c.loop-rest.invariant.3 c.forget_unawaited.ensures.reports

@@ -4,6 +4,7 @@ use Rattle.sftp_history.specs.declared.entry.Entry.{Entry}
 use Rattle.sftp_history.specs.Calls.{Setting}
 use Rattle.sftp_steps.specs.Rest.{begun_of}
 use Rattle.sftp_work.specs.Letting.{Letting}
+use Rattle.sftp_work.specs.Reports.{LeavesReports}
 use Rattle.sftp_work.specs.Working.{contents_of, lane_in}
 use Rattle.sftp_work.proofs.lanes.Lanes.close_slots.Given as goal
 
@@ -12,6 +13,7 @@ invariant-loop-rest l =
     (vec_len l.self.journal + length (lane_in l.self.states.items l.lane).grants < vec_capacity l.self.journal)
     × ((s : Setting) (before : List Entry) → Letting s before l.lane (contents_of l.fn.self) l.fn.slots → Letting s before l.lane (contents_of l.self) l.rest)
     × (begun_of (lane_in l.self.states.items) ≡ begun_of (lane_in l.fn.self.states.items))
+    × LeavesReports l.fn.self l.self
 
 abbrev pub decreases-loop-rest : goal.decreases-loop-rest
 decreases-loop-rest l = length l.rest

@@ -10,7 +10,7 @@ use Rattle.sftp_work.proofs.UnnotedLaws.{HasForgotten, has_forgotten, forgets_id
 use Rattle.sftp_work.proofs.lanes.Lanes.forget_unawaited.Goals as goal
 
 pub loop-k-init : goal.loop-k-init
-loop-k-init c = (c.requires.there, c.requires.idle, λ s w. unnoted_self s (contents_of c.args.self.now) w, refl)
+loop-k-init c = (c.requires.there, c.requires.idle, λ s w. unnoted_self s (contents_of c.args.self.now) w, refl, refl)
 
 pub index-requires : goal.index-requires
 index-requires c =
@@ -59,6 +59,7 @@ loop-k-preserved c =
       forgets_idle c.args.lane k mid c.forget.new.core c.forget.new.self lt idle has,
       λ s w. (let u : Unnoted s old mid = c.loop-k.invariant.2 s w in unnoted_on s old mid _ u (forgets_unnoted s c.args.lane k mid c.forget.new.core c.forget.new.self u.works lt idle has refl)),
       c.loop-k.invariant.3,
+      c.loop-k.invariant.4,
     )
 
 pub returns-clause-none : goal.returns-clause-none

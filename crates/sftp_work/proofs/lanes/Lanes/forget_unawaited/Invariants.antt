@@ -1,5 +1,6 @@
 use Rattle.std.proofs.Common.{◌≡◌, ◌<◌, None, length}
 use Rattle.sftp_history.specs.Calls.{Setting}
+use Rattle.sftp_work.specs.Reports.{reports_of}
 use Rattle.sftp_work.specs.Working.{IsWorking, Unnoted, contents_of, lane_in}
 use Rattle.sftp_work.proofs.lanes.Lanes.forget_unawaited.Given as goal
 
@@ -9,6 +10,7 @@ invariant-loop-k l =
     × ((lane_in l.self.states.items l.lane).running ≡ None)
     × ((s : Setting) → IsWorking s l.fn.self → Unnoted s (contents_of l.fn.self) (contents_of l.self))
     × (l.self.journal ≡ l.fn.self.journal)
+    × (reports_of l.self ≡ reports_of l.fn.self)
 
 abbrev pub decreases-loop-k : goal.decreases-loop-k
 decreases-loop-k l = length (lane_in l.self.states.items l.lane).tickets

@@ -1,4 +1,4 @@
-use Rattle.std.proofs.Common.{rules, ◌≡◌, ◌<◌, ◌∷◌, List, length, ap, sym, subst, ◌∙◌}
+use Rattle.std.proofs.Common.{rules, ◌≡◌, ◌<◌, ◌∷◌, List, true, length, ap, sym, subst, ◌∙◌, arith, refl}
 use Rattle.std.specs.Prelude.{reverse, slice_set}
 use Rattle.sftp_model.specs.declared.slot.Slot.{Slot}
 use Rattle.sftp_history.specs.declared.entry.Entry.{Entry}
@@ -7,10 +7,11 @@ use Rattle.sftp_ties.specs.Changes.{let_go_lane}
 use Rattle.sftp_ties.specs.Lanes.{LaneValue}
 use Rattle.sftp_steps.specs.Rest.{begun_of}
 use Rattle.sftp_work.specs.Letting.{IsLetGo, Letting}
-use Rattle.sftp_work.specs.Working.{Contents, contents_of, lane_in}
+use Rattle.sftp_work.specs.Working.{Contents, contents_of, lane_in, past_of}
 use Rattle.sftp_work.proofs.CancellingLaws.{there_of}
 use Rattle.sftp_work.proofs.Contents.{pushed, state_at}
 use Rattle.sftp_work.proofs.LettingLaws.{let_go_begun, let_go_in, letting_starts, lets_lane_go, lets_none_go}
+use Rattle.sftp_work.proofs.ReportLaws.{let_go_intact}
 use Rattle.sftp_work.proofs.lanes.Lanes.let_go.Goals as goal
 
 pub returns-then-lane-len-clause-lets_go : goal.returns-then-lane-len-clause-lets_go
@@ -60,3 +61,23 @@ returns-clause-lets_go c =
     (subst (λ (y : Contents). Letting s (entry.LetGo c.args.lane ∷ old.past) c.args.lane y (lane_in old.states c.args.lane).site.slots) same (letting_starts s c.args.lane old w within done holds)) in
     lets_lane_go s c.args.lane old (contents_of c.close_slots.new.self) w within done holds
     (subst (λ (y : Contents). IsLetGo s (entry.LetGo c.args.lane ∷ old.past) y (contents_of c.close_slots.new.self)) (sym same) (c.close_slots.ensures.let_go s (entry.LetGo c.args.lane ∷ old.past) first))
+
+pub set-requires : goal.set-requires
+set-requires c =
+    let there : c.args.lane < length c.args.self.now.states.items = search rules in
+    let works = c.requires.done.1.0 in
+    let states = works.stands.count in
+    let calls = works.stands.lanes in
+    let count = c.requires.intact.marks in
+    omega (arith, there, states, calls, count)
+
+pub returns-clause-intact : goal.returns-clause-intact
+returns-clause-intact c =
+    let there : c.args.lane < length c.args.self.now.states.items = search rules in
+    let works = c.requires.done.1.0 in
+    let states = works.stands.count in
+    let calls = works.stands.lanes in
+    let kept : c.reserve.new.self.items ≡ c.args.self.now.journal.items = search rules in
+    let past : reverse c.add_entry.new.journal.items ≡ entry.LetGo c.args.lane ∷ past_of c.args.self.now = ap reverse c.add_entry.ensures.items ∙ pushed c.reserve.new.self.items (entry.LetGo c.args.lane) ∙ ap (λ (es : List Entry). entry.LetGo c.args.lane ∷ reverse es) kept in
+    let marked : c.set.new.self ≡ slice_set c.args.self.now.gone c.args.lane true = search rules in
+    let_go_intact (length c.args.self.now.calls) c.args.lane c.args.self.now _ c.close_slots.new.self c.requires.intact (omega (arith, there, states, calls)) refl marked past c.close_slots.ensures.reports (λ none. c.close_slots.ensures.room)

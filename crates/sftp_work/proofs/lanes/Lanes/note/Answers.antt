@@ -8,9 +8,11 @@ use Rattle.sftp_lane.specs.declared.lane.Moved.{Moved}
 use Rattle.sftp_lane.specs.declared.lane.Moved.TheVariants as moved
 use Rattle.sftp_work.specs.Closing.{Closing, IsClosed}
 use Rattle.sftp_work.specs.Noting.{Turning, amid, asked_in, ended_in}
-use Rattle.sftp_work.specs.Working.{Contents, StepsIn, contents_of}
+use Rattle.sftp_work.specs.Reports.{HasReports, ended_past}
+use Rattle.sftp_work.specs.Working.{Contents, StepsIn, contents_of, past_of}
 use Rattle.sftp_work.proofs.BegunLaws.{begun_runs}
 use Rattle.sftp_work.proofs.NotingLaws.{asked_noted, asked_runs, asked_step, ended_closing, ended_noted, ended_step, turned_there, turning_counted, turning_few, turning_number, waits_in, waits_runs}
+use Rattle.sftp_work.proofs.ReportLaws.{leaves_on}
 use Rattle.sftp_work.proofs.lanes.Lanes.note.Goals as goal
 
 pub note_asked-requires-clause-counted : goal.note_asked-requires-clause-counted
@@ -71,3 +73,14 @@ returns-in-Ended-clause-noted c = λ s old t others.
     let closing : Closing s now c.args.lane (contents_of c.note_ended.new.self) = subst (λ (x : Contents). Closing s now c.args.lane x) noted (ended_closing s c.args.lane o old mid ends) in
     ended_step s c.args.lane o old mid (contents_of c.close_loose.new.self) ends
     (subst (λ (x : Contents). IsClosed s now x (contents_of c.close_loose.new.self)) (sym noted) (c.close_loose.ensures.closed s now closing))
+
+pub returns-in-Asked-clause-reports : goal.returns-in-Asked-clause-reports
+returns-in-Asked-clause-reports c =
+    let p : List Entry = past_of c.args.self.now in
+    subst (λ (m : Moved). HasReports (ended_past c.args.lane c.args.call m p) c.args.self.now c.note_asked.new.self) (sym c.in-Asked.is) c.note_asked.ensures.reports
+
+pub returns-in-Ended-clause-reports : goal.returns-in-Ended-clause-reports
+returns-in-Ended-clause-reports c =
+    let p : List Entry = past_of c.args.self.now in
+    subst (λ (m : Moved). HasReports (ended_past c.args.lane c.args.call m p) c.args.self.now c.close_loose.new.self) (sym c.in-Ended.is)
+    (leaves_on (entry.Event (End c.args.lane c.args.call c.in-Ended.outcome) ∷ p) c.args.self.now c.note_ended.new.self c.close_loose.new.self c.note_ended.ensures.reports c.close_loose.ensures.reports)

@@ -2,7 +2,7 @@ use Rattle.std.proofs.Common.{◌≡◌}
 use Rattle.sftp_steps.specs.Rest.{begun_of}
 use Rattle.sftp_history.specs.Calls.{Setting}
 use Rattle.sftp_work.specs.Noting.{HasCall, OthersRun, amid, turns_left}
-use Rattle.sftp_work.specs.SoFar.{HasRoom}
+use Rattle.sftp_work.specs.SoFar.{HasRoom, IsLeft}
 use Rattle.sftp_work.specs.Working.{IsWorking, Unnoted, contents_of, lane_in}
 use Rattle.sftp_work.proofs.lanes.Lanes.step.Given as goal
 
@@ -14,6 +14,7 @@ invariant-loop-moved l =
     × ((lane_in l.self.states.items l.lane).ended ≡ l.number)
     × OthersRun (begun_of (lane_in l.fn.self.states.items)) l.lane l.self.states.items
     × HasRoom l.self
+    × IsLeft l.fn.self l.self
 
 abbrev pub decreases-loop-moved : goal.decreases-loop-moved
 decreases-loop-moved l = turns_left (lane_in l.self.states.items l.lane)

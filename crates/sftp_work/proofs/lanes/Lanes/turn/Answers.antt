@@ -1,15 +1,15 @@
-use Rattle.std.proofs.Common.{rules, ◌≡◌, ◌<◌, ◌≤◌, ◌+◌, true, Some, length, ap, sym, subst, ◌∙◌, arith}
+use Rattle.std.proofs.Common.{rules, ◌≡◌, ◌<◌, ◌≤◌, ◌+◌, true, Some, None, length, refl, ap, sym, subst, ◌∙◌, arith}
 use Rattle.std.specs.Prelude.{IfOk, reverse, slice_set, vec_capacity, vec_len}
 use Rattle.std.proofs.lemmas.Result.{IfOk-weaker}
 use Rattle.sftp_lane.specs.Turning.{Turned}
 use Rattle.sftp_lane.specs.declared.lane.Moved.{Moved}
 use Rattle.sftp_ties.specs.Lanes.{LaneValue}
-use Rattle.sftp_work.specs.Noting.{KeepsOthers, Turning, amid, call_in, is_went, turns_left}
+use Rattle.sftp_work.specs.Noting.{KeepsOthers, Turning, amid, call_in, is_went, turned_in, turns_left}
 use Rattle.sftp_work.specs.Working.{Contents, contents_of, lane_in}
 use Rattle.sftp_work.proofs.BegunLaws.{others_kept}
 use Rattle.sftp_work.proofs.Contents.{set_here, state_at}
 use Rattle.sftp_work.proofs.NotingLaws.{at_call, within_states}
-use Rattle.sftp_work.proofs.TurningLaws.{may_have, turned_fewer, turned_grants, turned_ok, turned_same, turning_ok}
+use Rattle.sftp_work.proofs.TurningLaws.{may_have, turned_fewer, turned_grants, turned_ok, turned_same, turned_unfailed, turning_ok}
 use Rattle.sftp_work.proofs.lanes.Lanes.turn.Goals as goal
 
 pub turn-requires-clause-call : goal.turn-requires-clause-call
@@ -128,3 +128,16 @@ returns-clause-journal c =
     IfOk-weaker c.turn.result (λ (m : Moved). Turned c.in-Some.call.now old.facts old.asked old.core c.turn.new.core v now m)
     (λ (m : Moved). vec_len c.reserve.new.self + length (lane_in (slice_set old.states c.args.lane now) c.args.lane).grants + 1 < vec_capacity c.reserve.new.self)
     (λ m t. (let more = turned_grants c.in-Some.call.now old.facts old.asked old.core c.turn.new.core v now m t in omega (arith, more, same, room))) c.turn.ensures.turned
+
+pub returns-clause-left : goal.returns-clause-left
+returns-clause-left c =
+    let some : call_in c.args.self.now.calls c.args.self.now.states.items c.args.lane ≡ Some c.in-Some.call.now = search rules in
+    let old : Contents = contents_of c.args.self.now in
+    let lt = within_states old c.args.lane c.in-Some.call.now (at_call old c.args.lane c.in-Some.call.now some) in
+    let is : c.index_mut-state.result.now ≡ lane_in old.states c.args.lane = state_at old.states c.args.lane c.index_mut-state.result.now lt c.index_mut-state.ensures.value in
+    let kept : c.reserve.new.self.items ≡ c.args.self.now.journal.items = search rules in
+    let t = turned_ok c.in-Some.call.now old.facts old.asked old.core c.turn.new.core c.index_mut-state.result.now c.turn.new.self (lane_in old.states c.args.lane) c.turn.result is c.turn.ensures.turned in
+    let o = c.requires.opened in
+    let was : Contents = amid o.1.0 old in
+    let unfailed : c.turn.new.core.fault ≡ None = turned_unfailed o.0 was (turned_in was c.args.lane c.turn.new.core c.turn.new.self) c.args.lane c.turn.result (turning_ok o.0 was c.args.lane c.in-Some.call.now c.turn.new.core c.turn.new.self c.turn.result o.1.1 some t c.turn.ensures.small) c.turn.ensures.left in
+    record { past = ap reverse kept; fault = unfailed ∙ sym o.1.1.rest.between.tied.work.unfailed; reports = refl }
