@@ -19,7 +19,7 @@ use Rattle.sftp_plan.specs.declared.next.Next.TheVariants as step
 use Rattle.sftp_plan.specs.declared.next.Running.{Running}
 use Rattle.sftp_plan.specs.declared.next.Running.TheVariants as running
 use Rattle.sftp_plan.specs.Machines.{awaited}
-use Rattle.sftp_plan.specs.Asking.{BeginsAsking, GoesOnAsking, HasGrant, IsNoClose, IsPlain, Names, WidensAsking, opened_after, opened_by}
+use Rattle.sftp_plan.specs.Asking.{BeginsAsking, GoesOnAsking, GoesOnBy, HasGrant, IsNoClose, IsPlain, Names, ReadsOn, WidensAsking, is_window, opened_after, opened_by}
 use Rattle.sftp_history.specs.declared.call.Call.{Call}
 use Rattle.sftp_history.specs.Grants.{is_close}
 use Rattle.sftp_ties.specs.Lanes.{Held, LaneValue, Ticketed, grant_places}
@@ -73,14 +73,15 @@ last_gives core g here = ap (release_gives g) (one_user core g here)
 -- ---- a turn whose reply came
 
 pub turned_replied : (c : Call) (facts : Facts) (place : ℕ) (core between new : Core) (v now : LaneValue) (r : Running) (p : ℕ) (y : Reply) (tickets : List Ticketed) (grants : List Held) (n : Next) (o : Result Moved OutOfMemory) → v.running ≡ Some r
-    → awaited r v.site ≡ Some p → Spent core between v.tickets tickets v.grants grants p y → WentOn r (Some y) c facts place v.site now.site n → GoesOnAsking (opened_after r (Some y)) place (reads_under (Some r)) v.site now.site n → now.ended ≡ v.ended
+    → awaited r v.site ≡ Some p → Spent core between v.tickets tickets v.grants grants p y → WentOn r (Some y) c facts place v.site now.site n → GoesOnAsking (opened_after r (Some y)) place (reads_under (Some r)) v.site now.site n → GoesOnBy r (Some y) place facts n → now.ended ≡ v.ended
     → IfOk o (λ m. Settles between new tickets now.tickets grants now.grants now.running place n m) → IfOk o (λ m. Turned c facts place core new v now m)
-turned_replied c facts place core between new v now r p y tickets grants n (Err e) was looks spent ran asks ended settles = settles
-turned_replied c facts place core between new v now r p y tickets grants n (Ok m) was looks spent ran asks ended settles =
+turned_replied c facts place core between new v now r p y tickets grants n (Err e) was looks spent ran asks by ended settles = settles
+turned_replied c facts place core between new v now r p y tickets grants n (Ok m) was looks spent ran asks by ended settles =
     Replied (record {
       answer = n;
       ended = ended;
       asks = asks;
+      by = by;
       running = r;
       awaits = p;
       reply = y;
@@ -96,10 +97,10 @@ turned_replied c facts place core between new v now r p y tickets grants n (Ok m
 
 -- and one that awaited none
 pub turned_unreplied : (c : Call) (facts : Facts) (place : ℕ) (core new : Core) (v now : LaneValue) (r : Running) (n : Next) (o : Result Moved OutOfMemory) → v.running ≡ Some r → awaited r v.site ≡ None → WentOn r None c facts place v.site now.site n
-    → GoesOnAsking (opened_after r None) place (reads_under (Some r)) v.site now.site n → now.ended ≡ v.ended → IfOk o (λ m. Settles core new v.tickets now.tickets v.grants now.grants now.running place n m) → IfOk o (λ m. Turned c facts place core new v now m)
-turned_unreplied c facts place core new v now r n (Err e) was looks ran asks ended settles = settles
-turned_unreplied c facts place core new v now r n (Ok m) was looks ran asks ended settles =
-    Unreplied (record { answer = n; ended = ended; running = r; was = was; looks = looks; asks = asks; ran = ran; settles = settles })
+    → GoesOnAsking (opened_after r None) place (reads_under (Some r)) v.site now.site n → GoesOnBy r None place facts n → now.ended ≡ v.ended → IfOk o (λ m. Settles core new v.tickets now.tickets v.grants now.grants now.running place n m) → IfOk o (λ m. Turned c facts place core new v now m)
+turned_unreplied c facts place core new v now r n (Err e) was looks ran asks by ended settles = settles
+turned_unreplied c facts place core new v now r n (Ok m) was looks ran asks by ended settles =
+    Unreplied (record { answer = n; ended = ended; running = r; was = was; looks = looks; asks = asks; by = by; ran = ran; settles = settles })
 
 -- ---- what a machine may ask
 
@@ -174,9 +175,9 @@ widens_others running place site (step.Done o) active x = x
 -- ---- a turn whose reply is missing
 
 pub turned_meanwhile : (c : Call) (facts : Facts) (place : ℕ) (core new : Core) (v now : LaneValue) (r : Running) (k : ℕ) (t : Ticketed) (n : Next) (o : Result Moved OutOfMemory) → v.running ≡ Some r → awaited r v.site ≡ Some t.place → slice_get v.tickets k ≡ Some t → reply_in (at core t.ticket) ≡ None
-    → Widened r c facts place v.site n → WidensAsking r place v.site n → now.site ≡ v.site → now.ended ≡ v.ended → IfOk o (λ m. SettlesMeanwhile core new v.tickets now.tickets v.grants now.grants now.running place n m) → IfOk o (λ m. Turned c facts place core new v now m)
-turned_meanwhile c facts place core new v now r k t n (Err e) was looks here missing ran asks site ended settles = settles
-turned_meanwhile c facts place core new v now r k t (step.Wait then) (Ok m) was looks here missing ran asks site ended settles =
+    → Widened r c facts place v.site n → WidensAsking r place v.site n → (is_window r ≡ true → ReadsOn place (reads_under (Some r)) facts n) → now.site ≡ v.site → now.ended ≡ v.ended → IfOk o (λ m. SettlesMeanwhile core new v.tickets now.tickets v.grants now.grants now.running place n m) → IfOk o (λ m. Turned c facts place core new v now m)
+turned_meanwhile c facts place core new v now r k t n (Err e) was looks here missing ran asks reads site ended settles = settles
+turned_meanwhile c facts place core new v now r k t (step.Wait then) (Ok m) was looks here missing ran asks reads site ended settles =
     Waiting (record {
       running = r;
       k = k;
@@ -196,10 +197,10 @@ turned_meanwhile c facts place core new v now r k t (step.Wait then) (Ok m) was 
         ended = ended i;
       };
     })
-turned_meanwhile c facts place core new v now r k t (step.Ask a then) (Ok m) was looks here missing ran asks site ended settles =
-    Widening (record { answer = step.Ask a then; active = tt; ended = ended; running = r; k = k; ticket = t; was = was; looks = looks; here = here; missing = missing; site = site; asks = asks; ran = ran; settles = settles })
-turned_meanwhile c facts place core new v now r k t (step.Done o) (Ok m) was looks here missing ran asks site ended settles =
-    Widening (record { answer = step.Done o; active = tt; ended = ended; running = r; k = k; ticket = t; was = was; looks = looks; here = here; missing = missing; site = site; asks = asks; ran = ran; settles = settles })
+turned_meanwhile c facts place core new v now r k t (step.Ask a then) (Ok m) was looks here missing ran asks reads site ended settles =
+    Widening (record { answer = step.Ask a then; active = tt; ended = ended; running = r; k = k; ticket = t; was = was; looks = looks; here = here; missing = missing; site = site; asks = asks; reads = reads; ran = ran; settles = settles })
+turned_meanwhile c facts place core new v now r k t (step.Done o) (Ok m) was looks here missing ran asks reads site ended settles =
+    Widening (record { answer = step.Done o; active = tt; ended = ended; running = r; k = k; ticket = t; was = was; looks = looks; here = here; missing = missing; site = site; asks = asks; reads = reads; ran = ran; settles = settles })
 
 -- ---- the grants that a call may name after a reply
 

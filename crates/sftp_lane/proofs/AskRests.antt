@@ -50,6 +50,7 @@ use Rattle.sftp_ties.proofs.HoldLaws.{ticket_push}
 use Rattle.sftp_ties.proofs.PlaceLaws.{push_other}
 use Rattle.sftp_ties.proofs.RestLaws.{none_due_is_settled}
 use Rattle.sftp_ties.proofs.SessionLaws.{each_with}
+use Rattle.sftp_steps.specs.Budgets.{Spends}
 use Rattle.sftp_steps.specs.Rest.{AtRest, Counted, IsReadAt, IsTransferAt, LaneAsks, RunFits, awaited_in, is_transfer, opened_in, weigh}
 use Rattle.sftp_steps.proofs.AskedLaws.{asks_on, read_on}
 use Rattle.sftp_steps.proofs.TransferLaws.{place_below}
@@ -219,8 +220,9 @@ asks_new past core new lane id tickets v opened reads old a r q u x stood others
 
 pub asked_rests : (s : Setting) (past : List Entry) (core new : Core) (lanes : ℕ → LaneValue) (begun : ℕ → Bool) (lane id : ℕ) (now : LaneValue) (tickets : List Ticketed) (opened : Option ℕ) (reads : List ReadAt) (old : Site) (a : Ask_of) (r : Running) (q : Request) → AtRest s past core lanes begun → lane < length s.lanes
     → Under past core new lane id a q → AsksOrDefers opened (asked past) reads old now.site a r → ((x : ReadAt) → IsAmong x reads → IsReadAt past x) → ((p : ℕ) → is_in p (ticket_places tickets) ≡ true → IsTransferAt past p) → ((g : ℕ) → opened ≡ Some g → is_in g (grant_places now.grants) ≡ true) → now.running ≡ Some r
-    → now.tickets ≡ tickets ++ (record { place = asked past; ticket = id }) ∷ [] → now.ended ≡ (lanes lane).ended → id < 2 ^ 32 → TurnTied s past new (with_lane lanes lane) lane now (moved.Asked id q) → IsAsked s past core new (with_lane lanes lane now) begun lane id q
-asked_rests s past core new lanes begun lane id now tickets opened reads old a r q h there u x stood others held was pushed same small t =
+    → now.tickets ≡ tickets ++ (record { place = asked past; ticket = id }) ∷ [] → now.ended ≡ (lanes lane).ended → id < 2 ^ 32 → TurnTied s past new (with_lane lanes lane) lane now (moved.Asked id q) → Spends s (own_request past lane id q ∷ past) new (with_lane lanes lane now)
+    → IsAsked s past core new (with_lane lanes lane now) begun lane id q
+asked_rests s past core new lanes begun lane id now tickets opened reads old a r q h there u x stood others held was pushed same small t spent =
     let b = h.between in
     let e : Entry = own_request past lane id q in
     let free : IsFree past id = (small, u.free) in
@@ -242,6 +244,7 @@ asked_rests s past core new lanes begun lane id now tickets opened reads old a r
           due = due;
           tied = t.1 good.run;
           counted = u.counted;
+          spends = spent;
           asks = λ w lt. each_with (λ n v. LaneAsks (e ∷ past) n v) lanes lane now (length s.lanes) (asks_new past core new lane id tickets now opened reads old a r q u x stood others held was pushed ends)
               (λ n less ne. asks_on past (e ∷ past) n (lanes n) (λ p below. asked_other past (owner.Call lane (ended past lane)) id p q below) (b.tied.each n less).goes.awaits (b.asks n less)) w lt;
         };

@@ -8,7 +8,7 @@ use Rattle.sftp_model.specs.declared.slot.Site.{Site}
 use Rattle.sftp_calls.specs.CallPlans as plan
 use Rattle.sftp_plan.specs.declared.next.Next.{Next}
 use Rattle.sftp_plan.specs.declared.next.Next.TheVariants as step
-use Rattle.sftp_plan.specs.Asking.{Asks, BeginsAsking}
+use Rattle.sftp_plan.specs.Asking.{Asks, BeginsAsking, OwnOn}
 use Rattle.sftp_plan.proofs.OwnAsking.{own_begins}
 use Rattle.sftp_plan.specs.Machines.{Begins, Goes, bytes_of}
 use Rattle.sftp_plan.specs.Cancelling.{BeginsLeaving, Leaves}
@@ -43,3 +43,13 @@ begun_local c p place old new facts o is goes keeps fewer = begun c p place old 
 pub asks_if : (place : ℕ) (old new : Site) (n : Result Next OutOfMemory) → IfOk n (Asks None place old) → IfOk n (BeginsAsking None place old new)
 asks_if place old new (Err e) asks = asks
 asks_if place old new (Ok n) asks = own_begins None place old new n asks
+
+-- and awaits just what it asks
+pub own_first : (place : ℕ) (site : Site) (n : Next) → Asks None place site n → OwnOn place n
+own_first place site (step.Ask a r) asks = asks.awaits
+own_first place site (step.Wait r) asks = asks
+own_first place site (step.Done o) asks = tt
+
+pub own_if : (place : ℕ) (site : Site) (n : Result Next OutOfMemory) → IfOk n (Asks None place site) → IfOk n (OwnOn place)
+own_if place site (Err e) asks = asks
+own_if place site (Ok n) asks = own_first place site n asks

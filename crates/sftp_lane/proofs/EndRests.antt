@@ -25,6 +25,7 @@ use Rattle.sftp_ties.proofs.LaneLaws.{replies_agree}
 use Rattle.sftp_steps.proofs.TransferLaws.{place_below}
 use Rattle.sftp_ties.proofs.PlaceLaws.{at_in}
 use Rattle.sftp_ties.proofs.SessionLaws.{each_with}
+use Rattle.sftp_steps.specs.Budgets.{Spends}
 use Rattle.sftp_steps.specs.Rest.{AtRest, Counted, IsTransferAt, LaneAsks, awaited_in, weigh}
 use Rattle.sftp_steps.proofs.AskedLaws.{asks_on}
 use Rattle.sftp_plan.specs.declared.next.Running.{Running}
@@ -50,8 +51,9 @@ ended_asks past lane v idle others =
     }
 
 pub ended_rests : (s : Setting) (past : List Entry) (core c new : Core) (lanes : ℕ → LaneValue) (begun : ℕ → Bool) (lane : ℕ) (now : LaneValue) (o : Outcome) → AtRest s past core lanes begun → lane < length s.lanes → Midway past core c → new ≡ c
-    → ((p : ℕ) → is_in p (ticket_places now.tickets) ≡ true → IsTransferAt past p) → TurnTied s past new (with_lane lanes lane) lane now (moved.Ended o) → Ended s past core new (with_lane lanes lane (ended_lane now now.site)) begun lane now o
-ended_rests s past core c new lanes begun lane now o h there m same others t =
+    → ((p : ℕ) → is_in p (ticket_places now.tickets) ≡ true → IsTransferAt past p) → TurnTied s past new (with_lane lanes lane) lane now (moved.Ended o)
+    → Spends s (entry.Event (End lane (ended past lane) o) ∷ past) new (with_lane lanes lane (ended_lane now now.site)) → Ended s past core new (with_lane lanes lane (ended_lane now now.site)) begun lane now o
+ended_rests s past core c new lanes begun lane now o h there m same others t spent =
     let b = h.between in
     let e : Entry = entry.Event (End lane (ended past lane) o) in
     let next : IsNext s past e = may_next s past e b.good.calm h.settled (refl, (now.site, t.move), b.good.ready) in
@@ -66,6 +68,7 @@ ended_rests s past core c new lanes begun lane now o h there m same others t =
         due = both.0;
         tied = both.1;
         counted = subst (λ (x : Core). Counted (e ∷ past) x) (sym same) (record { waiting = m.counted.waiting; sent = m.counted.sent });
+        spends = spent;
         asks = λ w lt. each_with (λ n v. LaneAsks (e ∷ past) n v) lanes lane (ended_lane now now.site) (length s.lanes) (ended_asks (e ∷ past) lane (ended_lane now now.site) refl (λ p has. let t = others p has in record { asked = t.asked; here = t.here; transfers = t.transfers }))
             (λ n less ne. asks_on past (e ∷ past) n (lanes n) (λ p below. refl) (b.tied.each n less).goes.awaits (b.asks n less)) w lt;
       };
@@ -98,8 +101,8 @@ waiting_good s past begun lane place g move =
     }
 
 pub waits_rest : (s : Setting) (past : List Entry) (core new : Core) (lanes : ℕ → LaneValue) (begun : ℕ → Bool) (lane : ℕ) (c : Call) (now : LaneValue) → AtRest s past core lanes begun → lane < length s.lanes → TurnWaits c s.facts core new (lanes lane) now moved.Waits
-    → TurnTied s past new (with_lane lanes lane) lane now moved.Waits → Waits s past core new (with_lane lanes lane now) begun lane
-waits_rest s past core new lanes begun lane c now h there x t =
+    → TurnTied s past new (with_lane lanes lane) lane now moved.Waits → Spends s past new (with_lane lanes lane now) → Waits s past core new (with_lane lanes lane now) begun lane
+waits_rest s past core new lanes begun lane c now h there x t spent =
     let b = h.between in
     let v : LaneValue = lanes lane in
     let a : LaneAsks past lane v = b.asks lane there in
@@ -121,6 +124,7 @@ waits_rest s past core new lanes begun lane c now h there x t =
           due = b.due;
           tied = t.1;
           counted = subst (λ (y : Core). Counted past y) (sym x.core) b.counted;
+          spends = spent;
           asks = λ w lt. each_with (λ n y. LaneAsks past n y) lanes lane now (length s.lanes) (subst (λ (y : LaneValue). LaneAsks past lane y) (sym x.same) a) (λ n less ne. b.asks n less) w lt;
         };
       };
@@ -129,8 +133,8 @@ waits_rest s past core new lanes begun lane c now h there x t =
 -- ---- a call that goes on without an entry
 
 pub goes_rest : (s : Setting) (past : List Entry) (core c new : Core) (lanes : ℕ → LaneValue) (begun : ℕ → Bool) (lane : ℕ) (now : LaneValue) (r : Running) → AtRest s past core lanes begun → lane < length s.lanes → Midway past core c → new ≡ c → now.running ≡ Some r → LaneAsks past lane now
-    → TurnTied s past new (with_lane lanes lane) lane now moved.Went → Goes s past core new (with_lane lanes lane now) begun
-goes_rest s past core c new lanes begun lane now r h there m same was asks t =
+    → TurnTied s past new (with_lane lanes lane) lane now moved.Went → Spends s past new (with_lane lanes lane now) → Goes s past core new (with_lane lanes lane now) begun
+goes_rest s past core c new lanes begun lane now r h there m same was asks t spent =
     let b = h.between in
     record {
       work = subst (λ (x : Core). weigh x ≤ weigh core) (sym same) m.work;
@@ -141,6 +145,7 @@ goes_rest s past core c new lanes begun lane now r h there m same was asks t =
           due = b.due;
           tied = t;
           counted = subst (λ (x : Core). Counted past x) (sym same) m.counted;
+          spends = spent;
           asks = λ w lt. each_with (λ n y. LaneAsks past n y) lanes lane now (length s.lanes) asks (λ n less ne. b.asks n less) w lt;
         };
       };

@@ -16,3 +16,7 @@ mod Flushed
 mod Loose
 mod GivenUp
 mod LettingGo
+mod OneByOne
+mod Spending
+mod Growth
+mod TurnSpends

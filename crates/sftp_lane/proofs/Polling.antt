@@ -1,5 +1,6 @@
 -- A poll gives the reply that was taken, and leaves the grants of a lane.
-use Rattle.std.proofs.Common.{◌≡◌, ◌≢◌, ◌<◌, ◌+◌, ap, sym, ◌∙◌, refl, subst, arith, ◌++◌, ℕ, zero, suc, true, false, List, [], ◌∷◌, length, take, drop, Option, Some, None, Ok, Bor}
+use Rattle.std.proofs.Common.{◌≡◌, ◌≢◌, ◌<◌, ◌≤◌, ◌+◌, ap, sym, ◌∙◌, refl, subst, arith, ◌++◌, ℕ, zero, suc, true, false, List, [], ◌∷◌, length, take, drop, Option, Some, None, Ok, Bor}
+use Rattle.std.specs.FinMap as fin
 use Rattle.std.specs.Option.{is_some, option_copied}
 use Rattle.std.specs.Prelude.{Result, slice_get, slice_index_or}
 use Rattle.sftp_model.specs.declared.error.Fault.{Fault}
@@ -12,6 +13,7 @@ use Rattle.sftp_core.specs.declared.tokens.Polled.TheVariants as polled
 use Rattle.sftp_core.specs.Grant.{GrantValue}
 use Rattle.sftp_core.specs.Core.{Core, after_poll, at, given, given_leaves, is_ticket, poll_gives, poll_leaves, polled_with, reply_in, with_place}
 use Rattle.sftp_core.specs.Table.{brings}
+use Rattle.sftp_core.proofs.Counts.{len_less, len_same}
 use Rattle.sftp_core.proofs.Elsewhere.{poll_elsewhere, put_here}
 use Rattle.sftp_ties.specs.Lanes.{Held, Ticketed, grant_places, ticket_places}
 use Rattle.sftp_ties.specs.Places.{is_in, without}
@@ -152,3 +154,22 @@ leaves_open core t fault None o = o
 
 pub stays_open : (core : Core) (t : ℕ) → IsOpen core → IsOpen (after_poll core t)
 stays_open core t o = leaves_open core t core.fault (at core t) o
+
+-- ---- a poll keeps no more ids
+
+no_more_same : (a b : ℕ) → a ≡ b → a ≤ b
+no_more_same a b e = omega (arith, e)
+
+given_few : (core : Core) (t : ℕ) (p : Place) (h : Option (List ℕ)) → at core t ≡ Some p → fin.len (given_leaves core t h).table ≤ fin.len core.table
+given_few core t p (Some handle) here = no_more_same _ _ (len_same core.table t (Granted handle 1) p here)
+given_few core t p None here = len_less core.table t
+
+leaves_few : (core : Core) (t : ℕ) (fault : Option Fault) (p : Option Place) → at core t ≡ p → fin.len (poll_leaves core t fault p).table ≤ fin.len core.table
+leaves_few core t fault (Some (Answered expected r)) here = given_few core t (Answered expected r) (brings r) here
+leaves_few core t (Some f) (Some (Waiting expected sent wanted)) here = no_more_same _ _ (len_same core.table t (Waiting expected sent false) (Waiting expected sent wanted) here)
+leaves_few core t None (Some (Waiting expected sent wanted)) here = no_more_same _ _ refl
+leaves_few core t fault (Some (Granted handle users)) here = no_more_same _ _ refl
+leaves_few core t fault None here = no_more_same _ _ refl
+
+pub polls_few : (core : Core) (t : ℕ) → fin.len (after_poll core t).table ≤ fin.len core.table
+polls_few core t = leaves_few core t core.fault (at core t) refl

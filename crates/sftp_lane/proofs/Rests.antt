@@ -60,6 +60,7 @@ use Rattle.sftp_lane.proofs.AskRests.{Midway, asked_rests, midway_self, released
 use Rattle.sftp_lane.proofs.Awaiting.{handles_awaited, none_own, own_awaited, holds_named}
 use Rattle.sftp_lane.proofs.EndRests.{ended_rests, goes_rest, waits_rest}
 use Rattle.sftp_lane.proofs.TurnLaws.{bears}
+use Rattle.sftp_lane.proofs.TurnSpends.{AskMoves, SpendsOn, turn_spends}
 use Rattle.sftp_lane.proofs.Turned.{turns_keep}
 
 -- ---- the core after a poll
@@ -155,25 +156,25 @@ waited_fits past r site (inr window) reads p a y looks there may = window_fits p
 -- of a call that was begun
 settles_on : (s : Setting) (past : List Entry) (core c new : Core) (lanes : ℕ → LaneValue) (begun : ℕ → Bool) (lane : ℕ) (now : LaneValue) (tickets : List Ticketed) (grants : List Held) (opened : Option ℕ) (reads : List ReadAt) (old : Site) (n : Next) (m : Moved) → AtRest s past core lanes begun
     → lane < length s.lanes → IsSmall m → Midway past core c → Bears grants (answer past) → ((p : ℕ) → is_in p (ticket_places tickets) ≡ true → IsTransferAt past p) → ((g : ℕ) → opened ≡ Some g → is_in g (grant_places grants) ≡ true) → GoesOnAsking opened (asked past) reads old now.site n → ((x : ReadAt) → IsAmong x reads → IsReadAt past x)
-    → now.ended ≡ (lanes lane).ended → Settles c new tickets now.tickets grants now.grants now.running (asked past) n m → TurnTied s past new (with_lane lanes lane) lane now m → Leaves s past core new lanes begun lane now m
-settles_on s past core c new lanes begun lane now tickets grants opened reads old (step.Wait r) m h there small mid bears others held asks stood same settles t =
+    → now.ended ≡ (lanes lane).ended → Settles c new tickets now.tickets grants now.grants now.running (asked past) n m → TurnTied s past new (with_lane lanes lane) lane now m → SpendsOn s past new lanes lane now m → Leaves s past core new lanes begun lane now m
+settles_on s past core c new lanes begun lane now tickets grants opened reads old (step.Wait r) m h there small mid bears others held asks stood same settles t ids =
     subst (λ (x : Moved). Leaves s past core new lanes begun lane now x) (sym settles.2)
     (goes_rest s past core c new lanes begun lane now r h there mid settles.0.core settles.1
     (looking_asks past lane now r settles.1 asks.0.deferred (λ q has. others q (ap (λ (ts : List Ticketed). is_in q (ticket_places ts)) (sym settles.0.pushed) ∙ has))
     (λ g is. ap (λ (gs : List Held). is_in g (grant_places gs)) settles.0.kept ∙ held g (asks.0.keeps g is)) (λ x among. stood x (asks.0.under x among)) (waited_fits past r now.site asks.1 (λ x among. stood x (asks.0.under x among))))
-    (subst (λ (x : Moved). TurnTied s past new (with_lane lanes lane) lane now x) settles.2 t))
-settles_on s past core c new lanes begun lane now tickets grants opened reads old (step.Done o) moved.Waits h there small mid bears others held asks stood same settles t = absurd (let clash : moved.Waits ≡ moved.Ended o = settles.2 in cc)
-settles_on s past core c new lanes begun lane now tickets grants opened reads old (step.Done o) moved.Went h there small mid bears others held asks stood same settles t = absurd (let clash : moved.Went ≡ moved.Ended o = settles.2 in cc)
-settles_on s past core c new lanes begun lane now tickets grants opened reads old (step.Done o) (moved.Asked id q) h there small mid bears others held asks stood same settles t = absurd (let clash : moved.Asked id q ≡ moved.Ended o = settles.2 in cc)
-settles_on s past core c new lanes begun lane now tickets grants opened reads old (step.Done o) (moved.Ended p) h there small mid bears others held asks stood same settles t =
-    ended_rests s past core c new lanes begun lane now p h there mid settles.0.core (λ q has. others q (ap (λ (ts : List Ticketed). is_in q (ticket_places ts)) (sym settles.0.pushed) ∙ has)) t
-settles_on s past core c new lanes begun lane now tickets grants opened reads old (step.Ask a r) moved.Waits h there small mid bears others held asks stood same settles t = absurd settles
-settles_on s past core c new lanes begun lane now tickets grants opened reads old (step.Ask a r) moved.Went h there small mid bears others held asks stood same settles t = absurd settles
-settles_on s past core c new lanes begun lane now tickets grants opened reads old (step.Ask a r) (moved.Ended o) h there small mid bears others held asks stood same settles t = absurd settles
-settles_on s past core c new lanes begun lane now tickets grants opened reads old (step.Ask (ask.Close g) r) (moved.Asked id q) h there small mid bears others held asks stood same settles t = absurd asks.1
-settles_on s past core c new lanes begun lane now tickets grants opened reads old (step.Ask a r) (moved.Asked id q) h there small mid bears others held asks stood same settles t =
+    (subst (λ (x : Moved). TurnTied s past new (with_lane lanes lane) lane now x) settles.2 t) (subst (λ (x : Moved). SpendsOn s past new lanes lane now x) settles.2 ids))
+settles_on s past core c new lanes begun lane now tickets grants opened reads old (step.Done o) moved.Waits h there small mid bears others held asks stood same settles t ids = absurd (let clash : moved.Waits ≡ moved.Ended o = settles.2 in cc)
+settles_on s past core c new lanes begun lane now tickets grants opened reads old (step.Done o) moved.Went h there small mid bears others held asks stood same settles t ids = absurd (let clash : moved.Went ≡ moved.Ended o = settles.2 in cc)
+settles_on s past core c new lanes begun lane now tickets grants opened reads old (step.Done o) (moved.Asked id q) h there small mid bears others held asks stood same settles t ids = absurd (let clash : moved.Asked id q ≡ moved.Ended o = settles.2 in cc)
+settles_on s past core c new lanes begun lane now tickets grants opened reads old (step.Done o) (moved.Ended p) h there small mid bears others held asks stood same settles t ids =
+    ended_rests s past core c new lanes begun lane now p h there mid settles.0.core (λ q has. others q (ap (λ (ts : List Ticketed). is_in q (ticket_places ts)) (sym settles.0.pushed) ∙ has)) t ids
+settles_on s past core c new lanes begun lane now tickets grants opened reads old (step.Ask a r) moved.Waits h there small mid bears others held asks stood same settles t ids = absurd settles
+settles_on s past core c new lanes begun lane now tickets grants opened reads old (step.Ask a r) moved.Went h there small mid bears others held asks stood same settles t ids = absurd settles
+settles_on s past core c new lanes begun lane now tickets grants opened reads old (step.Ask a r) (moved.Ended o) h there small mid bears others held asks stood same settles t ids = absurd settles
+settles_on s past core c new lanes begun lane now tickets grants opened reads old (step.Ask (ask.Close g) r) (moved.Asked id q) h there small mid bears others held asks stood same settles t ids = absurd asks.1
+settles_on s past core c new lanes begun lane now tickets grants opened reads old (step.Ask a r) (moved.Asked id q) h there small mid bears others held asks stood same settles t ids =
     asked_rests s past core new lanes begun lane id now tickets opened reads old a r q h there (submitted_under s past core c new lanes lane id tickets now.tickets grants now.grants a q h.between.tied mid bears settles.0) asks.0 stood others
-    (λ g is. ap (λ (gs : List Held). is_in g (grant_places gs)) settles.0.kept ∙ held g is) settles.1 settles.0.pushed same small t
+    (λ g is. ap (λ (gs : List Held). is_in g (grant_places gs)) settles.0.kept ∙ held g is) settles.1 settles.0.pushed same small t ids
 
 -- ---- a turn
 
@@ -182,12 +183,12 @@ no_opened v g is = absurd cc
 
 -- a call begins with a request that is no CLOSE, or ends at once
 begins_on : (s : Setting) (past : List Entry) (core new : Core) (lanes : ℕ → LaneValue) (begun : ℕ → Bool) (lane : ℕ) (now : LaneValue) (m : Moved) (n : Next) → AtRest s past core lanes begun → lane < length s.lanes → IsSmall m → GoesOnAsking None (asked past) [] (lanes lane).site now.site n
-    → now.ended ≡ (lanes lane).ended → (lanes lane).running ≡ None → Settles core new (lanes lane).tickets now.tickets (lanes lane).grants now.grants now.running (asked past) n m → TurnTied s past new (with_lane lanes lane) lane now m → Leaves s past core new lanes begun lane now m
-begins_on s past core new lanes begun lane now m n h there small asks same idle settles t =
+    → now.ended ≡ (lanes lane).ended → (lanes lane).running ≡ None → Settles core new (lanes lane).tickets now.tickets (lanes lane).grants now.grants now.running (asked past) n m → TurnTied s past new (with_lane lanes lane) lane now m → SpendsOn s past new lanes lane now m → Leaves s past core new lanes begun lane now m
+begins_on s past core new lanes begun lane now m n h there small asks same idle settles t ids =
     let b = h.between in
     let v : LaneValue = lanes lane in
     settles_on s past core core new lanes begun lane now v.tickets v.grants None [] v.site n m h there small (midway_self past core b.counted) (bears s past lane v.tickets v.grants [] (answer past) (b.tied.each lane there).holds (λ p r e. e))
-    (others_all past lane v (b.asks lane there) (ap own_place idle)) (no_opened v) asks (λ x among. absurd among) same settles t
+    (others_all past lane v (b.asks lane there) (ap own_place idle)) (no_opened v) asks (λ x among. absurd among) same settles t ids
 
 -- a call that begins has no READ under way, and so it is no whole read that awaits one
 no_window : (r : Running) (site : Site) → Looks None [] site r → is_window r ≡ true → ⊥
@@ -197,8 +198,8 @@ no_window other site looks is = cc is
 -- it waits for a reply that a slot awaits
 begins_waiting : (s : Setting) (past : List Entry) (core new : Core) (lanes : ℕ → LaneValue) (begun : ℕ → Bool) (lane : ℕ) (c : Call) (now : LaneValue) (m : Moved) (r : Running) → AtRest s past core lanes begun → lane < length s.lanes → (lanes lane).running ≡ None
     → Looks None [] now.site r → now.site ≡ (lanes lane).site → Sound r (bytes_of (planned c)) now.site s.facts → Settles core new (lanes lane).tickets now.tickets (lanes lane).grants now.grants now.running (asked past) (step.Wait r) m → TurnTied s past new (with_lane lanes lane) lane now m
-    → Leaves s past core new lanes begun lane now m
-begins_waiting s past core new lanes begun lane c now m r h there idle looks same sound settles t =
+    → SpendsOn s past new lanes lane now m → Leaves s past core new lanes begun lane now m
+begins_waiting s past core new lanes begun lane c now m r h there idle looks same sound settles t ids =
     let b = h.between in
     let v : LaneValue = lanes lane in
     let ties = subst (λ (o : Option Running). AtTied s past lane o v.site) idle (b.tied.each lane there).goes.runs in
@@ -208,30 +209,30 @@ begins_waiting s past core new lanes begun lane c now m r h there idle looks sam
     (looking_asks past lane now r settles.1 looks.deferred (λ q has. others_all past lane v (b.asks lane there) (ap own_place idle) q (ap (λ (ts : List Ticketed). is_in q (ticket_places ts)) (sym settles.0.pushed) ∙ has))
     (λ g is. absurd (let clash : ◌≡◌ {A = Option ℕ} None (Some g) = looks.keeps g is in cc)) (λ x among. absurd (looks.under x among))
     (λ p a y at at_place may. under_way_fits s past lane p r (bytes_of (planned c)) a y b.good.run (subst (λ (x : Site). Sound r (bytes_of (planned c)) x s.facts) is sound) looks.deferred (ap (awaited r) (sym is) ∙ at) at_place may (no_window r now.site looks)))
-    (subst (λ (x : Moved). TurnTied s past new (with_lane lanes lane) lane now x) settles.2 t))
+    (subst (λ (x : Moved). TurnTied s past new (with_lane lanes lane) lane now x) settles.2 t) (subst (λ (x : Moved). SpendsOn s past new lanes lane now x) settles.2 ids))
 
 begins_rest : (s : Setting) (past : List Entry) (core new : Core) (lanes : ℕ → LaneValue) (begun : ℕ → Bool) (lane : ℕ) (c : Call) (now : LaneValue) (m : Moved) (n : Next) → AtRest s past core lanes begun → lane < length s.lanes → IsSmall m → Began c s.facts (asked past) (lanes lane).site now.site n
     → BeginsAsking None (asked past) (lanes lane).site now.site n → now.ended ≡ (lanes lane).ended → (lanes lane).running ≡ None → Settles core new (lanes lane).tickets now.tickets (lanes lane).grants now.grants now.running (asked past) n m → TurnTied s past new (with_lane lanes lane) lane now m
-    → Leaves s past core new lanes begun lane now m
-begins_rest s past core new lanes begun lane c now (moved.Asked id q) (step.Ask (ask.Close g) r) h there small ran asks same idle settles t =
+    → SpendsOn s past new lanes lane now m → Leaves s past core new lanes begun lane now m
+begins_rest s past core new lanes begun lane c now (moved.Asked id q) (step.Ask (ask.Close g) r) h there small ran asks same idle settles t ids =
     let b = h.between in
     let v : LaneValue = lanes lane in
     asked_rests s past core new lanes begun lane id now v.tickets None [] v.site (ask.Close g) r q h there
     (released_under s past core new lanes lane g id v.tickets now.tickets v.grants now.grants q b.tied b.counted (λ k held got. grants_count s past core lanes [] lane k held b.tied there got) settles.0)
-    asks (λ x among. absurd among) (others_all past lane v (b.asks lane there) (ap own_place idle)) (λ k is. absurd (let clash : None ≡ Some k = is in cc)) settles.1 settles.0.pushed same small t
-begins_rest s past core new lanes begun lane c now moved.Waits (step.Ask (ask.Close g) r) h there small ran asks same idle settles t = absurd settles
-begins_rest s past core new lanes begun lane c now moved.Went (step.Ask (ask.Close g) r) h there small ran asks same idle settles t = absurd settles
-begins_rest s past core new lanes begun lane c now (moved.Ended o) (step.Ask (ask.Close g) r) h there small ran asks same idle settles t = absurd settles
-begins_rest s past core new lanes begun lane c now m (step.Ask a r) h there small ran asks same idle settles t =
-    begins_on s past core new lanes begun lane now m (step.Ask a r) h there small (asks, tt) same idle settles t
-begins_rest s past core new lanes begun lane c now m (step.Wait r) h there small ran asks same idle settles t =
-    begins_waiting s past core new lanes begun lane c now m r h there idle asks.0 asks.1 ran.sound.1 settles t
-begins_rest s past core new lanes begun lane c now m (step.Done o) h there small ran asks same idle settles t = begins_on s past core new lanes begun lane now m (step.Done o) h there small tt same idle settles t
+    asks (λ x among. absurd among) (others_all past lane v (b.asks lane there) (ap own_place idle)) (λ k is. absurd (let clash : None ≡ Some k = is in cc)) settles.1 settles.0.pushed same small t ids
+begins_rest s past core new lanes begun lane c now moved.Waits (step.Ask (ask.Close g) r) h there small ran asks same idle settles t ids = absurd settles
+begins_rest s past core new lanes begun lane c now moved.Went (step.Ask (ask.Close g) r) h there small ran asks same idle settles t ids = absurd settles
+begins_rest s past core new lanes begun lane c now (moved.Ended o) (step.Ask (ask.Close g) r) h there small ran asks same idle settles t ids = absurd settles
+begins_rest s past core new lanes begun lane c now m (step.Ask a r) h there small ran asks same idle settles t ids =
+    begins_on s past core new lanes begun lane now m (step.Ask a r) h there small (asks, tt) same idle settles t ids
+begins_rest s past core new lanes begun lane c now m (step.Wait r) h there small ran asks same idle settles t ids =
+    begins_waiting s past core new lanes begun lane c now m r h there idle asks.0 asks.1 ran.sound.1 settles t ids
+begins_rest s past core new lanes begun lane c now m (step.Done o) h there small ran asks same idle settles t ids = begins_on s past core new lanes begun lane now m (step.Done o) h there small tt same idle settles t ids
 
 -- behind the reply that it awaited
 replied_rests : (s : Setting) (past : List Entry) (core new : Core) (lanes : ℕ → LaneValue) (begun : ℕ → Bool) (lane : ℕ) (c : Call) (now : LaneValue) (m : Moved) → AtRest s past core lanes begun → lane < length s.lanes → IsSmall m → TurnReplied c s.facts (asked past) core new (lanes lane) now m
-    → TurnTied s past new (with_lane lanes lane) lane now m → Leaves s past core new lanes begun lane now m
-replied_rests s past core new lanes begun lane c now m h there small x t =
+    → TurnTied s past new (with_lane lanes lane) lane now m → SpendsOn s past new lanes lane now m → Leaves s past core new lanes begun lane now m
+replied_rests s past core new lanes begun lane c now m h there small x t ids =
     let b = h.between in
     let v : LaneValue = lanes lane in
     let a : LaneAsks past lane v = b.asks lane there in
@@ -249,23 +250,23 @@ replied_rests s past core new lanes begun lane c now m h there small x t =
     (subst (λ (gs : List Held). Bears gs (answer past)) (sym x.spent.now) (bears s past lane u.tickets u.grants [] (answer past) holds (λ p r e. e)))
     (λ p in_left. others_left past lane x.spent.k x.awaits v x.running a l.holds.tied_rise x.was x.looks here p (ap (is_in p) (sym (ap ticket_places x.spent.rest ∙ ticket_without v.tickets x.spent.k)) ∙ in_left))
     (λ g is. ap (λ (gs : List Held). is_in g (grant_places gs)) x.spent.now ∙ held_after v x.running x.reply x.awaits x.spent.ticket x.was x.looks (holds_named s past lane v b.good.run there l a) g (inr is))
-    x.asks (λ z among. a.reads z (subst (λ (o : Option Running). IsAmong z (reads_under o)) (sym x.was) among)) x.ended x.settles t
+    x.asks (λ z among. a.reads z (subst (λ (o : Option Running). IsAmong z (reads_under o)) (sym x.was) among)) x.ended x.settles t ids
 
 -- where it awaited no reply
 unreplied_rests : (s : Setting) (past : List Entry) (core new : Core) (lanes : ℕ → LaneValue) (begun : ℕ → Bool) (lane : ℕ) (c : Call) (now : LaneValue) (m : Moved) → AtRest s past core lanes begun → lane < length s.lanes → IsSmall m → TurnUnreplied c s.facts (asked past) core new (lanes lane) now m
-    → TurnTied s past new (with_lane lanes lane) lane now m → Leaves s past core new lanes begun lane now m
-unreplied_rests s past core new lanes begun lane c now m h there small x t =
+    → TurnTied s past new (with_lane lanes lane) lane now m → SpendsOn s past new lanes lane now m → Leaves s past core new lanes begun lane now m
+unreplied_rests s past core new lanes begun lane c now m h there small x t ids =
     let b = h.between in
     let v : LaneValue = lanes lane in
     let a : LaneAsks past lane v = b.asks lane there in
     let l : LaneTied s past lane v [] = b.tied.each lane there in
     settles_on s past core core new lanes begun lane now v.tickets v.grants (opened_after x.running None) (reads_under (Some x.running)) v.site x.answer m h there small (midway_self past core b.counted) (bears s past lane v.tickets v.grants [] (answer past) l.holds (λ p r e. e))
-    (others_all past lane v a (ap own_place x.was ∙ none_own x.running v.site x.looks)) (λ g is. held_on v x.running x.was (holds_named s past lane v b.good.run there l a) g (inr is)) x.asks (λ z among. a.reads z (subst (λ (o : Option Running). IsAmong z (reads_under o)) (sym x.was) among)) x.ended x.settles t
+    (others_all past lane v a (ap own_place x.was ∙ none_own x.running v.site x.looks)) (λ g is. held_on v x.running x.was (holds_named s past lane v b.good.run there l a) g (inr is)) x.asks (λ z among. a.reads z (subst (λ (o : Option Running). IsAmong z (reads_under o)) (sym x.was) among)) x.ended x.settles t ids
 
 -- where the reply that it awaits is missing
 widened_rests : (s : Setting) (past : List Entry) (core new : Core) (lanes : ℕ → LaneValue) (begun : ℕ → Bool) (lane : ℕ) (c : Call) (now : LaneValue) (m : Moved) → AtRest s past core lanes begun → lane < length s.lanes → IsSmall m → TurnWidens c s.facts (asked past) core new (lanes lane) now m
-    → TurnTied s past new (with_lane lanes lane) lane now m → Leaves s past core new lanes begun lane now m
-widened_rests s past core new lanes begun lane c now m h there small x t =
+    → TurnTied s past new (with_lane lanes lane) lane now m → SpendsOn s past new lanes lane now m → Leaves s past core new lanes begun lane now m
+widened_rests s past core new lanes begun lane c now m h there small x t ids =
     let b = h.between in
     let v : LaneValue = lanes lane in
     let a : LaneAsks past lane v = b.asks lane there in
@@ -274,19 +275,26 @@ widened_rests s past core new lanes begun lane c now m h there small x t =
     subst (λ (y : Site). GoesOnAsking (opened_by x.running) (asked past) (reads_under (Some x.running)) v.site y x.answer) (sym x.site) (widens_on x.running (asked past) v.site x.answer x.active x.asks) in
     settles_on s past core core new lanes begun lane now v.tickets v.grants (opened_by x.running) (reads_under (Some x.running)) v.site x.answer m h there small (midway_self past core b.counted) (bears s past lane v.tickets v.grants [] (answer past) l.holds (λ p r e. e))
     (others_all past lane v a (ap own_place x.was ∙ widens_others x.running (asked past) v.site x.answer x.active x.asks)) (λ g is. a.keeps g (ap opened_in x.was ∙ is)) asks
-    (λ z among. a.reads z (subst (λ (o : Option Running). IsAmong z (reads_under o)) (sym x.was) among)) x.ended x.settles t
+    (λ z among. a.reads z (subst (λ (o : Option Running). IsAmong z (reads_under o)) (sym x.was) among)) x.ended x.settles t ids
 
 pub turns_leave : TurnsLeaveRest
-turns_leave s past core new lanes begun lane c now m h there is small turned = by_turn turned
+turns_leave s past core new lanes begun lane c now m h there is few small turned = by_turn turned
   where
     tied : TurnTied s past new (with_lane lanes lane) lane now m
     tied = (let b = h.between in turns_keep s past core new lanes lane c now m b.tied there b.good.run b.good.calm b.due is (handles_awaited s past lane (lanes lane) b.good.run (b.asks lane there) (b.tied.each lane there).ends) turned)
 
+    moves : (n : Moved) → TurnTied s past new (with_lane lanes lane) lane now n → AskMoves s past lane n
+    moves (moved.Asked id q) t = t.0
+    moves other t = tt
+
+    ids : SpendsOn s past new lanes lane now m
+    ids = turn_spends s past core new lanes begun lane c now m h there is few (moves m tied) turned
+
     by_turn : Turned c s.facts (asked past) core new (lanes lane) now m → Leaves s past core new lanes begun lane now m
-    by_turn (Begun x) = begins_rest s past core new lanes begun lane c now m x.answer h there small x.ran x.asks x.ended x.was x.settles tied
-    by_turn (Replied x) = replied_rests s past core new lanes begun lane c now m h there small x tied
-    by_turn (Unreplied x) = unreplied_rests s past core new lanes begun lane c now m h there small x tied
-    by_turn (Widening x) = widened_rests s past core new lanes begun lane c now m h there small x tied
+    by_turn (Begun x) = begins_rest s past core new lanes begun lane c now m x.answer h there small x.ran x.asks x.ended x.was x.settles tied ids
+    by_turn (Replied x) = replied_rests s past core new lanes begun lane c now m h there small x tied ids
+    by_turn (Unreplied x) = unreplied_rests s past core new lanes begun lane c now m h there small x tied ids
+    by_turn (Widening x) = widened_rests s past core new lanes begun lane c now m h there small x tied ids
     by_turn (StillWaiting x) =
-        subst (λ (y : Moved). TurnWaits c s.facts core new (lanes lane) now y → TurnTied s past new (with_lane lanes lane) lane now y → Leaves s past core new lanes begun lane now y) (sym x.is)
-        (λ w t. waits_rest s past core new lanes begun lane c now h there w t) x tied
+        subst (λ (y : Moved). TurnWaits c s.facts core new (lanes lane) now y → TurnTied s past new (with_lane lanes lane) lane now y → SpendsOn s past new lanes lane now y → Leaves s past core new lanes begun lane now y) (sym x.is)
+        (λ w t ids. waits_rest s past core new lanes begun lane c now h there w t ids) x tied ids

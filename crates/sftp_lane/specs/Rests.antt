@@ -8,8 +8,9 @@ use Rattle.sftp_history.specs.declared.call.Call.{Call}
 use Rattle.sftp_history.specs.declared.event.Event.TheVariants.{End}
 use Rattle.sftp_history.specs.declared.entry.Entry.{Entry}
 use Rattle.sftp_history.specs.declared.entry.Entry.TheVariants as entry
-use Rattle.sftp_history.specs.Readings.{asked, ended, unanswered}
+use Rattle.sftp_history.specs.Readings.{asked, ended, own, unanswered}
 use Rattle.sftp_calls.specs.GoodMoves.{FitsCall, FitsFacts}
+use Rattle.sftp_calls.specs.RequestCounts.{work}
 use Rattle.sftp_history.specs.Calls.{Setting, current, move_of, planned}
 use Rattle.sftp_history.specs.Journals.{IsFree, IsNext}
 use Rattle.sftp_history.specs.Turns.{begun_but, begun_with}
@@ -65,10 +66,14 @@ abbrev pub IsSmall : Moved → Type 0
 IsSmall (moved.Asked id r) = id < 2 ^ 32
 IsSmall other = Unit {0}
 
+-- where a lane's call asks, it has made fewer requests than it makes at most
+abbrev pub AsksFew : Setting → List Entry → ℕ → Call → Type 0
+AsksFew s past lane c = (r : Request) → move_of s past lane ≡ Some (Ask r) → length (own past lane (ended past lane)) < work (planned c) s.facts
+
 -- A turn of a lane leaves the session at rest, but for the grants that are due.
 abbrev pub TurnsLeaveRest : Type 0
 TurnsLeaveRest = (s : Setting) (past : List Entry) (core new : Core) (lanes : ℕ → LaneValue) (begun : ℕ → Bool) (lane : ℕ) (c : Call) (now : LaneValue) (m : Moved) → AtRest s past core lanes begun → lane < length s.lanes → current s past lane ≡ Some c
-    → IsSmall m → Turned c s.facts (asked past) core new (lanes lane) now m → Leaves s past core new lanes begun lane now m
+    → AsksFew s past lane c → IsSmall m → Turned c s.facts (asked past) core new (lanes lane) now m → Leaves s past core new lanes begun lane now m
 
 -- what a turn asks for of what its call awaits
 pub record AwaitsReplies (core : Core) (v : LaneValue) : Type 0 where

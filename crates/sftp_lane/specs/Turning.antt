@@ -16,13 +16,14 @@ use Rattle.sftp_plan.specs.Machines.{Goes, Widens, after, awaited, bytes_of, idl
 use Rattle.sftp_plan.specs.Cancelling.{Leaves, Leaving, left_after, left_behind}
 use Rattle.sftp_plan.specs.Sound.{AreWithin, AsksWithin, Fits, IsSound, Sound, Sounds}
 use Rattle.sftp_plan.specs.Pending.{Pends, pends, pends_after, pends_idle, reads_under, slots_times}
-use Rattle.sftp_plan.specs.Asking.{BeginsAsking, GoesOnAsking, HasGrant, IsOfCall, WidensAsking, opened_after}
+use Rattle.sftp_plan.specs.Asking.{BeginsAsking, GoesOnAsking, GoesOnBy, HasGrant, IsOfCall, OwnOn, ReadsOn, WidensAsking, is_window, opened_after}
 use Rattle.sftp_history.specs.declared.call.Call.{Call}
 use Rattle.sftp_history.specs.declared.call.Call.TheVariants as call
 use Rattle.sftp_history.specs.Calls.{cancelled, next, planned}
 use Rattle.sftp_history.specs.Grants.{is_close}
 use Rattle.sftp_ties.specs.Lanes.{Held, LaneValue, Ticketed, grant_places, ticket_places, tickets_for}
 use Rattle.sftp_ties.specs.Places.{is_in, without}
+use Rattle.sftp_steps.specs.Budgets.{makes_many}
 use Rattle.sftp_steps.specs.Rest.{opened_in}
 use Rattle.sftp_lane.specs.Tokens.{IsFilledBy, NamesHeld, Spent, TellReplies}
 use Rattle.sftp_lane.specs.declared.lane.Moved.{Moved}
@@ -184,6 +185,7 @@ pub record TurnBegins (c : Call) (facts : Facts) (place : ℕ) (old new : Core) 
   pub ended : now.ended ≡ v.ended
   pub was : v.running ≡ None
   pub asks : BeginsAsking None place v.site now.site answer
+  pub own : makes_many (planned c) ≡ true → OwnOn place answer
   pub ran : Began c facts place v.site now.site answer
   pub settles : Settles old new v.tickets now.tickets v.grants now.grants now.running place answer m
 
@@ -200,6 +202,7 @@ pub record TurnReplied (c : Call) (facts : Facts) (place : ℕ) (old new : Core)
   pub was : v.running ≡ Some running
   pub looks : awaited running v.site ≡ Some awaits
   pub asks : GoesOnAsking (opened_after running (Some reply)) place (reads_under (Some running)) v.site now.site answer
+  pub by : GoesOnBy running (Some reply) place facts answer
   pub spent : Spent old between v.tickets tickets v.grants grants awaits reply
   pub ran : WentOn running (Some reply) c facts place v.site now.site answer
   pub settles : Settles between new tickets now.tickets grants now.grants now.running place answer m
@@ -212,6 +215,7 @@ pub record TurnUnreplied (c : Call) (facts : Facts) (place : ℕ) (old new : Cor
   pub was : v.running ≡ Some running
   pub looks : awaited running v.site ≡ None
   pub asks : GoesOnAsking (opened_after running None) place (reads_under (Some running)) v.site now.site answer
+  pub by : GoesOnBy running None place facts answer
   pub ran : WentOn running None c facts place v.site now.site answer
   pub settles : Settles old new v.tickets now.tickets v.grants now.grants now.running place answer m
 
@@ -229,6 +233,7 @@ pub record TurnWidens (c : Call) (facts : Facts) (place : ℕ) (old new : Core) 
   pub missing : reply_in (at old ticket.ticket) ≡ None
   pub site : now.site ≡ v.site
   pub asks : WidensAsking running place v.site answer
+  pub reads : is_window running ≡ true → ReadsOn place (reads_under (Some running)) facts answer
   pub ran : Widened running c facts place v.site answer
   pub settles : Settles old new v.tickets now.tickets v.grants now.grants now.running place answer m
 

@@ -1,6 +1,8 @@
 // What a lane asks of its core.
 ghost use Rattle.std.specs.Prelude.{◌≡◌, ◌<◌, None, true, false, IfOk, OnErr, vec_len, vec_capacity, ◌^◌};
+ghost use Rattle.std.specs.FinMap as fin;
 ghost use Rattle.sftp_core.specs.Core.{at, is_call, queued_last};
+ghost use Rattle.sftp_core.specs.Info.{MAX_IDS};
 ghost use Rattle.sftp_ties.specs.Places.{is_in};
 ghost use Rattle.sftp_ties.specs.Lanes.{grant_places};
 ghost use Rattle.sftp_lane.specs.Tokens.{AreGrants, IsFilledBy, NamesHeld};
@@ -11,21 +13,19 @@ ghost use Rattle.sftp_history.specs.Grants.{is_close};
 
 use crate::lane::Moved;
 use crate::tokens::{Awaited, Granted, Tokens, grant_at};
-use sftp_core::{Core, MAX_IDS, Ticket};
+use sftp_core::{Core, Ticket};
 use sftp_model::Request;
 use sftp_plan::{Asked, Next, Running};
 use ssh_encoding::OutOfMemory;
 
-/// Submits a request of a call. Refused only for want of memory; the core is as it was then.
+/// Submits a request of a call, where there is an id for it. Refused only for want of memory; the core is as it was then.
 fn submit(core: &mut Core, request: &Request) -> Result<Ticket, OutOfMemory>
     requires ready { IsOpen core.old }
+    requires few { fin.len core.old.table < MAX_IDS }
     requires call { is_call request.now ≡ true }
     ensures ok { IfOk result (λ ticket. (at core.old ticket ≡ None) × (core.new ≡ queued_last core.old ticket request.now true)) }
     ensures err { OnErr result (core.new ≡ core.old) }
 {
-    if core.kept() >= MAX_IDS {
-        return Err(OutOfMemory);
-    }
     match core.submit(request) {
         Ok(ticket) => Ok(ticket),
         Err(_) => Err(OutOfMemory),
@@ -107,7 +107,7 @@ fn close(core: &mut Core, grant: u64, place: u64, tokens: &mut Tokens) -> (u32, 
     (id, Request::Close { handle })
 }
 
-/// Submits what a call asks. Refused only for want of memory.
+/// Submits what a call asks, where there is an id for it. Refused only for want of memory.
 fn ask(
     core: &mut Core,
     asked: Asked,
@@ -117,6 +117,7 @@ fn ask(
     requires room { vec_len tokens.old.tickets < vec_capacity tokens.old.tickets }
     requires held { AreGrants core.old tokens.old.grants.items }
     requires ready { IsOpen core.old }
+    requires few { fin.len core.old.table < MAX_IDS }
     requires named { NamesHeld tokens.old.grants.items asked }
     requires call { IsOfCall asked }
     ensures err { OnErr result (core.new ≡ core.old) }
@@ -144,6 +145,7 @@ pub(crate) fn settle(
     requires room { vec_len tokens.old.tickets < vec_capacity tokens.old.tickets }
     requires held { AreGrants core.old tokens.old.grants.items }
     requires ready { IsOpen core.old }
+    requires few { fin.len core.old.table < MAX_IDS }
     requires may { MayAsk tokens.old.grants.items next }
     ensures err { OnErr result (core.new ≡ core.old) }
     ensures small { IfOk result IsSmall }
@@ -177,6 +179,7 @@ pub(crate) fn settle_meanwhile(
     requires room { vec_len tokens.old.tickets < vec_capacity tokens.old.tickets }
     requires held { AreGrants core.old tokens.old.grants.items }
     requires ready { IsOpen core.old }
+    requires few { fin.len core.old.table < MAX_IDS }
     requires may { MayAsk tokens.old.grants.items next }
     ensures err { OnErr result (core.new ≡ core.old) }
     ensures small { IfOk result IsSmall }

@@ -7,7 +7,8 @@ ghost use Rattle.sftp_history.specs.Lanes.{is_within};
 ghost use Rattle.sftp_plan.specs.Machines.{after, idle};
 ghost use Rattle.sftp_plan.specs.Pending.{reads_under};
 ghost use Rattle.sftp_plan.specs.Sound.{AreWithin, AsksWithin, Fits};
-ghost use Rattle.sftp_plan.specs.Asking.{BeginsAsking, GoesOnAsking, WidensAsking, opened_after};
+ghost use Rattle.sftp_plan.specs.Asking.{BeginsAsking, GoesOnAsking, GoesOnBy, OwnOn, ReadsOn, WidensAsking, is_window, opened_after};
+ghost use Rattle.sftp_steps.specs.Budgets.{makes_many};
 ghost use Rattle.sftp_lane.specs.Turning.{Began, IsSafe, WentOn, Widened, joined_of};
 
 use sftp_history::Call;
@@ -73,7 +74,7 @@ fn mode_of(perm: Option<u16>) -> Option<u32>
 
 /// Begins a call of a lane that has this site; its first request would bear the place. Refused only for want of
 /// memory, the site is as it was then.
-#[tactic(auto, using(crate::proofs::Begun::asks_if, sftp_plan::proofs::OwnAsking::own_begins))]
+#[tactic(auto, using(crate::proofs::Begun::asks_if, crate::proofs::Begun::own_if, sftp_plan::proofs::OwnAsking::own_begins))]
 pub(crate) fn begin(
     alloc: Global,
     call: &Call,
@@ -86,6 +87,7 @@ pub(crate) fn begin(
     requires limits { AreWithin facts.now site.old }
     ensures began { IfOk result (Began call.now facts.now place site.old site.new) }
     ensures asks { IfOk result (BeginsAsking None place site.old site.new) }
+    ensures own { makes_many (planned call.now) ≡ true → IfOk result (OwnOn place) }
     ensures err { OnErr result (site.new ≡ site.old) }
 {
     match call {
@@ -249,6 +251,7 @@ pub(crate) fn resume(
     requires range { AsksWithin facts.now (after running (bytes_of (planned call.now)) site.old facts.now reply) }
     ensures went { IfOk result (WentOn running reply call.now facts.now place site.old site.new) }
     ensures asks { IfOk result (GoesOnAsking (opened_after running reply) place (reads_under (Some running)) site.old site.new) }
+    ensures by { IfOk result (GoesOnBy running reply place facts.now) }
     ensures err { OnErr result (site.new ≡ site.old) }
 {
     let joined = joined_of(alloc, call)?;
@@ -277,6 +280,7 @@ pub(crate) fn meanwhile(
     requires range { AsksWithin facts.now (idle running (bytes_of (planned call.now)) site.now facts.now) }
     ensures widened { IfOk result (Widened running call.now facts.now place site.now) }
     ensures asks { IfOk result (WidensAsking running place site.now) }
+    ensures reads { is_window running ≡ true → IfOk result (ReadsOn place (reads_under (Some running)) facts.now) }
 {
     let joined = joined_of(alloc, call)?;
     widen(

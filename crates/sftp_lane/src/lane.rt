@@ -1,5 +1,7 @@
 //! A lane: its running call, its site, its tickets and its grants.
-ghost use Rattle.std.specs.Prelude.{◌≡◌, true, IfOk, OnErr};
+ghost use Rattle.std.specs.Prelude.{◌≡◌, ◌<◌, true, IfOk, OnErr};
+ghost use Rattle.std.specs.FinMap as fin;
+ghost use Rattle.sftp_core.specs.Info.{MAX_IDS};
 ghost use Rattle.sftp_model.specs.Slots.{fresh_site};
 ghost use Rattle.sftp_history.specs.Lanes.{is_within};
 ghost use Rattle.sftp_lane.specs.Tokens.{AreGrants, AreTickets};
@@ -88,7 +90,8 @@ impl LaneState {
     }
 
     /// One turn of the lane's call: it begins, goes on after the one reply that it awaited, if it awaited one, or asks for
-    /// more while that is missing. Its next request would bear the place. Refused only for want of memory.
+    /// more while that is missing. Its next request would bear the place, and there is an id for it. Refused only for want
+    /// of memory.
     pub fn turn(
         &mut self,
         alloc: Global,
@@ -101,6 +104,7 @@ impl LaneState {
         requires counted { AreTickets core.old self.old.tickets }
         requires held { AreGrants core.old self.old.grants }
         requires ready { IsOpen core.old }
+        requires few { fin.len core.old.table < MAX_IDS }
         requires safe { IsSafe call.now facts.now self.old.running self.old.site }
         requires fits { AllFit core.old self.old.tickets self.old.running self.old.site }
         requires range { AllInRange call.now facts.now core.old self.old.tickets self.old.running self.old.site }

@@ -1,5 +1,6 @@
 // What a lane holds of a core: tickets and grants, each with the place of its request.
 ghost use Rattle.std.specs.Prelude.{◌≡◌, ◌≢◌, ◌<◌, ◌≤◌, ℕ, Some, None, true, IfSome, length, slice_get, vec_len, vec_capacity};
+ghost use Rattle.std.specs.FinMap as fin;
 ghost use Rattle.sftp_core.specs.Core.{at, reply_in};
 ghost use Rattle.sftp_ties.specs.Lanes.{Ticketed, Held, ticket_places, grant_places};
 ghost use Rattle.sftp_ties.specs.Places.{IsRising, is_in};
@@ -77,6 +78,7 @@ impl Tokens {
         ensures came { IfSome result (λ r. Spent core.old core.new self.old.tickets.items self.new.tickets.items self.old.grants.items self.new.grants.items place r) }
         ensures held { AreGrants core.old self.old.grants.items → AreGrants core.new self.new.grants.items }
         ensures ready { IsOpen core.old → IsOpen core.new }
+        ensures few { fin.len core.new.table ≤ fin.len core.old.table }
         ensures len { vec_len self.new.tickets ≤ vec_len self.old.tickets }
         ensures capacity { vec_capacity self.new.tickets ≡ vec_capacity self.old.tickets }
     {

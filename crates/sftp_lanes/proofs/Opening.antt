@@ -2,7 +2,7 @@
 use Rattle.std.proofs.Common.{◌≡◌, ◌==◌, ℕ, zero, suc, Bool, true, false, List, [], ◌∷◌, ◌++◌, Option, Some, None, refl, ap, sym, ◌∙◌, subst, arith, inl, inr, if◌then◌else◌}
 use Rattle.std.specs.Prelude.{◌&&◌, ◌+◌, IfSome, length, slice_get, Result, Ok, Err}
 use Rattle.std.proofs.lemmas.List.{append-nil}
-use Rattle.std.specs.FinMap.{get-empty}
+use Rattle.std.specs.FinMap.{get-empty, len-empty}
 use Rattle.std.specs.Ordering.{nat_cmp}
 use Rattle.sftp_model.specs.declared.config.Limits.{Limits}
 use Rattle.sftp_model.specs.declared.error.Fault.{Fault}
@@ -19,6 +19,7 @@ use Rattle.sftp_core.specs.declared.info.Info.{Info}
 use Rattle.sftp_core.specs.declared.options.SftpOptions.{SftpOptions}
 use Rattle.sftp_core.specs.declared.tokens.Taken.{Taken}
 use Rattle.sftp_core.specs.declared.tokens.Taken.TheVariants as taken_of
+use Rattle.sftp_core.specs.declared.place.Place.{Place}
 use Rattle.sftp_core.specs.Core.{Core, at, handed_out}
 use Rattle.sftp_core.specs.Take.{Read, TakenFrom, limits_in, limits_read, take_refusal, taken}
 use Rattle.sftp_core.specs.Info.{hello_of, info_with, offers_limits}
@@ -46,7 +47,9 @@ use Rattle.sftp_ties.specs.Changes.{Unbegun, fresh_lane}
 use Rattle.sftp_ties.specs.Lanes.{CoreTied, LaneValue}
 use Rattle.sftp_ties.specs.Tables.{stand}
 use Rattle.sftp_ties.proofs.StartLaws.{start_dues, start_tied, unbegun_send, unbegun_setup, unbegun_start, unbegun_take}
+use Rattle.sftp_steps.specs.Budgets.{Spends, kept, spending}
 use Rattle.sftp_steps.specs.Rest.{AtRest, Counted, LaneAsks, begun_of}
+use Rattle.sftp_steps.proofs.BudgetLaws.{idle_spends}
 use Rattle.sftp_history.specs.Turns.{none_begun}
 use Rattle.sftp_work.specs.declared.lanes.Lanes.{Lanes}
 use Rattle.sftp_work.specs.Fresh.{AreFresh, IsUntouched}
@@ -160,6 +163,14 @@ counted s past options info core idle o =
     let a = idle.awaited in
     record { waiting = omega (arith, waits, w); sent = omega (arith, sends, a) }
 
+-- its core keeps no id
+idle_all : (s : Setting) (past : List Entry) (options : SftpOptions) (info : Info) (core : Core) → core ≡ idle_core options info → Spends s past core (λ lane. fresh_lane)
+idle_all s past options info core calm =
+    record {
+      each = λ lane lt. idle_spends s.facts (spending s past lane fresh_lane.running) refl;
+      few = (let none : kept core ≡ 0 = ap kept calm ∙ len-empty nat_cmp Place in omega (arith, none));
+    }
+
 -- a session whose lanes have done nothing is at rest
 at_rest : (s : Setting) (past : List Entry) (options : SftpOptions) (info : Info) (core : Core) (states : List LaneValue) → IsIdle s past → s.facts.read_len ≡ info.read_len → core ≡ idle_core options info → IsOpen options core past
     → AreFresh states → AtRest s past core (lane_in states) (begun_of (lane_in states))
@@ -171,6 +182,7 @@ at_rest s past options info core states idle len calm o each =
         due = start_dues s past idle.unbegun;
         tied = start_tied s past core idle.unbegun (core_idle s past options info core idle len calm) (λ id. ap (λ (x : Core). at x id) calm ∙ get-empty nat_cmp id ∙ sym (idle.free id));
         counted = counted s past options info core idle o;
+        spends = idle_all s past options info core calm;
         asks = λ lane lt. fresh_asks past lane;
       };
       settled = idle.settled;

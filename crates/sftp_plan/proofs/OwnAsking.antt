@@ -11,7 +11,7 @@ use Rattle.sftp_plan.specs.declared.next.Running.{Running}
 use Rattle.sftp_plan.specs.declared.next.Running.TheVariants as running
 use Rattle.sftp_plan.specs.Machines.{awaited}
 use Rattle.sftp_plan.specs.Pending.{own_place, reads_under}
-use Rattle.sftp_plan.specs.Asking.{Asks, AsksOn, AsksOrDefers, AsksOwn, AwaitsOrDefers, BeginsAsking, GoesOnAsking, IsAmong}
+use Rattle.sftp_plan.specs.Asking.{Asks, AsksOn, AsksOrDefers, AsksOwn, AwaitsOrDefers, BeginsAsking, GoesOnAsking, IsAmong, OwnOn}
 
 -- a call awaits the reply to its own request, where it has one
 pub own_awaited : (r : Running) (site : Site) (p : ℕ) → own_place (Some r) ≡ Some p → awaited r site ≡ Some p
@@ -75,3 +75,13 @@ own_goes_on opened place reads old new (step.Done o) asks = tt
 pub own_goes_on_if_ok : (opened : Option ℕ) (place : ℕ) (reads : List ReadAt) (old new : Site) (n : Result Next OutOfMemory) → IfOk n (AsksOn opened place old) → IfOk n (GoesOnAsking opened place reads old new)
 own_goes_on_if_ok opened place reads old new (Ok n) asks = own_goes_on opened place reads old new n asks
 own_goes_on_if_ok opened place reads old new (Err e) asks = asks
+
+-- and awaits just what it asks
+pub own_on : (opened : Option ℕ) (place : ℕ) (site : Site) (n : Next) → AsksOn opened place site n → OwnOn place n
+own_on opened place site (step.Ask a r) asks = asks.0.awaits
+own_on opened place site (step.Wait r) asks = asks
+own_on opened place site (step.Done o) asks = tt
+
+pub own_on_if_ok : (opened : Option ℕ) (place : ℕ) (site : Site) (n : Result Next OutOfMemory) → IfOk n (AsksOn opened place site) → IfOk n (OwnOn place)
+own_on_if_ok opened place site (Ok n) asks = own_on opened place site n asks
+own_on_if_ok opened place site (Err e) asks = asks

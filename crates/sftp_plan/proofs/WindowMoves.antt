@@ -1,6 +1,7 @@
 -- What a whole read does by its window.
 use Rattle.std.proofs.Common.{◌≡◌, ◌∙◌, ◌≤◌, ◌+◌, ◌-◌, ◌++◌, ◌⊎◌, ap, refl, sym, subst, arith, inl, inr, length, map, ℕ, Bool, true, false, List, [], ◌∷◌, Option, Some, None, if◌then◌else◌}
-use Rattle.std.specs.Prelude.{◌&&◌, ◌||◌, not, IfOk, Result, Ok, Err, is_some, nat_lt}
+use Rattle.std.specs.Prelude.{◌&&◌, ◌||◌, ◌<◌, not, IfOk, Result, Ok, Err, is_some, nat_lt}
+use Rattle.std.proofs.lemmas.List.{length-append, length-map}
 use Rattle.ssh_encoding.specs.declared.out_of_memory.OutOfMemory.{OutOfMemory}
 use Rattle.sftp_model.specs.declared.outcome.Outcome.{Outcome}
 use Rattle.sftp_model.specs.declared.outcome.Outcome.TheVariants as outcome
@@ -15,6 +16,7 @@ use Rattle.sftp_model.specs.Answers.{is_end_of_file}
 use Rattle.sftp_calls.specs.GoodMoves.{ReadsWithin}
 use Rattle.sftp_calls.specs.Moves.{Answers, Own, handle_of, refused}
 use Rattle.sftp_calls.specs.WindowPlans.{answered_prefix, ask_more, await_first, brings_content, contents, ends_or, first_refusal, gaps, go_on, least, least_end, outside, reaches, unless_refused}
+use Rattle.sftp_calls.proofs.WindowAsks.{Asking, asking}
 use Rattle.sftp_window.specs.declared.window.Answered.{Answered}
 use Rattle.sftp_window.specs.declared.window.ReadAt.{ReadAt}
 use Rattle.sftp_window.specs.declared.window.Window.{Window}
@@ -25,7 +27,7 @@ use Rattle.sftp_plan.specs.declared.next.Next.{Next}
 use Rattle.sftp_plan.specs.declared.next.Next.TheVariants as step
 use Rattle.sftp_plan.specs.declared.next.Running.{Running}
 use Rattle.sftp_plan.specs.declared.next.Running.TheVariants as running
-use Rattle.sftp_plan.specs.Asking.{GoesOnAsking, IsAmong, WidensAsking, is_window}
+use Rattle.sftp_plan.specs.Asking.{GoesOnAsking, IsAmong, ReadsOn, WidensAsking, is_window}
 use Rattle.sftp_plan.specs.Machines.{Goes, Widens, after, idle, place_in, refusal_of, residual, waits}
 use Rattle.sftp_plan.specs.Pending.{Pends, maybe, one, pends, reads_times, slots_times, with_reads}
 use Rattle.sftp_plan.specs.Sound.{AsksWithin, IsSound, Sounds}
@@ -148,6 +150,22 @@ ask_asks grant bound w new place offset len site is =
       },
       tt,
     )
+
+-- the plan asks only where the window lets it
+few_more : (handle : List ℕ) (w : Window) (r : ReadAt) (most : ℕ) → length (under_way handle w) < most → length (w.waiting ++ r ∷ []) ≤ most
+few_more handle w r most free =
+    (let same : length (under_way handle w) ≡ length w.waiting = length-map w.waiting (as_request handle) in
+    let more : length (w.waiting ++ r ∷ []) ≡ length w.waiting + 1 = length-append w.waiting (r ∷ []) in
+    omega (arith, same, more, free))
+
+pub ask_reads : (handle : List ℕ) (site : Site) (grant bound : ℕ) (w new : Window) (place offset len : ℕ) (facts : Facts) → window_move handle (Some bound) w site facts ≡ Ask (request.Read handle offset len)
+    → new ≡ asked_more w (record { place = place; offset = offset; len = len }) → ReadsOn place w.waiting facts (step.Ask (asked.Read grant offset len) (running.ReadingWhole grant bound new))
+ask_reads handle site grant bound w new place offset len facts move is =
+    let r : ReadAt = record { place = place; offset = offset; len = len } in
+    let let_in : Asking handle (Some bound) (reads_of handle w) (replies_of w) (under_way handle w) facts (request.Read handle offset len) =
+    asking handle (Some bound) (reads_of handle w) (replies_of w) (under_way handle w) site facts (request.Read handle offset len) move in
+    subst (λ (x : Window). ReadsOn place w.waiting facts (step.Ask (asked.Read grant offset len) (running.ReadingWhole grant bound x))) (sym is)
+    (record { window = refl; read = r; new = refl; under = refl; few = few_more handle w r facts.read_window let_in.free })
 
 -- ---- where it waits or ends
 

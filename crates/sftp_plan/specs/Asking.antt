@@ -1,9 +1,10 @@
 -- What a machine asks of its lane: requests that bear handles of grants which the lane has, and whose replies it awaits.
-use Rattle.std.specs.Prelude.{ℕ, ◌≡◌, ◌⊎◌, Bool, true, false, List, [], ◌∷◌, Option, Some, None, is_some}
+use Rattle.std.specs.Prelude.{ℕ, ◌≡◌, ◌≤◌, ◌⊎◌, Bool, true, false, List, [], ◌∷◌, ◌++◌, length, Option, Some, None, is_some}
 use Rattle.sftp_model.specs.declared.request.Request.{Request}
 use Rattle.sftp_model.specs.declared.request.Request.TheVariants as request
 use Rattle.sftp_model.specs.declared.reply.Reply.{Reply}
 use Rattle.sftp_model.specs.declared.reply.Reply.TheVariants as reply
+use Rattle.sftp_model.specs.declared.slot.Facts.{Facts}
 use Rattle.sftp_model.specs.declared.slot.FileAt.{FileAt}
 use Rattle.sftp_model.specs.declared.slot.Site.{Site}
 use Rattle.sftp_model.specs.Answers.{may_answer}
@@ -15,7 +16,7 @@ use Rattle.sftp_plan.specs.declared.next.Next.{Next}
 use Rattle.sftp_plan.specs.declared.next.Next.TheVariants as step
 use Rattle.sftp_plan.specs.declared.next.Running.{Running}
 use Rattle.sftp_plan.specs.declared.next.Running.TheVariants as running
-use Rattle.sftp_plan.specs.Machines.{awaited, filled}
+use Rattle.sftp_plan.specs.Machines.{answered_by, awaited, filled}
 use Rattle.sftp_plan.specs.Pending.{own_place, reads_under}
 use Rattle.sftp_window.specs.declared.window.ReadAt.{ReadAt}
 use Rattle.sftp_plan.specs.Sound.{Fits}
@@ -177,3 +178,38 @@ abbrev pub WidensAsking : Running → ℕ → Site → Next → Type 0
 WidensAsking running place site (step.Ask a r) = (own_place (Some running) ≡ None) × AsksOrDefers (opened_by running) place (reads_under (Some running)) site site a r × IsNoClose a
 WidensAsking running place site (step.Done o) = own_place (Some running) ≡ None
 WidensAsking running place site (step.Wait r) = Unit {0}
+
+-- ---- which way a call goes on
+
+-- A whole read asks at this place: the READs that it has under way then are these and the new one, and no more than its
+-- window has.
+pub record IsWindowed (place : ℕ) (reads : List ReadAt) (facts : Facts) (a : Asked) (r : Running) : Type 0 where
+  pub window : is_window r ≡ true
+  pub read : ReadAt
+  pub new : IsNewRead read place a
+  pub under : reads_under (Some r) ≡ reads ++ read ∷ []
+  pub few : length (reads_under (Some r)) ≤ facts.read_window
+
+-- a whole read goes on by its window, which had these READs under way
+abbrev pub ReadsOn : ℕ → List ReadAt → Facts → Next → Type 0
+ReadsOn place reads facts (step.Ask a r) = IsWindowed place reads facts a r
+ReadsOn place reads facts (step.Wait r) = (is_window r ≡ true) × (reads_under (Some r) ≡ reads)
+ReadsOn place reads facts (step.Done o) = Unit {0}
+
+-- a call of its own requests, one after another, awaits what it asks, or ends
+abbrev pub OwnOn : ℕ → Next → Type 0
+OwnOn place (step.Ask a r) = own_place (Some r) ≡ Some place
+OwnOn place (step.Wait r) = ⊥
+OwnOn place (step.Done o) = Unit {0}
+
+-- How a call goes on, by what it went on with and the reply that came, if it awaited one. A call that leaves replies to
+-- its slots may go on in any way.
+abbrev pub GoesOnBy : Running → Option Reply → ℕ → Facts → Next → Type 0
+GoesOnBy (running.OpeningToRead grant bound) reply place facts n = ReadsOn place [] facts n
+GoesOnBy (running.ReadingWhole grant bound window) reply place facts n = ReadsOn place (answered_by window reply).waiting facts n
+GoesOnBy (running.Flushing slot) reply place facts n = Unit {0}
+GoesOnBy (running.AwaitingRoom slot start) reply place facts n = Unit {0}
+GoesOnBy (running.Deferred slot count) reply place facts n = Unit {0}
+GoesOnBy (running.DeferringRest slot done) reply place facts n = Unit {0}
+GoesOnBy (running.FillingBuffer slot n_bytes offset own) reply place facts n = Unit {0}
+GoesOnBy other reply place facts n = OwnOn place n

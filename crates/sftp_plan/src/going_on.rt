@@ -5,7 +5,7 @@ ghost use Rattle.sftp_window.specs.Windows.{first_of};
 ghost use Rattle.sftp_plan.specs.Cancelling.{Leaves, left_after};
 ghost use Rattle.sftp_plan.specs.Sound.{AreWithin, AsksWithin, Fits, Sound, Sounds};
 ghost use Rattle.sftp_plan.specs.Pending.{Pends, pends_after, reads_under};
-ghost use Rattle.sftp_plan.specs.Asking.{GoesOnAsking, opened_after};
+ghost use Rattle.sftp_plan.specs.Asking.{GoesOnAsking, GoesOnBy, opened_after};
 
 use crate::buffer_flush::flush_replied;
 use crate::buffer_read::filled_replied;
@@ -73,6 +73,7 @@ pub fn go_on(
     ensures pends { IfOk result (Pends (pends_after running site.old reply) place site.new) }
     ensures asks { IfOk result (GoesOnAsking (opened_after running reply) place
         (reads_under (Some running)) site.old site.new) }
+    ensures by { IfOk result (GoesOnBy running reply place facts.now) }
     ensures err { OnErr result (site.new ≡ site.old) }
 {
     let Some(reply) = reply else {
@@ -177,6 +178,7 @@ fn go_on_at_once(
     ensures pends { IfOk result (Pends (pends_after running site.old None) place site.new) }
     ensures asks { IfOk result (GoesOnAsking (opened_after running None) place
         (reads_under (Some running)) site.old site.new) }
+    ensures by { IfOk result (GoesOnBy running None place facts.now) }
     ensures err { OnErr result (site.new ≡ site.old) }
 {
     match running {

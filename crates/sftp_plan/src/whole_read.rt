@@ -1,15 +1,15 @@
 //! `fs_read`: a whole file by several READs under way. No slot holds what it opens.
-ghost use Rattle.std.specs.Prelude.{[], ◌≡◌, ◌||◌, ℕ, List, Some, None, IfOk};
+ghost use Rattle.std.specs.Prelude.{[], ◌≡◌, ◌||◌, ℕ, List, Some, None, true, IfOk};
 ghost use Rattle.sftp_model.specs.declared.slot.Site.{Site as SiteValue};
 ghost use Rattle.sftp_calls.specs.CallPlans as call;
 ghost use Rattle.sftp_calls.specs.WindowPlans.{brings_content, to_read};
 ghost use Rattle.sftp_model.specs.Answers.{is_end_of_file};
 ghost use Rattle.sftp_plan.specs.declared.next.Running.TheVariants as running;
-ghost use Rattle.sftp_plan.specs.Machines.{Begins, Goes, Widens, after, idle};
+ghost use Rattle.sftp_plan.specs.Machines.{Begins, Goes, Widens, after, answered_by, idle};
 ghost use Rattle.sftp_plan.specs.Cancelling.{BeginsLeaving, Leaves, left_behind};
 ghost use Rattle.sftp_plan.specs.Sound.{AsksWithin, Fits, IsSound, Sound, Sounds};
 ghost use Rattle.sftp_plan.specs.Pending.{Pends, pends, pends_after, pends_idle, reads_under};
-ghost use Rattle.sftp_plan.specs.Asking.{Asks, GoesOnAsking, WidensAsking, opened_after};
+ghost use Rattle.sftp_plan.specs.Asking.{Asks, GoesOnAsking, ReadsOn, WidensAsking, is_window, opened_after};
 ghost use Rattle.sftp_window.specs.Windows.{AsksInRange, FitsFirst, IsSound as IsSoundWindow};
 
 use crate::next::{Asked, Next, Running};
@@ -79,6 +79,7 @@ fn decide(
         (λ q. pends q (Some (running.ReadingWhole grant bound window)) site) place site) }
     ensures asks { (site : SiteValue)
         → IfOk result (GoesOnAsking (Some grant) place window.waiting site site) }
+    ensures reads { IfOk result (ReadsOn place window.waiting facts.now) }
 {
     match window.next_move(alloc, bound, facts)? {
         WindowMove::Ask { offset, len } => {
@@ -125,6 +126,7 @@ pub(crate) fn read_on(
     ensures pends { IfOk result (Pends (pends_after (running.ReadingWhole grant bound window) site.now None)
         place site.now) }
     ensures asks { IfOk result (GoesOnAsking (Some grant) place window.waiting site.now site.now) }
+    ensures reads { IfOk result (ReadsOn place window.waiting facts.now) }
 {
     match window.first() {
         Some(_) => Ok(Next::Wait(Running::ReadingWhole {
@@ -158,6 +160,7 @@ pub(crate) fn read_opened(
         place site.now) }
     ensures asks { IfOk result (GoesOnAsking (opened_after (running.OpeningToRead grant bound) (Some reply))
         place [] site.now site.now) }
+    ensures reads { IfOk result (ReadsOn place [] facts.now) }
 {
     match reply {
         Reply::Handle(_handle) => {
@@ -207,6 +210,7 @@ pub(crate) fn window_replied(
     ensures pends { IfOk result (Pends (pends_after (running.ReadingWhole grant bound window) site.now (Some reply))
         place site.now) }
     ensures asks { IfOk result (GoesOnAsking (Some grant) place window.waiting site.now site.now) }
+    ensures reads { IfOk result (ReadsOn place (answered_by window (Some reply)).waiting facts.now) }
 {
     let Some(_) = window.first() else {
         return read_on(alloc, grant, bound, window, place, site, facts);
@@ -236,6 +240,8 @@ pub fn widen(
     ensures sound { IfOk result (IsSound bytes.now site.now facts.now) }
     ensures pends { IfOk result (Pends (λ q. pends q (Some running) site.now) place site.now) }
     ensures asks { IfOk result (WidensAsking running place site.now) }
+    ensures reads { is_window running ≡ true
+        → IfOk result (ReadsOn place (reads_under (Some running)) facts.now) }
 {
     match running {
         Running::ReadingWhole {

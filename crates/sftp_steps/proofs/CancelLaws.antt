@@ -44,9 +44,12 @@ use Rattle.sftp_ties.proofs.ReplyLaws.{cancel_keeps, end_keeps}
 use Rattle.sftp_ties.proofs.RestLaws.{cancel_dues, cancelled_dues, ended_dues}
 use Rattle.sftp_ties.proofs.SessionLaws.{each_with}
 use Rattle.sftp_ties.proofs.TurnLaws.{dropped_keeps, granted_due_keeps}
+use Rattle.sftp_steps.specs.Budgets.{Spends, kept}
 use Rattle.sftp_steps.specs.Ends.{Cancels, CancelsKeepSessions, Dropped, Kept, Polled, cancelled_past}
 use Rattle.sftp_steps.specs.Rest.{AtRest, Counted, IsTransferAt, LaneAsks}
 use Rattle.sftp_steps.proofs.AskedLaws.{asks_on, awaits_own, granted_own, idle_asks, none_own, other_transfers}
+use Rattle.sftp_steps.proofs.BudgetLaws.{spending_end, spends_end}
+use Rattle.sftp_steps.proofs.KeptLaws.{kept_abandoned, kept_polled}
 use Rattle.sftp_steps.proofs.CountedLaws.{counted_drop, counted_polled, counted_same}
 use Rattle.sftp_steps.proofs.TransferLaws.{transfer_on, transfer_ungranted}
 
@@ -131,6 +134,7 @@ record Ended (s : Setting) (past : List Entry) (core : Core) (lanes : ℕ → La
   pub mid : SessionTied s (entry.Event (Cancel lane) ∷ past) core lanes []
   pub due : Dues s (entry.Event (Cancel lane) ∷ past) []
   pub tied : SessionTied s (cancelled_past past lane) core (with_lane lanes lane (ended_lane (lanes lane) site)) (loose_of site (grant_places (lanes lane).grants))
+  pub spends : (new : Core) (y : LaneValue) → y.running ≡ None → kept new ≤ kept core → Spends s (cancelled_past past lane) new (with_lane lanes lane y)
 
 both_entries : (s : Setting) (past : List Entry) (core : Core) (lanes : ℕ → LaneValue) (begun : ℕ → Bool) (lane : ℕ) (c : Call) (site : Site) → AtRest s past core lanes begun → lane < length s.lanes → current s past lane ≡ Some c
     → begun lane ≡ true → is_some (lanes lane).running ≡ true → Leaves past s c (lanes lane) site → Fewer (lanes lane).site site → Stays s.facts (lanes lane).site site → Ended s past core lanes begun lane site
@@ -156,6 +160,7 @@ both_entries s past core lanes begun lane c site h there is any runs leaves less
       mid = mid;
       due = cancel_dues s past [] lane b.due;
       tied = subst (λ (x : Site). SessionTied s now core (with_lane lanes lane (ended_lane v site)) (loose_of x (grant_places v.grants))) (sym goes.runs.1) end;
+      spends = λ new y idle less. spends_end s past now core new lanes lane c y there is (λ l ne. spending_end s middle l lane (ended past lane) outcome.Cancelled (lanes l).running ne) refl (ended_end middle lane (ended past lane) outcome.Cancelled) idle less b.spends;
     }
   where
     left : (x : Option Running) → (lanes lane).running ≡ x → is_some x ≡ true → site ≡ leaving x c (lanes lane).site s.facts [] (answer past)
@@ -179,8 +184,8 @@ same_entries s past core lanes begun lane c h there is any runs leaves =
 -- what stands behind both entries then, where the tickets that are left are those of READs and WRITEs
 now_between : (s : Setting) (past : List Entry) (core new : Core) (lanes : ℕ → LaneValue) (begun : ℕ → Bool) (lane : ℕ) (site : Site) (y : LaneValue) → AtRest s past core lanes begun → Ended s past core lanes begun lane site → y.running ≡ None
     → ((p : ℕ) → is_in p (ticket_places y.tickets) ≡ true → IsTransferAt past p)
-    → Dues s (cancelled_past past lane) (loose_of y.site (grant_places y.grants)) → SessionTied s (cancelled_past past lane) new (with_lane lanes lane y) (loose_of y.site (grant_places y.grants)) → Counted past new → Cancels s past new lanes begun lane y
-now_between s past core new lanes begun lane site y h e idle transfers due tied counted =
+    → Dues s (cancelled_past past lane) (loose_of y.site (grant_places y.grants)) → SessionTied s (cancelled_past past lane) new (with_lane lanes lane y) (loose_of y.site (grant_places y.grants)) → Counted past new → kept new ≤ kept core → Cancels s past new lanes begun lane y
+now_between s past core new lanes begun lane site y h e idle transfers due tied counted less =
     let now : List Entry = cancelled_past past lane in
     let b = h.between in
     record {
@@ -191,6 +196,7 @@ now_between s past core new lanes begun lane site y h e idle transfers due tied 
         due = due;
         tied = tied;
         counted = counted_same past now new refl refl counted;
+        spends = e.spends new y idle less;
         asks = each_with (λ w x. LaneAsks now w x) lanes lane y (length s.lanes) (idle_asks now lane y idle (λ p has. transfer_on past now p (λ q below. refl) (transfers p has)))
             (λ w lt ne. asks_on past now w (lanes w) (λ p below. refl) (b.tied.each w lt).goes.awaits (b.asks w lt));
       };
@@ -269,7 +275,7 @@ drop_cancels s past core lanes begun lane k t g ungranted =
     let clash : t.place < t.place = asked_before s past lane (ended past lane) (ended past lane + 1) t.place t.place b.good.run mine later (omega arith) in
     absurd (omega (arith, clash))))
     (subst (λ (z : LaneValue). LaneGoes s now lane None v.site (without k (ticket_places z.tickets))) (sym is_x) (goes_without s past core lanes begun lane k t g))))
-    (counted_drop past core t.ticket (tickets_count s past core lanes [] lane k t b.tied g.there g.here) ungranted b.counted)
+    (counted_drop past core t.ticket (tickets_count s past core lanes [] lane k t b.tied g.there g.here) ungranted b.counted) (kept_abandoned core t.ticket)
   where
     by_reply : (y : Option Reply) → reply_in (at core t.ticket) ≡ y → is_granted y ≡ false
     by_reply None is = refl
@@ -308,7 +314,7 @@ poll_cancels s past core lanes begun lane k t handle g came =
     (subst (λ (gs : List ℕ). is_in p gs ≡ true) pushed (push_self before p))
     (subst (λ (z : LaneValue). IsBelow p (grant_places z.grants)) (sym is_x) newer)
     (subst (λ (z : LaneValue). LaneGoes s now lane None v.site (without k (ticket_places z.tickets))) (sym is_x) (goes_without s past core lanes begun lane k t g))))
-    (counted_polled past core t.ticket (reply.Handle handle) came b.counted)
+    (counted_polled past core t.ticket (reply.Handle handle) came b.counted) (kept_polled core t.ticket (reply.Handle handle) came).0
 
 -- ---- the tickets are kept
 
@@ -322,7 +328,7 @@ keep_cancels s past core lanes begun lane site h there none e =
     let transfers : (p : ℕ) → is_in p (ticket_places v.tickets) ≡ true → IsTransferAt past p = λ p has. other_transfers past lane p v (b.asks lane there) (none_own v.running p none) has in
     let due : Dues s now (loose_of site (grant_places v.grants)) = subst (λ (z : Site). Dues s now (loose_of z (grant_places v.grants))) (sym e.goes.runs.1)
     (ended_dues s middle core lanes lane outcome.Cancelled e.mid there (e.first, b.good.run) e.due (λ p has. transfer_ungranted s past p b.good.run (transfers p has))) in
-    now_between s past core core lanes begun lane site (ended_lane v site) h e refl transfers due e.tied b.counted
+    now_between s past core core lanes begun lane site (ended_lane v site) h e refl transfers due e.tied b.counted (omega arith)
 
 -- ---- each way
 

@@ -1,5 +1,5 @@
 -- The grant of a lane that is due next is closed.
-use Rattle.std.proofs.Common.{◌≡◌, ◌≢◌, ◌<◌, ◌≤◌, ◌^◌, ℕ, Bool, true, List, ◌∷◌, Option, Some, ap, sym, ◌∙◌, subst}
+use Rattle.std.proofs.Common.{◌≡◌, ◌≢◌, ◌<◌, ◌≤◌, ◌^◌, ℕ, Bool, true, List, ◌∷◌, Option, Some, refl, ap, sym, ◌∙◌, subst}
 use Rattle.std.specs.Prelude.{length, slice_get}
 use Rattle.sftp_model.specs.declared.request.Request.{Request}
 use Rattle.sftp_model.specs.declared.reply.Reply.{Reply}
@@ -29,8 +29,11 @@ use Rattle.sftp_ties.proofs.PlaceLaws.{without_other}
 use Rattle.sftp_ties.proofs.SessionLaws.{each_with}
 use Rattle.sftp_ties.proofs.TurnLaws.{closed_keeps}
 use Rattle.sftp_steps.specs.Rest.{Counted, LaneAsks, opened_in, weigh}
+use Rattle.sftp_steps.specs.Budgets.{Spends}
 use Rattle.sftp_steps.specs.Ends.{DueGrantsAreClosed, NoneDueIsRest, close_entry, let_go}
 use Rattle.sftp_steps.proofs.AskedLaws.{asks_on}
+use Rattle.sftp_steps.proofs.BudgetLaws.{spends_with}
+use Rattle.sftp_steps.proofs.KeptLaws.{kept_let_go}
 use Rattle.sftp_steps.proofs.CountedLaws.{counted_let_go, weigh_let_go}
 use Rattle.sftp_model.specs.declared.request.Request.TheVariants as request
 use Rattle.sftp_history.specs.declared.event.Owner.TheVariants as owner
@@ -96,6 +99,12 @@ closing s past core lanes dues begun lane k g good tied counted asks due there g
       work = weigh_let_go core g.grant here;
     }
 
+-- and its lanes keep no more
+pub closed_spends : (s : Setting) (past : List Entry) (core : Core) (lanes : ℕ → LaneValue) (dues : List ℕ) (lane k : ℕ) (g : Held) → SessionTied s past core lanes dues → lane < length s.lanes → slice_get (lanes lane).grants k ≡ Some g → Spends s past core lanes
+    → Spends s (close_entry g.grant ∷ past) (let_go core g.grant) (with_lane lanes lane (closed_lane (lanes lane) k))
+closed_spends s past core lanes dues lane k g tied there got x =
+    spends_with s past (close_entry g.grant ∷ past) core (let_go core g.grant) lanes lane (closed_lane (lanes lane) k) (λ l lt. refl) refl (kept_let_go core g.grant (grants_count s past core lanes dues lane k g tied there got)) x
+
 -- ---- the grants that are due
 
 pub due_closed : DueGrantsAreClosed
@@ -114,6 +123,7 @@ due_closed s past core lanes begun lane k g rest b letting there got small apart
             (closed_keeps s past core lanes (g.place ∷ rest) rest lane g.place k g.grant b.tied there j due (λ q ne out. out_more g.place q rest ne out) got);
         counted = c.counted;
         asks = c.asks;
+        spends = closed_spends s past core lanes (g.place ∷ rest) lane k g b.tied there got b.spends;
       };
       work = c.work;
     }

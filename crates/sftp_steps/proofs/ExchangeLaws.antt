@@ -7,7 +7,7 @@ use Rattle.sftp_model.specs.declared.reply.Reply.{Reply}
 use Rattle.sftp_model.specs.declared.reply.Reply.TheVariants as reply
 use Rattle.sftp_model.specs.declared.request.Request.TheVariants as request
 use Rattle.sftp_model.specs.Answers.{allows, expected_of, is_handle, may_answer}
-use Rattle.sftp_core.specs.Core.{at}
+use Rattle.sftp_core.specs.Core.{at, handed_out}
 use Rattle.sftp_core.specs.Table.{brings}
 use Rattle.sftp_core.specs.Take.{take_leaves}
 use Rattle.sftp_core.specs.declared.place.Place.{Place}
@@ -36,6 +36,8 @@ use Rattle.sftp_ties.proofs.RestLaws.{sent_dues, taken_dues, unheld_dues}
 use Rattle.sftp_ties.proofs.TurnLaws.{sent_keeps}
 use Rattle.sftp_steps.specs.Exchanges.{RepliesKeepRest, SendsKeepRest, UnwantedHandlesAreClosed}
 use Rattle.sftp_steps.proofs.AskedLaws.{asks_on, unwanted_unheld, wanted_held}
+use Rattle.sftp_steps.proofs.BudgetLaws.{spends_same}
+use Rattle.sftp_steps.proofs.KeptLaws.{kept_sent, kept_taken}
 use Rattle.sftp_steps.proofs.CameLaws.{borne_small, came_by, limits_goes, no_limits}
 use Rattle.sftp_steps.proofs.CountedLaws.{counted_send, counted_take, counted_take_drop, weigh_send, weigh_take}
 
@@ -55,6 +57,7 @@ sends_keep s past core lanes begun h some =
           due = due;
           tied = sent_keeps s past core lanes [] b.tied;
           counted = counted_send past core b.counted;
+          spends = spends_same s past (e ∷ past) core (handed_out core) lanes lanes (λ l lt. refl) (kept_sent core) b.spends;
           asks = λ lane lt. asks_on past (e ∷ past) lane (lanes lane) (λ p below. refl) (b.tied.each lane lt).goes.awaits (b.asks lane lt);
         };
         settled = none_next s (e ∷ past) refl due;
@@ -133,6 +136,7 @@ replies_keep s past core lanes begun id r h x how =
           due = due;
           tied = taken_keeps s past core lanes id p.place p.asked true r b.tied b.good.run p.state wanted;
           counted = counted_take past core id r x.kind x.wanted x.here may how b.counted;
+          spends = spends_same s past (e ∷ past) core (take_leaves core id r (at core id)) lanes lanes (λ l lt. refl) (kept_taken core id r) b.spends;
           asks = λ lane lt. asks_on past (e ∷ past) lane (lanes lane) (λ q below. refl) (b.tied.each lane lt).goes.awaits (b.asks lane lt);
         };
         settled = none_next s (e ∷ past) refl due;
@@ -178,6 +182,7 @@ unwanted_closed s past core lanes begun id handle h x unwanted =
           tied = subst (λ (y : Entry). SessionTied s (y ∷ mid) (take_leaves core id r (at core id)) lanes []) (sym close_is)
               (unwanted_keeps s past core lanes id p.place p.asked true handle b.tied run p.state none_wants orphan_is);
           counted = counted_take_drop past core id r x.kind handle here may refl b.counted;
+          spends = spends_same s past now core (take_leaves core id r (at core id)) lanes lanes (λ l lt. refl) (kept_taken core id r) b.spends;
           asks = λ lane lt. asks_on past now lane (lanes lane) (λ q below. asked_other mid owner.Close id q (request.Close handle) below) (b.tied.each lane lt).goes.awaits (b.asks lane lt);
         };
         settled = none_next s now refl due;

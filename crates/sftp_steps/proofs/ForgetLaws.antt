@@ -2,7 +2,7 @@
 use Rattle.std.proofs.Common.{◌≡◌, ◌≢◌, ℕ, true, false, List, [], Option, Some, None, refl, ap, sym, ◌∙◌, subst}
 use Rattle.std.specs.Prelude.{length, slice_get}
 use Rattle.sftp_model.specs.declared.reply.Reply.TheVariants as reply
-use Rattle.sftp_core.specs.Core.{at, is_ticket, reply_in}
+use Rattle.sftp_core.specs.Core.{abandoned, at, is_ticket, reply_in}
 use Rattle.sftp_calls.specs.Moves.{Own}
 use Rattle.sftp_plan.specs.declared.next.Running.{Running}
 use Rattle.sftp_history.specs.declared.entry.Entry.{Entry}
@@ -21,6 +21,8 @@ use Rattle.sftp_ties.proofs.TurnLaws.{dropped_keeps}
 use Rattle.sftp_steps.specs.Ends.{UnawaitedAreForgotten}
 use Rattle.sftp_steps.specs.Rest.{LaneAsks}
 use Rattle.sftp_steps.proofs.AskedLaws.{idle_asks, idle_transfers}
+use Rattle.sftp_steps.proofs.BudgetLaws.{spends_with}
+use Rattle.sftp_steps.proofs.KeptLaws.{kept_abandoned}
 use Rattle.sftp_steps.proofs.CountedLaws.{counted_drop, weigh_drop}
 use Rattle.sftp_steps.proofs.TransferLaws.{transfer_ungranted}
 
@@ -52,6 +54,7 @@ unawaited_forgotten s past core lanes begun lane k t h there idle here unawaited
           tied = dropped_keeps s past core lanes [] lane k t None v.site b.tied there here plain (λ asks none. unasked past lane t.place goes.runs.0 asks)
               (dropped_lane s past lane k t.place None v.site ps goes at_k unawaited);
           counted = counted_drop past core t.ticket ticket ungranted b.counted;
+          spends = spends_with s past past core (abandoned core t.ticket) lanes lane left (λ l lt. refl) (sym idle) (kept_abandoned core t.ticket) b.spends;
           asks = each_with (λ w x. LaneAsks past w x) lanes lane left (length s.lanes)
               (idle_asks past lane left refl (λ p has. idle_transfers past lane p v idle a (in_left ps k p (ap (is_in p) (sym (ticket_without v.tickets k)) ∙ has))))
               (λ w lt ne. b.asks w lt);

@@ -1,5 +1,5 @@
 -- A lane is let go, slot by slot.
-use Rattle.std.proofs.Common.{◌≡◌, ◌≢◌, ℕ, Bool, true, false, List, [], ◌∷◌, Option, Some, None, refl, ap, sym, ◌∙◌, subst, inl, inr}
+use Rattle.std.proofs.Common.{◌≡◌, ◌≢◌, ℕ, Bool, true, false, List, [], ◌∷◌, Option, Some, None, refl, ap, sym, ◌∙◌, subst, arith, inl, inr}
 use Rattle.std.specs.Prelude.{◌||◌, ◌⊎◌, length, slice_get}
 use Rattle.std.specs.List.{list_any}
 use Rattle.std.proofs.lemmas.Bool.{eq-eqb, or_left, or_right}
@@ -34,7 +34,8 @@ use Rattle.sftp_ties.proofs.SessionLaws.{each_with}
 use Rattle.sftp_steps.specs.Rest.{LaneAsks, opened_in}
 use Rattle.sftp_steps.specs.Ends.{LettingGoBegins, LettingGoEnds, SlotsAreClosed, SlotsArePassed, let_go}
 use Rattle.sftp_steps.proofs.AskedLaws.{asks_on, granted_own, idle_asks, idle_transfers, none_own}
-use Rattle.sftp_steps.proofs.CloseLaws.{Closing, closing}
+use Rattle.sftp_steps.proofs.BudgetLaws.{spends_with}
+use Rattle.sftp_steps.proofs.CloseLaws.{Closing, closed_spends, closing}
 use Rattle.sftp_steps.proofs.TransferLaws.{transfer_on}
 use Rattle.sftp_history.specs.declared.entry.Entry.TheVariants as entry
 
@@ -102,6 +103,7 @@ letting_begins s past core lanes begun lane r there over unlet =
         asks = each_with (λ w x. LaneAsks now w x) lanes lane (let_go_lane v) (length s.lanes)
             (idle_asks now lane (let_go_lane v) refl (λ p has. transfer_on past now p (λ q below. refl) (idle_transfers past lane p v bare.0 a has)))
             (λ w lt ne. asks_on past now w (lanes w) (λ p below. refl) (b.tied.each w lt).goes.awaits (b.asks w lt));
+        spends = spends_with s past now core core lanes lane (let_go_lane v) (λ l lt. refl) (sym bare.0) (omega arith) b.spends;
         gone = λ g has out. slot_gone s past lane g v b.good.run l over a has (ap (λ (x : LaneValue). is_in g (grant_places x.grants)) (sym (this_lane lanes lane (let_go_lane v))) ∙ out);
         from = past;
         plain = dues_settled s past b.due;
@@ -126,6 +128,7 @@ slots_passed s past core lanes begun lane slot rest l stays =
       tied = l.tied;
       counted = l.counted;
       asks = l.asks;
+      spends = l.spends;
       gone = λ g has out. l.gone g (or_right (slot_has g slot) (list_any (slot_has g) rest) has) out;
       from = l.from;
       plain = l.plain;
@@ -168,6 +171,7 @@ slots_closed s past core lanes begun lane k g slot rest l there is none got smal
             (subst (λ (x : LaneValue). SessionTied s (close_of past g.place g.grant.id ∷ past) (let_go core g.grant) (with_lane lanes lane new) (grant_places x.grants)) (sym (this_lane lanes lane new)) both.0);
         counted = c.counted;
         asks = c.asks;
+        spends = closed_spends s past core lanes gs lane k g l.tied there got l.spends;
         gone = λ h has out. (let apart : h ≢ g.place = λ same. (let clash : false ≡ true = sym none ∙ (ap (λ (n : ℕ). list_any (slot_has n) rest) (sym same) ∙ has) in absurd cc) in
             let left : is_in h (without k gs) ≡ false = ap (is_in h) (sym (grant_without v.grants k)) ∙ (ap (λ (x : LaneValue). is_in h (grant_places x.grants)) (sym (this_lane lanes lane new)) ∙ out) in
             let was : is_one_of (closed s past) h ≡ true = l.gone h (or_right (slot_has h slot) (list_any (slot_has h) rest) has) (sym (without_other gs k g.place h at_k apart) ∙ left) in
@@ -192,6 +196,7 @@ letting_ends s past core lanes begun lane l =
         tied = rest_tied s past core lanes (grant_places (lanes lane).grants) l.good.run due l.tied;
         counted = l.counted;
         asks = l.asks;
+        spends = l.spends;
       };
       settled = settled;
     }

@@ -7,3 +7,5 @@ pub mod ExchangeLaws
 pub mod ForgetLaws
 pub mod LettingLaws
 pub mod TransferLaws
+pub mod BudgetLaws
+pub mod KeptLaws

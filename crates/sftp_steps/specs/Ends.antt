@@ -30,6 +30,7 @@ use Rattle.sftp_ties.specs.Dues.{loose_of}
 use Rattle.sftp_ties.specs.Lanes.{Held, LaneValue, SessionTied, Ticketed, grant_places}
 use Rattle.sftp_ties.specs.Letting.{Letting}
 use Rattle.sftp_ties.specs.Places.{is_in}
+use Rattle.sftp_steps.specs.Budgets.{Spends}
 use Rattle.sftp_steps.specs.Rest.{AtRest, Between, Counted, LaneAsks, opened_in, weigh}
 
 -- ---- the grant that is due next
@@ -137,6 +138,7 @@ pub record LettingGo (s : Setting) (past : List Entry) (core : Core) (lanes : �
   pub tied : SessionTied s past core lanes (grant_places (lanes lane).grants)
   pub counted : Counted past core
   pub asks : (w : ℕ) → w < length s.lanes → LaneAsks past w (lanes w)
+  pub spends : Spends s past core lanes
   -- a grant of these slots that the lane has no more has its CLOSE
   pub gone : (g : ℕ) → list_any (slot_has g) rest ≡ true → is_in g (grant_places (lanes lane).grants) ≡ false → is_one_of (closed s past) g ≡ true
   -- the journal before the lane was let go

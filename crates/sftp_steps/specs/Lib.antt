@@ -1,3 +1,5 @@
+pub mod Budgets
 pub mod Rest
 pub mod Exchanges
 pub mod Ends
+pub mod BudgetRows

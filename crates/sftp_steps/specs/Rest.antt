@@ -21,6 +21,7 @@ use Rattle.sftp_history.specs.Steady.{Good}
 use Rattle.sftp_ties.specs.Dues.{Dues}
 use Rattle.sftp_ties.specs.Lanes.{LaneValue, SessionTied, grant_places, ticket_places}
 use Rattle.sftp_ties.specs.Places.{is_in}
+use Rattle.sftp_steps.specs.Budgets.{Spends}
 
 -- ---- counts
 
@@ -92,6 +93,7 @@ pub record Between (s : Setting) (past : List Entry) (core : Core) (lanes : ℕ 
   pub tied : SessionTied s past core lanes dues
   pub counted : Counted past core
   pub asks : (lane : ℕ) → lane < length s.lanes → LaneAsks past lane (lanes lane)
+  pub spends : Spends s past core lanes
 
 -- and none is due
 pub record AtRest (s : Setting) (past : List Entry) (core : Core) (lanes : ℕ → LaneValue) (begun : ℕ → Bool) : Type 0 where

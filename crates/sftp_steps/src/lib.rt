@@ -4,8 +4,10 @@
 #![tactic(auto)]
 
 mod laws;
+mod rows;
 
 pub use laws::{
     cancels_keep_sessions, closes_bring_rest, exchanges_keep_rest, letting_go_brings_rest,
     unawaited_are_forgotten,
 };
+pub use rows::budgets_as_worked_out;

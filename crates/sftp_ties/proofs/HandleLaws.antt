@@ -48,7 +48,7 @@ handle_expected expected.Status (reply.Handle handle) is may = absurd cc
 handle_expected e other is may = absurd cc
 
 -- the request of a grant asks for a handle
-grant_expected : (s : Setting) (past : List Entry) (p : ℕ) (a : Asked) → IsJournal s past → is_grant past p ≡ true → asked_at past p ≡ Some a → expected_of a.request ≡ expected.Handle
+pub grant_expected : (s : Setting) (past : List Entry) (p : ℕ) (a : Asked) → IsJournal s past → is_grant past p ≡ true → asked_at past p ≡ Some a → expected_of a.request ≡ expected.Handle
 grant_expected s [] p a j grant is = absurd cc
 grant_expected s (entry.Event (Submit by id r) ∷ past) p a j grant is = elim (eqb_tells p (asked past)) [
   | inl t ↦ absurd (let none : answer past p ≡ None = answer_beyond past p (omega (arith, t.1)) in let clash : false ≡ true = sym (ap is_granted none) ∙ grant in cc)
@@ -95,7 +95,7 @@ handle_first s past lane n id r j e = by_call (current s past lane) (next_submit
         (asks_good (planned c) (site_of s past lane) s.facts mine (answer past) r (handle_within (planned c) (site_of s past lane) s.facts mine (answer past) r e asks) asks)
 
 -- a call's request for a handle stands before its others
-first_stands : (s : Setting) (past : List Entry) (lane c p q : ℕ) (a : Asked) → IsJournal s past → asked_at past p ≡ Some a → expected_of a.request ≡ expected.Handle → is_asked_by (asked_at past p) lane c ≡ true → is_asked_by (asked_at past q) lane c ≡ true → p ≤ q
+pub first_stands : (s : Setting) (past : List Entry) (lane c p q : ℕ) (a : Asked) → IsJournal s past → asked_at past p ≡ Some a → expected_of a.request ≡ expected.Handle → is_asked_by (asked_at past p) lane c ≡ true → is_asked_by (asked_at past q) lane c ≡ true → p ≤ q
 first_stands s [] lane c p q a j is e x y = absurd cc
 first_stands s (entry.Event (Submit o id r) ∷ past) lane c p q a j is e x y = elim (eqb_tells q (asked past)) [
   | inl t ↦ elim (eqb_tells p (asked past)) [

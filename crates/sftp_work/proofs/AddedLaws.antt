@@ -17,7 +17,8 @@ use Rattle.sftp_history.proofs.CallLaws.{added_here, added_other, may_next}
 use Rattle.sftp_history.proofs.RunLaws.{wait_more}
 use Rattle.sftp_driver.proofs.Journals.{later_self}
 use Rattle.sftp_ties.specs.Dues.{Dues}
-use Rattle.sftp_ties.specs.Lanes.{LaneValue}
+use Rattle.sftp_plan.specs.declared.next.Running.{Running}
+use Rattle.sftp_ties.specs.Lanes.{AtTied, LaneValue}
 use Rattle.sftp_ties.proofs.DueLaws.{none_next}
 use Rattle.sftp_ties.proofs.ReplyLaws.{added_keeps}
 use Rattle.sftp_ties.proofs.RestLaws.{added_dues}
@@ -25,6 +26,7 @@ use Rattle.sftp_steps.specs.Rest.{AtRest}
 use Rattle.sftp_steps.proofs.AskedLaws.{asks_on}
 use Rattle.sftp_work.specs.Adding.{AddsIn, added_in, with_call}
 use Rattle.sftp_work.specs.Working.{Contents, Stands, Works, lane_in}
+use Rattle.sftp_work.proofs.AddedSpends.{added_spends}
 use Rattle.sftp_work.proofs.CallsLaws.{call_within}
 
 -- ---- lists
@@ -128,6 +130,7 @@ added_rest s past core lanes begun lane call h next =
         due = due;
         tied = added_keeps s past core lanes [] lane call b.tied b.good.run;
         counted = record { waiting = b.counted.waiting; sent = b.counted.sent };
+        spends = added_spends s past core lanes lane call (λ w lt r is. (subst (λ (o : Option Running). AtTied s past w o (lanes w).site) is (b.tied.each w lt).goes.runs).2) b.spends;
         asks = λ w lt. asks_on past (e ∷ past) w (lanes w) (λ p below. refl) (b.tied.each w lt).goes.awaits (b.asks w lt);
       };
       settled = none_next s (e ∷ past) refl due;

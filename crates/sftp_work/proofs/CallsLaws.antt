@@ -58,13 +58,17 @@ calls_weigh (c ∷ calls) = two_more (weight c) (sum_by weight calls) (length ca
 below_limit : (n : ℕ) → nat_lt n (2 ^ 31) ≡ true → n < 2 ^ 31
 below_limit n e = grind (arith, nat_tests)
 
+-- lanes that a session can be given weigh less than the limit
+pub weighs_few : (lanes : List Lane) → are_ok lanes ≡ true → sum_by lane_weight lanes < 2 ^ 31
+weighs_few lanes ok = below_limit (sum_by lane_weight lanes) (both (list_all (λ (l : Lane). list_all is_within l.calls) lanes) _ ok).1
+
 few_calls : (total n all : ℕ) → all < 2 ^ 31 → 1 + total ≤ all → n + n ≤ total → n < 2 ^ 31
 few_calls total n all less part twice = omega (arith, less, part, twice)
 
 -- a lane has few calls
 pub calls_few : (lanes : List Lane) (k : ℕ) (lane : Lane) → are_ok lanes ≡ true → slice_get lanes k ≡ Some lane → length lane.calls < 2 ^ 31
 calls_few lanes k lane ok is =
-    let less : sum_by lane_weight lanes < 2 ^ 31 = below_limit (sum_by lane_weight lanes) (both (list_all (λ (l : Lane). list_all is_within l.calls) lanes) _ ok).1 in
+    let less = weighs_few lanes ok in
     let part = sum_at lanes k lane is in
     few_calls (sum_by weight lane.calls) (length lane.calls) (sum_by lane_weight lanes) less part (calls_weigh lane.calls)
 
@@ -80,5 +84,5 @@ lanes_weigh (lane ∷ lanes) =
 pub few_lanes : (lanes : List Lane) → are_ok lanes ≡ true → length lanes < 2 ^ 31
 few_lanes lanes ok =
     let weigh = lanes_weigh lanes in
-    let light : sum_by lane_weight lanes < 2 ^ 31 = below_limit (sum_by lane_weight lanes) (both (list_all (λ (l : Lane). list_all is_within l.calls) lanes) _ ok).1 in
+    let light = weighs_few lanes ok in
     omega (arith, weigh, light)

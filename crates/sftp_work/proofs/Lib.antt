@@ -1,4 +1,5 @@
 pub mod AddedLaws
+mod AddedSpends
 pub mod BegunLaws
 pub mod BufferLaws
 pub mod CallsLaws
@@ -9,6 +10,7 @@ pub mod Counting
 pub mod Entries
 pub mod Exchanges
 pub mod FaultLaws
+mod FewIds
 pub mod FreshLaws
 pub mod LeftLaws
 pub mod LettingLaws

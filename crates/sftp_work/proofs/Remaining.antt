@@ -79,7 +79,7 @@ pub close_left : (facts : Facts) (past : List Entry) (lanes : List Lane) (n id :
 close_left facts past lanes n id r = left_alike facts past (entry.Event (Submit owner.Close id r) ∷ past) lanes n (λ l m. refl)
 
 -- the calls from this one on are it and those behind it
-drop_at : {A : Type 0} (xs : List A) (n : ℕ) (x : A) → slice_get xs n ≡ Some x → drop n xs ≡ x ∷ drop (suc n) xs
+pub drop_at : {A : Type 0} (xs : List A) (n : ℕ) (x : A) → slice_get xs n ≡ Some x → drop n xs ≡ x ∷ drop (suc n) xs
 drop_at [] n x is = absurd cc
 drop_at (y ∷ xs) zero x is = let same : y ≡ x = cc in ap (λ z. z ∷ xs) same
 drop_at (y ∷ xs) (suc n) x is = drop_at xs n x is

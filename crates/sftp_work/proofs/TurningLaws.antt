@@ -29,12 +29,16 @@ use Rattle.sftp_lane.proofs.Ranges.{lanes_in_range}
 use Rattle.sftp_lane.proofs.Rests.{turns_leave}
 use Rattle.sftp_lane.proofs.Turned.{lanes_may}
 use Rattle.sftp_lane.proofs.WentLaws.{went_few}
+use Rattle.sftp_core.specs.Info.{MAX_IDS}
+use Rattle.sftp_steps.specs.Budgets.{kept}
 use Rattle.sftp_steps.specs.Rest.{awaited_in}
 use Rattle.sftp_work.specs.Noting.{Turning, call_in, is_went, turned_in, turns_left}
 use Rattle.sftp_work.specs.Working.{Contents, Works, lane_in}
 use Rattle.sftp_work.proofs.CallsLaws.{call_within}
 use Rattle.sftp_work.proofs.ClosingLaws.{fewer_grants}
 use Rattle.sftp_work.proofs.Contents.{state_at}
+use Rattle.sftp_work.proofs.FewIds.{few_ids}
+use Rattle.sftp_work.proofs.Remaining.{asks_within}
 use Rattle.sftp_work.proofs.NotingLaws.{AtCall, at_call, call_fits, current_at, there_at, turning_unfailed, within_states}
 
 -- ---- what a turn leaves of the lane
@@ -116,7 +120,8 @@ turning s c lane call new now m w calls t small =
       is = refl;
       small = small;
       same = turned_same call c.facts c.asked c.core new (lane_in c.states lane) now m t;
-      leaves = turns_leave s c.past c.core new (lane_in c.states) c.begun lane call now m w.rest there (current_at s c lane call w a) small turned;
+      leaves = turns_leave s c.past c.core new (lane_in c.states) c.begun lane call now m w.rest there (current_at s c lane call w a)
+          (λ r move. asks_within s c.past lane call r (call_fits s c lane call w a) w.stands.fit w.rest.between.good.run (current_at s c lane call w a) move) small turned;
     }
 
 -- ---- what a call of the code asks for
@@ -132,6 +137,7 @@ pub record MayHave (call : Call) (facts : Facts) (core : Core) (v : LaneValue) :
   pub range : AllInRange call facts core v.tickets v.running v.site
   pub awaits : HasAwaited v
   pub holds : HoldsNamed v
+  pub few : kept core < MAX_IDS
 
 pub may_have : (s : Setting) (c : Contents) (lane : ℕ) (call : Call) (v : LaneValue) → Works s c → call_in c.calls c.states lane ≡ Some call → v ≡ slice_index_or c.states lane v → MayHave call c.facts c.core v
 may_have s c lane call v w some value =
@@ -147,6 +153,7 @@ may_have s c lane call v w some value =
       range = subst (λ (f : Facts). AllInRange call f c.core (lane_in c.states lane).tickets (lane_in c.states lane).running (lane_in c.states lane).site) (sym w.stands.facts) m.range;
       awaits = m.goes.awaits;
       holds = m.replies.holds;
+      few = few_ids s c w;
     }))
 
 -- ---- what a turn of the code was

@@ -23,3 +23,6 @@ returns-in-ReadingWhole-clause-pends c = rw c.in-ReadingWhole.is (c.decide.ensur
 
 pub returns-in-ReadingWhole-clause-asks : goal.returns-in-ReadingWhole-clause-asks
 returns-in-ReadingWhole-clause-asks c = rw c.in-ReadingWhole.is (widens_asking c.in-ReadingWhole.grant c.in-ReadingWhole.bound c.in-ReadingWhole.window c.args.place c.args.site.now c.decide.result (c.decide.ensures.asks c.args.site.now))
+
+pub returns-in-ReadingWhole-clause-reads : goal.returns-in-ReadingWhole-clause-reads
+returns-in-ReadingWhole-clause-reads c = λ on. rw c.in-ReadingWhole.is c.decide.ensures.reads

@@ -94,7 +94,7 @@ returns-clause-turned c =
     let asks : GoesOnAsking (opened_after c.in-Some.running (Some c.in-Some-reply.reply)) c.args.place (reads_under (Some c.in-Some.running)) v.site c.resume-2.new.site c.in_ok-next-4.next =
     subst (λ (x : Site). GoesOnAsking (opened_after c.in-Some.running (Some c.in-Some-reply.reply)) c.args.place (reads_under (Some c.in-Some.running)) x c.resume-2.new.site c.in_ok-next-4.next) site c.in_ok-next-4.ensures.asks in
     turned_replied c.args.call.now c.args.facts.now c.args.place c.args.core.now c.reply.new.core c.settle-2.new.core v _ c.in-Some.running c.in-Some-awaited.awaited c.in-Some-reply.reply c.reply.new.self.tickets.items c.reply.new.self.grants.items c.in_ok-next-4.next c.settle-2.result
-    was looks spent went asks (ap (λ (x : LaneValue). x.ended) c.self.view_is) c.settle-2.ensures.settled
+    was looks spent went asks c.in_ok-next-4.ensures.by (ap (λ (x : LaneValue). x.ended) c.self.view_is) c.settle-2.ensures.settled
 
 pub settle-requires-in_default-awaited-clause-held : goal.settle-requires-in_default-awaited-clause-held
 settle-requires-in_default-awaited-clause-held c =
@@ -119,7 +119,7 @@ returns-in_default-awaited-clause-turned c =
     let settles : IfOk to.result (λ m. Settles c.args.core.now to.new.core v.tickets to.new.tokens.tickets.items v.grants to.new.tokens.grants.items to.new.running c.args.place n m) =
     subst (λ (ts : List Ticketed). IfOk to.result (λ m. Settles c.args.core.now to.new.core ts to.new.tokens.tickets.items v.grants to.new.tokens.grants.items to.new.running c.args.place n m)) tickets
     (subst (λ (gs : List Held). IfOk to.result (λ m. Settles c.args.core.now to.new.core c.reserve.new.self.items to.new.tokens.tickets.items gs to.new.tokens.grants.items to.new.running c.args.place n m)) grants to.ensures.settled) in
-    turned_unreplied c.args.call.now c.args.facts.now c.args.place c.args.core.now to.new.core v _ r n to.result was looks went asks (ap (λ (x : LaneValue). x.ended) c.self.view_is) settles
+    turned_unreplied c.args.call.now c.args.facts.now c.args.place c.args.core.now to.new.core v _ r n to.result was looks went asks c.in_ok-next-2.ensures.by (ap (λ (x : LaneValue). x.ended) c.self.view_is) settles
 
 pub settle_meanwhile-requires-clause-may : goal.settle_meanwhile-requires-clause-may
 settle_meanwhile-requires-clause-may c =
@@ -155,7 +155,7 @@ returns-in_default-reply-clause-turned c =
     (subst (λ (gs : List Held). IfOk to.result (λ y. SettlesMeanwhile c.reply.new.core to.new.core c.reply.new.self.tickets.items to.new.tokens.tickets.items gs to.new.tokens.grants.items to.new.running c.args.place n y)) (ap (λ (x : Tokens). x.grants.items) stays.1 ∙ grants)
     to.ensures.settled)) in
     turned_meanwhile c.args.call.now c.args.facts.now c.args.place c.args.core.now to.new.core v _ r m.0 m.1.0 n to.result was (looks ∙ ap (λ (k : ℕ). Some k) (sym m.1.1.1))
-    (ap (λ (ts : List Ticketed). slice_get ts m.0) (sym tickets) ∙ m.1.1.0) m.1.1.2 ran asks site (ap (λ (x : LaneValue). x.ended) c.self.view_is) settles
+    (ap (λ (ts : List Ticketed). slice_get ts m.0) (sym tickets) ∙ m.1.1.0) m.1.1.2 ran asks c.in_ok-next-3.ensures.reads site (ap (λ (x : LaneValue). x.ended) c.self.view_is) settles
 
 pub resume-requires-2-clause-range : goal.resume-requires-2-clause-range
 resume-requires-2-clause-range c =

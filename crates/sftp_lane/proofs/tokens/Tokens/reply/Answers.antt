@@ -1,12 +1,13 @@
 use Rattle.std.proofs.Common.{rules, ◌≡◌, ◌<◌, ◌++◌, ◌∷◌, [], length, true, false, sym, ◌∙◌, ap, subst, Some, Ok, ℕ, List}
-use Rattle.std.specs.Prelude.{slice_get}
+use Rattle.std.specs.Prelude.{◌≤◌, slice_get}
+use Rattle.std.specs.FinMap as fin
 use Rattle.sftp_model.specs.declared.reply.Reply.TheVariants as reply
 use Rattle.sftp_core.specs.Core.{Core, at, is_ticket, polled_with, reply_in}
 use Rattle.sftp_core.specs.declared.place.Place.TheVariants.{Granted}
 use Rattle.sftp_core.specs.declared.tokens.Polled.TheVariants as polled
 use Rattle.sftp_ties.specs.Lanes.{Held, Ticketed, ticket_places}
 use Rattle.sftp_ties.specs.Places.{is_in}
-use Rattle.sftp_lane.proofs.Polling.{copied_none, gave_grant, gave_reply, get_there, grants_more, grants_stay, plain_grants, tickets_out, without_is}
+use Rattle.sftp_lane.proofs.Polling.{copied_none, gave_grant, gave_reply, get_there, grants_more, grants_stay, plain_grants, polls_few, tickets_out, without_is}
 use Rattle.sftp_lane.proofs.tokens.Tokens.reply.Goals as goal
 
 pub unreachable-requires : goal.unreachable-requires
@@ -109,3 +110,9 @@ returns-in-Ok-Granted-clause-held c = λ held k g here.
     let pushed : c.push.new.self.items ≡ grants ++ (record { place = c.args.place; grant = c.in-Ok-Granted.grant }) ∷ [] = search rules in
     subst (λ (x : Core). at x g.grant.id ≡ Some (Granted g.grant.handle 1)) (sym c.poll.ensures.after)
     (grants_more c.args.core.now c.ticket.inside.ticket c.args.place grants c.in-Ok-Granted.grant counted gave held k g (ap (λ (xs : List Held). slice_get xs k) (sym pushed) ∙ here)))
+
+pub returns-in-Ok-Reply-clause-few : goal.returns-in-Ok-Reply-clause-few
+returns-in-Ok-Reply-clause-few c = subst (λ (x : Core). fin.len x.table ≤ fin.len c.args.core.now.table) (sym c.poll.ensures.after) (polls_few c.args.core.now c.ticket.inside.ticket)
+
+pub returns-in-Ok-Granted-clause-few : goal.returns-in-Ok-Granted-clause-few
+returns-in-Ok-Granted-clause-few c = subst (λ (x : Core). fin.len x.table ≤ fin.len c.args.core.now.table) (sym c.poll.ensures.after) (polls_few c.args.core.now c.ticket.inside.ticket)

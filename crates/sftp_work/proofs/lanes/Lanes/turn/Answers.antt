@@ -18,6 +18,12 @@ turn-requires-clause-call c =
     let o = c.requires.opened in
     (may_have o.0 (amid o.1.0 (contents_of c.args.self.now)) c.args.lane c.in-Some.call.now c.index_mut-state.result.now o.1.1 some c.index_mut-state.ensures.value).call_within
 
+pub turn-requires-clause-few : goal.turn-requires-clause-few
+turn-requires-clause-few c =
+    let some : call_in c.args.self.now.calls c.args.self.now.states.items c.args.lane ≡ Some c.in-Some.call.now = search rules in
+    let o = c.requires.opened in
+    (may_have o.0 (amid o.1.0 (contents_of c.args.self.now)) c.args.lane c.in-Some.call.now c.index_mut-state.result.now o.1.1 some c.index_mut-state.ensures.value).few
+
 pub turn-requires-clause-counted : goal.turn-requires-clause-counted
 turn-requires-clause-counted c =
     let some : call_in c.args.self.now.calls c.args.self.now.states.items c.args.lane ≡ Some c.in-Some.call.now = search rules in
