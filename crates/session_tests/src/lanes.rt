@@ -2,12 +2,13 @@
 ghost use Rattle.std.specs.Prelude.{◌≡◌, ◌∷◌, [], true};
 
 use sftp_core::{Fault, SftpOptions};
-use sftp_driver::{Phase, RunsLanes};
+use sftp_driver::Phase;
 use sftp_lanes::*;
 use sftp_link::{Scripted, ScriptedLink};
 use sftp_values::{ByteText, Items};
 use std::alloc::{AllocError, Global};
 use std::test::Fail;
+use std::thread;
 
 const VERSION: &[u8] = b"\x00\x00\x00\x05\x02\x00\x00\x00\x03";
 
@@ -74,14 +75,30 @@ lane 0 call 2 done
     Ok(())
 }
 
+/// Hands out what a session has unsent.
+fn flush(session: &mut Session) -> Result<(), OutOfMemory> {
+    if session.fault().is_none() {
+        if let Some(chunk) = session.hand_out()? {
+            session.give_back(chunk);
+        }
+    }
+    Ok(())
+}
+
+/// Hands the hello of a new session out, and gives the session the body of a frame.
+fn greet(session: &mut Session, body: &[u8]) -> Result<(), OutOfMemory> {
+    flush(session)?;
+    if session.fault().is_none() && session.takes_frames() {
+        let _taken = session.take(body).is_ok();
+    }
+    Ok(())
+}
+
 /// What a session tells that is sent a body where VERSION is due, and fails then: whether the server is known, how many
 /// entries there are, and the fault.
 fn told(alloc: Global, body: &[u8]) -> Result<(bool, usize, Option<Fault>), Fail> {
     let mut session = Session::new(alloc, &[], &SftpOptions::new())?;
-    if let Ok(chunk) = session.greet() {
-        session.give_back(chunk);
-        let _taken = session.take_version(body).is_ok();
-    }
+    greet(&mut session, body)?;
     let known = session.info().is_some();
     session.fail(Fault::Link);
     Ok((known, session.journal().len(), session.fault()))
@@ -122,39 +139,94 @@ fn is_bare(lanes: &[Lane]) -> bool
     }
 }
 
-/// Adds a change of the directory to the one lane of an open session, and steps the lane.
+/// Adds a change of the directory to the one lane of an open session.
 fn change_directory(session: &mut Session, path: ByteText) -> Result<(), OutOfMemory> {
     if session.phase() != Phase::Open || session.was_let_go(0) || !is_bare(session.calls()) {
         return Ok(());
     }
-    session.push_call(0, Call::Cwd { path })?;
-    let _stepped = session.step(0)?;
+    session.push_call(0, Call::Cwd { path })
+}
+
+/// Steps the first lane of an opened session.
+fn step(session: &mut Session) -> Result<(), OutOfMemory> {
+    if session.info().is_some() && session.fault().is_none() {
+        let _stepped = session.step(0)?;
+    }
     Ok(())
 }
 
-/// How many entries and how many outcomes a session tells that was opened with an empty lane, and whose lane was then given
-/// a call and stepped.
-fn added(alloc: Global) -> Result<(usize, usize), Fail> {
+/// Cancels what the first lane of an opened session does, and answers whether it did anything.
+fn cancel(session: &mut Session) -> Result<bool, OutOfMemory> {
+    if session.info().is_none() || session.fault().is_some() {
+        return Ok(false);
+    }
+    session.cancel(0)
+}
+
+/// Lets the first lane of an open session go, where it has no call left.
+fn let_go(session: &mut Session) -> Result<(), OutOfMemory> {
+    if session.phase() != Phase::Open || session.was_let_go(0) || !session.is_done(0) {
+        return Ok(());
+    }
+    if session.info().is_some() && session.fault().is_none() {
+        session.let_go(0)?;
+    }
+    Ok(())
+}
+
+/// A session that was opened with an empty lane.
+fn opened(alloc: Global) -> Result<Option<Session>, Fail> {
     let lanes = [Lane {
         calls: Items::new(Vec::new(alloc)),
     }];
     if !lanes_ok(&lanes) {
-        return Ok((0, 0));
+        return Ok(None);
     }
     let mut session = Session::new(alloc, &lanes, &SftpOptions::new())?;
-    if let Ok(chunk) = session.greet() {
-        session.give_back(chunk);
-        let _taken = session.take_version(b"\x02\x00\x00\x00\x03").is_ok();
-    }
-    let path = ByteText::new(Vec::from_slice(alloc, b"a")?);
-    change_directory(&mut session, path)?;
-    let outcomes = session.outcomes(0).len();
-    Ok((session.journal().len(), outcomes))
+    greet(&mut session, b"\x02\x00\x00\x00\x03")?;
+    Ok(Some(session))
 }
 
-/// The journal has the entry of the call, and its end.
+/// Gives the one lane of an open session a call, steps it, cancels what it does then, and lets it go.
+fn run_lane(session: &mut Session, path: ByteText) -> Result<(), OutOfMemory> {
+    change_directory(session, path)?;
+    step(session)?;
+    let _cancelled = cancel(session)?;
+    let_go(session)
+}
+
+/// A session whose one lane was run.
+fn run(mut session: Session, path: ByteText) -> Session {
+    let _ran = run_lane(&mut session, path).is_ok();
+    session
+}
+
+/// How many entries and outcomes a session tells, and whether its first lane was let go.
+fn counts(session: &Session) -> (usize, usize, bool) {
+    (
+        session.journal().len(),
+        session.outcomes(0).len(),
+        session.was_let_go(0),
+    )
+}
+
+/// The journal has the entry of the call, its end, and the letting go; the call has ended before it can be cancelled.
 #[test]
 fn a_call_is_added(rt: HostRuntime) -> Result<(), Fail> {
-    assert!(rt; added(rt.alloc())? == (2, 1));
+    let path = ByteText::new(Vec::from_slice(rt.alloc(), b"a")?);
+    let session = opened(rt.alloc())?.ok_or("an empty lane may not run")?;
+    let session = run(session, path);
+    assert!(rt; counts(&session) == (3, 1, true));
+    Ok(())
+}
+
+/// A session is opened on one thread, goes on in another, and comes back.
+#[test]
+fn a_session_moves_between_threads(rt: HostRuntime) -> Result<(), Fail> {
+    let path = ByteText::new(Vec::from_slice(rt.alloc(), b"a")?);
+    let session = opened(rt.alloc())?.ok_or("an empty lane may not run")?;
+    let other = thread::spawn(&rt, move || run(session, path))?;
+    let session = other.join(&rt);
+    assert!(rt; counts(&session) == (3, 1, true));
     Ok(())
 }

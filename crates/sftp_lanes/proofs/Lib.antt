@@ -2,3 +2,4 @@ mod AddedLaws
 pub mod FaultLaws
 pub mod Opening
 pub mod Reporting
+pub mod Shown

@@ -1,5 +1,5 @@
 -- An opened session of lanes: what it is before a lane has done anything.
-use Rattle.std.proofs.Common.{◌≡◌, ◌==◌, ℕ, zero, suc, Bool, true, false, List, [], ◌∷◌, ◌++◌, Option, Some, None, refl, ap, sym, ◌∙◌, subst, arith, inl, inr, if◌then◌else◌}
+use Rattle.std.proofs.Common.{◌≡◌, ◌≢◌, ◌==◌, ℕ, zero, suc, Bool, true, false, List, [], ◌∷◌, ◌++◌, Option, Some, None, refl, ap, sym, ◌∙◌, subst, arith, inl, inr, if◌then◌else◌}
 use Rattle.std.specs.Prelude.{◌&&◌, ◌+◌, IfSome, length, slice_get, Result, Ok, Err}
 use Rattle.std.proofs.lemmas.List.{append-nil}
 use Rattle.std.specs.FinMap.{get-empty, len-empty}
@@ -39,7 +39,7 @@ use Rattle.sftp_history.specs.Steady.{Good}
 use Rattle.sftp_history.specs.Runs.{queried}
 use Rattle.sftp_history.specs.Settings.{facts_of, greeting, limits_told, limits_of, read_limits}
 use Rattle.sftp_driver.specs.declared.session.Phase.{Phase}
-use Rattle.sftp_driver.specs.declared.session.Phase.TheVariants.{Failed, Open}
+use Rattle.sftp_driver.specs.declared.session.Phase.TheVariants.{Asking, Failed, Fresh, Greeted, Open, Queried}
 use Rattle.sftp_driver.specs.Session.{IsFixed}
 use Rattle.sftp_driver.proofs.Bare.{GoesOn, idle_awaited, idle_unanswered, limits_in_core, may_take, takes_limits}
 use Rattle.sftp_driver.specs.NoLanes.{IsIdle as IsQuiet, IsOpen, asked_core, asked_past, idle_core, offered}
@@ -56,7 +56,7 @@ use Rattle.sftp_work.specs.Fresh.{AreFresh, IsUntouched}
 use Rattle.sftp_work.specs.Reports.{lane_report, reports_of}
 use Rattle.sftp_work.specs.SoFar.{HasRoom, IsIntact, StaysSoFar, refused_past}
 use Rattle.sftp_work.specs.Working.{IsWorking, lane_in, past_of}
-use Rattle.sftp_lanes.specs.Seen.{IsInPhase, IsSession, facts_by, setting_by}
+use Rattle.sftp_lanes.specs.Seen.{IsInPhase, IsSession, facts_by, is_opening, setting_by}
 use Rattle.sftp_work.proofs.ReportLaws.{leaves_intact, refused_told}
 use Rattle.sftp_lanes.proofs.FaultLaws.{so_far}
 
@@ -327,6 +327,7 @@ works_on lanes options version known old new phase is open_is intact on =
       ok = is.ok;
       intact = subst (λ (n : ℕ). IsIntact n new) (open_count lanes options version known old phase is open_is) intact;
       now = subst (IsInPhase lanes options version known new) (sym open_is) (on (subst (IsInPhase lanes options version known old) open_is is.now));
+      told = is.told;
     }
 
 -- and it has failed where its journal is one that may stand,
@@ -337,6 +338,7 @@ fails_by lanes options version known old new phase is open_is intact stays =
       ok = is.ok;
       intact = subst (λ (n : ℕ). IsIntact n new) (open_count lanes options version known old phase is open_is) intact;
       now = stays (setting_by lanes options version known) (so_far lanes options version known old phase is);
+      told = λ e. cc e;
     }
 
 -- also where a frame was refused before
@@ -347,4 +349,25 @@ refused_by lanes options version known old new phase fault is rest noted room st
       ok = is.ok;
       intact = leaves_intact (length lanes) old new is.intact (record { kept = ap reports_of rest; past = λ lane. ap (λ (p : List Entry). lane_report p lane) noted ∙ refused_told fault (past_of old) lane }) room;
       now = stays (setting_by lanes options version known) (so_far lanes options version known old phase is);
+      told = λ e. cc e;
     }
+
+-- before it is open, nothing is known of the server
+pub untold : (lanes : List Lane) (options : SftpOptions) (version : Option Reply) (known : Option Info) (w : Lanes) (phase : Phase) → IsSession lanes options version known w phase → is_opening phase ≡ true → known ≡ None
+untold lanes options version known w Fresh is opens = is.now.1.0
+untold lanes options version known w Greeted is opens = is.now.1.0
+untold lanes options version known w Asking is opens = is.now.1.0
+untold lanes options version known w Queried is opens = is.now.1.0
+untold lanes options version known w Open is opens = absurd cc
+untold lanes options version known w Failed is opens = absurd cc
+
+-- ---- a session that failed
+
+-- what was opened and is not open has failed
+pub told_failed : (lanes : List Lane) (options : SftpOptions) (version : Option Reply) (known : Option Info) (w : Lanes) (phase : Phase) → IsSession lanes options version known w phase → known ≢ None → phase ≢ Open → phase ≡ Failed
+told_failed lanes options version known w Fresh is told shut = absurd (told is.now.1.0)
+told_failed lanes options version known w Greeted is told shut = absurd (told is.now.1.0)
+told_failed lanes options version known w Asking is told shut = absurd (told is.now.1.0)
+told_failed lanes options version known w Queried is told shut = absurd (told is.now.1.0)
+told_failed lanes options version known w Open is told shut = absurd (shut refl)
+told_failed lanes options version known w Failed is told shut = refl

@@ -1,5 +1,5 @@
 -- What a session of lanes is in each phase, and what a caller sees of it.
-use Rattle.std.specs.Prelude.{◌≡◌, true, List, length, max, min, Option, Some, None}
+use Rattle.std.specs.Prelude.{◌≡◌, ◌≢◌, Bool, true, false, List, length, max, min, Option, Some, None}
 use Rattle.sftp_model.specs.declared.flags.Extensions.{Extensions}
 use Rattle.sftp_model.specs.declared.reply.Reply.{Reply}
 use Rattle.sftp_model.specs.declared.slot.Facts.{Facts}
@@ -71,6 +71,15 @@ seen_of s = record { given = given_of s; setting = setting_at s; phase = s.phase
 abbrev pub IsUntold : List Lane → Option Info → Lanes → Type 0
 IsUntold lanes info w = (info ≡ None) × IsUntouched lanes w
 
+-- the session is not open yet
+abbrev pub is_opening : Phase → Bool
+is_opening Fresh = true
+is_opening Greeted = true
+is_opening Asking = true
+is_opening Queried = true
+is_opening Open = false
+is_opening Failed = false
+
 -- ---- once it is
 
 -- what a session is in each phase
@@ -82,11 +91,12 @@ IsInPhase lanes options version info w Queried = IsBare options version (past_of
 IsInPhase lanes options version info w Open = IsWorking (setting_by lanes options version info) w
 IsInPhase lanes options version info w Failed = IsSoFar (setting_by lanes options version info) w.core.fault (past_of w)
 
--- its lanes are ones that can be run, and they are intact
+-- Its lanes are ones that can be run, and they are intact. An open session knows what the server told.
 pub record IsSession (lanes : List Lane) (options : SftpOptions) (version : Option Reply) (info : Option Info) (w : Lanes) (phase : Phase) : Type 0 where
   pub ok : are_ok lanes ≡ true
   pub intact : IsIntact (length lanes) w
   pub now : IsInPhase lanes options version info w phase
+  pub told : phase ≡ Open → info ≢ None
 
 -- a session of these lanes and options whose hello stands in the queue
 pub record IsNew (lanes : List Lane) (options : SftpOptions) (s : SessionValue) : Type 0 where

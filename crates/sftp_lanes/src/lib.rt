@@ -2,7 +2,9 @@
 #![tactic(auto)]
 
 mod driver;
+mod events;
 mod given;
+mod greeting;
 mod laws;
 mod report;
 mod session;

@@ -1,5 +1,5 @@
 // A session of lanes: its opening, and each call of its lanes.
-ghost use Rattle.std.specs.Prelude.{◌≡◌, [], None, Some, true, IfOk, reverse, ◌<◌, false, length, OnErr, OnOk};
+ghost use Rattle.std.specs.Prelude.{◌≡◌, ◌≢◌, [], None, Some, true, IfOk, reverse, ◌<◌, false, length, OnErr, OnOk};
 ghost use Rattle.std.specs.Option.{unwrap_or};
 ghost use Rattle.sftp_core.specs.Core.{failed_with};
 ghost use Rattle.sftp_history.specs.Lanes.{are_ok};
@@ -8,17 +8,16 @@ ghost use Rattle.sftp_history.specs.declared.entry.Entry.TheVariants as entry;
 ghost use Rattle.sftp_history.specs.Journals.{IsJournal, IsNext};
 ghost use Rattle.sftp_driver.specs.declared.session.Phase.TheVariants as phases;
 ghost use Rattle.sftp_lanes.specs.Adding.{AddsCall, IsSame};
-ghost use Rattle.sftp_lanes.specs.Seen.{IsNew, Reports, setting_at};
+ghost use Rattle.sftp_lanes.specs.Seen.{IsNew, Reports, is_opening, setting_at};
 ghost use Rattle.sftp_work.specs.Adding.{with_call};
 ghost use Rattle.sftp_work.specs.SoFar.{kept_in, kept_past};
 ghost use Rattle.sftp_work.specs.Working.{past_of};
 
 use crate::given::GivenLanes;
 use crate::report::events_of;
-use crate::telling::{offers_limits, query_entry, tell};
-use sftp_core::{Chunk, Fault, Info, SftpOptions, TakeError, Taken};
+use sftp_core::{Chunk, Fault, Info, SftpOptions, TakeError};
 use sftp_driver::{Phase, RunsLanes, Stepped};
-use sftp_history::{Call, Entry, Event, Lane, Outcome, Report};
+use sftp_history::{Call, Entry, Lane, Outcome, Report};
 use sftp_model::Reply;
 use sftp_work::Lanes;
 use ssh_encoding::OutOfMemory;
@@ -31,13 +30,13 @@ use std::marker::Model;
 /// sends nothing.
 #[derive(Drop)]
 pub struct Session {
-    alloc: Global,
-    lanes: GivenLanes,
-    options: SftpOptions,
-    phase: Phase,
-    version: Option<Reply>,
-    info: Option<Info>,
-    work: Lanes,
+    pub(crate) alloc: Global,
+    pub(crate) lanes: GivenLanes,
+    pub(crate) options: SftpOptions,
+    pub(crate) phase: Phase,
+    pub(crate) version: Option<Reply>,
+    pub(crate) info: Option<Info>,
+    pub(crate) work: Lanes,
 }
 
 impl Model for Session {
@@ -73,9 +72,11 @@ impl Session {
         })
     }
 
-    /// What is known of the server, once the session is open.
+    /// What VERSION and the limits told of the server: nothing before the session is open.
     pub fn info(&self) -> Option<Info>
-        ensures { result ≡ self.now.info }
+        ensures value { result ≡ self.now.info }
+        ensures told { self.now.phase ≡ phases.Open → result ≢ None }
+        ensures untold { is_opening self.now.phase ≡ true → result ≡ None }
     {
         self.info
     }
@@ -181,128 +182,55 @@ impl RunsLanes for Session {
     ghost seen = { λ s. seen_of s };
 
     fn greet(&mut self) -> Result<Chunk, OutOfMemory> {
-        let chunk = self.work.core.hand_out()?;
-        self.phase = Phase::Greeted;
-        Ok(chunk)
+        self.hand_hello()
     }
 
     fn take_version(&mut self, body: &[u8]) -> Result<bool, TakeError> {
-        match self.work.take_frame(body) {
-            Ok(Taken::Version(reply)) => {
-                if offers_limits(&reply) {
-                    self.work.journal.push(query_entry()).unwrap();
-                    self.work.asked += 1;
-                    self.phase = Phase::Asking;
-                    self.version = Some(reply);
-                    return Ok(true);
-                }
-                self.info = tell(&mut self.work, &self.options);
-                self.phase = Phase::Open;
-                self.version = Some(reply);
-                Ok(false)
-            }
-            Ok(_) => unreachable!(),
-            Err(TakeError::OutOfMemory) => Err(TakeError::OutOfMemory),
-            Err(e) => {
-                self.phase = Phase::Failed;
-                Err(e)
-            }
-        }
+        self.take_hello(body)
     }
 
     fn query(&mut self) -> Result<Chunk, OutOfMemory> {
-        self.work.journal.reserve(2)?;
-        let chunk = self.work.core.hand_out()?;
-        self.work.journal.push(Entry::Event(Event::Send)).unwrap();
-        self.phase = Phase::Queried;
-        Ok(chunk)
+        self.hand_query()
     }
 
     fn take_limits(&mut self, body: &[u8]) -> Result<(), TakeError> {
-        match self.work.take_frame(body) {
-            Ok(Taken::Limits { id, reply }) => {
-                self.info = tell(&mut self.work, &self.options);
-                self.work
-                    .journal
-                    .push(Entry::Event(Event::Take { id, reply }))
-                    .unwrap();
-                self.phase = Phase::Open;
-                Ok(())
-            }
-            Ok(_) => unreachable!(),
-            Err(TakeError::OutOfMemory) => Err(TakeError::OutOfMemory),
-            Err(e) => {
-                self.phase = Phase::Failed;
-                Err(e)
-            }
-        }
+        self.take_told(body)
     }
 
     fn step(&mut self, lane: u32) -> Result<Stepped, OutOfMemory> {
-        match self.work.step(self.alloc, lane) {
-            Ok(event) => Ok(event),
-            Err(e) => {
-                self.phase = Phase::Failed;
-                Err(e)
-            }
-        }
+        self.step_lane(lane)
     }
 
     fn cancel(&mut self, lane: u32) -> Result<bool, OutOfMemory> {
-        match self.work.cancel(self.alloc, lane) {
-            Ok(event) => Ok(event),
-            Err(e) => {
-                self.phase = Phase::Failed;
-                Err(e)
-            }
-        }
+        self.cancel_call(lane)
     }
 
     fn let_go(&mut self, lane: u32) -> Result<(), OutOfMemory> {
-        match self.work.let_go(self.alloc, lane) {
-            Ok(()) => Ok(()),
-            Err(e) => {
-                self.phase = Phase::Failed;
-                Err(e)
-            }
-        }
+        self.let_lane_go(lane)
     }
 
     fn hand_out(&mut self) -> Result<Option<Chunk>, OutOfMemory> {
-        match self.work.hand_out() {
-            Ok(chunk) => Ok(chunk),
-            Err(e) => {
-                self.phase = Phase::Failed;
-                Err(e)
-            }
-        }
+        self.hand_out_unsent()
     }
 
     fn give_back(&mut self, chunk: Chunk) {
-        self.work.core.give_back(chunk);
+        self.give_back(chunk);
     }
 
     fn take(&mut self, body: &[u8]) -> Result<(), TakeError> {
-        match self.work.take(body) {
-            Ok(()) => Ok(()),
-            Err(e) => {
-                self.phase = Phase::Failed;
-                Err(e)
-            }
-        }
+        self.take_reply(body)
     }
 
     fn wants_flush(&self) -> bool {
-        self.work
-            .wants_flush(self.options.get_max_pending_requests())
+        self.wants_flush()
     }
 
     fn awaited(&self) -> u32 {
-        self.work.awaited()
+        self.awaited()
     }
 
     fn unanswered(&self) -> u32 {
-        self.work.unanswered()
+        self.unanswered()
     }
 
     fn lane_count(&self) -> u32 {
@@ -310,6 +238,6 @@ impl RunsLanes for Session {
     }
 
     fn is_done(&self, lane: u32) -> bool {
-        self.work.is_done(lane)
+        self.is_done(lane)
     }
 }

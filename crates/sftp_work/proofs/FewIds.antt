@@ -1,10 +1,9 @@
 -- A session keeps few ids: no more than its lanes may, which weigh less than the limit.
-use Rattle.std.proofs.Common.{◌≡◌, ◌≢◌, ◌<◌, ◌≤◌, ◌+◌, ◌^◌, ℕ, zero, suc, true, List, [], ◌∷◌, Option, Some, None, refl, ap, sym, ◌∙◌, subst, arith}
-use Rattle.std.specs.Prelude.{drop, length, max, slice_get}
+use Rattle.std.proofs.Common.{◌≡◌, ◌≢◌, ◌<◌, ◌≤◌, ◌+◌, ℕ, zero, suc, List, [], ◌∷◌, Option, Some, None, refl, ap, sym, ◌∙◌, subst, arith}
+use Rattle.std.specs.Prelude.{drop, length, slice_get}
 use Rattle.std.specs.List.{sum_by}
 use Rattle.std.proofs.lemmas.List.Sums.{sum_by-cons}
 use Rattle.sftp_model.specs.declared.slot.Facts.{Facts}
-use Rattle.sftp_model.specs.declared.slot.Site.{Site}
 use Rattle.sftp_core.specs.Info.{MAX_IDS}
 use Rattle.sftp_calls.specs.GoodMoves.{FitsFacts}
 use Rattle.sftp_calls.specs.Moves.{Own}
@@ -14,7 +13,7 @@ use Rattle.sftp_history.specs.declared.call.Call.TheVariants as call
 use Rattle.sftp_history.specs.declared.call.Lane.{Lane}
 use Rattle.sftp_history.specs.declared.entry.Entry.{Entry}
 use Rattle.sftp_history.specs.Calls.{Setting, calls_of, current, lane_calls, planned}
-use Rattle.sftp_history.specs.Lanes.{are_ok, lane_weight, weight}
+use Rattle.sftp_history.specs.Lanes.{lane_weight, weight}
 use Rattle.sftp_history.specs.Readings.{ended, own}
 use Rattle.sftp_ties.specs.Lanes.{AtTied, LaneValue}
 use Rattle.sftp_steps.specs.Budgets.{CallSpends, budget, budget_of, budgets, in_hand, kept, total}

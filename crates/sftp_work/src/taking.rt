@@ -3,10 +3,10 @@ ghost use Rattle.std.specs.Prelude.{◌≡◌, false, None, IfOk, IfErr, OnErr, 
 ghost use Rattle.std.specs.Option.{option_map};
 ghost use Rattle.sftp_model.specs.Pieces.{joined};
 ghost use Rattle.sftp_model.specs.ReplyReadings.{reply_at};
-ghost use Rattle.sftp_core.specs.Take.{IsFirst};
+ghost use Rattle.sftp_core.specs.Take.{IsFirst, fault_of};
 ghost use Rattle.sftp_history.specs.Calls.{Setting};
 ghost use Rattle.sftp_driver.specs.Refusals.{refuses};
-ghost use Rattle.sftp_work.specs.SoFar.{IsIntact, IsLeft, StaysSoFar};
+ghost use Rattle.sftp_work.specs.SoFar.{IsIntact, IsLeft, StaysSoFar, refused_past};
 ghost use Rattle.sftp_work.specs.Working.{IsOpened, IsWorking, HandsAll, TakesBody, past_of};
 
 use crate::closing::{add_entry, note_close};
@@ -41,6 +41,7 @@ impl Lanes {
         ensures takes { (s : Setting) → IsWorking s self.old → OnOk result (TakesBody s (reply_at body.now) self.old self.new) }
         ensures refused { IfErr result (λ e. IsFirst e (refuses (past_of self.old) (reply_at body.now))) }
         ensures stays { OnErr result (StaysSoFar self.old self.new) }
+        ensures noted { IfErr result (λ e. past_of self.new ≡ refused_past (fault_of e) (past_of self.old)) }
         ensures intact { IsIntact (length self.old.calls) self.new }
     {
         let before = self.core.queued();

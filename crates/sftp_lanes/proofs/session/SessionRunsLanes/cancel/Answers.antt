@@ -1,32 +1,12 @@
-use Rattle.std.proofs.Common.{refl}
-use Rattle.sftp_history.specs.Calls.{Setting}
-use Rattle.sftp_lanes.specs.Seen.{setting_by}
-use Rattle.sftp_driver.specs.declared.session.Phase.TheVariants.{Open}
-use Rattle.sftp_work.proofs.FaultLaws.{left_so_far}
-use Rattle.sftp_lanes.proofs.Opening.{fails_by, in_phase, open_intact, works_on}
+use Rattle.std.proofs.lemmas.Result.{IfOk-weaker}
+use Rattle.sftp_lanes.proofs.Shown.{failed_holds, holds, or_refused, stays}
 use Rattle.sftp_lanes.proofs.session.SessionRunsLanes.cancel.Goals as goal
 
-pub cancel-requires-clause-intact : goal.cancel-requires-clause-intact
-cancel-requires-clause-intact c = open_intact c.self.inside.lanes c.self.inside.options c.self.inside.version c.self.inside.info c.self.inside.work c.self.inside.phase c.self.invariant (rw (← c.self.view_is) at c.requires.open)
+pub returns-clause-ok : goal.returns-clause-ok
+returns-clause-ok c = IfOk-weaker c.cancel_call.result _ _ (λ event g. g.did.cancels) c.cancel_call.ensures.cancels
 
-pub invariant_of-self : goal.invariant_of-self
-invariant_of-self c =
-    let s : Setting = setting_by c.self.inside.lanes c.self.inside.options c.self.inside.version c.self.inside.info in
-    works_on c.self.inside.lanes c.self.inside.options c.self.inside.version c.self.inside.info c.self.inside.work c.cancel.new.self c.self.inside.phase c.self.invariant (rw (← c.self.view_is) at c.requires.open)
-    c.cancel.ensures.intact (λ working. (c.in-Ok.ensures.cancels s working).working)
+pub returns-clause-goes : goal.returns-clause-goes
+returns-clause-goes c = IfOk-weaker c.cancel_call.result _ _ (λ event g. record { stays = stays _ _ _ g; later = g.did.later }) c.cancel_call.ensures.cancels
 
-pub returns-in-Ok-clause-ok : goal.returns-in-Ok-clause-ok
-returns-in-Ok-clause-ok c =
-    let s : Setting = setting_by c.self.inside.lanes c.self.inside.options c.self.inside.version c.self.inside.info in
-    let f = in_phase c.self.inside.lanes c.self.inside.options c.self.inside.version c.self.inside.info c.self.inside.work c.self.inside.phase Open c.self.invariant (rw (← c.self.view_is) at c.requires.open) in
-    rw (← c.self.view_is) (c.in-Ok.ensures.cancels s f).cancels
-
-pub invariant_of-self-in-Err : goal.invariant_of-self-in-Err
-invariant_of-self-in-Err c =
-    fails_by c.self.inside.lanes c.self.inside.options c.self.inside.version c.self.inside.info c.self.inside.work c.cancel.new.self c.self.inside.phase c.self.invariant (rw (← c.self.view_is) at c.requires.open) c.cancel.ensures.intact (λ s. left_so_far s c.self.inside.work c.cancel.new.self c.in-Err.ensures.left)
-
-pub returns-in-Ok-clause-goes : goal.returns-in-Ok-clause-goes
-returns-in-Ok-clause-goes c =
-    let s : Setting = setting_by c.self.inside.lanes c.self.inside.options c.self.inside.version c.self.inside.info in
-    let f = in_phase c.self.inside.lanes c.self.inside.options c.self.inside.version c.self.inside.info c.self.inside.work c.self.inside.phase Open c.self.invariant (rw (← c.self.view_is) at c.requires.open) in
-    rw (← c.self.view_is) (record { stays = refl; later = (c.in-Ok.ensures.cancels s f).later })
+pub returns-clause-holds : goal.returns-clause-holds
+returns-clause-holds c = or_refused c.cancel_call.result _ _ _ c.cancel_call.ensures.cancels c.cancel_call.ensures.left (λ event g. holds _ _ _ g) (λ e f. failed_holds _ _ f)

@@ -1,18 +1,15 @@
-use Rattle.sftp_history.specs.Calls.{Setting}
-use Rattle.sftp_lanes.specs.Seen.{setting_by}
-use Rattle.sftp_work.proofs.FaultLaws.{left_so_far}
-use Rattle.sftp_lanes.proofs.Opening.{fails_by, open_intact, works_on}
+use Rattle.std.proofs.lemmas.Result.{IfOk-weaker}
+use Rattle.sftp_lanes.proofs.Shown.{failed_holds, holds, or_refused, stays}
 use Rattle.sftp_lanes.proofs.session.SessionRunsLanes.hand_out.Goals as goal
 
-pub hand_out-requires-clause-intact : goal.hand_out-requires-clause-intact
-hand_out-requires-clause-intact c = open_intact c.self.inside.lanes c.self.inside.options c.self.inside.version c.self.inside.info c.self.inside.work c.self.inside.phase c.self.invariant (rw (← c.self.view_is) at c.requires.open)
+pub returns-clause-ok : goal.returns-clause-ok
+returns-clause-ok c = IfOk-weaker c.hand_out_unsent.result _ _ (λ event g. g.did.hands) c.hand_out_unsent.ensures.hands_out
 
-pub invariant_of-self : goal.invariant_of-self
-invariant_of-self c =
-    let s : Setting = setting_by c.self.inside.lanes c.self.inside.options c.self.inside.version c.self.inside.info in
-    works_on c.self.inside.lanes c.self.inside.options c.self.inside.version c.self.inside.info c.self.inside.work c.hand_out.new.self c.self.inside.phase c.self.invariant (rw (← c.self.view_is) at c.requires.open)
-    c.hand_out.ensures.intact (λ working. (c.in-Ok.ensures.hands_out s working).working)
+pub returns-clause-stays : goal.returns-clause-stays
+returns-clause-stays c = IfOk-weaker c.hand_out_unsent.result _ _ (λ event g. stays _ _ _ g) c.hand_out_unsent.ensures.hands_out
 
-pub invariant_of-self-in-Err : goal.invariant_of-self-in-Err
-invariant_of-self-in-Err c =
-    fails_by c.self.inside.lanes c.self.inside.options c.self.inside.version c.self.inside.info c.self.inside.work c.hand_out.new.self c.self.inside.phase c.self.invariant (rw (← c.self.view_is) at c.requires.open) c.hand_out.ensures.intact (λ s. left_so_far s c.self.inside.work c.hand_out.new.self c.in-Err.ensures.left)
+pub returns-clause-work : goal.returns-clause-work
+returns-clause-work c = IfOk-weaker c.hand_out_unsent.result _ _ (λ event g. g.did.work) c.hand_out_unsent.ensures.hands_out
+
+pub returns-clause-holds : goal.returns-clause-holds
+returns-clause-holds c = or_refused c.hand_out_unsent.result _ _ _ c.hand_out_unsent.ensures.hands_out c.hand_out_unsent.ensures.left (λ event g. holds _ _ _ g) (λ e f. failed_holds _ _ f)

@@ -1,34 +1,12 @@
-use Rattle.std.proofs.Common.{◌≡◌, refl, subst}
-use Rattle.sftp_history.specs.Calls.{Setting}
-use Rattle.sftp_driver.specs.declared.session.Phase.TheVariants.{Open}
-use Rattle.sftp_lanes.specs.Seen.{IsInPhase, setting_by}
-use Rattle.sftp_work.specs.Working.{IsWorking}
-use Rattle.sftp_work.proofs.FaultLaws.{left_so_far}
-use Rattle.sftp_lanes.proofs.Opening.{fails_by, in_phase, open_intact, works_on}
+use Rattle.std.proofs.lemmas.Result.{IfOk-weaker}
+use Rattle.sftp_lanes.proofs.Shown.{failed_holds, holds, or_refused, stays}
 use Rattle.sftp_lanes.proofs.session.SessionRunsLanes.let_go.Goals as goal
 
-pub let_go-requires-clause-done : goal.let_go-requires-clause-done
-let_go-requires-clause-done c =
-    let s : Setting = setting_by c.self.inside.lanes c.self.inside.options c.self.inside.version c.self.inside.info in
-    let is_open : c.self.inside.phase ≡ Open = rw (← c.self.view_is) at c.requires.open in
-    let working : IsWorking s c.self.inside.work = subst (IsInPhase c.self.inside.lanes c.self.inside.options c.self.inside.version c.self.inside.info c.self.inside.work) is_open c.self.invariant.now in
-    (s, (working, (rw (← c.self.view_is) at c.requires.done, rw (← c.self.view_is) at c.requires.holds)))
+pub returns-clause-ok : goal.returns-clause-ok
+returns-clause-ok c = IfOk-weaker c.let_lane_go.result _ _ (λ event g. g.did.lets_go) c.let_lane_go.ensures.lets_go
 
-pub let_go-requires-clause-intact : goal.let_go-requires-clause-intact
-let_go-requires-clause-intact c = open_intact c.self.inside.lanes c.self.inside.options c.self.inside.version c.self.inside.info c.self.inside.work c.self.inside.phase c.self.invariant (rw (← c.self.view_is) at c.requires.open)
+pub returns-clause-goes : goal.returns-clause-goes
+returns-clause-goes c = IfOk-weaker c.let_lane_go.result _ _ (λ event g. record { stays = stays _ _ _ g; later = g.did.later }) c.let_lane_go.ensures.lets_go
 
-pub invariant_of-self : goal.invariant_of-self
-invariant_of-self c =
-    let s : Setting = setting_by c.self.inside.lanes c.self.inside.options c.self.inside.version c.self.inside.info in
-    works_on c.self.inside.lanes c.self.inside.options c.self.inside.version c.self.inside.info c.self.inside.work c.let_go.new.self c.self.inside.phase c.self.invariant (rw (← c.self.view_is) at c.requires.open)
-    c.let_go.ensures.intact (λ working. (c.in-Ok.ensures.lets_go s working (rw (← c.self.view_is) at c.requires.done) (rw (← c.self.view_is) at c.requires.holds)).working)
-
-pub invariant_of-self-in-Err : goal.invariant_of-self-in-Err
-invariant_of-self-in-Err c =
-    fails_by c.self.inside.lanes c.self.inside.options c.self.inside.version c.self.inside.info c.self.inside.work c.let_go.new.self c.self.inside.phase c.self.invariant (rw (← c.self.view_is) at c.requires.open) c.let_go.ensures.intact (λ s. left_so_far s c.self.inside.work c.let_go.new.self c.in-Err.ensures.left)
-
-pub returns-in-Ok-clause-goes : goal.returns-in-Ok-clause-goes
-returns-in-Ok-clause-goes c =
-    let s : Setting = setting_by c.self.inside.lanes c.self.inside.options c.self.inside.version c.self.inside.info in
-    let f = in_phase c.self.inside.lanes c.self.inside.options c.self.inside.version c.self.inside.info c.self.inside.work c.self.inside.phase Open c.self.invariant (rw (← c.self.view_is) at c.requires.open) in
-    rw (← c.self.view_is) (record { stays = refl; later = (c.in-Ok.ensures.lets_go s f (rw (← c.self.view_is) at c.requires.done) (rw (← c.self.view_is) at c.requires.holds)).later })
+pub returns-clause-holds : goal.returns-clause-holds
+returns-clause-holds c = or_refused c.let_lane_go.result _ _ _ c.let_lane_go.ensures.lets_go c.let_lane_go.ensures.left (λ event g. holds _ _ _ g) (λ e f. failed_holds _ _ f)

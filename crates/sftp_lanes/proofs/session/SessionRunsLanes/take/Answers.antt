@@ -1,25 +1,15 @@
-use Rattle.std.proofs.Common.{refl}
-use Rattle.sftp_history.specs.Calls.{Setting}
-use Rattle.sftp_driver.specs.declared.session.Phase.TheVariants.{Open}
-use Rattle.sftp_lanes.specs.Seen.{setting_by}
-use Rattle.sftp_lanes.proofs.Opening.{fails_by, in_phase, open_intact, works_on}
+use Rattle.std.proofs.lemmas.Result.{IfOk-weaker}
+use Rattle.sftp_lanes.proofs.Shown.{holds, or_refused, refused_holds, stays}
 use Rattle.sftp_lanes.proofs.session.SessionRunsLanes.take.Goals as goal
 
-pub take-requires-clause-intact : goal.take-requires-clause-intact
-take-requires-clause-intact c = open_intact c.self.inside.lanes c.self.inside.options c.self.inside.version c.self.inside.info c.self.inside.work c.self.inside.phase c.self.invariant (rw (← c.self.view_is) at c.requires.open)
+pub returns-clause-ok : goal.returns-clause-ok
+returns-clause-ok c = IfOk-weaker c.take_reply.result _ _ (λ event g. g.did.takes) c.take_reply.ensures.takes
 
-pub invariant_of-self : goal.invariant_of-self
-invariant_of-self c =
-    let s : Setting = setting_by c.self.inside.lanes c.self.inside.options c.self.inside.version c.self.inside.info in
-    works_on c.self.inside.lanes c.self.inside.options c.self.inside.version c.self.inside.info c.self.inside.work c.take.new.self c.self.inside.phase c.self.invariant (rw (← c.self.view_is) at c.requires.open)
-    c.take.ensures.intact (λ working. (c.in-Ok.ensures.takes s working).working)
+pub returns-clause-goes : goal.returns-clause-goes
+returns-clause-goes c = IfOk-weaker c.take_reply.result _ _ (λ event g. record { stays = stays _ _ _ g; later = g.did.later }) c.take_reply.ensures.takes
 
-pub invariant_of-self-in-Err : goal.invariant_of-self-in-Err
-invariant_of-self-in-Err c =
-    fails_by c.self.inside.lanes c.self.inside.options c.self.inside.version c.self.inside.info c.self.inside.work c.take.new.self c.self.inside.phase c.self.invariant (rw (← c.self.view_is) at c.requires.open) c.take.ensures.intact c.in-Err.ensures.stays
+pub returns-clause-work : goal.returns-clause-work
+returns-clause-work c = IfOk-weaker c.take_reply.result _ _ (λ event g. g.did.less) c.take_reply.ensures.takes
 
-pub returns-in-Ok-clause-goes : goal.returns-in-Ok-clause-goes
-returns-in-Ok-clause-goes c =
-    let s : Setting = setting_by c.self.inside.lanes c.self.inside.options c.self.inside.version c.self.inside.info in
-    let f = in_phase c.self.inside.lanes c.self.inside.options c.self.inside.version c.self.inside.info c.self.inside.work c.self.inside.phase Open c.self.invariant (rw (← c.self.view_is) at c.requires.open) in
-    rw (← c.self.view_is) (record { stays = refl; later = (c.in-Ok.ensures.takes s f).later })
+pub returns-clause-holds : goal.returns-clause-holds
+returns-clause-holds c = or_refused c.take_reply.result _ _ _ c.take_reply.ensures.takes c.take_reply.ensures.kept (λ event g. holds _ _ _ g) (λ e f. refused_holds e _ _ f)

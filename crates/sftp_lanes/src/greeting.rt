@@ -1,0 +1,122 @@
+// How a session opens: the hello and its VERSION, and the query for limits.
+ghost use Rattle.std.specs.Prelude.{◌≡◌, IfOk, IfErr, OnErr, OnOk};
+ghost use Rattle.sftp_core.specs.Take.{IsFirst};
+ghost use Rattle.sftp_model.specs.Pieces.{joined};
+ghost use Rattle.sftp_model.specs.ReplyReadings.{reply_at};
+ghost use Rattle.sftp_history.specs.Readings.{unsent_bytes};
+ghost use Rattle.sftp_history.specs.Shown.{hello_frame};
+ghost use Rattle.sftp_driver.specs.declared.session.Phase.TheVariants as phases;
+ghost use Rattle.sftp_driver.specs.Refusals.{refuses, refuses_hello};
+ghost use Rattle.sftp_driver.specs.Session.{IsGreeted, IsLater, IsQueried};
+ghost use Rattle.sftp_lanes.specs.Events.{HasFailed, IsRefused, TakesLimits, TakesVersion};
+ghost use Rattle.sftp_lanes.specs.Seen.{seen_of, setting_at};
+ghost use Rattle.sftp_work.specs.Working.{past_of};
+
+use crate::session::Session;
+use crate::telling::{offers_limits, query_entry, tell};
+use sftp_core::{Chunk, TakeError, Taken};
+use sftp_driver::Phase;
+use sftp_history::{Entry, Event};
+use ssh_encoding::OutOfMemory;
+
+impl Session {
+    /// Hands the hello out. Refused for want of memory.
+    pub(crate) fn hand_hello(&mut self) -> Result<Chunk, OutOfMemory>
+        requires fresh { self.old.phase ≡ phases.Fresh }
+        ensures hello { IfOk result (λ chunk. joined chunk ≡ hello_frame) }
+        ensures greeted { OnOk result (IsGreeted (seen_of self.old) (seen_of self.new)) }
+        ensures left { OnErr result (HasFailed self.old self.new) }
+    {
+        match self.work.core.hand_out() {
+            Ok(chunk) => {
+                self.phase = Phase::Greeted;
+                Ok(chunk)
+            }
+            Err(e) => {
+                self.phase = Phase::Failed;
+                Err(e)
+            }
+        }
+    }
+
+    /// Takes the body of VERSION, and answers whether the limits are to be asked for. Refused by the first thing that is wrong with it,
+    /// which is kept, or for want of memory.
+    pub(crate) fn take_hello(&mut self, body: &[u8]) -> Result<bool, TakeError>
+        requires greeted { self.old.phase ≡ phases.Greeted }
+        ensures takes { IfOk result (λ asks. TakesVersion (reply_at body.now) asks self.old self.new) }
+        ensures refused { IfErr result (λ e. IsFirst e (refuses_hello (reply_at body.now))) }
+        ensures kept { IfErr result (λ e. IsRefused e self.old self.new) }
+    {
+        match self.work.take_frame(body) {
+            Ok(Taken::Version(reply)) => {
+                if offers_limits(&reply) {
+                    self.work.journal.push(query_entry()).unwrap();
+                    self.work.asked += 1;
+                    self.phase = Phase::Asking;
+                    self.version = Some(reply);
+                    return Ok(true);
+                }
+                self.info = tell(&mut self.work, &self.options);
+                self.phase = Phase::Open;
+                self.version = Some(reply);
+                Ok(false)
+            }
+            Ok(_) => unreachable!(),
+            Err(e) => {
+                self.phase = Phase::Failed;
+                Err(e)
+            }
+        }
+    }
+
+    /// Hands the query for limits out. Refused for want of memory.
+    pub(crate) fn hand_query(&mut self) -> Result<Chunk, OutOfMemory>
+        requires asking { self.old.phase ≡ phases.Asking }
+        ensures query { IfOk result (λ chunk. joined chunk ≡ unsent_bytes (past_of self.old.work)) }
+        ensures queried { OnOk result (IsQueried (seen_of self.old) (seen_of self.new)) }
+        ensures later { OnOk result (IsLater (setting_at self.new) (past_of self.old.work) (past_of self.new.work)) }
+        ensures left { OnErr result (HasFailed self.old self.new) }
+    {
+        if self.work.journal.reserve(2).is_err() {
+            self.phase = Phase::Failed;
+            return Err(OutOfMemory);
+        }
+        match self.work.core.hand_out() {
+            Ok(chunk) => {
+                self.work.journal.push(Entry::Event(Event::Send)).unwrap();
+                self.phase = Phase::Queried;
+                Ok(chunk)
+            }
+            Err(e) => {
+                self.phase = Phase::Failed;
+                Err(e)
+            }
+        }
+    }
+
+    /// Takes the body of the reply to the query for limits. Refused by the first thing that is wrong with it, which is kept, or for want
+    /// of memory.
+    pub(crate) fn take_told(&mut self, body: &[u8]) -> Result<(), TakeError>
+        requires queried { self.old.phase ≡ phases.Queried }
+        ensures takes { OnOk result (TakesLimits (reply_at body.now) self.old self.new) }
+        ensures refused { IfErr result (λ e. IsFirst e (refuses (past_of self.old.work) (reply_at body.now))) }
+        ensures kept { IfErr result (λ e. IsRefused e self.old self.new) }
+    {
+        match self.work.take_frame(body) {
+            Ok(Taken::Limits { id, reply }) => {
+                self.info = tell(&mut self.work, &self.options);
+                self.work
+                    .journal
+                    .push(Entry::Event(Event::Take { id, reply }))
+                    .unwrap();
+                self.phase = Phase::Open;
+                Ok(())
+            }
+            Ok(_) => unreachable!(),
+            Err(e) => {
+                self.phase = Phase::Failed;
+                Err(e)
+            }
+        }
+    }
+}
