@@ -4,8 +4,14 @@ set -u
 cd "$(dirname "$0")/.." || exit 1
 
 page=docs/sftp_cli.1
+scripts=crates/sftp_script/specs/Scripts.antt
 missing=0
-for word in $(sed -n 's/.*bytes_eq [a-z]* (codes "\([^"]*\)").*/\1/p' crates/sftp_history/specs/Scripts.antt | sort -u); do
+words=$(sed -n 's/.*bytes_eq [a-z]* (codes "\([^"]*\)").*/\1/p' $scripts | sort -u)
+if [ -z "$words" ]; then
+    echo "manual: no word of scripts was found in $scripts"
+    exit 1
+fi
+for word in $words; do
     # a word stands by itself, and a `-` in it may be written with a backslash
     if ! sed 's/\\-/-/g; s/\\f[BRIP]/ /g' $page | grep -qE "(^|[^a-z_-])$word([^a-z_-]|\$)"; then
         echo "manual: $page does not name the word $word"

@@ -1,6 +1,5 @@
-use sftp_file::OpenOptions;
-use sftp_history::*;
-use sftp_model::{Fault, Reply, Request, TryCopy};
+use session_model::*;
+use sftp_model::{Fault, OpenOptions, Reply, Request, TryCopy};
 use sftp_values::{ByteText, Items, Same, is_same};
 use std::alloc::Global;
 use std::test::Fail;

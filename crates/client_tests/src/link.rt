@@ -58,6 +58,7 @@ fn a_dial_in_memory_gives_its_link_once(rt: HostRuntime) -> Result<(), Fail> {
     let sent = end.send(&HELLO);
     dial.put_back(end);
     assert!(rt; sent == Ok(9) && dial.log().len() == 1 && dial.dial("p").is_err());
+    assert_eq!(rt; dial.dials(), 2);
     Ok(())
 }
 
@@ -69,6 +70,21 @@ fn a_source_and_a_sink_in_memory(rt: HostRuntime) -> Result<(), Fail> {
     let first = read_up_to(rt.alloc(), &mut source, 2)?;
     write_all(&mut sink, first.as_slice())?;
     assert_eq!(rt; sink.bytes(), [1, 2].as_slice());
+    Ok(())
+}
+
+// A link over a source and a sink sends to the one and fills from the other, and ends where the source does.
+#[test]
+fn a_source_and_a_sink_are_a_link(rt: HostRuntime) -> Result<(), Fail> {
+    let alloc = rt.alloc();
+    let reply = [0, 0, 0, 6, 101, 0, 0, 0, 7, 9];
+    let source = MemorySource::new(Vec::from_slice(alloc, &reply)?, Vec::new(alloc));
+    let sink = MemorySink::new(alloc, Vec::new(alloc));
+    let mut link = Duplex::new(source, sink);
+    assert_eq!(rt; ask(&mut link), Ok((true, reply)));
+    let none = MemorySource::new(Vec::new(alloc), Vec::new(alloc));
+    let mut ended = Duplex::new(none, MemorySink::new(alloc, Vec::new(alloc)));
+    assert_eq!(rt; recv_exact(&mut ended, &mut [0]), Ok(false));
     Ok(())
 }
 

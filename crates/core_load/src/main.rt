@@ -2,8 +2,8 @@
 //! times it. Its word is the number of requests, 1000 where there is none.
 #![tactic(auto)]
 
-use sftp_core::{Core, SftpOptions};
-use sftp_model::{Handle, Request};
+use sftp_core::Core;
+use sftp_model::{Handle, Request, SftpOptions};
 use std::alloc::Global;
 use std::env;
 use std::process::ExitCode;
@@ -39,7 +39,7 @@ fn submit(core: &mut Core) -> bool {
     let Some(handle) = Handle::new(b"a") else {
         return false;
     };
-    if core.info().is_none() || core.kept() > MAX_REQUESTS {
+    if core.info().is_none() || core.kept() >= MAX_REQUESTS {
         return false;
     }
     match core.submit(&Request::Close { handle }) {

@@ -2,9 +2,9 @@
 
 use crate::texts::{files_of, paths_of, text};
 use bitflags::Flags;
+use machine_model::limits::MAX_FILE_LEN;
 use sftp_machine::{Machine, may_begin};
 use sftp_model::*;
-use sftp_tree::limits::MAX_FILE_LEN;
 use sftp_values::ByteText;
 use std::alloc::Global;
 use std::test::Fail;

@@ -1,11 +1,11 @@
 // Calls on a buffered file, reply by reply.
 ghost use Rattle.std.specs.Prelude.{◌≡◌, [], length, IfOk};
-ghost use Rattle.sftp_plan.specs.Sound.{AreWithin, IsSound};
+ghost use Rattle.plan_runner.specs.Sound.{AreWithin, IsSound};
 
 use crate::setting::{a_buffered_site, facts, go, go_at_once};
 use crate::tell::{Row, Told, does, end, named, on_file, write};
+use plan_runner::*;
 use sftp_model::*;
-use sftp_plan::*;
 use std::alloc::Global;
 use std::test::Fail;
 

@@ -1,4 +1,4 @@
-//! Tests of the plan machines by their public calls: what is asked, and whole calls reply by reply.
+//! Tests of the runners of plans by their public calls: what is asked, and whole calls reply by reply.
 #![tactic(auto)]
 
 #[cfg(test)]

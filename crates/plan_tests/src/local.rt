@@ -1,8 +1,8 @@
 // Calls that make no request.
 use crate::setting::{a_buffered_site, a_site, facts, offset_in};
 use crate::tell::{end, is_end};
+use plan_runner::*;
 use sftp_model::*;
-use sftp_plan::*;
 use std::alloc::Global;
 use std::io::SeekFrom;
 use std::test::Fail;

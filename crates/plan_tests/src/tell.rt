@@ -1,11 +1,11 @@
 // What a call does, in a row of small values; and replies.
 ghost use Rattle.std.specs.Prelude.{◌≡◌, true, Some};
-ghost use Rattle.sftp_plan.specs.Sound.{Fits};
+ghost use Rattle.plan_runner.specs.Sound.{Fits};
 
 use bitflags::Flags;
 use bytes::Bytes;
+use plan_runner::{Asked, Next, Running};
 use sftp_model::*;
-use sftp_plan::{Asked, Next, Running};
 use sftp_values::{ByteText, Items};
 use std::alloc::Global;
 

@@ -1,11 +1,11 @@
 // Whole calls, reply by reply.
 ghost use Rattle.std.specs.Prelude.{◌≡◌, [], length, IfOk};
-ghost use Rattle.sftp_plan.specs.Sound.{AreWithin, IsSound};
+ghost use Rattle.plan_runner.specs.Sound.{AreWithin, IsSound};
 
 use crate::setting::{a_site, facts, go, offset_in};
 use crate::tell::{Row, Told, does, end, named, on_file, write};
+use plan_runner::*;
 use sftp_model::*;
-use sftp_plan::*;
 use std::alloc::Global;
 use std::test::Fail;
 
@@ -45,7 +45,15 @@ fn of_file(alloc: Global, call: &str, site: &Site, facts: &Facts) -> Result<Next
         "set_perm" => Ok(begin_set_perm(0, 0o100_644, 1, site, facts)),
         "meta" => Ok(begin_meta(0, 1, site, facts)),
         "sync" => Ok(begin_sync(0, 1, site, facts)),
-        _ => begin_open(alloc, 1, OpenFlags::READ, b"a", 1, site, facts),
+        _ => begin_open(
+            alloc,
+            1,
+            *OpenOptions::new().read(true),
+            b"a",
+            1,
+            site,
+            facts,
+        ),
     }
 }
 

@@ -2,15 +2,15 @@
 ghost use Rattle.std.specs.Prelude.{◌≡◌, ℕ, List, Some, true, IfOk, []};
 ghost use Rattle.sftp_model.specs.declared.slot.Facts.{Facts as FactsValue};
 ghost use Rattle.sftp_model.specs.declared.slot.Site.{Site as SiteValue};
-ghost use Rattle.sftp_plan.specs.declared.next.Running.TheVariants as running;
-ghost use Rattle.sftp_plan.specs.Machines.{after, idle};
-ghost use Rattle.sftp_plan.specs.Sound.{AreWithin, AsksWithin, IsSound, Sound};
+ghost use Rattle.plan_runner.specs.declared.next.Running.TheVariants as running;
+ghost use Rattle.plan_runner.specs.Runners.{after, idle};
+ghost use Rattle.plan_runner.specs.Sound.{AreWithin, AsksWithin, IsSound, Sound};
 
 use crate::setting::{a_site, facts, go, is_other};
 use crate::tell::{Row, Told, does, end, named, on_file};
+use plan_runner::*;
+use plan_window::Window;
 use sftp_model::*;
-use sftp_plan::*;
-use sftp_window::Window;
 use std::alloc::Global;
 use std::test::Fail;
 
@@ -22,10 +22,10 @@ fn is_last(window: &Window, reply: &Reply) -> bool
     let Reply::Status { .. } = reply else {
         return false;
     };
-    let [first] = window.answered.as_slice() else {
+    let [first] = window.answered() else {
         return false;
     };
-    if window.waiting.as_slice().len() != 1 {
+    if window.waiting().len() != 1 {
         return false;
     }
     let Some(last) = window.first() else {
@@ -51,7 +51,7 @@ pub(crate) fn is_within(running: &Running, reply: &Reply, facts: &Facts) -> bool
     match running {
         Running::OpeningToRead { .. } => facts.read_len == 4,
         Running::ReadingWhole { window, .. } => {
-            if window.waiting.as_slice().len() >= 2 {
+            if window.waiting().len() >= 2 {
                 return true;
             }
             is_last(window, reply)
@@ -68,13 +68,13 @@ fn may_widen(running: &Running, facts: &Facts) -> bool
     let Running::ReadingWhole { window, .. } = running else {
         return false;
     };
-    if window.waiting.as_slice().len() >= facts.read_window as usize {
+    if window.waiting().len() >= facts.read_window as usize {
         return true;
     }
-    let [] = window.answered.as_slice() else {
+    let [] = window.answered() else {
         return false;
     };
-    if window.waiting.as_slice().len() != 1 {
+    if window.waiting().len() != 1 {
         return false;
     }
     let Some(first) = window.first() else {

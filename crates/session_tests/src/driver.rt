@@ -1,11 +1,10 @@
 // A session without lanes over scripted links. The bytes are laid out by draft-ietf-secsh-filexfer-02, sections 3, 4
 // and 7, and OpenSSH's PROTOCOL, section 4.8.
 
-use sftp_core::SftpOptions;
-use sftp_driver::*;
-use sftp_history::Turn;
+use session_driver::*;
+use session_model::Turn;
 use sftp_link::{Scripted, ScriptedLink};
-use sftp_model::{Error, FormatKind};
+use sftp_model::{Error, FormatKind, SftpOptions};
 use sftp_values::ByteText;
 use std::alloc::{AllocError, Global};
 use std::test::Fail;

@@ -1,8 +1,6 @@
 // A session over a scripted link. The bytes are laid out by draft-ietf-secsh-filexfer-02, sections 3 to 7.
 ghost use Rattle.std.specs.Prelude.{◌≡◌, ◌∷◌, [], true};
 
-use sftp_core::{Fault, SftpOptions};
-use sftp_driver::Phase;
 use sftp_lanes::*;
 use sftp_link::{Scripted, ScriptedLink};
 use sftp_values::{ByteText, Items};
@@ -77,10 +75,8 @@ lane 0 call 2 done
 
 /// Hands out what a session has unsent.
 fn flush(session: &mut Session) -> Result<(), OutOfMemory> {
-    if session.fault().is_none() {
-        if let Some(chunk) = session.hand_out()? {
-            session.give_back(chunk);
-        }
+    if let Some(chunk) = session.hand_out()? {
+        session.give_back(chunk);
     }
     Ok(())
 }
@@ -139,59 +135,41 @@ fn is_bare(lanes: &[Lane]) -> bool
     }
 }
 
-/// Adds a change of the directory to the one lane of an open session.
+/// Adds a change of the directory to the one lane of a session.
 fn change_directory(session: &mut Session, path: ByteText) -> Result<(), OutOfMemory> {
-    if session.phase() != Phase::Open || session.was_let_go(0) || !is_bare(session.calls()) {
+    if session.was_let_go(0) || !is_bare(session.calls()) {
         return Ok(());
     }
     session.push_call(0, Call::Cwd { path })
 }
 
-/// Steps the first lane of an opened session.
-fn step(session: &mut Session) -> Result<(), OutOfMemory> {
-    if session.info().is_some() && session.fault().is_none() {
-        let _stepped = session.step(0)?;
-    }
-    Ok(())
-}
-
-/// Cancels what the first lane of an opened session does, and answers whether it did anything.
-fn cancel(session: &mut Session) -> Result<bool, OutOfMemory> {
-    if session.info().is_none() || session.fault().is_some() {
-        return Ok(false);
-    }
-    session.cancel(0)
-}
-
-/// Lets the first lane of an open session go, where it has no call left.
+/// Lets the first lane of a session go, where it has no call left.
 fn let_go(session: &mut Session) -> Result<(), OutOfMemory> {
-    if session.phase() != Phase::Open || session.was_let_go(0) || !session.is_done(0) {
+    if session.was_let_go(0) || !session.is_done(0) {
         return Ok(());
     }
-    if session.info().is_some() && session.fault().is_none() {
-        session.let_go(0)?;
-    }
-    Ok(())
+    session.let_go(0)
 }
 
-/// A session that was opened with an empty lane.
-fn opened(alloc: Global) -> Result<Option<Session>, Fail> {
+/// A session that was made with an empty lane.
+fn with_lane(alloc: Global) -> Result<Option<Session>, Fail> {
     let lanes = [Lane {
         calls: Items::new(Vec::new(alloc)),
     }];
     if !lanes_ok(&lanes) {
         return Ok(None);
     }
-    let mut session = Session::new(alloc, &lanes, &SftpOptions::new())?;
-    greet(&mut session, b"\x02\x00\x00\x00\x03")?;
-    Ok(Some(session))
+    Ok(Some(Session::new(alloc, &lanes, &SftpOptions::new())?))
 }
 
-/// Gives the one lane of an open session a call, steps it, cancels what it does then, and lets it go.
+/// Gives the one lane of a session a call before the session is opened, steps it before and behind VERSION, cancels what it does
+/// then, and lets it go.
 fn run_lane(session: &mut Session, path: ByteText) -> Result<(), OutOfMemory> {
     change_directory(session, path)?;
-    step(session)?;
-    let _cancelled = cancel(session)?;
+    let _early = session.step(0)?;
+    greet(session, b"\x02\x00\x00\x00\x03")?;
+    let _stepped = session.step(0)?;
+    let _cancelled = session.cancel(0)?;
     let_go(session)
 }
 
@@ -210,21 +188,22 @@ fn counts(session: &Session) -> (usize, usize, bool) {
     )
 }
 
-/// The journal has the entry of the call, its end, and the letting go; the call has ended before it can be cancelled.
+/// A call that is added before VERSION waits until the session is open. The journal has its entry, its end, and the letting go; the
+/// call has ended before it can be cancelled.
 #[test]
 fn a_call_is_added(rt: HostRuntime) -> Result<(), Fail> {
     let path = ByteText::new(Vec::from_slice(rt.alloc(), b"a")?);
-    let session = opened(rt.alloc())?.ok_or("an empty lane may not run")?;
+    let session = with_lane(rt.alloc())?.ok_or("an empty lane may not run")?;
     let session = run(session, path);
     assert!(rt; counts(&session) == (3, 1, true));
     Ok(())
 }
 
-/// A session is opened on one thread, goes on in another, and comes back.
+/// A session is made on one thread, runs in another, and comes back.
 #[test]
 fn a_session_moves_between_threads(rt: HostRuntime) -> Result<(), Fail> {
     let path = ByteText::new(Vec::from_slice(rt.alloc(), b"a")?);
-    let session = opened(rt.alloc())?.ok_or("an empty lane may not run")?;
+    let session = with_lane(rt.alloc())?.ok_or("an empty lane may not run")?;
     let other = thread::spawn(&rt, move || run(session, path))?;
     let session = other.join(&rt);
     assert!(rt; counts(&session) == (3, 1, true));

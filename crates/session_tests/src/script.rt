@@ -1,8 +1,6 @@
 use bitflags::Flags;
-use sftp_core::SftpOptions;
-use sftp_file::OpenOptions;
-use sftp_history::{Call, Lane, Turn};
-use sftp_model::{Choice, Extensions, Limits, ServerConfig};
+use session_model::{Call, Lane, Turn};
+use sftp_model::{Choice, Extensions, Limits, OpenOptions, ServerConfig, SftpOptions};
 use sftp_script::{Reason, Script, ScriptError, read_script};
 use std::alloc::Global;
 use std::test::Fail;

@@ -1,13 +1,11 @@
 // A session without lanes over a server of a file and directories.
 ghost use Rattle.std.specs.Prelude.{◌≡◌, [], IfOk};
-ghost use Rattle.sftp_served.specs.Unopened.{IsUnopened};
+ghost use Rattle.sftp_map_server.specs.Unopened.{IsUnopened};
 
-use sftp_core::SftpOptions;
-use sftp_driver::NoLanes;
-use sftp_history::Turn;
-use sftp_map_server::{MapServer, may_begin};
-use sftp_model::{Extensions, Limits, ServerConfig};
-use sftp_served::*;
+use session_driver::{NoLanes, run_session};
+use session_model::Turn;
+use sftp_map_server::{MapServer, may_begin, new_server};
+use sftp_model::{Extensions, Limits, ServerConfig, SftpOptions};
 use sftp_values::{ByteText, Items};
 use std::alloc::{AllocError, Global};
 use std::test::Fail;
@@ -49,7 +47,7 @@ fn runs(rt: HostRuntime) -> Result<(), Fail> {
     let mut server = a_server(alloc)?;
     let mut session = NoLanes::new(alloc, &SftpOptions::new())?;
     let turns = [Turn::Step(0), Turn::Take];
-    assert!(rt; run_served(alloc, &mut session, &mut server, &turns) == Ok(()));
+    assert!(rt; run_session(alloc, &mut session, &mut server, &turns) == Ok(()));
     assert!(rt; server.file(0) == Some((b"a".as_slice(), b"hello".as_slice())));
     assert!(rt; server.dir(1) == Some(b"b/c".as_slice()) && server.dir(2).is_none());
     Ok(())

@@ -1,5 +1,5 @@
 use bytes::Bytes;
-use sftp_history::{Event, Owner, Report};
+use session_model::{Event, Owner, Report};
 use sftp_model::{Error, FileAttrs, Handle, OpenFlags, Outcome, RemotePath, Reply, Request};
 use sftp_text::{write_dir, write_file, write_text};
 use sftp_values::{ByteText, Items};

@@ -1,3 +1,3 @@
-mod ScriptLaws
-mod Sending
+pub mod ScriptLaws
+pub mod Sending
 mod Steps

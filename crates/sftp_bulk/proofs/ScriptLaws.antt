@@ -7,9 +7,9 @@ use Rattle.std.proofs.lemmas.Bool.Decides.{nat_tests}
 use Rattle.std.proofs.Math.Nat.{mul-add, mul_assoc, suc-mul}
 use Rattle.sftp_model.specs.declared.config.Choice.{Choice}
 use Rattle.sftp_model.specs.Fits.{FitsLimits, FitsNumber}
-use Rattle.sftp_history.specs.declared.call.Call.{Call}
-use Rattle.sftp_history.specs.declared.call.Lane.{Lane}
-use Rattle.sftp_history.specs.Lanes.{are_ok, is_within, lane_weight, weight, weight_limit}
+use Rattle.plan_model.specs.declared.call.Call.{Call}
+use Rattle.plan_model.specs.declared.call.Lane.{Lane}
+use Rattle.plan_model.specs.Lanes.{are_ok, is_within, lane_weight, weight, weight_limit}
 use Rattle.sftp_bulk.specs.Bulk.{Drawing, bulk_script, bulk_server, call_of, choice, count_of, draw, drawn, each, lane_of, turn_of, value_of}
 
 -- ---- lists that are drawn

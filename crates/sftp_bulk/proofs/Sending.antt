@@ -2,11 +2,11 @@
 use Rattle.std.proofs.Common.{◌≡◌, ◌≤◌, ◌+◌, ℕ, List, [], ◌∷◌, ◌++◌, take, refl, ap, ◌∙◌}
 use Rattle.std.specs.Prelude.{map, reverse}
 use Rattle.std.proofs.lemmas.List.{map-append, reverse-append}
-use Rattle.sftp_history.specs.declared.event.Event.{Event}
-use Rattle.sftp_history.specs.declared.event.Event.TheVariants.{Submit, Send, Take, Cancel, End}
-use Rattle.sftp_history.specs.declared.entry.Entry.{Entry}
-use Rattle.sftp_history.specs.declared.entry.Entry.TheVariants as entry
-use Rattle.sftp_history.specs.Readings.{asked, events_of, sent, trace_of}
+use Rattle.session_model.specs.declared.event.Event.{Event}
+use Rattle.session_model.specs.declared.event.Event.TheVariants.{Submit, Send, Take, Cancel, End}
+use Rattle.session_model.specs.declared.entry.Entry.{Entry}
+use Rattle.session_model.specs.declared.entry.Entry.TheVariants as entry
+use Rattle.session_model.specs.Readings.{asked, events_of, sent, trace_of}
 use Rattle.sftp_bulk.specs.Summary.{requests_in}
 
 -- the events as entries, and the newest first

@@ -1,15 +1,32 @@
 -- The script that three numbers make: a start, how many lanes, and how many calls each lane has.
-use Rattle.std.specs.Prelude.{ℕ, zero, suc, ◌+◌, ◌*◌, ◌/◌, ◌%◌, ◌^◌, ◌==◌, nat_lt, List, [], ◌∷◌, ◌++◌, Some, if◌then◌else◌}
+use Rattle.std.specs.Prelude.{
+  ℕ,
+  zero,
+  suc,
+  ◌+◌,
+  ◌*◌,
+  ◌/◌,
+  ◌%◌,
+  ◌^◌,
+  ◌==◌,
+  nat_lt,
+  List,
+  [],
+  ◌∷◌,
+  ◌++◌,
+  Some,
+  if◌then◌else◌,
+}
 use Rattle.ssh_encoding.specs.Writing.{uint32}
-use Rattle.sftp_core.specs.Options.{default_options}
+use Rattle.sftp_model.specs.Options.{default_options}
 use Rattle.sftp_model.specs.declared.config.Choice.{Choice}
 use Rattle.sftp_model.specs.declared.config.ServerConfig.{ServerConfig}
-use Rattle.sftp_history.specs.declared.call.Call.{Call}
-use Rattle.sftp_history.specs.declared.call.Call.TheVariants as call
-use Rattle.sftp_history.specs.declared.call.Lane.{Lane}
-use Rattle.sftp_history.specs.declared.script.Script.{Script}
-use Rattle.sftp_history.specs.declared.turn.Turn.{Turn}
-use Rattle.sftp_history.specs.declared.turn.Turn.TheVariants as turn
+use Rattle.plan_model.specs.declared.call.Call.{Call}
+use Rattle.plan_model.specs.declared.call.Call.TheVariants as call
+use Rattle.plan_model.specs.declared.call.Lane.{Lane}
+use Rattle.sftp_script.specs.declared.script.Script.{Script}
+use Rattle.session_model.specs.declared.turn.Turn.{Turn}
+use Rattle.session_model.specs.declared.turn.Turn.TheVariants as turn
 
 -- ---- draws
 
@@ -21,7 +38,7 @@ drawn x = (x * 6364136223846793005 + 1442695040888963407) % 2 ^ 64
 unfoldable pub value_of : ℕ → ℕ
 value_of x = x / 2 ^ 33
 
--- what is drawn behind a number, and the number that is passed on
+-- what is drawn after a number, and the number that is passed on
 abbrev pub Drawing : Type 0 → Type 0
 Drawing A = ℕ → A × ℕ
 

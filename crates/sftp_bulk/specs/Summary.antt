@@ -3,11 +3,11 @@ use Rattle.std.specs.Prelude.{ℕ, ◌-◌, ◌^◌, Bool, true, false, List, �
 use Rattle.std.specs.List.{count_by, sum_by}
 use Rattle.sftp_model.specs.declared.outcome.Outcome.{Outcome}
 use Rattle.sftp_model.specs.declared.outcome.Outcome.TheVariants as outcome
-use Rattle.sftp_history.specs.declared.entry.Entry.TheVariants as entry
-use Rattle.sftp_history.specs.declared.event.Event.{Event}
-use Rattle.sftp_history.specs.declared.report.Report.{Report}
-use Rattle.sftp_history.specs.Readings.{sent}
-use Rattle.sftp_history.specs.Texts.{line, number_text}
+use Rattle.session_model.specs.declared.entry.Entry.TheVariants as entry
+use Rattle.session_model.specs.declared.event.Event.{Event}
+use Rattle.session_model.specs.declared.report.Report.{Report}
+use Rattle.session_model.specs.Readings.{sent}
+use Rattle.sftp_text.specs.Texts.{line, number_text}
 use Rattle.sftp_bulk.specs.declared.kind.Kind.{Kind}
 use Rattle.sftp_bulk.specs.declared.kind.Kind.TheVariants as kind
 use Rattle.sftp_bulk.specs.declared.summary.Summary.{Summary}
@@ -56,11 +56,13 @@ number_line word n = line (word ++ codes " " ++ number_text n)
 
 -- what was asked
 abbrev pub asked_text : Summary → List ℕ
-asked_text s = number_line (codes "lanes") s.lanes ++ number_line (codes "calls") s.calls ++ number_line (codes "requests") s.requests
+asked_text s = number_line (codes "lanes") s.lanes ++ number_line (codes "calls") s.calls
+    ++ number_line (codes "requests") s.requests
 
 -- how it ended
 abbrev pub ended_text : Summary → List ℕ
-ended_text s = number_line (codes "done") s.done ++ number_line (codes "read") s.read ++ number_line (codes "meta") s.meta ++ number_line (codes "refused") s.refused
+ended_text s = number_line (codes "done") s.done ++ number_line (codes "read") s.read
+    ++ number_line (codes "meta") s.meta ++ number_line (codes "refused") s.refused
 
 -- what is left
 abbrev pub left_text : Summary → List ℕ

@@ -1,4 +1,4 @@
-// The names of files, and what is written to them.
+//! The names of files, and what is written to them.
 ghost use Rattle.std.specs.Prelude.{◌≡◌, ◌<◌, IfOk};
 ghost use Rattle.sftp_bulk.specs.Bulk.{content_of, counting, name_of};
 

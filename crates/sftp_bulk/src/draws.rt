@@ -1,9 +1,9 @@
-// What is drawn, part by part. Each draw passes a number on to the next.
+//! What is drawn, part by part. Each draw passes a number on to the next.
 ghost use Rattle.std.specs.Prelude.{◌≡◌, ◌<◌, ◌≤◌, IfOk, OnOk};
 ghost use Rattle.sftp_bulk.specs.Bulk.{call_by, call_of, choice, draw, drawn, each, lane_of, times, turn_at, turn_of, value_of};
 
 use crate::content::{content_of, name_of};
-use sftp_history::{Call, Lane, Turn};
+use session_model::{Call, Lane, Turn};
 use sftp_model::Choice;
 use sftp_values::Items;
 use ssh_encoding::OutOfMemory;

@@ -1,9 +1,9 @@
-// The kinds of outcomes that are counted.
+//! The kinds of outcomes that are counted.
 ghost use Rattle.std.specs.Prelude.{◌≡◌};
 ghost use Rattle.std.specs.List.{count_by, sum_by};
 ghost use Rattle.sftp_bulk.specs.Summary.{count_in, is_of};
 
-use sftp_history::Outcome;
+use session_model::Outcome;
 use sftp_values::Items;
 
 /// A kind of outcomes.

@@ -1,10 +1,10 @@
-// Laws of the definitions. The functions do nothing: what they ensure holds of all values.
+//! Laws of the definitions. The functions do nothing: what they ensure holds of all values.
 ghost use Rattle.std.specs.Prelude.{◌≡◌, ◌<◌, ◌≤◌, ◌*◌, ◌^◌, ℕ, [], List, All, IfSome, length, true};
 ghost use Rattle.sftp_model.specs.Fits.{FitsLimits, FitsNumber, FitsSet};
-ghost use Rattle.sftp_tree.specs.FirstTree.{may_begin};
-ghost use Rattle.sftp_history.specs.declared.entry.Entry.{Entry};
-ghost use Rattle.sftp_history.specs.Lanes.{are_ok};
-ghost use Rattle.sftp_history.specs.Readings.{sent, trace_of};
+ghost use Rattle.machine_model.specs.FirstTree.{may_begin};
+ghost use Rattle.session_model.specs.declared.entry.Entry.{Entry};
+ghost use Rattle.plan_model.specs.Lanes.{are_ok};
+ghost use Rattle.session_model.specs.Readings.{sent, trace_of};
 ghost use Rattle.sftp_bulk.specs.Bulk.{bulk_script, count_of};
 ghost use Rattle.sftp_bulk.specs.Summary.{requests_in};
 

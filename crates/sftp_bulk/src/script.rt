@@ -1,11 +1,11 @@
+//! The script that three numbers make.
 ghost use Rattle.std.specs.Prelude.{◌≡◌, ◌≤◌, ◌*◌, IfOk};
 ghost use Rattle.sftp_bulk.specs.Bulk.{bulk_server, bulk_script};
 
 use crate::draws::Draws;
 use bitflags::Flags;
-use sftp_core::SftpOptions;
-use sftp_history::Script;
-use sftp_model::{Extensions, Limits, ServerConfig};
+use sftp_model::{Extensions, Limits, ServerConfig, SftpOptions};
+use sftp_script::Script;
 use sftp_values::Items;
 use ssh_encoding::OutOfMemory;
 use std::alloc::Global;

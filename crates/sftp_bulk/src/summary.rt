@@ -1,10 +1,10 @@
-// The numbers that are told of a run.
+//! The numbers that are told of a run.
 ghost use Rattle.std.specs.Prelude.{◌≡◌, length};
 ghost use Rattle.std.specs.List.{sum_by};
 ghost use Rattle.sftp_bulk.specs.Summary.{limited, requests_in, summary_of};
 
 use crate::kind::{Kind, count_in};
-use sftp_history::{Event, Outcome, Report};
+use session_model::{Event, Outcome, Report};
 use sftp_values::Items;
 
 /// The numbers that are told of a run, each at most the greatest of 64 bits.

@@ -1,6 +1,6 @@
-// The worked script, and a summary's text.
+//! The worked script, and a summary's text.
 use crate::{Summary, bulk_script, write_summary};
-use sftp_history::{Call, Lane, Turn};
+use session_model::{Call, Lane, Turn};
 use sftp_model::Choice;
 use std::test::Fail;
 

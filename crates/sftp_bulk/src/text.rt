@@ -1,33 +1,13 @@
-// The text of a summary. A refusal may leave a prefix of it behind what there was; the public function takes that away.
+//! The text of a summary. A refusal may leave a prefix of it after what there was; the public function takes that away.
 ghost use Rattle.std.specs.Prelude.{◌≡◌, ◌++◌, OnOk, OnErr};
 ghost use Rattle.sftp_wire.specs.Body.{Grows};
-ghost use Rattle.sftp_history.specs.Texts.{number_text};
 ghost use Rattle.sftp_bulk.specs.Summary.{asked_text, ended_text, left_text, number_line, summary_text};
 
 use crate::summary::Summary;
-use itoa::Buffer;
+use sftp_text::{put_number, put_word};
 use ssh_encoding::OutOfMemory;
 
-#[tactic(auto, using(sftp_wire::proofs::Puts::puts))]
-fn put_word(word: &str, out: &mut Vec<u8>) -> Result<(), OutOfMemory>
-    ensures ok { OnOk result (out.new.items ≡ out.old.items ++ word.now) }
-    ensures grows { Grows out.old.items out.new.items }
-{
-    out.extend_from_slice(word.as_bytes())?;
-    Ok(())
-}
-
-/// The digits of a number.
-#[tactic(auto, using(sftp_wire::proofs::Puts::puts, sftp_history::proofs::TextLaws::number_decimal))]
-fn put_number(n: u64, out: &mut Vec<u8>) -> Result<(), OutOfMemory>
-    ensures ok { OnOk result (out.new.items ≡ out.old.items ++ number_text n) }
-    ensures grows { Grows out.old.items out.new.items }
-{
-    let mut digits = Buffer::new();
-    put_word(digits.format(n), out)
-}
-
-/// The line of a number, behind its word.
+/// The line of a number, after its word.
 #[tactic(auto, using(sftp_wire::proofs::Puts::puts))]
 fn put_line(word: &str, n: u64, out: &mut Vec<u8>) -> Result<(), OutOfMemory>
     ensures ok { OnOk result (out.new.items ≡ out.old.items ++ number_line word.now n) }

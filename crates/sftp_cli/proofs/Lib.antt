@@ -1,7 +1,10 @@
 pub mod Files
-pub mod FitCounts
-pub mod Fit
 pub mod Running
-pub mod Ending
+pub mod Reading
+pub mod Writing
+pub mod Exits
 pub mod Linked
 pub mod Fixing
+pub mod Completing
+pub mod Causing
+pub mod BulkRuns

@@ -4,15 +4,15 @@ use Rattle.std.specs.Prelude.{Some, Err, reverse}
 use Rattle.sftp_link.specs.declared.piece.Piece.{Piece}
 use Rattle.sftp_link.specs.Told.{Told}
 use Rattle.sftp_model.specs.declared.error.Error.{Error}
-use Rattle.sftp_history.specs.declared.call.Lane.{Lane}
-use Rattle.sftp_history.specs.declared.report.Report.{Report}
-use Rattle.sftp_history.specs.declared.script.Script.{Script}
-use Rattle.sftp_history.specs.declared.turn.Turn.{Turn}
-use Rattle.sftp_history.specs.Settings.{greeting}
-use Rattle.sftp_history.specs.Shown.{Shows}
-use Rattle.sftp_history.specs.Texts.{text_of}
-use Rattle.sftp_driver.specs.Causes.{Cause, EndCause}
-use Rattle.sftp_driver.specs.Logs.{Ends}
+use Rattle.plan_model.specs.declared.call.Lane.{Lane}
+use Rattle.session_model.specs.declared.report.Report.{Report}
+use Rattle.sftp_script.specs.declared.script.Script.{Script}
+use Rattle.session_model.specs.declared.turn.Turn.{Turn}
+use Rattle.session_model.specs.Settings.{greeting}
+use Rattle.session_model.specs.Shown.{Shows}
+use Rattle.sftp_text.specs.Texts.{text_of}
+use Rattle.session_exchange.specs.Causes.{Cause, EndCause}
+use Rattle.session_driver.specs.Logs.{Ends}
 use Rattle.sftp_lanes.specs.Reported.{IsReport}
 use Rattle.sftp_lanes.specs.Seen.{given}
 use Rattle.sftp_text.specs.Traces.{journal_of}
@@ -21,7 +21,9 @@ use Rattle.sftp_cli.proofs.Running.{from_empty}
 use Rattle.sftp_cli.specs.Dialled.{IsShown, IsStopped, error_name, error_line}
 
 pub is_shown : (script : Script) (before log : List Piece) (faults : ℕ) (ended : Bool) (report : Report) (text : List ℕ) → before ≡ []
-    → IsReport script.lanes script.options script.turns (Some (reverse before)) (Some log) report → text ≡ text_of (journal_of report.trace) report.outcomes → IsShown (Some (record { log = log; faults = faults; ended = ended })) script text
+    → IsReport script.lanes script.options script.turns (Some (reverse before)) (Some log) report → text
+    ≡ text_of (journal_of report.trace) report.outcomes → IsShown
+    (Some (record { log = log; faults = faults; ended = ended })) script text
 is_shown script before log faults ended report text none run is =
     record {
       extensions = run.extensions;
@@ -35,8 +37,11 @@ is_shown script before log faults ended report text none run is =
       is = is ∙ ap (λ t. text_of (journal_of t) report.outcomes) run.trace ∙ trace_text run.past report.outcomes ∙ ap (λ o. text_of run.past o) run.outcomes;
     }
 
-pub is_stopped : (script : Script) (lanes : List Lane) (turns : List Turn) (before log : List Piece) (first faults : ℕ) (ended : Bool) (e : Error) (name text : List ℕ) → lanes ≡ script.lanes → turns ≡ script.turns → before ≡ [] → first ≡ 0
-    → Told (Ends (given lanes script.options) turns ended e) (Some (reverse before)) (Some log) → Cause {T = Report} first faults (Err e) → EndCause {T = Report} ended (Err e)
+pub is_stopped : (script : Script) (lanes : List Lane) (turns : List Turn) (before log : List Piece) (first faults : ℕ)
+    (ended : Bool) (e : Error) (name text : List ℕ) → lanes ≡ script.lanes → turns ≡ script.turns → before ≡ [] → first
+    ≡ 0
+    → Told (Ends (given lanes script.options) turns ended e) (Some (reverse before)) (Some log)
+    → Cause {T = Report} first faults (Err e) → EndCause {T = Report} ended (Err e)
     → error_name e ≡ Some name → text ≡ error_line name → IsStopped (Some (record { log = log; faults = faults; ended = ended })) script text
 is_stopped script lanes turns before log first faults ended e name text same order none zero stops cause end named is =
     record {

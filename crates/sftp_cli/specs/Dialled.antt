@@ -1,30 +1,30 @@
 -- What the program has to write for a script whose lanes run over a link to a server elsewhere.
-use Rattle.std.specs.Prelude.{◌≡◌, ◌⊎◌, ℕ, List, [], ◌++◌, length, codes, Option, Some, None, Err}
+use Rattle.std.specs.Prelude.{◌≡◌, ℕ, List, [], ◌++◌, length, codes, Option, Some, None, Err}
 use Rattle.sftp_link.specs.Views.{LastLink}
 use Rattle.sftp_model.specs.declared.error.Error.{Error}
 use Rattle.sftp_model.specs.declared.error.Error.TheVariants as errors
 use Rattle.sftp_model.specs.declared.flags.Extensions.{Extensions}
-use Rattle.sftp_history.specs.declared.entry.Entry.{Entry}
-use Rattle.sftp_history.specs.declared.report.Report.{Report}
-use Rattle.sftp_history.specs.declared.script.Script.{Script}
-use Rattle.sftp_history.specs.Closes.{AreClosed}
-use Rattle.sftp_history.specs.Readings.{outcomes_below}
-use Rattle.sftp_history.specs.Runs.{IsRun}
-use Rattle.sftp_history.specs.Settings.{greeting, setting_of}
-use Rattle.sftp_history.specs.Shown.{Shows}
-use Rattle.sftp_history.specs.Texts.{line, text_of}
-use Rattle.sftp_driver.specs.Causes.{Cause, EndCause}
-use Rattle.sftp_driver.specs.Logs.{Ends}
+use Rattle.session_model.specs.declared.entry.Entry.{Entry}
+use Rattle.session_model.specs.declared.report.Report.{Report}
+use Rattle.sftp_script.specs.declared.script.Script.{Script}
+use Rattle.session_model.specs.Closes.{AreClosed}
+use Rattle.session_model.specs.Readings.{outcomes_below}
+use Rattle.session_model.specs.Runs.{IsRun}
+use Rattle.session_model.specs.Settings.{greeting, setting_of}
+use Rattle.session_model.specs.Shown.{Shows}
+use Rattle.sftp_text.specs.Texts.{line, text_of}
+use Rattle.session_exchange.specs.Causes.{Cause, EndCause}
+use Rattle.session_driver.specs.Logs.{Ends}
 use Rattle.sftp_lanes.specs.Reported.{KeepsServed}
 use Rattle.sftp_lanes.specs.Seen.{given}
-use Rattle.sftp_cli.specs.declared.failure.Failure.{Failure}
-use Rattle.sftp_cli.specs.declared.failure.Failure.TheVariants.{SourceFailed, SinkFailed, OutOfMemory, DialFailed}
+use Rattle.sftp_cli.specs.declared.ending.Answered.{Answered}
+use Rattle.sftp_cli.specs.declared.ending.Answered.TheVariants.{Done, Stopped, Refused}
 
 -- ---- a whole run
 
--- The text is that of a run of the script's lanes: the frames of its journal and the outcomes, which are the values of the
--- plans. The log of the link that was put back shows VERSION and that journal, and each handle was closed exactly as often as it
--- was granted. Where the replies are those of a file machine, what was written is read back and is left.
+-- The text is that of a run of the script's lanes: the frames of its journal and the outcomes, which are the values of
+-- the plans. The log of the link that was put back shows VERSION and that journal, and each handle was closed exactly
+-- as often as it was granted. Where the replies are those of a file machine, what was written is read back and is left.
 pub record IsShown (last : Option LastLink) (script : Script) (text : List ℕ) : Type 0 where
   pub extensions : Extensions
   pub past : List Entry
@@ -57,9 +57,9 @@ error_name (errors.BackgroundTaskFailure fault) = Some (codes "BackgroundTaskFai
 abbrev pub error_line : List ℕ → List ℕ
 error_line name = line (codes "error " ++ name)
 
--- The run stopped with an error other than want of memory, and the line names it. The link failed only where its count of
--- faults rose and ended only where its last call found the end; any other error is the first thing that is wrong with the
--- frame that came last. The log shows how far the run had come.
+-- The run stopped with an error other than want of memory, and the line names it. The link failed only where its count
+-- of faults rose and ended only where its last call found the end; any other error is the first thing that is wrong
+-- with the frame that came last. The log shows how far the run had come.
 pub record IsStopped (last : Option LastLink) (script : Script) (text : List ℕ) : Type 0 where
   pub error : Error
   pub link : LastLink
@@ -73,13 +73,8 @@ pub record IsStopped (last : Option LastLink) (script : Script) (text : List ℕ
 
 -- ---- both
 
--- the status and the text of a run over a link: 0 and the run's, or 1 and the error that stopped it
-abbrev pub RunsOver : Option LastLink → Script → ℕ → List ℕ → Type 0
-RunsOver last script status text = ((status ≡ 0) × IsShown last script text) ⊎ ((status ≡ 1) × IsStopped last script text)
-
--- Of a failure, what holds of the dial: where the source failed it is untouched, and where it failed itself no link was put back.
-abbrev pub Undialled : Failure → Type 0 → Type 0 → Type 0
-Undialled SourceFailed untouched unlinked = untouched
-Undialled DialFailed untouched unlinked = unlinked
-Undialled SinkFailed untouched unlinked = Unit {0}
-Undialled OutOfMemory untouched unlinked = Unit {0}
+-- what is right to write for a run over a link: the run's text, or the error that stopped it
+abbrev pub RunsOver : Option LastLink → Script → Answered → List ℕ → Type 0
+RunsOver last script Done text = IsShown last script text
+RunsOver last script Stopped text = IsStopped last script text
+RunsOver last script Refused text = ⊥

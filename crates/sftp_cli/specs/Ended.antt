@@ -1,167 +1,36 @@
--- What the program did for a script, by the status that it ended with. What is right for a script is a parameter: it is one
--- thing over a server in memory, and another over a link to a server elsewhere.
-use Rattle.std.specs.Prelude.{◌≡◌, ◌⊎◌, ◌<◌, ℕ, List, [], Option, Some, Result, Ok, Err}
-use Rattle.sftp_history.specs.declared.reason.Reason.{Reason}
-use Rattle.sftp_history.specs.declared.script.Script.{Script}
-use Rattle.sftp_history.specs.Scripts.{script_of}
+-- How the program ends, by what the words of its command line ask for.
+use Rattle.std.specs.Prelude.{◌≡◌, ◌≢◌, ◌⊎◌, ◌<◌, ℕ, List, [], Option, Some, None, Result, Ok, Err, IfSome, IfErr}
+use Rattle.sftp_bulk.specs.Bulk.{bulk_script}
 use Rattle.sftp_link.specs.Told.{Told, Same, Went, WentLess, ReadUpTo}
-use Rattle.sftp_link.specs.Views.{LastLink}
+use Rattle.sftp_link.specs.Views.{DialView, SinkView, SourceView}
 use Rattle.sftp_map_server.specs.Serving.{Serving}
-use Rattle.sftp_cli.specs.declared.failure.Failure.{Failure}
-use Rattle.sftp_cli.specs.declared.failure.Failure.TheVariants.{SourceFailed, SinkFailed, OutOfMemory, DialFailed}
-use Rattle.sftp_cli.specs.Dialled.{IsShown, IsStopped, RunsOver}
+use Rattle.sftp_script.specs.declared.reason.Reason.{Reason}
+use Rattle.sftp_script.specs.declared.script.Script.{Script}
+use Rattle.sftp_script.specs.Scripts.{script_of}
+use Rattle.sftp_cli.specs.declared.ending.Answered.{Answered}
+use Rattle.sftp_cli.specs.declared.ending.Answered.TheVariants.{Done, Stopped, Refused}
+use Rattle.sftp_cli.specs.declared.ending.Failure.{Failure}
+use Rattle.sftp_cli.specs.declared.ending.Failure.TheVariants.{SourceFailed, SinkFailed, OutOfMemory, DialFailed}
 use Rattle.sftp_cli.specs.declared.printed.Form.TheVariants as form
-use Rattle.sftp_cli.specs.Printed.{IsAnswer, IsPrinted, RunsInMemory, refusal_line}
+use Rattle.sftp_cli.specs.Dialled.{RunsOver}
+use Rattle.sftp_cli.specs.Outside.{Outside}
+use Rattle.sftp_cli.specs.Printed.{IsPrinted, IsServerOf, refusal_line}
+use Rattle.sftp_cli.specs.Words.{Asked, InMemory, AtPath, Bulk, Text}
 
--- one byte more than a script may have
-abbrev pub read_limit : ℕ
-read_limit = 16777217
+-- an answer was written whole, or a failure says why not
+abbrev pub End : Type 0
+End = Result Answered Failure
 
--- the bytes are all that was left, and none is left now
-abbrev pub GaveAll : List ℕ → List ℕ → List ℕ → Type 0
-GaveAll bytes before now = (before ≡ bytes) × (now ≡ [])
+abbrev pub status_of : End → ℕ
+status_of (Ok Done) = 0
+status_of (Ok Stopped) = 1
+status_of (Ok Refused) = 2
+status_of (Err SourceFailed) = 3
+status_of (Err SinkFailed) = 4
+status_of (Err OutOfMemory) = 5
+status_of (Err DialFailed) = 6
 
--- the bytes read as a script
-abbrev pub IsScript : List ℕ → Type 0
-IsScript bytes = (script : Script) × (script_of bytes ≡ Ok script)
-
--- the source was read to its end, and what it gave is a script
-pub record IsRead (left left_now : Option (List ℕ)) : Type 0 where
-  pub bytes : List ℕ
-  pub gave : Told (GaveAll bytes) left left_now
-  pub reads : IsScript bytes
-
--- The script was run: the bytes that the source gave, which are all that it had, read as a script, and a text was written
--- that is right for it.
-pub record Ran (right : Script → List ℕ → Type 0) (left left_now written written_now : Option (List ℕ)) : Type 0 where
-  pub bytes : List ℕ
-  pub script : Script
-  pub text : List ℕ
-  pub gave : Told (GaveAll bytes) left left_now
-  pub reads : script_of bytes ≡ Ok script
-  pub printed : right script text
-  pub wrote : Told (Went text) written written_now
-
--- The script was refused: the bytes that the source gave, all that it had or too many, don't read as a script, and the
--- line that says why was written.
-pub record Refused (left left_now written written_now : Option (List ℕ)) : Type 0 where
-  pub bytes : List ℕ
-  pub number : ℕ
-  pub why : Reason
-  pub gave : Told (ReadUpTo read_limit bytes) left left_now
-  pub reads : script_of bytes ≡ Err (number, why)
-  pub wrote : Told (Went (refusal_line number why)) written written_now
-
--- the whole answer to what the source gave was written
-pub record Answered (right : Script → ℕ → List ℕ → Type 0) (status : ℕ) (left left_now written written_now : Option (List ℕ)) : Type 0 where
-  pub bytes : List ℕ
-  pub text : List ℕ
-  pub gave : Told (ReadUpTo read_limit bytes) left left_now
-  pub answer : IsAnswer right (script_of bytes) status text
-  pub wrote : Told (Went text) written written_now
-
--- a front of the answer to what the source gave was written, and not the whole
-pub record Cut (right : Script → ℕ → List ℕ → Type 0) (left left_now written written_now : Option (List ℕ)) : Type 0 where
-  pub bytes : List ℕ
-  pub status : ℕ
-  pub text : List ℕ
-  pub gave : Told (ReadUpTo read_limit bytes) left left_now
-  pub answer : IsAnswer right (script_of bytes) status text
-  pub wrote : Told (WentLess text) written written_now
-
--- Where the source failed nothing was written. Where the dial failed all was read and is a script, and nothing was written.
--- Where the sink failed a front of the answer was written; where there was no memory either.
-abbrev pub Stopped : (Script → ℕ → List ℕ → Type 0) → Failure → Option (List ℕ) → Option (List ℕ) → Option (List ℕ) → Option (List ℕ) → Type 0
-Stopped right SourceFailed left left_now written written_now = Told Same written written_now
-Stopped right DialFailed left left_now written written_now = IsRead left left_now × Told Same written written_now
-Stopped right SinkFailed left left_now written written_now = Cut right left left_now written written_now
-Stopped right OutOfMemory left left_now written written_now = Told Same written written_now ⊎ Cut right left left_now written written_now
-
--- the status of a failure
-abbrev pub code : Failure → ℕ
-code SourceFailed = 3
-code SinkFailed = 4
-code OutOfMemory = 5
-code DialFailed = 6
-
--- one of the statuses that each of the program's words may end with
-abbrev pub IsStatus : ℕ → Type 0
-IsStatus status = (status ≡ 0) ⊎ (status ≡ 2) ⊎ (status ≡ 3) ⊎ (status ≡ 4) ⊎ (status ≡ 5)
-
--- a status that says why the answer wasn't written says so truly
-abbrev pub Unfinished : (Script → ℕ → List ℕ → Type 0) → ℕ → Option (List ℕ) → Option (List ℕ) → Option (List ℕ) → Option (List ℕ) → Type 0
-Unfinished right status left left_now written written_now = (why : Failure) → status ≡ code why → Stopped right why left left_now written written_now
-
--- how the program ends with a script over a server in memory, where it isn't run whole
-pub record EndsInMemory (kept : Option Serving) (status : ℕ) (left left_now written written_now : Option (List ℕ)) : Type 0 where
-  pub refused : status ≡ 2 → Refused left left_now written written_now
-  pub unfinished : Unfinished (RunsInMemory kept) status left left_now written written_now
-
--- how the program ends with a script over a link
-pub record EndsOverLink (last : Option LastLink) (status : ℕ) (left left_now written written_now : Option (List ℕ)) : Type 0 where
-  pub ran : status ≡ 0 → Ran (λ script text. IsShown last script text) left left_now written written_now
-  pub stopped : status ≡ 1 → Ran (λ script text. IsStopped last script text) left left_now written written_now
-  pub refused : status ≡ 2 → Refused left left_now written written_now
-  pub unfinished : Unfinished (RunsOver last) status left left_now written written_now
-
--- ---- a script that three numbers make
-
--- it was run over a server in memory, and the whole summary of the run was written
-pub record Summed (kept : Option Serving) (script : Script) (written written_now : Option (List ℕ)) : Type 0 where
-  pub text : List ℕ
-  pub summary : IsPrinted form.Summary kept script text
-  pub wrote : Told (Went text) written written_now
-
--- it was run, and a prefix of the summary was written, and not the whole
-pub record SummedLess (kept : Option Serving) (script : Script) (written written_now : Option (List ℕ)) : Type 0 where
-  pub text : List ℕ
-  pub summary : IsPrinted form.Summary kept script text
-  pub wrote : Told (WentLess text) written written_now
-
--- where the sink failed a prefix of the summary was written; where there was no memory, that or nothing
-abbrev pub SummaryStopped : Option Serving → Script → Failure → Option (List ℕ) → Option (List ℕ) → Type 0
-SummaryStopped kept script SourceFailed written written_now = ⊥
-SummaryStopped kept script SinkFailed written written_now = SummedLess kept script written written_now
-SummaryStopped kept script OutOfMemory written written_now = Told Same written written_now ⊎ SummedLess kept script written written_now
-SummaryStopped kept script DialFailed written written_now = ⊥
-
--- how the program ends with such a script: the summary was written, or a failure says why it was not
-abbrev pub EndsSummed : Option Serving → Script → ℕ → Option (List ℕ) → Option (List ℕ) → Type 0
-EndsSummed kept script status written written_now =
-    ((status ≡ 0) × Summed kept script written written_now)
-    ⊎ ((why : Failure) × ((status ≡ code why) × SummaryStopped kept script why written written_now))
-
--- ---- the dial, and causes
-
--- The dial comes behind the script: it is untouched, or the source was read to its end and gave a script.
-abbrev pub DialsLast : Type 0 → Option (List ℕ) → Option (List ℕ) → Type 0
-DialsLast untouched left left_now = untouched ⊎ IsRead left left_now
-
--- By the status, what holds of the dial: it is untouched where the script was refused or the source failed, and no link was
--- put back where it failed itself.
-abbrev pub IsUndialled : ℕ → Type 0 → Type 0 → Type 0
-IsUndialled status untouched unlinked = ((status ≡ 2) ⊎ (status ≡ 3) → untouched) × (status ≡ 6 → unlinked)
-
--- a count of faults rose where the status is this one, and else is as before
-abbrev pub HasCause : ℕ → ℕ → ℕ → ℕ → Type 0
-HasCause n status before now = ((status ≡ n) × (before < now)) ⊎ ((status ≡ n → ⊥) × (now ≡ before))
-
--- a status for what reads as a script, where these are, and for what does not
-abbrev pub EndsFor : (ℕ → Type 0) → Result Script (ℕ × Reason) → ℕ → Type 0
-EndsFor ends (Ok script) status = ends status
-EndsFor ends (Err refused) status = status ≡ 2
-
--- where the source tells what it had, the status is one for it, unless there was no memory
-abbrev pub Completes : (ℕ → Type 0) → ℕ → Option (List ℕ) → Type 0
-Completes ends status left = (had : List ℕ) → left ≡ Some had → EndsFor ends (script_of had) status ⊎ (status ≡ 5)
-
--- a run over a server in memory ends whole
-abbrev pub IsWhole : ℕ → Type 0
-IsWhole status = status ≡ 0
-
--- over a link a run ends whole, or with an error that stopped it, or there was no link
-abbrev pub IsLinkStatus : ℕ → Type 0
-IsLinkStatus status = (status ≡ 0) ⊎ (status ≡ 1) ⊎ (status ≡ 6)
+-- ---- causes
 
 -- a count of faults rose where this is the failure, and else is as before
 abbrev pub SourceCause : {T : Type 0} → Result T Failure → ℕ → ℕ → Type 0
@@ -175,3 +44,159 @@ SinkCause other before now = now ≡ before
 abbrev pub DialCause : {T : Type 0} → Result T Failure → ℕ → ℕ → Type 0
 DialCause (Err DialFailed) before now = before < now
 DialCause other before now = now ≡ before
+
+-- ---- what was read
+
+-- one byte more than a script may have
+abbrev pub read_limit : ℕ
+read_limit = 16777217
+
+-- the bytes are all that was left, and none is left now
+abbrev pub GaveAll : List ℕ → List ℕ → List ℕ → Type 0
+GaveAll bytes before now = (before ≡ bytes) × (now ≡ [])
+
+-- What the source gave, by what it reads as: a script is all that the source had; what is none is all that it had, or
+-- as many bytes as may be read.
+abbrev pub Gave : Result Script (ℕ × Reason) → List ℕ → SourceView → SourceView → Type 0
+Gave (Ok script) bytes before now = Told (GaveAll bytes) before.left now.left
+Gave (Err why) bytes before now = Told (ReadUpTo read_limit bytes) before.left now.left
+
+-- the source was read to its end, and gave this script
+pub record GaveScript (script : Script) (before now : SourceView) : Type 0 where
+  pub bytes : List ℕ
+  pub gave : Told (GaveAll bytes) before.left now.left
+  pub reads : script_of bytes ≡ Ok script
+
+-- ---- what was written
+
+-- an answer of which a prefix was written, and not the whole
+pub record WroteLess (right : Answered → List ℕ → Type 0) (before now : SinkView) : Type 0 where
+  pub answered : Answered
+  pub text : List ℕ
+  pub is : right answered text
+  pub wrote : Told (WentLess text) before.written now.written
+
+-- an answer that was written whole
+pub record WroteAll (right : Answered → List ℕ → Type 0) (answered : Answered) (before now : SinkView) : Type 0 where
+  pub text : List ℕ
+  pub is : right answered text
+  pub wrote : Told (Went text) before.written now.written
+
+-- By how the program ends, what was written of an answer that is right: all of it; or, where the sink failed, a prefix;
+-- or, for want of memory, a prefix or nothing; or nothing.
+abbrev pub Wrote : (Answered → List ℕ → Type 0) → End → SinkView → SinkView → Type 0
+Wrote right (Ok answered) before now = WroteAll right answered before now
+Wrote right (Err SourceFailed) before now = Told Same before.written now.written
+Wrote right (Err SinkFailed) before now = WroteLess right before now
+Wrote right (Err OutOfMemory) before now = Told Same before.written now.written ⊎ WroteLess right before now
+Wrote right (Err DialFailed) before now = Told Same before.written now.written
+
+-- the answer is right for what the source gave
+pub record AnswersSource (right : Result Script (ℕ × Reason) → Answered → List ℕ → Type 0) (before now : SourceView)
+    (answered : Answered) (text : List ℕ) : Type 0 where
+  pub bytes : List ℕ
+  pub gave : Gave (script_of bytes) bytes before now
+  pub is : right (script_of bytes) answered text
+
+-- ---- a text alone
+
+-- It ended by the sink alone: with an answer that is right, or because the sink failed, or for want of memory.
+pub record EndsAtSink (right : Answered → List ℕ → Type 0) (end : End) (before now : SinkView) : Type 0 where
+  pub wrote : Wrote right end before now
+  pub cause : SinkCause end before.faults now.faults
+  pub only : IfErr end (λ why. (why ≢ SourceFailed) × (why ≢ DialFailed))
+
+-- just this answer
+abbrev pub Only : Answered → List ℕ → Answered → List ℕ → Type 0
+Only right_answer right_text answered text = (answered ≡ right_answer) × (text ≡ right_text)
+
+-- ---- a script over a server in memory
+
+-- a script is run whole, over a server that is kept; what is none is refused, and nothing is kept
+abbrev pub RightInMemory : Option Serving → Result Script (ℕ × Reason) → Answered → List ℕ → Type 0
+RightInMemory kept (Ok script) Done text = IsPrinted form.Whole kept script text
+RightInMemory kept (Err why) Refused text = (text ≡ refusal_line why.0 why.1) × (kept ≡ None)
+RightInMemory kept read answered text = ⊥
+
+-- What is kept where no answer tells it: nothing where the source failed; and for want of memory, if anything, the
+-- server of the script that the source gave.
+abbrev pub KeptInMemory : Failure → Option Serving → SourceView → SourceView → Type 0
+KeptInMemory SourceFailed kept before now = kept ≡ None
+KeptInMemory OutOfMemory kept before now =
+    IfSome kept (λ server. (script : Script) × GaveScript script before now × IsServerOf script server)
+KeptInMemory SinkFailed kept before now = Unit {0}
+KeptInMemory DialFailed kept before now = ⊥
+
+pub record EndsInMemory (end : End) (kept : Option Serving) (from from_now : SourceView) (to to_now : SinkView) : Type 0
+  where
+    pub wrote : Wrote (AnswersSource (RightInMemory kept) from from_now) end to to_now
+    pub left : IfErr end (λ why. KeptInMemory why kept from from_now)
+    pub source : SourceCause end from.faults from_now.faults
+    pub sink : SinkCause end to.faults to_now.faults
+
+-- ---- a script over a link
+
+-- it was dialled once, at this path
+abbrev pub DialledAt : {History : Type 0} → (List ℕ → History → History) → List ℕ → DialView History → DialView History
+    → Type 0
+DialledAt dialled path before now = now.history ≡ dialled path before.history
+
+-- a script is run over a link that was dialled once at the path, and put back; what is none is refused before any dial
+abbrev pub RightOverLink : {History : Type 0} → (List ℕ → History → History) → List ℕ → DialView History
+    → DialView History → Result Script (ℕ × Reason) → Answered → List ℕ → Type 0
+RightOverLink dialled path before now (Ok script) answered text =
+    DialledAt dialled path before now × RunsOver now.last script answered text
+RightOverLink dialled path before now (Err why) Refused text = (text ≡ refusal_line why.0 why.1) × (now ≡ before)
+RightOverLink dialled path before now (Err why) answered text = ⊥
+
+-- What became of the dial where no answer tells it, by the failure: it comes behind a script that was read to its end,
+-- and where it failed itself no link was put back.
+abbrev pub DialsBehind : {History : Type 0} → (List ℕ → History → History) → List ℕ → Type 0 → Failure
+    → DialView History → DialView History → Type 0
+DialsBehind dialled path read SourceFailed before now = now ≡ before
+DialsBehind dialled path read SinkFailed before now = Unit {0}
+DialsBehind dialled path read OutOfMemory before now = (now ≡ before) ⊎ (read × DialledAt dialled path before now)
+DialsBehind dialled path read DialFailed before now =
+    read × DialledAt dialled path before now × (now.last ≡ before.last)
+
+pub record EndsOverLink {History : Type 0} (dialled : List ℕ → History → History) (path : List ℕ) (end : End)
+    (before now : Outside History) : Type 0 where
+  pub wrote : Wrote (AnswersSource (RightOverLink dialled path before.dial now.dial) before.source now.source) end
+      before.sink now.sink
+  pub dial : IfErr end (λ why. DialsBehind dialled path
+      ((script : Script) × GaveScript script before.source now.source) why before.dial now.dial)
+  pub source_cause : SourceCause end before.source.faults now.source.faults
+  pub sink_cause : SinkCause end before.sink.faults now.sink.faults
+  pub dial_cause : DialCause end before.dial.faults now.dial.faults
+
+-- ---- a script that three numbers make
+
+-- the summary of a run over a server that is kept
+abbrev pub RightSummary : Option Serving → Script → Answered → List ℕ → Type 0
+RightSummary kept script answered text = (answered ≡ Done) × IsPrinted form.Summary kept script text
+
+pub record EndsSummed (script : Script) (end : End) (kept : Option Serving) (before now : SinkView) : Type 0 where
+  pub writes : EndsAtSink (RightSummary kept script) end before now
+  pub left : IfErr end (λ why. IfSome kept (λ server. IsServerOf script server))
+
+-- ---- all words
+
+-- by what is asked for: how it ends, what is kept, and that what is not needed stays as it was
+abbrev pub EndsSo : {History : Type 0} → (List ℕ → History → History) → Asked → End → Option Serving → Outside History
+    → Outside History → Type 0
+EndsSo dialled InMemory end kept before now =
+    EndsInMemory end kept before.source now.source before.sink now.sink × (now.dial ≡ before.dial)
+EndsSo dialled (AtPath path) end kept before now = EndsOverLink dialled path end before now × (kept ≡ None)
+EndsSo dialled (Bulk n) end kept before now =
+    EndsSummed (bulk_script n.start n.lanes n.calls) end kept before.sink now.sink
+    × (now.source ≡ before.source) × (now.dial ≡ before.dial)
+EndsSo dialled (Text answered text) end kept before now =
+    EndsAtSink (Only answered text) end before.sink now.sink
+    × (kept ≡ None) × (now.source ≡ before.source) × (now.dial ≡ before.dial)
+
+-- the program ends with this status
+pub record ProgramEnds {History : Type 0} (dialled : List ℕ → History → History) (asked : Asked) (status : ℕ)
+    (kept : Option Serving) (before now : Outside History) : Type 0 where
+  pub end : End
+  pub is : status ≡ status_of end
+  pub so : EndsSo dialled asked end kept before now

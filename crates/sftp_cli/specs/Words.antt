@@ -1,13 +1,37 @@
 -- What the program writes and answers for the words of its command line.
-use Rattle.std.specs.Prelude.{◌≡◌, ◌≤◌, ◌⊎◌, ℕ, ◌*◌, ◌-◌, ◌^◌, nat_le, Bool, false, ◌||◌, List, [], ◌∷◌, ◌++◌, Option, None, Result, Ok, Err, codes, if◌then◌else◌}
+use Rattle.std.specs.Prelude.{
+  ◌≡◌,
+  ◌≤◌,
+  ℕ,
+  ◌*◌,
+  ◌-◌,
+  ◌^◌,
+  nat_le,
+  ◌==◌,
+  Bool,
+  false,
+  List,
+  [],
+  ◌∷◌,
+  ◌++◌,
+  Option,
+  Some,
+  None,
+  Result,
+  Ok,
+  Err,
+  codes,
+  if◌then◌else◌,
+}
 use Rattle.std.specs.Result.{result_ok}
 use Rattle.std.specs.Str.{bytes_eq}
 use Rattle.ssh_encoding.specs.Reading.{◌>>=◌}
-use Rattle.sftp_history.specs.declared.reason.Reason.{Reason}
-use Rattle.sftp_history.specs.declared.reason.Reason.TheVariants as reason
-use Rattle.sftp_history.specs.Lines.{number_in}
-use Rattle.sftp_link.specs.Told.{Told, Went, WentLess}
+use Rattle.sftp_script.specs.declared.reason.Reason.{Reason}
+use Rattle.sftp_script.specs.declared.reason.Reason.TheVariants as reason
+use Rattle.sftp_script.specs.Lines.{number_in}
 use Rattle.sftp_cli.specs.declared.bulk.Numbers.{Numbers}
+use Rattle.sftp_cli.specs.declared.ending.Answered.{Answered}
+use Rattle.sftp_cli.specs.declared.ending.Answered.TheVariants.{Done, Refused}
 
 -- ---- texts
 
@@ -49,6 +73,15 @@ version_text = codes "tilfrjon 0.1.0\n"
 unfoldable pub faulty_text : List ℕ
 faulty_text = codes "line 0 words\n"
 
+-- what standard error is told of a status
+abbrev pub cause_of : ℕ → Option (List ℕ)
+cause_of status =
+    if status == 3 then Some (codes "standard input failed")
+    else if status == 4 then Some (codes "standard output failed")
+    else if status == 5 then Some (codes "out of memory")
+    else if status == 6 then Some (codes "nothing answers")
+    else None
+
 -- ---- words
 
 -- the one word `script`
@@ -57,12 +90,12 @@ is_script [] = false
 is_script (word ∷ []) = bytes_eq word (codes "script")
 is_script (word ∷ another ∷ words) = false
 
--- the word `unix`, and a path behind it
-abbrev pub is_unix : List (List ℕ) → Bool
-is_unix [] = false
-is_unix (word ∷ []) = false
-is_unix (word ∷ path ∷ []) = bytes_eq word (codes "unix")
-is_unix (word ∷ path ∷ another ∷ words) = false
+-- the path behind the word `unix`
+abbrev pub path_of : List (List ℕ) → Option (List ℕ)
+path_of [] = None
+path_of (word ∷ []) = None
+path_of (word ∷ path ∷ []) = if bytes_eq word (codes "unix") then Some path else None
+path_of (word ∷ path ∷ another ∷ words) = None
 
 -- three numbers: a start of 64 bits, up to 256 lanes, and up to 4096 calls for each, which are up to 16384 in all
 abbrev pub numbers_in : List ℕ → List ℕ → List ℕ → Result Numbers Reason
@@ -84,24 +117,40 @@ bulk_of [] = None
 bulk_of (word ∷ []) = None
 bulk_of (word ∷ start ∷ []) = None
 bulk_of (word ∷ start ∷ lanes ∷ []) = None
-bulk_of (word ∷ start ∷ lanes ∷ calls ∷ []) = if bytes_eq word (codes "bulk") then result_ok (numbers_in start lanes calls) else None
+bulk_of (word ∷ start ∷ lanes ∷ calls ∷ []) = if bytes_eq word (codes "bulk") then
+    result_ok (numbers_in start lanes calls) else None
 bulk_of (word ∷ start ∷ lanes ∷ calls ∷ another ∷ words) = None
 
--- words with which a script is read
-abbrev pub takes_script : List (List ℕ) → Bool
-takes_script words = is_script words || is_unix words
-
--- of other words: 0 for the two that it knows alone, 2 for all else
-abbrev pub status_of : List (List ℕ) → ℕ
-status_of [] = 2
-status_of (word ∷ []) = if bytes_eq word (codes "--help") then 0 else if bytes_eq word (codes "--version") then 0 else 2
-status_of (word ∷ another ∷ words) = 2
+-- of other words: two are known, and all else is refused
+abbrev pub answered_of : List (List ℕ) → Answered
+answered_of [] = Refused
+answered_of (word ∷ []) = if bytes_eq word (codes "--help") then Done else if bytes_eq word (codes "--version") then
+    Done else Refused
+answered_of (word ∷ another ∷ words) = Refused
 
 abbrev pub text_of : List (List ℕ) → List ℕ
 text_of [] = faulty_text
-text_of (word ∷ []) = if bytes_eq word (codes "--help") then help_text else if bytes_eq word (codes "--version") then version_text else faulty_text
+text_of (word ∷ []) = if bytes_eq word (codes "--help") then help_text else if bytes_eq word (codes "--version") then
+    version_text else faulty_text
 text_of (word ∷ another ∷ words) = faulty_text
 
--- the whole text was written and the status is its own, or a front of it and the status says why
-abbrev pub Writes : ℕ → ℕ → List ℕ → Option (List ℕ) → Option (List ℕ) → Type 0
-Writes result status text before now = ((result ≡ status) × Told (Went text) before now) ⊎ (((result ≡ 4) ⊎ (result ≡ 5)) × Told (WentLess text) before now)
+-- ---- what is asked for
+
+-- a script over a server in memory, or over a link to the server at a path, or the script of three numbers in memory,
+-- or a text and what it says
+pub data Asked : Type 0 where
+  InMemory : Asked
+  AtPath : List ℕ → Asked
+  Bulk : Numbers → Asked
+  Text : Answered → List ℕ → Asked
+
+abbrev asked_by_numbers : Option Numbers → List (List ℕ) → Asked
+asked_by_numbers (Some n) words = Bulk n
+asked_by_numbers None words = Text (answered_of words) (text_of words)
+
+abbrev asked_by_path : Option (List ℕ) → List (List ℕ) → Asked
+asked_by_path (Some path) words = AtPath path
+asked_by_path None words = asked_by_numbers (bulk_of words) words
+
+abbrev pub asked_by : List (List ℕ) → Asked
+asked_by words = if is_script words then InMemory else asked_by_path (path_of words) words

@@ -1,6 +1,9 @@
-ghost use Rattle.std.specs.Prelude.{◌≡◌, map, is_some};
+ghost use Rattle.std.specs.Prelude.{◌≡◌, map};
+ghost use Rattle.std.specs.Option.{option_copied};
 ghost use Rattle.std.specs.String.{string_bytes};
-ghost use Rattle.sftp_cli.specs.Words.{faulty_text, help_text, is_script, is_unix, status_of, text_of, version_text};
+ghost use Rattle.sftp_cli.specs.Words.{answered_of, faulty_text, help_text, is_script, path_of, text_of, version_text};
+
+use crate::ending::Answered;
 
 /// What `--help` writes.
 #[tactic(auto, unfolding(crate::specs::Words::help_text))]
@@ -53,10 +56,10 @@ fn faulty_text() -> &'static str
     "line 0 words\n"
 }
 
-/// A text to write, and the status to end with.
+/// A text to write, and what it says.
 #[derive(Clone, Copy)]
 pub(crate) struct Answer {
-    pub(crate) status: u8,
+    pub(crate) answered: Answered,
     pub(crate) text: &'static str,
 }
 
@@ -72,7 +75,7 @@ pub(crate) fn is_script(words: &[String]) -> bool
 
 /// The path, where the words are `unix` and a path.
 pub(crate) fn unix_path(words: &[String]) -> Option<&str>
-    ensures { is_some result ≡ is_unix (map string_bytes words.now) }
+    ensures { option_copied result ≡ path_of (map string_bytes words.now) }
 {
     match words {
         [word, path] => {
@@ -88,25 +91,25 @@ pub(crate) fn unix_path(words: &[String]) -> Option<&str>
 
 /// The answer to the other words of a command line, without the program's name.
 pub(crate) fn answer_to(words: &[String]) -> Answer
-    ensures status { result.status ≡ status_of (map string_bytes words.now) }
+    ensures answered { result.answered ≡ answered_of (map string_bytes words.now) }
     ensures text { result.text.now ≡ text_of (map string_bytes words.now) }
 {
     if let [word] = words {
         if word.as_str() == "--help" {
             return Answer {
-                status: 0,
+                answered: Answered::Done,
                 text: help_text(),
             };
         }
         if word.as_str() == "--version" {
             return Answer {
-                status: 0,
+                answered: Answered::Done,
                 text: version_text(),
             };
         }
     }
     Answer {
-        status: 2,
+        answered: Answered::Refused,
         text: faulty_text(),
     }
 }

@@ -1,18 +1,17 @@
 // A script that three numbers make is run over a server in memory, and the summary of the run is written.
-ghost use Rattle.std.specs.Prelude.{◌≡◌, ◌<◌, ◌-◌, ◌^◌, map, IfOk, IfErr, IfSome};
+ghost use Rattle.std.specs.Prelude.{◌≡◌, ◌<◌, ◌-◌, ◌^◌, None, map, IfOk, IfSome};
 ghost use Rattle.std.specs.String.{string_bytes};
 ghost use Rattle.sftp_bulk.specs.Bulk.{bulk_script};
-ghost use Rattle.sftp_cli.specs.Ended.{SinkCause, Summed, SummaryStopped};
+ghost use Rattle.sftp_cli.specs.Ended.{EndsSummed};
 ghost use Rattle.sftp_cli.specs.Words.{IsBulk, bulk_of, numbers_in};
 
-use crate::failure::Failure;
+use crate::ending::{Answered, Failure};
 use crate::printed::{Form, text_of_run};
-use crate::script::{RAN, write_whole};
-use sftp_bulk::{bulk_lanes_are_ok, bulk_script, bulk_servers_may_begin};
-use sftp_history::Reason;
+use crate::script::write_answer;
+use sftp_bulk::bulk_script;
 use sftp_link::Sink;
 use sftp_map_server::MapServer;
-use sftp_script::number_in;
+use sftp_script::{Reason, number_in};
 use std::alloc::Global;
 
 /// The most lanes of such a script.
@@ -71,23 +70,18 @@ pub(crate) fn bulk_numbers(words: &[String]) -> Option<Numbers>
 }
 
 /// Runs the script of three numbers over a server in memory, which is left in `kept`, and writes the summary of the run.
-/// Answers the status.
 pub(crate) fn run_bulk<K: Sink>(
     alloc: Global,
     numbers: Numbers,
     sink: &mut K,
     kept: &mut Option<MapServer>,
-) -> Result<u8, Failure>
+) -> Result<Answered, Failure>
     requires bulk { IsBulk numbers }
-    requires sink { K.faults sink.old < 2 ^ 64 - 1 }
-    ensures ok { IfOk result (λ status. (status ≡ 0) × Summed kept.new (bulk_script numbers.start numbers.lanes numbers.calls) (K.written sink.old) (K.written sink.new)) }
-    ensures stopped { IfErr result (λ e. SummaryStopped kept.new (bulk_script numbers.start numbers.lanes numbers.calls) e (K.written sink.old) (K.written sink.new)) }
-    ensures cause { SinkCause result (K.faults sink.old) (K.faults sink.new) }
+    requires none { kept.old ≡ None }
+    requires sink { (K.state sink.old).faults < 2 ^ 64 - 1 }
+    ensures { EndsSummed (bulk_script numbers.start numbers.lanes numbers.calls) result kept.new (K.state sink.old) (K.state sink.new) }
 {
-    bulk_lanes_are_ok();
-    bulk_servers_may_begin();
     let script = bulk_script(alloc, numbers.start, numbers.lanes, numbers.calls)?;
     let text = text_of_run(alloc, Form::Summary, script, kept)?;
-    write_whole(sink, &text)?;
-    Ok(RAN)
+    write_answer(sink, Answered::Done, &text)
 }

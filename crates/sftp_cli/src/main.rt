@@ -4,7 +4,7 @@
 mod answer;
 mod bulk;
 mod dialled;
-mod failure;
+mod ending;
 mod laws;
 mod printed;
 mod refusal;
@@ -13,32 +13,49 @@ mod script;
 #[cfg(test)]
 mod tests;
 
-pub use laws::{scripts_fix_texts, servers_in_memory_serve_files};
+pub use laws::{
+    runs_are_complete, scripts_fix_texts, servers_in_memory_serve_files, statuses_have_causes,
+};
 pub use run::run;
 use sftp_link::{ReadSource, UnixDial, WriteSink};
 use std::env;
+use std::io::ErrorKind;
 use std::process::ExitCode;
 
 fn main(rt: HostRuntime) -> ExitCode {
     let mut words = Vec::new(rt.alloc());
-    // arguments that can't be read are no words, and no words are refused
-    if let Ok(args) = env::args(&rt) {
-        for word in args.skip(1) {
-            if words.push(word).is_err() {
-                return ExitCode::from(failure::OUT_OF_MEMORY);
+    let mut starved = false;
+    match env::args(&rt) {
+        Ok(args) => {
+            for word in args.skip(1) {
+                starved |= words.push(word).is_err();
             }
         }
+        // an argument that is no text is no word, and no words are refused
+        Err(error) => starved = error.kind() == ErrorKind::OutOfMemory,
     }
-    let mut source = ReadSource::new(rt.stdin());
-    let mut sink = WriteSink::new(rt.stdout());
-    let mut dial = UnixDial::new(&rt);
-    let mut kept = None;
-    ExitCode::from(run(
-        rt.alloc(),
-        &words,
-        &mut source,
-        &mut sink,
-        &mut dial,
-        &mut kept,
-    ))
+    let status = if starved {
+        ending::OUT_OF_MEMORY
+    } else {
+        let mut source = ReadSource::new(rt.stdin());
+        let mut sink = WriteSink::new(rt.stdout());
+        let mut dial = UnixDial::new(&rt);
+        let mut kept = None;
+        run(
+            rt.alloc(),
+            &words,
+            &mut source,
+            &mut sink,
+            &mut dial,
+            &mut kept,
+        )
+    };
+    if let Some(cause) = ending::cause_of(status) {
+        // where standard error fails too there is nobody to tell
+        let _ = match answer::unix_path(&words) {
+            Some(path) if status == ending::NO_LINK => eprintln!(rt; "sftp_cli: {cause} at {path}"),
+            _ => eprintln!(rt; "sftp_cli: {cause}"),
+        };
+    }
+    ExitCode::from(status)
 }

@@ -1,22 +1,21 @@
 // A script that was read is run over a server of its files and directories, and the text of the run is made.
-ghost use Rattle.std.specs.Prelude.{◌≡◌, ◌++◌, [], true, IfOk, OnOk};
-ghost use Rattle.sftp_history.specs.Lanes.{are_ok};
-ghost use Rattle.sftp_history.specs.Texts.{dir_lines, file_lines};
+ghost use Rattle.std.specs.Prelude.{◌≡◌, ◌++◌, [], None, true, IfErr, IfOk, IfSome, IsSomeAnd, OnOk};
+ghost use Rattle.plan_model.specs.Lanes.{are_ok};
+ghost use Rattle.sftp_text.specs.Texts.{dir_lines, file_lines};
 ghost use Rattle.sftp_cli.specs.declared.printed.Form.TheVariants as form;
-ghost use Rattle.sftp_model.specs.Fits.{FitsSet};
 ghost use Rattle.sftp_model.specs.declared.error.Error.TheVariants as errors;
-ghost use Rattle.sftp_tree.specs.FirstTree.{may_begin};
-ghost use Rattle.sftp_tree.specs.Listing.{dir_at, file_at};
-ghost use Rattle.sftp_served.specs.Unopened.{IsUnopened};
-ghost use Rattle.sftp_cli.specs.Printed.{IsPrinted, IsServedReport, IsTextOver, bytes_left, dir_text_of, file_len_of, file_text_of, report_text};
+ghost use Rattle.machine_model.specs.Listing.{dir_at, file_at};
+ghost use Rattle.sftp_map_server.specs.Unopened.{IsUnopened};
+ghost use Rattle.session_model.specs.declared.report.Report.{Report};
+ghost use Rattle.sftp_script.specs.CanRun.{CanRun};
+ghost use Rattle.sftp_cli.specs.Printed.{IsPrinted, IsServedReport, IsServerOf, bytes_left, dir_text_of, file_len_of, file_text_of, report_text};
 
-use sftp_bulk::{summary_of, traces_keep_requests, write_summary};
-use sftp_core::SftpOptions;
-use sftp_history::{Lane, Report, Script, Turn};
+use session_model::{Lane, Report, Turn};
+use sftp_bulk::{summary_of, write_summary};
 use sftp_lanes::run_lanes;
-use sftp_map_server::MapServer;
-use sftp_model::Error;
-use sftp_served::new_server;
+use sftp_map_server::{MapServer, new_server};
+use sftp_model::{Error, SftpOptions};
+use sftp_script::Script;
 use sftp_text::{write_dir, write_file, write_text};
 use ssh_encoding::OutOfMemory;
 use std::alloc::Global;
@@ -185,23 +184,31 @@ fn report_text(
     }
 }
 
-/// Runs lanes over a server, and gives the text of the run.
+/// Runs lanes over a server that nothing was sent to, and gives the text of the run. The server is kept then, whatever came of
+/// the run.
 fn text_over(
     alloc: Global,
     form: Form,
-    server: &mut MapServer,
+    mut server: MapServer,
     lanes: &[Lane],
     turns: &[Turn],
     options: &SftpOptions,
+    kept: &mut Option<MapServer>,
 ) -> Result<Vec<u8>, OutOfMemory>
     requires lanes { are_ok lanes.now ≡ true }
-    requires unopened { IsUnopened server.old.first }
-    requires quiet { server.old.log ≡ [] }
-    ensures text { IfOk result (λ text. IsTextOver form lanes.now options.now turns.now server.new text.items) }
-    ensures first { server.new.first ≡ server.old.first }
+    requires unopened { IsUnopened server.first }
+    requires quiet { server.log ≡ [] }
+    ensures text { IfOk result (λ text. IsSomeAnd kept.new (λ now. (report : Report)
+        × IsServedReport lanes.now options.now turns.now now report
+        × (text.items ≡ report_text form report now.now.desk.machine.tree))) }
+    ensures kept { IsSomeAnd kept.new (λ now. now.first ≡ server.first) }
 {
-    let report = served_run(alloc, server, lanes, turns, options)?;
-    report_text(alloc, form, &report, server)
+    let text = match served_run(alloc, &mut server, lanes, turns, options) {
+        Ok(report) => report_text(alloc, form, &report, &server),
+        Err(error) => Err(error),
+    };
+    *kept = Some(server);
+    text
 }
 
 /// Runs a script over a server of its files and directories, and gives the text of the run. The server is left in `kept`, also
@@ -212,10 +219,10 @@ pub(crate) fn text_of_run(
     script: Script,
     kept: &mut Option<MapServer>,
 ) -> Result<Vec<u8>, OutOfMemory>
-    requires lanes { are_ok script.lanes ≡ true }
-    requires files { may_begin script.files script.dirs ≡ true }
-    requires known { FitsSet script.server.extensions.0 }
-    ensures { IfOk result (λ text. IsPrinted form kept.new script text.items) }
+    requires runs { CanRun script }
+    requires none { kept.old ≡ None }
+    ensures ok { IfOk result (λ text. IsPrinted form kept.new script text.items) }
+    ensures err { IfErr result (λ _. IfSome kept.new (λ server. IsServerOf script server)) }
 {
     let Script {
         options,
@@ -227,7 +234,7 @@ pub(crate) fn text_of_run(
         lanes,
         turns,
     } = script;
-    let mut server = new_server(
+    let server = new_server(
         alloc,
         files.as_slice(),
         dirs.as_slice(),
@@ -235,14 +242,13 @@ pub(crate) fn text_of_run(
         choices,
         picks,
     )?;
-    let text = text_over(
+    text_over(
         alloc,
         form,
-        &mut server,
+        server,
         lanes.as_slice(),
         turns.as_slice(),
         &options,
-    );
-    *kept = Some(server);
-    text
+        kept,
+    )
 }

@@ -5,8 +5,8 @@ ghost use Rattle.sftp_cli.specs.Dialled.{error_line, error_name};
 ghost use Rattle.sftp_cli.specs.Printed.{reason_word, refusal_line};
 
 use itoa::Buffer;
-use sftp_history::Reason;
 use sftp_model::Error;
+use sftp_script::Reason;
 use ssh_encoding::OutOfMemory;
 use std::alloc::Global;
 
@@ -29,7 +29,7 @@ pub(crate) fn reason_word(why: Reason) -> &'static str
 }
 
 /// The line that says which line is refused, and why.
-#[tactic(auto, using(sftp_wire::proofs::Puts::puts, sftp_history::proofs::TextLaws::number_decimal))]
+#[tactic(auto, using(sftp_wire::proofs::Puts::puts, sftp_text::proofs::TextLaws::number_decimal))]
 pub(crate) fn refusal_line(alloc: Global, number: u64, why: Reason) -> Result<Vec<u8>, OutOfMemory>
     ensures { IfOk result (λ text. text.items ≡ refusal_line number why) }
 {

@@ -8,8 +8,8 @@ mod whole_runs;
 
 use crate::refusal::reason_word;
 use crate::run;
-use sftp_history::Reason;
 use sftp_link::{MemoryDial, MemorySink, MemorySource};
+use sftp_script::Reason;
 use std::alloc::{AllocError, Global};
 use std::test::Fail;
 

@@ -11,13 +11,15 @@ use Rattle.sftp_core.specs.Table.{Places, count, tally, is_waiting, is_unsent, i
 use Rattle.sftp_core.proofs.Sent.{entries_sent, values_sent}
 
 pub len_more : (t : Places) (id : ℕ) (v : Place) → fin.len (fin.insert t id v) ≤ fin.len t + 1
-len_more t id v = rw (fin.len-insert nat_cmp_total t id v) (elim (fin.contains_key t id) as (λ b. cond b (fin.len t) (fin.len t + 1) ≤ fin.len t + 1) [ true ↦ omega arith | false ↦ omega arith ])
+len_more t id v = rw (fin.len-insert nat_cmp_total t id v) (elim (fin.contains_key t id) as
+    (λ b. cond b (fin.len t) (fin.len t + 1) ≤ fin.len t + 1) [ true ↦ omega arith | false ↦ omega arith ])
 
 pub len_same : (t : Places) (id : ℕ) (v w : Place) → fin.get t id ≡ Some w → fin.len (fin.insert t id v) ≡ fin.len t
 len_same t id v w some = rw (fin.len-insert nat_cmp_total t id v, some) refl
 
 pub len_less : (t : Places) (id : ℕ) → fin.len (fin.remove t id) ≤ fin.len t
-len_less t id = rw (fin.len-remove nat_cmp_total t id) (elim (fin.contains_key t id) as (λ b. cond b (fin.len t - 1) (fin.len t) ≤ fin.len t) [ true ↦ omega arith | false ↦ omega arith ])
+len_less t id = rw (fin.len-remove nat_cmp_total t id) (elim (fin.contains_key t id) as
+    (λ b. cond b (fin.len t - 1) (fin.len t) ≤ fin.len t) [ true ↦ omega arith | false ↦ omega arith ])
 
 -- ---- what is handed out
 length_sent : (es : List (ℕ × Place)) → length {A = ℕ × Place} (map (λ e. (e.0, sent_place e.1)) es) ≡ length es
@@ -85,7 +87,9 @@ count_len p t = let few = sums_len p (fin.values t) in let l = fin.len-entries t
 pub count_unsent_sent : (t : Places) → count is_unsent (all_sent t) ≡ 0
 unfolding count
 count_unsent_sent t =
-    ap (λ es. sum_by (tally is_unsent) (map {A = ℕ × Place} (λ e. e.1) es)) (entries_sent t) ∙ ap (sum_by (tally is_unsent)) (values_sent (fin.entries t)) ∙ sums_sent (tally is_unsent) (λ x. 0) none (fin.values t) ∙ sums_none (fin.values t)
+    ap (λ es. sum_by (tally is_unsent) (map {A = ℕ × Place} (λ e. e.1) es)) (entries_sent t)
+    ∙ ap (sum_by (tally is_unsent)) (values_sent (fin.entries t))
+    ∙ sums_sent (tally is_unsent) (λ x. 0) none (fin.values t) ∙ sums_none (fin.values t)
   where
     none : (x : Place) → tally is_unsent (sent_place x) ≡ 0
     none (Waiting expected sent wanted) = refl
@@ -95,7 +99,9 @@ count_unsent_sent t =
 pub count_waiting_sent : (t : Places) → count is_waiting (all_sent t) ≡ count is_waiting t
 unfolding count
 count_waiting_sent t =
-    ap (λ es. sum_by (tally is_waiting) (map {A = ℕ × Place} (λ e. e.1) es)) (entries_sent t) ∙ ap (sum_by (tally is_waiting)) (values_sent (fin.entries t)) ∙ sums_sent (tally is_waiting) (tally is_waiting) each (fin.values t)
+    ap (λ es. sum_by (tally is_waiting) (map {A = ℕ × Place} (λ e. e.1) es)) (entries_sent t)
+    ∙ ap (sum_by (tally is_waiting)) (values_sent (fin.entries t))
+    ∙ sums_sent (tally is_waiting) (tally is_waiting) each (fin.values t)
   where
     each : (x : Place) → tally is_waiting (sent_place x) ≡ tally is_waiting x
     each (Waiting expected sent wanted) = refl
@@ -105,7 +111,9 @@ count_waiting_sent t =
 pub count_owing_sent : (t : Places) → count is_owing (all_sent t) ≡ count is_owing t
 unfolding count
 count_owing_sent t =
-    ap (λ es. sum_by (tally is_owing) (map {A = ℕ × Place} (λ e. e.1) es)) (entries_sent t) ∙ ap (sum_by (tally is_owing)) (values_sent (fin.entries t)) ∙ sums_sent (tally is_owing) (tally is_owing) each (fin.values t)
+    ap (λ es. sum_by (tally is_owing) (map {A = ℕ × Place} (λ e. e.1) es)) (entries_sent t)
+    ∙ ap (sum_by (tally is_owing)) (values_sent (fin.entries t))
+    ∙ sums_sent (tally is_owing) (tally is_owing) each (fin.values t)
   where
     each : (x : Place) → tally is_owing (sent_place x) ≡ tally is_owing x
     each (Waiting expected sent wanted) = refl

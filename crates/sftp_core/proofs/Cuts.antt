@@ -1,5 +1,28 @@
 -- The pieces of a queue, frame by frame.
-use Rattle.std.proofs.Common.{◌≡◌, ◌<◌, ℕ, ◌+◌, List, [], ◌∷◌, ◌++◌, length, map, take, get_or, refl, sym, ap, subst, ◌∙◌, arith, append-nil, append_assoc, length-append, add-one}
+use Rattle.std.proofs.Common.{
+  ◌≡◌,
+  ◌<◌,
+  ℕ,
+  ◌+◌,
+  List,
+  [],
+  ◌∷◌,
+  ◌++◌,
+  length,
+  map,
+  take,
+  get_or,
+  refl,
+  sym,
+  ap,
+  subst,
+  ◌∙◌,
+  arith,
+  append-nil,
+  append_assoc,
+  length-append,
+  add-one,
+}
 use Rattle.std.specs.List.{All}
 use Rattle.std.proofs.Math.Seq.{take-suc}
 use Rattle.std.proofs.lemmas.Grind.{flat_map-append}
@@ -37,7 +60,8 @@ frames-push queue one = flat_map-append frame_of queue (one ∷ []) ∙ ap (λ l
 -- ---- a frame
 head_filled : (r : Request) (id : ℕ) → 0 < length (request_head r id)
 head_filled (request.Write handle offset content) id =
-    let a = length-append (uint32 (length (request_body (request.Write handle offset content) id))) (of_type SSH_FXP_WRITE id (string handle ++ uint64 offset ++ uint32 (length content))) in
+    let a = length-append (uint32 (length (request_body (request.Write handle offset content) id)))
+    (of_type SSH_FXP_WRITE id (string handle ++ uint64 offset ++ uint32 (length content))) in
     let b = length-uint32 (length (request_body (request.Write handle offset content) id)) in
     omega (arith, a, b)
 head_filled other id = let a = length-string (request_body other id) in omega (arith, a)
@@ -64,7 +88,9 @@ filled-push [] (x ∷ xs) = refl
 filled-push ([] ∷ parts) part = filled-push parts part
 filled-push ((x ∷ xs) ∷ parts) part = ap (λ l. (x ∷ xs) ∷ l) (filled-push parts part)
 
-pub filled-more : (parts : List (List ℕ)) (i : ℕ) (part : List ℕ) (out next : List (List ℕ)) → i < length parts → part ≡ get_or parts i part → out ≡ filled_of (take i parts) → next ≡ out ++ one_filled part → next ≡ filled_of (take (i + 1) parts)
+pub filled-more : (parts : List (List ℕ)) (i : ℕ) (part : List ℕ) (out next : List (List ℕ)) → i < length parts → part
+    ≡ get_or parts i part → out ≡ filled_of (take i parts) → next ≡ out ++ one_filled part → next
+    ≡ filled_of (take (i + 1) parts)
 filled-more parts i part out next h e is more =
     more ∙ ap (λ l. l ++ one_filled part) is ∙ sym (ap filled_of (taken parts i part h e) ∙ filled-push (take i parts) part)
 
@@ -99,10 +125,13 @@ whole-push queue f w cut =
           (All-cons (λ piece. 0 < length piece) (request_head f.request f.id) f.parts (head_filled f.request f.id) cut.filled));
     }
 
-pub whole-more : (queue : List Frame) (i : ℕ) (f : Frame) → i < length queue → f ≡ get_or queue i f → IsWhole (take i queue) → IsCut f.request f.parts → IsWhole (take (i + 1) queue)
+pub whole-more : (queue : List Frame) (i : ℕ) (f : Frame) → i < length queue → f ≡ get_or queue i f
+    → IsWhole (take i queue) → IsCut f.request f.parts → IsWhole (take (i + 1) queue)
 whole-more queue i f h e w cut = subst IsWhole (sym (taken queue i f h e)) (whole-push (take i queue) f w cut)
 
-pub pieces-more : (queue : List Frame) (i : ℕ) (f : Frame) (first out next : List (List ℕ)) → i < length queue → f ≡ get_or queue i f → out ≡ first ++ pieces_of (take i queue) → next ≡ out ++ pieces_in f → next ≡ first ++ pieces_of (take (i + 1) queue)
+pub pieces-more : (queue : List Frame) (i : ℕ) (f : Frame) (first out next : List (List ℕ)) → i < length queue → f
+    ≡ get_or queue i f → out ≡ first ++ pieces_of (take i queue) → next ≡ out ++ pieces_in f → next ≡ first
+    ++ pieces_of (take (i + 1) queue)
 pieces-more queue i f first out next h e is more =
     more ∙ ap (λ l. l ++ pieces_in f) is ∙ append_assoc first (pieces_of (take i queue)) (pieces_in f)
     ∙ ap (λ l. first ++ l) (sym (ap pieces_of (taken queue i f h e) ∙ pieces-push (take i queue) f))

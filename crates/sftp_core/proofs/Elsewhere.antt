@@ -83,7 +83,8 @@ retain_elsewhere core grant q h = put_elsewhere core.table grant.id _ q h
 pub release_elsewhere : (core : Core) (grant : GrantValue) (users q : ℕ) → q ≢ grant.id → at (release_leaves core grant users) q ≡ at core q
 release_elsewhere core grant users q h = by_test (users == 1)
   where
-    by_test : (b : Bool) → at (cond b (queued_last core grant.id (Close grant.handle) true) (with_place core grant.id (Granted grant.handle (users - 1)))) q ≡ at core q
+    by_test : (b : Bool) → at (cond b (queued_last core grant.id (Close grant.handle) true)
+        (with_place core grant.id (Granted grant.handle (users - 1)))) q ≡ at core q
     by_test true = put_elsewhere core.table grant.id _ q h
     by_test false = put_elsewhere core.table grant.id _ q h
 
@@ -124,6 +125,7 @@ take_phase core k r None = refl
 pub release_phase : (core : Core) (grant : GrantValue) (users : ℕ) → (release_leaves core grant users).phase ≡ core.phase
 release_phase core grant users = by_test (users == 1)
   where
-    by_test : (b : Bool) → (cond b (queued_last core grant.id (Close grant.handle) true) (with_place core grant.id (Granted grant.handle (users - 1)))).phase ≡ core.phase
+    by_test : (b : Bool) → (cond b (queued_last core grant.id (Close grant.handle) true)
+        (with_place core grant.id (Granted grant.handle (users - 1)))).phase ≡ core.phase
     by_test true = refl
     by_test false = refl

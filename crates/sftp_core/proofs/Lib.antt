@@ -9,3 +9,4 @@ pub mod Places
 pub mod Turning
 pub mod Elsewhere
 pub mod Sent
+pub mod Refusals

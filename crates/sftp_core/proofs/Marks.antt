@@ -42,19 +42,24 @@ module _ {X : Type 0} where
   -- the last stands in it
   pub is_last : (k : ℕ) (x : X) (queue later : List (ℕ × X)) → later ≡ queue ++ (k, x) ∷ [] → {A : Type 0} → stands k later ≡ false → A
   is_last k x queue later is h =
-      let apart_here : eq_by_cmp nat_cmp k k ≡ false = after_or (stands k queue) (eq_by_cmp nat_cmp k k) (sym (ap (stands k) is ∙ stands-last k k x queue) ∙ h) in
+      let apart_here : eq_by_cmp nat_cmp k k ≡ false = after_or (stands k queue) (eq_by_cmp nat_cmp k k)
+      (sym (ap (stands k) is ∙ stands-last k k x queue) ∙ h) in
       let clash : true ≡ false = sym (alike k) ∙ apart_here in
       absurd cc
 
 -- ---- each change keeps that each unsent request is listed
-pub listed-insert : {X : Type 0} (queue later : List (ℕ × X)) (t : Places) (k : ℕ) (v : Place) → AllListed queue t → ((id : ℕ) → stands id later ≡ false → stands id queue ≡ false) → (stands k later ≡ false → is_unsent v ≡ false) → AllListed later (fin.insert t k v)
+pub listed-insert : {X : Type 0} (queue later : List (ℕ × X)) (t : Places) (k : ℕ) (v : Place) → AllListed queue t
+    → ((id : ℕ) → stands id later ≡ false → stands id queue ≡ false) → (stands k later ≡ false → is_unsent v ≡ false)
+    → AllListed later (fin.insert t k v)
 listed-insert queue later t k v all less one id out =
     elim (cases_eq id k) [
       | inl same ↦
-          let here : fin.get (fin.insert t k v) id ≡ Some v = fin.get-insert nat_cmp_total t k v id ∙ ap (λ b. cond b (Some v) (fin.get t id)) (ap (λ x. eq_by_cmp nat_cmp x k) same ∙ alike k) in
+          let here : fin.get (fin.insert t k v) id ≡ Some v = fin.get-insert nat_cmp_total t k v id
+          ∙ ap (λ b. cond b (Some v) (fin.get t id)) (ap (λ x. eq_by_cmp nat_cmp x k) same ∙ alike k) in
           ap is_unsent_at here ∙ one (sym (ap (λ x. stands x later) same) ∙ out)
       | inr differs ↦
-          let there : fin.get (fin.insert t k v) id ≡ fin.get t id = fin.get-insert nat_cmp_total t k v id ∙ ap (λ b. cond b (Some v) (fin.get t id)) (apart id k differs) in
+          let there : fin.get (fin.insert t k v) id ≡ fin.get t id = fin.get-insert nat_cmp_total t k v id
+          ∙ ap (λ b. cond b (Some v) (fin.get t id)) (apart id k differs) in
           ap is_unsent_at there ∙ all id (less id out)
     ]
 
@@ -79,7 +84,8 @@ listed-sent queue t id out = ap is_unsent_at (get_sent t id) ∙ each (fin.get t
 get-mark : (t : Places) (k q : ℕ) → fin.get (marked t k) q ≡ cond (eq_by_cmp nat_cmp q k) (option_map sent_place (fin.get t q)) (fin.get t q)
 get-mark t k q = by_place (fin.get t k) refl
   where
-    by_place : (o : Option Place) → fin.get t k ≡ o → fin.get (marked_here t k o) q ≡ cond (eq_by_cmp nat_cmp q k) (option_map sent_place (fin.get t q)) (fin.get t q)
+    by_place : (o : Option Place) → fin.get t k ≡ o → fin.get (marked_here t k o) q
+        ≡ cond (eq_by_cmp nat_cmp q k) (option_map sent_place (fin.get t q)) (fin.get t q)
     by_place None is =
         elim (cases_eq q k) [
           | inl same ↦
@@ -103,14 +109,16 @@ sent_twice (Some (Waiting expected sent wanted)) = refl
 sent_twice (Some (Answered expected r)) = refl
 sent_twice (Some (Granted handle users)) = refl
 
-get-marks : {X : Type 0} (t : Places) (queue : List (ℕ × X)) (q : ℕ) → fin.get (marked_all t queue) q ≡ cond (stands q queue) (option_map sent_place (fin.get t q)) (fin.get t q)
+get-marks : {X : Type 0} (t : Places) (queue : List (ℕ × X)) (q : ℕ) → fin.get (marked_all t queue) q
+    ≡ cond (stands q queue) (option_map sent_place (fin.get t q)) (fin.get t q)
 get-marks t [] q = refl
 get-marks t (e ∷ queue) q =
     get-marks (marked t e.0) queue q
     ∙ ap (λ o. cond (stands q queue) (option_map sent_place o) o) (get-mark t e.0 q)
     ∙ join (eq_by_cmp nat_cmp q e.0) (stands q queue) (fin.get t q)
   where
-    join : (a b : Bool) (o : Option Place) → cond b (option_map sent_place (cond a (option_map sent_place o) o)) (cond a (option_map sent_place o) o) ≡ cond (a || b) (option_map sent_place o) o
+    join : (a b : Bool) (o : Option Place) → cond b (option_map sent_place (cond a (option_map sent_place o) o))
+        (cond a (option_map sent_place o) o) ≡ cond (a || b) (option_map sent_place o) o
     join true true o = sent_twice o
     join true false o = refl
     join false true o = refl

@@ -17,7 +17,8 @@ sorted_sent : (es : List (ℕ × Place)) → is_sorted nat_cmp (map (λ e. (e.0,
 sorted_sent [] = refl
 sorted_sent (e ∷ es) = (λ i. below_sent e.0 es i && sorted_sent es i)
 
-pub values_sent : (es : List (ℕ × Place)) → map {A = ℕ × Place} (λ e. e.1) (map (λ e. (e.0, sent_place e.1)) es) ≡ map sent_place (map {A = ℕ × Place} (λ e. e.1) es)
+pub values_sent : (es : List (ℕ × Place)) → map {A = ℕ × Place} (λ e. e.1) (map (λ e. (e.0, sent_place e.1)) es)
+    ≡ map sent_place (map {A = ℕ × Place} (λ e. e.1) es)
 values_sent [] = refl
 values_sent (e ∷ es) = ap (λ rest. sent_place e.1 ∷ rest) (values_sent es)
 
@@ -28,7 +29,9 @@ entries_sent t = fin.entries-from_sorted nat_cmp _ (subst T (sym (sorted_sent (f
 find_sent : (id : ℕ) (es : List (ℕ × Place)) → find nat_cmp id (map (λ e. (e.0, sent_place e.1)) es) ≡ option_map sent_place (find nat_cmp id es)
 find_sent id [] = refl
 find_sent id (e ∷ es) =
-    elim (eq_by_cmp nat_cmp id e.0) as (λ b. cond b (Some (sent_place e.1)) (find nat_cmp id (map (λ f. (f.0, sent_place f.1)) es)) ≡ option_map sent_place (cond b (Some e.1) (find nat_cmp id es))) [
+    elim (eq_by_cmp nat_cmp id e.0) as (λ b. cond b (Some (sent_place e.1))
+    (find nat_cmp id (map (λ f. (f.0, sent_place f.1)) es)) ≡ option_map sent_place
+    (cond b (Some e.1) (find nat_cmp id es))) [
       | true ↦ refl
       | false ↦ find_sent id es
     ]
@@ -36,4 +39,5 @@ find_sent id (e ∷ es) =
 -- under each id stands what stood there, handed out
 pub get_sent : (t : Places) (id : ℕ) → fin.get (all_sent t) id ≡ option_map sent_place (fin.get t id)
 get_sent t id =
-    fin.get-entries (all_sent t) id ∙ ap (find nat_cmp id) (entries_sent t) ∙ find_sent id (fin.entries t) ∙ ap (option_map sent_place) (sym (fin.get-entries t id))
+    fin.get-entries (all_sent t) id ∙ ap (find nat_cmp id) (entries_sent t) ∙ find_sent id (fin.entries t)
+    ∙ ap (option_map sent_place) (sym (fin.get-entries t id))

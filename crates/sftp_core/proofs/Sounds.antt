@@ -1,5 +1,30 @@
 -- Each change of one place keeps what a core keeps true of its fields.
-use Rattle.std.proofs.Common.{◌≡◌, ℕ, ◌+◌, ◌≤◌, ◌<◌, Bool, true, false, cond, List, [], ◌∷◌, ◌++◌, length, refl, sym, ap, subst, ◌∙◌, arith, Option, Some, None, lit≤}
+use Rattle.std.proofs.Common.{
+  ◌≡◌,
+  ℕ,
+  ◌+◌,
+  ◌≤◌,
+  ◌<◌,
+  Bool,
+  true,
+  false,
+  cond,
+  List,
+  [],
+  ◌∷◌,
+  ◌++◌,
+  length,
+  refl,
+  sym,
+  ap,
+  subst,
+  ◌∙◌,
+  arith,
+  Option,
+  Some,
+  None,
+  lit≤,
+}
 use Rattle.std.specs.List.{All}
 use Rattle.std.proofs.lemmas.List.Elements.{All-append, All-cons, All-nil}
 use Rattle.std.specs.Option.{option_map}
@@ -20,7 +45,21 @@ use Rattle.sftp_core.specs.Core.{MayFree}
 use Rattle.sftp_wire.specs.Body.{Measures}
 use Rattle.std.specs.Prelude.{IsSome, is_some}
 use Rattle.sftp_core.specs.Frames.{IsShort}
-use Rattle.sftp_core.specs.Table.{Places, count, tally, is_waiting, is_sent, is_unsent, is_owing, all_sent, sent_place, IsAllowed, is_unsent_at, stands, marked_all}
+use Rattle.sftp_core.specs.Table.{
+  Places,
+  count,
+  tally,
+  is_waiting,
+  is_sent,
+  is_unsent,
+  is_owing,
+  all_sent,
+  sent_place,
+  IsAllowed,
+  is_unsent_at,
+  stands,
+  marked_all,
+}
 use Rattle.sftp_core.proofs.Sent.{get_sent}
 use Rattle.sftp_core.specs.Sound.{IsSound, hello_queued}
 use Rattle.sftp_core.proofs.Tables.{count-insert_new, count-insert_old, count-remove}
@@ -29,7 +68,8 @@ use Rattle.sftp_core.proofs.Counts.{len_more, len_same, len_less, len_sent, coun
 
 -- ---- allowed answers
 
-pub allowed-insert : (t : Places) (k : ℕ) (v : Place) → ((id : ℕ) → IsAllowed (fin.get t id)) → IsAllowed (Some v) → (id : ℕ) → IsAllowed (fin.get (fin.insert t k v) id)
+pub allowed-insert : (t : Places) (k : ℕ) (v : Place) → ((id : ℕ) → IsAllowed (fin.get t id)) → IsAllowed (Some v)
+    → (id : ℕ) → IsAllowed (fin.get (fin.insert t k v) id)
 allowed-insert t k v all one id = subst IsAllowed (sym (fin.get-insert nat_cmp_total t k v id)) (by_test (eq_by_cmp nat_cmp id k))
   where
     by_test : (b : Bool) → IsAllowed (cond b (Some v) (fin.get t id))
@@ -70,7 +110,8 @@ pub short-last : (queue : List (ℕ × Request)) (one : ℕ × Request) → All 
 short-last queue one all h = All-append IsShort queue (one ∷ []) all (All-cons IsShort one [] h (All-nil IsShort))
 
 -- a request that was measured
-pub short-measured : (len : Option ℕ) (asked copy : Request) (id : ℕ) → ((i : ℕ) → Measures len (length (request_body asked i))) → is_some len ≡ true → copy ≡ asked → IsShort (id, copy)
+pub short-measured : (len : Option ℕ) (asked copy : Request) (id : ℕ)
+    → ((i : ℕ) → Measures len (length (request_body asked i))) → is_some len ≡ true → copy ≡ asked → IsShort (id, copy)
 short-measured (Some n) asked copy id measures some same = rw same (measures id).1
 short-measured None asked copy id measures some same = absurd cc
 
@@ -91,7 +132,8 @@ most_open (Open info) h = refl
 -- ---- a change
 
 -- another in the place of what stood there
-pub sound-replace : (h : Bool) (p : Phase) (qs qs' : List (ℕ × Request)) (q r q' r' : ℕ) (t : Places) (id : ℕ) (v w : Place) → IsSound h p qs q r t → Some w ≡ fin.get t id
+pub sound-replace : (h : Bool) (p : Phase) (qs qs' : List (ℕ × Request)) (q r q' r' : ℕ) (t : Places) (id : ℕ)
+    (v w : Place) → IsSound h p qs q r t → Some w ≡ fin.get t id
     → q' + tally is_unsent w ≡ q + tally is_unsent v → q' + tally is_owing v ≤ q + tally is_owing w → r ≤ r' → All IsShort qs' → IsAllowed (Some v)
     → ((k : ℕ) → stands k qs' ≡ false → stands k qs ≡ false) → (stands id qs' ≡ false → is_unsent v ≡ false) → IsSound h p qs' q' r' (fin.insert t id v)
 sound-replace h p qs qs' q r q' r' t id v w s some eq eo room short one less here =
@@ -99,7 +141,16 @@ sound-replace h p qs qs' q r q' r' t id v w s some eq eo room short one less her
     let z = count-insert_old is_owing t id v w (sym some) in
     let l = len_same t id v w (sym some) in
     let su = s.unsent in let so = s.reserved in
-    record { unsent = omega (arith, x, su, eq); listed = listed-insert qs qs' t id v s.listed less here; reserved = omega (arith, z, so, eo, room); few = rw l s.few; allowed = allowed-insert t id v s.allowed one; short = short; range = s.range }
+    record {
+      unsent = omega (arith, x, su, eq);
+      listed = listed-insert qs qs' t id v s.listed less here;
+      reserved =
+          omega (arith, z, so, eo, room);
+      few = rw l s.few;
+      allowed = allowed-insert t id v s.allowed one;
+      short = short;
+      range = s.range;
+    }
 
 -- of the same kinds
 pub sound-same : (h : Bool) (p : Phase) (qs : List (ℕ × Request)) (q r : ℕ) (t : Places) (id : ℕ) (v w : Place) → IsSound h p qs q r t → Some w ≡ fin.get t id
@@ -109,16 +160,27 @@ sound-same h p qs q r t id v w s some eq eo one =
     (λ out. eq ∙ ap is_unsent_at some ∙ s.listed id out)
 
 -- nothing in the place of what is not queued
-pub sound-gone : (h : Bool) (p : Phase) (qs : List (ℕ × Request)) (q r : ℕ) (t : Places) (id : ℕ) (w : Place) → IsSound h p qs q r t → Some w ≡ fin.get t id → is_unsent w ≡ false → IsSound h p qs q r (fin.remove t id)
+pub sound-gone : (h : Bool) (p : Phase) (qs : List (ℕ × Request)) (q r : ℕ) (t : Places) (id : ℕ) (w : Place)
+    → IsSound h p qs q r t → Some w ≡ fin.get t id → is_unsent w ≡ false → IsSound h p qs q r (fin.remove t id)
 sound-gone h p qs q r t id w s some eq =
     let x = count-remove is_unsent t id w (sym some) in
     let z = count-remove is_owing t id w (sym some) in
     let l = len_less t id in
     let no : tally is_unsent w ≡ 0 = rw eq refl in
     let su = s.unsent in let so = s.reserved in let sf = s.few in
-    record { unsent = omega (arith, x, su, no); listed = listed-remove qs t id s.listed; reserved = omega (arith, z, so); few = omega (arith, l, sf); allowed = allowed-remove t id s.allowed; short = s.short; range = s.range }
+    record {
+      unsent = omega (arith, x, su, no);
+      listed = listed-remove qs t id s.listed;
+      reserved =
+          omega (arith, z, so);
+      few = omega (arith, l, sf);
+      allowed = allowed-remove t id s.allowed;
+      short = s.short;
+      range = s.range;
+    }
 
-pub sound-freed : (h : Bool) (p : Phase) (qs : List (ℕ × Request)) (q r : ℕ) (t : Places) (id : ℕ) → IsSound h p qs q r t → MayFree (fin.get t id) → IsSound h p qs q r (fin.remove t id)
+pub sound-freed : (h : Bool) (p : Phase) (qs : List (ℕ × Request)) (q r : ℕ) (t : Places) (id : ℕ)
+    → IsSound h p qs q r t → MayFree (fin.get t id) → IsSound h p qs q r (fin.remove t id)
 sound-freed h p qs q r t id s may = by_place (fin.get t id) refl may
   where
     by_place : (o : Option Place) → fin.get t id ≡ o → MayFree o → IsSound h p qs q r (fin.remove t id)
@@ -126,23 +188,30 @@ sound-freed h p qs q r t id s may = by_place (fin.get t id) refl may
     by_place (Some w) is free = sound-gone h p qs q r t id w s (sym is) free
 
 -- there is room for a CLOSE that is owed
-pub room_for_close : (h : Bool) (p : Phase) (qs : List (ℕ × Request)) (q r : ℕ) (t : Places) (id : ℕ) (w : Place) → IsSound h p qs q r t → Some w ≡ fin.get t id → is_owing w ≡ true → q < r
+pub room_for_close : (h : Bool) (p : Phase) (qs : List (ℕ × Request)) (q r : ℕ) (t : Places) (id : ℕ) (w : Place)
+    → IsSound h p qs q r t → Some w ≡ fin.get t id → is_owing w ≡ true → q < r
 room_for_close h p qs q r t id w s some owes =
     let z = count-remove is_owing t id w (sym some) in
     let one : tally is_owing w ≡ 1 = rw owes refl in
     let so = s.reserved in omega (arith, z, one, so)
 
 -- it is queued in the place of what owed it
-pub sound-close : (h : Bool) (p : Phase) (qs qs' : List (ℕ × Request)) (q r q' r' : ℕ) (t : Places) (id : ℕ) (handle : List ℕ) (wanted : Bool) (w : Place) → IsSound h p qs q r t → Some w ≡ fin.get t id
-    → is_owing w ≡ true → is_unsent w ≡ false → length handle ≤ 256 → qs' ≡ qs ++ (id, request.Close handle) ∷ [] → q' ≡ q + 1 → r ≤ r' → IsSound h p qs' q' r' (fin.insert t id (Waiting (expected_of (request.Close handle)) false wanted))
+pub sound-close : (h : Bool) (p : Phase) (qs qs' : List (ℕ × Request)) (q r q' r' : ℕ) (t : Places) (id : ℕ)
+    (handle : List ℕ) (wanted : Bool) (w : Place) → IsSound h p qs q r t → Some w ≡ fin.get t id
+    → is_owing w ≡ true → is_unsent w ≡ false → length handle ≤ 256 → qs' ≡ qs ++ (id, request.Close handle) ∷ [] → q'
+    ≡ q + 1 → r ≤ r' → IsSound h p qs' q' r' (fin.insert t id
+    (Waiting (expected_of (request.Close handle)) false wanted))
 sound-close h p qs qs' q r q' r' t id handle wanted w s some owes unsent small is eq room =
-    sound-replace h p qs qs' q r q' r' t id (Waiting (expected_of (request.Close handle)) false wanted) w s some (rw unsent (omega (arith, eq))) (rw owes (omega (arith, eq))) room
+    sound-replace h p qs qs' q r q' r' t id (Waiting (expected_of (request.Close handle)) false wanted) w s some
+    (rw unsent (omega (arith, eq))) (rw owes (omega (arith, eq))) room
     (rw is (short-last qs (id, request.Close handle) s.short (short-close handle id small))) tt
     (λ k out. not_before k id (request.Close handle) qs qs' is out) (λ out. is_last id (request.Close handle) qs qs' is out)
 
 -- a new request stands last in the queue
-pub sound-last : (h : Bool) (p p' : Phase) (qs qs' : List (ℕ × Request)) (q r q' r' : ℕ) (t t' : Places) (id : ℕ) (asked : Request) (wanted : Bool) → IsSound h p qs q r t → fin.get t id ≡ None
-    → fin.len t < most_ids p' → IsRanged p' → IsShort (id, asked) → qs' ≡ qs ++ (id, asked) ∷ [] → q' ≡ q + 1 → t' ≡ fin.insert t id (Waiting (expected_of asked) false wanted)
+pub sound-last : (h : Bool) (p p' : Phase) (qs qs' : List (ℕ × Request)) (q r q' r' : ℕ) (t t' : Places) (id : ℕ)
+    (asked : Request) (wanted : Bool) → IsSound h p qs q r t → fin.get t id ≡ None
+    → fin.len t < most_ids p' → IsRanged p' → IsShort (id, asked) → qs' ≡ qs ++ (id, asked) ∷ [] → q' ≡ q + 1 → t'
+    ≡ fin.insert t id (Waiting (expected_of asked) false wanted)
     → q' + count is_owing t' ≤ r' → IsSound h p' qs' q' r' t'
 sound-last h p p' qs qs' q r q' r' t t' id asked wanted s none few range one is eq put room =
     let v : Place = Waiting (expected_of asked) false wanted in
@@ -160,13 +229,23 @@ sound-last h p p' qs qs' q r q' r' t t' id asked wanted s none few range one is 
     }
 
 -- more room, and a later phase
-pub sound-later : (h : Bool) (p p' : Phase) (qs : List (ℕ × Request)) (q r r' : ℕ) (t : Places) → IsSound h p qs q r t → most_ids p ≤ most_ids p' → IsRanged p' → r ≤ r' → IsSound h p' qs q r' t
+pub sound-later : (h : Bool) (p p' : Phase) (qs : List (ℕ × Request)) (q r r' : ℕ) (t : Places) → IsSound h p qs q r t
+    → most_ids p ≤ most_ids p' → IsRanged p' → r ≤ r' → IsSound h p' qs q r' t
 sound-later h p p' qs q r r' t s most range room =
     let so = s.reserved in let sf = s.few in
-    record { unsent = s.unsent; listed = s.listed; reserved = omega (arith, so, room); few = omega (arith, sf, most); allowed = s.allowed; short = s.short; range = range }
+    record {
+      unsent = s.unsent;
+      listed = s.listed;
+      reserved = omega (arith, so, room);
+      few = omega (arith, sf, most);
+      allowed = s.allowed;
+      short = s.short;
+      range = range;
+    }
 
 -- the queue is emptied and keeps its room
-pub sound-sent : (h : Bool) (p : Phase) (qs qs' : List (ℕ × Request)) (q r q' r' : ℕ) (t t' : Places) → IsSound h p qs q r t → qs' ≡ [] → q' ≡ 0 → r' ≡ r → t' ≡ marked_all t qs → IsSound true p qs' q' r' t'
+pub sound-sent : (h : Bool) (p : Phase) (qs qs' : List (ℕ × Request)) (q r q' r' : ℕ) (t t' : Places)
+    → IsSound h p qs q r t → qs' ≡ [] → q' ≡ 0 → r' ≡ r → t' ≡ marked_all t qs → IsSound true p qs' q' r' t'
 sound-sent h p qs qs' q r q' r' t t' s is none room marks =
     let sent : t' ≡ all_sent t = marks ∙ marks_all qs t s.listed in
     let x = count_unsent_sent t in
@@ -184,7 +263,8 @@ sound-sent h p qs qs' q r q' r' t t' s is none room marks =
     }
 
 -- the hello alone
-pub sound-fresh : (qs : List (ℕ × Request)) (q r : ℕ) (t : Places) → t ≡ fin.empty → qs ≡ (0, request.Init 3) ∷ [] → q ≡ 1 → 1 ≤ r → IsSound false Greeting qs q r t
+pub sound-fresh : (qs : List (ℕ × Request)) (q r : ℕ) (t : Places) → t ≡ fin.empty → qs ≡ (0, request.Init 3) ∷ [] → q
+    ≡ 1 → 1 ≤ r → IsSound false Greeting qs q r t
 sound-fresh qs q r t e is one room =
     let l : fin.len t ≡ 0 = ap fin.len e ∙ fin.len-empty nat_cmp Place in
     let x = count_len is_unsent t in let y = count_len is_owing t in

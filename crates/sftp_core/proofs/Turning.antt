@@ -10,19 +10,59 @@ use Rattle.sftp_model.specs.declared.error.Fault.{Fault}
 use Rattle.sftp_model.specs.declared.flags.Extensions.{Extensions}
 use Rattle.sftp_model.specs.declared.reply.Reply.{Reply}
 use Rattle.sftp_model.specs.declared.request.Request.TheVariants.{Close, LimitsQuery}
-use Rattle.sftp_core.specs.declared.options.SftpOptions.{SftpOptions}
+use Rattle.sftp_model.specs.declared.options.SftpOptions.{SftpOptions}
 use Rattle.sftp_core.specs.declared.phase.Phase.{Phase}
 use Rattle.sftp_core.specs.declared.phase.Phase.TheVariants.{Greeting, Asking, Open}
 use Rattle.sftp_core.specs.declared.place.Place.{Place}
 use Rattle.sftp_core.specs.declared.place.Place.TheVariants.{Waiting, Answered, Granted}
 use Rattle.sftp_core.specs.Grant.{GrantValue}
-use Rattle.sftp_core.specs.Info.{info_of, offers_limits}
+use Rattle.sftp_core.specs.Info.{info_of}
+use Rattle.sftp_model.specs.Lengths.{offers_limits}
 use Rattle.sftp_core.specs.Table.{Places, is_waiting, sent_place, all_sent, brings}
 use Rattle.sftp_core.proofs.Sent.{get_sent}
-use Rattle.sftp_core.specs.Core.{Core, at, fresh, with_place, queued_last, dropped, given_leaves, poll_leaves, abandon_leaves, release_leaves, users_of, is_ticket}
+use Rattle.sftp_core.specs.Core.{
+  Core,
+  at,
+  fresh,
+  with_place,
+  queued_last,
+  dropped,
+  given_leaves,
+  poll_leaves,
+  abandon_leaves,
+  release_leaves,
+  users_of,
+  is_ticket,
+}
 use Rattle.sftp_core.specs.Take.{take_leaves, taken_in, opened, greeted_by, extensions_in}
 use Rattle.sftp_core.proofs.Elsewhere.{poll_phase, abandon_phase, take_phase, release_phase}
-use Rattle.sftp_core.specs.Turns.{Sign, Asked, Replied, TakeTurns, Call, Submit, Take, Abandon, Release, Retain, Poll, HandOut, Fail, May, leaves, signs, close_signs, answer_signs, greeting_signs, take_signs, abandon_signs, release_signs, MayAll, all_signs}
+use Rattle.sftp_core.specs.Turns.{
+  Sign,
+  Asked,
+  Replied,
+  TakeTurns,
+  Call,
+  Submit,
+  SubmitParts,
+  Take,
+  Abandon,
+  Release,
+  Retain,
+  Poll,
+  HandOut,
+  Fail,
+  May,
+  leaves,
+  signs,
+  close_signs,
+  answer_signs,
+  greeting_signs,
+  take_signs,
+  abandon_signs,
+  release_signs,
+  MayAll,
+  all_signs,
+}
 
 -- whether a request under the id has no reply, after these signs
 abbrev waits_after : ℕ → Bool → List Sign → Bool
@@ -107,13 +147,15 @@ answered_first : (b x : Bool) → b ≡ true → cond b false x ≡ false
 answered_first true x e = refl
 answered_first false x e = cc
 
-drop_shown : (core : Core) (k id : ℕ) (brought : Option (List ℕ)) → (id ≡ k → waits (at core id) ≡ true) → Shown core (dropped core k brought) id (Replied k ∷ close_signs k brought)
+drop_shown : (core : Core) (k id : ℕ) (brought : Option (List ℕ)) → (id ≡ k → waits (at core id) ≡ true)
+    → Shown core (dropped core k brought) id (Replied k ∷ close_signs k brought)
 drop_shown core k id (Some handle) waited =
     record { turns = (waited, ((λ same. answered_first (id == k) _ (tests id k same)), tt)); ends = twice (id == k) _ ∙ sym (put_waits core.table k _ id) }
 drop_shown core k id None waited = record { turns = (waited, tt); ends = sym (gone_waits core.table k id) }
 
 answer_shown : (core : Core) (k : ℕ) (r : Reply) (id : ℕ) (p : Option Place) → at core k ≡ p → Shown core (take_leaves core k r p) id (answer_signs k p r)
-answer_shown core k r id (Some (Waiting e s true)) is = record { turns = (here core k id _ true is refl, tt); ends = sym (put_waits core.table k (Answered e r) id) }
+answer_shown core k r id (Some (Waiting e s true)) is = record
+    { turns = (here core k id _ true is refl, tt); ends = sym (put_waits core.table k (Answered e r) id) }
 answer_shown core k r id (Some (Waiting e s false)) is = drop_shown core k id (brings r) (here core k id _ true is refl)
 answer_shown core k r id (Some (Answered e other)) is = record { turns = tt; ends = refl }
 answer_shown core k r id (Some (Granted handle users)) is = record { turns = tt; ends = refl }
@@ -129,7 +171,8 @@ greet_shown : (core : Core) (id : ℕ) (told : Option Extensions) → ((q : ℕ)
 greet_shown core id None none = record { turns = tt; ends = refl }
 greet_shown core id (Some extensions) none = by_test (offers_limits extensions)
   where
-    by_test : (b : Bool) → Shown core (cond b (record (queued_last core 0 LimitsQuery false) { phase = Asking extensions }) (opened core extensions None)) id (cond b (Asked 0 ∷ []) [])
+    by_test : (b : Bool) → Shown core (cond b (record (queued_last core 0 LimitsQuery false)
+        { phase = Asking extensions }) (opened core extensions None)) id (cond b (Asked 0 ∷ []) [])
     by_test true = record { turns = ((λ same. ap waits (none id)), tt); ends = sym (put_waits core.table 0 _ id) }
     by_test false = record { turns = tt; ends = refl }
 
@@ -140,7 +183,8 @@ take_shown core (Asking extensions) (Some k) r id blank = let x = answer_shown c
 take_shown core (Open info) None r id blank = record { turns = tt; ends = refl }
 take_shown core (Open info) (Some k) r id blank = answer_shown core k r id (at core k) refl
 
-close_shown : (core : Core) (k id : ℕ) (brought : Option (List ℕ)) → (id ≡ k → waits (at core id) ≡ false) → waits (at core k) ≡ false → Shown core (dropped core k brought) id (close_signs k brought)
+close_shown : (core : Core) (k id : ℕ) (brought : Option (List ℕ)) → (id ≡ k → waits (at core id) ≡ false)
+    → waits (at core k) ≡ false → Shown core (dropped core k brought) id (close_signs k brought)
 close_shown core k id (Some handle) none at_k = record { turns = (none, tt); ends = sym (put_waits core.table k _ id) }
 close_shown core k id None none at_k = record { turns = tt; ends = sym (gone_same core.table k id at_k) }
 
@@ -150,14 +194,17 @@ abandon_shown core k id (Some (Answered e r)) is = close_shown core k id (brings
 abandon_shown core k id (Some (Granted handle users)) is = record { turns = tt; ends = refl }
 abandon_shown core k id None is = record { turns = tt; ends = refl }
 
-release_shown : (core : Core) (grant : GrantValue) (id users : ℕ) → waits (at core grant.id) ≡ false → Shown core (release_leaves core grant users) id (release_signs grant.id users)
+release_shown : (core : Core) (grant : GrantValue) (id users : ℕ) → waits (at core grant.id) ≡ false
+    → Shown core (release_leaves core grant users) id (release_signs grant.id users)
 release_shown core grant id users none = by_test (users == 1)
   where
-    by_test : (b : Bool) → Shown core (cond b (queued_last core grant.id (Close grant.handle) true) (with_place core grant.id (Granted grant.handle (users - 1)))) id (cond b (Asked grant.id ∷ []) [])
+    by_test : (b : Bool) → Shown core (cond b (queued_last core grant.id (Close grant.handle) true)
+        (with_place core grant.id (Granted grant.handle (users - 1)))) id (cond b (Asked grant.id ∷ []) [])
     by_test true = record { turns = ((λ e. ap (λ q. waits (at core q)) e ∙ none), tt); ends = sym (put_waits core.table grant.id _ id) }
     by_test false = record { turns = tt; ends = sym (kept_waits core.table grant.id _ id none) }
 
-give_same : (core : Core) (k : ℕ) (brought : Option (List ℕ)) (id : ℕ) → waits (at core k) ≡ false → waits (at (given_leaves core k brought) id) ≡ waits (at core id)
+give_same : (core : Core) (k : ℕ) (brought : Option (List ℕ)) (id : ℕ) → waits (at core k) ≡ false
+    → waits (at (given_leaves core k brought) id) ≡ waits (at core id)
 give_same core k (Some handle) id none = kept_waits core.table k _ id none
 give_same core k None id none = gone_same core.table k id none
 
@@ -170,6 +217,8 @@ poll_same core k f None id is = refl
 
 shown : (core : Core) (call : Call) (id : ℕ) → IsBlank core.phase core.table → May core call → Shown core (leaves core call) id (signs core call)
 shown core (Submit k request) id blank may = record { turns = ((λ e. here core k id None false may.1 refl e), tt); ends = sym (put_waits core.table k _ id) }
+shown core (SubmitParts k handle offset parts) id blank may =
+    record { turns = ((λ e. here core k id None false may.1 refl e), tt); ends = sym (put_waits core.table k _ id) }
 shown core (Take read) id blank may = take_shown core core.phase read.0 read.1 id blank
 shown core (Abandon k) id blank may = abandon_shown core k id (at core k) refl
 shown core (Release grant) id blank may = release_shown core grant id (users_of (at core grant.id)) (ap waits may.kept)
@@ -201,11 +250,14 @@ blank_greeted : (core : Core) (told : Option Extensions) → IsBlank core.phase 
 blank_greeted core None blank = blank
 blank_greeted core (Some extensions) blank = by_test (offers_limits extensions)
   where
-    by_test : (b : Bool) → IsBlank (cond b (record (queued_last core 0 LimitsQuery false) { phase = Asking extensions }) (opened core extensions None)).phase (cond b (record (queued_last core 0 LimitsQuery false) { phase = Asking extensions }) (opened core extensions None)).table
+    by_test : (b : Bool) → IsBlank (cond b (record (queued_last core 0 LimitsQuery false) { phase = Asking extensions })
+        (opened core extensions None)).phase (cond b (record (queued_last core 0 LimitsQuery false)
+        { phase = Asking extensions }) (opened core extensions None)).table
     by_test true = tt
     by_test false = tt
 
-blank_taken : (core : Core) (p : Phase) (k : Option ℕ) (r : Reply) → core.phase ≡ p → IsBlank core.phase core.table → IsBlank (taken_in core p k r).phase (taken_in core p k r).table
+blank_taken : (core : Core) (p : Phase) (k : Option ℕ) (r : Reply) → core.phase ≡ p → IsBlank core.phase core.table
+    → IsBlank (taken_in core p k r).phase (taken_in core p k r).table
 blank_taken core Greeting k r is blank = blank_greeted core (extensions_in r) blank
 blank_taken core (Asking extensions) None r is blank = blank
 blank_taken core (Asking extensions) (Some k) r is blank = tt
@@ -216,11 +268,13 @@ blank_taken core (Open info) (Some k) r is blank =
 
 blank_kept : (core : Core) (call : Call) → IsBlank core.phase core.table → May core call → IsBlank (leaves core call).phase (leaves core call).table
 blank_kept core (Submit k request) blank may = blank_open core.phase _ may.0
+blank_kept core (SubmitParts k handle offset parts) blank may = blank_open core.phase _ may.0
 blank_kept core (Take read) blank may = blank_taken core core.phase read.0 read.1 refl blank
 blank_kept core (Abandon k) blank may =
     blank_by core.phase _ core.table _ (abandon_phase core k (at core k)) (λ none id. absurd (no_ticket (at core k) may (none k))) blank
 blank_kept core (Release grant) blank may =
-    blank_by core.phase _ core.table _ (release_phase core grant (users_of (at core grant.id))) (λ none id. absurd (no_place (at core grant.id) _ may.kept (none grant.id))) blank
+    blank_by core.phase _ core.table _ (release_phase core grant (users_of (at core grant.id)))
+    (λ none id. absurd (no_place (at core grant.id) _ may.kept (none grant.id))) blank
 blank_kept core (Retain grant) blank may =
     blank_by core.phase _ core.table _ refl (λ none id. absurd (no_place (at core grant.id) _ may.kept (none grant.id))) blank
 blank_kept core (Poll k) blank may =
@@ -230,13 +284,15 @@ blank_kept core (Fail f) blank may = blank
 
 -- ---- the law
 
-take_turns : (core : Core) (calls : List Call) (id : ℕ) → IsBlank core.phase core.table → MayAll core calls → TakeTurns id (waits (at core id)) (all_signs core calls)
+take_turns : (core : Core) (calls : List Call) (id : ℕ) → IsBlank core.phase core.table → MayAll core calls
+    → TakeTurns id (waits (at core id)) (all_signs core calls)
 take_turns core [] id blank may = tt
 take_turns core (call ∷ calls) id blank may =
     let one = shown core call id blank may.0 in
     turns_append id (signs core call) _ _ one.turns (rw one.ends (take_turns (leaves core call) calls id (blank_kept core call blank may.0) may.1))
 
-pub requests_take_turns : (options : SftpOptions) (calls : List Call) (id : ℕ) → MayAll (fresh options) calls → TakeTurns id false (all_signs (fresh options) calls)
+pub requests_take_turns : (options : SftpOptions) (calls : List Call) (id : ℕ) → MayAll (fresh options) calls
+    → TakeTurns id false (all_signs (fresh options) calls)
 requests_take_turns options calls id may =
     let P : Bool → Type 0 = λ b. TakeTurns id b (all_signs (fresh options) calls) in
     subst P (ap waits (fin.get-empty nat_cmp id)) (take_turns (fresh options) calls id (λ q. fin.get-empty nat_cmp q) may)

@@ -1,5 +1,29 @@
 -- A core as its callers see it, and what each call does to it.
-use Rattle.std.specs.Prelude.{◌≡◌, ℕ, ◌+◌, ◌-◌, ◌<◌, ◌==◌, Bool, true, false, List, [], ◌∷◌, ◌++◌, Option, None, Some, Result, Ok, Err, if◌then◌else◌, length, nat_lt, ⊤}
+use Rattle.std.specs.Prelude.{
+  ◌≡◌,
+  ℕ,
+  ◌+◌,
+  ◌-◌,
+  ◌<◌,
+  ◌==◌,
+  Bool,
+  true,
+  false,
+  List,
+  [],
+  ◌∷◌,
+  ◌++◌,
+  Option,
+  None,
+  Some,
+  Result,
+  Ok,
+  Err,
+  if◌then◌else◌,
+  length,
+  nat_lt,
+  ⊤,
+}
 use Rattle.std.specs.FinMap as fin
 use Rattle.std.specs.Option.{unwrap_or}
 use Rattle.sftp_model.specs.Answers.{expected_of}
@@ -9,7 +33,7 @@ use Rattle.sftp_model.specs.declared.request.Request.{Request}
 use Rattle.sftp_model.specs.declared.request.Request.TheVariants as request
 use Rattle.sftp_model.specs.declared.reply.Reply.{Reply}
 use Rattle.sftp_model.specs.declared.error.Fault.{Fault}
-use Rattle.sftp_core.specs.declared.options.SftpOptions.{SftpOptions}
+use Rattle.sftp_model.specs.declared.options.SftpOptions.{SftpOptions}
 use Rattle.sftp_core.specs.declared.phase.Phase.{Phase}
 use Rattle.sftp_core.specs.declared.phase.Phase.TheVariants.{Greeting}
 use Rattle.sftp_core.specs.declared.errors.SubmitError.{SubmitError}
@@ -51,7 +75,12 @@ without core id = record core { table = fin.remove core.table id }
 -- a request stands last in the queue and is kept under its id
 abbrev pub queued_last : Core → ℕ → Request → Bool → Core
 queued_last core id asked wanted =
-    record core { queue = core.queue ++ (id, asked) ∷ []; pieces = core.pieces ++ whole id asked; table = fin.insert core.table id (Waiting (expected_of asked) false wanted) }
+    record core {
+      queue = core.queue ++ (id, asked) ∷ [];
+      pieces = core.pieces ++ whole id asked;
+      table =
+          fin.insert core.table id (Waiting (expected_of asked) false wanted);
+    }
 
 -- the WRITE of these parts, joined
 abbrev pub write_of : List ℕ → ℕ → List (List ℕ) → Request
@@ -69,7 +98,16 @@ queued_parts core id handle offset parts =
 -- a core whose queue holds the hello alone
 abbrev pub fresh : SftpOptions → Core
 fresh options =
-    record { options = options; hello_sent = false; phase = Greeting; queue = (0, request.Init 3) ∷ []; pieces = whole 0 (request.Init 3); table = fin.empty; fault = None }
+    record {
+      options = options;
+      hello_sent = false;
+      phase = Greeting;
+      queue = (0, request.Init 3) ∷ [];
+      pieces =
+          whole 0 (request.Init 3);
+      table = fin.empty;
+      fault = None;
+    }
 
 -- ---- what is told in numbers
 
@@ -154,11 +192,27 @@ refusal_of None false = None
 abbrev pub submit_refusal : Core → Request → Option SubmitError
 submit_refusal core asked = refusal_of core.fault (is_long asked)
 
--- a refusal is the first one, or want of memory
+-- it is no kept fault
+abbrev pub IsNoFault : Option SubmitError → Type 0
+IsNoFault (Some (submit.Failed fault)) = ⊥
+IsNoFault other = ⊤
+
+-- a refusal is the first one, or want of memory where no fault is kept
 abbrev pub IsSubmitError : SubmitError → Option SubmitError → Type 0
-IsSubmitError submit.OutOfMemory refusal = ⊤
+IsSubmitError submit.OutOfMemory refusal = IsNoFault refusal
 IsSubmitError submit.TooLong refusal = refusal ≡ Some submit.TooLong
 IsSubmitError (submit.Failed fault) refusal = refusal ≡ Some (submit.Failed fault)
+
+-- nothing refuses it: it stands last in the queue under an id that was free
+abbrev pub Submitted : Core → Request → ℕ → Core → Type 0
+Submitted old asked id new = (at old id ≡ None) × (new ≡ queued_last old id asked true)
+    × (submit_refusal old asked ≡ None)
+
+-- the same of a WRITE that is cut into parts
+abbrev pub SubmittedParts : Core → List ℕ → ℕ → List (List ℕ) → ℕ → Core → Type 0
+SubmittedParts old handle offset parts id new = (at old id ≡ None)
+    × (new ≡ queued_parts old id handle offset parts)
+    × (submit_refusal old (write_of handle offset parts) ≡ None)
 
 -- ---- hand_out
 
@@ -189,7 +243,8 @@ given_leaves core ticket None = without core ticket
 -- after a fault the ticket is no longer counted, and the request stays until its reply
 abbrev pub poll_leaves : Core → ℕ → Option Fault → Option Place → Core
 poll_leaves core ticket fault (Some (Answered expected r)) = given_leaves core ticket (brings r)
-poll_leaves core ticket (Some fault) (Some (Waiting expected sent wanted)) = with_place core ticket (Waiting expected sent false)
+poll_leaves core ticket (Some fault) (Some (Waiting expected sent wanted)) =
+    with_place core ticket (Waiting expected sent false)
 poll_leaves core ticket None (Some (Waiting expected sent wanted)) = core
 poll_leaves core ticket fault (Some (Granted handle users)) = core
 poll_leaves core ticket fault None = core
@@ -233,7 +288,8 @@ release_gives grant users = if users == 1 then Some grant.id else None
 -- the last user's release queues the CLOSE in the grant's place
 abbrev pub release_leaves : Core → GrantValue → ℕ → Core
 release_leaves core grant users =
-    if users == 1 then queued_last core grant.id (request.Close grant.handle) true else with_place core grant.id (Granted grant.handle (users - 1))
+    if users == 1 then queued_last core grant.id (request.Close grant.handle) true else
+    with_place core grant.id (Granted grant.handle (users - 1))
 
 -- the core after a release
 abbrev pub released : Core → GrantValue → Core

@@ -11,8 +11,9 @@ use Rattle.sftp_core.specs.declared.errors.SubmitError.TheVariants as submit
 use Rattle.sftp_core.specs.declared.errors.TakeError.TheVariants as take
 use Rattle.sftp_core.specs.declared.place.Place.TheVariants.{Waiting, Answered}
 use Rattle.sftp_core.specs.declared.tokens.Polled.TheVariants as polled
-use Rattle.sftp_core.specs.Options.{default_options}
-use Rattle.sftp_core.specs.Info.{lengths_of, offers_limits}
+use Rattle.sftp_model.specs.Options.{default_options}
+use Rattle.sftp_core.specs.Info.{lengths_of}
+use Rattle.sftp_model.specs.Lengths.{offers_limits}
 use Rattle.sftp_core.specs.Frames.{frames_of}
 use Rattle.sftp_core.specs.Core.{fresh, handed_out, queued_parts, poll_gives, release_gives, refusal_of, is_ticket}
 use Rattle.sftp_core.specs.Take.{wrong_version, wrong_at, wrong_limits, or_else, fault_of}
@@ -26,7 +27,9 @@ unfolding request_body uint32 string
 hello_first = refl
 
 -- the head of a WRITE is a piece, and so is each part that isn't empty
-pub write_pieces : (queued_parts (handed_out (fresh default_options)) 5 (97 ∷ []) 0 ((1 ∷ []) ∷ [] ∷ (2 ∷ 3 ∷ []) ∷ [])).pieces ≡ hex (codes "0000001906000000050000000161" ++ codes "000000000000000000000003") ∷ (1 ∷ []) ∷ (2 ∷ 3 ∷ []) ∷ []
+pub write_pieces : (queued_parts (handed_out (fresh default_options)) 5 (97 ∷ []) 0
+    ((1 ∷ []) ∷ [] ∷ (2 ∷ 3 ∷ []) ∷ [])).pieces ≡ hex (codes "0000001906000000050000000161"
+    ++ codes "000000000000000000000003") ∷ (1 ∷ []) ∷ (2 ∷ 3 ∷ []) ∷ []
 unfolding request_body uint32 uint64 string
 write_pieces = refl
 
@@ -51,32 +54,39 @@ pub limits_unoffered : offers_limits (with_bits 31) ≡ false
 limits_unoffered = refl
 
 -- the id is looked at before the kind
-pub id_first : wrong_at 5 (reply.Handle []) (Some (Waiting expected.Status false true)) ≡ Some (take.InvalidResponseId 5)
+pub id_first : wrong_at 5 (reply.Handle []) (Some (Waiting expected.Status false true))
+    ≡ Some (take.InvalidResponseId 5)
 id_first = refl
 
-pub then_kind : wrong_at 5 (reply.Handle []) (Some (Waiting expected.Status true true)) ≡ Some (take.InvalidResponse (Some 5))
+pub then_kind : wrong_at 5 (reply.Handle []) (Some (Waiting expected.Status true true))
+    ≡ Some (take.InvalidResponse (Some 5))
 then_kind = refl
 
-pub abandoned_too : wrong_at 5 (reply.Handle []) (Some (Waiting expected.Status true false)) ≡ Some (take.InvalidResponse (Some 5))
+pub abandoned_too : wrong_at 5 (reply.Handle []) (Some (Waiting expected.Status true false))
+    ≡ Some (take.InvalidResponse (Some 5))
 abandoned_too = refl
 
 pub nothing_there : wrong_at 5 (reply.Handle []) None ≡ Some (take.InvalidResponseId 5)
 nothing_there = refl
 
-pub answered_twice : wrong_at 5 (reply.Content (1 ∷ [])) (Some (Answered (expected.Content 2) (reply.Content (1 ∷ [])))) ≡ Some (take.InvalidResponseId 5)
+pub answered_twice : wrong_at 5 (reply.Content (1 ∷ [])) (Some (Answered (expected.Content 2) (reply.Content (1 ∷ []))))
+    ≡ Some (take.InvalidResponseId 5)
 answered_twice = refl
 
 pub full_content : wrong_at 5 (reply.Content (1 ∷ 2 ∷ [])) (Some (Waiting (expected.Content 2) true true)) ≡ None
 full_content = refl
 
-pub long_content : wrong_at 5 (reply.Content (1 ∷ 2 ∷ 3 ∷ [])) (Some (Waiting (expected.Content 2) true true)) ≡ Some (take.InvalidResponse (Some 5))
+pub long_content : wrong_at 5 (reply.Content (1 ∷ 2 ∷ 3 ∷ [])) (Some (Waiting (expected.Content 2) true true))
+    ≡ Some (take.InvalidResponse (Some 5))
 long_content = refl
 
 -- the limits are looked at last
-pub status_for_limits : or_else (wrong_at 0 (reply.Status 4 [] []) (Some (Waiting expected.Limits true false))) (wrong_limits (reply.Status 4 [] [])) ≡ Some (take.LimitsRefused 4 [] [])
+pub status_for_limits : or_else (wrong_at 0 (reply.Status 4 [] []) (Some (Waiting expected.Limits true false)))
+    (wrong_limits (reply.Status 4 [] [])) ≡ Some (take.LimitsRefused 4 [] [])
 status_for_limits = refl
 
-pub good_status_for_limits : or_else (wrong_at 0 (reply.Status 0 [] []) (Some (Waiting expected.Limits true false))) (wrong_limits (reply.Status 0 [] [])) ≡ Some (take.InvalidResponse (Some 0))
+pub good_status_for_limits : or_else (wrong_at 0 (reply.Status 0 [] []) (Some (Waiting expected.Limits true false)))
+    (wrong_limits (reply.Status 0 [] [])) ≡ Some (take.InvalidResponse (Some 0))
 good_status_for_limits = refl
 
 pub refused_limits_kept : fault_of (take.LimitsRefused 4 [] []) ≡ Some (fault.Limits 4)
@@ -86,13 +96,16 @@ refused_limits_kept = refl
 pub fault_before_length : refusal_of (Some fault.Link) true ≡ Some (submit.Failed fault.Link)
 fault_before_length = refl
 
-pub reply_before_fault : poll_gives 5 (Some fault.Link) (Some (Answered expected.Status (reply.Status 0 [] []))) ≡ Ok (polled.Reply (reply.Status 0 [] []))
+pub reply_before_fault : poll_gives 5 (Some fault.Link) (Some (Answered expected.Status (reply.Status 0 [] [])))
+    ≡ Ok (polled.Reply (reply.Status 0 [] []))
 reply_before_fault = refl
 
-pub grant_before_fault : poll_gives 5 (Some fault.Link) (Some (Answered expected.Handle (reply.Handle (7 ∷ [])))) ≡ Ok (polled.Granted (record { id = 5; handle = 7 ∷ [] }))
+pub grant_before_fault : poll_gives 5 (Some fault.Link) (Some (Answered expected.Handle (reply.Handle (7 ∷ []))))
+    ≡ Ok (polled.Granted (record { id = 5; handle = 7 ∷ [] }))
 grant_before_fault = refl
 
-pub fault_for_unanswered : poll_gives 5 (Some fault.Link) (Some (Waiting expected.Status false true)) ≡ Ok (polled.Failed fault.Link)
+pub fault_for_unanswered : poll_gives 5 (Some fault.Link) (Some (Waiting expected.Status false true))
+    ≡ Ok (polled.Failed fault.Link)
 fault_for_unanswered = refl
 
 pub ticket_back : poll_gives 5 None (Some (Waiting expected.Status true true)) ≡ Err 5
@@ -110,5 +123,6 @@ pub two_users : release_gives (record { id = 5; handle = [] }) 2 ≡ None
 two_users = refl
 
 -- the read length and the write length in their places
-pub own_lengths : lengths_of (Some (record { packet_len = 0; read_len = 9; write_len = 5; open_handles = 0 })) (record default_options { max_write_len = Some 4 }) ≡ (9, 4)
+pub own_lengths : lengths_of (Some (record { packet_len = 0; read_len = 9; write_len = 5; open_handles = 0 }))
+    (record default_options { max_write_len = Some 4 }) ≡ (9, 4)
 own_lengths = refl

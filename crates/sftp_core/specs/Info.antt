@@ -1,11 +1,10 @@
 -- What a session knows of its server, and how far the greeting has come.
-use Rattle.std.specs.Prelude.{ℕ, ◌≤◌, ◌==◌, Bool, Option, Some, None}
-use Rattle.std.specs.Int.RustNames.{bit_and}
+use Rattle.std.specs.Prelude.{ℕ, ◌≤◌, Option, Some, None}
 use Rattle.sftp_model.specs.Lengths.{session_lengths}
 use Rattle.sftp_model.specs.Numbers.{MAX_TRANSFER_LEN}
 use Rattle.sftp_model.specs.declared.config.Limits.{Limits}
 use Rattle.sftp_model.specs.declared.flags.Extensions.{Extensions}
-use Rattle.sftp_core.specs.declared.options.SftpOptions.{SftpOptions}
+use Rattle.sftp_model.specs.declared.options.SftpOptions.{SftpOptions}
 use Rattle.sftp_core.specs.declared.info.Info.{Info}
 use Rattle.sftp_core.specs.declared.phase.Phase.{Phase}
 use Rattle.sftp_core.specs.declared.phase.Phase.TheVariants.{Greeting, Asking, Open}
@@ -55,7 +54,3 @@ abbrev pub most_ids : Phase → ℕ
 most_ids Greeting = 0
 most_ids (Asking extensions) = MAX_IDS
 most_ids (Open info) = MAX_IDS
-
--- whether the server offers the query for limits
-abbrev pub offers_limits : Extensions → Bool
-offers_limits extensions = bit_and extensions.0 32 == 32

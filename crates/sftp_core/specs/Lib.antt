@@ -1,4 +1,3 @@
-pub mod Options
 pub mod Info
 pub mod Frames
 pub mod Pieces
@@ -10,3 +9,4 @@ pub mod CoreRows
 pub mod Entries
 pub mod Sound
 pub mod Turns
+pub mod Queue

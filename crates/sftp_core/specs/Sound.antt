@@ -13,9 +13,10 @@ abbrev pub hello_queued : Bool → ℕ
 hello_queued sent = if sent then 0 else 1
 
 -- Of the queue its length and its capacity: each queued request is counted, each request that was not handed out stands
--- in it, and each CLOSE that may come fits. No id is in use before the greeting, each kept answer is allowed, each queued
--- frame is within the limit, and an open session has lengths from 1 to 1048275.
-pub record IsSound (hello_sent : Bool) (phase : Phase) (queue : List (ℕ × Request)) (queued capacity : ℕ) (table : Places) : Type 0 where
+-- in it, and each CLOSE that may come fits. No id is in use before the greeting, each kept answer is allowed, each
+-- queued frame is within the limit, and an open session has lengths from 1 to 1048275.
+pub record IsSound (hello_sent : Bool) (phase : Phase) (queue : List (ℕ × Request)) (queued capacity : ℕ)
+    (table : Places) : Type 0 where
   pub unsent : queued ≡ count is_unsent table + hello_queued hello_sent
   pub listed : AllListed queue table
   pub reserved : queued + count is_owing table ≤ capacity

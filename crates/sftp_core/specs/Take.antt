@@ -20,7 +20,8 @@ use Rattle.sftp_core.specs.declared.place.Place.{Place}
 use Rattle.sftp_core.specs.declared.place.Place.TheVariants.{Waiting, Answered, Granted}
 use Rattle.sftp_core.specs.declared.tokens.Taken.{Taken}
 use Rattle.sftp_core.specs.declared.tokens.Taken.TheVariants as taken_of
-use Rattle.sftp_core.specs.Info.{info_with, offers_limits}
+use Rattle.sftp_core.specs.Info.{info_with}
+use Rattle.sftp_model.specs.Lengths.{offers_limits}
 use Rattle.sftp_core.specs.Table.{brings}
 use Rattle.sftp_core.specs.Core.{Core, at, with_place, queued_last, dropped, failed_with}
 
@@ -43,7 +44,8 @@ wrong_version other = Some (take.InvalidResponse None)
 
 -- first the id, then whether the reply may answer the request that bears it
 abbrev pub wrong_at : ℕ → Reply → Option Place → Option TakeError
-wrong_at id r (Some (Waiting expected true wanted)) = if allows expected r then None else Some (take.InvalidResponse (Some id))
+wrong_at id r (Some (Waiting expected true wanted)) = if allows expected r then None else
+    Some (take.InvalidResponse (Some id))
 wrong_at id r (Some (Waiting expected false wanted)) = Some (take.InvalidResponseId id)
 wrong_at id r (Some (Answered expected other)) = Some (take.InvalidResponseId id)
 wrong_at id r (Some (Granted handle users)) = Some (take.InvalidResponseId id)
@@ -140,7 +142,8 @@ opened core extensions limits = record core { phase = Open (info_with extensions
 -- the core asks for the limits where they are offered, under the id 0
 abbrev pub greeted : Core → Extensions → Core
 greeted core extensions =
-    if offers_limits extensions then record (queued_last core 0 LimitsQuery false) { phase = Asking extensions } else opened core extensions None
+    if offers_limits extensions then record (queued_last core 0 LimitsQuery false) { phase = Asking extensions } else
+    opened core extensions None
 
 -- the extensions that a VERSION tells
 abbrev pub extensions_in : Reply → Option Extensions
@@ -186,5 +189,6 @@ pub record TakenFrom (read : Result Read FrameError) (told : Taken) (old new : C
 
 -- a reply that was read is taken, or refused with nothing changed
 abbrev pub Takes : Result Taken TakeError → Option ℕ → Reply → Core → Core → Type 0
-Takes (Ok told) id r old new = (wrong_in old old.phase id r ≡ None) × (told ≡ told_in old.phase id r) × (new ≡ taken_in old old.phase id r)
+Takes (Ok told) id r old new = (wrong_in old old.phase id r ≡ None) × (told ≡ told_in old.phase id r)
+    × (new ≡ taken_in old old.phase id r)
 Takes (Err e) id r old new = IsFirst e (wrong_in old old.phase id r) × (new ≡ old)

@@ -1,5 +1,23 @@
 -- What a list of calls asks and answers under each id, and that the two take turns.
-use Rattle.std.specs.Prelude.{◌≡◌, ℕ, ◌==◌, Bool, true, false, cond, List, [], ◌∷◌, ◌++◌, Option, None, Some, if◌then◌else◌, IsTrue, IsSome}
+use Rattle.std.specs.Prelude.{
+  ◌≡◌,
+  ℕ,
+  ◌==◌,
+  Bool,
+  true,
+  false,
+  cond,
+  List,
+  [],
+  ◌∷◌,
+  ◌++◌,
+  Option,
+  None,
+  Some,
+  if◌then◌else◌,
+  IsTrue,
+  IsSome,
+}
 use Rattle.sftp_model.specs.declared.error.Fault.{Fault}
 use Rattle.sftp_model.specs.declared.flags.Extensions.{Extensions}
 use Rattle.sftp_model.specs.declared.reply.Reply.{Reply}
@@ -9,9 +27,24 @@ use Rattle.sftp_core.specs.declared.phase.Phase.TheVariants.{Greeting, Asking, O
 use Rattle.sftp_core.specs.declared.place.Place.{Place}
 use Rattle.sftp_core.specs.declared.place.Place.TheVariants.{Waiting, Answered, Granted}
 use Rattle.sftp_core.specs.Grant.{GrantValue}
-use Rattle.sftp_core.specs.Info.{info_of, offers_limits}
+use Rattle.sftp_core.specs.Info.{info_of}
+use Rattle.sftp_model.specs.Lengths.{offers_limits}
 use Rattle.sftp_core.specs.Table.{brings}
-use Rattle.sftp_core.specs.Core.{Core, at, queued_last, handed_out, after_poll, abandoned, retained, released, failed_with, is_ticket, users_of, IsGrant}
+use Rattle.sftp_core.specs.Core.{
+  Core,
+  at,
+  queued_last,
+  queued_parts,
+  handed_out,
+  after_poll,
+  abandoned,
+  retained,
+  released,
+  failed_with,
+  is_ticket,
+  users_of,
+  IsGrant,
+}
 use Rattle.sftp_core.specs.Take.{Read, wrong_in, taken, extensions_in}
 
 -- a request was made under an id, or answered
@@ -23,14 +56,17 @@ pub data Sign : Type 0 where
 -- far.
 abbrev pub TakeTurns : ℕ → Bool → List Sign → Type 0
 TakeTurns id waits [] = Unit {0}
-TakeTurns id waits (Asked other ∷ rest) = (id ≡ other → waits ≡ false) × TakeTurns id (cond (id == other) true waits) rest
-TakeTurns id waits (Replied other ∷ rest) = (id ≡ other → waits ≡ true) × TakeTurns id (cond (id == other) false waits) rest
+TakeTurns id waits (Asked other ∷ rest) = (id ≡ other → waits ≡ false)
+    × TakeTurns id (cond (id == other) true waits) rest
+TakeTurns id waits (Replied other ∷ rest) = (id ≡ other → waits ≡ true)
+    × TakeTurns id (cond (id == other) false waits) rest
 
 -- ---- the calls
 
 -- a call that changes a core, with the id that a submit gives and the reply that a frame reads as
 pub data Call : Type 0 where
   Submit : ℕ → Request → Call
+  SubmitParts : ℕ → List ℕ → ℕ → List (List ℕ) → Call
   Take : Read → Call
   Abandon : ℕ → Call
   Release : GrantValue → Call
@@ -42,6 +78,7 @@ pub data Call : Type 0 where
 -- the condition of a call that changes the core, with what it ensures of an id
 abbrev pub May : Core → Call → Type 0
 May core (Submit id request) = IsSome (info_of core.phase) × (at core id ≡ None)
+May core (SubmitParts id handle offset parts) = IsSome (info_of core.phase) × (at core id ≡ None)
 May core (Take read) = wrong_in core core.phase read.0 read.1 ≡ None
 May core (Abandon ticket) = IsTrue (is_ticket (at core ticket))
 May core (Release grant) = IsGrant core grant
@@ -53,6 +90,7 @@ May core (Fail f) = Unit {0}
 -- the core after a call
 abbrev pub leaves : Core → Call → Core
 leaves core (Submit id request) = queued_last core id request true
+leaves core (SubmitParts id handle offset parts) = queued_parts core id handle offset parts
 leaves core (Take read) = taken core read
 leaves core (Abandon ticket) = abandoned core ticket
 leaves core (Release grant) = released core grant
@@ -103,6 +141,7 @@ release_signs id users = if users == 1 then Asked id ∷ [] else []
 -- what is asked and answered by a call
 abbrev pub signs : Core → Call → List Sign
 signs core (Submit id request) = Asked id ∷ []
+signs core (SubmitParts id handle offset parts) = Asked id ∷ []
 signs core (Take read) = take_signs core core.phase read.0 read.1
 signs core (Abandon ticket) = abandon_signs ticket (at core ticket)
 signs core (Release grant) = release_signs grant.id (users_of (at core grant.id))

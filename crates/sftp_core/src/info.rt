@@ -2,8 +2,7 @@ ghost use Rattle.std.specs.Prelude.{◌≡◌, ◌≤◌};
 ghost use Rattle.sftp_model.specs.Numbers.{MAX_TRANSFER_LEN};
 ghost use Rattle.sftp_core.specs.Info.{lengths_of, info_with, HasLengths};
 
-use crate::options::SftpOptions;
-use sftp_model::{Extensions, Limits, session_lengths};
+use sftp_model::{Extensions, Limits, SftpOptions, session_lengths};
 
 /// The most ids that are in use at one time: a request may be submitted where fewer are kept.
 pub const MAX_IDS: u32 = 2_147_483_648;
@@ -26,7 +25,11 @@ pub fn lengths(limits: Option<Limits>, options: &SftpOptions) -> (u32, u32)
     ensures read_range { (1 ≤ result.0) × (result.0 ≤ MAX_TRANSFER_LEN) }
     ensures write_range { (1 ≤ result.1) × (result.1 ≤ MAX_TRANSFER_LEN) }
 {
-    session_lengths(limits, options.max_read_len, options.max_write_len)
+    session_lengths(
+        limits,
+        options.get_max_read_len(),
+        options.get_max_write_len(),
+    )
 }
 
 impl Info {

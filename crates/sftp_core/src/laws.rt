@@ -4,7 +4,7 @@ ghost use Rattle.sftp_model.specs.Answers.{expected_of, MayAnswer};
 ghost use Rattle.sftp_model.specs.Lengths.{session_len};
 ghost use Rattle.sftp_model.specs.declared.request.Request.{Request};
 ghost use Rattle.sftp_model.specs.declared.reply.Reply.{Reply};
-ghost use Rattle.sftp_core.specs.declared.options.SftpOptions.{SftpOptions};
+ghost use Rattle.sftp_model.specs.declared.options.SftpOptions.{SftpOptions};
 ghost use Rattle.sftp_core.specs.Core.{Core, at, fresh};
 ghost use Rattle.sftp_core.specs.Table.{expected_at};
 ghost use Rattle.sftp_core.specs.Take.{wrong_at};

@@ -1,23 +1,20 @@
 ghost use Rattle.std.specs.Prelude.{◌≡◌, ◌+◌, ◌<◌, ◌≤◌, ◌∷◌, ◌++◌, [], map, slice_get, None, Some, false, IfOk, IfSome, OnOk, OnErr, vec_len, vec_capacity};
 ghost use Rattle.std.specs.FinMap as fin;
 ghost use Rattle.std.specs.Option.{option_map};
-ghost use Rattle.sftp_model.specs.Answers.{expected_of};
 ghost use Rattle.sftp_core.specs.Core.{fresh, queued_of, awaited_of, unanswered_of, kept_of, failed_with};
 ghost use Rattle.sftp_wire.specs.Heads.{request_head};
 ghost use Rattle.sftp_core.specs.Pieces.{asked_of, pieces_of, IsCut};
 ghost use Rattle.sftp_core.specs.Info.{MAX_IDS, info_of, HasLengths};
-ghost use Rattle.sftp_core.specs.Table.{count, is_owing};
-ghost use Rattle.sftp_core.specs.declared.place.Place.TheVariants.{Waiting};
+ghost use Rattle.sftp_core.specs.Queue.{IsPutLast, IsUnput};
 
 use crate::errors::SubmitError;
 use crate::info::Info;
-use crate::options::SftpOptions;
 use crate::phase::Phase;
 use crate::place::Place;
 use crate::queued::Queued;
 use crate::table::Table;
 use bytes::Bytes;
-use sftp_model::{Expected, Fault, Request};
+use sftp_model::{Expected, Fault, Request, SftpOptions};
 use ssh_encoding::OutOfMemory;
 use std::alloc::Global;
 use std::marker::Model;
@@ -75,7 +72,7 @@ impl Core {
     pub fn new(alloc: Global, options: &SftpOptions) -> Result<Core, OutOfMemory>
         ensures { IfOk result (λ core. core ≡ fresh options.now) }
     {
-        let mut queue = Vec::with_capacity(alloc, options.requests_buffer_size.max(1))?;
+        let mut queue = Vec::with_capacity(alloc, options.get_requests_buffer_size().max(1))?;
         push_reserved(&mut queue, 0, Request::Init { version: 3 }, Vec::new(alloc));
         Ok(Core {
             alloc,
@@ -96,6 +93,18 @@ impl Core {
         ensures range { IfSome result (λ info. HasLengths info) }
     {
         self.phase.info()
+    }
+
+    /// The options that the core was made with.
+    pub fn options(&self) -> &SftpOptions
+        ensures { result.now ≡ self.now.options }
+    {
+        &self.options
+    }
+
+    /// The allocator that the core takes memory from. A contract sees no allocator, so none says which it is.
+    pub fn alloc(&self) -> Global {
+        self.alloc
     }
 
     /// The kept fault, which is the first one.
@@ -171,16 +180,9 @@ fn put_last(
 ) -> Result<u32, OutOfMemory>
     requires few { fin.len table.old < MAX_IDS }
     requires cut { IsCut request parts.items }
-    ensures free { IfOk result (λ id. fin.get table.old id ≡ None) }
-    ensures first { IfOk result (λ id. fin.len table.old ≡ 0 → id ≡ 0) }
-    ensures queued { IfOk result (λ id. map asked_of queue.new.items ≡ map asked_of queue.old.items ++ (id, request) ∷ []) }
-    ensures pieces { IfOk result (λ id. pieces_of queue.new.items ≡ pieces_of queue.old.items ++ request_head request id ∷ parts.items) }
-    ensures len { OnOk result (vec_len queue.new ≡ vec_len queue.old + 1) }
-    ensures kept { IfOk result (λ id. table.new ≡ fin.insert table.old id (Waiting (expected_of request) false wanted)) }
-    ensures capacity { OnOk result (vec_len queue.new + count is_owing table.new ≤ vec_capacity queue.new) }
+    ensures ok { IfOk result (λ id. IsPutLast request parts.items wanted id queue.old queue.new table.old table.new) }
+    ensures err { OnErr result (IsUnput queue.old queue.new table.old table.new) }
     ensures grows { vec_capacity queue.old ≤ vec_capacity queue.new }
-    ensures err { OnErr result ((queue.new.items ≡ queue.old.items) × (table.new ≡ table.old)) }
-    ensures err_len { OnErr result (vec_len queue.new ≡ vec_len queue.old) }
 {
     let place = Place::Waiting {
         expected: Expected::of(&request),

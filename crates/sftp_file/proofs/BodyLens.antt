@@ -4,8 +4,8 @@ use Rattle.std.proofs.lemmas.Bool.Decides.{nat_tests}
 use Rattle.sftp_model.specs.declared.flags.OpenFlags.{OpenFlags}
 use Rattle.sftp_model.specs.declared.request.Request.TheVariants as request
 use Rattle.sftp_model.specs.Frames.{request_body}
-use Rattle.sftp_calls.specs.Moves.{is_too_long}
-use Rattle.sftp_calls.specs.FilePlans.{open_request}
+use Rattle.plan_model.specs.Moves.{is_too_long}
+use Rattle.plan_model.specs.FilePlans.{open_request}
 use Rattle.sftp_wire.proofs.Lengths.{lengths}
 use Rattle.sftp_core.specs.Core.{is_long}
 

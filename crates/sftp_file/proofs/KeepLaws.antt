@@ -23,7 +23,18 @@ use Rattle.sftp_file.specs.declared.stage.Stage.{Stage}
 use Rattle.sftp_file.specs.declared.stage.Stage.TheVariants.{Ended, Ready, Asked}
 use Rattle.sftp_file.specs.Polls.{polled_core}
 use Rattle.sftp_file.specs.Stages.{Holds, Keeps, KeepsGrants, IsAwaited, IsAsked, IsHeld, cancelled}
-use Rattle.sftp_file.proofs.StageLaws.{holds_at, holds_still, taken_holds, handed_out_holds, grant_at, grant_still, polled_elsewhere, cancelled_elsewhere, closed_elsewhere, AreApart}
+use Rattle.sftp_file.proofs.StageLaws.{
+  holds_at,
+  holds_still,
+  taken_holds,
+  handed_out_holds,
+  grant_at,
+  grant_still,
+  polled_elsewhere,
+  cancelled_elsewhere,
+  closed_elsewhere,
+  AreApart,
+}
 
 -- ---- a ticket and a grant have different numbers
 
@@ -56,7 +67,8 @@ keeps_failed core fault =
       grants = λ grant h. grant_at (failed_with core fault) grant (users_of (at core grant.id)) h.kept h.used;
     }
 
-held_place : (core new : Core) (ticket : ℕ) (kind : Expected) (p : Option Place) → at core ticket ≡ p → ((here : Place) → p ≡ Some here → at new ticket ≡ p) → IsTrue (is_ticket p) → expected_at p ≡ Some kind
+held_place : (core new : Core) (ticket : ℕ) (kind : Expected) (p : Option Place) → at core ticket ≡ p
+    → ((here : Place) → p ≡ Some here → at new ticket ≡ p) → IsTrue (is_ticket p) → expected_at p ≡ Some kind
     → Holds new ticket kind
 held_place core new ticket kind (Some here) e still counted is = holds_at new ticket kind (Some here) (still here refl) counted is
 held_place core new ticket kind None e still counted is = cc
@@ -76,7 +88,8 @@ pub keeps_handed_out : (core : Core) → Keeps core (handed_out core)
 keeps_handed_out core =
     record {
       holds = λ ticket kind h. handed_out_holds core ticket kind h;
-      grants = λ grant h. grant_at (handed_out core) grant (users_of (at core grant.id)) (hand_out_each core grant.id ∙ ap (λ (p : Option Place). option_map sent_place p) h.kept) h.used;
+      grants = λ grant h. grant_at (handed_out core) grant (users_of (at core grant.id))
+          (hand_out_each core grant.id ∙ ap (λ (p : Option Place). option_map sent_place p) h.kept) h.used;
     }
 
 -- ---- a take
@@ -88,31 +101,38 @@ waiting_there id r (Some (Waiting expected sent wanted)) handle users e right = 
 waiting_there id r (Some (Answered expected other)) handle users e right = cc
 waiting_there id r None handle users e right = cc
 
-took_holds : (core : Core) (id : ℕ) (r : Reply) (ticket : ℕ) (kind : Expected) → wrong_at id r (at core id) ≡ None → (ticket ≡ id) ⊎ (ticket ≡ id → ⊥) → Holds core ticket kind
+took_holds : (core : Core) (id : ℕ) (r : Reply) (ticket : ℕ) (kind : Expected) → wrong_at id r (at core id) ≡ None
+    → (ticket ≡ id) ⊎ (ticket ≡ id → ⊥) → Holds core ticket kind
     → Holds (take_leaves core id r (at core id)) ticket kind
 took_holds core id r ticket kind right (inl same) h =
     let Kept : ℕ → Type 0 = λ (q : ℕ). Holds (take_leaves core id r (at core id)) q kind in
     let There : ℕ → Type 0 = λ (q : ℕ). Holds core q kind in
     subst Kept (sym same) (taken_holds core id kind r (subst There same h) right)
-took_holds core id r ticket kind right (inr apart) h = holds_still core (take_leaves core id r (at core id)) ticket kind (take_elsewhere core id r (at core id) ticket apart) h
+took_holds core id r ticket kind right (inr apart) h = holds_still core (take_leaves core id r (at core id)) ticket kind
+    (take_elsewhere core id r (at core id) ticket apart) h
 
-took_grant : (core : Core) (id : ℕ) (r : Reply) (grant : GrantValue) → wrong_at id r (at core id) ≡ None → IsGrant core grant → IsGrant (take_leaves core id r (at core id)) grant
+took_grant : (core : Core) (id : ℕ) (r : Reply) (grant : GrantValue) → wrong_at id r (at core id) ≡ None
+    → IsGrant core grant → IsGrant (take_leaves core id r (at core id)) grant
 took_grant core id r grant right h =
     grant_still core (take_leaves core id r (at core id)) grant
-    (take_elsewhere core id r (at core id) grant.id (λ same. waiting_there id r (at core id) grant.handle (users_of (at core grant.id)) (ap (λ (q : ℕ). at core q) (sym same) ∙ h.kept) right)) h
+    (take_elsewhere core id r (at core id) grant.id (λ same. waiting_there id r (at core id) grant.handle
+    (users_of (at core grant.id)) (ap (λ (q : ℕ). at core q) (sym same) ∙ h.kept) right)) h
 
-took_keeps : (core : Core) (phase : Phase) (id : Option ℕ) (r : Reply) → IsSome (info_of phase) → wrong_in core phase id r ≡ None → Keeps core (taken_in core phase id r)
+took_keeps : (core : Core) (phase : Phase) (id : Option ℕ) (r : Reply) → IsSome (info_of phase)
+    → wrong_in core phase id r ≡ None → Keeps core (taken_in core phase id r)
 took_keeps core Greeting id r open_now right = cc
 took_keeps core (Asking extensions) id r open_now right = cc
 took_keeps core (Open info) None r open_now right = cc
 took_keeps core (Open info) (Some id) r open_now right =
     record { holds = λ ticket kind h. took_holds core id r ticket kind right (cases_eq ticket id) h; grants = λ grant h. took_grant core id r grant right h }
 
-refusal_in : (core : Core) (read : Result Read FrameError) (reading : Read) → read ≡ Ok reading → take_refusal core read ≡ None → wrong_in core core.phase reading.0 reading.1 ≡ None
+refusal_in : (core : Core) (read : Result Read FrameError) (reading : Read) → read ≡ Ok reading → take_refusal core read
+    ≡ None → wrong_in core core.phase reading.0 reading.1 ≡ None
 refusal_in core read reading is right = let P : Result Read FrameError → Type 0 = λ x. take_refusal core x ≡ None in subst P is right
 
 -- a frame is taken
-pub keeps_taken : (old new : Core) (read : Result Read FrameError) (told : Taken) → IsSome (info_of old.phase) → take_refusal old read ≡ None → TakenFrom read told old new → Keeps old new
+pub keeps_taken : (old new : Core) (read : Result Read FrameError) (told : Taken) → IsSome (info_of old.phase)
+    → take_refusal old read ≡ None → TakenFrom read told old new → Keeps old new
 keeps_taken old new read told open_now right h =
     let P : Core → Type 0 = λ (core : Core). Keeps old core in
     subst P (sym h.leaves) (took_keeps old old.phase h.reading.0 h.reading.1 open_now (refusal_in old read h.reading h.reads right))
@@ -164,7 +184,10 @@ awaited_held core (Asked ticket) kind h = h.counted
 -- the core's poll of a ticket leaves every grant
 pub after_keeps_grants : (core : Core) (ticket : ℕ) → IsTrue (is_ticket (at core ticket)) → KeepsGrants core (after_poll core ticket)
 after_keeps_grants core ticket counted =
-    record { grants = λ grant k. grant_still core (after_poll core ticket) grant (polled_elsewhere core ticket grant.id (ticket_apart core ticket grant counted k)) k }
+    record {
+      grants = λ grant k. grant_still core (after_poll core ticket) grant
+          (polled_elsewhere core ticket grant.id (ticket_apart core ticket grant counted k)) k;
+    }
 
 -- a poll leaves every grant
 pub polled_keeps_grants : (core : Core) (stage : Stage) (kind : Expected) → IsAwaited core stage kind → KeepsGrants core (polled_core core stage)
@@ -177,24 +200,30 @@ pub cancelled_keeps_grants : (core : Core) (stage : Stage) → IsHeld core stage
 cancelled_keeps_grants core Ended h = record { grants = λ grant k. k }
 cancelled_keeps_grants core Ready h = record { grants = λ grant k. k }
 cancelled_keeps_grants core (Asked ticket) h =
-    record { grants = λ grant k. grant_still core (cancelled core (Asked ticket)) grant (cancelled_elsewhere core ticket grant.id (ticket_apart core ticket grant h k)) k }
+    record {
+      grants = λ grant k. grant_still core (cancelled core (Asked ticket)) grant
+          (cancelled_elsewhere core ticket grant.id (ticket_apart core ticket grant h k)) k;
+    }
 
 -- ---- a call that lets a file go, or shares it
 
 -- each held ticket stays so: it has another number than the grant
-pub released_holds : (core : Core) (grant : GrantValue) (ticket : ℕ) (kind : Expected) → IsGrant core grant → Holds core ticket kind → Holds (released core grant) ticket kind
+pub released_holds : (core : Core) (grant : GrantValue) (ticket : ℕ) (kind : Expected) → IsGrant core grant
+    → Holds core ticket kind → Holds (released core grant) ticket kind
 released_holds core grant ticket kind g h =
     holds_still core (released core grant) ticket kind (closed_elsewhere core grant ticket (λ same. ticket_apart core ticket grant h.counted g (sym same))) h
 
 -- and so over one user more
-pub retained_holds : (core : Core) (grant : GrantValue) (ticket : ℕ) (kind : Expected) → IsGrant core grant → Holds core ticket kind → Holds (retained core grant) ticket kind
+pub retained_holds : (core : Core) (grant : GrantValue) (ticket : ℕ) (kind : Expected) → IsGrant core grant
+    → Holds core ticket kind → Holds (retained core grant) ticket kind
 retained_holds core grant ticket kind g h =
     holds_still core (retained core grant) ticket kind (retain_elsewhere core grant ticket (λ same. ticket_apart core ticket grant h.counted g (sym same))) h
 
 -- ---- a call that spends a ticket leaves every other ticket
 
 -- what another state awaits is awaited still after a cancel
-pub cancelled_still : (core : Core) (stage other : Stage) (kind : Expected) → AreApart stage other → IsAwaited core other kind → IsAwaited (cancelled core stage) other kind
+pub cancelled_still : (core : Core) (stage other : Stage) (kind : Expected) → AreApart stage other
+    → IsAwaited core other kind → IsAwaited (cancelled core stage) other kind
 cancelled_still core (Asked ticket) (Asked q) kind h may = holds_still core (cancelled core (Asked ticket)) q kind (cancelled_elsewhere core ticket q h) may
 cancelled_still core (Asked ticket) Ready kind h may = tt
 cancelled_still core (Asked ticket) Ended kind h may = may

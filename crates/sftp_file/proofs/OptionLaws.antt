@@ -2,8 +2,8 @@
 use Rattle.std.proofs.Common.{◌≡◌, Bool, true, false, refl}
 use Rattle.std.specs.Prelude.{ℕ, ◌+◌, ◌&&◌, ◌||◌, if◌then◌else◌}
 use Rattle.sftp_model.specs.Readings.{has_bit}
-use Rattle.sftp_file.specs.declared.open_options.OpenOptions.{OpenOptions}
-use Rattle.sftp_file.specs.OpenOptions.{flags_of}
+use Rattle.sftp_model.specs.declared.open_options.OpenOptions.{OpenOptions}
+use Rattle.sftp_model.specs.OpenOptions.{flags_of}
 
 -- what holds of each sum of the flags that make a file
 by_making : (P : ℕ → Type 0) → P 40 → P 24 → P 8 → P 0 → (anew emptied made : Bool)

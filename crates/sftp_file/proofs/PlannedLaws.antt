@@ -11,9 +11,9 @@ use Rattle.sftp_model.specs.declared.reply.Reply.TheVariants as reply
 use Rattle.sftp_model.specs.declared.request.Request.{Request}
 use Rattle.sftp_model.specs.declared.slot.Facts.{Facts}
 use Rattle.sftp_model.specs.declared.slot.Move.TheVariants.{Done}
-use Rattle.sftp_calls.specs.Moves.{Answers, once_answered, done_by}
-use Rattle.sftp_calls.specs.FilePlans.{opened, open_next, close_next}
-use Rattle.sftp_calls.specs.TransferPlans.{was_read, read_next}
+use Rattle.plan_model.specs.Moves.{Answers, once_answered, done_by}
+use Rattle.plan_model.specs.FilePlans.{opened, open_next, close_next}
+use Rattle.plan_model.specs.TransferPlans.{was_read, read_next}
 use Rattle.sftp_model.specs.Readings.{has_bit}
 use Rattle.sftp_model.specs.declared.slot.FileAt.{FileAt}
 use Rattle.sftp_model.specs.declared.slot.Slot.{Slot}
@@ -42,18 +42,22 @@ status_ends : (kept : Option Fault) (slot place asked : ℕ) (site : Site) (f : 
     → Planned kept asked (read_ended slot place site f) (poll.Ready (if b then Ok None else Err (error.SftpError code message language)))
     (if b then Done outcome.End site else Done (outcome.Refused (error.SftpError code message language)) site)
 status_ends kept slot place asked site f code message language true same = ap (λ (s : Site). Done outcome.End s) (sym same)
-status_ends kept slot place asked site f code message language false same = ap (λ (s : Site). Done (outcome.Refused (error.SftpError code message language)) s) (sym same)
+status_ends kept slot place asked site f code message language false same =
+    ap (λ (s : Site). Done (outcome.Refused (error.SftpError code message language)) s) (sym same)
 
 other_ends : (slot place : ℕ) (site : Site) (f : FileValue) → with_slot site slot (slots.File (file_at place f)) ≡ site
     → Done (outcome.Refused (error.InvalidResponse None)) site ≡ read_ended slot place site f (Err (error.InvalidResponse None))
 other_ends slot place site f same = ap (λ (s : Site). Done (outcome.Refused (error.InvalidResponse None)) s) (sym same)
 
-read_by : (kept : Option Fault) (slot place asked : ℕ) (site : Site) (f : FileValue) (r : Option Reply) → with_slot site slot (slots.File (file_at place f)) ≡ site
-    → Planned kept asked (read_ended slot place site (file_behind f r)) (answered read_answer r kept) (once_answered asked r (was_read slot (file_at place f) site))
+read_by : (kept : Option Fault) (slot place asked : ℕ) (site : Site) (f : FileValue) (r : Option Reply)
+    → with_slot site slot (slots.File (file_at place f)) ≡ site
+    → Planned kept asked (read_ended slot place site (file_behind f r)) (answered read_answer r kept)
+    (once_answered asked r (was_read slot (file_at place f) site))
 read_by None slot place asked site f None same = (refl, refl)
 read_by (Some fault) slot place asked site f None same = (refl, refl)
 read_by kept slot place asked site f (Some (reply.Content bytes)) same = refl
-read_by kept slot place asked site f (Some (reply.Status code message language)) same = status_ends kept slot place asked site f code message language (code == 1) same
+read_by kept slot place asked site f (Some (reply.Status code message language)) same =
+    status_ends kept slot place asked site f code message language (code == 1) same
 read_by kept slot place asked site f (Some (reply.Version version extensions)) same = other_ends slot place site f same
 read_by kept slot place asked site f (Some (reply.Handle handle)) same = other_ends slot place site f same
 read_by kept slot place asked site f (Some (reply.Names names)) same = other_ends slot place site f same
@@ -62,7 +66,8 @@ read_by kept slot place asked site f (Some (reply.Extended content)) same = othe
 
 planned_read_at : (core : Core) (ticket slot place n : ℕ) (asked : ℕ × Request) (site : Site) (facts : Facts) (answers : Answers) (f : FileValue)
     → slot_at site slot ≡ slots.File (file_at place f) → answers asked.0 ≡ reply_in (at core ticket)
-    → Planned core.fault asked.0 (read_ended slot place site (file_behind f (reply_in (at core ticket)))) (answered read_answer (reply_in (at core ticket)) core.fault)
+    → Planned core.fault asked.0 (read_ended slot place site (file_behind f (reply_in (at core ticket))))
+    (answered read_answer (reply_in (at core ticket)) core.fault)
     (read_next slot n site facts (asked ∷ []) answers)
 planned_read_at core ticket slot place n asked site facts answers f held is =
     rw (held, is) (read_by core.fault slot place asked.0 site f (reply_in (at core ticket)) (same_site site slot (slots.File (file_at place f)) held))
@@ -90,7 +95,8 @@ open_by kept slot ticket asked flags site o (Some (reply.Names names)) reads wri
 open_by kept slot ticket asked flags site o (Some (reply.Attrs attrs)) reads writes = refl
 open_by kept slot ticket asked flags site o (Some (reply.Extended content)) reads writes = refl
 
-pub planned_open : (core : Core) (ticket slot : ℕ) (asked : ℕ × Request) (flags : OpenFlags) (path : List ℕ) (site : Site) (facts : Facts) (answers : Answers) (o : Opening)
+pub planned_open : (core : Core) (ticket slot : ℕ) (asked : ℕ × Request) (flags : OpenFlags) (path : List ℕ)
+    (site : Site) (facts : Facts) (answers : Answers) (o : Opening)
     → o.readable ≡ has_bit flags.0 1 → o.writable ≡ has_bit flags.0 2 → answers asked.0 ≡ reply_in (at core ticket)
     → Planned core.fault asked.0 (open_ended slot asked.0 site) (answered (open_answer o ticket) (reply_in (at core ticket)) core.fault)
     (open_next slot flags path site facts (asked ∷ []) answers)
@@ -101,7 +107,8 @@ planned_open core ticket slot asked flags path site facts answers o reads writes
 
 closed_by_status : (kept : Option Fault) (slot asked : ℕ) (site : Site) (code : ℕ) (message language : List ℕ) (b : Bool)
     → Planned kept asked (close_ended slot site) (poll.Ready (if b then Ok tt else Err (error.SftpError code message language)))
-    (if b then Done outcome.Done (with_slot site slot slots.Empty) else Done (outcome.Refused (error.SftpError code message language)) (with_slot site slot slots.Empty))
+    (if b then Done outcome.Done (with_slot site slot slots.Empty) else
+    Done (outcome.Refused (error.SftpError code message language)) (with_slot site slot slots.Empty))
 closed_by_status kept slot asked site code message language true = refl
 closed_by_status kept slot asked site code message language false = refl
 
@@ -119,7 +126,8 @@ close_by kept slot asked site (Some (reply.Extended content)) = refl
 
 planned_close_at : (core : Core) (ticket slot : ℕ) (asked : ℕ × Request) (held : FileAt) (site : Site) (facts : Facts) (answers : Answers)
     → slot_at site slot ≡ slots.File held → answers asked.0 ≡ reply_in (at core ticket)
-    → Planned core.fault asked.0 (close_ended slot site) (answered close_answer (reply_in (at core ticket)) core.fault) (close_next slot site facts (asked ∷ []) answers)
+    → Planned core.fault asked.0 (close_ended slot site) (answered close_answer (reply_in (at core ticket)) core.fault)
+    (close_next slot site facts (asked ∷ []) answers)
 planned_close_at core ticket slot asked held site facts answers e is = rw (e, is) (close_by core.fault slot asked.0 site (reply_in (at core ticket)))
 
 pub planned_close : (core : Core) (stage : Stage) (result : Poll (Result (Unit {0}) Error)) → result ≡ polled_answer tt close_answer core stage

@@ -19,7 +19,8 @@ use Rattle.sftp_file.specs.Polls.{polled_core}
 use Rattle.sftp_file.specs.Stages.{Holds, IsAwaited, IsDropped, cancelled}
 
 -- what is kept under an id tells whether a ticket is held
-pub holds_at : (core : Core) (ticket : ℕ) (kind : Expected) (p : Option Place) → at core ticket ≡ p → IsTrue (is_ticket p) → expected_at p ≡ Some kind → Holds core ticket kind
+pub holds_at : (core : Core) (ticket : ℕ) (kind : Expected) (p : Option Place) → at core ticket ≡ p
+    → IsTrue (is_ticket p) → expected_at p ≡ Some kind → Holds core ticket kind
 holds_at core ticket kind p here counted is = record { counted = rw here counted; kind = rw here is }
 
 -- nothing but what is kept under its id counts
@@ -31,19 +32,24 @@ holds_still old new ticket kind same h = holds_at new ticket kind (at old ticket
 -- a submitted request is awaited
 pub submitted_holds : (core : Core) (ticket : ℕ) (request : Request) → Holds (queued_last core ticket request true) ticket (expected_of request)
 submitted_holds core ticket request =
-    holds_at (queued_last core ticket request true) ticket (expected_of request) (Some (Waiting (expected_of request) false true)) (put_here core.table ticket (Waiting (expected_of request) false true)) refl refl
+    holds_at (queued_last core ticket request true) ticket (expected_of request)
+    (Some (Waiting (expected_of request) false true)) (put_here core.table ticket
+    (Waiting (expected_of request) false true)) refl refl
 
-taken_at : (core : Core) (ticket : ℕ) (kind : Expected) (r : Reply) (p : Option Place) → IsTrue (is_ticket p) → expected_at p ≡ Some kind → wrong_at ticket r p ≡ None
+taken_at : (core : Core) (ticket : ℕ) (kind : Expected) (r : Reply) (p : Option Place) → IsTrue (is_ticket p)
+    → expected_at p ≡ Some kind → wrong_at ticket r p ≡ None
     → Holds (take_leaves core ticket r p) ticket kind
 taken_at core ticket kind r (Some (Waiting expected true true)) counted is right =
-    holds_at (take_leaves core ticket r (Some (Waiting expected true true))) ticket kind (Some (Answered expected r)) (put_here core.table ticket (Answered expected r)) refl is
+    holds_at (take_leaves core ticket r (Some (Waiting expected true true))) ticket kind (Some (Answered expected r))
+    (put_here core.table ticket (Answered expected r)) refl is
 taken_at core ticket kind r (Some (Waiting expected false true)) counted is right = cc
 taken_at core ticket kind r (Some (Waiting expected sent false)) counted is right = cc
 taken_at core ticket kind r (Some (Answered expected other)) counted is right = cc
 taken_at core ticket kind r (Some (Granted handle users)) counted is right = cc
 taken_at core ticket kind r None counted is right = cc
 
-sent_at : (core : Core) (ticket : ℕ) (kind : Expected) (p : Option Place) → at core ticket ≡ option_map sent_place p → IsTrue (is_ticket p) → expected_at p ≡ Some kind → Holds core ticket kind
+sent_at : (core : Core) (ticket : ℕ) (kind : Expected) (p : Option Place) → at core ticket ≡ option_map sent_place p
+    → IsTrue (is_ticket p) → expected_at p ≡ Some kind → Holds core ticket kind
 sent_at core ticket kind (Some (Waiting expected sent wanted)) here counted is = holds_at core ticket kind (Some (Waiting expected true wanted)) here counted is
 sent_at core ticket kind (Some (Answered expected r)) here counted is = holds_at core ticket kind (Some (Answered expected r)) here counted is
 sent_at core ticket kind (Some (Granted handle users)) here counted is = cc
@@ -63,7 +69,8 @@ dropped_at core ticket kind (Some (Granted handle users)) counted is none = cc
 dropped_at core ticket kind None counted is none = cc
 
 -- a call that is given up before its reply leaves a request whose reply counts for nothing
-pub cancelled_drops : (core : Core) (ticket : ℕ) (kind : Expected) → Holds core ticket kind → reply_in (at core ticket) ≡ None → IsDropped (at (cancelled core (Asked ticket)) ticket) kind
+pub cancelled_drops : (core : Core) (ticket : ℕ) (kind : Expected) → Holds core ticket kind → reply_in (at core ticket)
+    ≡ None → IsDropped (at (cancelled core (Asked ticket)) ticket) kind
 cancelled_drops core ticket kind h none = dropped_at core ticket kind (at core ticket) h.counted h.kind none
 
 -- a hand-out leaves it awaited
@@ -79,7 +86,8 @@ grant_at core grant users here some = record { kept = rw here refl; used = rw he
 -- a grant with one user more is counted
 pub retained_grant : (core : Core) (grant : GrantValue) → IsGrant (retained core grant) grant
 retained_grant core grant =
-    grant_at (retained core grant) grant (users_of (at core grant.id) + 1) (put_here core.table grant.id (Granted grant.handle (users_of (at core grant.id) + 1))) (omega arith)
+    grant_at (retained core grant) grant (users_of (at core grant.id) + 1)
+    (put_here core.table grant.id (Granted grant.handle (users_of (at core grant.id) + 1))) (omega arith)
 
 -- with one user more
 pub retained_users : (core : Core) (grant : GrantValue) → users_of (at (retained core grant) grant.id) ≡ users_of (at core grant.id) + 1
@@ -121,7 +129,8 @@ pub submitted_elsewhere : (core : Core) (ticket q : ℕ) (request : Request) →
 submitted_elsewhere core ticket q request h = submit_elsewhere core ticket request true q h
 
 -- what another state awaits is awaited still after a poll
-pub awaited_still : (core : Core) (stage other : Stage) (kind : Expected) → AreApart stage other → IsAwaited core other kind → IsAwaited (polled_core core stage) other kind
+pub awaited_still : (core : Core) (stage other : Stage) (kind : Expected) → AreApart stage other
+    → IsAwaited core other kind → IsAwaited (polled_core core stage) other kind
 awaited_still core (Asked ticket) (Asked q) kind h may = holds_still core (polled_core core (Asked ticket)) q kind (polled_elsewhere core ticket q h) may
 awaited_still core (Asked ticket) Ready kind h may = tt
 awaited_still core (Asked ticket) Ended kind h may = may

@@ -7,8 +7,8 @@ use Rattle.sftp_model.specs.declared.outcome.Outcome.TheVariants as outcome
 use Rattle.sftp_model.specs.declared.slot.Facts.{Facts}
 use Rattle.sftp_model.specs.declared.slot.Move.TheVariants.{Ask, Done}
 use Rattle.sftp_model.specs.declared.slot.Site.{Site}
-use Rattle.sftp_calls.specs.Moves.{Answers}
-use Rattle.sftp_calls.specs.FilePlans.{open_request, open_next}
+use Rattle.plan_model.specs.Moves.{Answers}
+use Rattle.plan_model.specs.FilePlans.{open_request, open_next}
 use Rattle.sftp_core.specs.Core.{is_long}
 use Rattle.sftp_file.proofs.BodyLens.{long_by_path}
 

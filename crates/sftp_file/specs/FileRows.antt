@@ -11,15 +11,15 @@ use Rattle.sftp_model.specs.declared.request.Request.TheVariants as request
 use Rattle.sftp_model.specs.declared.slot.Facts.{Facts}
 use Rattle.sftp_model.specs.declared.slot.Site.{Site}
 use Rattle.sftp_model.specs.declared.slot.Slot.TheVariants as slots
-use Rattle.sftp_calls.specs.Moves.{Answers}
-use Rattle.sftp_calls.specs.FilePlans.{close_next}
-use Rattle.sftp_calls.specs.TransferPlans.{read_next}
+use Rattle.plan_model.specs.Moves.{Answers}
+use Rattle.plan_model.specs.FilePlans.{close_next}
+use Rattle.plan_model.specs.TransferPlans.{read_next}
 use Rattle.sftp_model.specs.Slots.{fresh_site, with_slot}
 use Rattle.sftp_core.specs.Core.{Core}
 use Rattle.sftp_file.specs.declared.poll.Poll.TheVariants as poll
 use Rattle.sftp_file.specs.declared.stage.Stage.TheVariants.{Ended, Ready, Asked}
 use Rattle.sftp_file.specs.Files.{FileValue, file_at, further}
-use Rattle.sftp_file.specs.OpenOptions.{nothing_chosen, flags_of}
+use Rattle.sftp_model.specs.OpenOptions.{nothing_chosen, flags_of}
 use Rattle.sftp_file.specs.Planned.{Planned, read_ended, close_ended}
 use Rattle.sftp_file.specs.Polls.{answered, awaiting, read_answer, file_behind, open_answer, close_answer}
 use Rattle.sftp_file.specs.Starts.{Started}
@@ -44,7 +44,8 @@ flags_wtc = refl
 pub flags_wc : flags_of (record nothing_chosen { write = true; create = true }) ≡ flags 10
 flags_wc = refl
 
-pub flags_wtcn : flags_of (record nothing_chosen { write = true; truncate = true; create = true; create_new = true }) ≡ flags 42
+pub flags_wtcn : flags_of (record nothing_chosen { write = true; truncate = true; create = true; create_new = true })
+    ≡ flags 42
 flags_wtcn = refl
 
 -- without `create` there is nothing to truncate
@@ -86,7 +87,8 @@ pub close_done : close_answer (status 0) ≡ Ok tt
 close_done = refl
 
 -- the grant has the number of the OPEN
-pub open_gives : open_answer (record { stage = Asked 7; readable = true; writable = false }) 7 (reply.Handle (codes "h")) ≡ Ok (record file { offset = 0 })
+pub open_gives : open_answer (record { stage = Asked 7; readable = true; writable = false }) 7
+    (reply.Handle (codes "h")) ≡ Ok (record file { offset = 0 })
 open_gives = refl
 
 -- a taken reply comes before a kept fault, and without both the ticket is awaited on
@@ -111,7 +113,14 @@ abbrev replies : List Reply → Answers
 replies taken place = slice_get taken place
 
 abbrev facts : Facts
-facts = record { extensions = record { 0 = 0 }; read_len = 32768; write_len = 32768; write_limit = 655360; read_window = 1 }
+facts = record {
+  extensions = record { 0 = 0 };
+  read_len = 32768;
+  write_len = 32768;
+  write_limit = 655360;
+  read_window =
+      1;
+}
 
 abbrev asked : ℕ × Request
 asked = (1, request.Read (codes "h") 0 8)
@@ -122,15 +131,18 @@ with_file f = with_slot fresh_site 0 (slots.File (file_at 0 f))
 abbrev after : List Reply → Answers
 after taken = replies (reply.Handle (codes "h") ∷ taken)
 
-pub read_planned : Planned None 1 (read_ended 0 0 (with_file file) (further file 2)) (answered read_answer (Some data_of_two) None)
+pub read_planned : Planned None 1 (read_ended 0 0 (with_file file) (further file 2))
+    (answered read_answer (Some data_of_two) None)
     (read_next 0 8 (with_file file) facts (asked ∷ []) (after (data_of_two ∷ [])))
 read_planned = refl
 
-pub read_waits : Planned None 1 (read_ended 0 0 (with_file file) file) poll.Pending (read_next 0 8 (with_file file) facts (asked ∷ []) (after []))
+pub read_waits : Planned None 1 (read_ended 0 0 (with_file file) file) poll.Pending
+    (read_next 0 8 (with_file file) facts (asked ∷ []) (after []))
 read_waits = (refl, refl)
 
 -- a kept fault ends the call, and the plan's reply is awaited on
-pub read_fails : Planned (Some fault.Link) 1 (read_ended 0 0 (with_file file) file) (answered read_answer None (Some fault.Link))
+pub read_fails : Planned (Some fault.Link) 1 (read_ended 0 0 (with_file file) file)
+    (answered read_answer None (Some fault.Link))
     (read_next 0 8 (with_file file) facts (asked ∷ []) (after []))
 read_fails = (refl, refl)
 
@@ -139,5 +151,6 @@ pub close_planned : Planned None 1 (close_ended 0 (with_file file)) (answered cl
 close_planned = refl
 
 -- for no bytes nothing is asked
-pub read_of_none : (core : Core) → Started outcome.End core (Ok Ready) (with_file file) (read_next 0 0 (with_file file) facts [] (after [])) core
+pub read_of_none : (core : Core) → Started outcome.End core (Ok Ready) (with_file file)
+    (read_next 0 0 (with_file file) facts [] (after [])) core
 read_of_none core = (refl, refl)

@@ -7,7 +7,7 @@ use Rattle.sftp_model.specs.declared.slot.FileAt.{FileAt}
 use Rattle.sftp_model.specs.declared.slot.Site.{Site}
 use Rattle.sftp_model.specs.declared.slot.Slot.TheVariants as slots
 use Rattle.sftp_model.specs.Slots.{slot_at}
-use Rattle.sftp_calls.specs.Moves.{Answers, handle_of}
+use Rattle.plan_model.specs.Moves.{Answers, handle_of}
 
 -- a file: its grant, its rights, and its offset in bytes
 pub record FileValue : Type 0 where

@@ -1,4 +1,3 @@
-pub mod OpenOptions
 pub mod Poll
 pub mod Files
 pub mod Stages

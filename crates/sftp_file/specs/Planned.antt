@@ -17,7 +17,8 @@ use Rattle.sftp_file.specs.Files.{FileValue, file_at}
 -- the plan waits for the reply where nothing or the kept fault was answered, and ends with the answer else
 abbrev pub Planned : {A : Type 0} → Option Fault → ℕ → (Result A Error → Move) → Poll (Result A Error) → Move → Type 0
 Planned kept asked ended poll.Pending move = (kept ≡ None) × (move ≡ Wait asked)
-Planned kept asked ended (poll.Ready (Err (error.BackgroundTaskFailure fault))) move = (kept ≡ Some fault) × (move ≡ Wait asked)
+Planned kept asked ended (poll.Ready (Err (error.BackgroundTaskFailure fault))) move = (kept ≡ Some fault)
+    × (move ≡ Wait asked)
 Planned kept asked ended (poll.Ready value) move = move ≡ ended value
 
 -- the outcome of a read

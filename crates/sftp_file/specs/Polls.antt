@@ -1,5 +1,22 @@
 -- What a poll answers and leaves. It takes no memory.
-use Rattle.std.specs.Prelude.{◌≡◌, ℕ, ◌+◌, ◌<◌, ◌^◌, ◌==◌, Bool, List, length, Option, Some, None, Result, Ok, Err, if◌then◌else◌}
+use Rattle.std.specs.Prelude.{
+  ◌≡◌,
+  ℕ,
+  ◌+◌,
+  ◌<◌,
+  ◌^◌,
+  ◌==◌,
+  Bool,
+  List,
+  length,
+  Option,
+  Some,
+  None,
+  Result,
+  Ok,
+  Err,
+  if◌then◌else◌,
+}
 use Rattle.sftp_model.specs.declared.error.Error.{Error}
 use Rattle.sftp_model.specs.declared.error.Error.TheVariants as error
 use Rattle.sftp_model.specs.declared.error.Fault.{Fault}
@@ -62,7 +79,8 @@ pub record IsReadOf (f : FileValue) (call : Reading) : Type 0 where
 -- the bytes of a DATA; a STATUS 1 is the end and any other a refusal
 abbrev pub read_answer : Reply → Result (Option (List ℕ)) Error
 read_answer (reply.Content bytes) = Ok (Some bytes)
-read_answer (reply.Status code message language) = if code == SSH_FX_EOF then Ok None else Err (error.SftpError code message language)
+read_answer (reply.Status code message language) = if code == SSH_FX_EOF then Ok None else
+    Err (error.SftpError code message language)
 read_answer other = Err (error.InvalidResponse None)
 
 -- the file stands behind the bytes of a DATA
@@ -97,7 +115,13 @@ refusal_of other = error.InvalidResponse None
 
 -- a HANDLE gives the file at its start, and its grant has the number of the OPEN; a STATUS refuses
 abbrev pub open_answer : Opening → ℕ → Reply → Result FileValue Error
-open_answer o ticket (reply.Handle handle) = Ok (record { grant = record { id = ticket; handle = handle }; readable = o.readable; writable = o.writable; offset = 0 })
+open_answer o ticket (reply.Handle handle) = Ok (record {
+  grant = record { id = ticket; handle = handle };
+  readable =
+      o.readable;
+  writable = o.writable;
+  offset = 0;
+})
 open_answer o ticket other = Err (refusal_of other)
 
 -- the answer of an open, which always asks
@@ -110,7 +134,8 @@ polled_open core o (Asked ticket) = answered (open_answer o ticket) (reply_in (a
 
 -- a STATUS 0 is the end, and any other a refusal
 abbrev pub close_answer : Reply → Result (Unit {0}) Error
-close_answer (reply.Status code message language) = if code == SSH_FX_OK then Ok tt else Err (error.SftpError code message language)
+close_answer (reply.Status code message language) = if code == SSH_FX_OK then Ok tt else
+    Err (error.SftpError code message language)
 close_answer other = Err (error.InvalidResponse None)
 
 -- what a call that let a file go awaits: the reply to the CLOSE, where one was asked

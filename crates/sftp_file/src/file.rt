@@ -5,9 +5,9 @@ ghost use Rattle.sftp_model.specs.declared.outcome.Outcome.TheVariants as outcom
 ghost use Rattle.sftp_model.specs.declared.request.Request.TheVariants as request;
 ghost use Rattle.sftp_model.specs.declared.slot.Facts.{Facts};
 ghost use Rattle.sftp_model.specs.declared.slot.Site.{Site};
-ghost use Rattle.sftp_calls.specs.Moves.{Answers};
-ghost use Rattle.sftp_calls.specs.FilePlans.{close_next};
-ghost use Rattle.sftp_calls.specs.TransferPlans.{read_next};
+ghost use Rattle.plan_model.specs.Moves.{Answers};
+ghost use Rattle.plan_model.specs.FilePlans.{close_next};
+ghost use Rattle.plan_model.specs.TransferPlans.{read_next};
 ghost use Rattle.sftp_model.specs.declared.slot.Slot.TheVariants as slots;
 ghost use Rattle.sftp_model.specs.Slots.{with_slot, has_grant};
 ghost use Rattle.sftp_core.specs.Core.{at, users_of, IsGrant, retained, released, release_gives, is_long};

@@ -1,42 +1,43 @@
 -- What is reported of a whole run; and a run whose report found no memory stops after its journal.
 use Rattle.std.proofs.Common.{◌≡◌, ◌∙◌, Bool, List, [], ◌∷◌, length, Option, Some, None, refl, ap, sym, subst, inl, inr}
-use Rattle.sftp_core.specs.declared.options.SftpOptions.{SftpOptions}
-use Rattle.sftp_history.specs.declared.call.Lane.{Lane}
-use Rattle.sftp_history.specs.declared.report.Report.{Report}
-use Rattle.sftp_history.proofs.AllClosedLaws.{handles_closed}
-use Rattle.sftp_history.specs.Readings.{outcomes_below, trace_of}
-use Rattle.sftp_history.specs.Settings.{greeting, setting_of}
-use Rattle.sftp_history.specs.Shown.{Shows}
+use Rattle.sftp_model.specs.declared.options.SftpOptions.{SftpOptions}
+use Rattle.plan_model.specs.declared.call.Lane.{Lane}
+use Rattle.session_model.specs.declared.report.Report.{Report}
+use Rattle.session_model.proofs.AllClosedLaws.{handles_closed}
+use Rattle.session_model.specs.Readings.{outcomes_below, trace_of}
+use Rattle.session_model.specs.Settings.{greeting, setting_of}
+use Rattle.session_model.specs.Shown.{Shows}
 use Rattle.sftp_lanes.specs.Reported.{IsReport}
 use Rattle.sftp_lanes.specs.Seen.{given}
 use Rattle.sftp_lanes.specs.ServesFiles.{ServesFiles}
 use Rattle.sftp_model.specs.declared.config.Choice.{Choice}
 use Rattle.sftp_model.specs.declared.config.ServerConfig.{ServerConfig}
 use Rattle.sftp_model.specs.declared.outcome.Outcome.{Outcome}
-use Rattle.sftp_tree.specs.Changes.{IsWellFormed}
-use Rattle.sftp_tree.specs.FileTree.{FileTree}
-use Rattle.sftp_round_trip.specs.KeepsFiles.{KeepsFiles}
+use Rattle.machine_model.specs.Changes.{IsWellFormed}
+use Rattle.machine_model.specs.FileTree.{FileTree}
+use Rattle.run_laws.specs.KeepsFiles.{KeepsFiles}
 use Rattle.sftp_model.specs.declared.error.Error.TheVariants.{OutOfMemory}
 use Rattle.sftp_model.specs.declared.reply.Reply.{Reply}
 use Rattle.sftp_link.specs.declared.piece.Piece.{Piece}
 use Rattle.sftp_link.specs.Told.{Told}
-use Rattle.sftp_history.specs.declared.entry.Entry.{Entry}
-use Rattle.sftp_history.specs.declared.turn.Turn.{Turn}
-use Rattle.sftp_history.specs.Calls.{Setting}
-use Rattle.sftp_history.specs.Journals.{IsJournal}
-use Rattle.sftp_history.proofs.OverLaws.{runs_are_journals}
-use Rattle.sftp_history.specs.Runs.{IsRun}
-use Rattle.sftp_driver.specs.Logs.{Ends, HasRun, Showing}
-use Rattle.sftp_driver.specs.RunsSoFar.{whole}
-use Rattle.sftp_driver.specs.Session.{Given, IsFixed, IsLater, Seen}
-use Rattle.sftp_round_trip.proofs.KeepsFilesLaws.{run_keeps_files}
+use Rattle.session_model.specs.declared.entry.Entry.{Entry}
+use Rattle.session_model.specs.declared.turn.Turn.{Turn}
+use Rattle.session_model.specs.Calls.{Setting}
+use Rattle.session_model.specs.Journals.{IsJournal}
+use Rattle.session_model.proofs.OverLaws.{runs_are_journals}
+use Rattle.session_model.specs.Runs.{IsRun}
+use Rattle.session_driver.specs.Logs.{Ends, HasRun, Showing}
+use Rattle.session_driver.specs.RunsSoFar.{whole}
+use Rattle.session_driver.specs.Session.{Given, IsFixed, IsLater, Seen}
+use Rattle.run_laws.proofs.KeepsFilesLaws.{run_keeps_files}
 
-later_all : (s : Setting) (past : List Entry) → IsJournal s past → IsLater s [] past
+pub later_all : (s : Setting) (past : List Entry) → IsJournal s past → IsLater s [] past
 later_all s [] j = refl
 later_all s (e ∷ past) j = inr (j.0, later_all s past j.1)
 
 -- the log shows the whole run, and then nothing
-pub reported_stops : (first given : Given) (now : Seen) (schedule : List Turn) (ended : Bool) (before after : Option (List Piece)) → first ≡ given → HasRun first schedule now before after
+pub reported_stops : (first given : Given) (now : Seen) (schedule : List Turn) (ended : Bool)
+    (before after : Option (List Piece)) → first ≡ given → HasRun first schedule now before after
     → Told (Ends given schedule ended OutOfMemory) before after
 reported_stops first given now schedule ended before after same ran = stops before after ran.shows
   where
@@ -60,8 +61,11 @@ reported_stops first given now schedule ended before after same ran = stops befo
         })
 
 -- what is reported of a whole run
-pub reported : (first : Given) (lanes : List Lane) (options : SftpOptions) (now : Seen) (schedule : List Turn) (before after : Option (List Piece)) (report : Report) → first ≡ given lanes options → HasRun first schedule now before after
-    → report.hello ≡ now.version → report.trace ≡ trace_of now.stage.past → report.outcomes ≡ outcomes_below now.stage.past (length now.setting.lanes) → IsReport lanes options schedule before after report
+pub reported : (first : Given) (lanes : List Lane) (options : SftpOptions) (now : Seen) (schedule : List Turn)
+    (before after : Option (List Piece)) (report : Report) → first ≡ given lanes options
+    → HasRun first schedule now before after
+    → report.hello ≡ now.version → report.trace ≡ trace_of now.stage.past → report.outcomes
+    ≡ outcomes_below now.stage.past (length now.setting.lanes) → IsReport lanes options schedule before after report
 reported first lanes options now schedule before after report same ran hello trace outcomes =
     record {
       extensions = fixed.0;
@@ -87,9 +91,12 @@ reported first lanes options now schedule before after report same ran hello tra
     shown (Some b) (Some a) h = subst (λ (v : Option Reply). Showing v now.stage.past b a) fixed.1.0 h
 
 -- over a link that served files, as its log tells, what was written is read back and is left
-pub link_keeps_files : (lanes : List Lane) (options : SftpOptions) (schedule : List Turn) (before log : List Piece) (report : Report) (config : ServerConfig) (choices : List Choice) (tree left : FileTree)
-    → (run : IsReport lanes options schedule (Some before) (Some log) report) → IsWellFormed tree → ServesFiles lanes options config choices tree left before log
+pub link_keeps_files : (lanes : List Lane) (options : SftpOptions) (schedule : List Turn) (before log : List Piece)
+    (report : Report) (config : ServerConfig) (choices : List Choice) (tree left : FileTree)
+    → (run : IsReport lanes options schedule (Some before) (Some log) report) → IsWellFormed tree
+    → ServesFiles lanes options config choices tree left before log
     → KeepsFiles lanes config choices tree (setting_of lanes options run.extensions run.past) run.past left report.outcomes
 link_keeps_files lanes options schedule before log report config choices tree left run well serves =
-    subst (λ (o : List (List Outcome)). KeepsFiles lanes config choices tree (setting_of lanes options run.extensions run.past) run.past left o) (sym run.outcomes)
+    subst (λ (o : List (List Outcome)). KeepsFiles lanes config choices tree
+    (setting_of lanes options run.extensions run.past) run.past left o) (sym run.outcomes)
     (run.files config choices tree left well (serves run.extensions schedule run.past run.run run.log))

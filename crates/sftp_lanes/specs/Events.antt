@@ -1,23 +1,34 @@
 -- What the calls of a session are, in each of its phases.
-use Rattle.std.specs.Prelude.{◌≡◌, Bool, true, false, List, ℕ, Option, Some, None, Result, Ok, Err, if◌then◌else◌}
+use Rattle.std.specs.Prelude.{◌≡◌, ℕ, Bool, true, false, List, ◌∷◌, Option, Some, None, Result, Ok, Err, if◌then◌else◌, length, nat_lt, MatchBool}
 use Rattle.sftp_core.specs.declared.errors.TakeError.{TakeError}
 use Rattle.sftp_core.specs.Info.{info_with}
 use Rattle.sftp_core.specs.Take.{fault_of, limits_in}
 use Rattle.sftp_model.specs.declared.config.Limits.{Limits}
 use Rattle.sftp_model.specs.declared.frame_error.FrameError.{FrameError}
+use Rattle.sftp_model.specs.declared.flags.Extensions.{Extensions}
 use Rattle.sftp_model.specs.declared.reply.Reply.{Reply}
-use Rattle.sftp_history.specs.declared.entry.Entry.{Entry}
-use Rattle.sftp_history.specs.Calls.{Setting}
-use Rattle.sftp_history.specs.Readings.{unsent_bytes}
-use Rattle.sftp_history.specs.Shown.{hello_frame}
-use Rattle.sftp_driver.specs.declared.session.Phase.{Phase}
-use Rattle.sftp_driver.specs.declared.session.Phase.TheVariants.{Fresh, Greeted, Asking, Queried, Open, Failed}
-use Rattle.sftp_driver.specs.NoLanes.{offered}
-use Rattle.sftp_driver.specs.Refusals.{refuses, refuses_hello}
-use Rattle.sftp_driver.specs.Session.{Greets, IsGreeted, IsQueried, Limited}
-use Rattle.sftp_work.specs.declared.lanes.Lanes.{Lanes}
-use Rattle.sftp_work.specs.SoFar.{IsLeft, refused_past}
-use Rattle.sftp_work.specs.Working.{HandsAll, TakesBody, past_of}
+use Rattle.sftp_model.specs.declared.request.Request.TheVariants as request
+use Rattle.sftp_model.specs.Lengths.{offers_limits}
+use Rattle.session_model.specs.declared.entry.Entry.{Entry}
+use Rattle.session_model.specs.declared.entry.Entry.TheVariants as entry
+use Rattle.session_model.specs.declared.event.Event.TheVariants.{Submit}
+use Rattle.session_model.specs.declared.event.Owner.TheVariants as owner
+use Rattle.session_model.specs.Calls.{Setting}
+use Rattle.session_model.specs.Journals.{IsFree, IsNext}
+use Rattle.session_model.specs.Settings.{greeting}
+use Rattle.session_model.specs.Readings.{unsent_bytes}
+use Rattle.session_model.specs.Shown.{hello_frame}
+use Rattle.session_driver.specs.declared.session.Phase.{Phase}
+use Rattle.session_driver.specs.declared.session.Phase.TheVariants.{Fresh, Greeted, Asking, Queried, Open, Failed}
+use Rattle.session_driver.specs.NoLanes.{offered}
+use Rattle.session_driver.specs.Refusals.{refuses, refuses_hello}
+use Rattle.session_driver.specs.declared.session.Stepped.{Stepped}
+use Rattle.session_driver.specs.declared.session.Stepped.TheVariants as stepped
+use Rattle.session_driver.specs.Session.{IsFixed, IsGreeted, IsLater, IsQueried, Limited}
+use Rattle.session_work.specs.declared.lanes.Lanes.{Lanes}
+use Rattle.session_work.specs.SoFar.{IsLeft, refused_past}
+use Rattle.session_work.specs.Letting.{gone_in}
+use Rattle.session_work.specs.Working.{CancelsLane, HandsAll, LetsLaneGo, Steps, TakesBody, contents_of, past_of, stage_of}
 use Rattle.sftp_lanes.specs.Seen.{SessionValue, given_of, seen_of, setting_at}
 
 -- ---- an open session
@@ -30,23 +41,55 @@ pub record GoesOn (Did : Setting → Lanes → Lanes → Type 0) (old new : Sess
 
 -- ---- refusals
 
--- There was no memory: the session has failed, its journal and its kept fault are as before, and so is what it was told.
+-- There was no memory: the session has failed; its calls, its journal and its kept fault are as before, and so is what
+-- it was told.
 pub record HasFailed (old new : SessionValue) : Type 0 where
   pub rest : new ≡ record old { phase = Failed; work = new.work }
   pub left : IsLeft old.work new.work
 
--- A frame was refused: the session has failed, and its journal has one entry more, the fault that is kept, where one is. What it was
--- told is as before.
+-- A frame was refused: the session has failed, and its journal has one entry more, the fault that is kept, where one
+-- is. Its calls and what it was told are as before.
 pub record IsRefused (e : TakeError) (old new : SessionValue) : Type 0 where
   pub rest : new ≡ record old { phase = Failed; work = new.work }
   pub past : past_of new.work ≡ refused_past (fault_of e) (past_of old.work)
+  pub calls : new.work.calls ≡ old.work.calls
 
 -- ---- the opening
 
--- VERSION was taken: what it offers is all that is known of the server, unless the limits are asked for
-pub record TakesVersion (body_reads : Result (Option ℕ × Reply) FrameError) (asks : Bool) (old new : SessionValue) : Type 0 where
+-- the hello was handed out
+pub record HandsHello (old new : SessionValue) : Type 0 where
+  pub rest : new ≡ record old { phase = Greeted; work = new.work }
+  pub greeted : IsGreeted (seen_of old) (seen_of new)
+  pub calls : new.work.calls ≡ old.work.calls
+
+-- the query for limits was handed out
+pub record HandsQuery (old new : SessionValue) : Type 0 where
+  pub rest : new ≡ record old { phase = Queried; work = new.work }
+  pub queried : IsQueried (seen_of old) (seen_of new)
+  pub later : IsLater (setting_at new) (past_of old.work) (past_of new.work)
+  pub calls : new.work.calls ≡ old.work.calls
+
+-- VERSION was read: the query for limits is the newest entry where the server offers to tell them
+abbrev pub BeginsBy : Bool → Phase → List Entry → List Entry → Type 0
+BeginsBy false phase before now = (phase ≡ Open) × (now ≡ before)
+BeginsBy true phase before now = (phase ≡ Asking) × ((id : ℕ) × (IsFree before id
+    × (now ≡ entry.Event (Submit owner.Setup id request.LimitsQuery) ∷ before)))
+
+-- VERSION 3 was taken, the first thing that is told: what it offers is all that is known of the server, unless the limits
+-- are asked for
+pub record TakesVersion (body_reads : Result (Option ℕ × Reply) FrameError) (asks : Bool) (old new : SessionValue) :
+    Type 0 where
   pub rest : new ≡ record old { phase = new.phase; version = new.version; info = new.info; work = new.work }
-  pub greets : Greets body_reads (given_of old) asks (seen_of new)
+  pub untold : old.version ≡ None
+  pub extensions : Extensions
+  pub reads : body_reads ≡ Ok (None, greeting extensions)
+  pub told : new.version ≡ Some (greeting extensions)
+  pub asked : asks ≡ offers_limits extensions
+  pub begins : BeginsBy asks new.phase (past_of old.work) (past_of new.work)
+  pub begun : (stage_of new.work).begun ≡ (stage_of old.work).begun
+  pub later : IsLater (setting_at new) (past_of old.work) (past_of new.work)
+  pub fixed : IsFixed (given_of old) new.version (past_of new.work) (setting_at new)
+  pub calls : new.work.calls ≡ old.work.calls
   pub info : new.info ≡ (if asks then None else Some (info_with (offered new.version) None old.options))
 
 -- the limits that a reply to the query tells
@@ -58,19 +101,50 @@ told_limits (Err e) = None
 pub record TakesLimits (body_reads : Result (Option ℕ × Reply) FrameError) (old new : SessionValue) : Type 0 where
   pub rest : new ≡ record old { phase = Open; info = new.info; work = new.work }
   pub limited : Limited body_reads (seen_of old) (seen_of new)
+  pub calls : new.work.calls ≡ old.work.calls
   pub info : new.info ≡ Some (info_with (offered old.version) (told_limits body_reads) old.options)
 
 -- ---- in each phase
 
--- What is handed out: the hello, then the query for limits where the server offers them, and then all that is unsent; nothing while a
--- reply of the opening is awaited.
+-- what a step of a lane is: nothing happens before the session is open
+abbrev pub StepsIn : Phase → ℕ → SessionValue → SessionValue → Stepped → Type 0
+StepsIn Open lane old new event = GoesOn (λ s before after. Steps s lane before after event) old new
+StepsIn Failed lane old new event = ⊥
+StepsIn opening lane old new event = (event ≡ stepped.Nothing) × (new ≡ old)
+
+-- what a cancel is: no call is begun before the session is open
+abbrev pub CancelsIn : Phase → ℕ → SessionValue → SessionValue → Bool → Type 0
+CancelsIn Open lane old new event = GoesOn (λ s before after. CancelsLane s lane before after event) old new
+CancelsIn Failed lane old new event = ⊥
+CancelsIn opening lane old new event = (event ≡ false) × (new ≡ old)
+
+-- a lane that holds nothing yet is let go
+pub record LetsIdleGo (lane : ℕ) (old new : SessionValue) : Type 0 where
+  pub rest : new ≡ record old { work = new.work }
+  pub is : contents_of new.work ≡ gone_in (contents_of old.work) lane
+  pub next : IsNext (setting_at old) (past_of old.work) (entry.LetGo lane)
+
+-- what the letting go of a lane is: before the session is open the lane holds nothing
+abbrev pub LetsGoIn : Phase → ℕ → SessionValue → SessionValue → Type 0
+LetsGoIn Open lane old new = GoesOn (λ s before after. LetsLaneGo s lane before after) old new
+LetsGoIn Failed lane old new = ⊥
+LetsGoIn opening lane old new = MatchBool (nat_lt lane (length old.lanes)) (LetsIdleGo lane old new) (new ≡ old)
+
+-- What is handed out: the hello, then the query for limits where the server offers them, and then all that is unsent;
+-- nothing while a reply of the opening is awaited.
 abbrev pub HandsOutIn : Phase → SessionValue → SessionValue → Option (List ℕ) → Type 0
-HandsOutIn Fresh old new bytes = (bytes ≡ Some hello_frame) × IsGreeted (seen_of old) (seen_of new)
+HandsOutIn Fresh old new bytes = (bytes ≡ Some hello_frame) × HandsHello old new
 HandsOutIn Greeted old new bytes = (bytes ≡ None) × (new ≡ old)
-HandsOutIn Asking old new bytes = (bytes ≡ Some (unsent_bytes (past_of old.work))) × IsQueried (seen_of old) (seen_of new)
+HandsOutIn Asking old new bytes = (bytes ≡ Some (unsent_bytes (past_of old.work))) × HandsQuery old new
 HandsOutIn Queried old new bytes = (bytes ≡ None) × (new ≡ old)
 HandsOutIn Open old new bytes = GoesOn (λ s before after. HandsAll s before after bytes) old new
 HandsOutIn Failed old new bytes = ⊥
+
+-- handing out may take memory: nothing is handed out while a reply of the opening is awaited
+abbrev pub takes_memory : Phase → Bool
+takes_memory Greeted = false
+takes_memory Queried = false
+takes_memory other = true
 
 -- a frame may come: what the opening has queued was handed out
 abbrev pub takes_frames : Phase → Bool

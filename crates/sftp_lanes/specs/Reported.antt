@@ -3,34 +3,36 @@ use Rattle.std.specs.Prelude.{◌≡◌, List, length, Option, Some}
 use Rattle.sftp_model.specs.declared.config.Choice.{Choice}
 use Rattle.sftp_model.specs.declared.config.ServerConfig.{ServerConfig}
 use Rattle.sftp_model.specs.declared.flags.Extensions.{Extensions}
-use Rattle.sftp_tree.specs.Changes.{IsWellFormed}
-use Rattle.sftp_tree.specs.FileTree.{FileTree}
-use Rattle.sftp_core.specs.declared.options.SftpOptions.{SftpOptions}
+use Rattle.machine_model.specs.Changes.{IsWellFormed}
+use Rattle.machine_model.specs.FileTree.{FileTree}
+use Rattle.sftp_model.specs.declared.options.SftpOptions.{SftpOptions}
 use Rattle.sftp_link.specs.declared.piece.Piece.{Piece}
 use Rattle.sftp_link.specs.Told.{Told}
-use Rattle.sftp_history.specs.declared.call.Lane.{Lane}
-use Rattle.sftp_history.specs.declared.entry.Entry.{Entry}
-use Rattle.sftp_history.specs.declared.report.Report.{Report}
-use Rattle.sftp_history.specs.declared.turn.Turn.{Turn}
-use Rattle.sftp_history.specs.Calls.{Setting}
-use Rattle.sftp_history.specs.Closes.{AreClosed}
-use Rattle.sftp_history.specs.Readings.{outcomes_below, trace_of}
-use Rattle.sftp_history.specs.Runs.{IsRun}
-use Rattle.sftp_history.specs.Served.{Serves}
-use Rattle.sftp_history.specs.Settings.{greeting, setting_of}
-use Rattle.sftp_history.specs.Shown.{Shows}
-use Rattle.sftp_round_trip.specs.KeepsFiles.{KeepsFiles}
+use Rattle.plan_model.specs.declared.call.Lane.{Lane}
+use Rattle.session_model.specs.declared.entry.Entry.{Entry}
+use Rattle.session_model.specs.declared.report.Report.{Report}
+use Rattle.session_model.specs.declared.turn.Turn.{Turn}
+use Rattle.session_model.specs.Calls.{Setting}
+use Rattle.session_model.specs.Closes.{AreClosed}
+use Rattle.session_model.specs.Readings.{outcomes_below, trace_of}
+use Rattle.session_model.specs.Runs.{IsRun}
+use Rattle.session_model.specs.Served.{Serves}
+use Rattle.session_model.specs.Settings.{greeting, setting_of}
+use Rattle.session_model.specs.Shown.{Shows}
+use Rattle.run_laws.specs.KeepsFiles.{KeepsFiles}
 
 -- Where the replies are those of a file machine, what was written is read back and is left.
 abbrev pub KeepsServed : List Lane → Setting → List Entry → Type 0
 KeepsServed lanes s past =
-    (config : ServerConfig) (choices : List Choice) (tree left : FileTree) → IsWellFormed tree → Serves config choices tree past left
+    (config : ServerConfig) (choices : List Choice) (tree left : FileTree) → IsWellFormed tree
+    → Serves config choices tree past left
     → KeepsFiles lanes config choices tree s past left (outcomes_below past (length lanes))
 
--- The report is that of a run of the lanes under these turns, which the link's log shows where it tells one. Each handle was
--- closed exactly as often as it was granted. Where the replies are those of a file machine, what was written is read back
--- and is left.
-pub record IsReport (lanes : List Lane) (options : SftpOptions) (schedule : List Turn) (before after : Option (List Piece)) (report : Report) : Type 0 where
+-- The report is that of a run of the lanes under these turns, which the link's log shows where it tells one. Each
+-- handle was closed exactly as often as it was granted. Where the replies are those of a file machine, what was written
+-- is read back and is left.
+pub record IsReport (lanes : List Lane) (options : SftpOptions) (schedule : List Turn)
+    (before after : Option (List Piece)) (report : Report) : Type 0 where
   pub extensions : Extensions
   pub past : List Entry
   pub run : IsRun (setting_of lanes options extensions past) schedule past

@@ -1,28 +1,33 @@
 -- What a session of lanes is in each phase, and what a caller sees of it.
-use Rattle.std.specs.Prelude.{◌≡◌, ◌≢◌, Bool, true, false, List, length, max, min, Option, Some, None}
+use Rattle.std.specs.Prelude.{◌≡◌, ◌≢◌, ◌<◌, ℕ, Bool, true, false, List, [], ◌∷◌, ◌++◌, length, max, min, Option, Some, None, slice_get}
 use Rattle.sftp_model.specs.declared.flags.Extensions.{Extensions}
 use Rattle.sftp_model.specs.declared.reply.Reply.{Reply}
 use Rattle.sftp_model.specs.declared.slot.Facts.{Facts}
-use Rattle.sftp_core.specs.Info.{offers_limits}
+use Rattle.sftp_model.specs.Lengths.{offers_limits}
 use Rattle.sftp_core.specs.declared.info.Info.{Info}
-use Rattle.sftp_core.specs.declared.options.SftpOptions.{SftpOptions}
-use Rattle.sftp_history.specs.declared.call.Lane.{Lane}
-use Rattle.sftp_history.specs.Calls.{Setting}
-use Rattle.sftp_history.specs.Lanes.{are_ok}
-use Rattle.sftp_history.specs.declared.report.Report.{Report}
-use Rattle.sftp_history.specs.Readings.{outcomes_below, trace_of}
-use Rattle.sftp_history.specs.Settings.{facts_of}
-use Rattle.sftp_driver.specs.declared.session.Phase.{Phase}
-use Rattle.sftp_driver.specs.declared.session.Phase.TheVariants.{Fresh, Greeted, Asking, Queried, Open, Failed}
-use Rattle.sftp_driver.specs.NoLanes.{IsBare, offered}
-use Rattle.sftp_driver.specs.Session.{Given, IsFresh, Seen}
-use Rattle.sftp_work.specs.declared.lanes.Lanes.{Lanes}
-use Rattle.sftp_work.specs.Fresh.{IsUntouched}
-use Rattle.sftp_work.specs.SoFar.{IsIntact, IsSoFar}
-use Rattle.sftp_work.specs.Working.{IsWorking, past_of, stage_of, work_of}
+use Rattle.sftp_model.specs.declared.options.SftpOptions.{SftpOptions}
+use Rattle.plan_model.specs.declared.call.Lane.{Lane}
+use Rattle.session_model.specs.Calls.{Setting, added, calls_of}
+use Rattle.plan_model.specs.Lanes.{are_ok}
+use Rattle.session_model.specs.declared.report.Report.{Report}
+use Rattle.session_model.specs.declared.entry.Entry.{Entry}
+use Rattle.session_model.specs.declared.entry.Entry.TheVariants as entry
+use Rattle.session_model.specs.Grants.{orphan}
+use Rattle.session_model.specs.Journals.{IsJournal}
+use Rattle.session_model.specs.Readings.{asked, last_cancel, outcomes_below, trace_of}
+use Rattle.session_model.specs.Settings.{facts_of}
+use Rattle.session_driver.specs.declared.session.Phase.{Phase}
+use Rattle.session_driver.specs.declared.session.Phase.TheVariants.{Fresh, Greeted, Asking, Queried, Open, Failed}
+use Rattle.session_driver.specs.NoLanes.{IsBare, offered}
+use Rattle.session_laws.specs.Changes.{Unbegun}
+use Rattle.session_driver.specs.Session.{Given, IsFixed, IsFresh, Seen}
+use Rattle.session_work.specs.declared.lanes.Lanes.{Lanes}
+use Rattle.session_work.specs.Fresh.{IsUntouched}
+use Rattle.session_work.specs.SoFar.{IsIntact, IsSoFar}
+use Rattle.session_work.specs.Working.{IsWorking, past_of, stage_of, work_of}
 
--- the lanes that were handed in, the options, how far the opening has come, VERSION and what is known of the server once
--- they were told, and what the lanes work with
+-- the lanes that were handed in, the options, how far the opening has come, VERSION and what is known of the server
+-- once they were told, and what the lanes work with
 pub record SessionValue : Type 0 where
   pub lanes : List Lane
   pub options : SftpOptions
@@ -63,13 +68,39 @@ setting_at s = setting_by s.lanes s.options s.version s.info
 
 -- what a caller sees of it
 abbrev pub seen_of : SessionValue → Seen
-seen_of s = record { given = given_of s; setting = setting_at s; phase = s.phase; version = s.version; stage = stage_of s.work; work = work_of s.work }
+seen_of s = record {
+  given = given_of s;
+  setting = setting_at s;
+  phase = s.phase;
+  version = s.version;
+  stage =
+      stage_of s.work;
+  work = work_of s.work;
+}
 
 -- ---- before the session is open
 
+-- the journal without calls that were added to lanes, and lanes that were let go
+abbrev pub without_lanes : List Entry → List Entry
+without_lanes [] = []
+without_lanes (entry.Added lane call ∷ past) = without_lanes past
+without_lanes (entry.LetGo lane ∷ past) = without_lanes past
+without_lanes (e ∷ past) = e ∷ without_lanes past
+
+-- a run so far in which no lane has done anything
+pub record IsIdleRun (s : Setting) (past : List Entry) : Type 0 where
+  pub run : IsJournal s past
+  pub calm : last_cancel past ≡ None
+  pub settled : orphan s past ≡ None
+  pub unbegun : Unbegun s past
+
+-- whatever the server tells: it offers its limits where they were asked for
+abbrev pub AreIdleRuns : List Lane → List Entry → Type 0
+AreIdleRuns lanes past = (s : Setting) → s.lanes ≡ lanes → (0 < asked past → s.limits ≡ true) → IsIdleRun s past
+
 -- no lane has done anything, and nothing is known of the server but its VERSION
 abbrev pub IsUntold : List Lane → Option Info → Lanes → Type 0
-IsUntold lanes info w = (info ≡ None) × IsUntouched lanes w
+IsUntold lanes info w = (info ≡ None) × IsUntouched lanes w × AreIdleRuns lanes (past_of w)
 
 -- the session is not open yet
 abbrev pub is_opening : Phase → Bool
@@ -84,25 +115,36 @@ is_opening Failed = false
 
 -- what a session is in each phase
 abbrev pub IsInPhase : List Lane → SftpOptions → Option Reply → Option Info → Lanes → Phase → Type 0
-IsInPhase lanes options version info w Fresh = IsBare options version (past_of w) w.core Fresh × IsUntold lanes info w
-IsInPhase lanes options version info w Greeted = IsBare options version (past_of w) w.core Greeted × IsUntold lanes info w
-IsInPhase lanes options version info w Asking = IsBare options version (past_of w) w.core Asking × IsUntold lanes info w
-IsInPhase lanes options version info w Queried = IsBare options version (past_of w) w.core Queried × IsUntold lanes info w
 IsInPhase lanes options version info w Open = IsWorking (setting_by lanes options version info) w
 IsInPhase lanes options version info w Failed = IsSoFar (setting_by lanes options version info) w.core.fault (past_of w)
+IsInPhase lanes options version info w opening = IsBare options version (without_lanes (past_of w)) w.core opening
+    × IsUntold lanes info w
 
--- Its lanes are ones that can be run, and they are intact. An open session knows what the server told.
-pub record IsSession (lanes : List Lane) (options : SftpOptions) (version : Option Reply) (info : Option Info) (w : Lanes) (phase : Phase) : Type 0 where
+-- the calls of each lane are those that were handed in, and then those that were added
+pub record HasCalls (lanes : List Lane) (w : Lanes) : Type 0 where
+  pub count : length w.calls ≡ length lanes
+  pub ok : are_ok w.calls ≡ true
+  pub each : (lane : ℕ) → calls_of (slice_get w.calls lane) ≡ calls_of (slice_get lanes lane)
+      ++ added (past_of w) lane
+
+-- Its lanes are ones that can be run, and they are intact. An open session knows what the server told, and VERSION and
+-- the limits fix its setting.
+pub record IsSession (lanes : List Lane) (options : SftpOptions) (version : Option Reply) (info : Option Info)
+    (w : Lanes) (phase : Phase) : Type 0 where
   pub ok : are_ok lanes ≡ true
   pub intact : IsIntact (length lanes) w
   pub now : IsInPhase lanes options version info w phase
   pub told : phase ≡ Open → info ≢ None
+  pub calls : HasCalls lanes w
+  pub fixed : version ≢ None → IsFixed (given lanes options) version (past_of w)
+      (setting_by lanes options version info)
 
 -- a session of these lanes and options whose hello stands in the queue
 pub record IsNew (lanes : List Lane) (options : SftpOptions) (s : SessionValue) : Type 0 where
   pub made_of : given_of s ≡ given lanes options
   pub fresh : IsFresh (seen_of s)
   pub version : s.version ≡ None
+  pub calls : s.work.calls ≡ lanes
 
 -- ---- once it has ended
 

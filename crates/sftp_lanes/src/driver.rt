@@ -1,18 +1,18 @@
 // A whole run of lanes over a link.
 ghost use Rattle.std.specs.Prelude.{◌≡◌, ◌<◌, ◌^◌, ◌-◌, true, IfOk, IfErr};
 ghost use Rattle.sftp_link.specs.Told.{Told};
-ghost use Rattle.sftp_history.specs.Lanes.{are_ok};
-ghost use Rattle.sftp_driver.specs.Causes.{Caused};
-ghost use Rattle.sftp_driver.specs.Logs.{Ends};
+ghost use Rattle.plan_model.specs.Lanes.{are_ok};
+ghost use Rattle.session_exchange.specs.Causes.{Caused};
+ghost use Rattle.session_driver.specs.Logs.{Ends};
+ghost use Rattle.sftp_lanes.specs.Complete.{StopsForMemory};
 ghost use Rattle.sftp_lanes.specs.Seen.{given};
 ghost use Rattle.sftp_lanes.specs.Reported.{IsReport};
 
 use crate::session::Session;
-use sftp_core::SftpOptions;
-use sftp_driver::run_session;
-use sftp_history::{Lane, Report, Turn};
+use session_driver::run_session;
+use session_model::{Lane, Report, Turn};
 use sftp_link::Link;
-use sftp_model::Error;
+use sftp_model::{Error, SftpOptions};
 use ssh_encoding::OutOfMemory;
 use std::alloc::Global;
 
@@ -27,7 +27,8 @@ use std::alloc::Global;
 /// `LinkFault` comes only where the link's count of faults rose, `LinkEnded` only where its last call found the end, and
 /// each other error but `OutOfMemory` is the first thing that is wrong with the frame that came last. After an error the
 /// log shows VERSION and a journal that is a run so far of the lanes under these turns, or the hello, and then nothing, a
-/// prefix of the next frames to be sent, or bytes of one frame that wasn't taken, and none past it.
+/// prefix of the next frames to be sent, or bytes of one frame that wasn't taken, and none past it. Over a new link that gives
+/// VERSION 3, and to each request that was sent a reply that may be taken, and that has no fault, the error is `OutOfMemory`.
 pub fn run_lanes<L: Link>(
     alloc: Global,
     link: &mut L,
@@ -40,6 +41,7 @@ pub fn run_lanes<L: Link>(
     ensures run { IfOk result (λ report. IsReport lanes.now options.now schedule.now (L.LinkState.state link.old).log (L.LinkState.state link.new).log report) }
     ensures stops { IfErr result (λ e. Told (Ends (given lanes.now options.now) schedule.now (L.LinkState.state link.new).ended e) (L.LinkState.state link.old).log (L.LinkState.state link.new).log) }
     ensures caused { Caused (L.LinkState.state link.old) (L.LinkState.state link.new) result }
+    ensures complete { IfErr result (StopsForMemory (given lanes.now options.now) (L.LinkState.state link.old) (L.LinkState.state link.new)) }
 {
     let mut session = match Session::new(alloc, lanes, options) {
         Ok(session) => session,

@@ -1,69 +1,100 @@
 // What a session does by itself: the calls of its lanes, and what it hands out and takes in each phase.
-ghost use Rattle.std.specs.Prelude.{◌≡◌, ◌≢◌, ◌↔◌, None, IsTrue, IfOk, IfErr, OnErr, OnOk, false, true};
+ghost use Rattle.std.specs.Prelude.{◌≡◌, None, IfOk, IfErr, MatchBool, OnErr, OnOk, false, length, nat_lt, true};
 ghost use Rattle.std.specs.Option.{option_map};
 ghost use Rattle.sftp_core.specs.Take.{IsFirst};
 ghost use Rattle.sftp_model.specs.Pieces.{joined};
 ghost use Rattle.sftp_model.specs.ReplyReadings.{reply_at};
-ghost use Rattle.sftp_history.specs.Calls.{current};
-ghost use Rattle.sftp_history.specs.Readings.{awaited, unanswered, was_let_go};
-ghost use Rattle.sftp_history.specs.Turns.{is_full};
-ghost use Rattle.sftp_driver.specs.Refusals.{refuses};
-ghost use Rattle.sftp_driver.specs.declared.session.Phase.TheVariants as phases;
-ghost use Rattle.sftp_lanes.specs.Events.{GoesOn, HandsOutIn, HasFailed, IsRefused, TakesIn, first_wrong, takes_frames};
-ghost use Rattle.sftp_lanes.specs.Seen.{setting_at};
-ghost use Rattle.sftp_work.specs.Working.{CancelsLane, HandsAll, LetsLaneGo, Steps, TakesBody, past_of};
+ghost use Rattle.session_model.specs.Calls.{current};
+ghost use Rattle.session_model.specs.Readings.{was_let_go};
+ghost use Rattle.session_driver.specs.Refusals.{refuses};
+ghost use Rattle.session_driver.specs.declared.session.Phase.TheVariants as phases;
+ghost use Rattle.sftp_lanes.specs.Events.{CancelsIn, GoesOn, HandsOutIn, HasFailed, IsRefused, LetsGoIn, LetsIdleGo, StepsIn, TakesIn, first_wrong, takes_frames, takes_memory};
+ghost use Rattle.sftp_lanes.specs.Seen.{is_opening, setting_at};
+ghost use Rattle.session_work.specs.Working.{HandsAll, TakesBody, past_of};
 
 use crate::session::Session;
+use session_driver::{Phase, Stepped};
 use sftp_core::{Chunk, TakeError};
-use sftp_driver::{Phase, Stepped};
 use ssh_encoding::OutOfMemory;
 
+/// What a call of the lanes answers; where it was refused, the session has failed.
+pub(crate) fn keep<T, E>(phase: &mut Phase, answer: Result<T, E>) -> Result<T, E>
+    ensures answer { result ≡ answer }
+    ensures ok { OnOk answer (phase.new ≡ phase.old) }
+    ensures err { OnErr answer (phase.new ≡ phases.Failed) }
+{
+    if answer.is_err() {
+        *phase = Phase::Failed;
+    }
+    answer
+}
+
 impl Session {
-    /// One step of a lane of an open session: its call's next request, or its end, or nothing. Refused for want of memory.
-    pub(crate) fn step_lane(&mut self, lane: u32) -> Result<Stepped, OutOfMemory>
-        requires open { self.old.phase ≡ phases.Open }
-        ensures steps { IfOk result (λ event. GoesOn (λ s before after. Steps s lane before after event) self.old self.new) }
+    /// One step of a lane: its call's next request, or its end, or nothing, as before the session is open. Refused for want of memory:
+    /// the calls and the journal are as before then, and each later call is refused so.
+    pub fn step(&mut self, lane: u32) -> Result<Stepped, OutOfMemory>
+        ensures steps { IfOk result (λ event. StepsIn self.old.phase lane self.old self.new event) }
         ensures left { OnErr result (HasFailed self.old self.new) }
+        ensures opened { OnErr result (is_opening self.old.phase ≡ false) }
     {
-        match self.work.step(self.alloc, lane) {
-            Ok(event) => Ok(event),
-            Err(e) => {
-                self.phase = Phase::Failed;
-                Err(e)
+        match self.phase {
+            Phase::Open => {
+                let stepped = self.work.step(self.alloc, lane);
+                keep(&mut self.phase, stepped)
             }
+            Phase::Failed => Err(OutOfMemory),
+            _ => Ok(Stepped::Nothing),
         }
     }
 
-    /// Cancels the call of a lane of an open session, where it was begun. Refused for want of memory.
-    pub(crate) fn cancel_call(&mut self, lane: u32) -> Result<bool, OutOfMemory>
-        requires open { self.old.phase ≡ phases.Open }
-        ensures cancels { IfOk result (λ event. GoesOn (λ s before after. CancelsLane s lane before after event) self.old self.new) }
+    /// Cancels the call of a lane that was begun, and answers whether it was. Refused for want of memory: the calls and the journal
+    /// are as before then, and each later call is refused so.
+    pub fn cancel(&mut self, lane: u32) -> Result<bool, OutOfMemory>
+        ensures cancels { IfOk result (λ event. CancelsIn self.old.phase lane self.old self.new event) }
         ensures left { OnErr result (HasFailed self.old self.new) }
+        ensures opened { OnErr result (is_opening self.old.phase ≡ false) }
     {
-        match self.work.cancel(self.alloc, lane) {
-            Ok(event) => Ok(event),
-            Err(e) => {
-                self.phase = Phase::Failed;
-                Err(e)
+        match self.phase {
+            Phase::Open => {
+                let cancelled = self.work.cancel(self.alloc, lane);
+                keep(&mut self.phase, cancelled)
             }
+            Phase::Failed => Err(OutOfMemory),
+            _ => Ok(false),
         }
     }
 
-    /// Lets go of all that the slots of a lane of an open session hold. Refused for want of memory.
-    pub(crate) fn let_lane_go(&mut self, lane: u32) -> Result<(), OutOfMemory>
-        requires open { self.old.phase ≡ phases.Open }
+    /// Lets go of all that the slots of a lane hold that has no call left and was not let go, where the lane is there. Refused for
+    /// want of memory: the calls and the journal are as before then, and each later call is refused so.
+    pub fn let_go(&mut self, lane: u32) -> Result<(), OutOfMemory>
         requires done { current (setting_at self.old) (past_of self.old.work) lane ≡ None }
         requires held { was_let_go (past_of self.old.work) lane ≡ false }
-        ensures lets_go { OnOk result (GoesOn (λ s before after. LetsLaneGo s lane before after) self.old self.new) }
+        ensures lets_go { OnOk result (LetsGoIn self.old.phase lane self.old self.new) }
         ensures left { OnErr result (HasFailed self.old self.new) }
     {
-        match self.work.let_go(self.alloc, lane) {
-            Ok(()) => Ok(()),
-            Err(e) => {
-                self.phase = Phase::Failed;
-                Err(e)
+        match self.phase {
+            Phase::Open => {
+                let gone = self.work.let_go(self.alloc, lane);
+                keep(&mut self.phase, gone)
             }
+            Phase::Failed => Err(OutOfMemory),
+            _ => self.let_idle_go(lane),
         }
+    }
+
+    /// Notes that a lane is let go before the session is open, where it is there: it holds nothing. Refused for want of memory.
+    fn let_idle_go(&mut self, lane: u32) -> Result<(), OutOfMemory>
+        requires opens { is_opening self.old.phase ≡ true }
+        requires done { current (setting_at self.old) (past_of self.old.work) lane ≡ None }
+        requires held { was_let_go (past_of self.old.work) lane ≡ false }
+        ensures lets_go { OnOk result (MatchBool (nat_lt lane (length self.old.lanes)) (LetsIdleGo lane self.old self.new) (self.new ≡ self.old)) }
+        ensures left { OnErr result (HasFailed self.old self.new) }
+    {
+        if lane >= self.lanes.count() {
+            return Ok(());
+        }
+        let gone = self.work.let_idle_go(lane);
+        keep(&mut self.phase, gone)
     }
 
     /// The frames of all unsent requests of an open session. Refused for want of memory.
@@ -72,13 +103,8 @@ impl Session {
         ensures hands_out { IfOk result (λ chunk. GoesOn (λ s before after. HandsAll s before after (option_map joined chunk)) self.old self.new) }
         ensures left { OnErr result (HasFailed self.old self.new) }
     {
-        match self.work.hand_out() {
-            Ok(chunk) => Ok(chunk),
-            Err(e) => {
-                self.phase = Phase::Failed;
-                Err(e)
-            }
-        }
+        let chunk = self.work.hand_out();
+        keep(&mut self.phase, chunk)
     }
 
     /// Takes the body of a frame into an open session. Refused by the first thing that is wrong with it, which is kept, or for want of
@@ -89,70 +115,19 @@ impl Session {
         ensures refused { IfErr result (λ e. IsFirst e (refuses (past_of self.old.work) (reply_at body.now))) }
         ensures kept { IfErr result (λ e. IsRefused e self.old self.new) }
     {
-        match self.work.take(body) {
-            Ok(()) => Ok(()),
-            Err(e) => {
-                self.phase = Phase::Failed;
-                Err(e)
-            }
-        }
-    }
-}
-
-impl Session {
-    /// One step of a lane of an opened session: its call's next request, or its end, or nothing. Refused for want of memory: the
-    /// journal is as before then, and each later call is refused so.
-    pub fn step(&mut self, lane: u32) -> Result<Stepped, OutOfMemory>
-        requires told { self.old.info ≢ None }
-        requires unfailed { self.old.work.core.fault ≡ None }
-        ensures steps { IfOk result (λ event. GoesOn (λ s before after. Steps s lane before after event) self.old self.new) }
-        ensures left { OnErr result (HasFailed self.old self.new) }
-    {
-        match self.phase {
-            Phase::Open => self.step_lane(lane),
-            _ => Err(OutOfMemory),
-        }
-    }
-
-    /// Cancels the call of a lane that was begun, and answers whether it was. Refused for want of memory: the journal is as
-    /// before then, and each later call is refused so.
-    pub fn cancel(&mut self, lane: u32) -> Result<bool, OutOfMemory>
-        requires told { self.old.info ≢ None }
-        requires unfailed { self.old.work.core.fault ≡ None }
-        ensures cancels { IfOk result (λ event. GoesOn (λ s before after. CancelsLane s lane before after event) self.old self.new) }
-        ensures left { OnErr result (HasFailed self.old self.new) }
-    {
-        match self.phase {
-            Phase::Open => self.cancel_call(lane),
-            _ => Err(OutOfMemory),
-        }
-    }
-
-    /// Lets go of all that the slots of a lane hold that has no call left and was not let go. Refused for want of memory: the
-    /// journal is as before then, and each later call is refused so.
-    pub fn let_go(&mut self, lane: u32) -> Result<(), OutOfMemory>
-        requires told { self.old.info ≢ None }
-        requires unfailed { self.old.work.core.fault ≡ None }
-        requires done { current (setting_at self.old) (past_of self.old.work) lane ≡ None }
-        requires held { was_let_go (past_of self.old.work) lane ≡ false }
-        ensures lets_go { OnOk result (GoesOn (λ s before after. LetsLaneGo s lane before after) self.old self.new) }
-        ensures left { OnErr result (HasFailed self.old self.new) }
-    {
-        match self.phase {
-            Phase::Open => self.let_lane_go(lane),
-            _ => Err(OutOfMemory),
-        }
+        let taken = self.work.take(body);
+        keep(&mut self.phase, taken)
     }
 }
 
 impl Session {
     /// The frames that are to be sent next: the hello, then the query for limits where the server offers them, and then those of all
-    /// unsent requests. None where nothing is unsent. Refused for want of memory: the journal is as before then, and each later call is
-    /// refused so.
+    /// unsent requests. None where nothing is unsent, and while VERSION or the limits are awaited. Refused for want of memory: the
+    /// calls and the journal are as before then, and each later call is refused so.
     pub fn hand_out(&mut self) -> Result<Option<Chunk>, OutOfMemory>
-        requires unfailed { self.old.work.core.fault ≡ None }
         ensures hands_out { IfOk result (λ chunk. HandsOutIn self.old.phase self.old self.new (option_map joined chunk)) }
         ensures left { OnErr result (HasFailed self.old self.new) }
+        ensures some { OnErr result (takes_memory self.old.phase ≡ true) }
     {
         match self.phase {
             Phase::Fresh => match self.hand_hello() {
@@ -205,40 +180,5 @@ impl Session {
         ensures { result ≡ takes_frames self.now.phase }
     {
         !matches!(self.phase, Phase::Fresh | Phase::Asking)
-    }
-}
-
-impl Session {
-    /// Whether a lane of an open session has no call left.
-    pub fn is_done(&self, lane: u32) -> bool
-        requires open { self.now.phase ≡ phases.Open }
-        ensures { IsTrue result ↔ (current (setting_at self.now) (past_of self.now.work) lane ≡ None) }
-    {
-        self.work.is_done(lane)
-    }
-
-    /// Whether more requests of an open session are unsent than its options allow.
-    pub fn wants_flush(&self) -> bool
-        requires open { self.now.phase ≡ phases.Open }
-        ensures { result ≡ is_full (setting_at self.now) (past_of self.now.work) }
-    {
-        self.work
-            .wants_flush(self.options.get_max_pending_requests())
-    }
-
-    /// How many sent requests of an open session have no reply.
-    pub fn awaited(&self) -> u32
-        requires open { self.now.phase ≡ phases.Open }
-        ensures { result ≡ awaited (past_of self.now.work) }
-    {
-        self.work.awaited()
-    }
-
-    /// How many requests of an open session have no reply, sent or not.
-    pub fn unanswered(&self) -> u32
-        requires open { self.now.phase ≡ phases.Open }
-        ensures { result ≡ unanswered (past_of self.now.work) }
-    {
-        self.work.unanswered()
     }
 }

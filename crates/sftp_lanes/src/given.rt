@@ -1,7 +1,7 @@
 // The lanes that a session was given.
 ghost use Rattle.std.specs.Prelude.{◌≡◌, ◌<◌, ◌^◌, length};
 
-use sftp_history::Lane;
+use session_model::Lane;
 use sftp_values::Items;
 use std::marker::Model;
 use std::snapshot::Snapshot;
@@ -16,7 +16,7 @@ pub struct GivenLanes {
 
 impl Model for GivenLanes {
     ghost use Rattle.std.specs.Prelude.{◌≡◌, List, length};
-    ghost use Rattle.sftp_history.specs.declared.call.Lane.{Lane as LaneValue};
+    ghost use Rattle.plan_model.specs.declared.call.Lane.{Lane as LaneValue};
 
     ghost Value = { List LaneValue };
 

@@ -3,20 +3,18 @@ ghost use Rattle.std.specs.Prelude.{◌≡◌, IfOk, IfErr, OnErr, OnOk};
 ghost use Rattle.sftp_core.specs.Take.{IsFirst};
 ghost use Rattle.sftp_model.specs.Pieces.{joined};
 ghost use Rattle.sftp_model.specs.ReplyReadings.{reply_at};
-ghost use Rattle.sftp_history.specs.Readings.{unsent_bytes};
-ghost use Rattle.sftp_history.specs.Shown.{hello_frame};
-ghost use Rattle.sftp_driver.specs.declared.session.Phase.TheVariants as phases;
-ghost use Rattle.sftp_driver.specs.Refusals.{refuses, refuses_hello};
-ghost use Rattle.sftp_driver.specs.Session.{IsGreeted, IsLater, IsQueried};
-ghost use Rattle.sftp_lanes.specs.Events.{HasFailed, IsRefused, TakesLimits, TakesVersion};
-ghost use Rattle.sftp_lanes.specs.Seen.{seen_of, setting_at};
-ghost use Rattle.sftp_work.specs.Working.{past_of};
+ghost use Rattle.session_model.specs.Readings.{unsent_bytes};
+ghost use Rattle.session_model.specs.Shown.{hello_frame};
+ghost use Rattle.session_driver.specs.declared.session.Phase.TheVariants as phases;
+ghost use Rattle.session_driver.specs.Refusals.{refuses, refuses_hello};
+ghost use Rattle.sftp_lanes.specs.Events.{HandsHello, HandsQuery, HasFailed, IsRefused, TakesLimits, TakesVersion};
+ghost use Rattle.session_work.specs.Working.{past_of};
 
 use crate::session::Session;
 use crate::telling::{offers_limits, query_entry, tell};
+use session_driver::Phase;
+use session_model::{Entry, Event};
 use sftp_core::{Chunk, TakeError, Taken};
-use sftp_driver::Phase;
-use sftp_history::{Entry, Event};
 use ssh_encoding::OutOfMemory;
 
 impl Session {
@@ -24,7 +22,7 @@ impl Session {
     pub(crate) fn hand_hello(&mut self) -> Result<Chunk, OutOfMemory>
         requires fresh { self.old.phase ≡ phases.Fresh }
         ensures hello { IfOk result (λ chunk. joined chunk ≡ hello_frame) }
-        ensures greeted { OnOk result (IsGreeted (seen_of self.old) (seen_of self.new)) }
+        ensures hands { OnOk result (HandsHello self.old self.new) }
         ensures left { OnErr result (HasFailed self.old self.new) }
     {
         match self.work.core.hand_out() {
@@ -73,8 +71,7 @@ impl Session {
     pub(crate) fn hand_query(&mut self) -> Result<Chunk, OutOfMemory>
         requires asking { self.old.phase ≡ phases.Asking }
         ensures query { IfOk result (λ chunk. joined chunk ≡ unsent_bytes (past_of self.old.work)) }
-        ensures queried { OnOk result (IsQueried (seen_of self.old) (seen_of self.new)) }
-        ensures later { OnOk result (IsLater (setting_at self.new) (past_of self.old.work) (past_of self.new.work)) }
+        ensures hands { OnOk result (HandsQuery self.old self.new) }
         ensures left { OnErr result (HasFailed self.old self.new) }
     {
         if self.work.journal.reserve(2).is_err() {

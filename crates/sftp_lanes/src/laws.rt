@@ -1,16 +1,16 @@
 // Laws of the definitions. The functions do nothing: what they ensure holds of all values.
 ghost use Rattle.std.specs.Prelude.{List, Some};
-ghost use Rattle.sftp_core.specs.declared.options.SftpOptions.{SftpOptions};
+ghost use Rattle.sftp_model.specs.declared.options.SftpOptions.{SftpOptions};
 ghost use Rattle.sftp_model.specs.declared.config.Choice.{Choice};
 ghost use Rattle.sftp_model.specs.declared.config.ServerConfig.{ServerConfig};
-ghost use Rattle.sftp_tree.specs.Changes.{IsWellFormed};
-ghost use Rattle.sftp_tree.specs.FileTree.{FileTree};
+ghost use Rattle.machine_model.specs.Changes.{IsWellFormed};
+ghost use Rattle.machine_model.specs.FileTree.{FileTree};
 ghost use Rattle.sftp_link.specs.declared.piece.Piece.{Piece};
-ghost use Rattle.sftp_history.specs.declared.call.Lane.{Lane};
-ghost use Rattle.sftp_history.specs.declared.report.Report.{Report};
-ghost use Rattle.sftp_history.specs.declared.turn.Turn.{Turn};
-ghost use Rattle.sftp_history.specs.Settings.{setting_of};
-ghost use Rattle.sftp_round_trip.specs.KeepsFiles.{KeepsFiles};
+ghost use Rattle.plan_model.specs.declared.call.Lane.{Lane};
+ghost use Rattle.session_model.specs.declared.report.Report.{Report};
+ghost use Rattle.session_model.specs.declared.turn.Turn.{Turn};
+ghost use Rattle.session_model.specs.Settings.{setting_of};
+ghost use Rattle.run_laws.specs.KeepsFiles.{KeepsFiles};
 ghost use Rattle.sftp_lanes.specs.Reported.{IsReport};
 ghost use Rattle.sftp_lanes.specs.ServesFiles.{ServesFiles};
 

@@ -1,8 +1,8 @@
 // What a session reports of its journal.
 ghost use Rattle.std.specs.Prelude.{◌≡◌, IfOk, reverse};
-ghost use Rattle.sftp_history.specs.Readings.{trace_of};
+ghost use Rattle.session_model.specs.Readings.{trace_of};
 
-use sftp_history::{Entry, Event};
+use session_model::{Entry, Event};
 use sftp_values::Items;
 use ssh_encoding::OutOfMemory;
 use std::alloc::Global;

@@ -2,24 +2,25 @@
 ghost use Rattle.std.specs.Prelude.{◌≡◌, ◌≢◌, [], None, Some, true, IfOk, reverse, ◌<◌, false, length, OnErr, OnOk};
 ghost use Rattle.std.specs.Option.{unwrap_or};
 ghost use Rattle.sftp_core.specs.Core.{failed_with};
-ghost use Rattle.sftp_history.specs.Lanes.{are_ok};
-ghost use Rattle.sftp_history.specs.Readings.{outcomes_of as of_lane, was_let_go};
-ghost use Rattle.sftp_history.specs.declared.entry.Entry.TheVariants as entry;
-ghost use Rattle.sftp_history.specs.Journals.{IsJournal, IsNext};
-ghost use Rattle.sftp_driver.specs.declared.session.Phase.TheVariants as phases;
+ghost use Rattle.plan_model.specs.Lanes.{are_ok};
+ghost use Rattle.session_model.specs.Readings.{outcomes_of as of_lane, was_let_go};
+ghost use Rattle.session_model.specs.declared.entry.Entry.TheVariants as entry;
+ghost use Rattle.session_model.specs.Journals.{IsJournal, IsNext};
+ghost use Rattle.session_driver.specs.declared.session.Phase.TheVariants as phases;
 ghost use Rattle.sftp_lanes.specs.Adding.{AddsCall, IsSame};
-ghost use Rattle.sftp_lanes.specs.Seen.{IsNew, Reports, is_opening, setting_at};
-ghost use Rattle.sftp_work.specs.Adding.{with_call};
-ghost use Rattle.sftp_work.specs.SoFar.{kept_in, kept_past};
-ghost use Rattle.sftp_work.specs.Working.{past_of};
+ghost use Rattle.session_driver.specs.Adding.{with_call};
+ghost use Rattle.session_driver.specs.Session.{IsFixed};
+ghost use Rattle.sftp_lanes.specs.Seen.{IsNew, Reports, given_of, is_opening, setting_at};
+ghost use Rattle.session_work.specs.SoFar.{kept_in, kept_past};
+ghost use Rattle.session_work.specs.Working.{past_of};
 
 use crate::given::GivenLanes;
 use crate::report::events_of;
-use sftp_core::{Chunk, Fault, Info, SftpOptions, TakeError};
-use sftp_driver::{Phase, RunsLanes, Stepped};
-use sftp_history::{Call, Entry, Lane, Outcome, Report};
-use sftp_model::Reply;
-use sftp_work::Lanes;
+use session_driver::{AddsCalls, Phase, RunsLanes, Stepped};
+use session_model::{Call, Entry, Lane, Outcome, Report};
+use session_work::Lanes;
+use sftp_core::{Chunk, Fault, Info, TakeError};
+use sftp_model::{Reply, SftpOptions};
 use ssh_encoding::OutOfMemory;
 use std::alloc::Global;
 use std::marker::Model;
@@ -41,7 +42,7 @@ pub struct Session {
 
 impl Model for Session {
     ghost use Rattle.std.specs.Coded.{codes};
-    ghost use Rattle.sftp_work.specs.contracts.lanes.Lanes as of_lanes;
+    ghost use Rattle.session_work.specs.contracts.lanes.Lanes as of_lanes;
     ghost use Rattle.sftp_lanes.specs.Seen.{SessionValue, IsSession};
 
     ghost Value = { SessionValue };
@@ -89,10 +90,12 @@ impl Session {
         self.work.core.fault()
     }
 
-    /// What happened so far, the first entry first: a run so far in every phase.
+    /// What happened so far, the first entry first: a run so far in every phase, of the setting that VERSION and the limits
+    /// fix.
     pub fn journal(&self) -> &[Entry]
         ensures value { reverse result.now ≡ past_of self.now.work }
         ensures so_far { IsJournal (setting_at self.now) (past_of self.now.work) }
+        ensures fixed { self.now.version ≢ None → IsFixed (given_of self.now) self.now.version (past_of self.now.work) (setting_at self.now) }
     {
         self.work.journal.as_slice()
     }
@@ -125,18 +128,21 @@ impl Session {
         self.work.calls.as_slice()
     }
 
-    /// Puts a call behind those of a lane that is there and was not let go, and notes it in the journal. Whether a session
-    /// can have its lanes with the call is what `lanes_ok` tells of them. Refused for want of memory; nothing has changed
-    /// then, and the session goes on.
+    /// Puts a call behind those of a lane that is there and was not let go, and notes it in the journal. Before the session
+    /// is open the call waits for a later step. Whether a session can have its lanes with the call is what `lanes_ok` tells
+    /// of them. Refused for want of memory, as always once the session has failed; nothing has changed then, and a session
+    /// goes on.
     pub fn push_call(&mut self, lane: u32, call: Call) -> Result<(), OutOfMemory>
-        requires open { self.old.phase ≡ phases.Open }
         requires there { lane < length self.old.work.calls }
         requires held { was_let_go (past_of self.old.work) lane ≡ false }
         requires ok { are_ok (with_call self.old.work.calls lane call) ≡ true }
         ensures adds { OnOk result (AddsCall lane call self.old self.new) }
         ensures left { OnErr result (IsSame self.old self.new) }
     {
-        self.work.push_call(self.alloc, lane, call)
+        match self.phase {
+            Phase::Failed => Err(OutOfMemory),
+            _ => self.work.push_call(self.alloc, lane, call),
+        }
     }
 
     /// Keeps a fault, also as the last entry of the journal; where one is kept already, that one stays, and nothing is
@@ -151,6 +157,14 @@ impl Session {
         ensures told { self.new.work.core.fault ≡ Some (unwrap_or self.old.work.core.fault fault) }
     {
         self.work.keep(fault);
+        self.phase = Phase::Failed;
+    }
+
+    /// Fails the session for want of memory, as where a link found none: no call of the lanes can be made any more. Nothing
+    /// is added to the journal.
+    pub fn give_up(&mut self)
+        ensures { self.new ≡ record self.old { phase = phases.Failed } }
+    {
         self.phase = Phase::Failed;
     }
 
@@ -198,15 +212,15 @@ impl RunsLanes for Session {
     }
 
     fn step(&mut self, lane: u32) -> Result<Stepped, OutOfMemory> {
-        self.step_lane(lane)
+        self.step(lane)
     }
 
     fn cancel(&mut self, lane: u32) -> Result<bool, OutOfMemory> {
-        self.cancel_call(lane)
+        self.cancel(lane)
     }
 
     fn let_go(&mut self, lane: u32) -> Result<(), OutOfMemory> {
-        self.let_lane_go(lane)
+        self.let_go(lane)
     }
 
     fn hand_out(&mut self) -> Result<Option<Chunk>, OutOfMemory> {
@@ -239,5 +253,13 @@ impl RunsLanes for Session {
 
     fn is_done(&self, lane: u32) -> bool {
         self.is_done(lane)
+    }
+}
+
+impl AddsCalls for Session {
+    ghost calls = { λ s. s.work.calls };
+
+    fn push_call(&mut self, lane: u32, call: Call) -> Result<(), OutOfMemory> {
+        self.push_call(lane, call)
     }
 }

@@ -1,16 +1,21 @@
 // What a server tells as a session opens.
-ghost use Rattle.std.specs.Prelude.{◌≡◌, ◌∷◌, [], Some, IfSome};
+ghost use Rattle.std.specs.Prelude.{◌≡◌, Some, IfSome};
 ghost use Rattle.sftp_model.specs.declared.flags.Extensions.{Extensions as ExtensionsValue};
-ghost use Rattle.sftp_calls.specs.GoodMoves.{FitsFacts};
-ghost use Rattle.sftp_core.specs.Info.{HasLengths, info_of, offers_limits as offers};
-ghost use Rattle.sftp_driver.specs.NoLanes.{offered, asked_past};
+ghost use Rattle.plan_model.specs.GoodMoves.{FitsFacts};
+ghost use Rattle.sftp_core.specs.Info.{HasLengths, info_of};
+ghost use Rattle.sftp_model.specs.Lengths.{offers_limits as offers};
+ghost use Rattle.session_model.specs.declared.entry.Entry.TheVariants as entry;
+ghost use Rattle.session_model.specs.declared.event.Event.TheVariants.{Submit};
+ghost use Rattle.session_model.specs.declared.event.Owner.TheVariants as owner;
+ghost use Rattle.sftp_model.specs.declared.request.Request.TheVariants as request;
+ghost use Rattle.session_driver.specs.NoLanes.{offered};
 ghost use Rattle.sftp_lanes.specs.Seen.{facts_by};
 
 use bitflags::Flags;
-use sftp_core::{Info, SftpOptions};
-use sftp_history::{Entry, Event, Owner};
-use sftp_model::{Extensions, Facts, Reply, Request};
-use sftp_work::Lanes;
+use session_model::{Entry, Event, Owner};
+use session_work::Lanes;
+use sftp_core::Info;
+use sftp_model::{Extensions, Facts, Reply, Request, SftpOptions};
 
 /// Whether a VERSION offers the query for limits.
 pub(crate) fn offers_limits(reply: &Reply) -> bool
@@ -24,7 +29,7 @@ pub(crate) fn offers_limits(reply: &Reply) -> bool
 
 /// The query for limits was submitted.
 pub(crate) fn query_entry() -> Entry
-    ensures { result ∷ [] ≡ asked_past }
+    ensures { result ≡ entry.Event (Submit owner.Setup 0 request.LimitsQuery) }
 {
     Entry::Event(Event::Submit {
         owner: Owner::Setup,

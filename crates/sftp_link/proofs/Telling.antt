@@ -1,5 +1,33 @@
 -- What is told over several calls.
-use Rattle.std.proofs.Common.{◌≡◌, ◌<◌, ◌≤◌, ℕ, ◌+◌, List, [], ◌∷◌, ◌++◌, take, drop, length, Option, Some, None, refl, ap, sym, ◌∙◌, subst, append_assoc, arith, min, ◌-◌, length-drop, length-append, take-add}
+use Rattle.std.proofs.Common.{
+  ◌≡◌,
+  ◌<◌,
+  ◌≤◌,
+  ℕ,
+  ◌+◌,
+  List,
+  [],
+  ◌∷◌,
+  ◌++◌,
+  take,
+  drop,
+  length,
+  Option,
+  Some,
+  None,
+  refl,
+  ap,
+  sym,
+  ◌∙◌,
+  subst,
+  append_assoc,
+  arith,
+  min,
+  ◌-◌,
+  length-drop,
+  length-append,
+  take-add,
+}
 use Rattle.std.proofs.lemmas.List.{append-nil, take-append-drop, drop-drop, nil_from_length, length-take, take_all, take-append-le}
 use Rattle.std.proofs.Math.Seq.{take-append_seam, take-append-add}
 use borrow.Rule.Slice.PartMut.{put_mid, post_of}
@@ -38,14 +66,21 @@ pub rest_is : (bytes : List ℕ) (at : ℕ) → rest_of bytes at ≡ drop at byt
 rest_is bytes at = take_all (length bytes - at) (drop at bytes) (omega (arith, length-drop at bytes))
 
 -- a front of the bytes, and then a piece of what is left
-pub sent_piece : (bytes : List ℕ) (at n : ℕ) (b x y : List Piece) → SentOn b x (take at bytes) → OneMore Sent (take n (rest_of bytes at)) x y → SentOn b y (take (at + n) bytes)
+pub sent_piece : (bytes : List ℕ) (at n : ℕ) (b x y : List Piece) → SentOn b x (take at bytes)
+    → OneMore Sent (take n (rest_of bytes at)) x y → SentOn b y (take (at + n) bytes)
 sent_piece bytes at n b x y s e =
     let piece : take n (rest_of bytes at) ≡ take n (drop at bytes) = ap (λ (w : List ℕ). take n w) (rest_is bytes at) in
     let all : take at bytes ++ take n (rest_of bytes at) ≡ take (at + n) bytes = ap (λ (w : List ℕ). take at bytes ++ w) piece ∙ sym (take-add at n bytes) in
     subst (λ (w : List ℕ). SentOn b y w) all (sent_more b x y (take at bytes) (take n (rest_of bytes at)) s e)
 
 pub sent_less_before : (bytes : List ℕ) (at : ℕ) → at < length bytes → (b x y : List Piece) → SentOn b x (take at bytes) → Same x y → SentLess bytes b y
-sent_less_before bytes at lt b x y s e = (take at bytes, drop at bytes, sym (take-append-drop at bytes), omega (arith, length-drop at bytes), subst (λ (w : List Piece). SentOn b w (take at bytes)) (sym e) s)
+sent_less_before bytes at lt b x y s e = (
+  take at bytes,
+  drop at bytes,
+  sym (take-append-drop at bytes),
+  omega (arith, length-drop at bytes),
+  subst (λ (w : List Piece). SentOn b w (take at bytes)) (sym e) s,
+)
 
 pub went_piece : (bytes : List ℕ) (at n : ℕ) (b x y : List ℕ) → Went (take at bytes) b x → Went (take n (rest_of bytes at)) x y → Went (take (at + n) bytes) b y
 went_piece bytes at n b x y s e =
@@ -57,12 +92,15 @@ pub went_less_before : (bytes : List ℕ) (at : ℕ) → at < length bytes → (
 went_less_before bytes at lt b x y s e = (take at bytes, drop at bytes, sym (take-append-drop at bytes), omega (arith, length-drop at bytes), e ∙ s)
 
 -- what was copied stood at the front of what was left
-pub came : (items copied rest : List ℕ) (room at n : ℕ) → at ≤ length items → 0 < room → n ≡ min room (length items - at) → copied ≡ take n (drop at items) → Came (copied ++ rest) n (drop at items) (drop (at + n) items)
+pub came : (items copied rest : List ℕ) (room at n : ℕ) → at ≤ length items → 0 < room → n
+    ≡ min room (length items - at) → copied ≡ take n (drop at items)
+    → Came (copied ++ rest) n (drop at items) (drop (at + n) items)
 came items copied rest room at n le some is copy =
     let len : length copied ≡ n = grind (arith, copy, length-take {A = ℕ}, length-drop {A = ℕ}) in
     let front : take n (copied ++ rest) ≡ copied = subst (λ (k : ℕ). take k (copied ++ rest) ≡ copied) len (take-append_seam copied rest) in
     let cut : take n (drop at items) ++ drop n (drop at items) ≡ drop at items = take-append-drop n (drop at items) in (
-      sym cut ∙ (ap (λ (w : List ℕ). w ++ drop n (drop at items)) (sym copy ∙ sym front) ∙ ap (λ (w : List ℕ). take n (copied ++ rest) ++ w) (drop-drop n at items)),
+      sym cut ∙ (ap (λ (w : List ℕ). w ++ drop n (drop at items)) (sym copy ∙ sym front)
+          ∙ ap (λ (w : List ℕ). take n (copied ++ rest) ++ w) (drop-drop n at items)),
       λ none. nil_from_length (drop at items) (omega (arith, length-drop at items)),
     )
 
@@ -81,7 +119,8 @@ take_seam xs ys zs at n is le =
 abbrev pub put_from : List ℕ → ℕ → List ℕ → List ℕ
 put_from room at put = put_mid at (length room - at) room put
 
-pub got_piece : (room put : List ℕ) (at n : ℕ) → at ≤ length room → n ≤ length put → (b x y : List Piece) → GotOn b x (take at room) → OneMore Got (take n put) x y → GotOn b y (take (at + n) (put_from room at put))
+pub got_piece : (room put : List ℕ) (at n : ℕ) → at ≤ length room → n ≤ length put → (b x y : List Piece)
+    → GotOn b x (take at room) → OneMore Got (take n put) x y → GotOn b y (take (at + n) (put_from room at put))
 got_piece room put at n le within b x y s e =
     let len : length (take at room) ≡ at = omega (arith, length-take {A = ℕ}) in
     subst (λ (w : List ℕ). GotOn b y w) (sym (take_seam (take at room) put (post_of at (length room - at) room) at n len within)) (
@@ -95,9 +134,15 @@ got_less room put at some b x y s e =
     (take at room, put ++ post_of at (length room - at) room, refl, more, subst (λ (w : List Piece). GotOn b w (take at room)) (sym e) s)
 
 -- and so does it where the end was met, which adds a piece of no bytes
-pub got_less_end : (room put : List ℕ) (at n : ℕ) → 0 < length put → n ≡ 0 → (b x y : List Piece) → GotOn b x (take at room) → OneMore Got (take n put) x y → GotLess (put_from room at put) b y
+pub got_less_end : (room put : List ℕ) (at n : ℕ) → 0 < length put → n ≡ 0 → (b x y : List Piece)
+    → GotOn b x (take at room) → OneMore Got (take n put) x y → GotLess (put_from room at put) b y
 got_less_end room put at n some none b x y s e =
     let more : 0 < length (put ++ post_of at (length room - at) room) = omega (arith, length-append {A = ℕ}) in
     let nothing : take n put ≡ [] = ap (λ (k : ℕ). take k put) none in
-    let same : take at room ++ take n put ≡ take at room = ap (λ (w : List ℕ). take at room ++ w) nothing ∙ append-nil (take at room) in
-    (take at room, put ++ post_of at (length room - at) room, refl, more, subst (λ (w : List ℕ). GotOn b y w) same (got_more b x y (take at room) (take n put) s e))
+    let same : take at room ++ take n put ≡ take at room = ap (λ (w : List ℕ). take at room ++ w) nothing ∙ append-nil (take at room) in (
+      take at room,
+      put ++ post_of at (length room - at) room,
+      refl,
+      more,
+      subst (λ (w : List ℕ). GotOn b y w) same (got_more b x y (take at room) (take n put) s e),
+    )

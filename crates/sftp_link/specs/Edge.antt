@@ -12,6 +12,12 @@ pub record Streaming (S : Type 0) : Type 0 where
   pub faults : ℕ
   pub ended : Bool
 
+-- a source, a sink, and whether the last call was a read that found the end
+pub record Joining (S K : Type 0) : Type 0 where
+  pub source : S
+  pub sink : K
+  pub ended : Bool
+
 -- some of the first bytes were appended, where the bytes are known
 abbrev pub AppendsSome : Option (List ℕ) → Option (List ℕ) → List ℕ → Type 0
 AppendsSome before now bytes = (n : ℕ) × (n ≤ length bytes) × Appends before now (take n bytes)

@@ -1,5 +1,23 @@
 -- The frames that were sent to a scripted link, and the frames that it answers.
-use Rattle.std.specs.Prelude.{ℕ, zero, suc, ◌+◌, List, ◌∷◌, ◌++◌, take, drop, length, nat_lt, bit_xor, Option, Some, None, if◌then◌else◌, option_and_then}
+use Rattle.std.specs.Prelude.{
+  ℕ,
+  zero,
+  suc,
+  ◌+◌,
+  List,
+  ◌∷◌,
+  ◌++◌,
+  take,
+  drop,
+  length,
+  nat_lt,
+  bit_xor,
+  Option,
+  Some,
+  None,
+  if◌then◌else◌,
+  option_and_then,
+}
 use Rattle.std.specs.Option.{option_map}
 use Rattle.std.specs.Int.{w32, from_be_bytes, to_be_bytes}
 use Rattle.sftp_link.specs.declared.piece.Scripted.{Scripted}

@@ -22,6 +22,7 @@ pub scripted_decides : (a b : Scripted) → Decides (scripted.ghosts.eq a b) (a 
 scripted_decides (Raw a) (Raw b) = decides_by _ (λ e. ap (λ x. Raw x) e) (λ e. cc) (bytes_decides a b)
 scripted_decides (To r f k a) (To s g l b) =
     decides_by _ (λ h. λ i. To (h.0 i) (h.1.0 i) (h.1.1.0 i) (h.1.1.1 i)) (λ e. (cc, (cc, (cc, cc))))
-    (and_decides _ _ (Decides-eqb r s) (and_decides _ _ (Decides-eqb f g) (and_decides _ _ (Decides-eqb k l) (bytes_decides a b))))
+    (and_decides _ _ (Decides-eqb r s) (and_decides _ _ (Decides-eqb f g)
+    (and_decides _ _ (Decides-eqb k l) (bytes_decides a b))))
 scripted_decides (Raw a) (To s g l b) = (λ e. absurd cc, λ e. absurd cc)
 scripted_decides (To r f k a) (Raw b) = (λ e. absurd cc, λ e. absurd cc)

@@ -1,5 +1,28 @@
 -- A scripted link, and what each of its calls answers.
-use Rattle.std.specs.Prelude.{◌≡◌, ℕ, List, [], ◌∷◌, ◌++◌, take, drop, length, min, Bool, true, false, ◌==◌, filter, Option, Some, None, Result, Ok, Err, if◌then◌else◌}
+use Rattle.std.specs.Prelude.{
+  ◌≡◌,
+  ℕ,
+  List,
+  [],
+  ◌∷◌,
+  ◌++◌,
+  take,
+  drop,
+  length,
+  min,
+  Bool,
+  true,
+  false,
+  ◌==◌,
+  filter,
+  Option,
+  Some,
+  None,
+  Result,
+  Ok,
+  Err,
+  if◌then◌else◌,
+}
 use Rattle.sftp_link.specs.declared.device_error.DeviceError.{DeviceError}
 use Rattle.sftp_link.specs.declared.device_error.DeviceError.TheVariants.{OutOfMemory, Failed}
 use Rattle.sftp_link.specs.declared.piece.Piece.{Piece}
@@ -104,7 +127,8 @@ after_recv link n = record {
 -- a send fails exactly where its number is listed; else it takes the bytes up to the cut, or there was no memory
 unfoldable pub SendsNext : Play → Play → List ℕ → Result ℕ DeviceError → Type 0
 SendsNext before now bytes (Ok n) =
-    (fails_next before.calls ≡ false) × (n ≡ limited before.cut (length bytes)) × (now ≡ after_send before (take n bytes))
+    (fails_next before.calls ≡ false) × (n ≡ limited before.cut (length bytes))
+    × (now ≡ after_send before (take n bytes))
 SendsNext before now bytes (Err Failed) = (fails_next before.calls ≡ true) × (now ≡ after_error before)
 SendsNext before now bytes (Err OutOfMemory) = (fails_next before.calls ≡ false) × (now ≡ after_error before)
 

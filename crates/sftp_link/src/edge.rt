@@ -1,9 +1,9 @@
 // The trusted edge: a reader and a writer of std, which tell nothing of content.
-ghost use Rattle.std.specs.Prelude.{◌≡◌, ◌<◌, ◌≤◌, ◌-◌, ◌+◌, ◌^◌, length, take, None, IfOk, OnOk, OnErr, IfSome, IfNone};
+ghost use Rattle.std.specs.Prelude.{◌≡◌, ◌<◌, ◌≤◌, ◌-◌, ◌+◌, ◌^◌, length, take, IfOk, OnErr, IfSome, IfNone};
 ghost use Rattle.std.specs.Io.KnownBytes.{ReadConsumes, Appends};
-ghost use Rattle.sftp_link.specs.Causes.{Cause};
 ghost use Rattle.sftp_link.specs.Edge.{AppendsSome};
-ghost use Rattle.sftp_link.specs.Told.{Gives, Takes};
+ghost use Rattle.sftp_link.specs.Moves.{HasRead, HasWritten};
+ghost use Rattle.sftp_link.specs.Views.{reader_view, writer_view};
 
 use crate::device_error::DeviceError;
 use crate::stream::{Sink, Source};
@@ -35,17 +35,13 @@ impl<R: Read> ReadSource<R> {
 }
 
 impl<R: Read> Source for ReadSource<R> {
-    ghost left = { λ _. None };
-
-    ghost faults = { λ s. s.faults };
+    ghost state = { λ s. reader_view s };
 
     /// One read of the reader; `Failed` where it answers an error.
     fn read(&mut self, room: &mut [u8]) -> Result<usize, DeviceError>
         requires some { 0 < length room.old }
         requires count { self.old.faults < 2 ^ 64 - 1 }
-        ensures within { IfOk result (λ n. n ≤ length room.new) }
-        ensures bytes { Gives None None room.new result }
-        ensures cause { Cause self.old.faults self.new.faults result }
+        ensures reads { HasRead room.new (reader_view self.old) (reader_view self.new) result }
         ensures inner { ReadConsumes (R.remaining self.old.inner) (R.remaining self.new.inner)
             result room.new }
         ensures failed { OnErr result (self.new.faults ≡ self.old.faults + 1) }
@@ -85,9 +81,9 @@ impl<W: Write> WriteSink<W> {
 }
 
 // One write and a flush: how many bytes were taken, and None where either was refused or none was
-// taken.
+// taken of some.
 fn write_and_flush<W: Write>(inner: &mut W, bytes: &[u8]) -> Option<usize>
-    ensures within { IfSome result (λ n. (0 < n) × (n ≤ length bytes.now)) }
+    ensures within { IfSome result (λ n. (0 < length bytes.now → 0 < n) × (n ≤ length bytes.now)) }
     ensures taken { IfSome result
         (λ n. Appends (W.contents inner.old) (W.contents inner.new) (take n bytes.now)) }
     ensures refused { IfNone result
@@ -96,25 +92,23 @@ fn write_and_flush<W: Write>(inner: &mut W, bytes: &[u8]) -> Option<usize>
     let Ok(n) = inner.write(bytes) else {
         return None;
     };
-    if n == 0 || inner.flush().is_err() {
+    if n == 0 && !bytes.is_empty() {
         return None;
     }
-    Some(n)
+    match inner.flush() {
+        Ok(()) => Some(n),
+        Err(_) => None,
+    }
 }
 
 impl<W: Write> Sink for WriteSink<W> {
-    ghost written = { λ _. None };
+    ghost state = { λ s. writer_view s };
 
-    ghost faults = { λ s. s.faults };
-
-    /// One write of the writer, and a flush; `Failed` where either answers an error or nothing was
-    /// taken, after which the writer may have taken some of the first bytes.
+    /// One write of the writer, and a flush; `Failed` where either answers an error or nothing of
+    /// some bytes was taken, after which the writer may have taken some of the first bytes.
     fn write(&mut self, bytes: &[u8]) -> Result<usize, DeviceError>
-        requires some { 0 < length bytes.now }
-        requires count { self.old.faults < 2 ^ 64 - 1 }
-        ensures within { IfOk result (λ n. (0 < n) × (n ≤ length bytes.now)) }
-        ensures bytes { Takes None None bytes.now result }
-        ensures cause { Cause self.old.faults self.new.faults result }
+        requires { self.old.faults < 2 ^ 64 - 1 }
+        ensures writes { HasWritten bytes.now (writer_view self.old) (writer_view self.new) result }
         ensures taken { IfOk result
             (λ n. Appends (W.contents self.old.inner) (W.contents self.new.inner)
             (take n bytes.now)) }

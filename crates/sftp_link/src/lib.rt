@@ -4,6 +4,7 @@
 mod calls;
 mod device_error;
 mod dial;
+mod duplex;
 mod edge;
 mod frames;
 mod link;
@@ -19,6 +20,7 @@ mod whole;
 
 pub use device_error::DeviceError;
 pub use dial::Dial;
+pub use duplex::Duplex;
 pub use edge::{ReadSource, WriteSink};
 pub use link::{Link, LinkIn, LinkOut, LinkState};
 pub use logged::Logged;

@@ -1,8 +1,8 @@
-ghost use Rattle.std.specs.Prelude.{◌≡◌, ◌<◌, ◌≤◌, ◌-◌, ◌^◌, [], length, Some, IfOk};
+ghost use Rattle.std.specs.Prelude.{◌≡◌, ◌<◌, ◌-◌, ◌^◌, [], length};
 ghost use Rattle.sftp_link.specs.Calls.{uncalled};
-ghost use Rattle.sftp_link.specs.Causes.{Cause};
 ghost use Rattle.sftp_link.specs.Memory.{ReadsNext, WritesNext};
-ghost use Rattle.sftp_link.specs.Told.{Gives, Takes};
+ghost use Rattle.sftp_link.specs.Moves.{HasRead, HasWritten};
+ghost use Rattle.sftp_link.specs.Views.{store_view, supply_view};
 
 use crate::calls::Calls;
 use crate::device_error::DeviceError;
@@ -43,9 +43,7 @@ impl MemorySource {
 }
 
 impl Source for MemorySource {
-    ghost left = { λ s. Some s.left };
-
-    ghost faults = { λ s. s.calls.faults };
+    ghost state = { λ s. supply_view s };
 
     /// As many bytes as are left and the room has place for; `Failed` exactly where the read's
     /// number is listed.
@@ -53,9 +51,7 @@ impl Source for MemorySource {
     fn read(&mut self, room: &mut [u8]) -> Result<usize, DeviceError>
         requires some { 0 < length room.old }
         requires count { self.old.calls.faults < 2 ^ 64 - 1 }
-        ensures within { IfOk result (λ n. n ≤ length room.new) }
-        ensures bytes { Gives (Some self.old.left) (Some self.new.left) room.new result }
-        ensures cause { Cause self.old.calls.faults self.new.calls.faults result }
+        ensures reads { HasRead room.new (supply_view self.old) (supply_view self.new) result }
         ensures next { ReadsNext self.old self.new room.new result }
     {
         if self.calls.count() {
@@ -103,19 +99,14 @@ impl MemorySink {
 }
 
 impl Sink for MemorySink {
-    ghost written = { λ s. Some s.written };
-
-    ghost faults = { λ s. s.calls.faults };
+    ghost state = { λ s. store_view s };
 
     /// Takes all the bytes, or answers `OutOfMemory`; `Failed` exactly where the write's number is
     /// listed.
     #[tactic(auto, unfolding(crate::specs::Memory::WritesNext))]
     fn write(&mut self, bytes: &[u8]) -> Result<usize, DeviceError>
-        requires some { 0 < length bytes.now }
-        requires count { self.old.calls.faults < 2 ^ 64 - 1 }
-        ensures within { IfOk result (λ n. (0 < n) × (n ≤ length bytes.now)) }
-        ensures bytes { Takes (Some self.old.written) (Some self.new.written) bytes.now result }
-        ensures cause { Cause self.old.calls.faults self.new.calls.faults result }
+        requires { self.old.calls.faults < 2 ^ 64 - 1 }
+        ensures writes { HasWritten bytes.now (store_view self.old) (store_view self.new) result }
         ensures next { WritesNext self.old self.new bytes.now result }
     {
         if self.calls.count() {

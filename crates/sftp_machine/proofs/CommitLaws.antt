@@ -3,8 +3,8 @@ use Rattle.std.proofs.Common.{◌≡◌, ◌==◌, Bool, true, false, if◌then�
 use Rattle.sftp_model.specs.declared.reply.Reply.{Reply}
 use Rattle.sftp_model.specs.Answers.{is_handle, status}
 use Rattle.sftp_model.specs.Numbers.{SSH_FX_FAILURE}
-use Rattle.sftp_tree.specs.FileTree.{FileTree}
-use Rattle.sftp_tree.specs.HandleRequests.{Answer}
+use Rattle.machine_model.specs.FileTree.{FileTree}
+use Rattle.machine_model.specs.HandleRequests.{Answer}
 use Rattle.sftp_machine.specs.Changes.{changed, is_grant}
 use Rattle.sftp_machine.specs.MachineState.{MachineState, Makes, counted, committed, with_grant, with_tree, MAX_HANDLES, numbered_handle}
 use Rattle.sftp_machine.specs.declared.change.Change.{Change}
@@ -19,16 +19,21 @@ by_flags state said grant full =
     if grant then (if full then (status SSH_FX_FAILURE, state) else (said.0, with_grant state (left state said.1)))
     else (said.0, with_tree state (left state said.1))
 
-as_flags : (state : MachineState) (said : Reply × Change) (x : Answer) → Makes state said x → counted state x ≡ by_flags state said (is_grant said.1) (state.grants == MAX_HANDLES)
+as_flags : (state : MachineState) (said : Reply × Change) (x : Answer) → Makes state said x → counted state x
+    ≡ by_flags state said (is_grant said.1) (state.grants == MAX_HANDLES)
 as_flags state said x t = rw (sym t.reply, sym t.left) (ap (λ b. by_flags state said b (state.grants == MAX_HANDLES)) (ap is_handle t.reply ∙ sym t.grants))
 
 -- no handle is granted, or one is left
-by_grant : (state : MachineState) (said : Reply × Change) (b full : Bool) → is_grant said.1 ≡ b → (b ≡ true → full ≡ false) → by_flags state said b full ≡ (said.0, committed state said.1)
+by_grant : (state : MachineState) (said : Reply × Change) (b full : Bool) → is_grant said.1 ≡ b
+    → (b ≡ true → full ≡ false) → by_flags state said b full ≡ (said.0, committed state said.1)
 by_grant state said true full e h = rw (h refl, e) refl
 by_grant state said false full e h = rw e refl
 
-pub granted : (state : MachineState) (said : Reply × Change) (x : Answer) → Makes state said x → (is_grant said.1 ≡ true → (state.grants == MAX_HANDLES) ≡ false) → counted state x ≡ (said.0, committed state said.1)
+pub granted : (state : MachineState) (said : Reply × Change) (x : Answer) → Makes state said x
+    → (is_grant said.1 ≡ true → (state.grants == MAX_HANDLES) ≡ false) → counted state x
+    ≡ (said.0, committed state said.1)
 granted state said x t h = as_flags state said x t ∙ by_grant state said (is_grant said.1) (state.grants == MAX_HANDLES) refl h
 
-pub refused : (state : MachineState) (said : Reply × Change) (x : Answer) → Makes state said x → is_grant said.1 ≡ true → (state.grants == MAX_HANDLES) ≡ true → counted state x ≡ (status SSH_FX_FAILURE, state)
+pub refused : (state : MachineState) (said : Reply × Change) (x : Answer) → Makes state said x → is_grant said.1 ≡ true
+    → (state.grants == MAX_HANDLES) ≡ true → counted state x ≡ (status SSH_FX_FAILURE, state)
 refused state said x t h full = as_flags state said x t ∙ rw (h, full) refl

@@ -1,12 +1,12 @@
 -- The way from the root to a directory, and the tree that a server begins with.
 use Rattle.std.proofs.Common.{◌≡◌, ℕ, ◌+◌, ◌<◌, true, List, [], length, take, drop, ap, sym, ◌∙◌}
 use Rattle.std.proofs.lemmas.List.{at_drop_more, take_more}
-use Rattle.sftp_tree.specs.Components.{Name}
-use Rattle.sftp_tree.specs.FirstTree.{FirstFile, first_tree, may_begin, with_directory, with_way}
-use Rattle.sftp_tree.specs.declared.node.Node.{Node}
-use Rattle.sftp_tree.proofs.FirstFiles.{first_well_formed}
-use Rattle.sftp_tree.proofs.FirstFits.{first_fits}
-use Rattle.sftp_tree.proofs.FirstTrees.{first_is_tree}
+use Rattle.machine_model.specs.Components.{Name}
+use Rattle.machine_model.specs.FirstTree.{FirstFile, first_tree, may_begin, with_directory, with_way}
+use Rattle.machine_model.specs.declared.node.Node.{Node}
+use Rattle.machine_model.proofs.FirstFiles.{first_well_formed}
+use Rattle.machine_model.proofs.FirstFits.{first_fits}
+use Rattle.machine_model.proofs.FirstTrees.{first_is_tree}
 use Rattle.sftp_machine.specs.MachineState.{IsConsistent}
 
 -- one directory is passed

@@ -1,16 +1,12 @@
 -- The handle that is granted next isn't open.
 use Rattle.std.proofs.Common.{◌≡◌, ℕ, ◌<◌, false, List, [], ◌∷◌, None, refl, ap, sym, ◌∙◌, arith}
-use Rattle.std.specs.Int.{w32, from_be_bytes}
 use Rattle.std.specs.Str.{bytes_eq}
 use Rattle.std.proofs.lemmas.Bool.{false_from_ne_true}
-use Rattle.std.proofs.lemmas.Nat.{from_be_bytes-to_be_bytes_4}
 use Rattle.std.proofs.lemmas.Slice.Eq.{bytes_eq-Decides}
-use Rattle.sftp_tree.specs.FileTree.{found, opened_at}
-use Rattle.sftp_tree.specs.declared.opened.Opened.{Opened}
+use Rattle.machine_model.specs.FileTree.{found, opened_at}
+use Rattle.machine_model.specs.declared.opened.Opened.{Opened}
+use Rattle.sftp_machine.proofs.NumberLaws.{number_one}
 use Rattle.sftp_machine.specs.MachineState.{MachineState, IsValid, IsBelow, AllBelow, numbered_handle, MAX_HANDLES}
-
-number_one : (n k : ℕ) → n < MAX_HANDLES → k < MAX_HANDLES → numbered_handle k ≡ numbered_handle n → k ≡ n
-number_one n k a b e = sym (from_be_bytes-to_be_bytes_4 k b) ∙ ap (λ w. from_be_bytes w32 w) e ∙ from_be_bytes-to_be_bytes_4 n a
 
 other_handle : (n : ℕ) (handle : List ℕ) → n < MAX_HANDLES → IsBelow n handle → bytes_eq handle (numbered_handle n) ≡ false
 other_handle n handle a b = false_from_ne_true (bytes_eq handle (numbered_handle n)) (λ t.

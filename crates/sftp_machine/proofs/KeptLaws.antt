@@ -1,12 +1,35 @@
 -- What changes keep.
-use Rattle.std.proofs.Common.{◌≡◌, ℕ, zero, suc, ◌+◌, ◌<◌, ◌≤◌, Bool, true, false, List, [], ◌∷◌, ◌++◌, length, take, drop, Option, Some, None, if◌then◌else◌, get_or, subst, refl, ap, sym, ◌∙◌, arith}
+use Rattle.std.proofs.Common.{
+  ◌≡◌,
+  ℕ,
+  zero,
+  suc,
+  ◌+◌,
+  ◌≤◌,
+  Bool,
+  true,
+  false,
+  List,
+  [],
+  ◌∷◌,
+  ◌++◌,
+  length,
+  drop,
+  Option,
+  Some,
+  None,
+  if◌then◌else◌,
+  refl,
+  ap,
+  arith,
+}
 use Rattle.std.specs.Prelude.{slice_set}
 use Rattle.std.specs.Str.{bytes_eq}
 use Rattle.std.proofs.lemmas.Slice.Eq.{bytes_eq-Decides}
 use Rattle.sftp_model.specs.declared.reply.NameEntry.{NameEntry}
-use Rattle.sftp_tree.specs.declared.opened.Opened.TheVariants as opened
-use Rattle.sftp_tree.specs.declared.opened.Opened.{Opened}
-use Rattle.sftp_tree.specs.FileTree.{found, without, replaced, entries_of}
+use Rattle.machine_model.specs.declared.opened.Opened.TheVariants as opened
+use Rattle.machine_model.specs.declared.opened.Opened.{Opened}
+use Rattle.machine_model.specs.FileTree.{found, without, replaced, entries_of}
 use Rattle.sftp_machine.specs.Changes.{without_first, given_pairs}
 use Rattle.sftp_machine.specs.MachineState.{AllBelow, numbered_handle}
 
@@ -35,13 +58,15 @@ pub below_given : (n : ℕ) (pairs : List (List ℕ × Opened)) (handle : List �
 below_given n [] handle k h = h
 below_given n (pair ∷ pairs) handle k h = by_test (bytes_eq pair.0 handle) (below_given n pairs handle k h.1)
   where
-    by_test : (b : Bool) → AllBelow n (given_pairs pairs handle k) → AllBelow n (if b then (pair.0, without_first k pair.1) ∷ pairs else pair ∷ given_pairs pairs handle k)
+    by_test : (b : Bool) → AllBelow n (given_pairs pairs handle k)
+        → AllBelow n (if b then (pair.0, without_first k pair.1) ∷ pairs else pair ∷ given_pairs pairs handle k)
     by_test true more = h
     by_test false more = (h.0, more)
 
 -- ---- entries that were given
 
-pub given_replaced : (pairs : List (List ℕ × Opened)) (handle : List ℕ) (n : ℕ) (entries : List NameEntry) → entries_of (found bytes_eq pairs handle) ≡ Some entries
+pub given_replaced : (pairs : List (List ℕ × Opened)) (handle : List ℕ) (n : ℕ) (entries : List NameEntry)
+    → entries_of (found bytes_eq pairs handle) ≡ Some entries
     → given_pairs pairs handle n ≡ replaced bytes_eq pairs handle (opened.Directory (drop n entries))
 given_replaced [] handle n entries h = absurd cc
 given_replaced (pair ∷ pairs) handle n entries h = by_test (bytes_eq pair.0 handle) refl h (given_replaced pairs handle n entries)
@@ -51,30 +76,10 @@ given_replaced (pair ∷ pairs) handle n entries h = by_test (bytes_eq pair.0 ha
     of_pair (opened.Directory old) e = ap (λ (w : Option (List NameEntry)). opened.Directory (drop n (elim w [ None ↦ entries | Some es ↦ es ]))) e
 
     by_test : (b : Bool) → bytes_eq pair.0 handle ≡ b → entries_of (if b then Some pair.1 else found bytes_eq pairs handle) ≡ Some entries
-        → (entries_of (found bytes_eq pairs handle) ≡ Some entries → given_pairs pairs handle n ≡ replaced bytes_eq pairs handle (opened.Directory (drop n entries)))
-        → (if b then (pair.0, without_first n pair.1) ∷ pairs else pair ∷ given_pairs pairs handle n) ≡ (if b then (handle, opened.Directory (drop n entries)) ∷ pairs else pair ∷ replaced bytes_eq pairs handle (opened.Directory (drop n entries)))
+        → (entries_of (found bytes_eq pairs handle) ≡ Some entries → given_pairs pairs handle n
+        ≡ replaced bytes_eq pairs handle (opened.Directory (drop n entries)))
+        → (if b then (pair.0, without_first n pair.1) ∷ pairs else pair ∷ given_pairs pairs handle n)
+        ≡ (if b then (handle, opened.Directory (drop n entries)) ∷ pairs else
+        pair ∷ replaced bytes_eq pairs handle (opened.Directory (drop n entries)))
     by_test true is e more = rw ((bytes_eq-Decides pair.0 handle).0 is, of_pair pair.1 e) refl
     by_test false is e more = ap (λ l. pair ∷ l) (more e)
-
-set_split : {X : Type 0} (xs : List X) (i : ℕ) (y : X) → i < length xs → slice_set xs i y ≡ take i xs ++ y ∷ drop (suc i) xs
-set_split [] i y h = absurd (omega (arith, h))
-set_split (x ∷ xs) zero y h = refl
-set_split (x ∷ xs) (suc i) y h = ap (λ l. x ∷ l) (set_split xs i y (omega (arith, h)))
-
-given_here : (pairs : List (List ℕ × Opened)) (i : ℕ) (x : List ℕ × Opened) (handle : List ℕ) (n : ℕ) → i < length pairs → x ≡ get_or pairs i x → bytes_eq x.0 handle ≡ true
-    → given_pairs (drop i pairs) handle n ≡ (x.0, without_first n x.1) ∷ drop (suc i) pairs
-given_here [] i x handle n h e t = absurd (omega (arith, h))
-given_here (pair ∷ pairs) zero x handle n h e t = let there : bytes_eq pair.0 handle ≡ true = subst (λ w. bytes_eq w.0 handle ≡ true) e t in rw e (rw there refl)
-given_here (pair ∷ pairs) (suc i) x handle n h e t = given_here pairs i x handle n (omega (arith, h)) e t
-
--- the entries are dropped at the first pair with the handle
-pub given_at : (pairs : List (List ℕ × Opened)) (i : ℕ) (x : List ℕ × Opened) (handle : List ℕ) (n : ℕ) → i < length pairs → x ≡ get_or pairs i x → bytes_eq x.0 handle ≡ true
-    → given_pairs pairs handle n ≡ take i pairs ++ given_pairs (drop i pairs) handle n
-    → slice_set pairs i (x.0, without_first n x.1) ≡ given_pairs pairs handle n
-given_at pairs i x handle n h e t split = set_split pairs i (x.0, without_first n x.1) h ∙ ap (λ l. take i pairs ++ l) (sym (given_here pairs i x handle n h e t)) ∙ sym split
-
--- one place has one item
-pub same_item : {X : Type 0} (xs : List X) (i : ℕ) (x y : X) → i < length xs → x ≡ get_or xs i x → y ≡ get_or xs i y → x ≡ y
-same_item [] i x y h d e = absurd (omega (arith, h))
-same_item (z ∷ xs) zero x y h d e = d ∙ sym e
-same_item (z ∷ xs) (suc i) x y h d e = same_item xs i x y (omega (arith, h)) d e

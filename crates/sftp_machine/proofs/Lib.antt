@@ -5,6 +5,7 @@ pub mod KeptLaws
 pub mod CommitLaws
 pub mod ReplyLaws
 pub mod FirstLaws
+pub mod NumberLaws
 pub mod HandleLaws
-pub mod SortLaws
-pub mod NameChangeLaws
+pub mod SortedLaws
+pub mod ListingLaws

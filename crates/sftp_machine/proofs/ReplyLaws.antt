@@ -8,19 +8,19 @@ use Rattle.sftp_model.specs.Answers.{MayAnswer, is_handle, IsAfterHello, status}
 use Rattle.sftp_model.specs.Fits.{FitsReply}
 use Rattle.sftp_model.specs.Frames.{reply_body}
 use Rattle.sftp_model.specs.Numbers.{MAX_BODY_LEN, SSH_FX_FAILURE}
-use Rattle.sftp_tree.specs.FileTree.{FileTree}
-use Rattle.sftp_tree.specs.FitTrees.{GivesWithin, IsFit, MayReply}
-use Rattle.sftp_tree.specs.HandleRequests.{Answer}
-use Rattle.sftp_tree.specs.TreeAnswers.{apply}
-use Rattle.sftp_tree.proofs.AnswerLaws.{tree_answers}
-use Rattle.sftp_tree.proofs.FitLaws.{fit_after}
-use Rattle.sftp_tree.proofs.ReplyFits.{body_within, says_fit}
-use Rattle.sftp_tree.proofs.ReplyLaws.{tree_replies}
-use Rattle.sftp_tree.proofs.StatusLaws.{status_allowed}
-use Rattle.sftp_tree.proofs.StayingLaws.{tree_after}
-use Rattle.sftp_tree.proofs.WellFormedLaws.{well_formed_after}
+use Rattle.machine_model.specs.FileTree.{FileTree}
+use Rattle.machine_model.specs.FitTrees.{GivesWithin, IsFit, MayReply}
+use Rattle.machine_model.specs.HandleRequests.{Answer}
+use Rattle.machine_model.specs.TreeAnswers.{apply}
+use Rattle.machine_model.proofs.AnswerLaws.{tree_answers}
+use Rattle.machine_model.proofs.FitLaws.{fit_after}
+use Rattle.machine_model.proofs.ReplyFits.{body_within, says_fit}
+use Rattle.machine_model.proofs.ReplyLaws.{tree_replies}
+use Rattle.machine_model.proofs.StatusLaws.{status_allowed}
+use Rattle.machine_model.proofs.StayingLaws.{tree_after}
+use Rattle.machine_model.proofs.WellFormedLaws.{well_formed_after}
 use Rattle.sftp_machine.specs.declared.change.Change.{Change}
-use Rattle.sftp_machine.specs.MachineState.{IsConsistent, Makes, committed, MachineState, answer, with_grant, with_tree, numbered_handle, MAX_HANDLES}
+use Rattle.sftp_machine.specs.MachineState.{IsConsistent, IsFramed, Makes, committed, MachineState, answer, with_grant, with_tree, numbered_handle, MAX_HANDLES}
 
 -- the answer of the definition, with the next number
 abbrev defined : MachineState → Request → Choice → Answer
@@ -50,20 +50,26 @@ reply_by P state x false full refused said = said
 pub reply_answers : (state : MachineState) (r : Request) (choice : Choice) → IsAfterHello r → MayAnswer r (answer state r choice).0
 reply_answers state r choice h =
     let x : Answer = defined state r choice in
-    reply_by (λ w. MayAnswer r w) state x (is_handle x.0) (state.grants == MAX_HANDLES) (status_allowed r SSH_FX_FAILURE h refl) (tree_answers state.tree state.config r choice (numbered_handle state.grants) h).allowed
+    reply_by (λ w. MayAnswer r w) state x (is_handle x.0) (state.grants == MAX_HANDLES)
+    (status_allowed r SSH_FX_FAILURE h refl) (tree_answers state.tree state.config r choice
+    (numbered_handle state.grants) h).allowed
 
 -- the reply is one that a tree may give
-may_reply : (state : MachineState) (r : Request) (choice : Choice) → IsFit state.tree → choice.refuse < 2 ^ 32 → GivesWithin choice.cap r → MayReply (answer state r choice).0
+may_reply : (state : MachineState) (r : Request) (choice : Choice) → IsFit state.tree → choice.refuse < 2 ^ 32
+    → GivesWithin choice.cap r → MayReply (answer state r choice).0
 may_reply state r choice fit code within =
     let x : Answer = defined state r choice in
     reply_by (λ w. MayReply w) state x (is_handle x.0) (state.grants == MAX_HANDLES) (lit< tt, refl, refl)
     (tree_replies state.tree state.config r choice (numbered_handle state.grants) fit (omega arith) code within).said
 
-pub reply_fits : (state : MachineState) (r : Request) (choice : Choice) → IsFit state.tree → choice.refuse < 2 ^ 32 → GivesWithin choice.cap r → FitsReply (answer state r choice).0
+pub reply_fits : (state : MachineState) (r : Request) (choice : Choice) → IsFit state.tree → choice.refuse < 2 ^ 32
+    → GivesWithin choice.cap r → FitsReply (answer state r choice).0
 reply_fits state r choice fit code within = says_fit (answer state r choice).0 (may_reply state r choice fit code within)
 
 -- and its body is within the bound
-pub reply_within : (state : MachineState) (r : Request) (choice : Choice) (id : ℕ) → IsFit state.tree → choice.refuse < 2 ^ 32 → GivesWithin choice.cap r → length (reply_body (answer state r choice).0 id) ≤ MAX_BODY_LEN
+pub reply_within : (state : MachineState) (r : Request) (choice : Choice) (id : ℕ) → IsFit state.tree
+    → choice.refuse < 2 ^ 32 → GivesWithin choice.cap r → length (reply_body (answer state r choice).0 id) ≤
+    MAX_BODY_LEN
 reply_within state r choice id fit code within = body_within (answer state r choice).0 id (may_reply state r choice fit code within)
 
 -- whichever way an answer ends
@@ -72,18 +78,19 @@ pub answers_where : {A E : Type 0} (state : MachineState) (r : Request) (choice 
 answers_where state r choice reply (Ok a) h is = subst (λ (w : Reply). MayAnswer r w) (sym is) (reply_answers state r choice h)
 answers_where state r choice reply (Err e) h is = tt
 
-pub fits_where : {A E : Type 0} (state : MachineState) (r : Request) (choice : Choice) (reply : A → Reply) (result : Result A E) → IsFit state.tree → choice.refuse < 2 ^ 32
-    → IfOk result (λ a. reply a ≡ (answer state r choice).0) → IfOk result (λ a. GivesWithin choice.cap r → FitsReply (reply a))
-fits_where state r choice reply (Ok a) fit code is = λ within. subst (λ (w : Reply). FitsReply w) (sym is) (reply_fits state r choice fit code within)
-fits_where state r choice reply (Err e) fit code is = tt
-
-pub within_where : {A E : Type 0} (state : MachineState) (r : Request) (choice : Choice) (reply : A → Reply) (result : Result A E) → IsFit state.tree → choice.refuse < 2 ^ 32
-    → IfOk result (λ a. reply a ≡ (answer state r choice).0) → IfOk result (λ a. GivesWithin choice.cap r → (id : ℕ) → length (reply_body (reply a) id) ≤ MAX_BODY_LEN)
-within_where state r choice reply (Ok a) fit code is = λ within id. subst (λ (w : Reply). length (reply_body w id) ≤ MAX_BODY_LEN) (sym is) (reply_within state r choice id fit code within)
-within_where state r choice reply (Err e) fit code is = tt
+pub framed_where : {A E : Type 0} (state : MachineState) (r : Request) (choice : Choice) (reply : A → Reply)
+    (result : Result A E) → IsFit state.tree → choice.refuse < 2 ^ 32
+    → IfOk result (λ a. reply a ≡ (answer state r choice).0) → IfOk result (λ a. GivesWithin choice.cap r → IsFramed (reply a))
+framed_where state r choice reply (Ok a) fit code is = λ within. record {
+  fits = subst (λ (w : Reply). FitsReply w) (sym is) (reply_fits state r choice fit code within);
+  within = λ id. subst (λ (w : Reply). length (reply_body w id) ≤ MAX_BODY_LEN) (sym is)
+      (reply_within state r choice id fit code within);
+}
+framed_where state r choice reply (Err e) fit code is = tt
 
 -- the change of an answer leaves a consistent tree
-pub consistent_committed : (state : MachineState) (r : Request) (choice : Choice) (said : Reply × Change) → IsConsistent state.tree → Makes state said (defined state r choice) → IsConsistent (committed state said.1).tree
+pub consistent_committed : (state : MachineState) (r : Request) (choice : Choice) (said : Reply × Change)
+    → IsConsistent state.tree → Makes state said (defined state r choice) → IsConsistent (committed state said.1).tree
 consistent_committed state r choice said before makes =
     let after : IsConsistent (defined state r choice).1 = record {
       placed = tree_after state.tree state.config r choice (numbered_handle state.grants) before.placed;

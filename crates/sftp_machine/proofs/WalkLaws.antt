@@ -1,7 +1,7 @@
 -- A path walked byte by byte.
 use Rattle.std.proofs.Common.{◌≡◌, ℕ, ◌==◌, Bool, true, false, List, [], ◌∷◌, ◌++◌, if◌then◌else◌, refl, sym, ap}
 use Rattle.std.proofs.lemmas.List.{append_assoc, append-nil}
-use Rattle.sftp_tree.specs.Components.{Name, with_byte, parts_of, walked, entered}
+use Rattle.machine_model.specs.Components.{Name, with_byte, parts_of, walked, entered}
 
 -- bytes before the first of these parts
 abbrev pub with_prefix : List ℕ → List (List ℕ) → List (List ℕ)
@@ -16,7 +16,8 @@ no_front_byte : (b : ℕ) (parts : List (List ℕ)) → with_prefix [] (with_byt
 no_front_byte b [] = refl
 no_front_byte b (part ∷ parts) = refl
 
-no_front_if : (t : Bool) (b : ℕ) (parts : List (List ℕ)) → with_prefix [] (if t then [] ∷ parts else with_byte b parts) ≡ (if t then [] ∷ parts else with_byte b parts)
+no_front_if : (t : Bool) (b : ℕ) (parts : List (List ℕ)) → with_prefix [] (if t then [] ∷ parts else with_byte b parts)
+    ≡ (if t then [] ∷ parts else with_byte b parts)
 no_front_if true b parts = refl
 no_front_if false b parts = no_front_byte b parts
 
@@ -25,9 +26,11 @@ no_front [] = refl
 no_front (b ∷ path) = no_front_if (b == 47) b (parts_of path)
 
 -- a part ends at a slash
-pub at_slash : (at : Name) (part : List ℕ) (b : ℕ) (path : List ℕ) → (b == 47) ≡ true → walked at (with_prefix part (parts_of (b ∷ path))) ≡ walked (entered at part) (with_prefix [] (parts_of path))
+pub at_slash : (at : Name) (part : List ℕ) (b : ℕ) (path : List ℕ) → (b == 47) ≡ true
+    → walked at (with_prefix part (parts_of (b ∷ path))) ≡ walked (entered at part) (with_prefix [] (parts_of path))
 at_slash at part b path t = rw t (rw (append-nil part) (rw (no_front path) refl))
 
 -- and goes on at any other byte
-pub at_byte : (at : Name) (part : List ℕ) (b : ℕ) (path : List ℕ) → (b == 47) ≡ false → walked at (with_prefix part (parts_of (b ∷ path))) ≡ walked at (with_prefix (part ++ b ∷ []) (parts_of path))
+pub at_byte : (at : Name) (part : List ℕ) (b : ℕ) (path : List ℕ) → (b == 47) ≡ false
+    → walked at (with_prefix part (parts_of (b ∷ path))) ≡ walked at (with_prefix (part ++ b ∷ []) (parts_of path))
 at_byte at part b path t = rw t (ap (walked at) (front_byte part b (parts_of path)))

@@ -2,12 +2,25 @@
 use Rattle.std.specs.Prelude.{◌≡◌, ◌<◌, ◌+◌, ◌^◌, ℕ, Bool, true, false, List, [], ◌∷◌, if◌then◌else◌, length, drop}
 use Rattle.sftp_model.specs.declared.reply.Reply.{Reply}
 use Rattle.std.specs.Str.{bytes_eq}
-use Rattle.sftp_tree.specs.declared.node.Node.TheVariants as node
-use Rattle.sftp_tree.specs.declared.opened.Opened.{Opened}
-use Rattle.sftp_tree.specs.declared.opened.Opened.TheVariants as opened
+use Rattle.machine_model.specs.declared.node.Node.TheVariants as node
+use Rattle.machine_model.specs.declared.opened.Opened.{Opened}
+use Rattle.machine_model.specs.declared.opened.Opened.TheVariants as opened
 use Rattle.sftp_model.specs.Answers.{is_handle}
-use Rattle.sftp_tree.specs.HandleRequests.{Answer}
-use Rattle.sftp_tree.specs.FileTree.{FileTree, bytes_of, put, resized, with_bytes, with_name, with_file, without_name, with_renamed, with_handle, without_handle, after_loss}
+use Rattle.machine_model.specs.HandleRequests.{Answer}
+use Rattle.machine_model.specs.FileTree.{
+  FileTree,
+  bytes_of,
+  put,
+  resized,
+  with_bytes,
+  with_name,
+  with_file,
+  without_name,
+  with_renamed,
+  with_handle,
+  without_handle,
+  after_loss,
+}
 use Rattle.sftp_machine.specs.declared.change.Change.{Change}
 use Rattle.sftp_machine.specs.declared.change.Change.TheVariants as change
 
@@ -19,7 +32,8 @@ without_first n (opened.Directory entries) = opened.Directory (drop n entries)
 -- what is open by a handle without its first entries
 abbrev pub given_pairs : List (List ℕ × Opened) → List ℕ → ℕ → List (List ℕ × Opened)
 given_pairs [] handle n = []
-given_pairs (pair ∷ pairs) handle n = if bytes_eq pair.0 handle then (pair.0, without_first n pair.1) ∷ pairs else pair ∷ given_pairs pairs handle n
+given_pairs (pair ∷ pairs) handle n = if bytes_eq pair.0 handle then (pair.0, without_first n pair.1) ∷ pairs else
+    pair ∷ given_pairs pairs handle n
 
 -- the tree after a change; `handle` is the granted one
 abbrev pub changed : FileTree → List ℕ → Change → FileTree

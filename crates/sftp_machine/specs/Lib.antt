@@ -1,8 +1,8 @@
 pub mod Names
 pub mod Changes
 pub mod MachineState
+pub mod Numbers
 pub mod WaitingFrames
-pub mod Listing
 pub mod Places
-pub mod NameChanges
+pub mod Sorted
 pub mod MachineRows

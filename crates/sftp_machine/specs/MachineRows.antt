@@ -4,13 +4,12 @@ use Rattle.sftp_model.specs.declared.request.Request.TheVariants as request
 use Rattle.sftp_model.specs.declared.reply.Reply.TheVariants as reply
 use Rattle.sftp_model.specs.Numbers.{SSH_FX_FAILURE}
 use Rattle.sftp_model.specs.Answers.{status}
-use Rattle.sftp_tree.specs.Listing.{file_at, dir_at}
-use Rattle.sftp_tree.specs.Components.{components}
-use Rattle.sftp_tree.specs.FileTree.{FileTree}
-use Rattle.sftp_tree.specs.RowWords.{config, choice}
-use Rattle.sftp_tree.specs.declared.node.Node.TheVariants as node
-use Rattle.sftp_tree.specs.FirstTree.{first_tree}
-use Rattle.sftp_machine.specs.Listing.{AreInOrder}
+use Rattle.machine_model.specs.Listing.{file_at, dir_at, in_name_order}
+use Rattle.machine_model.specs.Components.{components}
+use Rattle.machine_model.specs.FileTree.{FileTree}
+use Rattle.machine_model.specs.RowWords.{config, choice}
+use Rattle.machine_model.specs.declared.node.Node.TheVariants as node
+use Rattle.machine_model.specs.FirstTree.{first_tree}
 use Rattle.sftp_machine.specs.MachineState.{MachineState, answer, numbered_handle}
 use Rattle.sftp_machine.specs.WaitingFrames.{WaitingFrames, turned}
 
@@ -26,16 +25,19 @@ big_handle = refl
 abbrev after_grants : ℕ → MachineState
 after_grants n = record { tree = first_tree [] []; config = config 0; grants = n }
 
-pub grants_last : (answer (after_grants 4294967295) (request.Opendir []) (choice 0 0)).0 ≡ reply.Handle (255 ∷ 255 ∷ 255 ∷ 255 ∷ [])
+pub grants_last : (answer (after_grants 4294967295) (request.Opendir []) (choice 0 0)).0
+    ≡ reply.Handle (255 ∷ 255 ∷ 255 ∷ 255 ∷ [])
 unfolding components
 grants_last = refl
 
-pub grants_none : answer (after_grants 4294967296) (request.Opendir []) (choice 0 0) ≡ (status SSH_FX_FAILURE, after_grants 4294967296)
+pub grants_none : answer (after_grants 4294967296) (request.Opendir []) (choice 0 0)
+    ≡ (status SSH_FX_FAILURE, after_grants 4294967296)
 unfolding components
 grants_none = refl
 
 -- a request that is granted no handle is answered as ever
-pub refuses_as_ever : (answer (after_grants 4294967296) (request.Rmdir (codes "a")) (choice 0 0)).1 ≡ after_grants 4294967296
+pub refuses_as_ever : (answer (after_grants 4294967296) (request.Rmdir (codes "a")) (choice 0 0)).1
+    ≡ after_grants 4294967296
 unfolding components
 refuses_as_ever = refl
 
@@ -45,14 +47,16 @@ refuses_as_ever = refl
 abbrev example : FileTree
 example = first_tree ((codes "b/c", codes "x") ∷ (codes "/a", codes "yz") ∷ []) (codes "a.d" ∷ [])
 
-pub has_a_parent : example.names ≡ (codes "a.d" ∷ [], node.Directory) ∷ (codes "b" ∷ [], node.Directory) ∷ (codes "b" ∷ codes "c" ∷ [], node.File 0) ∷ (codes "a" ∷ [], node.File 1) ∷ []
+pub has_a_parent : example.names ≡ (codes "a.d" ∷ [], node.Directory) ∷ (codes "b" ∷ [], node.Directory) ∷
+    (codes "b" ∷ codes "c" ∷ [], node.File 0) ∷ (codes "a" ∷ [], node.File 1) ∷ []
 unfolding components
 has_a_parent = refl
 
 -- `a`, `a.d`, `b`, `b/c`
-pub places_in_order : AreInOrder example.names (3 ∷ 0 ∷ 1 ∷ 2 ∷ [])
+pub names_in_order : in_name_order example.names ≡ (codes "a" ∷ [], node.File 1) ∷ (codes "a.d" ∷ [], node.Directory) ∷
+    (codes "b" ∷ [], node.Directory) ∷ (codes "b" ∷ codes "c" ∷ [], node.File 0) ∷ []
 unfolding components
-places_in_order = refl
+names_in_order = refl
 
 pub lists_first_file : file_at example 0 ≡ Some (codes "a", codes "yz")
 unfolding components
@@ -84,7 +88,8 @@ abbrev waiting : List ℕ → List (List ℕ) → List ℕ → WaitingFrames
 waiting ready frames picks = record { ready = ready; waiting = frames; picks = picks }
 
 -- a pick is taken modulo the count of frames
-pub picks_second : turned (waiting [] (codes "1" ∷ codes "2" ∷ []) (3 ∷ 0 ∷ [])) ≡ waiting (codes "2") (codes "1" ∷ []) (0 ∷ [])
+pub picks_second : turned (waiting [] (codes "1" ∷ codes "2" ∷ []) (3 ∷ 0 ∷ []))
+    ≡ waiting (codes "2") (codes "1" ∷ []) (0 ∷ [])
 picks_second = refl
 
 pub picks_first : turned (waiting [] (codes "1" ∷ codes "2" ∷ []) []) ≡ waiting (codes "1") (codes "2" ∷ []) []

@@ -1,19 +1,21 @@
 -- A server of files and directories in memory, which grants the numbers 0, 1, 2 and so on as its handles.
-use Rattle.std.specs.Prelude.{◌≡◌, ◌<◌, ◌≤◌, ℕ, ◌+◌, ◌==◌, true, List, [], ◌∷◌, if◌then◌else◌}
+use Rattle.std.specs.Prelude.{◌≡◌, ◌<◌, ◌≤◌, ℕ, ◌+◌, ◌==◌, true, List, [], ◌∷◌, length, if◌then◌else◌}
 use Rattle.std.specs.Int.{w32, to_be_bytes}
 use Rattle.sftp_model.specs.declared.config.Choice.{Choice}
 use Rattle.sftp_model.specs.declared.config.ServerConfig.{ServerConfig}
 use Rattle.sftp_model.specs.declared.request.Request.{Request}
 use Rattle.sftp_model.specs.declared.reply.Reply.{Reply}
 use Rattle.sftp_model.specs.Answers.{is_handle, status}
-use Rattle.sftp_model.specs.Numbers.{SSH_FX_FAILURE}
-use Rattle.sftp_tree.specs.HandleRequests.{Answer}
-use Rattle.sftp_tree.specs.declared.opened.Opened.{Opened}
-use Rattle.sftp_tree.specs.FileTree.{FileTree}
-use Rattle.sftp_tree.specs.Changes.{IsWellFormed}
-use Rattle.sftp_tree.specs.FitTrees.{IsFit}
-use Rattle.sftp_tree.specs.TreeAnswers.{apply}
-use Rattle.sftp_tree.specs.Trees.{IsTree}
+use Rattle.sftp_model.specs.Fits.{FitsReply}
+use Rattle.sftp_model.specs.Frames.{reply_body}
+use Rattle.sftp_model.specs.Numbers.{MAX_BODY_LEN, SSH_FX_FAILURE}
+use Rattle.machine_model.specs.HandleRequests.{Answer}
+use Rattle.machine_model.specs.declared.opened.Opened.{Opened}
+use Rattle.machine_model.specs.FileTree.{FileTree}
+use Rattle.machine_model.specs.Changes.{IsWellFormed}
+use Rattle.machine_model.specs.FitTrees.{IsFit}
+use Rattle.machine_model.specs.TreeAnswers.{apply}
+use Rattle.machine_model.specs.Trees.{IsTree}
 use Rattle.sftp_machine.specs.Changes.{FitsChange, Leads, changed, is_grant}
 use Rattle.sftp_machine.specs.declared.answered.Answered.{Answered}
 use Rattle.sftp_machine.specs.declared.change.Change.{Change}
@@ -32,8 +34,8 @@ numbered_handle n = to_be_bytes w32 n
 abbrev pub MAX_HANDLES : ℕ
 MAX_HANDLES = 4294967296
 
--- what holds of a server's files and directories always: each name stands beneath a directory, no two names have one file,
--- and files and names are within their bounds
+-- what holds of a server's files and directories always: each name stands beneath a directory, no two names have one
+-- file, and files and names are within their bounds
 pub record IsConsistent (tree : FileTree) : Type 0 where
   pub placed : IsTree tree
   pub numbered : IsWellFormed tree
@@ -52,7 +54,8 @@ with_grant state tree = record { tree = tree; config = state.config; grants = st
 -- what an answer leaves. A HANDLE is counted; where all numbers were granted, it is refused
 abbrev pub counted : MachineState → Answer → Reply × MachineState
 counted state x =
-    if is_handle x.0 then (if state.grants == MAX_HANDLES then (status SSH_FX_FAILURE, state) else (x.0, with_grant state x.1))
+    if is_handle x.0 then (if state.grants == MAX_HANDLES then (status SSH_FX_FAILURE, state) else
+    (x.0, with_grant state x.1))
     else (x.0, with_tree state x.1)
 
 -- the reply to a request, and what is left: as the definition says, where the handle is the next number
@@ -76,6 +79,11 @@ Makes state said x = Leads state.tree (numbered_handle state.grants) said x
 -- what the answer leaves
 abbrev pub left_by : MachineState → Answered → MachineState
 left_by state answered = committed state answered.change
+
+-- the reply fits a frame, and its body is within the bound whatever its id
+pub record IsFramed (r : Reply) : Type 0 where
+  pub fits : FitsReply r
+  pub within : (id : ℕ) → length (reply_body r id) ≤ MAX_BODY_LEN
 
 -- the answer may be committed: a handle is left where it grants one, and files and directories stay consistent
 pub record MayCommit (state : MachineState) (answered : Answered) : Type 0 where

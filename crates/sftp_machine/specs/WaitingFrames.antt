@@ -2,7 +2,8 @@
 use Rattle.std.specs.Prelude.{ℕ, ◌==◌, ◌%◌, List, [], ◌∷◌, length, drop, if◌then◌else◌, slice_index_or}
 use Rattle.std.specs.List.{remove}
 
--- the rest of the frame that is being given, the frames that wait in the order of their requests, and the picks that are left
+-- the rest of the frame that is being given, the frames that wait in the order of their requests, and the picks that
+-- are left
 pub record WaitingFrames : Type 0 where
   pub ready : List ℕ
   pub waiting : List (List ℕ)
@@ -22,5 +23,10 @@ abbrev pub turned : WaitingFrames → WaitingFrames
 turned w =
     if length w.ready == 0 then
     (if length w.waiting == 0 then w
-    else record { ready = slice_index_or w.waiting (index_of w) []; waiting = remove w.waiting (index_of w); picks = drop 1 w.picks })
+    else record {
+      ready = slice_index_or w.waiting (index_of w) [];
+      waiting = remove w.waiting (index_of w);
+      picks =
+          drop 1 w.picks;
+    })
     else w

@@ -2,16 +2,15 @@
 ghost use Rattle.std.specs.Prelude.{◌≡◌, ◌<◌, ◌==◌, ◌^◌, ◌+◌, ℕ, [], None, Some, true, false, IfOk, OnOk, OnErr};
 ghost use Rattle.sftp_model.specs.declared.reply.Reply.TheVariants as reply;
 ghost use Rattle.sftp_model.specs.declared.request.Request.TheVariants as request;
-ghost use Rattle.sftp_tree.specs.Components.{components as components_by};
+ghost use Rattle.machine_model.specs.Components.{components as components_by};
 ghost use Rattle.sftp_model.specs.Readings.{has_bit};
-ghost use Rattle.sftp_tree.specs.TreeAnswers.{apply as apply_by, answered as answered_by, limits_reply};
+ghost use Rattle.machine_model.specs.TreeAnswers.{apply as apply_by, answered as answered_by, limits_reply};
 ghost use Rattle.sftp_machine.specs.Changes.{is_grant};
-ghost use Rattle.sftp_machine.specs.NameChanges.{changes_names as changes_names_by};
 ghost use Rattle.sftp_machine.specs.MachineState.{MachineState, Makes, numbered_handle as bytes_of_handle};
 
 use crate::change::Change;
 use crate::store::Store;
-use crate::tree_name::walk;
+use crate::tree_name::{TreeName, walk};
 use bitflags::Flags;
 use sftp_model::numbers::{SSH_FX_OK, SSH_FX_OP_UNSUPPORTED};
 use sftp_model::{Choice, Extensions, Limits, RemotePath, Reply, Request};
@@ -41,7 +40,7 @@ impl Store {
             request.now cap (bytes_of_handle self.now.grants))) }
     {
         match request {
-            Request::OpenFile { path, flags, .. } => self.open(flags.bits(), self.name(path)?),
+            Request::OpenFile { path, flags, .. } => Ok(self.open(flags.bits(), self.name(path)?)),
             Request::Close { handle } => Ok(self.close(handle)),
             Request::Read {
                 handle,
@@ -62,13 +61,13 @@ impl Store {
             Request::Fsetstat { handle, attrs } => {
                 Ok(self.fsetstat(*attrs, self.held_at(handle.as_bytes())))
             }
-            Request::Remove { path } => self.remove(self.name(path)?),
-            Request::Mkdir { path, .. } => self.mkdir(self.name(path)?),
-            Request::Rmdir { path } => self.rmdir(self.name(path)?),
+            Request::Remove { path } => Ok(self.remove(self.name(path)?)),
+            Request::Mkdir { path, .. } => Ok(self.mkdir(self.name(path)?)),
+            Request::Rmdir { path } => Ok(self.rmdir(self.name(path)?)),
             Request::Opendir { path } => self.opendir(&self.name(path)?),
             Request::Readdir { handle } => self.readdir(cap, handle),
-            Request::Realpath { path } => self.realpath(self.name(path)?),
-            Request::Rename { old, to } => self.rename(self.name(old)?, self.name(to)?),
+            Request::Realpath { path } => self.realpath(&self.name(path)?),
+            Request::Rename { old, to } => Ok(self.rename(self.name(old)?, self.name(to)?)),
             Request::PosixRename { old, to } => self.posix_rename_at(old, to),
             Request::Fsync { handle } => Ok(self.fsync_at(handle.as_bytes())),
             Request::ExpandPath { path } => self.expand(path),
@@ -94,10 +93,10 @@ impl Store {
     }
 
     // The name that a path denotes.
-    fn name(&self, path: &RemotePath) -> Result<Vec<ByteText>, OutOfMemory>
-        ensures { IfOk result (λ name. name.items ≡ components_by path.now) }
+    fn name(&self, path: &RemotePath) -> Result<TreeName, OutOfMemory>
+        ensures { IfOk result (λ name. name ≡ components_by path.now) }
     {
-        walk(self.alloc, path.as_bytes())
+        TreeName::new(self.alloc, walk(self.alloc, path.as_bytes())?)
     }
 
     // Whether it offers an extension.
@@ -119,7 +118,7 @@ impl Store {
         if !self.offers(Extensions::POSIX_RENAME) {
             return Ok(self.refused(SSH_FX_OP_UNSUPPORTED));
         }
-        self.posix_rename(self.name(old)?, self.name(to)?)
+        Ok(self.posix_rename(self.name(old)?, self.name(to)?))
     }
 
     // `fsync@openssh.com`, where it is offered.
@@ -141,7 +140,7 @@ impl Store {
         if !self.offers(Extensions::EXPAND_PATH) {
             return Ok(self.refused(SSH_FX_OP_UNSUPPORTED));
         }
-        self.realpath(self.name(path)?)
+        self.realpath(&self.name(path)?)
     }
 
     // The query for limits.
@@ -176,21 +175,6 @@ pub(crate) fn grants(change: &Change) -> bool
         Change::Granted(_) => true,
         Change::Truncated(_, _) => true,
         Change::Created(_, _) => true,
-        _ => false,
-    }
-}
-
-/// Whether a change makes a name, takes one away or moves one.
-pub(crate) fn changes_names(change: &Change) -> bool
-    ensures { result ≡ changes_names_by change.now }
-{
-    match change {
-        Change::Created(_, _) => true,
-        Change::MadeDirectory(_) => true,
-        Change::RemovedDirectory(_) => true,
-        Change::RemovedFile(_, _) => true,
-        Change::Renamed(_, _) => true,
-        Change::Replaced(_, _, _) => true,
         _ => false,
     }
 }

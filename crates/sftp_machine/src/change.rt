@@ -1,6 +1,6 @@
 use crate::tree_name::TreeName;
+use machine_model::Opened;
 use sftp_model::Handle;
-use sftp_tree::Opened;
 use sftp_values::ByteText;
 
 /// What a request changes.

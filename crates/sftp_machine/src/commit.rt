@@ -1,21 +1,19 @@
 // What a change leaves.
-ghost use Rattle.std.specs.Prelude.{◌≡◌, ◌<◌, ◌≤◌, ◌^◌, ◌+◌, ℕ, [], ◌∷◌, ◌++◌, None, Some, true, false, length, take, drop, map, slice_set, slice_index_or, IfOk, OnOk, OnErr};
-ghost use Rattle.std.specs.Str.{bytes_eq};
-ghost use Rattle.sftp_tree.specs.declared.opened.Opened.{Opened as IsOpened};
-ghost use Rattle.sftp_tree.specs.Components.{moved_name, same_name};
-ghost use Rattle.sftp_tree.specs.FileTree.{lives as lives_by, put as put_by, resized, without, after_loss, with_renamed, without_name, opened_at as opened_by, entries_of};
-ghost use Rattle.sftp_machine.specs.Changes.{FitsChange, is_grant, given_pairs, without_first};
-ghost use Rattle.sftp_machine.specs.MachineState.{MachineState, IsValid, committed, MAX_HANDLES, numbered_handle as bytes_of_handle, with_tree};
+ghost use Rattle.std.specs.Prelude.{◌≡◌, ◌<◌, ◌^◌, ◌+◌, [], ◌++◌, Some, true, length, map, slice_set, slice_index_or, IfOk, OnOk, OnErr};
+ghost use Rattle.machine_model.specs.Components.{moved_name, same_name};
+ghost use Rattle.machine_model.specs.FileTree.{put as put_by, resized, without, after_loss};
+ghost use Rattle.sftp_machine.specs.Changes.{FitsChange, is_grant};
+ghost use Rattle.sftp_machine.specs.MachineState.{committed, MAX_HANDLES, with_tree};
 ghost use Rattle.sftp_machine.specs.declared.change.Change.TheVariants as change;
 
 use crate::change::Change;
 use crate::file_bytes::FileBytes;
-use crate::lookups::{handle_index, is_held, is_named, is_within, name_index};
+use crate::lookups::{is_named, is_within, name_index};
+use crate::names::Names;
 use crate::store::{Store, numbered_handle};
-use crate::tree_name::TreeName;
-use sftp_model::{Handle, TryCopy};
-use sftp_tree::{Node, Opened};
-use sftp_values::{ByteText, Items};
+use crate::tree_name::{TreeName, add_copies};
+use machine_model::{Node, Opened};
+use sftp_values::ByteText;
 use ssh_encoding::OutOfMemory;
 use std::alloc::Global;
 
@@ -49,16 +47,13 @@ impl Store {
                 self.drop_entries(handle.as_bytes(), n);
                 Ok(())
             }
-            Change::MadeDirectory(name) => {
-                self.names.push((name, Node::Directory))?;
-                Ok(())
-            }
+            Change::MadeDirectory(name) => self.names.push(name, Node::Directory),
             Change::RemovedDirectory(name) => {
-                self.forget_name(name.parts());
+                self.names.remove(name.parts());
                 Ok(())
             }
             Change::RemovedFile(name, file) => {
-                self.forget_name(name.parts());
+                self.names.remove(name.parts());
                 self.drop_lost(file);
                 Ok(())
             }
@@ -73,7 +68,7 @@ impl Store {
         ensures left { OnOk result (self.new ≡ committed self.old (change.Granted opened)) }
         ensures kept { OnErr result (self.new ≡ self.old) }
     {
-        self.handles.push((numbered_handle(self.grants), opened))?;
+        self.handles.push(self.grants as u32, opened)?;
         self.grants += 1;
         Ok(())
     }
@@ -95,12 +90,14 @@ impl Store {
         ensures left { OnOk result (self.new ≡ committed self.old (change.Created name opened)) }
         ensures kept { OnErr result (self.new ≡ self.old) }
     {
-        self.names.reserve(1)?;
         self.files.reserve(1)?;
-        self.handles.push((numbered_handle(self.grants), opened))?;
-        self.grants += 1;
         let file = self.files.len() as u64;
-        self.names.push((name, Node::File(file))).unwrap();
+        self.handles.push(self.grants as u32, opened)?;
+        if self.names.push(name, Node::File(file)).is_err() {
+            self.handles.remove(numbered_handle(self.grants).as_bytes());
+            return Err(OutOfMemory);
+        }
+        self.grants += 1;
         self.files
             .push(FileBytes::new(Vec::new(self.alloc)))
             .unwrap();
@@ -111,25 +108,21 @@ impl Store {
     fn forget_handle(&mut self, handle: &[u8])
         ensures { self.new ≡ committed self.old (change.ClosedDirectory handle.now) }
     {
-        if let Some(index) = handle_index(&self.handles, handle) {
-            self.handles.remove(index);
-        }
+        self.handles.remove(handle);
     }
 
-    // A name is gone.
-    fn forget_name(&mut self, name: &[ByteText])
-        ensures { self.new ≡ committed self.old (change.RemovedDirectory name.now) }
+    // A handle's first entries were given.
+    fn drop_entries(&mut self, handle: &[u8], n: usize)
+        ensures { self.new ≡ committed self.old (change.Listed handle.now n) }
     {
-        if let Some(index) = name_index(&self.names, name) {
-            self.names.remove(index);
-        }
+        self.handles.drop_entries(self.alloc, handle, n);
     }
 
     // A file that lives no longer is emptied.
     fn drop_lost(&mut self, file: u64)
         ensures { self.new ≡ with_tree self.old (after_loss self.old.tree file) }
     {
-        if !is_named(&self.names, file) && !is_held(&self.handles, file) {
+        if !is_named(self.names.listed(), file) && !self.handles.holds(file) {
             empty_in(self.alloc, &mut self.files, file);
         }
     }
@@ -139,7 +132,7 @@ impl Store {
         ensures left { OnOk result (self.new ≡ committed self.old (change.Renamed old.now to.now)) }
         ensures kept { OnErr result (self.new ≡ self.old) }
     {
-        self.names = moved_names(self.alloc, &self.names, old.parts(), to.parts())?;
+        self.names = moved_names(self.alloc, self.names.listed(), old.parts(), to.parts())?;
         Ok(())
     }
 
@@ -148,16 +141,9 @@ impl Store {
         ensures left { OnOk result (self.new ≡ committed self.old (change.Replaced old.now to.now gone)) }
         ensures kept { OnErr result (self.new ≡ self.old) }
     {
-        self.names = names_but(self.alloc, &self.names, old.parts(), to.parts())?;
+        self.names = names_but(self.alloc, self.names.listed(), old.parts(), to.parts())?;
         self.drop_lost(gone);
         Ok(())
-    }
-
-    // A handle's first entries were given.
-    fn drop_entries(&mut self, handle: &[u8], n: usize)
-        ensures { self.new ≡ committed self.old (change.Listed handle.now n) }
-    {
-        drop_entries_in(self.alloc, &mut self.handles, handle, n);
     }
 }
 
@@ -209,11 +195,11 @@ fn moved_names(
     pairs: &[(TreeName, Node)],
     old: &[ByteText],
     to: &[ByteText],
-) -> Result<Vec<(TreeName, Node)>, OutOfMemory>
-    ensures { IfOk result (λ names. names.items
+) -> Result<Names, OutOfMemory>
+    ensures { IfOk result (λ names. names
         ≡ map (λ pair. (moved_name old.now to.now pair.0, pair.1)) pairs.now) }
 {
-    let mut names = Vec::with_capacity(alloc, pairs.len())?;
+    let mut names = Names::new(alloc);
     add_moved(alloc, &mut names, pairs, old, to)?;
     Ok(names)
 }
@@ -224,14 +210,14 @@ fn names_but(
     pairs: &[(TreeName, Node)],
     old: &[ByteText],
     to: &[ByteText],
-) -> Result<Vec<(TreeName, Node)>, OutOfMemory>
-    ensures { IfOk result (λ names. names.items
+) -> Result<Names, OutOfMemory>
+    ensures { IfOk result (λ names. names
         ≡ map (λ pair. (moved_name old.now to.now pair.0, pair.1)) (without same_name pairs.now to.now)) }
 {
     let Some(index) = name_index(pairs, to) else {
         return moved_names(alloc, pairs, old, to);
     };
-    let mut names = Vec::with_capacity(alloc, pairs.len())?;
+    let mut names = Names::new(alloc);
     let (_, later) = pairs.split_at(index + 1);
     add_moved(alloc, &mut names, &pairs[..index], old, to)?;
     add_moved(alloc, &mut names, later, old, to)?;
@@ -241,17 +227,17 @@ fn names_but(
 /// Adds what names become.
 fn add_moved(
     alloc: Global,
-    names: &mut Vec<(TreeName, Node)>,
+    names: &mut Names,
     pairs: &[(TreeName, Node)],
     old: &[ByteText],
     to: &[ByteText],
 ) -> Result<(), OutOfMemory>
-    ensures { OnOk result (names.new.items ≡ names.old.items
+    ensures { OnOk result (names.new ≡ names.old
         ++ map (λ pair. (moved_name old.now to.now pair.0, pair.1)) pairs.now) }
 {
     for pair in pairs {
         let parts = moved(alloc, pair.0.parts(), old, to)?;
-        names.push((TreeName::new(alloc, parts)?, pair.1))?;
+        names.push(TreeName::new(alloc, parts)?, pair.1)?;
     }
     Ok(())
 }
@@ -273,44 +259,4 @@ fn moved(
         add_copies(alloc, &mut parts, name)?;
     }
     Ok(parts)
-}
-
-/// Adds copies of components.
-pub(crate) fn add_copies(
-    alloc: Global,
-    parts: &mut Vec<ByteText>,
-    more: &[ByteText],
-) -> Result<(), OutOfMemory>
-    ensures { OnOk result (parts.new.items ≡ parts.old.items ++ more.now) }
-{
-    for part in more {
-        parts.push(part.try_copy(alloc)?)?;
-    }
-    Ok(())
-}
-
-/// The first entries of an open directory are dropped.
-fn drop_entries_in(alloc: Global, pairs: &mut Vec<(Handle, Opened)>, handle: &[u8], n: usize)
-    ensures { pairs.new.items ≡ given_pairs pairs.old.items handle.now n }
-{
-    let mut index = 0;
-    while index < pairs.len() {
-        if pairs[index].0.as_bytes() == handle {
-            drop_first(alloc, &mut pairs[index].1, n);
-            return;
-        }
-        index += 1;
-    }
-}
-
-/// The first entries are dropped.
-fn drop_first(alloc: Global, opened: &mut Opened, n: usize)
-    ensures { opened.new ≡ without_first n opened.old }
-{
-    if let Opened::Directory(entries) = opened {
-        let before = std::mem::replace(entries, Items::new(Vec::new(alloc)));
-        let mut rest = before.into_vec();
-        rest.drain(..n.min(rest.len()));
-        *entries = Items::new(rest);
-    }
 }

@@ -1,13 +1,13 @@
 // What a server may begin with.
 ghost use Rattle.std.specs.Prelude.{◌≡◌, ◌&&◌, ◌-◌, ◌^◌, map, length, min, nat_le, IfOk};
 ghost use Rattle.std.specs.List.{list_all, list_any, sum_by};
-ghost use Rattle.sftp_tree.specs.Components.{components as components_by, is_within as is_within_by, same_name};
-ghost use Rattle.sftp_tree.specs.FirstTree.{are_apart as are_apart_by, differ as differ_by, leave_room as leave_room_by, may_be_named as may_be_named_by, may_begin as may_begin_by, may_hold as may_hold_by, may_hold_all as may_hold_all_by, name_of, stand_apart as stand_apart_by};
+ghost use Rattle.machine_model.specs.Components.{components as components_by, is_within as is_within_by, same_name};
+ghost use Rattle.machine_model.specs.FirstTree.{are_apart as are_apart_by, differ as differ_by, leave_room as leave_room_by, may_be_named as may_be_named_by, may_begin as may_begin_by, may_hold as may_hold_by, may_hold_all as may_hold_all_by, name_of, stand_apart as stand_apart_by};
 
 use crate::first_tree::names_of;
 use crate::lookups::is_within;
 use crate::tree_name::walk;
-use sftp_tree::limits::{MAX_COMPONENT_LEN, MAX_FILE_LEN, MAX_TOTAL_LEN};
+use machine_model::limits::{MAX_COMPONENT_LEN, MAX_FILE_LEN, MAX_TOTAL_LEN};
 use sftp_values::{ByteText, Items};
 use ssh_encoding::OutOfMemory;
 use std::alloc::Global;

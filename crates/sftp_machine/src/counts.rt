@@ -1,27 +1,27 @@
 // How many names have a file, and how many a directory.
 ghost use Rattle.std.specs.Prelude.{◌≡◌, length, filter};
 ghost use Rattle.sftp_machine.specs.MachineState.{IsConsistent, IsValid};
-ghost use Rattle.sftp_tree.specs.Listing.{has_file, has_directory};
+ghost use Rattle.machine_model.specs.Listing.{has_file, has_directory};
 
 use crate::machine::Machine;
 use crate::order::is_file;
 use crate::tree_name::TreeName;
+use machine_model::Node;
 use sftp_model::ServerConfig;
-use sftp_tree::Node;
 
 impl Machine {
     /// How many names have a file.
     pub fn file_count(&self) -> u64
         ensures { result ≡ length (filter has_file self.now.tree.names) }
     {
-        count_files(&self.store.names)
+        count_files(self.store.names.listed())
     }
 
     /// How many names have a directory; the root has no name.
     pub fn dir_count(&self) -> u64
         ensures { result ≡ length (filter has_directory self.now.tree.names) }
     {
-        count_directories(&self.store.names)
+        count_directories(self.store.names.listed())
     }
 
     /// How many handles were granted. Each open handle is a number below it, and the files and directories are

@@ -1,6 +1,6 @@
 // The bytes of a file.
 ghost use Rattle.std.specs.Prelude.{◌≡◌, List, ℕ, ◌+◌, ◌≤◌, ◌<◌, ◌^◌, [], length, OnOk, OnErr};
-ghost use Rattle.sftp_tree.specs.FileTree.{put as put_by, resized};
+ghost use Rattle.machine_model.specs.FileTree.{put as put_by, resized};
 
 use ssh_encoding::OutOfMemory;
 use std::alloc::Global;

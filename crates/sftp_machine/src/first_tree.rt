@@ -1,14 +1,15 @@
 // The tree that a server begins with.
 ghost use Rattle.std.specs.Prelude.{◌≡◌, ◌++◌, [], map, IfOk, OnOk};
-ghost use Rattle.sftp_tree.specs.Components.{components as components_by, parent_of};
-ghost use Rattle.sftp_tree.specs.FirstTree.{first_tree, has_name as has_name_by, name_of as name_by, numbered, with_directories, with_directory, with_way};
+ghost use Rattle.machine_model.specs.Components.{components as components_by, parent_of};
+ghost use Rattle.machine_model.specs.FirstTree.{first_tree, has_name as has_name_by, name_of as name_by, numbered, with_directories, with_directory, with_way};
 
-use crate::commit::add_copies;
 use crate::file_bytes::FileBytes;
+use crate::handles::Handles;
+use crate::names::Names;
 use crate::store::Store;
-use crate::tree_name::{TreeName, walk};
+use crate::tree_name::{TreeName, add_copies, walk};
+use machine_model::Node;
 use sftp_model::ServerConfig;
-use sftp_tree::Node;
 use sftp_values::{ByteText, Items};
 use ssh_encoding::OutOfMemory;
 use std::alloc::Global;
@@ -26,14 +27,14 @@ impl Store {
     {
         let mut wanted = names_of(alloc, dirs)?;
         add_parents(alloc, &mut wanted, files)?;
-        let mut names = Vec::new(alloc);
+        let mut names = Names::new(alloc);
         add_directories(alloc, &mut names, &wanted)?;
         add_files(alloc, &mut names, files)?;
         Ok(Store {
             alloc,
             names,
             files: contents(alloc, files)?,
-            handles: Vec::new(alloc),
+            handles: Handles::new(alloc),
             config,
             grants: 0,
         })
@@ -80,10 +81,10 @@ fn parent(alloc: Global, path: &[u8]) -> Result<Items<ByteText>, OutOfMemory>
 /// Adds directories, each with its parents, where their names aren't there.
 fn add_directories(
     alloc: Global,
-    names: &mut Vec<(TreeName, Node)>,
+    names: &mut Names,
     wanted: &[Items<ByteText>],
 ) -> Result<(), OutOfMemory>
-    ensures { OnOk result (names.new.items ≡ with_directories names.old.items wanted.now) }
+    ensures { OnOk result (names.new ≡ with_directories names.old wanted.now) }
 {
     let mut rest = wanted;
     while let [name, later @ ..] = rest {
@@ -95,12 +96,8 @@ fn add_directories(
 
 /// Adds the directories that one passes from the root to a name, the last one too.
 #[tactic(auto, using(crate::proofs::FirstLaws::way_step))]
-fn add_way(
-    alloc: Global,
-    names: &mut Vec<(TreeName, Node)>,
-    name: &[ByteText],
-) -> Result<(), OutOfMemory>
-    ensures { OnOk result (names.new.items ≡ with_way names.old.items [] name.now) }
+fn add_way(alloc: Global, names: &mut Names, name: &[ByteText]) -> Result<(), OutOfMemory>
+    ensures { OnOk result (names.new ≡ with_way names.old [] name.now) }
 {
     let mut passed = 0;
     while passed < name.len() {
@@ -111,20 +108,15 @@ fn add_way(
 }
 
 /// Adds a directory, where its name isn't there.
-fn add_directory(
-    alloc: Global,
-    names: &mut Vec<(TreeName, Node)>,
-    name: &[ByteText],
-) -> Result<(), OutOfMemory>
-    ensures { OnOk result (names.new.items ≡ with_directory names.old.items name.now) }
+fn add_directory(alloc: Global, names: &mut Names, name: &[ByteText]) -> Result<(), OutOfMemory>
+    ensures { OnOk result (names.new ≡ with_directory names.old name.now) }
 {
-    if has_name(names, name) {
+    if has_name(names.listed(), name) {
         return Ok(());
     }
     let mut parts = Vec::new(alloc);
     add_copies(alloc, &mut parts, name)?;
-    names.push((TreeName::new(alloc, parts)?, Node::Directory))?;
-    Ok(())
+    names.push(TreeName::new(alloc, parts)?, Node::Directory)
 }
 
 /// Whether a name is there.
@@ -137,16 +129,16 @@ fn has_name(pairs: &[(TreeName, Node)], name: &[ByteText]) -> bool
 /// Adds files, numbered from 0 on.
 fn add_files(
     alloc: Global,
-    names: &mut Vec<(TreeName, Node)>,
+    names: &mut Names,
     files: &[(ByteText, ByteText)],
 ) -> Result<(), OutOfMemory>
-    ensures { OnOk result (names.new.items ≡ names.old.items ++ numbered 0 files.now) }
+    ensures { OnOk result (names.new ≡ names.old ++ numbered 0 files.now) }
 {
     let mut number = 0u64;
     let mut rest = files;
     while let [file, later @ ..] = rest {
         let name = TreeName::new(alloc, walk(alloc, file.0.as_slice())?)?;
-        names.push((name, Node::File(number)))?;
+        names.push(name, Node::File(number))?;
         number += 1;
         rest = later;
     }

@@ -1,12 +1,12 @@
 // Requests that bear a handle, and OPEN.
 ghost use Rattle.std.specs.Prelude.{◌≡◌, ◌<◌, ◌^◌, ℕ, [], None, Some, true, false, length, take, drop, IfOk, ◌+◌, max, min};
 ghost use Rattle.std.specs.Option.{option_copied};
-ghost use Rattle.sftp_tree.specs.declared.node.Node.TheVariants as node;
-ghost use Rattle.sftp_tree.specs.declared.opened.Opened.TheVariants as opened;
-ghost use Rattle.sftp_tree.specs.Components.{Name};
-ghost use Rattle.sftp_tree.specs.FitTrees.{GivesWithin};
-ghost use Rattle.sftp_tree.specs.HandleRequests.{refuses as refuses_by, after_open, after_close, after_read, after_write, offset_of as offset_by, writes as writes_by, after_fstat, resizes as resizes_by, sets_held, after_fsetstat, after_fsync, copied as copied_by, after_copy, held_by as held_of_flags, capped as capped_by};
-ghost use Rattle.sftp_tree.specs.FileTree.{node_at as node_by, opened_at as opened_by, file_of, bytes_of as bytes_by};
+ghost use Rattle.machine_model.specs.declared.node.Node.TheVariants as node;
+ghost use Rattle.machine_model.specs.declared.opened.Opened.TheVariants as opened;
+ghost use Rattle.machine_model.specs.Components.{Name};
+ghost use Rattle.machine_model.specs.FitTrees.{GivesWithin};
+ghost use Rattle.machine_model.specs.HandleRequests.{refuses as refuses_by, after_open, after_close, after_read, after_write, offset_of as offset_by, writes as writes_by, after_fstat, resizes as resizes_by, sets_held, after_fsetstat, after_fsync, copied as copied_by, after_copy, held_by as held_of_flags, capped as capped_by};
+ghost use Rattle.machine_model.specs.FileTree.{node_at as node_by, opened_at as opened_by, file_of, bytes_of as bytes_by};
 ghost use Rattle.sftp_machine.specs.MachineState.{MachineState, Makes, numbered_handle as bytes_of_handle};
 
 use crate::change::Change;
@@ -14,28 +14,24 @@ use crate::lookups::{is_long, whole};
 use crate::store::Store;
 use crate::tree_name::TreeName;
 use bytes::Bytes;
+use machine_model::{Held, Node, Opened};
 use sftp_model::numbers::{
     MAX_TRANSFER_LEN, SSH_FX_EOF, SSH_FX_FAILURE, SSH_FX_NO_SUCH_FILE, SSH_FX_PERMISSION_DENIED,
     SSH_FXF_APPEND, SSH_FXF_CREAT, SSH_FXF_EXCL, SSH_FXF_READ, SSH_FXF_TRUNC, SSH_FXF_WRITE,
 };
 use sftp_model::{Content, FileAttrs, Handle, Reply, Request};
-use sftp_tree::{Held, Node, Opened};
 use sftp_values::ByteText;
 use ssh_encoding::OutOfMemory;
 
 impl Store {
     /// OPEN.
-    pub(crate) fn open(
-        &self,
-        flags: u32,
-        name: Vec<ByteText>,
-    ) -> Result<(Reply, Change), OutOfMemory>
-        ensures { IfOk result (λ r. Makes self.now r (after_open self.now.tree
-            (bytes_of_handle self.now.grants) flags name.items (node_by self.now.tree name.items))) }
+    pub(crate) fn open(&self, flags: u32, name: TreeName) -> (Reply, Change)
+        ensures { Makes self.now result (after_open self.now.tree
+            (bytes_of_handle self.now.grants) flags name (node_by self.now.tree name)) }
     {
         match self.node_at(&name) {
-            Some(Node::Directory) => Ok(self.refused(SSH_FX_FAILURE)),
-            Some(Node::File(file)) => Ok(self.open_there(flags, file)),
+            Some(Node::Directory) => self.refused(SSH_FX_FAILURE),
+            Some(Node::File(file)) => self.open_there(flags, file),
             None => self.open_new(flags, name),
         }
     }
@@ -55,22 +51,21 @@ impl Store {
     }
 
     // Of a name that isn't there.
-    fn open_new(&self, flags: u32, name: Vec<ByteText>) -> Result<(Reply, Change), OutOfMemory>
-        ensures { IfOk result (λ r. Makes self.now r (after_open self.now.tree
-            (bytes_of_handle self.now.grants) flags name.items None)) }
+    fn open_new(&self, flags: u32, name: TreeName) -> (Reply, Change)
+        ensures { Makes self.now result (after_open self.now.tree
+            (bytes_of_handle self.now.grants) flags name None) }
     {
         if flags & SSH_FXF_CREAT == 0 {
-            return Ok(self.refused(SSH_FX_NO_SUCH_FILE));
+            return self.refused(SSH_FX_NO_SUCH_FILE);
         }
         if !self.has_parent(&name) {
-            return Ok(self.refused(SSH_FX_NO_SUCH_FILE));
+            return self.refused(SSH_FX_NO_SUCH_FILE);
         }
-        if is_long(&name) {
-            return Ok(self.refused(SSH_FX_FAILURE));
+        if is_long(name.parts()) {
+            return self.refused(SSH_FX_FAILURE);
         }
         let held = held_by(flags, self.files.len() as u64);
-        let name = TreeName::new(self.alloc, name)?;
-        Ok(self.grants(Change::Created(name, Opened::File(held))))
+        self.grants(Change::Created(name, Opened::File(held)))
     }
 
     /// CLOSE.

@@ -1,6 +1,6 @@
 //! Laws of the definitions. The functions do nothing: what they ensure holds of all values.
 ghost use Rattle.std.specs.Prelude.{◌≡◌, ◌<◌, ℕ, None, [], length};
-ghost use Rattle.sftp_tree.specs.FileTree.{opened_at};
+ghost use Rattle.machine_model.specs.FileTree.{opened_at};
 ghost use Rattle.sftp_machine.specs.MachineState.{MachineState, IsValid, MAX_HANDLES, numbered_handle};
 
 /// The handle that is granted next isn't open, and a handle of no bytes never is.

@@ -1,5 +1,6 @@
 //! Files and directories in memory, as an SFTP version 3 server answers its requests
-//! (draft-ietf-secsh-filexfer-02, sections 6 and 7). What each is answered and leaves is defined in `sftp_tree`.
+//! (draft-ietf-secsh-filexfer-02, sections 6 and 7). What each is answered and leaves is defined in
+//! `machine_model`.
 #![tactic(auto)]
 
 mod answer;
@@ -11,11 +12,13 @@ mod counts;
 mod file_bytes;
 mod first_tree;
 mod handle_requests;
+mod handles;
 mod laws;
 mod listing;
 mod lookups;
 mod machine;
 mod name_requests;
+mod names;
 mod order;
 mod outbox;
 mod store;

@@ -1,7 +1,7 @@
 // Files and directories by their number in the order of the written names.
 ghost use Rattle.std.specs.Prelude.{◌≡◌};
 ghost use Rattle.std.specs.Option.{option_copied, option_map};
-ghost use Rattle.sftp_tree.specs.Listing.{file_at, dir_at};
+ghost use Rattle.machine_model.specs.Listing.{file_at, dir_at};
 
 use crate::machine::Machine;
 use crate::order::nth_of_kind;
@@ -11,7 +11,7 @@ impl Machine {
     pub fn file(&self, k: u64) -> Option<(&[u8], &[u8])>
         ensures { option_map (λ f. (f.0.now, f.1.now)) result ≡ file_at self.now.tree k }
     {
-        match nth_of_kind(self.store.names(), &self.order, true, k) {
+        match nth_of_kind(self.store.names.sorted(), true, k) {
             Some(pair) => Some((pair.0.written(), self.store.node_bytes(pair.1))),
             None => None,
         }
@@ -21,7 +21,7 @@ impl Machine {
     pub fn dir(&self, k: u64) -> Option<&[u8]>
         ensures { option_map (λ d. d.now) result ≡ dir_at self.now.tree k }
     {
-        match nth_of_kind(self.store.names(), &self.order, false, k) {
+        match nth_of_kind(self.store.names.sorted(), false, k) {
             Some(pair) => Some(pair.0.written()),
             None => None,
         }

@@ -1,58 +1,19 @@
 // What is found by a name or by a handle.
-ghost use Rattle.std.specs.Prelude.{◌≡◌, ◌<◌, ℕ, Some, None, length, false, IfOk, IsSome, MatchOption, nat_lt, ◌+◌, ◌-◌, min, ◌^◌, ◌∷◌, ◌++◌};
+ghost use Rattle.std.specs.Prelude.{◌≡◌, ◌<◌, Some, None, length, false, IfOk, MatchOption, ◌+◌, ◌-◌, min, ◌^◌};
 ghost use Rattle.std.specs.List.{remove, list_any, sum_by};
-ghost use Rattle.std.specs.Option.{option_copied};
-ghost use Rattle.std.specs.Str.{bytes_eq};
-ghost use Rattle.sftp_tree.specs.Components.{same_name, is_long as is_long_by, is_child as is_child_by, is_within as is_within_by};
-ghost use Rattle.sftp_tree.specs.NameRequests.{is_before as is_before_by};
+ghost use Rattle.machine_model.specs.Components.{same_name, is_long as is_long_by, is_child as is_child_by, is_within as is_within_by};
+ghost use Rattle.machine_model.specs.NameRequests.{is_before as is_before_by};
 ghost use Rattle.sftp_model.specs.Pieces.{joined};
-ghost use Rattle.sftp_tree.specs.FileTree.{found, without, names_file, opens_file, is_directory as is_directory_by};
+ghost use Rattle.machine_model.specs.FileTree.{found, without, names_file, is_directory as is_directory_by};
 
 use crate::file_bytes::FileBytes;
 use crate::tree_name::TreeName;
 use bytes::Bytes;
-use sftp_model::Handle;
-use sftp_tree::limits::MAX_COMPONENT_LEN;
-use sftp_tree::{Node, Opened};
+use machine_model::Node;
+use machine_model::limits::MAX_COMPONENT_LEN;
 use sftp_values::ByteText;
 use ssh_encoding::OutOfMemory;
 use std::alloc::Global;
-
-/// What a name has.
-pub(crate) fn node_of(pairs: &[(TreeName, Node)], name: &[ByteText]) -> Option<Node>
-    ensures { result ≡ found same_name pairs.now name.now }
-{
-    let mut rest = pairs;
-    loop {
-        match rest {
-            [] => return None,
-            [pair, later @ ..] => {
-                if pair.0.parts() == name {
-                    return Some(pair.1);
-                }
-                rest = later;
-            }
-        }
-    }
-}
-
-/// What a handle has.
-pub(crate) fn opened_of<'a>(pairs: &'a [(Handle, Opened)], handle: &[u8]) -> Option<&'a Opened>
-    ensures { option_copied result ≡ found bytes_eq pairs.now handle.now }
-{
-    let mut rest = pairs;
-    loop {
-        match rest {
-            [] => return None,
-            [pair, later @ ..] => {
-                if pair.0.as_bytes() == handle {
-                    return Some(&pair.1);
-                }
-                rest = later;
-            }
-        }
-    }
-}
 
 /// The place of a name.
 pub(crate) fn name_index(pairs: &[(TreeName, Node)], name: &[ByteText]) -> Option<usize>
@@ -62,21 +23,6 @@ pub(crate) fn name_index(pairs: &[(TreeName, Node)], name: &[ByteText]) -> Optio
     let mut index = 0;
     while index < pairs.len() {
         if pairs[index].0.parts() == name {
-            return Some(index);
-        }
-        index += 1;
-    }
-    None
-}
-
-/// The place of an open handle.
-pub(crate) fn handle_index(pairs: &[(Handle, Opened)], handle: &[u8]) -> Option<usize>
-    ensures { MatchOption result (without bytes_eq pairs.now handle.now ≡ pairs.now)
-        (λ i. (i < length pairs.now) × (remove pairs.now i ≡ without bytes_eq pairs.now handle.now)) }
-{
-    let mut index = 0;
-    while index < pairs.len() {
-        if pairs[index].0.as_bytes() == handle {
             return Some(index);
         }
         index += 1;
@@ -94,16 +40,6 @@ fn has_file(file: u64, node: Node) -> bool
     }
 }
 
-/// Whether what is open is the file of a number.
-fn has_open(file: u64, opened: &Opened) -> bool
-    ensures { result ≡ opens_file file opened.now }
-{
-    match opened {
-        Opened::File(held) => held.file == file,
-        Opened::Directory(_) => false,
-    }
-}
-
 /// Whether a name has the file.
 pub(crate) fn is_named(pairs: &[(TreeName, Node)], file: u64) -> bool
     ensures { result ≡ list_any (λ pair. names_file file pair.1) pairs.now }
@@ -114,24 +50,6 @@ pub(crate) fn is_named(pairs: &[(TreeName, Node)], file: u64) -> bool
             [] => return false,
             [pair, later @ ..] => {
                 if has_file(file, pair.1) {
-                    return true;
-                }
-                rest = later;
-            }
-        }
-    }
-}
-
-/// Whether a handle has the file.
-pub(crate) fn is_held(pairs: &[(Handle, Opened)], file: u64) -> bool
-    ensures { result ≡ list_any (λ pair. opens_file file pair.1) pairs.now }
-{
-    let mut rest = pairs;
-    loop {
-        match rest {
-            [] => return false,
-            [pair, later @ ..] => {
-                if has_open(file, &pair.1) {
                     return true;
                 }
                 rest = later;

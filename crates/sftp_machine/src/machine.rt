@@ -1,17 +1,14 @@
-ghost use Rattle.std.specs.Prelude.{◌≡◌, ℕ, ◌<◌, ◌≤◌, [], true, length, IfOk, OnOk, OnErr};
+ghost use Rattle.std.specs.Prelude.{◌≡◌, ◌<◌, [], true, IfOk, OnOk, OnErr};
 ghost use Rattle.sftp_model.specs.Answers.{MayAnswer, IsAfterHello};
 ghost use Rattle.sftp_model.specs.Fits.{FitsReply};
-ghost use Rattle.sftp_model.specs.Frames.{reply_body};
-ghost use Rattle.sftp_model.specs.Numbers.{MAX_BODY_LEN};
-ghost use Rattle.sftp_tree.specs.FitTrees.{GivesWithin};
-ghost use Rattle.sftp_tree.specs.FirstTree.{first_tree, may_begin};
+ghost use Rattle.machine_model.specs.FitTrees.{GivesWithin};
+ghost use Rattle.machine_model.specs.FirstTree.{first_tree, may_begin};
 ghost use Rattle.sftp_machine.specs.Changes.{FitsChange, is_grant};
-ghost use Rattle.sftp_machine.specs.MachineState.{IsConsistent, MAX_HANDLES, MayCommit, answer as answer_by, committed, left_by};
+ghost use Rattle.sftp_machine.specs.MachineState.{IsConsistent, IsFramed, MAX_HANDLES, MayCommit, answer as answer_by, committed, left_by};
 
-use crate::answer::{changes_names, grants};
+use crate::answer::grants;
 use crate::answered::Answered;
 use crate::change::Change;
-use crate::order::sort_places;
 use crate::store::Store;
 use sftp_model::numbers::SSH_FX_FAILURE;
 use sftp_model::{Choice, Reply, Request, ServerConfig};
@@ -27,20 +24,16 @@ use std::marker::Model;
 #[derive(Drop)]
 pub struct Machine {
     pub(crate) store: Store,
-    // The places of the names, in the order of the written names.
-    pub(crate) order: Vec<usize>,
 }
 
 impl Model for Machine {
-    ghost use Rattle.sftp_machine.specs.Listing.{AreInOrder};
     ghost use Rattle.sftp_machine.specs.MachineState.{IsConsistent, MachineState};
 
     ghost Value = { MachineState };
 
     ghost view = { λ m. m.store };
 
-    // files and directories are consistent, and the places are in order
-    ghost invariant = { λ m. (IsConsistent m.store.tree) × AreInOrder m.store.tree.names m.order.items };
+    ghost invariant = { λ m. IsConsistent m.store.tree };
 }
 
 impl Machine {
@@ -71,9 +64,7 @@ impl Machine {
         ensures { IfOk result (λ m. m ≡ record { tree = first_tree files.now dirs.now; config = config; grants = 0 }) }
     {
         let store = Store::new(alloc, files, dirs, config)?;
-        let mut order = Vec::with_capacity(alloc, store.names().len())?;
-        sort_places(&mut order, store.names());
-        Ok(Machine { store, order })
+        Ok(Machine { store })
     }
 
     /// Answers a request, which isn't the hello, by the definition: the reply, and what is left, where the handle that
@@ -106,8 +97,7 @@ impl Machine {
 
         // What follows from these: the reply may answer the request, it fits a frame, and its body is within the bound.
         ensures answers { IfOk result (λ a. MayAnswer request.now a.reply) }
-        ensures fits { IfOk result (λ a. GivesWithin choice.cap request.now → FitsReply a.reply) }
-        ensures within { IfOk result (λ a. GivesWithin choice.cap request.now → (id : ℕ) → length (reply_body a.reply id) ≤ MAX_BODY_LEN) }
+        ensures fits { IfOk result (λ a. GivesWithin choice.cap request.now → IsFramed a.reply) }
     {
         self.find(request, choice)
     }
@@ -138,8 +128,7 @@ impl Machine {
         Ok(Answered { reply, change })
     }
 
-    // Makes a change, and puts the names in order. An Err comes only for want of memory, and all is as before.
-    #[tactic(auto, using(crate::proofs::NameChangeLaws::names_stay, crate::proofs::NameChangeLaws::names_grow))]
+    // Makes a change. An Err comes only for want of memory, and all is as before.
     fn make(&mut self, change: Change) -> Result<(), OutOfMemory>
         requires room { is_grant change ≡ true → self.old.grants < MAX_HANDLES }
         requires fits { FitsChange change }
@@ -147,12 +136,6 @@ impl Machine {
         ensures left { OnOk result (self.new ≡ committed self.old change) }
         ensures kept { OnErr result (self.new ≡ self.old) }
     {
-        if !changes_names(&change) {
-            return self.store.commit(change);
-        }
-        self.order.reserve(self.store.names().len() + 1)?;
-        self.store.commit(change)?;
-        sort_places(&mut self.order, self.store.names());
-        Ok(())
+        self.store.commit(change)
     }
 }

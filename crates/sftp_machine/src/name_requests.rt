@@ -2,15 +2,15 @@
 ghost use Rattle.std.specs.Prelude.{◌≡◌, ◌<◌, ◌≤◌, ℕ, [], None, Some, true, false, length, take, drop, map, filter, IfOk, ◌+◌, ◌∷◌, min};
 ghost use Rattle.std.specs.List.{insert};
 ghost use Rattle.std.specs.Option.{option_copied};
-ghost use Rattle.sftp_tree.specs.declared.node.Node.TheVariants as node;
+ghost use Rattle.machine_model.specs.declared.node.Node.TheVariants as node;
 ghost use Rattle.sftp_model.specs.Numbers.{SSH_FX_OK};
 ghost use Rattle.sftp_model.specs.declared.reply.NameEntry.{NameEntry as Entry};
 ghost use Rattle.sftp_model.specs.declared.reply.Reply.TheVariants as reply;
 ghost use Rattle.sftp_machine.specs.declared.change.Change.TheVariants as change;
 ghost use Rattle.sftp_model.specs.Frames.{no_attributes};
-ghost use Rattle.sftp_tree.specs.Components.{written, last_of as last_by, is_child as is_child_by};
-ghost use Rattle.sftp_tree.specs.NameRequests.{after_stat, sets_node, after_setstat, after_remove, after_mkdir, after_rmdir, after_opendir, after_readdir, path_reply as path_by, after_realpath, after_rename, replaces, after_posix_rename, entries_at as entries_by, entry_of as entry_by, in_order, placed};
-ghost use Rattle.sftp_tree.specs.FileTree.{node_at as node_by, opened_at as opened_by, entries_of};
+ghost use Rattle.machine_model.specs.Components.{written, last_of as last_by, is_child as is_child_by};
+ghost use Rattle.machine_model.specs.NameRequests.{after_stat, sets_node, after_setstat, after_remove, after_mkdir, after_rmdir, after_opendir, after_readdir, path_reply as path_by, after_realpath, after_rename, replaces, after_posix_rename, entries_at as entries_by, entry_of as entry_by, in_order, placed};
+ghost use Rattle.machine_model.specs.FileTree.{node_at as node_by, opened_at as opened_by, entries_of};
 ghost use Rattle.sftp_machine.specs.MachineState.{MachineState, Makes, numbered_handle as bytes_of_handle};
 
 use crate::change::Change;
@@ -18,10 +18,10 @@ use crate::handle_requests::capped;
 use crate::lookups::{has_child, is_before, is_child, is_long, is_within};
 use crate::store::Store;
 use crate::tree_name::TreeName;
+use machine_model::limits::MAX_NAME_ENTRIES;
+use machine_model::{Node, Opened};
 use sftp_model::numbers::{SSH_FX_EOF, SSH_FX_FAILURE, SSH_FX_NO_SUCH_FILE};
 use sftp_model::{FileAttrs, Handle, NameEntry, RemotePath, Reply, TryCopy};
-use sftp_tree::limits::MAX_NAME_ENTRIES;
-use sftp_tree::{Node, Opened};
 use sftp_values::{ByteText, Items};
 use ssh_encoding::OutOfMemory;
 use std::alloc::Global;
@@ -54,64 +54,59 @@ impl Store {
     }
 
     /// REMOVE.
-    pub(crate) fn remove(&self, name: Vec<ByteText>) -> Result<(Reply, Change), OutOfMemory>
-        ensures { IfOk result (λ r. Makes self.now r
-            (after_remove self.now.tree name.items (node_by self.now.tree name.items))) }
+    pub(crate) fn remove(&self, name: TreeName) -> (Reply, Change)
+        ensures { Makes self.now result
+            (after_remove self.now.tree name (node_by self.now.tree name)) }
     {
         match self.node_at(&name) {
-            None => Ok(self.refused(SSH_FX_NO_SUCH_FILE)),
-            Some(Node::Directory) => Ok(self.refused(SSH_FX_FAILURE)),
-            Some(Node::File(file)) => {
-                let name = TreeName::new(self.alloc, name)?;
-                Ok(self.done(Change::RemovedFile(name, file)))
-            }
+            None => self.refused(SSH_FX_NO_SUCH_FILE),
+            Some(Node::Directory) => self.refused(SSH_FX_FAILURE),
+            Some(Node::File(file)) => self.done(Change::RemovedFile(name, file)),
         }
     }
 
     /// MKDIR.
-    pub(crate) fn mkdir(&self, name: Vec<ByteText>) -> Result<(Reply, Change), OutOfMemory>
-        ensures { IfOk result (λ r. Makes self.now r
-            (after_mkdir self.now.tree name.items (node_by self.now.tree name.items))) }
+    pub(crate) fn mkdir(&self, name: TreeName) -> (Reply, Change)
+        ensures { Makes self.now result
+            (after_mkdir self.now.tree name (node_by self.now.tree name)) }
     {
         if self.node_at(&name).is_some() {
-            return Ok(self.refused(SSH_FX_FAILURE));
+            return self.refused(SSH_FX_FAILURE);
         }
         if !self.has_parent(&name) {
-            return Ok(self.refused(SSH_FX_NO_SUCH_FILE));
+            return self.refused(SSH_FX_NO_SUCH_FILE);
         }
-        if is_long(&name) {
-            return Ok(self.refused(SSH_FX_FAILURE));
+        if is_long(name.parts()) {
+            return self.refused(SSH_FX_FAILURE);
         }
-        let name = TreeName::new(self.alloc, name)?;
-        Ok(self.done(Change::MadeDirectory(name)))
+        self.done(Change::MadeDirectory(name))
     }
 
     /// RMDIR.
-    pub(crate) fn rmdir(&self, name: Vec<ByteText>) -> Result<(Reply, Change), OutOfMemory>
-        ensures { IfOk result (λ r. Makes self.now r
-            (after_rmdir self.now.tree name.items (node_by self.now.tree name.items))) }
+    pub(crate) fn rmdir(&self, name: TreeName) -> (Reply, Change)
+        ensures { Makes self.now result
+            (after_rmdir self.now.tree name (node_by self.now.tree name)) }
     {
         match self.node_at(&name) {
-            None => Ok(self.refused(SSH_FX_NO_SUCH_FILE)),
-            Some(Node::File(_)) => Ok(self.refused(SSH_FX_FAILURE)),
+            None => self.refused(SSH_FX_NO_SUCH_FILE),
+            Some(Node::File(_)) => self.refused(SSH_FX_FAILURE),
             Some(Node::Directory) => self.rmdir_there(name),
         }
     }
 
     // Of a directory that is there.
-    fn rmdir_there(&self, name: Vec<ByteText>) -> Result<(Reply, Change), OutOfMemory>
-        ensures { IfOk result (λ r. Makes self.now r
-            (after_rmdir self.now.tree name.items (Some node.Directory))) }
+    fn rmdir_there(&self, name: TreeName) -> (Reply, Change)
+        ensures { Makes self.now result
+            (after_rmdir self.now.tree name (Some node.Directory)) }
     {
-        if name.is_empty() || has_child(&self.names, &name) {
-            return Ok(self.refused(SSH_FX_FAILURE));
+        if name.parts().is_empty() || has_child(self.names.listed(), name.parts()) {
+            return self.refused(SSH_FX_FAILURE);
         }
-        let name = TreeName::new(self.alloc, name)?;
-        Ok(self.done(Change::RemovedDirectory(name)))
+        self.done(Change::RemovedDirectory(name))
     }
 
     /// OPENDIR.
-    pub(crate) fn opendir(&self, name: &[ByteText]) -> Result<(Reply, Change), OutOfMemory>
+    pub(crate) fn opendir(&self, name: &TreeName) -> Result<(Reply, Change), OutOfMemory>
         ensures { IfOk result (λ r. Makes self.now r (after_opendir self.now.tree
             (bytes_of_handle self.now.grants) name.now (node_by self.now.tree name.now))) }
     {
@@ -119,7 +114,7 @@ impl Store {
             None => Ok(self.refused(SSH_FX_NO_SUCH_FILE)),
             Some(Node::File(_)) => Ok(self.refused(SSH_FX_FAILURE)),
             Some(Node::Directory) => {
-                let entries = Items::new(self.entries_at(name)?);
+                let entries = Items::new(self.entries_at(name.parts())?);
                 Ok(self.grants(Change::Granted(Opened::Directory(entries))))
             }
         }
@@ -130,7 +125,7 @@ impl Store {
         ensures { IfOk result (λ entries. entries.items ≡ entries_by self.now.tree name.now) }
     {
         let mut entries = Vec::new(self.alloc);
-        let mut left: &[(TreeName, Node)] = &self.names;
+        let mut left: &[(TreeName, Node)] = self.names.listed();
         while let [earlier @ .., pair] = left {
             if is_child(name, pair.0.parts()) {
                 let entry = self.entry_of(pair.0.parts(), pair.1)?;
@@ -176,11 +171,10 @@ impl Store {
     }
 
     /// REALPATH and `expand-path@openssh.com`.
-    pub(crate) fn realpath(&self, name: Vec<ByteText>) -> Result<(Reply, Change), OutOfMemory>
-        ensures { IfOk result (λ r. Makes self.now r (after_realpath self.now.tree name.items)) }
+    pub(crate) fn realpath(&self, name: &TreeName) -> Result<(Reply, Change), OutOfMemory>
+        ensures { IfOk result (λ r. Makes self.now r (after_realpath self.now.tree name.now)) }
     {
-        let name = TreeName::new(self.alloc, name)?;
-        let path = absolute(self.alloc, &name)?;
+        let path = absolute(self.alloc, name)?;
         if path.as_bytes().len() > MAX_PATH_LEN {
             return Ok(self.refused(SSH_FX_FAILURE));
         }
@@ -188,59 +182,41 @@ impl Store {
     }
 
     /// RENAME.
-    pub(crate) fn rename(
-        &self,
-        old: Vec<ByteText>,
-        to: Vec<ByteText>,
-    ) -> Result<(Reply, Change), OutOfMemory>
-        ensures { IfOk result (λ r. Makes self.now r (after_rename self.now.tree old.items to.items
-            (node_by self.now.tree old.items) (node_by self.now.tree to.items))) }
+    pub(crate) fn rename(&self, old: TreeName, to: TreeName) -> (Reply, Change)
+        ensures { Makes self.now result (after_rename self.now.tree old to
+            (node_by self.now.tree old) (node_by self.now.tree to)) }
     {
         if self.node_at(&old).is_none() {
-            return Ok(self.refused(SSH_FX_NO_SUCH_FILE));
+            return self.refused(SSH_FX_NO_SUCH_FILE);
         }
         if self.node_at(&to).is_some() {
-            return Ok(self.refused(SSH_FX_FAILURE));
+            return self.refused(SSH_FX_FAILURE);
         }
-        if is_within(&old, &to) {
-            return Ok(self.refused(SSH_FX_FAILURE));
+        if is_within(old.parts(), to.parts()) {
+            return self.refused(SSH_FX_FAILURE);
         }
         if !self.has_parent(&to) {
-            return Ok(self.refused(SSH_FX_NO_SUCH_FILE));
+            return self.refused(SSH_FX_NO_SUCH_FILE);
         }
-        if is_long(&to) {
-            return Ok(self.refused(SSH_FX_FAILURE));
+        if is_long(to.parts()) {
+            return self.refused(SSH_FX_FAILURE);
         }
-        self.moves(old, to)
-    }
-
-    // The old name is moved.
-    fn moves(&self, old: Vec<ByteText>, to: Vec<ByteText>) -> Result<(Reply, Change), OutOfMemory>
-        ensures { IfOk result (λ r. r ≡ (reply.Status SSH_FX_OK [] [], change.Renamed old.items to.items)) }
-    {
-        let old = TreeName::new(self.alloc, old)?;
-        let to = TreeName::new(self.alloc, to)?;
-        Ok(self.done(Change::Renamed(old, to)))
+        self.done(Change::Renamed(old, to))
     }
 
     /// `posix-rename@openssh.com`.
-    pub(crate) fn posix_rename(
-        &self,
-        old: Vec<ByteText>,
-        to: Vec<ByteText>,
-    ) -> Result<(Reply, Change), OutOfMemory>
-        ensures { IfOk result (λ r. Makes self.now r
-            (after_posix_rename self.now.tree old.items to.items
-            (node_by self.now.tree old.items) (node_by self.now.tree to.items))) }
+    pub(crate) fn posix_rename(&self, old: TreeName, to: TreeName) -> (Reply, Change)
+        ensures { Makes self.now result (after_posix_rename self.now.tree old to
+            (node_by self.now.tree old) (node_by self.now.tree to)) }
     {
         let Some(node) = self.node_at(&old) else {
-            return Ok(self.refused(SSH_FX_NO_SUCH_FILE));
+            return self.refused(SSH_FX_NO_SUCH_FILE);
         };
-        if old.as_slice() == to.as_slice() {
-            return Ok(self.done(Change::Unchanged));
+        if old.parts() == to.parts() {
+            return self.done(Change::Unchanged);
         }
-        if is_within(&old, &to) || is_within(&to, &old) {
-            return Ok(self.refused(SSH_FX_FAILURE));
+        if is_within(old.parts(), to.parts()) || is_within(to.parts(), old.parts()) {
+            return self.refused(SSH_FX_FAILURE);
         }
         let there = self.node_at(&to);
         self.replaces(old, to, node, there)
@@ -249,30 +225,25 @@ impl Store {
     // A file is replaced by a file, and no directory is.
     fn replaces(
         &self,
-        old: Vec<ByteText>,
-        to: Vec<ByteText>,
+        old: TreeName,
+        to: TreeName,
         node: Node,
         there: Option<Node>,
-    ) -> Result<(Reply, Change), OutOfMemory>
-        ensures { IfOk result (λ r. Makes self.now r
-            (replaces self.now.tree old.items to.items node there)) }
+    ) -> (Reply, Change)
+        ensures { Makes self.now result (replaces self.now.tree old to node there) }
     {
         let Some(there) = there else {
             if !self.has_parent(&to) {
-                return Ok(self.refused(SSH_FX_NO_SUCH_FILE));
+                return self.refused(SSH_FX_NO_SUCH_FILE);
             }
-            if is_long(&to) {
-                return Ok(self.refused(SSH_FX_FAILURE));
+            if is_long(to.parts()) {
+                return self.refused(SSH_FX_FAILURE);
             }
-            return self.moves(old, to);
+            return self.done(Change::Renamed(old, to));
         };
         match (node, there) {
-            (Node::File(_), Node::File(gone)) => {
-                let old = TreeName::new(self.alloc, old)?;
-                let to = TreeName::new(self.alloc, to)?;
-                Ok(self.done(Change::Replaced(old, to, gone)))
-            }
-            _ => Ok(self.refused(SSH_FX_FAILURE)),
+            (Node::File(_), Node::File(gone)) => self.done(Change::Replaced(old, to, gone)),
+            _ => self.refused(SSH_FX_FAILURE),
         }
     }
 }

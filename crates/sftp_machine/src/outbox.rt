@@ -5,6 +5,7 @@ ghost use Rattle.sftp_machine.specs.WaitingFrames.{WaitingFrames, turned, index_
 use sftp_values::{ByteText, Items};
 use ssh_encoding::OutOfMemory;
 use std::alloc::Global;
+use std::collections::VecDeque;
 use std::marker::Model;
 
 /// Frames of replies: the rest of the one that is being given, and those that wait, in the order of their requests. The
@@ -13,7 +14,7 @@ use std::marker::Model;
 pub struct Outbox {
     ready: Vec<u8>,
     given: usize,
-    waiting: Vec<ByteText>,
+    waiting: VecDeque<ByteText>,
     picks: Items<u32>,
     used: usize,
 }
@@ -37,7 +38,7 @@ impl Outbox {
         Outbox {
             ready: Vec::new(alloc),
             given: 0,
-            waiting: Vec::new(alloc),
+            waiting: VecDeque::new(alloc),
             picks,
             used: 0,
         }
@@ -66,7 +67,7 @@ impl Outbox {
         }) }
         ensures kept { OnErr result (self.new ≡ self.old) }
     {
-        self.waiting.push(frame)?;
+        self.waiting.push_back(frame)?;
         Ok(())
     }
 
@@ -79,7 +80,7 @@ impl Outbox {
           picks = self.old.picks;
         } }
     {
-        let _ = self.waiting.pop();
+        let _ = self.waiting.pop_back();
     }
 
     // The place of the frame that is picked next.
@@ -135,9 +136,11 @@ impl Outbox {
             return;
         }
         let index = self.index();
-        self.ready = self.waiting.remove(index).into_vec();
-        self.given = 0;
-        self.spend();
+        if let Some(frame) = self.waiting.remove(index) {
+            self.ready = frame.into_vec();
+            self.given = 0;
+            self.spend();
+        }
     }
 
     // The next pick is used.

@@ -2,23 +2,25 @@ ghost use Rattle.std.specs.Prelude.{◌≡◌, ◌==◌, ◌<◌, ◌≤◌, ◌
 ghost use Rattle.std.specs.Option.{option_copied};
 ghost use Rattle.sftp_model.specs.Numbers.{SSH_FX_OK};
 ghost use Rattle.sftp_model.specs.declared.reply.Reply.TheVariants as reply;
-ghost use Rattle.sftp_tree.specs.declared.node.Node.TheVariants as node;
-ghost use Rattle.sftp_tree.specs.Components.{parent_of};
-ghost use Rattle.sftp_tree.specs.Limits.{MAX_FILE_LEN, MAX_TOTAL_LEN};
-ghost use Rattle.sftp_tree.specs.HandleRequests.{refuses as refuses_by, done as done_by};
-ghost use Rattle.sftp_tree.specs.FileTree.{node_at as node_by, opened_at as opened_by, file_of, entries_of, bytes_of as bytes_by, attributes_of as attributes_by, is_directory as is_directory_by, is_over as is_over_by};
-ghost use Rattle.sftp_tree.specs.Listing.{node_bytes as node_bytes_by};
+ghost use Rattle.machine_model.specs.declared.node.Node.TheVariants as node;
+ghost use Rattle.machine_model.specs.Components.{parent_of, written as written_by};
+ghost use Rattle.machine_model.specs.Limits.{MAX_FILE_LEN, MAX_TOTAL_LEN};
+ghost use Rattle.machine_model.specs.HandleRequests.{refuses as refuses_by, done as done_by};
+ghost use Rattle.machine_model.specs.FileTree.{node_at as node_by, opened_at as opened_by, file_of, entries_of, bytes_of as bytes_by, attributes_of as attributes_by, is_directory as is_directory_by, is_over as is_over_by};
+ghost use Rattle.machine_model.specs.Listing.{node_bytes as node_bytes_by};
 ghost use Rattle.sftp_machine.specs.MachineState.{MachineState, IsValid, Makes, committed, MAX_HANDLES, numbered_handle as bytes_of_handle};
 ghost use Rattle.sftp_machine.specs.declared.change.Change.TheVariants as change;
 
 use crate::change::Change;
 use crate::file_bytes::FileBytes;
-use crate::lookups::{all_bytes, is_directory, node_of, opened_of};
+use crate::handles::Handles;
+use crate::lookups::{all_bytes, is_directory};
+use crate::names::Names;
 use crate::tree_name::TreeName;
+use machine_model::limits::{DIRECTORY_PERMISSIONS, MAX_FILE_LEN, MAX_TOTAL_LEN};
+use machine_model::{Held, Node, Opened};
 use sftp_model::numbers::SSH_FX_OK;
 use sftp_model::{FileAttrs, Handle, Reply, ServerConfig};
-use sftp_tree::limits::{DIRECTORY_PERMISSIONS, MAX_FILE_LEN, MAX_TOTAL_LEN};
-use sftp_tree::{Held, Node, Opened};
 use sftp_values::ByteText;
 use std::alloc::Global;
 use std::marker::Model;
@@ -30,9 +32,9 @@ const MAX_HANDLES: u64 = 4_294_967_296;
 #[derive(Drop)]
 pub struct Store {
     pub(crate) alloc: Global,
-    pub(crate) names: Vec<(TreeName, Node)>,
+    pub(crate) names: Names,
     pub(crate) files: Vec<FileBytes>,
-    pub(crate) handles: Vec<(Handle, Opened)>,
+    pub(crate) handles: Handles,
     pub(crate) config: ServerConfig,
     pub(crate) grants: u64,
 }
@@ -43,13 +45,13 @@ impl Model for Store {
     ghost Value = { MachineState };
 
     ghost view = { λ m. record {
-      tree = record { names = m.names.items; files = m.files.items; handles = m.handles.items };
+      tree = record { names = m.names; files = m.files.items; handles = m.handles };
       config = m.config;
       grants = m.grants;
     } };
 
     ghost invariant = { λ m. IsValid (record {
-      tree = record { names = m.names.items; files = m.files.items; handles = m.handles.items };
+      tree = record { names = m.names; files = m.files.items; handles = m.handles };
       config = m.config;
       grants = m.grants;
     }) };
@@ -72,13 +74,6 @@ impl Store {
         self.grants == MAX_HANDLES
     }
 
-    /// The names with what they have.
-    pub(crate) fn names(&self) -> &[(TreeName, Node)]
-        ensures { result.now ≡ self.now.tree.names }
-    {
-        &self.names
-    }
-
     /// The bytes of what a name has; a directory has none.
     pub(crate) fn node_bytes(&self, node: Node) -> &[u8]
         ensures { result.now ≡ node_bytes_by self.now.tree node }
@@ -90,12 +85,20 @@ impl Store {
     }
 
     /// What a name has.
-    pub(crate) fn node_at(&self, name: &[ByteText]) -> Option<Node>
+    pub(crate) fn node_at(&self, name: &TreeName) -> Option<Node>
+        ensures { result ≡ node_by self.now.tree name.now }
+    {
+        self.node_of(name.parts(), name.written())
+    }
+
+    // What a name has, which is written so.
+    fn node_of(&self, name: &[ByteText], written: &[u8]) -> Option<Node>
+        requires { written.now ≡ written_by name.now }
         ensures { result ≡ node_by self.now.tree name.now }
     {
         match name {
             [] => Some(Node::Directory),
-            _ => node_of(&self.names, name),
+            _ => self.names.find(name, written),
         }
     }
 
@@ -103,7 +106,7 @@ impl Store {
     pub(crate) fn opened_at(&self, handle: &[u8]) -> Option<&Opened>
         ensures { option_copied result ≡ opened_by self.now.tree handle.now }
     {
-        opened_of(&self.handles, handle)
+        self.handles.get(handle)
     }
 
     /// The file that is open by a handle.
@@ -155,10 +158,10 @@ impl Store {
     }
 
     /// Whether a name's parent is a directory.
-    pub(crate) fn has_parent(&self, name: &[ByteText]) -> bool
+    pub(crate) fn has_parent(&self, name: &TreeName) -> bool
         ensures { result ≡ is_directory_by (node_by self.now.tree (parent_of name.now)) }
     {
-        is_directory(self.node_at(&name[..name.len().saturating_sub(1)]))
+        is_directory(self.node_of(name.parent_parts(), name.parent_written()))
     }
 
     /// A STATUS with an empty message and language.

@@ -1,7 +1,7 @@
 // Names of files and directories.
-ghost use Rattle.std.specs.Prelude.{◌≡◌, List, ℕ, IfOk, OnOk, drop};
+ghost use Rattle.std.specs.Prelude.{◌≡◌, ◌++◌, List, ℕ, IfOk, OnOk, drop};
 ghost use Rattle.std.specs.List.{flat_map};
-ghost use Rattle.sftp_tree.specs.Components.{components as components_by, entered, Name, written as written_by};
+ghost use Rattle.machine_model.specs.Components.{components as components_by, entered, parent_of, Name, written as written_by};
 ghost use Rattle.sftp_machine.specs.Names.{slashed};
 
 use sftp_model::TryCopy;
@@ -50,9 +50,28 @@ impl TreeName {
     pub fn written(&self) -> &[u8]
         ensures { result.now ≡ written_by self.now }
     {
-        match self.text.as_slice() {
-            [] => &[],
-            [_, rest @ ..] => rest,
+        unslashed(self.text.as_slice())
+    }
+
+    /// The components of its parent; the root's is the root.
+    pub fn parent_parts(&self) -> &[ByteText]
+        ensures { result.now ≡ parent_of self.now }
+    {
+        let count = self.parts.len().saturating_sub(1);
+        &self.parts[..count]
+    }
+
+    /// Its parent as it is written.
+    pub fn parent_written(&self) -> &[u8]
+        ensures { result.now ≡ written_by (parent_of self.now) }
+    {
+        match self.parts.last() {
+            Some(part) => {
+                let text = self.text.as_slice();
+                let end = text.len().saturating_sub(1 + part.as_slice().len());
+                unslashed(&text[..end])
+            }
+            None => &[],
         }
     }
 
@@ -61,6 +80,39 @@ impl TreeName {
         ensures { result.now ≡ flat_map slashed self.now }
     {
         self.text.as_slice()
+    }
+}
+
+impl TryCopy for TreeName {
+    fn try_copy(&self, alloc: Global) -> Result<TreeName, OutOfMemory> {
+        let mut parts = Vec::with_capacity(alloc, self.parts.len())?;
+        add_copies(alloc, &mut parts, &self.parts)?;
+        let text = self.text.try_copy(alloc)?;
+        Ok(TreeName { parts, text })
+    }
+}
+
+/// Adds copies of components.
+pub(crate) fn add_copies(
+    alloc: Global,
+    parts: &mut Vec<ByteText>,
+    more: &[ByteText],
+) -> Result<(), OutOfMemory>
+    ensures { OnOk result (parts.new.items ≡ parts.old.items ++ more.now) }
+{
+    for part in more {
+        parts.push(part.try_copy(alloc)?)?;
+    }
+    Ok(())
+}
+
+/// The text without its first byte.
+fn unslashed(text: &[u8]) -> &[u8]
+    ensures { (name : Name) → text.now ≡ flat_map slashed name → result.now ≡ written_by name }
+{
+    match text {
+        [] => &[],
+        [_, rest @ ..] => rest,
     }
 }
 
@@ -86,7 +138,7 @@ pub fn components(alloc: Global, path: &[u8]) -> Result<Items<ByteText>, OutOfMe
 }
 
 // The same as a vector.
-#[tactic(auto, unfolding(sftp_tree::specs::Components::components))]
+#[tactic(auto, unfolding(machine_model::specs::Components::components))]
 pub(crate) fn walk(alloc: Global, path: &[u8]) -> Result<Vec<ByteText>, OutOfMemory>
     ensures { IfOk result (λ parts. parts.items ≡ components_by path.now) }
 {

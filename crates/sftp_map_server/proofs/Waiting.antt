@@ -1,5 +1,5 @@
 -- No frame that waits is empty, so bytes are given until nothing waits.
-use Rattle.std.proofs.Common.{ℕ, zero, suc, ◌≡◌, ◌==◌, ◌<◌, ◌+◌, ◌%◌, Bool, true, false, List, [], ◌∷◌, ◌++◌, length, take, drop, min, reverse, Option, Some, None, if◌then◌else◌, refl, sym, ap, ◌∙◌, subst, arith, inl, inr}
+use Rattle.std.proofs.Common.{ℕ, zero, suc, ◌≡◌, ◌==◌, ◌<◌, ◌%◌, Bool, true, false, List, [], ◌∷◌, ◌++◌, length, take, drop, min, reverse, Option, Some, None, if◌then◌else◌, refl, sym, ap, ◌∙◌, subst, arith, inl, inr}
 use Rattle.std.specs.Prelude.{slice_index_or}
 use Rattle.std.specs.List.{remove}
 use Rattle.std.specs.Result.{result_ok}
@@ -16,10 +16,10 @@ use Rattle.sftp_wire.specs.FrameReader.{missing}
 use Rattle.sftp_model.specs.declared.request.Request.{Request}
 use Rattle.sftp_model.specs.Frames.{reply_body}
 use Rattle.sftp_model.specs.RequestReadings.{request_at}
-use Rattle.sftp_tree.specs.TreeAnswers.{first_choice}
+use Rattle.machine_model.specs.TreeAnswers.{first_choice}
 use Rattle.sftp_machine.specs.MachineState.{answer}
 use Rattle.sftp_machine.specs.WaitingFrames.{WaitingFrames, first_pick, index_of, turned}
-use Rattle.sftp_map_server.specs.Serving.{Absorbs, Desk, Gives, IsServed, IsServing, Said, Server, all_said, gives_within, greet, heed, id_of, is_hello, is_query, respond, serve, server_of, step}
+use Rattle.sftp_map_server.specs.Serving.{Absorbs, Desk, Gives, IsServed, IsServing, Said, Server, all_said, gives_within, heed, id_of, is_hello, is_query, respond, serve, server_of, step}
 
 -- none of these frames is empty
 abbrev pub NoneEmpty : List (List ℕ) → Type 0
@@ -56,7 +56,8 @@ where_said true x y h k = h
 where_said false x y h k = k
 
 serve_some : (d : Desk) (id : Option ℕ) (r : Request) → NoneEmpty (serve d id r).0.later
-serve_some d id r = where_said (gives_within r (first_choice d.choices)) _ _ (string_some (reply_body (answer d.machine r (first_choice d.choices)).0 (id_of id)), tt) tt
+serve_some d id r = where_said (gives_within r (first_choice d.choices)) _ _
+    (string_some (reply_body (answer d.machine r (first_choice d.choices)).0 (id_of id)), tt) tt
 
 respond_some : (d : Desk) (id : Option ℕ) (r : Request) → NoneEmpty (respond d id r).0.later
 respond_some d id r =
@@ -77,9 +78,16 @@ said_some d (body ∷ more) = both_some (step d body).0.later (all_said (step d 
 
 -- ---- what waits
 
-where_turned : (w : WaitingFrames) (a b : Bool) → NoneEmpty w.waiting → NoneEmpty (if a then (if b then w else record { ready = slice_index_or w.waiting (index_of w) []; waiting = remove w.waiting (index_of w); picks = drop 1 w.picks }) else w).waiting
+where_turned : (w : WaitingFrames) (a b : Bool) → NoneEmpty w.waiting
+    → NoneEmpty (if a then (if b then w else record {
+      ready = slice_index_or w.waiting (index_of w) [];
+      waiting =
+          remove w.waiting (index_of w);
+      picks = drop 1 w.picks;
+    }) else w).waiting
 where_turned w true true h = h
-where_turned w true false h = both_some (take (index_of w) w.waiting) (drop (suc (index_of w)) w.waiting) (take_some (index_of w) w.waiting h) (drop_some (suc (index_of w)) w.waiting h)
+where_turned w true false h = both_some (take (index_of w) w.waiting) (drop (suc (index_of w)) w.waiting)
+    (take_some (index_of w) w.waiting h) (drop_some (suc (index_of w)) w.waiting h)
 where_turned w false b h = h
 
 turned_some : (w : WaitingFrames) → NoneEmpty w.waiting → NoneEmpty (turned w).waiting
@@ -96,16 +104,29 @@ served_some first now (Sent bytes ∷ log) h s =
     let mid = s.0 in
     let before = served_some first mid log h s.1 in
     let absorbs : Absorbs mid bytes now = s.2 in
-    subst (λ (w : WaitingFrames). NoneEmpty w.waiting) (sym absorbs.output) (both_some mid.output.waiting (all_said mid.desk absorbs.bodies).later before (said_some mid.desk absorbs.bodies))
+    subst (λ (w : WaitingFrames). NoneEmpty w.waiting) (sym absorbs.output)
+    (both_some mid.output.waiting (all_said mid.desk absorbs.bodies).later before
+    (said_some mid.desk absorbs.bodies))
 served_some first now (Got bytes ∷ log) h s = gives_some s.0 now bytes s.2 (served_some first s.0 log h s.1)
 
-index_below : (w : WaitingFrames) (b : Bool) → (length w.waiting == 0) ≡ b → b ≡ false → (if b then 0 else first_pick w.picks % length w.waiting) < length w.waiting
+index_below : (w : WaitingFrames) (b : Bool) → (length w.waiting == 0) ≡ b → b ≡ false
+    → (if b then 0 else first_pick w.picks % length w.waiting) < length w.waiting
 index_below w true e f = absurd cc
 index_below w false e f = mod-lt (first_pick w.picks) (grind (arith, nat_tests))
 
 still : (w : WaitingFrames) (a b : Bool) → (length w.waiting == 0) ≡ b → NoneEmpty w.waiting
-    → length (if a then (if b then w else record { ready = slice_index_or w.waiting (index_of w) []; waiting = remove w.waiting (index_of w); picks = drop 1 w.picks }) else w).ready ≡ 0
-    → (if a then (if b then w else record { ready = slice_index_or w.waiting (index_of w) []; waiting = remove w.waiting (index_of w); picks = drop 1 w.picks }) else w) ≡ w
+    → length (if a then (if b then w else record {
+      ready = slice_index_or w.waiting (index_of w) [];
+      waiting =
+          remove w.waiting (index_of w);
+      picks = drop 1 w.picks;
+    }) else w).ready ≡ 0
+    → (if a then (if b then w else record {
+      ready = slice_index_or w.waiting (index_of w) [];
+      waiting =
+          remove w.waiting (index_of w);
+      picks = drop 1 w.picks;
+    }) else w) ≡ w
 still w true true e h none = refl
 still w true false e h none =
     let below : index_of w < length w.waiting = index_below w (length w.waiting == 0) refl e in
@@ -132,10 +153,15 @@ drop_none zero = refl
 drop_none (suc n) = refl
 
 -- of no bytes none are left
-dropped : (n : ℕ) (w : WaitingFrames) → w.ready ≡ [] → (let q : WaitingFrames = record { ready = drop n w.ready; waiting = w.waiting; picks = w.picks } in q) ≡ w
-dropped n w none = ap (λ (x : List ℕ). let q : WaitingFrames = record { ready = x; waiting = w.waiting; picks = w.picks } in q) (ap (λ (x : List ℕ). drop n x) none ∙ (drop_none n ∙ sym none))
+dropped : (n : ℕ) (w : WaitingFrames) → w.ready ≡ [] → (let q : WaitingFrames =
+    record { ready = drop n w.ready; waiting = w.waiting; picks = w.picks } in q) ≡ w
+dropped n w none = ap (λ (x : List ℕ). let q : WaitingFrames =
+    record { ready = x; waiting = w.waiting; picks = w.picks } in q)
+    (ap (λ (x : List ℕ). drop n x) none ∙ (drop_none n ∙ sym none))
 
-gives_bytes : (d : Desk) (input bytes : List ℕ) (w after : WaitingFrames) (n : ℕ) → NoneEmpty w.waiting → after ≡ after_giving w n → bytes ≡ take n (turned w).ready → (n ≡ 0 → length (turned w).ready ≡ 0) → Gives (server_of d input w) bytes (server_of d input after)
+gives_bytes : (d : Desk) (input bytes : List ℕ) (w after : WaitingFrames) (n : ℕ) → NoneEmpty w.waiting → after
+    ≡ after_giving w n → bytes ≡ take n (turned w).ready → (n ≡ 0 → length (turned w).ready ≡ 0)
+    → Gives (server_of d input w) bytes (server_of d input after)
 gives_bytes d input [] w after n h is bytes none =
     let zeroed : length (turned w).ready ≡ 0 = elim (cases_lt 0 n) [
       | inl lt ↦ (let l = length-take n (turned w).ready in let e : 0 ≡ length (take n (turned w).ready) = ap length bytes in omega (arith, l, e, lt))
@@ -144,7 +170,8 @@ gives_bytes d input [] w after n h is bytes none =
     let nothing_there = none_left (turned w).ready zeroed in
     (ap (λ (o : WaitingFrames). server_of d input o) (is ∙ (dropped n (turned w) nothing_there ∙ turned_still w h zeroed)), nothing_there)
 gives_bytes d input (b ∷ bytes) w after n h is bytes_are none = record {
-  ready = sym (take-append-drop n (turned w).ready) ∙ (ap (λ (x : List ℕ). x ++ drop n (turned w).ready) (sym bytes_are) ∙ ap (λ (o : WaitingFrames). (b ∷ bytes) ++ o.ready) (sym is));
+  ready = sym (take-append-drop n (turned w).ready) ∙ (ap (λ (x : List ℕ). x ++ drop n (turned w).ready) (sym bytes_are)
+      ∙ ap (λ (o : WaitingFrames). (b ∷ bytes) ++ o.ready) (sym is));
   waiting = ap (λ (o : WaitingFrames). o.waiting) is;
   picks = ap (λ (o : WaitingFrames). o.picks) is;
   input = refl;
@@ -156,14 +183,16 @@ limited_some true cut n e some = some
 limited_some false cut n e some = grind (arith, nat_tests)
 
 -- a call gives as many bytes as it may, and none only where none are left
-pub gives_most : (d : Desk) (input bytes : List ℕ) (w after : WaitingFrames) (cut room n : ℕ) → NoneEmpty w.waiting → after ≡ after_giving w n → bytes ≡ take n (turned w).ready
+pub gives_most : (d : Desk) (input bytes : List ℕ) (w after : WaitingFrames) (cut room n : ℕ) → NoneEmpty w.waiting
+    → after ≡ after_giving w n → bytes ≡ take n (turned w).ready
     → n ≡ min (limited cut room) (length (turned w).ready) → 0 < room → Gives (server_of d input w) bytes (server_of d input after)
 gives_most d input bytes w after cut room n h is bytes_are n_is some =
     let least : 0 < limited cut room = limited_some (cut == 0) cut room refl some in
     gives_bytes d input bytes w after n h is bytes_are (λ e. omega (arith, e, n_is, least))
 
 -- what was copied stands at the front of the room
-pub came : (ready piece copied rest : List ℕ) (most n : ℕ) → piece ≡ take n ready → n ≡ min most (length ready) → copied ≡ piece → piece ≡ take n (copied ++ rest)
+pub came : (ready piece copied rest : List ℕ) (most n : ℕ) → piece ≡ take n ready → n ≡ min most (length ready) → copied
+    ≡ piece → piece ≡ take n (copied ++ rest)
 came ready piece copied rest most n is n_is same =
     let len : length piece ≡ n = (let l = length-take n ready in let e = ap length is in omega (arith, l, e, n_is)) in
     sym (ap (λ (w : List ℕ). take n (w ++ rest)) same ∙ (ap (λ (k : ℕ). take k (piece ++ rest)) (sym len) ∙ take-append_seam piece rest))
@@ -173,7 +202,9 @@ came ready piece copied rest most n is n_is same =
 newest : (log more : List Piece) (piece : Piece) → more ≡ log ++ piece ∷ [] → piece ∷ reverse log ≡ reverse more
 newest log more piece is = sym (ap reverse is ∙ reverse-append log (piece ∷ []))
 
-pub sent_more : (first before now : Server) (log more : List Piece) (bytes : List ℕ) (ended : Bool) → IsServing first before (reverse log) ended → more ≡ log ++ Sent bytes ∷ [] → Absorbs before bytes now → IsServing first now (reverse more) false
+pub sent_more : (first before now : Server) (log more : List Piece) (bytes : List ℕ) (ended : Bool)
+    → IsServing first before (reverse log) ended → more ≡ log ++ Sent bytes ∷ [] → Absorbs before bytes now
+    → IsServing first now (reverse more) false
 sent_more first before now log more bytes ended s is absorbs = record {
   served = subst (λ (w : List Piece). IsServed first w now) (newest log more (Sent bytes) is) (before, s.served, absorbs);
   part = absorbs.part;
@@ -188,7 +219,8 @@ gives_end : (before now : Server) (bytes : List ℕ) → Gives before bytes now 
 gives_end before now [] g e = ap (λ (s : Server). (turned s.output).ready) g.0 ∙ g.1
 gives_end before now (b ∷ bytes) g e = absurd (omega (arith, e))
 
-pub got_more : (first before now : Server) (log more : List Piece) (bytes : List ℕ) (ended now_ended : Bool) → IsServing first before (reverse log) ended → more ≡ log ++ Got bytes ∷ [] → Gives before bytes now
+pub got_more : (first before now : Server) (log more : List Piece) (bytes : List ℕ) (ended now_ended : Bool)
+    → IsServing first before (reverse log) ended → more ≡ log ++ Got bytes ∷ [] → Gives before bytes now
     → (now_ended ≡ true → length bytes ≡ 0) → IsServing first now (reverse more) now_ended
 got_more first before now log more bytes ended now_ended s is gives none = record {
   served = subst (λ (w : List Piece). IsServed first w now) (newest log more (Got bytes) is) (before, s.served, gives);

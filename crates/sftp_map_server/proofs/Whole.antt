@@ -1,5 +1,5 @@
 -- The bytes of one frame.
-use Rattle.std.proofs.Common.{◌≡◌, ◌<◌, ◌≤◌, ℕ, ◌+◌, ◌-◌, ◌==◌, Bool, true, false, List, [], ◌∷◌, ◌++◌, length, take, drop, get_or, Option, Some, None, refl, ap, sym, ◌∙◌, arith, append-nil, length-append, length-drop, length-take, inl, inr, if◌then◌else◌}
+use Rattle.std.proofs.Common.{◌≡◌, ◌<◌, ◌≤◌, ℕ, ◌+◌, ◌-◌, ◌==◌, Bool, true, false, List, [], ◌∷◌, ◌++◌, length, take, drop, get_or, Some, None, refl, ap, sym, ◌∙◌, arith, append-nil, length-append, length-drop, length-take, inl, inr, if◌then◌else◌}
 use Rattle.std.specs.Prelude.{is_some, nat_lt}
 use Rattle.std.proofs.lemmas.List.{take-append-drop, take-append-le, get_or-take, get_or_past}
 use Rattle.std.specs.Int.{w32, from_be_bytes}
@@ -9,7 +9,7 @@ use Rattle.ssh_encoding.specs.Writing.{string, uint32}
 use Rattle.sftp_model.specs.declared.frame_error.FormatKind.{FormatKind}
 use Rattle.sftp_model.specs.declared.frame_error.FormatKind.TheVariants as kinds
 use Rattle.sftp_model.specs.Numbers.{MAX_BODY_LEN}
-use Rattle.sftp_wire.specs.FrameReader.{told_len, len_of, missing, missing_with, fault_of, fault_of_len}
+use Rattle.sftp_wire.specs.FrameReader.{told_len, missing, missing_with, fault_of, fault_of_len}
 use Rattle.sftp_machine.specs.WaitingFrames.{WaitingFrames}
 use Rattle.sftp_map_server.specs.Serving.{Desk, Said, Absorbs, behind, both, nothing, server_of, step, over_at, with_said}
 
@@ -80,7 +80,8 @@ good_len n e =
     )
 
 good_told : (xs : List ℕ) → 4 ≤ length xs → is_some (fault_of xs) ≡ false → (0 < told_len xs) × (told_len xs ≤ MAX_BODY_LEN)
-good_told xs h e = good_len (told_len xs) (ap (λ (b : Bool). is_some (fault_of_len (if b then None else Some (told_len xs)))) (sym (le-ltb (length xs) 4 h)) ∙ e)
+good_told xs h e = good_len (told_len xs) (ap (λ (b : Bool). is_some
+    (fault_of_len (if b then None else Some (told_len xs)))) (sym (le-ltb (length xs) 4 h)) ∙ e)
 
 -- ---- what is absorbed
 
@@ -93,8 +94,14 @@ said_nothing o =
 -- what is said to one body
 said_once : (o : WaitingFrames) (said : Said) → with_said o said ≡ with_said o (both said nothing)
 said_once o said =
-    ap (λ (w : List ℕ). let q : WaitingFrames = record { ready = o.ready ++ w; waiting = o.waiting ++ said.later; picks = o.picks } in q) (sym (append-nil said.at_once))
-    ∙ ap (λ (w : List (List ℕ)). let q : WaitingFrames = record { ready = o.ready ++ (said.at_once ++ []); waiting = o.waiting ++ w; picks = o.picks } in q) (sym (append-nil said.later))
+    ap (λ (w : List ℕ). let q : WaitingFrames = record {
+      ready = o.ready ++ w;
+      waiting = o.waiting ++ said.later;
+      picks = o.picks;
+    } in q) (sym (append-nil said.at_once))
+    ∙ ap (λ (w : List (List ℕ)). let q : WaitingFrames = record
+    { ready = o.ready ++ (said.at_once ++ []); waiting = o.waiting ++ w; picks = o.picks } in q)
+    (sym (append-nil said.later))
 
 pub absorb_over : (d : Desk) (i bytes left : List ℕ) (o : WaitingFrames) → d.over ≡ true → left ≡ [] → Absorbs (server_of d i o) bytes (server_of d left o)
 absorb_over d i bytes left o e none = record {
@@ -108,7 +115,9 @@ absorb_over d i bytes left o e none = record {
   output = said_nothing o;
 }
 
-pub absorb_bad : (d after : Desk) (i bytes all left : List ℕ) (o : WaitingFrames) → d.over ≡ false → all ≡ i ++ bytes → is_some (fault_of all) ≡ true → after ≡ over_at d → left ≡ [] → Absorbs (server_of d i o) bytes (server_of after left o)
+pub absorb_bad : (d after : Desk) (i bytes all left : List ℕ) (o : WaitingFrames) → d.over ≡ false → all ≡ i ++ bytes
+    → is_some (fault_of all) ≡ true → after ≡ over_at d → left ≡ []
+    → Absorbs (server_of d i o) bytes (server_of after left o)
 absorb_bad d after i bytes all left o e is bad over none = record {
   bodies = [];
   rest = all;
@@ -120,7 +129,8 @@ absorb_bad d after i bytes all left o e is bad over none = record {
   output = said_nothing o;
 }
 
-pub absorb_part : (d : Desk) (i bytes all : List ℕ) (o : WaitingFrames) → d.over ≡ false → all ≡ i ++ bytes → is_some (fault_of all) ≡ false → 0 < missing all → Absorbs (server_of d i o) bytes (server_of d all o)
+pub absorb_part : (d : Desk) (i bytes all : List ℕ) (o : WaitingFrames) → d.over ≡ false → all ≡ i ++ bytes
+    → is_some (fault_of all) ≡ false → 0 < missing all → Absorbs (server_of d i o) bytes (server_of d all o)
 absorb_part d i bytes all o e is good some = record {
   bodies = [];
   rest = all;
@@ -139,7 +149,8 @@ if_same false d = refl
 behind_nothing : (d : Desk) → behind d [] ≡ (d, [])
 behind_nothing d = if_same d.over d
 
-pub absorb_whole : (d after : Desk) (i bytes all body left : List ℕ) (o out : WaitingFrames) → all ≡ i ++ bytes → IsWhole all → is_some (fault_of all) ≡ false → all ≡ string body → body ≡ drop 4 all
+pub absorb_whole : (d after : Desk) (i bytes all body left : List ℕ) (o out : WaitingFrames) → all ≡ i ++ bytes
+    → IsWhole all → is_some (fault_of all) ≡ false → all ≡ string body → body ≡ drop 4 all
     → after ≡ (step d body).1 → out ≡ with_said o (step d body).0 → left ≡ [] → Absorbs (server_of d i o) bytes (server_of after left out)
 absorb_whole d after i bytes all body left o out is whole good framed behind_four stepped said none =
     let len : length body ≡ length all - 4 = ap length behind_four ∙ length-drop 4 all in

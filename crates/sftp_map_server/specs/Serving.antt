@@ -1,5 +1,5 @@
 -- A file machine behind a link: what it answers to the bytes that come, and what it gives.
-use Rattle.std.specs.Prelude.{◌≡◌, ◌<◌, ◌≤◌, ℕ, ◌+◌, Bool, true, false, nat_le, List, [], ◌∷◌, ◌++◌, length, drop, Option, Some, None, is_some, if◌then◌else◌}
+use Rattle.std.specs.Prelude.{◌≡◌, ◌<◌, ◌≤◌, ℕ, Bool, true, false, nat_le, List, [], ◌∷◌, ◌++◌, length, drop, Option, Some, None, is_some, if◌then◌else◌}
 use Rattle.std.specs.List.{flat_map}
 use Rattle.std.specs.Result.{result_ok}
 use Rattle.std.specs.Int.RustNames.{bit_and, bit_or}
@@ -17,9 +17,10 @@ use Rattle.sftp_model.specs.declared.reply.Reply.TheVariants as reply
 use Rattle.sftp_model.specs.Numbers.{LIMITS, MAX_BODY_LEN, MAX_TRANSFER_LEN}
 use Rattle.sftp_model.specs.Frames.{reply_frame}
 use Rattle.sftp_model.specs.RequestReadings.{request_at}
-use Rattle.sftp_tree.specs.FirstTree.{FirstFile, first_tree}
-use Rattle.sftp_tree.specs.HandleRequests.{capped}
-use Rattle.sftp_tree.specs.TreeAnswers.{first_choice, limits_reply}
+use Rattle.machine_model.specs.FileTree.{FileTree}
+use Rattle.machine_model.specs.FirstTree.{FirstFile, first_tree}
+use Rattle.machine_model.specs.HandleRequests.{capped}
+use Rattle.machine_model.specs.TreeAnswers.{first_choice, limits_reply}
 use Rattle.sftp_wire.specs.FrameReader.{fault_of, missing}
 use Rattle.sftp_machine.specs.MachineState.{MachineState, answer}
 use Rattle.sftp_machine.specs.WaitingFrames.{WaitingFrames, turned}
@@ -92,7 +93,10 @@ gives_within other choice = true
 abbrev pub greet : Desk → Said × Desk
 greet d =
     if d.greeted then (nothing, over_at d)
-    else (at_once (reply_frame (version_reply d.machine.config) 0), record { machine = d.machine; choices = d.choices; greeted = true; over = d.over })
+    else (
+      at_once (reply_frame (version_reply d.machine.config) 0),
+      record { machine = d.machine; choices = d.choices; greeted = true; over = d.over },
+    )
 
 -- a request of the machine takes the next choice, and its answer waits
 abbrev pub serve : Desk → Option ℕ → Request → Said × Desk
@@ -103,8 +107,8 @@ serve d id r =
     )
     else (nothing, over_at d)
 
--- a request: what is said to it, and what it leaves. The first is the hello; the query for limits is answered at once and
--- takes no choice
+-- a request: what is said to it, and what it leaves. The first is the hello; the query for limits is answered at once
+-- and takes no choice
 abbrev pub respond : Desk → Option ℕ → Request → Said × Desk
 respond d id r =
     if is_hello r then greet d
@@ -140,7 +144,12 @@ pub record Server : Type 0 where
 
 -- what is said stands behind what is still to be given
 abbrev pub with_said : WaitingFrames → Said → WaitingFrames
-with_said output said = record { ready = output.ready ++ said.at_once; waiting = output.waiting ++ said.later; picks = output.picks }
+with_said output said = record {
+  ready = output.ready ++ said.at_once;
+  waiting = output.waiting ++ said.later;
+  picks =
+      output.picks;
+}
 
 -- the desk and the input behind the frames that came whole: a length that is 0 or too great ends the link, and then
 -- the bytes are dropped
@@ -210,6 +219,14 @@ pub record Serving : Type 0 where
   pub now : Server
   pub log : List Piece
   pub ended : Bool
+
+-- the files and directories that are left
+abbrev pub tree_left : Serving → FileTree
+tree_left s = s.now.desk.machine.tree
+
+-- what it offers
+abbrev pub config_of : Serving → ServerConfig
+config_of s = s.first.desk.machine.config
 
 -- what it says of itself as a link: it never fails, and serves from its first state
 abbrev pub server_view : Serving → LinkView Server

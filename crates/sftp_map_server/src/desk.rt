@@ -5,8 +5,8 @@ ghost use Rattle.sftp_model.specs.Answers.{IsAfterHello};
 ghost use Rattle.sftp_model.specs.Numbers.{MAX_BODY_LEN};
 ghost use Rattle.sftp_model.specs.Frames.{reply_body, reply_frame};
 ghost use Rattle.sftp_model.specs.RequestReadings.{request_at};
-ghost use Rattle.sftp_tree.specs.FitTrees.{IsFit};
-ghost use Rattle.sftp_tree.specs.TreeAnswers.{first_choice, limits_reply};
+ghost use Rattle.machine_model.specs.FitTrees.{IsFit};
+ghost use Rattle.machine_model.specs.TreeAnswers.{first_choice, limits_reply};
 ghost use Rattle.sftp_map_server.specs.Serving.{at_once, gives_within as gives_within_by, greet, id_of as id_by, is_hello as is_hello_by, is_query as is_query_by, over_at, respond, serve, spent, step, version_reply, with_said};
 
 use bitflags::Flags;
@@ -31,7 +31,7 @@ pub(crate) struct Desk {
 
 impl Model for Desk {
     ghost use Rattle.std.specs.Prelude.{◌≤◌, drop, length};
-    ghost use Rattle.sftp_tree.specs.FitTrees.{IsFit};
+    ghost use Rattle.machine_model.specs.FitTrees.{IsFit};
     ghost use Rattle.sftp_map_server.specs.Serving.{Desk as DeskState};
 
     ghost Value = { DeskState };
@@ -86,7 +86,7 @@ fn asked(alloc: Global, body: &[u8]) -> Result<Option<(Option<u32>, Request)>, O
 }
 
 /// The answer to the hello.
-fn version(config: ServerConfig) -> Reply
+pub fn version(config: ServerConfig) -> Reply
     ensures { result ≡ version_reply config }
 {
     let extensions = match config.limits {
@@ -99,8 +99,8 @@ fn version(config: ServerConfig) -> Reply
     }
 }
 
-/// The frame of a reply.
-fn frame_of(alloc: Global, reply: &Reply, id: u32) -> Result<Vec<u8>, OutOfMemory>
+/// The frame of a reply that fits one.
+pub fn frame_of(alloc: Global, reply: &Reply, id: u32) -> Result<Vec<u8>, OutOfMemory>
     requires { length (reply_body reply.now id) ≤ MAX_BODY_LEN }
     ensures { IfOk result (λ frame. frame.items ≡ reply_frame reply.now id) }
 {

@@ -4,8 +4,11 @@
 
 mod desk;
 mod map_server;
+mod unopened;
 
+pub use desk::{frame_of, version};
 pub use map_server::MapServer;
 pub use sftp_machine::{Machine, components, gives_within, grants_are_new, may_begin};
 pub use sftp_model::{Choice, Limits, ServerConfig};
 pub use ssh_encoding::OutOfMemory;
+pub use unopened::new_server;

@@ -1,15 +1,14 @@
 // A server of files and directories in memory as a link.
 ghost use Rattle.std.specs.Prelude.{◌≡◌, ◌≤◌, ◌<◌, ◌∷◌, ◌++◌, ◌+◌, ◌-◌, [], None, Some, length, filter, reverse, IfOk, OnOk, OnErr, is_some, false, true, drop, min, take, vec_len, vec_capacity};
 ghost use Rattle.std.specs.Option.{option_map};
-ghost use Rattle.sftp_link.specs.Causes.{Cause};
+ghost use Rattle.sftp_link.specs.Moves.{HasReceived, HasSent};
 ghost use Rattle.sftp_link.specs.Script.{limited as limited_by};
-ghost use Rattle.sftp_link.specs.Told.{IsEnd, Receives, Sends};
 ghost use Rattle.sftp_machine.specs.MachineState.{IsValid};
 ghost use Rattle.sftp_machine.specs.WaitingFrames.{turned};
-ghost use Rattle.sftp_map_server.specs.Serving.{Absorbs, Gives, IsServing, server_of, opened, first_desk};
+ghost use Rattle.sftp_map_server.specs.Serving.{Absorbs, Gives, IsServing, Server, server_of, server_view, opened, first_desk, tree_left};
 ghost use Rattle.sftp_model.specs.Numbers.{MAX_BODY_LEN};
-ghost use Rattle.sftp_tree.specs.FirstTree.{may_begin};
-ghost use Rattle.sftp_tree.specs.Listing.{dir_at, file_at, has_directory, has_file};
+ghost use Rattle.machine_model.specs.FirstTree.{may_begin};
+ghost use Rattle.machine_model.specs.Listing.{dir_at, file_at, has_directory, has_file};
 ghost use Rattle.sftp_wire.specs.FrameReader.{told_len as told_len_of, fault_of, missing as missing_of};
 ghost use Rattle.ssh_encoding.specs.Writing.{string};
 
@@ -204,7 +203,7 @@ impl MapServer {
 
     /// How many names have a file.
     pub fn file_count(&self) -> u64
-        ensures { result ≡ length (filter has_file self.now.now.desk.machine.tree.names) }
+        ensures { result ≡ length (filter has_file (tree_left self.now).names) }
     {
         self.desk.machine().file_count()
     }
@@ -212,21 +211,21 @@ impl MapServer {
     /// The written name and the bytes of file `k`, counted from 0 in the order of the written names by bytes.
     pub fn file(&self, k: u64) -> Option<(&[u8], &[u8])>
         ensures { option_map (λ f. (f.0.now, f.1.now)) result
-            ≡ file_at self.now.now.desk.machine.tree k }
+            ≡ file_at (tree_left self.now) k }
     {
         self.desk.machine().file(k)
     }
 
     /// How many names have a directory; the root has no name.
     pub fn dir_count(&self) -> u64
-        ensures { result ≡ length (filter has_directory self.now.now.desk.machine.tree.names) }
+        ensures { result ≡ length (filter has_directory (tree_left self.now).names) }
     {
         self.desk.machine().dir_count()
     }
 
     /// The written name of directory `k`, counted from 0 in the order of the written names by bytes.
     pub fn dir(&self, k: u64) -> Option<&[u8]>
-        ensures { option_map (λ d. d.now) result ≡ dir_at self.now.now.desk.machine.tree k }
+        ensures { option_map (λ d. d.now) result ≡ dir_at (tree_left self.now) k }
     {
         self.desk.machine().dir(k)
     }
@@ -277,11 +276,7 @@ impl LinkOut for MapServer {
     /// body; a frame that is whole then is answered. Where the link is over, bytes are dropped.
     fn send(&mut self, bytes: &[u8]) -> Result<usize, DeviceError>
         requires some { 0 < length bytes.now }
-        ensures within { IfOk result (λ n. (0 < n) × (n ≤ length bytes.now)) }
-        ensures log { Sends (Some self.old.log) (Some self.new.log) bytes.now result }
-        ensures end { self.new.ended ≡ false }
-        ensures cause { Cause 0 0 result }
-        ensures same { self.new.first ≡ self.old.first }
+        ensures sends { HasSent Server bytes.now (server_view self.old) (server_view self.new) result }
         ensures cut { IfOk result
             (λ n. n ≤ limited_by self.old.now.desk.machine.config.cut (length bytes.now)) }
         ensures absorbs { IfOk result (λ n. Absorbs self.old.now (take n bytes.now) self.new.now) }
@@ -305,11 +300,7 @@ impl LinkIn for MapServer {
     /// the one that is picked. Where nothing waits, that is the end. The rest of the room stays as it is.
     fn recv(&mut self, room: &mut [u8]) -> Result<usize, DeviceError>
         requires some { 0 < length room.old }
-        ensures within { IfOk result (λ n. n ≤ length room.new) }
-        ensures log { Receives (Some self.old.log) (Some self.new.log) room.new result }
-        ensures end { IsEnd self.new.ended result }
-        ensures cause { Cause 0 0 result }
-        ensures same { self.new.first ≡ self.old.first }
+        ensures receives { HasReceived Server room.new (server_view self.old) (server_view self.new) result }
         ensures cut { IfOk result (λ n. n ≡ min
             (limited_by self.old.now.desk.machine.config.cut (length room.old))
             (length (turned self.old.now.output).ready)) }

@@ -24,7 +24,11 @@ digit-with_bit_other : (bits j k : ℕ) (value : Bool) → j < 32 → k < 32 →
 digit-with_bit_other bits j k true within small apart =
     rw (bit_at_or bits (2 ^ k) j, bit_at-pow_other k j apart) (omega arith)
 digit-with_bit_other bits j k false within small apart =
-    rw (bit_at_and bits (2 ^ 32 - 1 - 2 ^ k) j, bit_at_not w32 (2 ^ k) j (pow_below k 32 small) within, bit_at-pow_other k j apart) (omega (arith, bit_at-lt bits j))
+    rw (
+      bit_at_and bits (2 ^ 32 - 1 - 2 ^ k) j,
+      bit_at_not w32 (2 ^ k) j (pow_below k 32 small) within,
+      bit_at-pow_other k j apart,
+    ) (omega (arith, bit_at-lt bits j))
 
 -- a bit reads back as it was set
 pub has_bit-with_bit : (bits k : ℕ) (value : Bool) → k < 32 → has_bit (with_bit bits (2 ^ k) value) (2 ^ k) ≡ value

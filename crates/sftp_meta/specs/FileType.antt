@@ -2,7 +2,15 @@
 use Rattle.std.specs.Prelude.{ℕ, ◌==◌, Option, Some, None, if◌then◌else◌}
 use Rattle.std.specs.Int.RustNames.{bit_and}
 use Rattle.sftp_meta.specs.declared.file_type.RawFileType.{RawFileType}
-use Rattle.sftp_meta.specs.declared.file_type.RawFileType.TheVariants.{Socket, Symlink, RegularFile, BlockDevice, Directory, CharacterDevice, FIFO}
+use Rattle.sftp_meta.specs.declared.file_type.RawFileType.TheVariants.{
+  Socket,
+  Symlink,
+  RegularFile,
+  BlockDevice,
+  Directory,
+  CharacterDevice,
+  FIFO,
+}
 
 -- the kind of file that these bits alone say
 abbrev pub type_of_bits : ℕ → Option RawFileType

@@ -8,7 +8,15 @@ use Rattle.sftp_model.specs.Same.{attrs_decides}
 use Rattle.sftp_model.specs.declared.file_attrs.FileAttrs.{FileAttrs}
 use Rattle.sftp_meta.specs.declared.raw_permissions.RawPermissions.{RawPermissions}
 use Rattle.sftp_meta.specs.declared.file_type.RawFileType.{RawFileType}
-use Rattle.sftp_meta.specs.declared.file_type.RawFileType.TheVariants.{Socket, Symlink, RegularFile, BlockDevice, Directory, CharacterDevice, FIFO}
+use Rattle.sftp_meta.specs.declared.file_type.RawFileType.TheVariants.{
+  Socket,
+  Symlink,
+  RegularFile,
+  BlockDevice,
+  Directory,
+  CharacterDevice,
+  FIFO,
+}
 use Rattle.sftp_meta.specs.contracts.raw_permissions.RawPermissionsPartialEq.TheImpl as raw_permissions
 use Rattle.sftp_meta.specs.contracts.permissions.PermissionsPartialEq.TheImpl as permissions
 use Rattle.sftp_meta.specs.contracts.file_type.RawFileTypePartialEq.TheImpl as raw_file_type

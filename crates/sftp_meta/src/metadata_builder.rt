@@ -1,5 +1,5 @@
 ghost use Rattle.std.specs.Prelude.{◌≡◌, Some};
-ghost use Rattle.sftp_meta.specs.MetaData.{no_attributes};
+ghost use Rattle.sftp_model.specs.Frames.{no_attributes};
 
 use crate::metadata::MetaData;
 use crate::permissions::Permissions;

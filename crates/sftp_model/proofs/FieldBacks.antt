@@ -1,5 +1,32 @@
 -- Fields that were written are read back, and what stands after them is left.
-use Rattle.std.proofs.Common.{ℕ, ◌≡◌, ◌+◌, Bool, false, List, [], ◌++◌, length, take, drop, Option, Some, None, Result, Ok, IfSome, is_some, refl, sym, ap, ◌∙◌, append_assoc, arith, ltb, lit<}
+use Rattle.std.proofs.Common.{
+  ℕ,
+  ◌≡◌,
+  ◌+◌,
+  Bool,
+  false,
+  List,
+  [],
+  ◌++◌,
+  length,
+  take,
+  drop,
+  Option,
+  Some,
+  None,
+  Result,
+  Ok,
+  IfSome,
+  is_some,
+  refl,
+  sym,
+  ap,
+  ◌∙◌,
+  append_assoc,
+  arith,
+  ltb,
+  lit<,
+}
 use Rattle.std.specs.Int.{Width, w32, w64, byte_len, from_be_bytes}
 use Rattle.std.proofs.lemmas.Bool.{le-ltb}
 use Rattle.std.proofs.lemmas.List.{take_at, drop_at, length-append, append-nil}
@@ -61,18 +88,26 @@ prefix_is head v rest len value h =
 
 prefix_back : (v rest : List ℕ) → FitsText v → prefix_at (string v ++ rest) ≡ Ok (v, rest)
 unfolding string
-prefix_back v rest h = rw (append_assoc (uint32 (length v)) v rest) (prefix_is (uint32 (length v)) v rest (uint32_len (length v)) (uint32_value (length v) (omega arith)) h)
+prefix_back v rest h = rw (append_assoc (uint32 (length v)) v rest)
+    (prefix_is (uint32 (length v)) v rest (uint32_len (length v)) (uint32_value (length v) (omega arith)) h)
 
 pub text_back : (v : List ℕ) → FitsText v → ReadsBack text_at (string v) v
 text_back v h = record { back = λ rest. rw (prefix_back v rest h) refl }
 
 pub two_back : (p : ℕ × ℕ) → FitsTwo p → ReadsBack two_numbers_at (two_numbers p) p
 unfolding two_numbers_at
-two_back p h = record { back = λ rest. rw (append_assoc (uint32 p.0) (uint32 p.1) rest, (number_back p.0 h.0).back (uint32 p.1 ++ rest), (number_back p.1 h.1).back rest) refl }
+two_back p h = record {
+  back = λ rest. rw (
+    append_assoc (uint32 p.0) (uint32 p.1) rest,
+    (number_back p.0 h.0).back (uint32 p.1 ++ rest),
+    (number_back p.1 h.1).back rest,
+  ) refl;
+}
 
 -- a field that may be missing
 where_back : {A : Type 0} (reading : List ℕ → Result (A × List ℕ) FrameError) (spelling : A → List ℕ) (Fits : A → Type 0)
-    → ((x : A) → Fits x → ReadsBack reading (spelling x) x) → (o : Option A) → IfSome o Fits → ReadsBack (where_set (is_some o) reading) (where_there spelling o) o
+    → ((x : A) → Fits x → ReadsBack reading (spelling x) x) → (o : Option A) → IfSome o Fits
+    → ReadsBack (where_set (is_some o) reading) (where_there spelling o) o
 where_back reading spelling Fits h None k = record { back = λ rest. refl }
 where_back reading spelling Fits h (Some x) k = record { back = λ rest. rw ((h x k).back rest) refl }
 
@@ -85,7 +120,9 @@ record TellBits (bits : ℕ) (size id permissions time : Bool) : Type 0 where
   time_bit : has_bit bits 8 ≡ time
   pairs_bit : has_bit bits 2147483648 ≡ false
 
-tell_bits : (size : Option ℕ) (id : Option (ℕ × ℕ)) (permissions : Option ℕ) (time : Option (ℕ × ℕ)) → TellBits (bit 1 size + bit 2 id + bit 4 permissions + bit 8 time) (is_some size) (is_some id) (is_some permissions) (is_some time)
+tell_bits : (size : Option ℕ) (id : Option (ℕ × ℕ)) (permissions : Option ℕ) (time : Option (ℕ × ℕ))
+    → TellBits (bit 1 size + bit 2 id + bit 4 permissions + bit 8 time) (is_some size) (is_some id)
+    (is_some permissions) (is_some time)
 tell_bits None None None None = record { small = lit< tt; size_bit = refl; id_bit = refl; permissions_bit = refl; time_bit = refl; pairs_bit = refl }
 tell_bits None None None (Some t) = record { small = lit< tt; size_bit = refl; id_bit = refl; permissions_bit = refl; time_bit = refl; pairs_bit = refl }
 tell_bits None None (Some p) None = record { small = lit< tt; size_bit = refl; id_bit = refl; permissions_bit = refl; time_bit = refl; pairs_bit = refl }
@@ -93,15 +130,54 @@ tell_bits None None (Some p) (Some t) = record { small = lit< tt; size_bit = ref
 tell_bits None (Some i) None None = record { small = lit< tt; size_bit = refl; id_bit = refl; permissions_bit = refl; time_bit = refl; pairs_bit = refl }
 tell_bits None (Some i) None (Some t) = record { small = lit< tt; size_bit = refl; id_bit = refl; permissions_bit = refl; time_bit = refl; pairs_bit = refl }
 tell_bits None (Some i) (Some p) None = record { small = lit< tt; size_bit = refl; id_bit = refl; permissions_bit = refl; time_bit = refl; pairs_bit = refl }
-tell_bits None (Some i) (Some p) (Some t) = record { small = lit< tt; size_bit = refl; id_bit = refl; permissions_bit = refl; time_bit = refl; pairs_bit = refl }
+tell_bits None (Some i) (Some p) (Some t) = record {
+  small = lit< tt;
+  size_bit = refl;
+  id_bit = refl;
+  permissions_bit =
+      refl;
+  time_bit = refl;
+  pairs_bit = refl;
+}
 tell_bits (Some s) None None None = record { small = lit< tt; size_bit = refl; id_bit = refl; permissions_bit = refl; time_bit = refl; pairs_bit = refl }
 tell_bits (Some s) None None (Some t) = record { small = lit< tt; size_bit = refl; id_bit = refl; permissions_bit = refl; time_bit = refl; pairs_bit = refl }
 tell_bits (Some s) None (Some p) None = record { small = lit< tt; size_bit = refl; id_bit = refl; permissions_bit = refl; time_bit = refl; pairs_bit = refl }
-tell_bits (Some s) None (Some p) (Some t) = record { small = lit< tt; size_bit = refl; id_bit = refl; permissions_bit = refl; time_bit = refl; pairs_bit = refl }
+tell_bits (Some s) None (Some p) (Some t) = record {
+  small = lit< tt;
+  size_bit = refl;
+  id_bit = refl;
+  permissions_bit =
+      refl;
+  time_bit = refl;
+  pairs_bit = refl;
+}
 tell_bits (Some s) (Some i) None None = record { small = lit< tt; size_bit = refl; id_bit = refl; permissions_bit = refl; time_bit = refl; pairs_bit = refl }
-tell_bits (Some s) (Some i) None (Some t) = record { small = lit< tt; size_bit = refl; id_bit = refl; permissions_bit = refl; time_bit = refl; pairs_bit = refl }
-tell_bits (Some s) (Some i) (Some p) None = record { small = lit< tt; size_bit = refl; id_bit = refl; permissions_bit = refl; time_bit = refl; pairs_bit = refl }
-tell_bits (Some s) (Some i) (Some p) (Some t) = record { small = lit< tt; size_bit = refl; id_bit = refl; permissions_bit = refl; time_bit = refl; pairs_bit = refl }
+tell_bits (Some s) (Some i) None (Some t) = record {
+  small = lit< tt;
+  size_bit = refl;
+  id_bit = refl;
+  permissions_bit =
+      refl;
+  time_bit = refl;
+  pairs_bit = refl;
+}
+tell_bits (Some s) (Some i) (Some p) None = record {
+  small = lit< tt;
+  size_bit = refl;
+  id_bit = refl;
+  permissions_bit =
+      refl;
+  time_bit = refl;
+  pairs_bit = refl;
+}
+tell_bits (Some s) (Some i) (Some p) (Some t) = record {
+  small = lit< tt;
+  size_bit = refl;
+  id_bit = refl;
+  permissions_bit = refl;
+  time_bit = refl;
+  pairs_bit = refl;
+}
 
 pub attributes_back : (a : FileAttrs) → FitsAttributes a → ReadsBack attributes_at (attributes a) a
 unfolding attributes_at attributes

@@ -12,7 +12,8 @@ joined-push [] piece = append-nil piece
 joined-push (p ∷ pieces) piece = ap (λ (l : List ℕ). p ++ l) (joined-push pieces piece) ∙ sym (append_assoc p (joined pieces) piece)
 
 -- only no bytes are the same as no bytes
-pub pointwise_none : (bytes : List ℕ) (pieces : List (List ℕ)) → pointwise ◌==◌ [] (bytes ++ joined pieces) ≡ ((length bytes == 0) && list_all (λ (p : List ℕ). length p == 0) pieces)
+pub pointwise_none : (bytes : List ℕ) (pieces : List (List ℕ)) → pointwise ◌==◌ [] (bytes ++ joined pieces)
+    ≡ ((length bytes == 0) && list_all (λ (p : List ℕ). length p == 0) pieces)
 pointwise_none (b ∷ bytes) pieces = rw (eqb-suc-zero (length bytes)) refl
 pointwise_none [] [] = refl
 pointwise_none [] ([] ∷ pieces) = pointwise_none [] pieces

@@ -1,5 +1,36 @@
 -- Replies that were written are read back.
-use Rattle.std.proofs.Common.{ℕ, suc, zero, ◌≡◌, ◌==◌, ◌<◌, ◌≤◌, ◌&&◌, ◌⊎◌, Bool, true, false, List, [], ◌∷◌, ◌++◌, length, All, Option, Some, Result, Ok, Err, refl, ap, append_assoc, arith, ltb, inl, inr}
+use Rattle.std.proofs.Common.{
+  ℕ,
+  suc,
+  zero,
+  ◌≡◌,
+  ◌==◌,
+  ◌<◌,
+  ◌≤◌,
+  ◌&&◌,
+  ◌⊎◌,
+  Bool,
+  true,
+  false,
+  List,
+  [],
+  ◌∷◌,
+  ◌++◌,
+  length,
+  All,
+  Option,
+  Some,
+  Result,
+  Ok,
+  Err,
+  refl,
+  ap,
+  append_assoc,
+  arith,
+  ltb,
+  inl,
+  inr,
+}
 use Rattle.std.specs.List.{flat_map}
 use Rattle.std.proofs.lemmas.Bool.{le-ltb}
 use Rattle.std.proofs.lemmas.Bool.Decides.{Decides-eqb}
@@ -14,7 +45,21 @@ use Rattle.sftp_model.specs.declared.reply.Reply.TheVariants as reply
 use Rattle.sftp_model.specs.Fits.{FitsNumber, FitsAttributes, FitsEntry, FitsReply, ReplyReadsBack, FitsLimits, LimitsReadBack}
 use Rattle.sftp_model.specs.Frames.{of_type, name_entry, extension_pairs, extension_table, attributes, reply_body, limits_content}
 use Rattle.sftp_model.specs.Readings.{with_id, with_short_handles, extensions_at, uint64_at}
-use Rattle.sftp_model.specs.ReplyReadings.{version_at, status_at, handle_at, content_at, entry_at, entries_at, names_at, attrs_at, extended_at, reply_fields_at, handles_of_reply, reply_at, limits_at}
+use Rattle.sftp_model.specs.ReplyReadings.{
+  version_at,
+  status_at,
+  handle_at,
+  content_at,
+  entry_at,
+  entries_at,
+  names_at,
+  attrs_at,
+  extended_at,
+  reply_fields_at,
+  handles_of_reply,
+  reply_at,
+  limits_at,
+}
 use Rattle.sftp_model.proofs.FieldBacks.{ReadsBack, whole_back, number_back, long_back, text_back, attributes_back}
 
 -- the fields of a reply after its type byte and id
@@ -25,11 +70,16 @@ with_id_back : (fields : List ℕ → Result (Reply × List ℕ) FrameError) (ki
 unfolding reply_at byte_at
 with_id_back fields kind id text r h is read short = rw (is (uint32 id ++ text), (number_back id h).back text, read) short
 
-status_back : (code : ℕ) (message language : List ℕ) → FitsReply (reply.Status code message language) → ReadsBack status_at (uint32 code ++ string message ++ string language) (reply.Status code message language)
+status_back : (code : ℕ) (message language : List ℕ) → FitsReply (reply.Status code message language)
+    → ReadsBack status_at (uint32 code ++ string message ++ string language) (reply.Status code message language)
 unfolding status_at
 status_back code message language h = record {
   back = λ rest.
-      simp append_assoc (rw ((number_back code h.0).back (string message ++ (string language ++ rest)), (text_back message h.1).back (string language ++ rest), (text_back language h.2).back rest) refl);
+      simp append_assoc (rw (
+        (number_back code h.0).back (string message ++ (string language ++ rest)),
+        (text_back message h.1).back (string language ++ rest),
+        (text_back language h.2).back rest,
+      ) refl);
 }
 
 handle_back : (handle : List ℕ) → length handle ≤ 256 → ReadsBack handle_at (string handle) (reply.Handle handle)
@@ -44,21 +94,35 @@ entry_back : (e : NameEntry) → FitsEntry e → ReadsBack entry_at (name_entry 
 unfolding entry_at
 entry_back e h = record {
   back = λ rest.
-      simp append_assoc (rw ((text_back e.filename h.filename).back (string e.longname ++ (attributes e.attrs ++ rest)), (text_back e.longname h.longname).back (attributes e.attrs ++ rest), (attributes_back e.attrs h.attrs).back rest) refl);
+      simp append_assoc (rw (
+        (text_back e.filename h.filename).back (string e.longname ++ (attributes e.attrs ++ rest)),
+        (text_back e.longname h.longname).back (attributes e.attrs ++ rest),
+        (attributes_back e.attrs h.attrs).back rest,
+      ) refl);
 }
 
 entries_back : (names : List NameEntry) → All FitsEntry names → ReadsBack (entries_at (length names)) (flat_map name_entry names) names
 entries_back [] h = record { back = λ rest. refl }
 entries_back (e ∷ names) h = record {
   back = λ rest.
-      rw (append_assoc (name_entry e) (flat_map name_entry names) rest, (entry_back e (h 0 e (omega arith))).back (flat_map name_entry names ++ rest), (entries_back names (λ k d below. h (suc k) d (omega arith))).back rest) refl;
+      rw (
+        append_assoc (name_entry e) (flat_map name_entry names) rest,
+        (entry_back e (h 0 e (omega arith))).back (flat_map name_entry names ++ rest),
+        (entries_back names (λ k d below. h (suc k) d (omega arith))).back rest,
+      ) refl;
 }
 
-names_back : (names : List NameEntry) → FitsReply (reply.Names names) → ReadsBack names_at (uint32 (length names) ++ flat_map name_entry names) (reply.Names names)
+names_back : (names : List NameEntry) → FitsReply (reply.Names names)
+    → ReadsBack names_at (uint32 (length names) ++ flat_map name_entry names) (reply.Names names)
 unfolding names_at
 names_back names h = record {
   back = λ rest.
-      rw (append_assoc (uint32 (length names)) (flat_map name_entry names) rest, (number_back (length names) h.0).back (flat_map name_entry names ++ rest), (entries_back names h.1).back rest) refl;
+      rw (
+        append_assoc (uint32 (length names)) (flat_map name_entry names) rest,
+        (number_back (length names) h.0).back (flat_map name_entry names ++ rest),
+        (entries_back names h.1).back rest,
+      )
+      refl;
 }
 
 -- ---- the pairs of VERSION, tried for each of the 64 sets
@@ -114,8 +178,10 @@ attrs_back attrs h = record { back = λ rest. rw ((attributes_back attrs h).back
 pub reply_back : (r : Reply) (id : ℕ) → FitsReply r → FitsNumber id → ReplyReadsBack r id
 unfolding reply_body reply_fields_at extended_at
 reply_back (reply.Version version extensions) id h k = version_back version extensions.0 id h
-reply_back (reply.Status code message language) id h k = with_id_back status_at 101 id _ _ k (λ bytes. refl) (whole_back status_at _ _ (status_back code message language h)) refl
-reply_back (reply.Handle handle) id h k = with_id_back handle_at 102 id _ _ k (λ bytes. refl) (whole_back handle_at _ _ (handle_back handle h)) (rw (short handle h) refl)
+reply_back (reply.Status code message language) id h k = with_id_back status_at 101 id _ _ k (λ bytes. refl)
+    (whole_back status_at _ _ (status_back code message language h)) refl
+reply_back (reply.Handle handle) id h k = with_id_back handle_at 102 id _ _ k (λ bytes. refl)
+    (whole_back handle_at _ _ (handle_back handle h)) (rw (short handle h) refl)
 reply_back (reply.Content content) id h k = with_id_back content_at 103 id _ _ k (λ bytes. refl) (whole_back content_at _ _ (content_back content h)) refl
 reply_back (reply.Names names) id h k = with_id_back names_at 104 id _ _ k (λ bytes. refl) (whole_back names_at _ _ (names_back names h)) refl
 reply_back (reply.Attrs attrs) id h k = with_id_back attrs_at 105 id (attributes attrs) _ k (λ bytes. refl) (whole_back attrs_at _ _ (attrs_back attrs h)) refl

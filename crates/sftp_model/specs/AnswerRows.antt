@@ -70,7 +70,13 @@ stat_by_ok = refl
 -- ---- session lengths
 
 abbrev limits_of : ℕ → ℕ → ℕ → Option Limits
-limits_of packet read write = Some (record { packet_len = packet; read_len = read; write_len = write; open_handles = 0 })
+limits_of packet read write = Some (record {
+  packet_len = packet;
+  read_len = read;
+  write_len = write;
+  open_handles =
+      0;
+})
 
 pub lengths_unset : session_lengths (limits_of 0 0 0) None None ≡ (32768, 32768)
 lengths_unset = refl

@@ -67,7 +67,8 @@ FitsRequest (request.PosixRename old to) = FitsText old × FitsText to
 FitsRequest (request.Hardlink old to) = FitsText old × FitsText to
 FitsRequest (request.Fsync handle) = FitsHandle handle
 FitsRequest (request.ExpandPath path) = FitsText path
-FitsRequest (request.CopyData from from_offset len to to_offset) = FitsHandle from × FitsLong from_offset × FitsLong len × FitsHandle to × FitsLong to_offset
+FitsRequest (request.CopyData from from_offset len to to_offset) = FitsHandle from × FitsLong from_offset × FitsLong len
+    × FitsHandle to × FitsLong to_offset
 FitsRequest request.LimitsQuery = Unit {0}
 
 abbrev pub FitsReply : Reply → Type 0

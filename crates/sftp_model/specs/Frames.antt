@@ -11,7 +11,45 @@ use Rattle.sftp_model.specs.declared.request.Request.TheVariants as request
 use Rattle.sftp_model.specs.declared.reply.Reply.{Reply}
 use Rattle.sftp_model.specs.declared.reply.Reply.TheVariants as reply
 use Rattle.sftp_model.specs.declared.reply.NameEntry.{NameEntry}
-use Rattle.sftp_model.specs.Numbers.{SSH_FXP_INIT, SSH_FXP_VERSION, SSH_FXP_OPEN, SSH_FXP_CLOSE, SSH_FXP_READ, SSH_FXP_WRITE, SSH_FXP_LSTAT, SSH_FXP_FSTAT, SSH_FXP_SETSTAT, SSH_FXP_FSETSTAT, SSH_FXP_OPENDIR, SSH_FXP_READDIR, SSH_FXP_REMOVE, SSH_FXP_MKDIR, SSH_FXP_RMDIR, SSH_FXP_REALPATH, SSH_FXP_STAT, SSH_FXP_RENAME, SSH_FXP_READLINK, SSH_FXP_SYMLINK, SSH_FXP_STATUS, SSH_FXP_HANDLE, SSH_FXP_DATA, SSH_FXP_NAME, SSH_FXP_ATTRS, SSH_FXP_EXTENDED, SSH_FXP_EXTENDED_REPLY, SSH_FILEXFER_ATTR_SIZE, SSH_FILEXFER_ATTR_UIDGID, SSH_FILEXFER_ATTR_PERMISSIONS, SSH_FILEXFER_ATTR_ACMODTIME, POSIX_RENAME, HARDLINK, FSYNC, EXPAND_PATH, COPY_DATA, LIMITS}
+use Rattle.sftp_model.specs.Numbers.{
+  SSH_FXP_INIT,
+  SSH_FXP_VERSION,
+  SSH_FXP_OPEN,
+  SSH_FXP_CLOSE,
+  SSH_FXP_READ,
+  SSH_FXP_WRITE,
+  SSH_FXP_LSTAT,
+  SSH_FXP_FSTAT,
+  SSH_FXP_SETSTAT,
+  SSH_FXP_FSETSTAT,
+  SSH_FXP_OPENDIR,
+  SSH_FXP_READDIR,
+  SSH_FXP_REMOVE,
+  SSH_FXP_MKDIR,
+  SSH_FXP_RMDIR,
+  SSH_FXP_REALPATH,
+  SSH_FXP_STAT,
+  SSH_FXP_RENAME,
+  SSH_FXP_READLINK,
+  SSH_FXP_SYMLINK,
+  SSH_FXP_STATUS,
+  SSH_FXP_HANDLE,
+  SSH_FXP_DATA,
+  SSH_FXP_NAME,
+  SSH_FXP_ATTRS,
+  SSH_FXP_EXTENDED,
+  SSH_FXP_EXTENDED_REPLY,
+  SSH_FILEXFER_ATTR_SIZE,
+  SSH_FILEXFER_ATTR_UIDGID,
+  SSH_FILEXFER_ATTR_PERMISSIONS,
+  SSH_FILEXFER_ATTR_ACMODTIME,
+  POSIX_RENAME,
+  HARDLINK,
+  FSYNC,
+  EXPAND_PATH,
+  COPY_DATA,
+  LIMITS,
+}
 
 -- ---- attributes (draft, section 5)
 
@@ -33,7 +71,8 @@ two_numbers p = uint32 p.0 ++ uint32 p.1
 
 -- the bits of the fields that are there
 abbrev pub attribute_bits : FileAttrs → ℕ
-attribute_bits a = bit SSH_FILEXFER_ATTR_SIZE a.size + bit SSH_FILEXFER_ATTR_UIDGID a.id + bit SSH_FILEXFER_ATTR_PERMISSIONS a.permissions + bit SSH_FILEXFER_ATTR_ACMODTIME a.time
+attribute_bits a = bit SSH_FILEXFER_ATTR_SIZE a.size + bit SSH_FILEXFER_ATTR_UIDGID a.id + bit
+    SSH_FILEXFER_ATTR_PERMISSIONS a.permissions + bit SSH_FILEXFER_ATTR_ACMODTIME a.time
 
 -- these bits, and then these fields
 unfoldable pub attributes : FileAttrs → List ℕ
@@ -90,10 +129,13 @@ extended name id fields = of_type SSH_FXP_EXTENDED id (string name ++ fields)
 -- the body of a request; the hello has no id
 unfoldable pub request_body : Request → ℕ → List ℕ
 request_body (request.Init version) id = SSH_FXP_INIT ∷ uint32 version
-request_body (request.OpenFile path flags attrs) id = of_type SSH_FXP_OPEN id (string path ++ uint32 flags.0 ++ attributes attrs)
+request_body (request.OpenFile path flags attrs) id = of_type SSH_FXP_OPEN id
+    (string path ++ uint32 flags.0 ++ attributes attrs)
 request_body (request.Close handle) id = of_type SSH_FXP_CLOSE id (string handle)
-request_body (request.Read handle offset len) id = of_type SSH_FXP_READ id (string handle ++ uint64 offset ++ uint32 len)
-request_body (request.Write handle offset content) id = of_type SSH_FXP_WRITE id (string handle ++ uint64 offset ++ string content)
+request_body (request.Read handle offset len) id = of_type SSH_FXP_READ id
+    (string handle ++ uint64 offset ++ uint32 len)
+request_body (request.Write handle offset content) id = of_type SSH_FXP_WRITE id
+    (string handle ++ uint64 offset ++ string content)
 request_body (request.Lstat path) id = of_type SSH_FXP_LSTAT id (string path)
 request_body (request.Fstat handle) id = of_type SSH_FXP_FSTAT id (string handle)
 request_body (request.Setstat path attrs) id = of_type SSH_FXP_SETSTAT id (string path ++ attributes attrs)
@@ -123,8 +165,10 @@ name_entry e = string e.filename ++ string e.longname ++ attributes e.attrs
 
 -- the body of a reply; VERSION has no id
 unfoldable pub reply_body : Reply → ℕ → List ℕ
-reply_body (reply.Version version extensions) id = SSH_FXP_VERSION ∷ uint32 version ++ extension_pairs extensions.0 extension_table
-reply_body (reply.Status code message language) id = of_type SSH_FXP_STATUS id (uint32 code ++ string message ++ string language)
+reply_body (reply.Version version extensions) id = SSH_FXP_VERSION ∷ uint32 version
+    ++ extension_pairs extensions.0 extension_table
+reply_body (reply.Status code message language) id = of_type SSH_FXP_STATUS id
+    (uint32 code ++ string message ++ string language)
 reply_body (reply.Handle handle) id = of_type SSH_FXP_HANDLE id (string handle)
 reply_body (reply.Content content) id = of_type SSH_FXP_DATA id (string content)
 reply_body (reply.Names names) id = of_type SSH_FXP_NAME id (uint32 (length names) ++ flat_map name_entry names)
@@ -133,7 +177,8 @@ reply_body (reply.Extended content) id = of_type SSH_FXP_EXTENDED_REPLY id conte
 
 -- the content of the reply to the query for limits (OpenSSH's PROTOCOL, section 4.8)
 unfoldable pub limits_content : Limits → List ℕ
-limits_content limits = uint64 limits.packet_len ++ uint64 limits.read_len ++ uint64 limits.write_len ++ uint64 limits.open_handles
+limits_content limits = uint64 limits.packet_len ++ uint64 limits.read_len ++ uint64 limits.write_len
+    ++ uint64 limits.open_handles
 
 -- ---- frames
 

@@ -1,6 +1,8 @@
 -- The most bytes that one READ asks for and one WRITE carries, from the reply to the query for limits
 -- (OpenSSH's PROTOCOL, section 4.8), if there was one, and the user's options.
-use Rattle.std.specs.Prelude.{ℕ, ◌-◌, ◌==◌, min, max, Option, Some, None, nat_lt, if◌then◌else◌}
+use Rattle.std.specs.Prelude.{ℕ, Bool, ◌-◌, ◌==◌, min, max, Option, Some, None, nat_lt, if◌then◌else◌}
+use Rattle.std.specs.Int.RustNames.{bit_and}
+use Rattle.sftp_model.specs.declared.flags.Extensions.{Extensions}
 use Rattle.sftp_model.specs.declared.config.Limits.{Limits}
 use Rattle.sftp_model.specs.Numbers.{MAX_TRANSFER_LEN}
 
@@ -40,3 +42,7 @@ session_len most len = max 1 (min MAX_TRANSFER_LEN (capped_by most len))
 abbrev pub session_lengths : Option Limits → Option ℕ → Option ℕ → ℕ × ℕ
 session_lengths limits max_read_len max_write_len =
     (session_len max_read_len (read_len_of limits), session_len max_write_len (write_len_of limits))
+
+-- whether the server offers the query for limits
+abbrev pub offers_limits : Extensions → Bool
+offers_limits extensions = bit_and extensions.0 32 == 32

@@ -19,3 +19,5 @@ pub mod AnswerRows
 pub mod SameFields
 pub mod SameRequest
 pub mod SameErrors
+pub mod OpenOptions
+pub mod Options

@@ -1,6 +1,22 @@
 -- Paths on the server: bytes, with `/` between their components. What a path means is the
 -- server's (draft-ietf-secsh-filexfer-02, section 6.2).
-use Rattle.std.specs.Prelude.{ℕ, ◌==◌, Bool, false, ◌-◌, List, [], ◌∷◌, ◌++◌, length, slice_get, Option, Some, None, if◌then◌else◌}
+use Rattle.std.specs.Prelude.{
+  ℕ,
+  ◌==◌,
+  Bool,
+  false,
+  ◌-◌,
+  List,
+  [],
+  ◌∷◌,
+  ◌++◌,
+  length,
+  slice_get,
+  Option,
+  Some,
+  None,
+  if◌then◌else◌,
+}
 
 -- the byte of `/`
 abbrev pub slash : ℕ

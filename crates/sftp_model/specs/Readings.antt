@@ -1,6 +1,28 @@
 -- What the body of a frame reads as, field by field from its first byte. The refusal is that of the first field
 -- that fails (draft-ietf-secsh-filexfer-02, sections 3 to 8).
-use Rattle.std.specs.Prelude.{ℕ, zero, suc, ◌==◌, Bool, true, false, not, List, [], ◌∷◌, length, codes, Option, Some, None, Result, Ok, Err, nat_lt, if◌then◌else◌}
+use Rattle.std.specs.Prelude.{
+  ℕ,
+  zero,
+  suc,
+  ◌==◌,
+  Bool,
+  true,
+  false,
+  not,
+  List,
+  [],
+  ◌∷◌,
+  length,
+  codes,
+  Option,
+  Some,
+  None,
+  Result,
+  Ok,
+  Err,
+  nat_lt,
+  if◌then◌else◌,
+}
 use Rattle.std.specs.Int.{w32, w64}
 use Rattle.std.specs.Int.RustNames.{bit_and, bit_or}
 use Rattle.std.specs.Str.{bytes_eq}
@@ -10,7 +32,14 @@ use Rattle.sftp_model.specs.declared.file_attrs.FileAttrs.{FileAttrs}
 use Rattle.sftp_model.specs.declared.frame_error.FrameError.{FrameError}
 use Rattle.sftp_model.specs.declared.frame_error.FrameError.TheVariants as errors
 use Rattle.sftp_model.specs.declared.frame_error.FormatKind.TheVariants as kinds
-use Rattle.sftp_model.specs.Numbers.{SSH_FILEXFER_ATTR_SIZE, SSH_FILEXFER_ATTR_UIDGID, SSH_FILEXFER_ATTR_PERMISSIONS, SSH_FILEXFER_ATTR_ACMODTIME, SSH_FILEXFER_ATTR_EXTENDED, MAX_HANDLE_LEN}
+use Rattle.sftp_model.specs.Numbers.{
+  SSH_FILEXFER_ATTR_SIZE,
+  SSH_FILEXFER_ATTR_UIDGID,
+  SSH_FILEXFER_ATTR_PERMISSIONS,
+  SSH_FILEXFER_ATTR_ACMODTIME,
+  SSH_FILEXFER_ATTR_EXTENDED,
+  MAX_HANDLE_LEN,
+}
 use Rattle.sftp_model.specs.FieldErrors.{frame_error}
 use Rattle.sftp_model.specs.Frames.{extension_table}
 
@@ -26,17 +55,20 @@ whole read = if length read.1 == 0 then Ok read.0 else Err (errors.Format (kinds
 -- no handle may be longer than the bound; the first one that is longer is told
 abbrev pub with_short_handles : {A : Type 0} → List (List ℕ) → A → Result A FrameError
 with_short_handles [] x = Ok x
-with_short_handles (h ∷ handles) x = if nat_lt MAX_HANDLE_LEN (length h) then Err (errors.HandleTooLong (length h)) else with_short_handles handles x
+with_short_handles (h ∷ handles) x = if nat_lt MAX_HANDLE_LEN (length h) then Err (errors.HandleTooLong (length h)) else
+    with_short_handles handles x
 
 -- fields after an id
-abbrev pub with_id : {A : Type 0} → (List ℕ → Result (A × List ℕ) FrameError) → List ℕ → Result ((Option ℕ × A) × List ℕ) FrameError
+abbrev pub with_id : {A : Type 0} → (List ℕ → Result (A × List ℕ) FrameError) → List ℕ
+    → Result ((Option ℕ × A) × List ℕ) FrameError
 with_id fields bytes = do
   id ← field (number_at w32 bytes)
   read ← fields id.1
   Ok ((Some id.0, read.0), read.1)
 
 -- fields without an id
-abbrev pub without_id : {A : Type 0} → (List ℕ → Result (A × List ℕ) FrameError) → List ℕ → Result ((Option ℕ × A) × List ℕ) FrameError
+abbrev pub without_id : {A : Type 0} → (List ℕ → Result (A × List ℕ) FrameError) → List ℕ
+    → Result ((Option ℕ × A) × List ℕ) FrameError
 without_id fields bytes = do
   read ← fields bytes
   Ok ((None, read.0), read.1)
@@ -50,7 +82,8 @@ abbrev pub has_bit : ℕ → ℕ → Bool
 has_bit flags n = not (bit_and flags n == 0)
 
 -- a field that is there only where its bit is set
-abbrev pub where_set : {A : Type 0} → Bool → (List ℕ → Result (A × List ℕ) FrameError) → List ℕ → Result (Option A × List ℕ) FrameError
+abbrev pub where_set : {A : Type 0} → Bool → (List ℕ → Result (A × List ℕ) FrameError) → List ℕ
+    → Result (Option A × List ℕ) FrameError
 where_set false fields bytes = Ok (None, bytes)
 where_set true fields bytes = do
   read ← fields bytes

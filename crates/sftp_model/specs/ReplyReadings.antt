@@ -6,8 +6,28 @@ use Rattle.sftp_model.specs.declared.frame_error.FrameError.{FrameError}
 use Rattle.sftp_model.specs.declared.reply.NameEntry.{NameEntry}
 use Rattle.sftp_model.specs.declared.reply.Reply.{Reply}
 use Rattle.sftp_model.specs.declared.reply.Reply.TheVariants as reply
-use Rattle.sftp_model.specs.Numbers.{SSH_FXP_VERSION, SSH_FXP_STATUS, SSH_FXP_HANDLE, SSH_FXP_DATA, SSH_FXP_NAME, SSH_FXP_ATTRS, SSH_FXP_EXTENDED_REPLY}
-use Rattle.sftp_model.specs.Readings.{field, whole, with_short_handles, with_id, without_id, unknown_type, uint32_at, uint64_at, text_at, attributes_at, extensions_at}
+use Rattle.sftp_model.specs.Numbers.{
+  SSH_FXP_VERSION,
+  SSH_FXP_STATUS,
+  SSH_FXP_HANDLE,
+  SSH_FXP_DATA,
+  SSH_FXP_NAME,
+  SSH_FXP_ATTRS,
+  SSH_FXP_EXTENDED_REPLY,
+}
+use Rattle.sftp_model.specs.Readings.{
+  field,
+  whole,
+  with_short_handles,
+  with_id,
+  without_id,
+  unknown_type,
+  uint32_at,
+  uint64_at,
+  text_at,
+  attributes_at,
+  extensions_at,
+}
 
 unfoldable pub version_at : List ℕ → Result (Reply × List ℕ) FrameError
 version_at bytes = do

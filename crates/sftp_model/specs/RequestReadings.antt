@@ -6,9 +6,48 @@ use Rattle.sftp_model.specs.declared.file_attrs.FileAttrs.{FileAttrs}
 use Rattle.sftp_model.specs.declared.frame_error.FrameError.{FrameError}
 use Rattle.sftp_model.specs.declared.request.Request.{Request}
 use Rattle.sftp_model.specs.declared.request.Request.TheVariants as request
-use Rattle.sftp_model.specs.Numbers.{SSH_FXP_INIT, SSH_FXP_OPEN, SSH_FXP_CLOSE, SSH_FXP_READ, SSH_FXP_WRITE, SSH_FXP_LSTAT, SSH_FXP_FSTAT, SSH_FXP_SETSTAT, SSH_FXP_FSETSTAT, SSH_FXP_OPENDIR, SSH_FXP_READDIR, SSH_FXP_REMOVE, SSH_FXP_MKDIR, SSH_FXP_RMDIR, SSH_FXP_REALPATH, SSH_FXP_STAT, SSH_FXP_RENAME, SSH_FXP_READLINK, SSH_FXP_SYMLINK, SSH_FXP_EXTENDED}
-use Rattle.sftp_model.specs.Frames.{posix_rename_name, hardlink_name, fsync_name, expand_path_name, copy_data_name, limits_name}
-use Rattle.sftp_model.specs.Readings.{field, whole, with_short_handles, with_id, without_id, unknown_type, uint32_at, uint64_at, text_at, attributes_at}
+use Rattle.sftp_model.specs.Numbers.{
+  SSH_FXP_INIT,
+  SSH_FXP_OPEN,
+  SSH_FXP_CLOSE,
+  SSH_FXP_READ,
+  SSH_FXP_WRITE,
+  SSH_FXP_LSTAT,
+  SSH_FXP_FSTAT,
+  SSH_FXP_SETSTAT,
+  SSH_FXP_FSETSTAT,
+  SSH_FXP_OPENDIR,
+  SSH_FXP_READDIR,
+  SSH_FXP_REMOVE,
+  SSH_FXP_MKDIR,
+  SSH_FXP_RMDIR,
+  SSH_FXP_REALPATH,
+  SSH_FXP_STAT,
+  SSH_FXP_RENAME,
+  SSH_FXP_READLINK,
+  SSH_FXP_SYMLINK,
+  SSH_FXP_EXTENDED,
+}
+use Rattle.sftp_model.specs.Frames.{
+  posix_rename_name,
+  hardlink_name,
+  fsync_name,
+  expand_path_name,
+  copy_data_name,
+  limits_name,
+}
+use Rattle.sftp_model.specs.Readings.{
+  field,
+  whole,
+  with_short_handles,
+  with_id,
+  without_id,
+  unknown_type,
+  uint32_at,
+  uint64_at,
+  text_at,
+  attributes_at,
+}
 
 unfoldable pub init_at : List ℕ → Result (Request × List ℕ) FrameError
 init_at bytes = do

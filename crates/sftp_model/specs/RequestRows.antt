@@ -5,7 +5,18 @@ use Rattle.sftp_model.specs.declared.frame_error.FrameError.TheVariants.{Format,
 use Rattle.sftp_model.specs.declared.frame_error.FormatKind.TheVariants.{Length, TrailingData, InvalidDiscriminant}
 use Rattle.sftp_model.specs.declared.request.Request.TheVariants as request
 use Rattle.sftp_model.specs.Readings.{attributes_at}
-use Rattle.sftp_model.specs.RequestReadings.{init_at, open_at, read_at, one_text_at, two_texts_at, copy_data_at, extension_fields_at, extended_request_at, request_fields_at, request_at}
+use Rattle.sftp_model.specs.RequestReadings.{
+  init_at,
+  open_at,
+  read_at,
+  one_text_at,
+  two_texts_at,
+  copy_data_at,
+  extension_fields_at,
+  extended_request_at,
+  request_fields_at,
+  request_at,
+}
 use Rattle.sftp_model.specs.Frames.{no_attributes}
 use Rattle.sftp_model.specs.Hex.{hex}
 
@@ -17,7 +28,8 @@ pub hello_with_id : request_at (hex (codes "010000000000000003")) ≡ Err (Forma
 unfolding request_at byte_at request_fields_at init_at
 hello_with_id = refl
 
-pub open_to_read : request_at (hex (codes "030000000000000001610000000100000000")) ≡ Ok (Some 0, request.OpenFile (97 ∷ []) (record { 0 = 1 }) no_attributes)
+pub open_to_read : request_at (hex (codes "030000000000000001610000000100000000"))
+    ≡ Ok (Some 0, request.OpenFile (97 ∷ []) (record { 0 = 1 }) no_attributes)
 unfolding request_at byte_at request_fields_at open_at attributes_at prefix_at
 open_to_read = refl
 
@@ -25,7 +37,8 @@ pub open_byte_less : request_at (hex (codes "0300000000000000016100000001000000"
 unfolding request_at byte_at request_fields_at open_at attributes_at prefix_at
 open_byte_less = refl
 
-pub close_request : request_at (hex (codes "04000000010000000400000000")) ≡ Ok (Some 1, request.Close (0 ∷ 0 ∷ 0 ∷ 0 ∷ []))
+pub close_request : request_at (hex (codes "04000000010000000400000000"))
+    ≡ Ok (Some 1, request.Close (0 ∷ 0 ∷ 0 ∷ 0 ∷ []))
 unfolding request_at byte_at request_fields_at one_text_at prefix_at
 close_request = refl
 
@@ -34,7 +47,8 @@ unfolding request_at byte_at request_fields_at one_text_at prefix_at
 close_byte_more = refl
 
 -- the same fields under the next type but one
-pub close_as_fstat : request_at (hex (codes "08000000010000000400000000")) ≡ Ok (Some 1, request.Fstat (0 ∷ 0 ∷ 0 ∷ 0 ∷ []))
+pub close_as_fstat : request_at (hex (codes "08000000010000000400000000"))
+    ≡ Ok (Some 1, request.Fstat (0 ∷ 0 ∷ 0 ∷ 0 ∷ []))
 unfolding request_at byte_at request_fields_at one_text_at prefix_at
 close_as_fstat = refl
 
@@ -42,37 +56,46 @@ pub no_such_type : request_at (hex (codes "02000000010000000400000000")) ≡ Err
 unfolding request_at byte_at request_fields_at
 no_such_type = refl
 
-pub read_request : request_at (hex (codes "05000000010000000107" ++ codes "000000000000010200000005")) ≡ Ok (Some 1, request.Read (7 ∷ []) 258 5)
+pub read_request : request_at (hex (codes "05000000010000000107" ++ codes "000000000000010200000005"))
+    ≡ Ok (Some 1, request.Read (7 ∷ []) 258 5)
 unfolding request_at byte_at request_fields_at read_at prefix_at
 read_request = refl
 
-pub handle_of_257 : request_at (hex (codes "0400000001" ++ codes "00000101") ++ replicate 257 7) ≡ Err (HandleTooLong 257)
+pub handle_of_257 : request_at (hex (codes "0400000001" ++ codes "00000101") ++ replicate 257 7)
+    ≡ Err (HandleTooLong 257)
 unfolding request_at byte_at request_fields_at one_text_at prefix_at
 handle_of_257 = refl
 
 -- a path may be longer than a handle
-pub path_of_257 : request_at (hex (codes "0700000001" ++ codes "00000101") ++ replicate 257 7) ≡ Ok (Some 1, request.Lstat (replicate 257 7))
+pub path_of_257 : request_at (hex (codes "0700000001" ++ codes "00000101") ++ replicate 257 7)
+    ≡ Ok (Some 1, request.Lstat (replicate 257 7))
 unfolding request_at byte_at request_fields_at one_text_at prefix_at
 path_of_257 = refl
 
 -- the first of two long handles is told, and only where all fields read
-pub two_long_handles : request_at (hex (codes "c80000000100000009") ++ codes "copy-data" ++ hex (codes "00000101") ++ replicate 257 7 ++ replicate 16 0 ++ hex (codes "00000102") ++ replicate 258 7 ++ replicate 8 0) ≡ Err (HandleTooLong 257)
+pub two_long_handles : request_at (hex (codes "c80000000100000009") ++ codes "copy-data" ++ hex (codes "00000101")
+    ++ replicate 257 7 ++ replicate 16 0 ++ hex (codes "00000102") ++ replicate 258 7 ++ replicate 8 0)
+    ≡ Err (HandleTooLong 257)
 unfolding request_at byte_at request_fields_at extended_request_at extension_fields_at copy_data_at prefix_at
 two_long_handles = refl
 
-pub long_handle_cut_short : request_at (hex (codes "c80000000100000009") ++ codes "copy-data" ++ hex (codes "00000101") ++ replicate 257 7 ++ replicate 15 0) ≡ Err (Format Length)
+pub long_handle_cut_short : request_at (hex (codes "c80000000100000009") ++ codes "copy-data" ++ hex (codes "00000101")
+    ++ replicate 257 7 ++ replicate 15 0) ≡ Err (Format Length)
 unfolding request_at byte_at request_fields_at extended_request_at extension_fields_at copy_data_at prefix_at
 long_handle_cut_short = refl
 
-pub limits_request : request_at (hex (codes "c80000000000000012") ++ codes "limits@openssh.com") ≡ Ok (Some 0, request.LimitsQuery)
+pub limits_request : request_at (hex (codes "c80000000000000012") ++ codes "limits@openssh.com")
+    ≡ Ok (Some 0, request.LimitsQuery)
 unfolding request_at byte_at request_fields_at extended_request_at extension_fields_at prefix_at
 limits_request = refl
 
 -- a name outside the six
-pub unknown_extension : request_at (hex (codes "c80000000000000012") ++ codes "limits@openssh.org") ≡ Err (Format (InvalidDiscriminant 200))
+pub unknown_extension : request_at (hex (codes "c80000000000000012") ++ codes "limits@openssh.org")
+    ≡ Err (Format (InvalidDiscriminant 200))
 unfolding request_at byte_at request_fields_at extended_request_at extension_fields_at prefix_at
 unknown_extension = refl
 
-pub rename_by_extension : request_at (hex (codes "c80000000000000018") ++ codes "posix-rename@openssh.com" ++ hex (codes "00000001610000000162")) ≡ Ok (Some 0, request.PosixRename (97 ∷ []) (98 ∷ []))
+pub rename_by_extension : request_at (hex (codes "c80000000000000018") ++ codes "posix-rename@openssh.com"
+    ++ hex (codes "00000001610000000162")) ≡ Ok (Some 0, request.PosixRename (97 ∷ []) (98 ∷ []))
 unfolding request_at byte_at request_fields_at extended_request_at extension_fields_at two_texts_at prefix_at
 rename_by_extension = refl

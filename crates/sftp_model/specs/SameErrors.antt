@@ -61,7 +61,9 @@ format_kind_tests_decide =
     (none_decides, (none_decides, (last ◌==◌ Decides-eqb, (last ◌==◌ Decides-eqb, tt))))
 
 pub format_kind_decides : (a b : FormatKind) → Decides (same_format_kind.ghosts.eq a b) (a ≡ b)
-format_kind_decides a b = decides_by _ (values_one format_kind.enum a b) (λ e. ap format_kind.as_values e) (choice_decides format_kind.the_parts format_kind_tests format_kind_tests_decide (format_kind.as_values a) (format_kind.as_values b))
+format_kind_decides a b = decides_by _ (values_one format_kind.enum a b) (λ e. ap format_kind.as_values e)
+    (choice_decides format_kind.the_parts format_kind_tests format_kind_tests_decide (format_kind.as_values a)
+    (format_kind.as_values b))
 
 -- ---- FrameError, variant by variant
 
@@ -74,7 +76,9 @@ frame_error_tests_decide =
     (none_decides, (last same_format_kind.ghosts.eq format_kind_decides, (last ◌==◌ Decides-eqb, tt)))
 
 pub frame_error_decides : (a b : FrameError) → Decides (same_frame_error.ghosts.eq a b) (a ≡ b)
-frame_error_decides a b = decides_by _ (values_one frame_error.enum a b) (λ e. ap frame_error.as_values e) (choice_decides frame_error.the_parts frame_error_tests frame_error_tests_decide (frame_error.as_values a) (frame_error.as_values b))
+frame_error_decides a b = decides_by _ (values_one frame_error.enum a b) (λ e. ap frame_error.as_values e)
+    (choice_decides frame_error.the_parts frame_error_tests frame_error_tests_decide (frame_error.as_values a)
+    (frame_error.as_values b))
 
 -- ---- Fault, variant by variant
 
@@ -129,7 +133,8 @@ fault_tests_decide = (
 )
 
 pub fault_decides : (a b : Fault) → Decides (same_fault.ghosts.eq a b) (a ≡ b)
-fault_decides a b = decides_by _ (values_one fault.enum a b) (λ e. ap fault.as_values e) (choice_decides fault.the_parts fault_tests fault_tests_decide (fault.as_values a) (fault.as_values b))
+fault_decides a b = decides_by _ (values_one fault.enum a b) (λ e. ap fault.as_values e)
+    (choice_decides fault.the_parts fault_tests fault_tests_decide (fault.as_values a) (fault.as_values b))
 
 -- ---- Error, variant by variant
 
@@ -218,7 +223,8 @@ error_tests_decide = (
 )
 
 pub error_decides : (a b : Error) → Decides (same_error.ghosts.eq a b) (a ≡ b)
-error_decides a b = decides_by _ (values_one error.enum a b) (λ e. ap error.as_values e) (choice_decides error.the_parts error_tests error_tests_decide (error.as_values a) (error.as_values b))
+error_decides a b = decides_by _ (values_one error.enum a b) (λ e. ap error.as_values e)
+    (choice_decides error.the_parts error_tests error_tests_decide (error.as_values a) (error.as_values b))
 
 -- ---- Outcome, variant by variant
 
@@ -295,4 +301,5 @@ outcome_tests_decide = (
 )
 
 pub outcome_decides : (a b : Outcome) → Decides (same_outcome.ghosts.eq a b) (a ≡ b)
-outcome_decides a b = decides_by _ (values_one outcome.enum a b) (λ e. ap outcome.as_values e) (choice_decides outcome.the_parts outcome_tests outcome_tests_decide (outcome.as_values a) (outcome.as_values b))
+outcome_decides a b = decides_by _ (values_one outcome.enum a b) (λ e. ap outcome.as_values e)
+    (choice_decides outcome.the_parts outcome_tests outcome_tests_decide (outcome.as_values a) (outcome.as_values b))

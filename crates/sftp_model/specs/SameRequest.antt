@@ -31,11 +31,13 @@ number x y = (x.0 == y.0)
 number_decides : (x y : ℕ × Unit {0}) → Decides (number x y) (x ≡ y)
 number_decides = last ◌==◌ Decides-eqb
 
-abbrev open_fields : List ℕ × (OpenFlags × (FileAttrs × Unit {0})) → List ℕ × (OpenFlags × (FileAttrs × Unit {0})) → Bool
+abbrev open_fields : List ℕ × (OpenFlags × (FileAttrs × Unit {0})) → List ℕ × (OpenFlags × (FileAttrs × Unit {0}))
+    → Bool
 open_fields x y = same_text x.0 y.0 && (same_flags x.1.0 y.1.0 && (same_attrs x.1.1.0 y.1.1.0))
 
 open_fields_decides : (x y : List ℕ × (OpenFlags × (FileAttrs × Unit {0}))) → Decides (open_fields x y) (x ≡ y)
-open_fields_decides = first same_text (λ x y. same_flags x.0 y.0 && (same_attrs x.1.0 y.1.0)) bytes_decides (first same_flags (λ x y. same_attrs x.0 y.0) flags_decides (last same_attrs attrs_decides))
+open_fields_decides = first same_text (λ x y. same_flags x.0 y.0 && (same_attrs x.1.0 y.1.0)) bytes_decides
+    (first same_flags (λ x y. same_attrs x.0 y.0) flags_decides (last same_attrs attrs_decides))
 
 abbrev text : List ℕ × Unit {0} → List ℕ × Unit {0} → Bool
 text x y = same_text x.0 y.0
@@ -47,13 +49,15 @@ abbrev read_fields : List ℕ × (ℕ × (ℕ × Unit {0})) → List ℕ × (ℕ
 read_fields x y = same_text x.0 y.0 && ((x.1.0 == y.1.0) && ((x.1.1.0 == y.1.1.0)))
 
 read_fields_decides : (x y : List ℕ × (ℕ × (ℕ × Unit {0}))) → Decides (read_fields x y) (x ≡ y)
-read_fields_decides = first same_text (λ x y. (x.0 == y.0) && ((x.1.0 == y.1.0))) bytes_decides (first ◌==◌ (λ x y. (x.0 == y.0)) Decides-eqb (last ◌==◌ Decides-eqb))
+read_fields_decides = first same_text (λ x y. (x.0 == y.0) && ((x.1.0 == y.1.0))) bytes_decides
+    (first ◌==◌ (λ x y. (x.0 == y.0)) Decides-eqb (last ◌==◌ Decides-eqb))
 
 abbrev write_fields : List ℕ × (ℕ × (List ℕ × Unit {0})) → List ℕ × (ℕ × (List ℕ × Unit {0})) → Bool
 write_fields x y = same_text x.0 y.0 && ((x.1.0 == y.1.0) && (same_text x.1.1.0 y.1.1.0))
 
 write_fields_decides : (x y : List ℕ × (ℕ × (List ℕ × Unit {0}))) → Decides (write_fields x y) (x ≡ y)
-write_fields_decides = first same_text (λ x y. (x.0 == y.0) && (same_text x.1.0 y.1.0)) bytes_decides (first ◌==◌ (λ x y. same_text x.0 y.0) Decides-eqb (last same_text bytes_decides))
+write_fields_decides = first same_text (λ x y. (x.0 == y.0) && (same_text x.1.0 y.1.0)) bytes_decides
+    (first ◌==◌ (λ x y. same_text x.0 y.0) Decides-eqb (last same_text bytes_decides))
 
 abbrev text_and_attrs : List ℕ × (FileAttrs × Unit {0}) → List ℕ × (FileAttrs × Unit {0}) → Bool
 text_and_attrs x y = same_text x.0 y.0 && (same_attrs x.1.0 y.1.0)
@@ -67,11 +71,17 @@ two_texts x y = same_text x.0 y.0 && (same_text x.1.0 y.1.0)
 two_texts_decides : (x y : List ℕ × (List ℕ × Unit {0})) → Decides (two_texts x y) (x ≡ y)
 two_texts_decides = first same_text (λ x y. same_text x.0 y.0) bytes_decides (last same_text bytes_decides)
 
-abbrev copy_fields : List ℕ × (ℕ × (ℕ × (List ℕ × (ℕ × Unit {0})))) → List ℕ × (ℕ × (ℕ × (List ℕ × (ℕ × Unit {0})))) → Bool
-copy_fields x y = same_text x.0 y.0 && ((x.1.0 == y.1.0) && ((x.1.1.0 == y.1.1.0) && (same_text x.1.1.1.0 y.1.1.1.0 && ((x.1.1.1.1.0 == y.1.1.1.1.0)))))
+abbrev copy_fields : List ℕ × (ℕ × (ℕ × (List ℕ × (ℕ × Unit {0})))) → List ℕ × (ℕ × (ℕ × (List ℕ × (ℕ × Unit {0}))))
+    → Bool
+copy_fields x y = same_text x.0 y.0 && ((x.1.0 == y.1.0) && ((x.1.1.0 == y.1.1.0)
+    && (same_text x.1.1.1.0 y.1.1.1.0 && ((x.1.1.1.1.0 == y.1.1.1.1.0)))))
 
 copy_fields_decides : (x y : List ℕ × (ℕ × (ℕ × (List ℕ × (ℕ × Unit {0}))))) → Decides (copy_fields x y) (x ≡ y)
-copy_fields_decides = first same_text (λ x y. (x.0 == y.0) && ((x.1.0 == y.1.0) && (same_text x.1.1.0 y.1.1.0 && ((x.1.1.1.0 == y.1.1.1.0))))) bytes_decides (first ◌==◌ (λ x y. (x.0 == y.0) && (same_text x.1.0 y.1.0 && ((x.1.1.0 == y.1.1.0)))) Decides-eqb (first ◌==◌ (λ x y. same_text x.0 y.0 && ((x.1.0 == y.1.0))) Decides-eqb (first same_text (λ x y. (x.0 == y.0)) bytes_decides (last ◌==◌ Decides-eqb))))
+copy_fields_decides = first same_text (λ x y. (x.0 == y.0) &&
+    ((x.1.0 == y.1.0) && (same_text x.1.1.0 y.1.1.0 && ((x.1.1.1.0 == y.1.1.1.0))))) bytes_decides
+    (first ◌==◌ (λ x y. (x.0 == y.0) && (same_text x.1.0 y.1.0 && ((x.1.1.0 == y.1.1.0)))) Decides-eqb
+    (first ◌==◌ (λ x y. same_text x.0 y.0 && ((x.1.0 == y.1.0))) Decides-eqb
+    (first same_text (λ x y. (x.0 == y.0)) bytes_decides (last ◌==◌ Decides-eqb))))
 
 abbrev none : Unit {0} → Unit {0} → Bool
 none x y = true
@@ -217,4 +227,5 @@ tests_decide = (
 )
 
 pub request_decides : (a b : Request) → Decides (requests.ghosts.eq a b) (a ≡ b)
-request_decides a b = decides_by _ (values_one enum a b) (λ e. ap as_values e) (choice_decides the_parts tests tests_decide (as_values a) (as_values b))
+request_decides a b = decides_by _ (values_one enum a b) (λ e. ap as_values e)
+    (choice_decides the_parts tests tests_decide (as_values a) (as_values b))

@@ -1,5 +1,5 @@
 ghost use Rattle.std.specs.Cmp.Lexicographic.{bytes_decides};
-ghost use Rattle.sftp_model.specs.Same.{flags_decides, extensions_decides, attrs_decides, entry_decides, reply_decides, choice_decides, limits_decides, config_decides};
+ghost use Rattle.sftp_model.specs.Same.{flags_decides, extensions_decides, attrs_decides, entry_decides, reply_decides, choice_decides, limits_decides, config_decides, open_options_decides};
 ghost use Rattle.sftp_model.specs.SameErrors.{io_kind_decides, format_kind_decides, frame_error_decides, fault_decides, error_decides, outcome_decides};
 ghost use Rattle.sftp_model.specs.SameRequest.{request_decides};
 
@@ -10,6 +10,7 @@ use crate::file_attrs::FileAttrs;
 use crate::flags::{Extensions, OpenFlags};
 use crate::frame_error::{FormatKind, FrameError};
 use crate::handle::Handle;
+use crate::open_options::OpenOptions;
 use crate::outcome::Outcome;
 use crate::remote_path::RemotePath;
 use crate::reply::{NameEntry, Reply};
@@ -86,4 +87,8 @@ impl Same for Limits {
 
 impl Same for ServerConfig {
     ghost decides = { config_decides };
+}
+
+impl Same for OpenOptions {
+    ghost decides = { open_options_decides };
 }

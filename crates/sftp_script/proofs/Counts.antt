@@ -1,9 +1,9 @@
 -- Lines of another number of words than they may have.
 use Rattle.std.proofs.Common.{◌≡◌, ◌≢◌, ◌∷◌, [], ℕ, List, length, refl}
 use Rattle.std.specs.Prelude.{Result, Err}
-use Rattle.sftp_history.specs.declared.reason.Reason.{Reason}
-use Rattle.sftp_history.specs.declared.reason.Reason.TheVariants as reason
-use Rattle.sftp_history.specs.Scripts.{no_word, one_word, two_words, three_words, four_words}
+use Rattle.sftp_script.specs.declared.reason.Reason.{Reason}
+use Rattle.sftp_script.specs.declared.reason.Reason.TheVariants as reason
+use Rattle.sftp_script.specs.Lines.{no_word, one_word, two_words, three_words, four_words}
 
 pub not_none : {A : Type 0} (x : A) (words : List (List ℕ)) → length words ≢ 0 → no_word x words ≡ Err reason.Count
 not_none x [] more = absurd (more refl)
@@ -20,14 +20,16 @@ not_two f (a ∷ []) other = refl
 not_two f (a ∷ b ∷ []) other = absurd (other refl)
 not_two f (a ∷ b ∷ c ∷ words) other = refl
 
-pub not_three : {A : Type 0} (f : List ℕ → List ℕ → List ℕ → Result A Reason) (words : List (List ℕ)) → length words ≢ 3 → three_words f words ≡ Err reason.Count
+pub not_three : {A : Type 0} (f : List ℕ → List ℕ → List ℕ → Result A Reason) (words : List (List ℕ)) → length words ≢ 3
+    → three_words f words ≡ Err reason.Count
 not_three f [] other = refl
 not_three f (a ∷ []) other = refl
 not_three f (a ∷ b ∷ []) other = refl
 not_three f (a ∷ b ∷ c ∷ []) other = absurd (other refl)
 not_three f (a ∷ b ∷ c ∷ d ∷ words) other = refl
 
-pub not_four : {A : Type 0} (f : List ℕ → List ℕ → List ℕ → List ℕ → Result A Reason) (words : List (List ℕ)) → length words ≢ 4 → four_words f words ≡ Err reason.Count
+pub not_four : {A : Type 0} (f : List ℕ → List ℕ → List ℕ → List ℕ → Result A Reason) (words : List (List ℕ))
+    → length words ≢ 4 → four_words f words ≡ Err reason.Count
 not_four f [] other = refl
 not_four f (a ∷ []) other = refl
 not_four f (a ∷ b ∷ []) other = refl

@@ -1,8 +1,8 @@
 -- The last lane of several.
 use Rattle.std.proofs.Common.{◌≡◌, ◌∷◌, ◌++◌, [], List, refl, ap}
-use Rattle.sftp_history.specs.declared.call.Call.{Call}
-use Rattle.sftp_history.specs.declared.call.Lane.{Lane}
-use Rattle.sftp_history.specs.Scripts.{call_at_end}
+use Rattle.plan_model.specs.declared.call.Call.{Call}
+use Rattle.plan_model.specs.declared.call.Lane.{Lane}
+use Rattle.sftp_script.specs.Scripts.{call_at_end}
 
 pub at_end : (front : List Lane) (lane : Lane) (c : Call) → call_at_end (front ++ lane ∷ []) c ≡ front ++ record { calls = lane.calls ++ c ∷ [] } ∷ []
 at_end [] lane c = refl

@@ -8,17 +8,19 @@ use Rattle.std.proofs.lemmas.Cmp.{lists_equiv, nat_list_eq_equiv}
 use Rattle.std.proofs.lemmas.List.{map-append}
 use Rattle.std.proofs.lemmas.List.Folds.{list_all-append, list_any-append}
 use Rattle.std.proofs.lemmas.List.Sums.{sum_by-append}
-use Rattle.sftp_tree.specs.Components.{Name, components, is_within, same_name}
-use Rattle.sftp_tree.specs.FirstTree.{FirstFile, are_apart, differ, leave_room, may_be_named, may_begin, may_hold, may_hold_all, name_of, stand_apart}
-use Rattle.sftp_tree.specs.Limits.{MAX_FILE_LEN, MAX_TOTAL_LEN}
-use Rattle.sftp_history.specs.Scripts.{may_add}
+use Rattle.machine_model.specs.Components.{Name, components, is_within, same_name}
+use Rattle.machine_model.specs.FirstTree.{FirstFile, are_apart, differ, leave_room, may_be_named, may_begin, may_hold, may_hold_all, name_of, stand_apart}
+use Rattle.machine_model.specs.Limits.{MAX_FILE_LEN, MAX_TOTAL_LEN}
+use Rattle.sftp_script.specs.Setup.{may_add}
 
-any_named : (name : Name) (files : List FirstFile) → list_any (λ other. is_within other name) (map name_of files) ≡ list_any (λ file. is_within (name_of file) name) files
+any_named : (name : Name) (files : List FirstFile) → list_any (λ other. is_within other name) (map name_of files)
+    ≡ list_any (λ file. is_within (name_of file) name) files
 any_named name [] = refl
 any_named name (file ∷ files) = rw (any_named name files) refl
 
 -- the same of names that are those of files
-pub any_named_by : (names : List Name) (name : Name) (files : List FirstFile) → names ≡ map name_of files → list_any (λ other. is_within other name) names ≡ list_any (λ file. is_within (name_of file) name) files
+pub any_named_by : (names : List Name) (name : Name) (files : List FirstFile) → names ≡ map name_of files
+    → list_any (λ other. is_within other name) names ≡ list_any (λ file. is_within (name_of file) name) files
 any_named_by names name files e = rw e (any_named name files)
 
 neither : (a b : Bool) → (a || b) ≡ false → (a ≡ false) × (b ≡ false)
@@ -50,13 +52,20 @@ differ_more [] name h k = refl
 differ_more (x ∷ names) name h k =
     let old = and_parts (not (list_any (same_name x) names)) (differ names) h in
     let new = neither (same_name name x) (list_any (same_name name) names) k in
-    rw (list_any-append (same_name x) names (name ∷ []), same_sym x name, new.0, without (list_any (same_name x) names) old.0, differ_more names name old.1 new.1) refl
+    rw (
+      list_any-append (same_name x) names (name ∷ []),
+      same_sym x name,
+      new.0,
+      without (list_any (same_name x) names) old.0,
+      differ_more names name old.1 new.1,
+    ) refl
   where
     without : (b : Bool) → not b ≡ true → b ≡ false
     without true e = absurd cc
     without false e = refl
 
-room_more : (files dirs : List Name) (name : Name) → leave_room files dirs ≡ true → list_any (λ file. is_within file name) files ≡ false → leave_room files (dirs ++ name ∷ []) ≡ true
+room_more : (files dirs : List Name) (name : Name) → leave_room files dirs ≡ true
+    → list_any (λ file. is_within file name) files ≡ false → leave_room files (dirs ++ name ∷ []) ≡ true
 room_more [] dirs name h k = refl
 room_more (file ∷ files) dirs name h k =
     let old = and_parts (not (list_any (is_within file) dirs)) (leave_room files dirs) h in
@@ -98,14 +107,16 @@ all_more f xs x h k = rw (list_all-append f xs (x ∷ []), h, k) refl
 zero_more : (n : ℕ) → 0 + n ≡ n
 zero_more n = omega arith
 
-pub file_begins : (files : List FirstFile) (dirs : List (List ℕ)) (path content : List ℕ) → may_begin files dirs ≡ true → may_be_named (components path) ≡ true → may_add files content ≡ true
+pub file_begins : (files : List FirstFile) (dirs : List (List ℕ)) (path content : List ℕ) → may_begin files dirs ≡ true
+    → may_be_named (components path) ≡ true → may_add files content ≡ true
     → (not (list_all (are_apart (components path)) (map name_of files)) || list_any (is_within (components path)) (map components dirs)) ≡ false
     → may_begin (files ++ (path, content) ∷ []) dirs ≡ true
 file_begins files dirs path content h named fits unmet =
     let file : FirstFile = (path, content) in
     let b = parts_of files dirs h in
     let fit = and_parts (nat_le (length content) MAX_FILE_LEN) (nat_le (sum_by (λ f. length f.1) files + length content) MAX_TOTAL_LEN) fits in
-    let free = neither (not (list_all (are_apart (components path)) (map name_of files))) (list_any (is_within (components path)) (map components dirs)) unmet in
+    let free = neither (not (list_all (are_apart (components path)) (map name_of files)))
+    (list_any (is_within (components path)) (map components dirs)) unmet in
     let one : sum_by (λ (f : FirstFile). length f.1) (file ∷ []) ≡ length content = zero_more (length content) in
     let names : map name_of (files ++ file ∷ []) ≡ map name_of files ++ components path ∷ [] = map-append name_of files (file ∷ []) in
     whole_of (files ++ file ∷ []) dirs (record {
@@ -123,7 +134,8 @@ pub dir_begins : (files : List FirstFile) (dirs : List (List ℕ)) (path : List 
     → may_begin files (dirs ++ path ∷ []) ≡ true
 dir_begins files dirs path h named unmet =
     let b = parts_of files dirs h in
-    let free = neither (list_any (same_name (components path)) (map components dirs)) (list_any (λ file. is_within (name_of file) (components path)) files) unmet in
+    let free = neither (list_any (same_name (components path)) (map components dirs))
+    (list_any (λ file. is_within (name_of file) (components path)) files) unmet in
     let names : map components (dirs ++ path ∷ []) ≡ map components dirs ++ components path ∷ [] = map-append components dirs (path ∷ []) in
     whole_of files (dirs ++ path ∷ []) (record {
       sizes = b.sizes;

@@ -2,15 +2,16 @@
 use Rattle.std.proofs.Common.{◌≡◌, ◌≢◌, ◌∷◌, [], List, true, false, refl}
 use Rattle.std.specs.Prelude.{Option, Some, None, Result, Ok, Err, is_some}
 use Rattle.ssh_encoding.specs.Reading.{◌>>=◌}
-use Rattle.sftp_history.specs.declared.call.Call.{Call}
-use Rattle.sftp_history.specs.declared.call.Lane.{Lane}
-use Rattle.sftp_history.specs.declared.reason.Reason.{Reason}
-use Rattle.sftp_history.specs.declared.reason.Reason.TheVariants as reason
+use Rattle.plan_model.specs.declared.call.Call.{Call}
+use Rattle.plan_model.specs.declared.call.Lane.{Lane}
+use Rattle.sftp_script.specs.declared.reason.Reason.{Reason}
+use Rattle.sftp_script.specs.declared.reason.Reason.TheVariants as reason
 use Rattle.sftp_script.specs.declared.error.LineError.{LineError}
 use Rattle.sftp_script.specs.declared.error.LineError.TheVariants as line
-use Rattle.sftp_script.specs.Refusals.{Refuses, RefusesCall}
-use Rattle.sftp_history.specs.Lines.{map_ok}
-use Rattle.sftp_history.specs.Scripts.{Draft, call_line, in_lane, or_else, with_call}
+use Rattle.sftp_script.specs.Refusals.{Refuses, RefusesIn}
+use Rattle.sftp_script.specs.Lines.{map_ok}
+use Rattle.sftp_script.specs.Setup.{Draft}
+use Rattle.sftp_script.specs.Scripts.{call_line, in_lane, or_else, with_call}
 
 -- fields that are refused refuse their call
 pub fields_refuse : {A B : Type 0} (f : A → B) (read : Result A Reason) (e : LineError) → Refuses read e → Refuses (map_ok f read) e
@@ -18,12 +19,12 @@ fields_refuse f read line.OutOfMemory refused = tt
 fields_refuse f read (line.Refused why) refused = rw refused refl
 
 -- what is refused is a call
-pub refused_call : (read : Option (Result Call Reason)) (e : LineError) → RefusesCall read e → is_some read ≡ true
+pub refused_call : (read : Option (Result Call Reason)) (e : LineError) → RefusesIn read e → is_some read ≡ true
 refused_call None e refused = absurd refused
 refused_call (Some read) e refused = refl
 
 -- the one of two tables that refuses
-pub first_refuses : (first second : Option (Result Call Reason)) (e : LineError) → RefusesCall first e → RefusesCall (or_else first second) e
+pub first_refuses : (first second : Option (Result Call Reason)) (e : LineError) → RefusesIn first e → RefusesIn (or_else first second) e
 first_refuses None second e refused = absurd refused
 first_refuses (Some read) second e refused = refused
 
@@ -46,7 +47,7 @@ in_some d (lane ∷ lanes) read some = refl
 pub call_read : (d : Draft) (read : Option (Result Call Reason)) (c : Call) → d.script.lanes ≢ [] → read ≡ Some (Ok c) → call_line d read ≡ Ok (with_call d c)
 call_read d read c some e = rw (e, in_some d d.script.lanes (Ok c) some) refl
 
-pub call_refuses : (d : Draft) (read : Option (Result Call Reason)) (e : LineError) → d.script.lanes ≢ [] → RefusesCall read e → Refuses (call_line d read) e
+pub call_refuses : (d : Draft) (read : Option (Result Call Reason)) (e : LineError) → d.script.lanes ≢ [] → RefusesIn read e → Refuses (call_line d read) e
 call_refuses d None e some refused = absurd refused
 call_refuses d (Some read) line.OutOfMemory some refused = tt
 call_refuses d (Some read) (line.Refused why) some refused = rw (in_some d d.script.lanes read some, refused) refl

@@ -1,10 +1,41 @@
 -- Numbers that are cut at 2^64 while their digits are read.
-use Rattle.std.proofs.Common.{◌≡◌, ◌+◌, ◌-◌, ◌*◌, ◌^◌, ◌<◌, ◌∷◌, [], ℕ, suc, List, Bool, true, false, Option, Some, None, min, drop, length, get_or, refl, ap, sym, ◌∙◌, arith, inl, inr, add-one, drop-cons}
+use Rattle.std.proofs.Common.{
+  ◌≡◌,
+  ◌+◌,
+  ◌-◌,
+  ◌*◌,
+  ◌^◌,
+  ◌<◌,
+  ◌∷◌,
+  [],
+  ℕ,
+  suc,
+  List,
+  Bool,
+  true,
+  false,
+  Option,
+  Some,
+  None,
+  min,
+  drop,
+  length,
+  get_or,
+  refl,
+  ap,
+  sym,
+  ◌∙◌,
+  arith,
+  inl,
+  inr,
+  add-one,
+  drop-cons,
+}
 use Rattle.std.proofs.lemmas.Bool.{cases_Bool, cases_lt, lt-leb}
 use Rattle.std.specs.Prelude.{◌&&◌, nat_le, Err}
 use Rattle.std.specs.Option.{option_map}
-use Rattle.sftp_history.specs.declared.reason.Reason.TheVariants as reason
-use Rattle.sftp_history.specs.Lines.{digits_behind, is_digit, within}
+use Rattle.sftp_script.specs.declared.reason.Reason.TheVariants as reason
+use Rattle.sftp_script.specs.Lines.{digits_behind, is_digit, within}
 
 abbrev pub capped : Option ℕ → Option ℕ
 capped number = option_map (λ n. min n (2 ^ 64)) number

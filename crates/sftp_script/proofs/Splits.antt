@@ -1,11 +1,41 @@
 -- The first line and the first word, and what stands behind them.
-use Rattle.std.proofs.Common.{◌≡◌, ◌≢◌, ◌+◌, ◌<◌, ◌≤◌, ◌∷◌, [], ℕ, zero, suc, List, Bool, true, false, take, drop, length, refl, ap, sym, ◌∙◌, arith, inl, inr, cond, ◌-◌, Some, None, add-one}
+use Rattle.std.proofs.Common.{
+  ◌≡◌,
+  ◌≢◌,
+  ◌+◌,
+  ◌<◌,
+  ◌≤◌,
+  ◌∷◌,
+  [],
+  ℕ,
+  zero,
+  suc,
+  List,
+  Bool,
+  true,
+  false,
+  take,
+  drop,
+  length,
+  refl,
+  ap,
+  sym,
+  ◌∙◌,
+  arith,
+  inl,
+  inr,
+  cond,
+  ◌-◌,
+  Some,
+  None,
+  add-one,
+}
 use Rattle.std.proofs.lemmas.Bool.{cases_Bool, ltb-false}
 use Rattle.std.proofs.lemmas.Option.{cond_some, none-some}
 use Rattle.std.proofs.lemmas.List.{take_rest}
 use Rattle.std.specs.Prelude.{◌==◌, not, nat_lt}
 use Rattle.std.specs.List.{position, position_or_len}
-use Rattle.sftp_history.specs.Lines.{lines_of, words_of, with_front, starts_word}
+use Rattle.sftp_script.specs.Lines.{lines_of, words_of, with_front, starts_word}
 
 -- where the first such byte stands
 abbrev pub place : ℕ → List ℕ → ℕ
@@ -48,7 +78,9 @@ last_line (b ∷ []) some at =
 last_line (b ∷ c ∷ bytes) some at =
     elim (cases_Bool (b == 10)) [
       | inl e ↦ absurd (omega (arith, place_here 10 b (c ∷ bytes) e))
-      | inr e ↦ line_behind b (c ∷ bytes) e ∙ ap (with_front b) (last_line (c ∷ bytes) (λ eq. absurd (omega (arith, ap length eq))) (omega (arith, place_behind 10 b (c ∷ bytes) e)))
+      | inr e ↦ line_behind b (c ∷ bytes) e ∙ ap (with_front b)
+          (last_line (c ∷ bytes) (λ eq. absurd (omega (arith, ap length eq)))
+          (omega (arith, place_behind 10 b (c ∷ bytes) e)))
     ]
 
 -- no place is past the end
@@ -69,10 +101,12 @@ none_from false x e = refl
 
 pub place_None : (byte : ℕ) (bytes : List ℕ) → position (λ b. b == byte) bytes ≡ None → length bytes ≡ place byte bytes
 place_None byte bytes none =
-    let past : length bytes ≤ place byte bytes = ltb-false (place byte bytes) (length bytes) (none_from (nat_lt (place byte bytes) (length bytes)) (place byte bytes) none) in
+    let past : length bytes ≤ place byte bytes = ltb-false (place byte bytes) (length bytes)
+    (none_from (nat_lt (place byte bytes) (length bytes)) (place byte bytes) none) in
     omega (arith, place_within byte bytes)
 
-pub first_line : (text : List ℕ) (end : ℕ) → end ≡ place 10 text → end < length text → lines_of text ≡ take end text ∷ lines_of (take (length text - (end + 1)) (drop (end + 1) text))
+pub first_line : (text : List ℕ) (end : ℕ) → end ≡ place 10 text → end < length text → lines_of text
+    ≡ take end text ∷ lines_of (take (length text - (end + 1)) (drop (end + 1) text))
 first_line text end at lt = rw (take_rest text (end + 1), add-one) (line_to text end lt (sym at))
 
 pub only_line : (text : List ℕ) (end : ℕ) → end ≡ place 10 text → length text ≤ end → text ≢ [] → lines_of text ≡ text ∷ []

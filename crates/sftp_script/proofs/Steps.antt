@@ -1,27 +1,69 @@
--- One line more of a script.
-use Rattle.std.proofs.Common.{◌≡◌, ◌+◌, ◌∷◌, [], ℕ, List, refl}
-use Rattle.std.specs.Prelude.{Ok, Err}
-use Rattle.sftp_history.specs.declared.reason.Reason.{Reason}
-use Rattle.sftp_history.specs.Lines.{lines_of}
-use Rattle.sftp_history.specs.Scripts.{Draft, read_line, read_lines}
+-- One line more of a text, and the script that its lines are.
+use Rattle.std.proofs.Common.{◌≡◌, ◌≤◌, ◌+◌, ◌∷◌, [], ℕ, Bool, true, false, List, length, if◌then◌else◌, refl, arith}
+use Rattle.std.specs.Prelude.{Option, Some, None, Result, Ok, Err, nat_lt}
+use Rattle.std.proofs.lemmas.Bool.Decides.{nat_tests}
+use Rattle.sftp_script.specs.declared.reason.Reason.{Reason}
+use Rattle.sftp_script.specs.declared.reason.Reason.TheVariants as reason
+use Rattle.sftp_script.specs.declared.script.Script.{Script}
+use Rattle.sftp_script.specs.Lines.{lines_of, or_read, read_by, read_line}
+use Rattle.sftp_script.specs.Setup.{Draft}
+use Rattle.sftp_script.specs.Scripts.{MAX_SCRIPT_LEN, empty_script, line_by, read_lines, script_in, script_of}
 use Rattle.sftp_script.specs.declared.error.LineError.{LineError}
 use Rattle.sftp_script.specs.declared.error.LineError.TheVariants as line
-use Rattle.sftp_script.specs.Refusals.{Refuses, RefusesScript, at_line}
+use Rattle.sftp_script.specs.declared.error.ScriptError.{ScriptError}
+use Rattle.sftp_script.specs.declared.error.ScriptError.TheVariants as script
+use Rattle.sftp_script.specs.Refusals.{Refuses, RefusesIn, RefusesScript, at_line}
 
-read_on : (n : ℕ) (d more : Draft) (line : List ℕ) (lines : List (List ℕ)) → read_line d line ≡ Ok more → read_lines n d (line ∷ lines) ≡ read_lines (n + 1) more lines
-read_on n d more line lines read = rw read refl
+-- what a line makes of what was read before it
+abbrev LineBy : Type 0 → Type 0
+LineBy S = S → List ℕ → List (List ℕ) → Result S Reason
 
-stop : (n : ℕ) (d : Draft) (why : Reason) (line : List ℕ) (lines : List (List ℕ)) → read_line d line ≡ Err why → read_lines n d (line ∷ lines) ≡ Err (n, why)
-stop n d why line lines read = rw read refl
+read_on : {S : Type 0} (by : LineBy S) (n : ℕ) (d more : S) (line : List ℕ) (lines : List (List ℕ)) → read_line by d line ≡ Ok more
+    → read_by by n d (line ∷ lines) ≡ read_by by (n + 1) more lines
+read_on by n d more line lines read = rw read refl
 
-pub line_read : (n : ℕ) (d more : Draft) (text line behind : List ℕ) → lines_of text ≡ line ∷ lines_of behind → read_line d line ≡ Ok more
-    → read_lines n d (lines_of text) ≡ read_lines (n + 1) more (lines_of behind)
-line_read n d more text line behind split read = rw split (read_on n d more line (lines_of behind) read)
+stop : {S : Type 0} (by : LineBy S) (n : ℕ) (d : S) (why : Reason) (line : List ℕ) (lines : List (List ℕ)) → read_line by d line ≡ Err why
+    → read_by by n d (line ∷ lines) ≡ Err (n, why)
+stop by n d why line lines read = rw read refl
 
-pub line_refused : (n : ℕ) (d : Draft) (e : LineError) (text first behind : List ℕ) → lines_of text ≡ first ∷ lines_of behind → Refuses (read_line d first) e
-    → RefusesScript (read_lines n d (lines_of text)) (at_line n e)
-line_refused n d line.OutOfMemory text first behind split refused = tt
-line_refused n d (line.Refused why) text first behind split refused = rw split (stop n d why first (lines_of behind) refused)
+pub line_read : {S : Type 0} (by : LineBy S) (n : ℕ) (d more : S) (text line behind : List ℕ) → lines_of text ≡ line ∷ lines_of behind
+    → read_line by d line ≡ Ok more → read_by by n d (lines_of text) ≡ read_by by (n + 1) more (lines_of behind)
+line_read by n d more text line behind split read = rw split (read_on by n d more line (lines_of behind) read)
 
-pub lines_end : (n : ℕ) (d : Draft) (text : List ℕ) → text ≡ [] → read_lines n d (lines_of text) ≡ Ok d.script
-lines_end n d text e = rw e refl
+pub line_refused : {S : Type 0} (by : LineBy S) (n : ℕ) (d : S) (e : LineError) (text first behind : List ℕ)
+    → lines_of text ≡ first ∷ lines_of behind → Refuses (read_line by d first) e
+    → RefusesScript (read_by by n d (lines_of text)) (at_line n e)
+line_refused by n d line.OutOfMemory text first behind split refused = tt
+line_refused by n d (line.Refused why) text first behind split refused = rw split (stop by n d why first (lines_of behind) refused)
+
+pub lines_end : {S : Type 0} (by : LineBy S) (n : ℕ) (d : S) (text : List ℕ) → text ≡ [] → read_by by n d (lines_of text) ≡ Ok d
+lines_end by n d text e = rw e refl
+
+-- the list of lines that a line is of refuses it
+pub or_refuses : {A : Type 0} (read : Option (Result A Reason)) (other : Result A Reason) (e : LineError) → RefusesIn read e → Refuses (or_read read other) e
+or_refuses None other e refused = absurd refused
+or_refuses (Some read) other e refused = refused
+
+-- ---- scripts
+
+abbrev nothing_read : Draft
+nothing_read = record { script = empty_script; named = [] }
+
+is_short : (m n : ℕ) → n ≤ m → nat_lt m n ≡ false
+is_short m n le = grind (arith, nat_tests)
+
+of_lines : (bytes : List ℕ) → length bytes ≤ MAX_SCRIPT_LEN → script_of bytes ≡ script_in (read_by line_by 1 nothing_read (lines_of bytes))
+of_lines bytes le = rw (is_short MAX_SCRIPT_LEN (length bytes) le) refl
+
+pub script_read : (bytes : List ℕ) (d : Draft) → length bytes ≤ MAX_SCRIPT_LEN → read_by line_by 1 nothing_read (lines_of bytes) ≡ Ok d
+    → script_of bytes ≡ Ok d.script
+script_read bytes d le read = rw (of_lines bytes le, read) refl
+
+refused_at : (bytes : List ℕ) (n : ℕ) (why : Reason) → length bytes ≤ MAX_SCRIPT_LEN → read_by line_by 1 nothing_read (lines_of bytes) ≡ Err (n, why)
+    → script_of bytes ≡ Err (n, why)
+refused_at bytes n why le read = rw (of_lines bytes le, read) refl
+
+pub script_refused : (bytes : List ℕ) (e : ScriptError) → length bytes ≤ MAX_SCRIPT_LEN
+    → RefusesScript (read_by line_by 1 nothing_read (lines_of bytes)) e → RefusesScript (script_of bytes) e
+script_refused bytes script.OutOfMemory le refused = tt
+script_refused bytes (script.Line n why) le refused = refused_at bytes n why le refused

@@ -1,2 +1,9 @@
 pub mod Refusals
 pub mod Parts
+pub mod ServerWords
+pub mod Lines
+pub mod Setup
+pub mod CanRun
+pub mod Scripts
+pub mod ScriptRows
+pub mod CallLineRows

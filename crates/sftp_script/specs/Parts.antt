@@ -2,10 +2,10 @@
 use Rattle.std.specs.Prelude.{ℕ, List, [], ◌∷◌, ◌++◌, Result, Ok}
 use Rattle.ssh_encoding.specs.Reading.{◌>>=◌}
 use Rattle.sftp_model.specs.declared.config.Limits.{Limits}
-use Rattle.sftp_tree.specs.FirstTree.{FirstFile}
-use Rattle.sftp_history.specs.declared.reason.Reason.{Reason}
-use Rattle.sftp_history.specs.Lines.{number_in}
-use Rattle.sftp_history.specs.Scripts.{Draft, greatest_u64}
+use Rattle.machine_model.specs.FirstTree.{FirstFile}
+use Rattle.sftp_script.specs.declared.reason.Reason.{Reason}
+use Rattle.sftp_script.specs.Lines.{number_in, greatest_u64}
+use Rattle.sftp_script.specs.Setup.{Draft}
 
 -- the first files, each a path and its bytes, and the paths of the first directories
 pub record First : Type 0 where

@@ -1,8 +1,9 @@
 -- What an error says of the reading that it stands for.
 use Rattle.std.specs.Prelude.{ℕ, ◌≡◌, ⊤, Option, None, Some, Result, Err}
-use Rattle.sftp_history.specs.declared.call.Call.{Call}
-use Rattle.sftp_history.specs.declared.reason.Reason.{Reason}
-use Rattle.sftp_history.specs.declared.script.Script.{Script}
+use Rattle.hex.specs.declared.error.FromHexError.{FromHexError}
+use Rattle.hex.specs.declared.error.FromHexError.TheVariants as hex
+use Rattle.sftp_script.specs.declared.reason.Reason.{Reason}
+use Rattle.sftp_script.specs.declared.reason.Reason.TheVariants as reason
 use Rattle.sftp_script.specs.declared.error.LineError.{LineError}
 use Rattle.sftp_script.specs.declared.error.LineError.TheVariants as line
 use Rattle.sftp_script.specs.declared.error.ScriptError.{ScriptError}
@@ -13,13 +14,13 @@ abbrev pub Refuses : {A : Type 0} → Result A Reason → LineError → Type 0
 Refuses reading line.OutOfMemory = ⊤
 Refuses reading (line.Refused why) = reading ≡ Err why
 
--- the same of a call, where the line is one
-abbrev pub RefusesCall : Option (Result Call Reason) → LineError → Type 0
-RefusesCall None e = ⊥
-RefusesCall (Some reading) e = Refuses reading e
+-- the same where the line is one of a list of lines
+abbrev pub RefusesIn : {A : Type 0} → Option (Result A Reason) → LineError → Type 0
+RefusesIn None e = ⊥
+RefusesIn (Some reading) e = Refuses reading e
 
--- the same of a whole script, where a line's number stands beside the reason
-abbrev pub RefusesScript : Result Script (ℕ × Reason) → ScriptError → Type 0
+-- the same of all lines, where a line's number stands beside the reason
+abbrev pub RefusesScript : {A : Type 0} → Result A (ℕ × Reason) → ScriptError → Type 0
 RefusesScript reading script.OutOfMemory = ⊤
 RefusesScript reading (script.Line n why) = reading ≡ Err (n, why)
 
@@ -27,3 +28,8 @@ RefusesScript reading (script.Line n why) = reading ≡ Err (n, why)
 abbrev pub at_line : ℕ → LineError → ScriptError
 at_line n line.OutOfMemory = script.OutOfMemory
 at_line n (line.Refused why) = script.Line n why
+
+-- the error of hexadecimal digits
+abbrev pub hex_error : FromHexError → LineError
+hex_error hex.OutOfMemory = line.OutOfMemory
+hex_error misspelled = line.Refused reason.Hex

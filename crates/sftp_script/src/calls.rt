@@ -1,19 +1,19 @@
-// The lines of calls.
+//! The lines of calls.
 ghost use Rattle.std.specs.Prelude.{◌≡◌, Ok, IfOk, OnOk, IfErr, is_some};
 ghost use Rattle.std.specs.Option.{option_map};
-ghost use Rattle.sftp_history.specs.Lines.{words_of};
-ghost use Rattle.sftp_history.specs.Scripts.{buffer_call, call_in, call_line, path_call, slot_call};
-ghost use Rattle.sftp_script.specs.Refusals.{Refuses, RefusesCall};
+ghost use Rattle.sftp_script.specs.Lines.{words_of};
+ghost use Rattle.sftp_script.specs.Scripts.{call_in, call_line, number_call, path_call, paths_call, place_call, slot_call, slots_call, write_call};
+ghost use Rattle.sftp_script.specs.Refusals.{Refuses, RefusesIn};
 
 use crate::draft::Draft;
 use crate::error::LineError;
-use crate::parts::slot_and_parts;
-use crate::shapes::{
-    one_slot, one_text, slot_and_bytes, slot_and_len, slot_and_long, slot_and_mode,
-    slot_and_number, slot_and_position, slot_flags_and_path, text_and_bound, text_size_and_mode,
-    two_slots, two_slots_and_number, two_texts,
+use crate::fields::{
+    Bound, Bytes, Flags, Len, Long, Mode, Number, Slot, SomeMode, SomeSize, one, pair,
+    slot_and_position, triple,
 };
-use sftp_history::{Call, Reason};
+use crate::parts::slot_and_parts;
+use crate::reason::Reason;
+use session_model::Call;
 use std::alloc::Global;
 
 const OPEN: &[u8] = b"open";
@@ -88,158 +88,209 @@ const CANONICALIZE: &[u8] = b"canonicalize";
 
 const CWD: &[u8] = b"cwd";
 
-/// A call on a slot, by the first word and the words behind it.
+/// A call that names a slot alone, by the first word and what stands after it.
 #[tactic(auto, using(crate::proofs::InLanes::fields_refuse))]
 fn slot_call(alloc: Global, word: &[u8], line: &[u8]) -> Result<Option<Call>, LineError>
     ensures ok { IfOk result (λ call. slot_call word.now (words_of line.now) ≡ option_map (λ c. Ok c) call) }
-    ensures refused { IfErr result (λ e. RefusesCall (slot_call word.now (words_of line.now)) e) }
+    ensures refused { IfErr result (λ e. RefusesIn (slot_call word.now (words_of line.now)) e) }
 {
-    if word == OPEN {
-        let (slot, flags, path) = slot_flags_and_path(alloc, line)?;
-        Ok(Some(Call::OpenFile { slot, flags, path }))
-    } else if word == READ {
-        let (slot, n) = slot_and_number(line)?;
+    if word == META {
+        let slot = one::<Slot>(alloc, line)?;
+        Ok(Some(Call::Meta { slot }))
+    } else if word == SYNC {
+        let slot = one::<Slot>(alloc, line)?;
+        Ok(Some(Call::Sync { slot }))
+    } else if word == CLOSE {
+        let slot = one::<Slot>(alloc, line)?;
+        Ok(Some(Call::Close { slot }))
+    } else if word == UNBUFFER {
+        let slot = one::<Slot>(alloc, line)?;
+        Ok(Some(Call::Unbuffer { slot }))
+    } else if word == BUF_FLUSH {
+        let slot = one::<Slot>(alloc, line)?;
+        Ok(Some(Call::BufFlush { slot }))
+    } else {
+        Ok(None)
+    }
+}
+
+/// A call that names a slot and a number.
+#[tactic(auto, using(crate::proofs::InLanes::fields_refuse))]
+fn number_call(alloc: Global, word: &[u8], line: &[u8]) -> Result<Option<Call>, LineError>
+    ensures ok { IfOk result (λ call. number_call word.now (words_of line.now) ≡ option_map (λ c. Ok c) call) }
+    ensures refused { IfErr result (λ e. RefusesIn (number_call word.now (words_of line.now)) e) }
+{
+    if word == READ {
+        let (slot, n) = pair::<Slot, Number>(alloc, line)?;
         Ok(Some(Call::Read { slot, n }))
     } else if word == READ_ALL {
-        let (slot, n) = slot_and_number(line)?;
+        let (slot, n) = pair::<Slot, Number>(alloc, line)?;
         Ok(Some(Call::ReadAll { slot, n }))
-    } else if word == WRITE {
-        let (slot, bytes) = slot_and_bytes(alloc, line)?;
+    } else if word == SET_LEN {
+        let (slot, n) = pair::<Slot, Long>(alloc, line)?;
+        Ok(Some(Call::SetLen { slot, n }))
+    } else if word == SET_PERM {
+        let (slot, perm) = pair::<Slot, Mode>(alloc, line)?;
+        Ok(Some(Call::SetPerm { slot, perm }))
+    } else if word == BUFFER {
+        let (slot, len) = pair::<Slot, Len>(alloc, line)?;
+        Ok(Some(Call::Buffer { slot, len }))
+    } else if word == BUF_READ {
+        let (slot, n) = pair::<Slot, Long>(alloc, line)?;
+        Ok(Some(Call::BufRead { slot, n }))
+    } else {
+        Ok(None)
+    }
+}
+
+/// A call that writes to a slot.
+#[tactic(auto, using(crate::proofs::InLanes::fields_refuse))]
+fn write_call(alloc: Global, word: &[u8], line: &[u8]) -> Result<Option<Call>, LineError>
+    ensures ok { IfOk result (λ call. write_call word.now (words_of line.now) ≡ option_map (λ c. Ok c) call) }
+    ensures refused { IfErr result (λ e. RefusesIn (write_call word.now (words_of line.now)) e) }
+{
+    if word == WRITE {
+        let (slot, bytes) = pair::<Slot, Bytes>(alloc, line)?;
         Ok(Some(Call::Write { slot, bytes }))
     } else if word == WRITE_ALL {
-        let (slot, bytes) = slot_and_bytes(alloc, line)?;
+        let (slot, bytes) = pair::<Slot, Bytes>(alloc, line)?;
         Ok(Some(Call::WriteAll { slot, bytes }))
     } else if word == WRITE_PARTS {
         let (slot, parts) = slot_and_parts(alloc, line)?;
         Ok(Some(Call::WriteParts { slot, parts }))
+    } else if word == BUF_WRITE {
+        let (slot, bytes) = pair::<Slot, Bytes>(alloc, line)?;
+        Ok(Some(Call::BufWrite { slot, bytes }))
+    } else if word == BUF_WRITE_ALL {
+        let (slot, bytes) = pair::<Slot, Bytes>(alloc, line)?;
+        Ok(Some(Call::BufWriteAll { slot, bytes }))
+    } else {
+        Ok(None)
+    }
+}
+
+/// A call that opens a file in a slot, moves in it, or names a second slot.
+#[tactic(auto, using(crate::proofs::InLanes::fields_refuse))]
+fn place_call(alloc: Global, word: &[u8], line: &[u8]) -> Result<Option<Call>, LineError>
+    ensures ok { IfOk result (λ call. place_call word.now (words_of line.now) ≡ option_map (λ c. Ok c) call) }
+    ensures refused { IfErr result (λ e. RefusesIn (place_call word.now (words_of line.now)) e) }
+{
+    if word == OPEN {
+        let (slot, flags, path) = triple::<Slot, Flags, Bytes>(alloc, line)?;
+        Ok(Some(Call::OpenFile { slot, flags, path }))
     } else if word == SEEK {
         let (slot, position) = slot_and_position(line)?;
         Ok(Some(Call::Seek { slot, position }))
-    } else if word == SET_LEN {
-        let (slot, n) = slot_and_long(line)?;
-        Ok(Some(Call::SetLen { slot, n }))
-    } else if word == SET_PERM {
-        let (slot, perm) = slot_and_mode(line)?;
-        Ok(Some(Call::SetPerm { slot, perm }))
-    } else if word == META {
-        let slot = one_slot(line)?;
-        Ok(Some(Call::Meta { slot }))
-    } else if word == SYNC {
-        let slot = one_slot(line)?;
-        Ok(Some(Call::Sync { slot }))
-    } else if word == COPY {
-        let (from, to, n) = two_slots_and_number(line)?;
-        Ok(Some(Call::Copy { from, to, n }))
-    } else if word == CLONE {
-        let (from, to) = two_slots(line)?;
-        Ok(Some(Call::CloneFile { from, to }))
-    } else if word == CLOSE {
-        let slot = one_slot(line)?;
-        Ok(Some(Call::Close { slot }))
-    } else {
-        Ok(None)
-    }
-}
-
-/// A call on the buffered file in a slot, or one that makes it, by the first word and the words behind it.
-#[tactic(auto, using(crate::proofs::InLanes::fields_refuse))]
-fn buffer_call(alloc: Global, word: &[u8], line: &[u8]) -> Result<Option<Call>, LineError>
-    ensures ok { IfOk result (λ call. buffer_call word.now (words_of line.now) ≡ option_map (λ c. Ok c) call) }
-    ensures refused { IfErr result (λ e. RefusesCall (buffer_call word.now (words_of line.now)) e) }
-{
-    if word == BUFFER {
-        let (slot, len) = slot_and_len(line)?;
-        Ok(Some(Call::Buffer { slot, len }))
-    } else if word == UNBUFFER {
-        let slot = one_slot(line)?;
-        Ok(Some(Call::Unbuffer { slot }))
-    } else if word == BUF_READ {
-        let (slot, n) = slot_and_long(line)?;
-        Ok(Some(Call::BufRead { slot, n }))
-    } else if word == BUF_WRITE {
-        let (slot, bytes) = slot_and_bytes(alloc, line)?;
-        Ok(Some(Call::BufWrite { slot, bytes }))
-    } else if word == BUF_WRITE_ALL {
-        let (slot, bytes) = slot_and_bytes(alloc, line)?;
-        Ok(Some(Call::BufWriteAll { slot, bytes }))
-    } else if word == BUF_FLUSH {
-        let slot = one_slot(line)?;
-        Ok(Some(Call::BufFlush { slot }))
     } else if word == BUF_SEEK {
         let (slot, position) = slot_and_position(line)?;
         Ok(Some(Call::BufSeek { slot, position }))
+    } else if word == COPY {
+        let (from, to, n) = triple::<Slot, Slot, Long>(alloc, line)?;
+        Ok(Some(Call::Copy { from, to, n }))
+    } else if word == CLONE {
+        let (from, to) = pair::<Slot, Slot>(alloc, line)?;
+        Ok(Some(Call::CloneFile { from, to }))
     } else {
         Ok(None)
     }
 }
 
-/// A call on a path or two, by the first word and the words behind it.
+/// A call that names a path alone.
 #[tactic(auto, using(crate::proofs::InLanes::fields_refuse))]
 fn path_call(alloc: Global, word: &[u8], line: &[u8]) -> Result<Option<Call>, LineError>
     ensures ok { IfOk result (λ call. path_call word.now (words_of line.now) ≡ option_map (λ c. Ok c) call) }
-    ensures refused { IfErr result (λ e. RefusesCall (path_call word.now (words_of line.now)) e) }
+    ensures refused { IfErr result (λ e. RefusesIn (path_call word.now (words_of line.now)) e) }
 {
-    if word == FS_READ {
-        let (path, bound) = text_and_bound(alloc, line)?;
-        Ok(Some(Call::FsRead { path, bound }))
-    } else if word == FS_WRITE {
-        let (path, bytes) = two_texts(alloc, line)?;
-        Ok(Some(Call::FsWrite { path, bytes }))
-    } else if word == LIST {
-        let (path, bound) = text_and_bound(alloc, line)?;
-        Ok(Some(Call::List { path, bound }))
-    } else if word == STAT {
-        let path = one_text(alloc, line)?;
+    if word == STAT {
+        let path = one::<Bytes>(alloc, line)?;
         Ok(Some(Call::Stat { path }))
     } else if word == LSTAT {
-        let path = one_text(alloc, line)?;
+        let path = one::<Bytes>(alloc, line)?;
         Ok(Some(Call::Lstat { path }))
-    } else if word == SET_STAT {
-        let (path, size, perm) = text_size_and_mode(alloc, line)?;
-        Ok(Some(Call::SetStat { path, size, perm }))
     } else if word == REMOVE {
-        let path = one_text(alloc, line)?;
+        let path = one::<Bytes>(alloc, line)?;
         Ok(Some(Call::Remove { path }))
     } else if word == MKDIR {
-        let path = one_text(alloc, line)?;
+        let path = one::<Bytes>(alloc, line)?;
         Ok(Some(Call::Mkdir { path }))
     } else if word == RMDIR {
-        let path = one_text(alloc, line)?;
+        let path = one::<Bytes>(alloc, line)?;
         Ok(Some(Call::Rmdir { path }))
-    } else if word == RENAME {
-        let (old, to) = two_texts(alloc, line)?;
-        Ok(Some(Call::Rename { old, to }))
-    } else if word == HARD_LINK {
-        let (old, to) = two_texts(alloc, line)?;
-        Ok(Some(Call::HardLink { old, to }))
-    } else if word == SYMLINK {
-        let (src, dst) = two_texts(alloc, line)?;
-        Ok(Some(Call::Symlink { src, dst }))
     } else if word == READ_LINK {
-        let path = one_text(alloc, line)?;
+        let path = one::<Bytes>(alloc, line)?;
         Ok(Some(Call::ReadLink { path }))
     } else if word == CANONICALIZE {
-        let path = one_text(alloc, line)?;
+        let path = one::<Bytes>(alloc, line)?;
         Ok(Some(Call::Canonicalize { path }))
     } else if word == CWD {
-        let path = one_text(alloc, line)?;
+        let path = one::<Bytes>(alloc, line)?;
         Ok(Some(Call::Cwd { path }))
     } else {
         Ok(None)
     }
 }
 
-/// A call, by the first word and the words behind it.
+/// A call that names a path and something more.
+#[tactic(auto, using(crate::proofs::InLanes::fields_refuse))]
+fn paths_call(alloc: Global, word: &[u8], line: &[u8]) -> Result<Option<Call>, LineError>
+    ensures ok { IfOk result (λ call. paths_call word.now (words_of line.now) ≡ option_map (λ c. Ok c) call) }
+    ensures refused { IfErr result (λ e. RefusesIn (paths_call word.now (words_of line.now)) e) }
+{
+    if word == FS_READ {
+        let (path, bound) = pair::<Bytes, Bound>(alloc, line)?;
+        Ok(Some(Call::FsRead { path, bound }))
+    } else if word == FS_WRITE {
+        let (path, bytes) = pair::<Bytes, Bytes>(alloc, line)?;
+        Ok(Some(Call::FsWrite { path, bytes }))
+    } else if word == LIST {
+        let (path, bound) = pair::<Bytes, Bound>(alloc, line)?;
+        Ok(Some(Call::List { path, bound }))
+    } else if word == SET_STAT {
+        let (path, size, perm) = triple::<Bytes, SomeSize, SomeMode>(alloc, line)?;
+        Ok(Some(Call::SetStat { path, size, perm }))
+    } else if word == RENAME {
+        let (old, to) = pair::<Bytes, Bytes>(alloc, line)?;
+        Ok(Some(Call::Rename { old, to }))
+    } else if word == HARD_LINK {
+        let (old, to) = pair::<Bytes, Bytes>(alloc, line)?;
+        Ok(Some(Call::HardLink { old, to }))
+    } else if word == SYMLINK {
+        let (src, dst) = pair::<Bytes, Bytes>(alloc, line)?;
+        Ok(Some(Call::Symlink { src, dst }))
+    } else {
+        Ok(None)
+    }
+}
+
+/// A call on slots.
 #[tactic(auto, using(crate::proofs::InLanes::first_refuses))]
-fn call_in(alloc: Global, word: &[u8], line: &[u8]) -> Result<Option<Call>, LineError>
-    ensures ok { IfOk result (λ call. call_in word.now (words_of line.now) ≡ option_map (λ c. Ok c) call) }
-    ensures refused { IfErr result (λ e. RefusesCall (call_in word.now (words_of line.now)) e) }
+fn slots_call(alloc: Global, word: &[u8], line: &[u8]) -> Result<Option<Call>, LineError>
+    ensures ok { IfOk result (λ call. slots_call word.now (words_of line.now) ≡ option_map (λ c. Ok c) call) }
+    ensures refused { IfErr result (λ e. RefusesIn (slots_call word.now (words_of line.now)) e) }
 {
     match slot_call(alloc, word, line)? {
         Some(call) => Ok(Some(call)),
-        None => match buffer_call(alloc, word, line)? {
+        None => match number_call(alloc, word, line)? {
             Some(call) => Ok(Some(call)),
-            None => path_call(alloc, word, line),
+            None => match write_call(alloc, word, line)? {
+                Some(call) => Ok(Some(call)),
+                None => place_call(alloc, word, line),
+            },
+        },
+    }
+}
+
+/// A call, by the first word and what stands after it.
+#[tactic(auto, using(crate::proofs::InLanes::first_refuses))]
+fn call_in(alloc: Global, word: &[u8], line: &[u8]) -> Result<Option<Call>, LineError>
+    ensures ok { IfOk result (λ call. call_in word.now (words_of line.now) ≡ option_map (λ c. Ok c) call) }
+    ensures refused { IfErr result (λ e. RefusesIn (call_in word.now (words_of line.now)) e) }
+{
+    match slots_call(alloc, word, line)? {
+        Some(call) => Ok(Some(call)),
+        None => match path_call(alloc, word, line)? {
+            Some(call) => Ok(Some(call)),
+            None => paths_call(alloc, word, line),
         },
     }
 }

@@ -1,19 +1,24 @@
-// A script of which some lines are read.
-ghost use Rattle.std.specs.Prelude.{◌≡◌, ◌++◌, ◌∷◌, ◌≤◌, ◌==◌, [], not, Some, Ok, is_some, ◌≢◌, Err, OnOk, IfErr, MatchResult, MatchBool, true};
+//! A script of which some lines are read.
+ghost use Rattle.std.specs.Prelude.{◌≡◌, ◌++◌, ◌∷◌, ◌≤◌, ◌==◌, [], not, None, Some, Ok, is_some, ◌≢◌, Err, OnOk, IfOk, IfErr, MatchResult, MatchBool, true};
 ghost use Rattle.std.specs.List.{list_any};
 ghost use Rattle.std.specs.Int.RustNames.{bit_or};
 ghost use Rattle.sftp_model.specs.Readings.{has_bit};
-ghost use Rattle.sftp_history.specs.Scripts.{empty_script, with_options, unless_said, may_add, meets_file, meets_dir, with_lane, with_turn, call_at_end, with_call, with_extension, with_limits};
-ghost use Rattle.sftp_tree.specs.Components.{components};
+ghost use Rattle.sftp_script.specs.Lines.{words_of};
+ghost use Rattle.sftp_script.specs.Setup.{with_options, unless_said, may_add, meets_file, meets_dir, setup_line, with_extension, with_limits};
+ghost use Rattle.sftp_script.specs.Scripts.{empty_script, with_lane, with_turn, call_at_end, with_call};
+ghost use Rattle.machine_model.specs.Components.{components};
 ghost use Rattle.sftp_script.specs.Parts.{with_cut, with_dir, with_file};
-ghost use Rattle.sftp_script.specs.Refusals.{Refuses};
+ghost use Rattle.sftp_script.specs.CanRun.{CanBegin};
+ghost use Rattle.sftp_script.specs.Refusals.{Refuses, RefusesIn};
 
 use crate::error::LineError;
 use crate::first::FirstTree;
+use crate::reason::Reason;
+use crate::script::Script;
+use crate::setup::setup_line;
 use bitflags::Flags;
-use sftp_core::SftpOptions;
-use sftp_history::{Call, Lane, Reason, Script, Turn};
-use sftp_model::{Choice, Extensions, Limits, ServerConfig};
+use session_model::{Call, Lane, Turn};
+use sftp_model::{Choice, Extensions, Limits, ServerConfig, SftpOptions};
 use sftp_values::{ByteText, Items};
 use ssh_encoding::OutOfMemory;
 use std::alloc::Global;
@@ -33,7 +38,7 @@ pub struct Draft {
 }
 
 impl Model for Draft {
-    ghost use Rattle.sftp_history.specs.Scripts.{Draft};
+    ghost use Rattle.sftp_script.specs.Setup.{Draft};
 
     ghost Value = { Draft };
 
@@ -54,7 +59,7 @@ impl Model for Draft {
 
 impl Draft {
     /// Nothing read.
-    pub(crate) fn new(alloc: Global) -> Draft
+    pub fn new(alloc: Global) -> Draft
         ensures { result ≡ record { script = empty_script; named = [] } }
     {
         Draft {
@@ -74,7 +79,7 @@ impl Draft {
     }
 
     /// The script that was read.
-    pub(crate) fn into_script(self) -> Script
+    pub fn into_script(self) -> Script
         ensures { result ≡ self.script }
     {
         let (files, dirs) = self.first.into_parts();
@@ -88,6 +93,19 @@ impl Draft {
             lanes: Items::new(self.lanes),
             turns: Items::new(self.turns),
         }
+    }
+
+    /// Reads a line `option`, `server`, `file`, `dir`, `choice` or `pick`, by its first word and what stands after that. Of a
+    /// line with another first word it is `false`, and nothing changes. Refused with the reason, or for want of memory.
+    #[tactic(auto, using(crate::proofs::SetupLaws::setup_kept))]
+    pub fn read_setup(&mut self, alloc: Global, word: &[u8], line: &[u8]) -> Result<bool, LineError>
+        ensures ok { IfOk result (λ is. MatchBool is
+            (setup_line self.old word.now (words_of line.now) ≡ Some (Ok self.new))
+            ((setup_line self.old word.now (words_of line.now) ≡ None) × (self.new ≡ self.old))) }
+        ensures refused { IfErr result (λ e. RefusesIn (setup_line self.old word.now (words_of line.now)) e) }
+        ensures keeps { OnOk result (CanBegin self.old.script → CanBegin self.new.script) }
+    {
+        setup_line(alloc, self, word, line)
     }
 
     /// The options so far.

@@ -1,7 +1,10 @@
+//! Why a script, or a line of one, is not read.
 ghost use Rattle.std.specs.Prelude.{◌≡◌};
 ghost use Rattle.sftp_script.specs.declared.error.LineError.TheVariants as line;
+ghost use Rattle.sftp_script.specs.Refusals.{hex_error};
 
-use sftp_history::Reason;
+use crate::reason::Reason;
+use hex::FromHexError;
 use ssh_encoding::OutOfMemory;
 use std::alloc::{AllocError, AllocFailed};
 use thiserror::Error;
@@ -29,6 +32,19 @@ impl From<Reason> for LineError {
 
     fn from(reason: Reason) -> LineError {
         LineError::Refused(reason)
+    }
+}
+
+impl From<FromHexError> for LineError {
+    ghost from_gives = { λ why e. e ≡ hex_error why };
+
+    fn from(why: FromHexError) -> LineError {
+        match why {
+            FromHexError::OutOfMemory => LineError::OutOfMemory,
+            FromHexError::InvalidHexCharacter { .. }
+            | FromHexError::OddLength
+            | FromHexError::InvalidStringLength => LineError::Refused(Reason::Hex),
+        }
     }
 }
 

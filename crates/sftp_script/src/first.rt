@@ -1,12 +1,12 @@
-// The first files and directories of a script of which some lines are read.
+//! The first files and directories of a script of which some lines are read.
 ghost use Rattle.std.specs.Prelude.{◌≡◌, ◌++◌, ◌∷◌, ◌||◌, [], true, not, map, OnErr, OnOk};
 ghost use Rattle.std.specs.List.{list_all, list_any};
-ghost use Rattle.sftp_tree.specs.Components.{components, is_within, same_name};
-ghost use Rattle.sftp_tree.specs.FirstTree.{are_apart, name_of};
-ghost use Rattle.sftp_history.specs.Scripts.{may_add};
+ghost use Rattle.machine_model.specs.Components.{components, is_within, same_name};
+ghost use Rattle.machine_model.specs.FirstTree.{are_apart, name_of};
+ghost use Rattle.sftp_script.specs.Setup.{may_add};
 
 use crate::names::{has_name, has_within, is_apart_from_all, is_within_any};
-use sftp_tree::limits::{MAX_FILE_LEN, MAX_TOTAL_LEN};
+use machine_model::limits::{MAX_FILE_LEN, MAX_TOTAL_LEN};
 use sftp_values::{ByteText, Items};
 use ssh_encoding::OutOfMemory;
 use std::alloc::Global;
@@ -27,9 +27,9 @@ pub struct FirstTree {
 impl Model for FirstTree {
     ghost use Rattle.std.specs.Prelude.{◌≡◌, ◌≤◌, length, map};
     ghost use Rattle.std.specs.List.{sum_by};
-    ghost use Rattle.sftp_tree.specs.Components.{components};
-    ghost use Rattle.sftp_tree.specs.FirstTree.{name_of};
-    ghost use Rattle.sftp_tree.specs.Limits.{MAX_TOTAL_LEN};
+    ghost use Rattle.machine_model.specs.Components.{components};
+    ghost use Rattle.machine_model.specs.FirstTree.{name_of};
+    ghost use Rattle.machine_model.specs.Limits.{MAX_TOTAL_LEN};
     ghost use Rattle.sftp_script.specs.Parts.{First};
 
     ghost Value = { First };

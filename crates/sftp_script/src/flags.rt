@@ -1,11 +1,11 @@
-// The letters of the options that a file is opened with.
+//! The letters of the options that a file is opened with.
 ghost use Rattle.std.specs.Prelude.{◌≡◌, Some};
-ghost use Rattle.sftp_file.specs.OpenOptions.{nothing_chosen};
-ghost use Rattle.sftp_history.specs.Lines.{with_letter, with_letters, flags_in};
+ghost use Rattle.sftp_model.specs.OpenOptions.{nothing_chosen};
+ghost use Rattle.sftp_script.specs.Lines.{with_letter, with_letters, flags_in};
 
-use crate::hex::NOTHING;
-use sftp_file::OpenOptions;
-use sftp_history::Reason;
+use crate::hex_word::NOTHING;
+use crate::reason::Reason;
+use sftp_model::OpenOptions;
 use std::marker::Model;
 
 /// The letters that were there so far. A contract sees the options that they choose.
@@ -20,7 +20,7 @@ struct Letters {
 }
 
 impl Model for Letters {
-    ghost use Rattle.sftp_file.specs.declared.open_options.OpenOptions.{OpenOptions};
+    ghost use Rattle.sftp_model.specs.declared.open_options.OpenOptions.{OpenOptions};
 
     ghost Value = { OpenOptions };
 

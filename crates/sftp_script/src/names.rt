@@ -1,11 +1,11 @@
-// Names of files and directories, by their components.
+//! Names of files and directories, by their components.
 ghost use Rattle.std.specs.Prelude.{◌≡◌, length, nat_le};
 ghost use Rattle.std.specs.List.{list_all, list_any};
-ghost use Rattle.sftp_tree.specs.Components.{is_within as is_within_by, same_name};
-ghost use Rattle.sftp_tree.specs.FirstTree.{are_apart as are_apart_by, may_be_named as may_be_named_by};
-ghost use Rattle.sftp_tree.specs.Limits.{MAX_COMPONENT_LEN};
+ghost use Rattle.machine_model.specs.Components.{is_within as is_within_by, same_name};
+ghost use Rattle.machine_model.specs.FirstTree.{are_apart as are_apart_by, may_be_named as may_be_named_by};
+ghost use Rattle.machine_model.specs.Limits.{MAX_COMPONENT_LEN};
 
-use sftp_tree::limits::MAX_COMPONENT_LEN;
+use machine_model::limits::MAX_COMPONENT_LEN;
 use sftp_values::{ByteText, Items};
 
 /// Whether no component is too long.

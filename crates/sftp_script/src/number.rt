@@ -1,11 +1,11 @@
-// Numbers in decimal digits.
+//! Numbers in decimal digits.
 ghost use Rattle.std.specs.Prelude.{◌≡◌, ◌≤◌, ◌^◌, min, IfOk};
 ghost use Rattle.std.specs.Option.{option_map};
-ghost use Rattle.sftp_history.specs.Lines.{minus, number_of, number_in, signed_in};
-ghost use Rattle.sftp_history.specs.Scripts.{buffer_len, greatest_u32, mode_in, number_u64, slot_in, some_in};
+ghost use Rattle.sftp_script.specs.Lines.{minus, number_of, number_in, signed_in, greatest_u32};
+ghost use Rattle.sftp_script.specs.Scripts.{buffer_len, mode_in, number_u64, slot_in, some_in};
 
-use crate::hex::NOTHING;
-use sftp_history::Reason;
+use crate::hex_word::NOTHING;
+use crate::reason::Reason;
 
 /// A number over each range of 64 bits, which stands for all that are as great or greater.
 const TOO_GREAT: u128 = 18446744073709551616;

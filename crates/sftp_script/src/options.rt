@@ -1,14 +1,14 @@
-// The lines that set options of the client.
+//! The lines that set options of the client.
 ghost use Rattle.std.specs.Prelude.{◌≡◌, Some, Ok, OnOk, IfErr};
-ghost use Rattle.sftp_history.specs.Lines.{words_of};
-ghost use Rattle.sftp_history.specs.Scripts.{option_in, option_line, two_words, greatest_u32};
+ghost use Rattle.sftp_script.specs.Lines.{words_of, two_words, greatest_u32};
+ghost use Rattle.sftp_script.specs.Setup.{option_in, option_line};
 ghost use Rattle.sftp_script.specs.Refusals.{Refuses};
 
 use crate::draft::Draft;
 use crate::error::LineError;
 use crate::number::{number_from, number_in};
+use crate::reason::Reason;
 use crate::words::two_words;
-use sftp_history::Reason;
 
 const MAX_PENDING_REQUESTS: &[u8] = b"max_pending_requests";
 

@@ -1,11 +1,11 @@
-// The parts of a write: one word or more, each of which spells bytes.
+//! The parts of a write: one word or more, each of which spells bytes.
 ghost use Rattle.std.specs.Prelude.{◌≡◌, Ok, IfOk, IfErr};
-ghost use Rattle.sftp_history.specs.Lines.{bytes_in, words_of};
-ghost use Rattle.sftp_history.specs.Scripts.{each_in, parts_in};
+ghost use Rattle.sftp_script.specs.Lines.{bytes_in, words_of};
+ghost use Rattle.sftp_script.specs.Scripts.{each_in, parts_in};
 ghost use Rattle.sftp_script.specs.Refusals.{Refuses};
 
 use crate::error::LineError;
-use crate::hex::bytes_in;
+use crate::hex_word::bytes_in;
 use crate::number::slot_in;
 use crate::words::{split_word, word_and_more};
 use sftp_values::{ByteText, Items};

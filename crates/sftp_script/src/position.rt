@@ -1,9 +1,9 @@
-// Where a seek leads.
+//! Where a seek leads.
 ghost use Rattle.std.specs.Prelude.{◌≡◌};
-ghost use Rattle.sftp_history.specs.Scripts.{position_in};
+ghost use Rattle.sftp_script.specs.Scripts.{position_in};
 
 use crate::number::{number_in, signed_in};
-use sftp_history::Reason;
+use crate::reason::Reason;
 use std::io::SeekFrom;
 
 const START: &[u8] = b"start";

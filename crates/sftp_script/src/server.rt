@@ -1,14 +1,14 @@
-// The lines on what the server offers.
+//! The lines on what the server offers.
 ghost use Rattle.std.specs.Prelude.{◌≡◌, ◌∷◌, Ok, Err, MatchResult};
-ghost use Rattle.sftp_history.specs.Lines.{words_of};
-ghost use Rattle.sftp_history.specs.Scripts.{extension_in, ext_line, limits_line, cut_line, server_line, one_word, four_words};
+ghost use Rattle.sftp_script.specs.Lines.{words_of, one_word, four_words};
+ghost use Rattle.sftp_script.specs.Setup.{extension_in, ext_line, limits_line, cut_line, server_line};
 ghost use Rattle.sftp_script.specs.Parts.{limits_of};
 
 use crate::draft::Draft;
 use crate::number::{number_from, number_in};
+use crate::reason::Reason;
 use crate::words::{four_words, one_word, split_word};
 use bitflags::Flags;
-use sftp_history::Reason;
 use sftp_model::{Extensions, Limits};
 
 const POSIX_RENAME: &[u8] = b"posix-rename";
@@ -73,7 +73,7 @@ fn limits_in(packet: &[u8], read: &[u8], write: &[u8], handles: &[u8]) -> Result
 }
 
 /// The server tells its limits.
-#[tactic(auto, using(crate::proofs::Counts::not_four, crate::proofs::Fields::limits_read, crate::proofs::Fields::limits_refused))]
+#[tactic(auto, using(crate::proofs::Counts::not_four, crate::proofs::LimitsLaws::limits_read, crate::proofs::LimitsLaws::limits_refused))]
 fn limits_line(draft: &mut Draft, line: &[u8]) -> Result<(), Reason>
     ensures { MatchResult result
         (λ _. four_words (limits_line draft.old) (words_of line.now) ≡ Ok draft.new)
@@ -114,7 +114,7 @@ fn cut_line(draft: &mut Draft, line: &[u8]) -> Result<(), Reason>
     set_cut(draft, word)
 }
 
-/// The words behind the kind of a line on the server.
+/// The words after the kind of a line on the server.
 fn server_line_by(draft: &mut Draft, kind: &[u8], line: &[u8]) -> Result<(), Reason>
     ensures { MatchResult result
         (λ _. server_line draft.old (kind.now ∷ words_of line.now) ≡ Ok draft.new)

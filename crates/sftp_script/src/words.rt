@@ -1,10 +1,10 @@
-// The words of a line, one after another, and the lines of a script.
+//! The words of a line, one after another, and the lines of a script.
 ghost use Rattle.std.specs.Prelude.{◌≡◌, ◌≢◌, ◌==◌, ◌<◌, ◌≤◌, ◌∷◌, [], ℕ, List, false, length, OnOk, IfOk, IfErr, MatchOption};
 ghost use Rattle.std.specs.List.{position, position_or_len};
-ghost use Rattle.sftp_history.specs.Lines.{lines_of, words_of};
-ghost use Rattle.sftp_history.specs.declared.reason.Reason.TheVariants as reason;
+ghost use Rattle.sftp_script.specs.Lines.{lines_of, words_of};
+ghost use Rattle.sftp_script.specs.declared.reason.Reason.TheVariants as reason;
 
-use sftp_history::Reason;
+use crate::reason::Reason;
 
 /// Where the byte stands first.
 fn position_of(byte: u8, text: &[u8]) -> Option<usize>
@@ -25,7 +25,7 @@ fn length_before(byte: u8, text: &[u8]) -> usize
     }
 }
 
-/// The first line, and the lines behind it.
+/// The first line, and the lines after it.
 #[tactic(auto, using(crate::proofs::Splits::first_line, crate::proofs::Splits::only_line))]
 pub(crate) fn split_line(text: &[u8]) -> (&[u8], &[u8])
     requires { text.now ≢ [] }
@@ -40,7 +40,7 @@ pub(crate) fn split_line(text: &[u8]) -> (&[u8], &[u8])
     }
 }
 
-/// What stands behind the spaces.
+/// What stands after the spaces.
 fn skip_spaces(mut line: &[u8]) -> &[u8]
     ensures same_words { words_of result.now ≡ words_of line.now }
     ensures begins { (b : ℕ) (bytes : List ℕ) → result.now ≡ b ∷ bytes → (b == 32) ≡ false }
@@ -51,7 +51,7 @@ fn skip_spaces(mut line: &[u8]) -> &[u8]
     line
 }
 
-/// The first word, and what stands behind it.
+/// The first word, and what stands after it.
 #[tactic(auto, using(crate::proofs::Splits::first_word))]
 pub(crate) fn split_word(line: &[u8]) -> Option<(&[u8], &[u8])>
     ensures { MatchOption result (words_of line.now ≡ []) (λ p. words_of line.now ≡ p.0.now ∷ words_of p.1.now) }
@@ -64,7 +64,7 @@ pub(crate) fn split_word(line: &[u8]) -> Option<(&[u8], &[u8])>
     Some((&line[..end], &line[end..]))
 }
 
-/// A word that must be there, and what stands behind it.
+/// A word that must be there, and what stands after it.
 fn next_word(line: &[u8]) -> Result<(&[u8], &[u8]), Reason>
     ensures ok { IfOk result (λ p. words_of line.now ≡ p.0.now ∷ words_of p.1.now) }
     ensures refused { IfErr result (λ e. (e ≡ reason.Count) × (words_of line.now ≡ [])) }
@@ -75,7 +75,7 @@ fn next_word(line: &[u8]) -> Result<(&[u8], &[u8]), Reason>
     }
 }
 
-/// The first word, and what stands behind it where there is one word more at least.
+/// The first word, and what stands after it where there is one word more at least.
 pub(crate) fn word_and_more(line: &[u8]) -> Result<(&[u8], &[u8]), Reason>
     ensures ok { IfOk result (λ p. (words_of line.now ≡ p.0.now ∷ words_of p.1.now) × (words_of p.1.now ≢ [])) }
     ensures refused { IfErr result (λ e. (e ≡ reason.Count) × (length (words_of line.now) < 2)) }
@@ -87,8 +87,8 @@ pub(crate) fn word_and_more(line: &[u8]) -> Result<(&[u8], &[u8]), Reason>
     }
 }
 
-/// No word may be there.
-pub(crate) fn no_word(line: &[u8]) -> Result<(), Reason>
+/// No word may be there. Refused with `Count` where there is one.
+pub fn no_word(line: &[u8]) -> Result<(), Reason>
     ensures ok { OnOk result (words_of line.now ≡ []) }
     ensures refused { IfErr result (λ e. (e ≡ reason.Count) × (length (words_of line.now) ≢ 0)) }
 {
@@ -98,8 +98,8 @@ pub(crate) fn no_word(line: &[u8]) -> Result<(), Reason>
     }
 }
 
-/// The one word of a line.
-pub(crate) fn one_word(line: &[u8]) -> Result<&[u8], Reason>
+/// The one word of a line. Refused with `Count` where there are more or less.
+pub fn one_word(line: &[u8]) -> Result<&[u8], Reason>
     ensures ok { IfOk result (λ a. words_of line.now ≡ a.now ∷ []) }
     ensures refused { IfErr result (λ e. (e ≡ reason.Count) × (length (words_of line.now) ≢ 1)) }
 {
@@ -108,8 +108,8 @@ pub(crate) fn one_word(line: &[u8]) -> Result<&[u8], Reason>
     Ok(a)
 }
 
-/// The two words of a line.
-pub(crate) fn two_words(line: &[u8]) -> Result<(&[u8], &[u8]), Reason>
+/// The two words of a line. Refused with `Count` where there are more or less.
+pub fn two_words(line: &[u8]) -> Result<(&[u8], &[u8]), Reason>
     ensures ok { IfOk result (λ p. words_of line.now ≡ p.0.now ∷ p.1.now ∷ []) }
     ensures refused { IfErr result (λ e. (e ≡ reason.Count) × (length (words_of line.now) ≢ 2)) }
 {
@@ -118,8 +118,8 @@ pub(crate) fn two_words(line: &[u8]) -> Result<(&[u8], &[u8]), Reason>
     Ok((a, b))
 }
 
-/// The three words of a line.
-pub(crate) fn three_words(line: &[u8]) -> Result<(&[u8], &[u8], &[u8]), Reason>
+/// The three words of a line. Refused with `Count` where there are more or less.
+pub fn three_words(line: &[u8]) -> Result<(&[u8], &[u8], &[u8]), Reason>
     ensures ok { IfOk result (λ p. words_of line.now ≡ p.0.now ∷ p.1.now ∷ p.2.now ∷ []) }
     ensures refused { IfErr result (λ e. (e ≡ reason.Count) × (length (words_of line.now) ≢ 3)) }
 {
@@ -128,7 +128,7 @@ pub(crate) fn three_words(line: &[u8]) -> Result<(&[u8], &[u8], &[u8]), Reason>
     Ok((a, b, c))
 }
 
-/// The four words of a line.
+/// The four words of a line. Refused with `Count` where there are more or less.
 pub(crate) fn four_words(line: &[u8]) -> Result<(&[u8], &[u8], &[u8], &[u8]), Reason>
     ensures ok { IfOk result (λ p. words_of line.now ≡ p.0.now ∷ p.1.now ∷ p.2.now ∷ p.3.now ∷ []) }
     ensures refused { IfErr result (λ e. (e ≡ reason.Count) × (length (words_of line.now) ≢ 4)) }

@@ -4,12 +4,12 @@ use Rattle.std.specs.Prelude.{map, reverse}
 use Rattle.std.proofs.lemmas.List.{map-append, reverse-append}
 use Rattle.sftp_model.specs.declared.outcome.Outcome.{Outcome}
 use Rattle.sftp_model.specs.declared.request.Request.{Request}
-use Rattle.sftp_history.specs.declared.event.Event.{Event}
-use Rattle.sftp_history.specs.declared.event.Event.TheVariants.{Submit, Send, Take, Cancel, End}
-use Rattle.sftp_history.specs.declared.entry.Entry.{Entry}
-use Rattle.sftp_history.specs.declared.entry.Entry.TheVariants as entry
-use Rattle.sftp_history.specs.Readings.{events_of, trace_of, unsent}
-use Rattle.sftp_history.specs.Texts.{reply_line, frame_lines, lane_lines, text_of}
+use Rattle.session_model.specs.declared.event.Event.{Event}
+use Rattle.session_model.specs.declared.event.Event.TheVariants.{Submit, Send, Take, Cancel, End}
+use Rattle.session_model.specs.declared.entry.Entry.{Entry}
+use Rattle.session_model.specs.declared.entry.Entry.TheVariants as entry
+use Rattle.session_model.specs.Readings.{events_of, trace_of, unsent}
+use Rattle.sftp_text.specs.Texts.{reply_line, frame_lines, lane_lines, text_of}
 use Rattle.sftp_text.specs.Traces.{journal_of}
 
 -- the entries of events
@@ -43,7 +43,8 @@ journal_of_more events e = ap reverse (map-append (λ x. entry.Event x) events (
 
 journal_of_reverse : (events : List Event) → journal_of (reverse events) ≡ entries events
 journal_of_reverse [] = refl
-journal_of_reverse (e ∷ events) = ap journal_of (reverse-append (e ∷ []) events) ∙ journal_of_more (reverse events) e ∙ ap (λ (l : List Entry). entry.Event e ∷ l) (journal_of_reverse events)
+journal_of_reverse (e ∷ events) = ap journal_of (reverse-append (e ∷ []) events) ∙ journal_of_more (reverse events) e
+    ∙ ap (λ (l : List Entry). entry.Event e ∷ l) (journal_of_reverse events)
 
 pub trace_text : (past : List Entry) (outcomes : List (List Outcome)) → text_of (journal_of (trace_of past)) outcomes ≡ text_of past outcomes
 trace_text past outcomes = ap (λ (l : List ℕ). l ++ lane_lines 0 outcomes) (ap frame_lines (journal_of_reverse (events_of past)) ∙ lines_of_events past)

@@ -1,10 +1,10 @@
 -- The journal of a trace.
 use Rattle.std.specs.Prelude.{ℕ, List, [], ◌∷◌, map, reverse}
 use Rattle.sftp_model.specs.declared.request.Request.{Request}
-use Rattle.sftp_history.specs.declared.event.Event.{Event}
-use Rattle.sftp_history.specs.declared.event.Event.TheVariants.{Submit}
-use Rattle.sftp_history.specs.declared.entry.Entry.{Entry}
-use Rattle.sftp_history.specs.declared.entry.Entry.TheVariants as entry
+use Rattle.session_model.specs.declared.event.Event.{Event}
+use Rattle.session_model.specs.declared.event.Event.TheVariants.{Submit}
+use Rattle.session_model.specs.declared.entry.Entry.{Entry}
+use Rattle.session_model.specs.declared.entry.Entry.TheVariants as entry
 
 -- the entries of these events, the newest first
 abbrev pub journal_of : List Event → List Entry

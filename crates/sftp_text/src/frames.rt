@@ -1,19 +1,19 @@
-// The lines of frames.
+//! The lines of frames.
 ghost use Rattle.std.specs.Prelude.{◌≡◌, ◌++◌, codes, OnOk};
 ghost use Rattle.std.specs.List.{flat_map};
 ghost use Rattle.sftp_wire.specs.Body.{Grows, message_body};
-ghost use Rattle.sftp_history.specs.Texts.{line, hex_word, fields_of, request_line, reply_line, frame_lines};
+ghost use Rattle.sftp_text.specs.Texts.{line, hex_word, fields_of, request_line, reply_line, frame_lines};
 ghost use Rattle.sftp_text.specs.Traces.{journal_of, submitted};
 
 use crate::put::{put_fields, put_word};
 use crate::words::{reply_word, request_word};
-use sftp_history::Event;
+use session_model::Event;
 use sftp_model::{Reply, Request};
 use sftp_wire::Message;
 use ssh_encoding::OutOfMemory;
 use std::alloc::Global;
 
-/// The line of a frame, behind a mark that says which way it went.
+/// The line of a frame, after a mark that says which way it went.
 #[tactic(auto, using(sftp_wire::proofs::Puts::puts))]
 fn put_frame(
     alloc: Global,
@@ -92,7 +92,7 @@ pub(crate) fn put_frames(
     ensures ok { OnOk result (out.new.items ≡ out.old.items ++ frame_lines (journal_of trace.now)) }
     ensures grows { Grows out.old.items out.new.items }
 {
-    // the place behind the last Send
+    // the place after the last Send
     let mut first = 0;
     for (i, event) in trace.iter().enumerate() {
         match event {

@@ -1,9 +1,9 @@
-// A law of the definitions. The function does nothing: what it ensures holds of all values.
+//! A law of the definitions. The function does nothing: what it ensures holds of all values.
 ghost use Rattle.std.specs.Prelude.{◌≡◌, List};
 ghost use Rattle.sftp_model.specs.declared.outcome.Outcome.{Outcome};
-ghost use Rattle.sftp_history.specs.declared.entry.Entry.{Entry};
-ghost use Rattle.sftp_history.specs.Readings.{trace_of};
-ghost use Rattle.sftp_history.specs.Texts.{text_of};
+ghost use Rattle.session_model.specs.declared.entry.Entry.{Entry};
+ghost use Rattle.session_model.specs.Readings.{trace_of};
+ghost use Rattle.sftp_text.specs.Texts.{text_of};
 ghost use Rattle.sftp_text.specs.Traces.{journal_of};
 
 /// The text of a journal is that of the events that its trace keeps.

@@ -10,6 +10,8 @@ mod text;
 mod words;
 
 pub use laws::traces_keep_texts;
-pub use sftp_history::Report;
+pub use outcomes::put_refusal;
+pub use put::{put_bytes, put_hex, put_number, put_word};
+pub use session_model::Report;
 pub use ssh_encoding::OutOfMemory;
 pub use text::{write_dir, write_file, write_text};

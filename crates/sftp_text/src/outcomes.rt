@@ -1,9 +1,9 @@
-// The lines of outcomes.
+//! The lines of outcomes.
 ghost use Rattle.std.specs.Prelude.{◌≡◌, ◌++◌, codes, OnOk};
 ghost use Rattle.std.specs.List.{flat_map};
 ghost use Rattle.sftp_model.specs.Frames.{attributes};
 ghost use Rattle.sftp_wire.specs.Body.{Grows};
-ghost use Rattle.sftp_history.specs.Texts.{hex_word, number_text, refusal_text, name_text, outcome_text, outcome_line, outcome_lines, lane_lines};
+ghost use Rattle.sftp_text.specs.Texts.{hex_word, number_text, refusal_text, name_text, outcome_text, outcome_line, outcome_lines, lane_lines};
 
 use crate::put::{put_bytes_behind, put_fields, put_number, put_word};
 use crate::words::{extension_word, kind_name};
@@ -13,7 +13,7 @@ use sftp_wire::Message;
 use ssh_encoding::OutOfMemory;
 use std::alloc::Global;
 
-/// A word, and behind it a number.
+/// A word, and after it a number.
 #[tactic(auto, using(sftp_wire::proofs::Puts::puts))]
 fn put_number_behind(word: &str, n: u64, out: &mut Vec<u8>) -> Result<(), OutOfMemory>
     ensures ok { OnOk result (out.new.items ≡ out.old.items ++ (word.now ++ number_text n)) }
@@ -23,7 +23,7 @@ fn put_number_behind(word: &str, n: u64, out: &mut Vec<u8>) -> Result<(), OutOfM
     put_number(n, out)
 }
 
-/// A word, and behind it another one.
+/// A word, and after it another one.
 #[tactic(auto, using(sftp_wire::proofs::Puts::puts))]
 fn put_words(first: &str, second: &str, out: &mut Vec<u8>) -> Result<(), OutOfMemory>
     ensures ok { OnOk result (out.new.items ≡ out.old.items ++ (first.now ++ second.now)) }
@@ -45,19 +45,20 @@ fn put_attributes(alloc: Global, attrs: FileAttrs, out: &mut Vec<u8>) -> Result<
 
 /// The names of entries.
 #[tactic(auto, using(sftp_wire::proofs::Puts::puts))]
-fn put_names(entries: &[NameEntry], out: &mut Vec<u8>) -> Result<(), OutOfMemory>
+fn put_names(alloc: Global, entries: &[NameEntry], out: &mut Vec<u8>) -> Result<(), OutOfMemory>
     ensures ok { OnOk result (out.new.items ≡ out.old.items ++ flat_map name_text entries.now) }
     ensures grows { Grows out.old.items out.new.items }
 {
     for entry in entries {
-        put_bytes_behind(" ", entry.filename.as_bytes(), out)?;
+        put_bytes_behind(alloc, " ", entry.filename.as_bytes(), out)?;
     }
     Ok(())
 }
 
-/// Why a call is refused.
+/// Appends why a call is refused: ` sftp ` and the status code, ` extension ` and the name of the one that is wanting, or ` io ` and
+/// what the client found wrong. Refused for want of memory; a prefix may be left then.
 #[tactic(auto, using(sftp_wire::proofs::Puts::puts))]
-fn put_refusal(why: &Error, out: &mut Vec<u8>) -> Result<(), OutOfMemory>
+pub fn put_refusal(why: &Error, out: &mut Vec<u8>) -> Result<(), OutOfMemory>
     ensures ok { OnOk result (out.new.items ≡ out.old.items ++ refusal_text why.now) }
     ensures grows { Grows out.old.items out.new.items }
 {
@@ -71,12 +72,12 @@ fn put_refusal(why: &Error, out: &mut Vec<u8>) -> Result<(), OutOfMemory>
 
 /// The words of entries.
 #[tactic(auto, using(sftp_wire::proofs::Puts::puts))]
-fn put_listing(entries: &[NameEntry], out: &mut Vec<u8>) -> Result<(), OutOfMemory>
+fn put_listing(alloc: Global, entries: &[NameEntry], out: &mut Vec<u8>) -> Result<(), OutOfMemory>
     ensures ok { OnOk result (out.new.items ≡ out.old.items ++ (codes "names" ++ flat_map name_text entries.now)) }
     ensures grows { Grows out.old.items out.new.items }
 {
     put_word("names", out)?;
-    put_names(entries, out)
+    put_names(alloc, entries, out)
 }
 
 /// The words of a refused call.
@@ -99,11 +100,11 @@ fn put_outcome(alloc: Global, outcome: &Outcome, out: &mut Vec<u8>) -> Result<()
         Outcome::Done => put_word("done", out),
         Outcome::Opened => put_word("opened", out),
         Outcome::Count(n) => put_number_behind("count ", *n, out),
-        Outcome::Bytes(bytes) => put_bytes_behind("read ", bytes.as_slice(), out),
+        Outcome::Bytes(bytes) => put_bytes_behind(alloc, "read ", bytes.as_slice(), out),
         Outcome::End => put_word("end", out),
         Outcome::Meta(attrs) => put_attributes(alloc, *attrs, out),
-        Outcome::Names(names) => put_listing(names.as_slice(), out),
-        Outcome::Path(path) => put_bytes_behind("path ", path.as_bytes(), out),
+        Outcome::Names(names) => put_listing(alloc, names.as_slice(), out),
+        Outcome::Path(path) => put_bytes_behind(alloc, "path ", path.as_bytes(), out),
         Outcome::Refused(why) => put_refused(why, out),
         Outcome::NoFile => put_word("nofile", out),
         Outcome::Cancelled => put_word("cancelled", out),

@@ -1,17 +1,17 @@
-// What is put behind the bytes of a vector. A refusal may leave a front of it there.
-ghost use Rattle.std.specs.Prelude.{◌≡◌, ◌<◌, ◌++◌, ◌∷◌, [], false, OnOk};
-ghost use Rattle.std.specs.Fmt.{digit_glyph};
+//! What is appended to the bytes of a vector. A refusal may leave a prefix of it there.
+ghost use Rattle.std.specs.Prelude.{◌≡◌, ◌++◌, false, OnOk};
 ghost use Rattle.ssh_encoding.specs.Canonical.{hex_text};
 ghost use Rattle.sftp_wire.specs.Body.{Grows, message_body};
-ghost use Rattle.sftp_history.specs.Texts.{hex_word, number_text, fields_of};
+ghost use Rattle.sftp_text.specs.Texts.{hex_word, number_text, fields_of};
 
 use itoa::Buffer;
 use sftp_wire::{Message, write_body};
 use ssh_encoding::OutOfMemory;
 use std::alloc::Global;
 
+/// Appends the bytes of a word. Refused for want of memory; a prefix may be left then.
 #[tactic(auto, using(sftp_wire::proofs::Puts::puts))]
-pub(crate) fn put_word(word: &str, out: &mut Vec<u8>) -> Result<(), OutOfMemory>
+pub fn put_word(word: &str, out: &mut Vec<u8>) -> Result<(), OutOfMemory>
     ensures ok { OnOk result (out.new.items ≡ out.old.items ++ word.now) }
     ensures grows { Grows out.old.items out.new.items }
 {
@@ -19,9 +19,9 @@ pub(crate) fn put_word(word: &str, out: &mut Vec<u8>) -> Result<(), OutOfMemory>
     Ok(())
 }
 
-/// The digits of a number.
-#[tactic(auto, using(sftp_wire::proofs::Puts::puts, sftp_history::proofs::TextLaws::number_decimal))]
-pub(crate) fn put_number(n: u64, out: &mut Vec<u8>) -> Result<(), OutOfMemory>
+/// Appends the decimal digits of a number. Refused for want of memory; a prefix may be left then.
+#[tactic(auto, using(sftp_wire::proofs::Puts::puts, crate::proofs::TextLaws::number_decimal))]
+pub fn put_number(n: u64, out: &mut Vec<u8>) -> Result<(), OutOfMemory>
     ensures ok { OnOk result (out.new.items ≡ out.old.items ++ number_text n) }
     ensures grows { Grows out.old.items out.new.items }
 {
@@ -29,55 +29,33 @@ pub(crate) fn put_number(n: u64, out: &mut Vec<u8>) -> Result<(), OutOfMemory>
     put_word(digits.format(n), out)
 }
 
-/// A digit of a byte's half.
-fn hex_digit(half: u8) -> u8
-    requires { half < 16 }
-    ensures { result ≡ digit_glyph false half }
-{
-    if half < 10 {
-        b'0' + half
-    } else {
-        b'a' + half - 10
-    }
-}
-
-/// The two digits of a byte.
-#[tactic(auto, using(sftp_wire::proofs::Puts::puts))]
-fn put_byte(byte: u8, out: &mut Vec<u8>) -> Result<(), OutOfMemory>
-    ensures ok { OnOk result (out.new.items ≡ out.old.items ++ hex_text false (byte ∷ [])) }
-    ensures grows { Grows out.old.items out.new.items }
-{
-    out.extend_from_slice(&[hex_digit(byte / 16), hex_digit(byte % 16)])?;
-    Ok(())
-}
-
-/// The digits of bytes.
-#[tactic(auto, using(sftp_wire::proofs::Puts::puts))]
-fn put_hex(bytes: &[u8], out: &mut Vec<u8>) -> Result<(), OutOfMemory>
+/// Appends the hexadecimal digits of bytes, two a byte, in lower case. Refused for want of memory; a prefix of them may be
+/// left then.
+#[tactic(auto, using(sftp_wire::proofs::Puts::puts, crate::proofs::HexLaws::lower_written))]
+pub fn put_hex(alloc: Global, bytes: &[u8], out: &mut Vec<u8>) -> Result<(), OutOfMemory>
     ensures ok { OnOk result (out.new.items ≡ out.old.items ++ hex_text false bytes.now) }
     ensures grows { Grows out.old.items out.new.items }
 {
-    for byte in bytes {
-        put_byte(*byte, out)?;
-    }
-    Ok(())
+    let digits = hex::encode(alloc, bytes)?;
+    put_word(digits.as_str(), out)
 }
 
-/// The digits of bytes, or `-` for none.
+/// Appends the digits of bytes, or `-` for none. Refused for want of memory; a prefix may be left then.
 #[tactic(auto, using(sftp_wire::proofs::Puts::puts))]
-fn put_bytes(bytes: &[u8], out: &mut Vec<u8>) -> Result<(), OutOfMemory>
+pub fn put_bytes(alloc: Global, bytes: &[u8], out: &mut Vec<u8>) -> Result<(), OutOfMemory>
     ensures ok { OnOk result (out.new.items ≡ out.old.items ++ hex_word bytes.now) }
     ensures grows { Grows out.old.items out.new.items }
 {
     match bytes {
         [] => put_word("-", out),
-        [_, ..] => put_hex(bytes, out),
+        [_, ..] => put_hex(alloc, bytes, out),
     }
 }
 
-/// A word, and behind it the digits of bytes.
+/// A word, and after it the digits of bytes.
 #[tactic(auto, using(sftp_wire::proofs::Puts::puts))]
 pub(crate) fn put_bytes_behind(
+    alloc: Global,
     word: &str,
     bytes: &[u8],
     out: &mut Vec<u8>,
@@ -86,10 +64,10 @@ pub(crate) fn put_bytes_behind(
     ensures grows { Grows out.old.items out.new.items }
 {
     put_word(word, out)?;
-    put_bytes(bytes, out)
+    put_bytes(alloc, bytes, out)
 }
 
-/// The fields of a request or a reply, which stand behind the type byte and the id.
+/// The fields of a request or a reply, which stand after the type byte and the id.
 #[tactic(auto, using(sftp_wire::proofs::Puts::puts))]
 pub(crate) fn put_fields(
     alloc: Global,
@@ -103,7 +81,7 @@ pub(crate) fn put_fields(
     let mut body = Vec::new(alloc);
     write_body(message, id, &mut body)?;
     match body.as_slice() {
-        [_, _, _, _, _, fields @ ..] => put_bytes(fields, out),
-        _ => put_bytes(&[], out),
+        [_, _, _, _, _, fields @ ..] => put_bytes(alloc, fields, out),
+        _ => put_bytes(alloc, &[], out),
     }
 }

@@ -1,12 +1,13 @@
+//! The text of a report, and the lines of what is left.
 ghost use Rattle.std.specs.Prelude.{◌≡◌, ◌++◌, OnOk, OnErr};
 ghost use Rattle.sftp_wire.specs.Body.{Grows};
-ghost use Rattle.sftp_history.specs.Texts.{text_of, file_text, dir_text};
+ghost use Rattle.sftp_text.specs.Texts.{text_of, file_text, dir_text};
 ghost use Rattle.sftp_text.specs.Traces.{journal_of};
 
 use crate::frames::put_frames;
 use crate::outcomes::put_lanes;
 use crate::put::{put_bytes_behind, put_word};
-use sftp_history::Report;
+use session_model::Report;
 use ssh_encoding::OutOfMemory;
 use std::alloc::Global;
 
@@ -38,7 +39,7 @@ fn put_text(alloc: Global, report: &Report, out: &mut Vec<u8>) -> Result<(), Out
 
 /// Appends the line of a file that is left. Refused for want of memory; `out` is unchanged then.
 pub fn write_file(
-    _alloc: Global,
+    alloc: Global,
     name: &[u8],
     content: &[u8],
     out: &mut Vec<u8>,
@@ -47,7 +48,7 @@ pub fn write_file(
     ensures err { OnErr result (out.new.items ≡ out.old.items) }
 {
     let before = out.len();
-    match put_file(name, content, out) {
+    match put_file(alloc, name, content, out) {
         Ok(()) => Ok(()),
         Err(OutOfMemory) => {
             out.truncate(before);
@@ -58,22 +59,27 @@ pub fn write_file(
 
 /// The line of a file.
 #[tactic(auto, using(sftp_wire::proofs::Puts::puts))]
-fn put_file(name: &[u8], content: &[u8], out: &mut Vec<u8>) -> Result<(), OutOfMemory>
+fn put_file(
+    alloc: Global,
+    name: &[u8],
+    content: &[u8],
+    out: &mut Vec<u8>,
+) -> Result<(), OutOfMemory>
     ensures ok { OnOk result (out.new.items ≡ out.old.items ++ file_text name.now content.now) }
     ensures grows { Grows out.old.items out.new.items }
 {
-    put_bytes_behind("file ", name, out)?;
-    put_bytes_behind(" ", content, out)?;
+    put_bytes_behind(alloc, "file ", name, out)?;
+    put_bytes_behind(alloc, " ", content, out)?;
     put_word("\n", out)
 }
 
 /// Appends the line of a directory that is left. Refused for want of memory; `out` is unchanged then.
-pub fn write_dir(_alloc: Global, name: &[u8], out: &mut Vec<u8>) -> Result<(), OutOfMemory>
+pub fn write_dir(alloc: Global, name: &[u8], out: &mut Vec<u8>) -> Result<(), OutOfMemory>
     ensures ok { OnOk result (out.new.items ≡ out.old.items ++ dir_text name.now) }
     ensures err { OnErr result (out.new.items ≡ out.old.items) }
 {
     let before = out.len();
-    match put_dir(name, out) {
+    match put_dir(alloc, name, out) {
         Ok(()) => Ok(()),
         Err(OutOfMemory) => {
             out.truncate(before);
@@ -84,10 +90,10 @@ pub fn write_dir(_alloc: Global, name: &[u8], out: &mut Vec<u8>) -> Result<(), O
 
 /// The line of a directory.
 #[tactic(auto, using(sftp_wire::proofs::Puts::puts))]
-fn put_dir(name: &[u8], out: &mut Vec<u8>) -> Result<(), OutOfMemory>
+fn put_dir(alloc: Global, name: &[u8], out: &mut Vec<u8>) -> Result<(), OutOfMemory>
     ensures ok { OnOk result (out.new.items ≡ out.old.items ++ dir_text name.now) }
     ensures grows { Grows out.old.items out.new.items }
 {
-    put_bytes_behind("dir ", name, out)?;
+    put_bytes_behind(alloc, "dir ", name, out)?;
     put_word("\n", out)
 }

@@ -1,6 +1,6 @@
-// The words of requests, replies and refusals.
+//! The words of requests, replies and refusals.
 ghost use Rattle.std.specs.Prelude.{◌≡◌};
-ghost use Rattle.sftp_history.specs.Texts.{request_word, reply_word, kind_name, extension_word};
+ghost use Rattle.sftp_text.specs.Texts.{request_word, reply_word, kind_name, extension_word};
 
 use bitflags::Flags;
 use sftp_model::{Extensions, IoKind, Reply, Request};

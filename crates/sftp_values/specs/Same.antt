@@ -17,14 +17,17 @@ and_decides false q h k = (λ e. absurd cc, λ e. h.1 e.0)
 pub decides_by : {P Q : Type 0} (p : Bool) → (P → Q) → (Q → P) → Decides p P → Decides p Q
 decides_by p f g h = (λ e. f (h.0 e), λ q. h.1 (g q))
 
-pub option_decides : {A : Type 0} (E : A → A → Bool) → ((a b : A) → Decides (E a b) (a ≡ b)) → (a b : Option A) → Decides (option_eq E a b) (a ≡ b)
+pub option_decides : {A : Type 0} (E : A → A → Bool) → ((a b : A) → Decides (E a b) (a ≡ b)) → (a b : Option A)
+    → Decides (option_eq E a b) (a ≡ b)
 option_decides E h (Some a) (Some b) = (λ e. ap (λ x. Some x) ((h a b).0 e), λ e. (h a b).1 cc)
 option_decides E h None None = (λ e. refl, λ e. refl)
 option_decides E h (Some a) None = (λ e. absurd cc, λ e. absurd cc)
 option_decides E h None (Some b) = (λ e. absurd cc, λ e. absurd cc)
 
 pub pair_decides : (a b : ℕ × ℕ) → Decides ((a.0 == b.0) && (a.1 == b.1)) (a ≡ b)
-pair_decides a b = decides_by _ (λ h. λ i. (h.0 i, h.1 i)) (λ e. (ap (λ x. x.0) e, ap (λ x. x.1) e)) (and_decides _ _ (Decides-eqb a.0 b.0) (Decides-eqb a.1 b.1))
+pair_decides a b = decides_by _ (λ h. λ i. (h.0 i, h.1 i)) (λ e. (ap (λ x. x.0) e, ap (λ x. x.1) e))
+    (and_decides _ _ (Decides-eqb a.0 b.0) (Decides-eqb a.1 b.1))
 
-pub items_decides : {A : Type 0} (E : A → A → Bool) → ((a b : A) → Decides (E a b) (a ≡ b)) → (xs ys : List A) → Decides (pointwise E xs ys) (xs ≡ ys)
+pub items_decides : {A : Type 0} (E : A → A → Bool) → ((a b : A) → Decides (E a b) (a ≡ b)) → (xs ys : List A)
+    → Decides (pointwise E xs ys) (xs ≡ ys)
 items_decides E h xs ys = slice_eq-Decides h xs ys _ refl

@@ -10,7 +10,8 @@ use Rattle.sftp_wire.specs.Heads.{content_of, request_head}
 use Rattle.sftp_wire.proofs.Lengths.{length-string}
 
 -- a content is no longer than its body
-pub content_within : (handle : List ℕ) (offset : ℕ) (content : List ℕ) (id : ℕ) → length content ≤ length (request_body (request.Write handle offset content) id)
+pub content_within : (handle : List ℕ) (offset : ℕ) (content : List ℕ) (id : ℕ)
+    → length content ≤ length (request_body (request.Write handle offset content) id)
 unfolding request_body
 content_within handle offset content id =
     let a = length-append (uint32 id) (string handle ++ uint64 offset ++ string content) in
@@ -19,7 +20,8 @@ content_within handle offset content id =
     omega (arith, a, b, d)
 
 -- so it is counted as it is
-pub counted : (n limit : ℕ) (content pieces : List ℕ) → limit ≤ MAX_BODY_LEN → length content ≤ limit → pieces ≡ content → n ≡ saturated (length pieces) → n ≡ length content
+pub counted : (n limit : ℕ) (content pieces : List ℕ) → limit ≤ MAX_BODY_LEN → length content ≤ limit → pieces ≡ content
+    → n ≡ saturated (length pieces) → n ≡ length content
 counted n limit content pieces small within is measured =
     let same : length pieces ≡ length content = ap length is in omega (arith, measured, same)
 
@@ -27,8 +29,10 @@ counted n limit content pieces small within is measured =
 pub head_and_content : (r : Request) (id : ℕ) → request_head r id ++ content_of r ≡ request_frame r id
 unfolding request_body string
 head_and_content (request.Write handle offset content) id =
-    let flat : (string handle ++ uint64 offset ++ uint32 (length content)) ++ content ≡ string handle ++ uint64 offset ++ string content = append_assoc (string handle ++ uint64 offset) (uint32 (length content)) content in
-    append_assoc (uint32 (length (request_body (request.Write handle offset content) id))) (of_type SSH_FXP_WRITE id (string handle ++ uint64 offset ++ uint32 (length content))) content
+    let flat : (string handle ++ uint64 offset ++ uint32 (length content)) ++ content ≡ string handle ++ uint64 offset
+    ++ string content = append_assoc (string handle ++ uint64 offset) (uint32 (length content)) content in
+    append_assoc (uint32 (length (request_body (request.Write handle offset content) id)))
+    (of_type SSH_FXP_WRITE id (string handle ++ uint64 offset ++ uint32 (length content))) content
     ∙ ap (λ l. uint32 (length (request_body (request.Write handle offset content) id)) ++ l)
     (ap (λ l. SSH_FXP_WRITE ∷ l) (append_assoc (uint32 id) (string handle ++ uint64 offset ++ uint32 (length content)) content ∙ ap (λ l. uint32 id ++ l) flat))
 head_and_content other id = append-nil _

@@ -1,5 +1,30 @@
 -- How many bytes are written.
-use Rattle.std.proofs.Common.{◌≡◌, ◌<◌, ◌≤◌, ℕ, ◌+◌, ◌-◌, ◌^◌, List, [], ◌∷◌, ◌++◌, length, take, get_or, min, refl, ap, sym, ◌∙◌, arith, length-append, Option, Some, None}
+use Rattle.std.proofs.Common.{
+  ◌≡◌,
+  ◌<◌,
+  ◌≤◌,
+  ℕ,
+  ◌+◌,
+  ◌-◌,
+  ◌^◌,
+  List,
+  [],
+  ◌∷◌,
+  ◌++◌,
+  length,
+  take,
+  get_or,
+  min,
+  refl,
+  ap,
+  sym,
+  ◌∙◌,
+  arith,
+  length-append,
+  Option,
+  Some,
+  None,
+}
 use Rattle.std.specs.List.{flat_map}
 use Rattle.ssh_encoding.specs.Writing.{uint32, uint64, string}
 use Rattle.ssh_encoding.proofs.Lists.{flat_map_step}
@@ -20,7 +45,8 @@ pub length-string : (bytes : List ℕ) → length (string bytes) ≡ 4 + length 
 unfolding string
 length-string bytes = rw (length-append (uint32 (length bytes)) bytes, length-uint32 (length bytes)) refl
 
-length-where_there : {A : Type 0} (spelling : A → List ℕ) (n : ℕ) → ((x : A) → length (spelling x) ≡ n) → (field : Option A) → length (where_there spelling field) ≡ bit n field
+length-where_there : {A : Type 0} (spelling : A → List ℕ) (n : ℕ) → ((x : A) → length (spelling x) ≡ n)
+    → (field : Option A) → length (where_there spelling field) ≡ bit n field
 length-where_there spelling n h None = refl
 length-where_there spelling n h (Some x) = h x
 
@@ -30,7 +56,13 @@ length-two_numbers p = rw (length-append (uint32 p.0) (uint32 p.1), length-uint3
 pub length-attributes : (a : FileAttrs) → length (attributes a) ≡ 4 + bit 8 a.size + bit 8 a.id + bit 4 a.permissions + bit 8 a.time
 unfolding attributes
 length-attributes a =
-    simp (length-append, length-uint32, length-where_there uint64 8 length-uint64, length-where_there two_numbers 8 length-two_numbers, length-where_there uint32 4 length-uint32) refl
+    simp (
+      length-append,
+      length-uint32,
+      length-where_there uint64 8 length-uint64,
+      length-where_there two_numbers 8 length-two_numbers,
+      length-where_there uint32 4 length-uint32,
+    ) refl
 
 pub ruleset lengths = (length-uint32, length-uint64, length-string, length-attributes, length-append)
 
@@ -47,6 +79,7 @@ joined_is [] = refl
 joined_is (p ∷ pieces) = ap (λ (l : List ℕ). p ++ l) (joined_is pieces)
 
 -- the piece at a place after those before it
-pub joined_step : (pieces : List (List ℕ)) (i : ℕ) (piece : List ℕ) → i < length pieces → piece ≡ get_or pieces i piece → joined (take (i + 1) pieces) ≡ joined (take i pieces) ++ piece
+pub joined_step : (pieces : List (List ℕ)) (i : ℕ) (piece : List ℕ) → i < length pieces → piece ≡ get_or pieces i piece
+    → joined (take (i + 1) pieces) ≡ joined (take i pieces) ++ piece
 joined_step pieces i piece h e =
     joined_is (take (i + 1) pieces) ∙ flat_map_step (λ (p : List ℕ). p) pieces i piece h e ∙ ap (λ (l : List ℕ). l ++ piece) (sym (joined_is (take i pieces)))

@@ -16,7 +16,8 @@ err_is x y e = cc
 abbrev counted : List ℕ × List ℕ → Result (ℕ × List ℕ) (Error × List ℕ)
 counted p = Ok (length p.0, p.1)
 
-skips_at : (p : Result (List ℕ × List ℕ) (Error × List ℕ)) (n : ℕ) (rest : List ℕ) → (p >>= counted) ≡ Ok (n, rest) → passed (field (inside all_at p)) ≡ Ok (tt, rest)
+skips_at : (p : Result (List ℕ × List ℕ) (Error × List ℕ)) (n : ℕ) (rest : List ℕ) → (p >>= counted) ≡ Ok (n, rest)
+    → passed (field (inside all_at p)) ≡ Ok (tt, rest)
 skips_at (Ok p) n rest h = let same : p.1 ≡ rest = ap (λ (q : ℕ × List ℕ). q.1) (ok_is (length p.0, p.1) (n, rest) h) in rw same refl
 skips_at (Err e) n rest h = absurd cc
 
@@ -25,7 +26,8 @@ pub skips : (bytes rest : List ℕ) (n : ℕ) → string_len_at bytes ≡ Ok (n,
 unfolding string_len_at
 skips bytes rest n h = skips_at (prefix_at bytes) n rest h
 
-skip_refused_at : (p : Result (List ℕ × List ℕ) (Error × List ℕ)) (e : Error) (rest : List ℕ) → (p >>= counted) ≡ Err (e, rest) → passed (field (inside all_at p)) ≡ Err (frame_error e)
+skip_refused_at : (p : Result (List ℕ × List ℕ) (Error × List ℕ)) (e : Error) (rest : List ℕ) → (p >>= counted)
+    ≡ Err (e, rest) → passed (field (inside all_at p)) ≡ Err (frame_error e)
 skip_refused_at (Ok p) e rest h = absurd cc
 skip_refused_at (Err r) e rest h = let same : r.0 ≡ e = ap (λ (q : Error × List ℕ). q.0) (err_is r (e, rest) h) in rw same refl
 
@@ -42,11 +44,13 @@ passed_err (Ok x) e h = absurd cc
 passed_err (Err d) e h = ap (λ y. Err y) (err_is d e h)
 
 -- one pair less
-pub pairs_step : (n m : ℕ) (bytes mid rest : List ℕ) → n ≡ suc m → passed (text_at bytes) ≡ Ok (tt, mid) → passed (text_at mid) ≡ Ok (tt, rest) → behind_pairs n bytes ≡ behind_pairs m rest
+pub pairs_step : (n m : ℕ) (bytes mid rest : List ℕ) → n ≡ suc m → passed (text_at bytes) ≡ Ok (tt, mid)
+    → passed (text_at mid) ≡ Ok (tt, rest) → behind_pairs n bytes ≡ behind_pairs m rest
 pairs_step n m bytes mid rest is h k = rw (is, (passed_ok (text_at bytes) mid h).1, (passed_ok (text_at mid) rest k).1) refl
 
 pub name_refused : (n m : ℕ) (bytes : List ℕ) (e : FrameError) → n ≡ suc m → passed (text_at bytes) ≡ Err e → behind_pairs n bytes ≡ Err e
 name_refused n m bytes e is h = rw (is, passed_err (text_at bytes) e h) refl
 
-pub value_refused : (n m : ℕ) (bytes mid : List ℕ) (e : FrameError) → n ≡ suc m → passed (text_at bytes) ≡ Ok (tt, mid) → passed (text_at mid) ≡ Err e → behind_pairs n bytes ≡ Err e
+pub value_refused : (n m : ℕ) (bytes mid : List ℕ) (e : FrameError) → n ≡ suc m → passed (text_at bytes) ≡ Ok (tt, mid)
+    → passed (text_at mid) ≡ Err e → behind_pairs n bytes ≡ Err e
 value_refused n m bytes mid e is h k = rw (is, (passed_ok (text_at bytes) mid h).1, passed_err (text_at mid) e k) refl

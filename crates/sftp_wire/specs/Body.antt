@@ -1,5 +1,24 @@
 -- The body of a frame as a type byte, whether an id follows it, and fields.
-use Rattle.std.specs.Prelude.{ℕ, Bool, true, false, ◌≡◌, ◌<◌, ◌≤◌, ◌-◌, ◌^◌, List, [], ◌∷◌, ◌++◌, length, min, Option, Some, None}
+use Rattle.std.specs.Prelude.{
+  ℕ,
+  Bool,
+  true,
+  false,
+  ◌≡◌,
+  ◌<◌,
+  ◌≤◌,
+  ◌-◌,
+  ◌^◌,
+  List,
+  [],
+  ◌∷◌,
+  ◌++◌,
+  length,
+  min,
+  Option,
+  Some,
+  None,
+}
 use Rattle.std.specs.List.{flat_map}
 use Rattle.ssh_encoding.specs.Writing.{uint32, uint64, string}
 use Rattle.sftp_model.specs.Numbers.{MAX_BODY_LEN}

@@ -1,6 +1,24 @@
 -- The state of a frame reader: the bytes that came since it was cleared, and why they can't begin a frame.
 -- A frame is a length of four bytes and a body of that length (draft-ietf-secsh-filexfer-02, section 3).
-use Rattle.std.specs.Prelude.{◌≡◌, ◌≤◌, ℕ, ◌+◌, ◌-◌, ◌==◌, List, [], ◌++◌, length, take, drop, Option, Some, None, nat_lt, if◌then◌else◌}
+use Rattle.std.specs.Prelude.{
+  ◌≡◌,
+  ◌≤◌,
+  ℕ,
+  ◌+◌,
+  ◌-◌,
+  ◌==◌,
+  List,
+  [],
+  ◌++◌,
+  length,
+  take,
+  drop,
+  Option,
+  Some,
+  None,
+  nat_lt,
+  if◌then◌else◌,
+}
 use Rattle.std.specs.Int.{w32, from_be_bytes}
 use Rattle.sftp_model.specs.declared.frame_error.FormatKind.{FormatKind}
 use Rattle.sftp_model.specs.declared.frame_error.FormatKind.TheVariants as kinds
@@ -75,7 +93,8 @@ Pushed old bytes new = (fault_with old bytes ≡ None) × (new ≡ record { byte
 -- a refusal is kept in place of the bytes, and want of memory changes nothing
 abbrev pub NotPushed : Received → List ℕ → Received → FrameError → Type 0
 NotPushed old bytes new errors.OutOfMemory = new ≡ old
-NotPushed old bytes new (errors.Format kind) = (fault_with old bytes ≡ Some kind) × (new ≡ record { bytes = old.bytes; refused = Some kind })
+NotPushed old bytes new (errors.Format kind) = (fault_with old bytes ≡ Some kind)
+    × (new ≡ record { bytes = old.bytes; refused = Some kind })
 NotPushed old bytes new (errors.HandleTooLong len) = ⊥
 
 -- what the kept bytes are: a prefix of a frame, with the length that they tell

@@ -14,5 +14,6 @@ content_of other = []
 -- the frame of a request without its content
 abbrev pub request_head : Request → ℕ → List ℕ
 request_head (request.Write handle offset content) id =
-    uint32 (length (request_body (request.Write handle offset content) id)) ++ of_type SSH_FXP_WRITE id (string handle ++ uint64 offset ++ uint32 (length content))
+    uint32 (length (request_body (request.Write handle offset content) id))
+    ++ of_type SSH_FXP_WRITE id (string handle ++ uint64 offset ++ uint32 (length content))
 request_head other id = request_frame other id

@@ -9,7 +9,8 @@ abbrev pub IsMemory : FrameError → Type 0
 IsMemory e = e ≡ errors.OutOfMemory
 
 -- a field, with `rest` left
-abbrev pub ReadsField : {T S : Type 0} → (T → S) → List ℕ → Result T FrameError → Result (S × List ℕ) FrameError → Type 0
+abbrev pub ReadsField : {T S : Type 0} → (T → S) → List ℕ → Result T FrameError → Result (S × List ℕ) FrameError
+    → Type 0
 ReadsField seen rest result read = Reads seen IsMemory rest result read
 
 -- a whole body
@@ -18,7 +19,8 @@ Gives (Ok v) read = read ≡ Ok v
 Gives (Err e) read = IsMemory e ⊎ (read ≡ Err e)
 
 -- fields after which nothing may stand, and whose handles are short
-abbrev pub to_end : {A : Type 0} → (A → List (List ℕ)) → Result ((Option ℕ × A) × List ℕ) FrameError → Result (Option ℕ × A) FrameError
+abbrev pub to_end : {A : Type 0} → (A → List (List ℕ)) → Result ((Option ℕ × A) × List ℕ) FrameError
+    → Result (Option ℕ × A) FrameError
 to_end handles fields = fields >>= λ f. whole f >>= λ read. with_short_handles (handles read.1) read
 
 -- what stands after a value that is dropped
@@ -34,5 +36,6 @@ GivesAs seen (Ok v) read = read ≡ Ok (seen v)
 GivesAs seen (Err e) read = IsMemory e ⊎ (read ≡ Err e)
 
 -- fields after an id that was read before
-abbrev pub behind : {A : Type 0} → Option ℕ → Result (A × List ℕ) FrameError → Result ((Option ℕ × A) × List ℕ) FrameError
+abbrev pub behind : {A : Type 0} → Option ℕ → Result (A × List ℕ) FrameError
+    → Result ((Option ℕ × A) × List ℕ) FrameError
 behind id fields = fields >>= λ read. Ok ((id, read.0), read.1)

@@ -1,10 +1,10 @@
-ghost use Rattle.std.specs.Prelude.{◌≡◌, ◌≤◌, length, ◌+◌, drop, None, Some, MatchOption, IfOk, IfSome, IfErr, OnOk};
+ghost use Rattle.std.specs.Prelude.{◌≡◌, ◌≤◌, ◌==◌, length, ◌+◌, drop, None, Some, MatchOption, IfOk, IfSome, IfErr, OnOk};
 ghost use Rattle.ssh_encoding.specs.Writing.{string};
 ghost use Rattle.sftp_model.specs.Numbers.{MAX_BODY_LEN};
 ghost use Rattle.sftp_wire.specs.FrameReader.{nothing, need_of, body_of, Pushed, NotPushed, fault_of_len, told_len, len_of, missing_with};
 
 use sftp_model::{FormatKind, FrameError, numbers};
-use ssh_encoding::Decode;
+use ssh_encoding::{Decode, OutOfMemory};
 use std::alloc::Global;
 use std::marker::Model;
 
@@ -28,16 +28,29 @@ impl Model for FrameReader {
     ghost invariant = { λ r. IsFront r.bytes.items r.body_len };
 }
 
+/// Memory that was taken for the next bytes of a frame. A contract sees for how many bytes it is, those that came
+/// before included.
+#[derive(Drop)]
+pub struct Reservation {
+    bytes: Vec<u8>,
+}
+
+impl Model for Reservation {
+    ghost use Rattle.std.specs.Prelude.{◌≡◌, ℕ, vec_len, vec_capacity};
+
+    ghost Value = { ℕ };
+
+    ghost view = { λ r. vec_capacity r.bytes };
+
+    ghost invariant = { λ r. vec_len r.bytes ≡ 0 };
+}
+
 /// The length in the first four bytes, once they are there.
-fn told_len(alloc: Global, bytes: &[u8]) -> Result<Option<u32>, FrameError>
-    ensures ok { IfOk result (λ len. len ≡ len_of bytes.now) }
-    ensures err { IfErr result (λ e. e ≡ FrameError.OutOfMemory) }
+fn told_len(alloc: Global, bytes: &[u8]) -> Option<u32>
+    ensures { result ≡ len_of bytes.now }
 {
-    if bytes.len() < 4 {
-        return Ok(None);
-    }
     let mut reader = bytes;
-    Ok(Some(u32::decode(alloc, &mut reader)?))
+    u32::decode(alloc, &mut reader).ok()
 }
 
 /// What is wrong with a length.
@@ -105,10 +118,7 @@ impl FrameReader {
         if self.bytes.extend_from_slice(bytes).is_err() {
             return Err(FrameError::OutOfMemory);
         }
-        let Ok(body_len) = told_len(self.alloc, &self.bytes) else {
-            self.bytes.truncate(before);
-            return Err(FrameError::OutOfMemory);
-        };
+        let body_len = told_len(self.alloc, &self.bytes);
         if let Some(kind) = fault(body_len) {
             self.bytes.truncate(before);
             self.refused = Some(kind);
@@ -116,6 +126,45 @@ impl FrameReader {
         }
         self.body_len = body_len;
         Ok(())
+    }
+
+    /// Memory for what is missing, to be taken before the bytes themselves are taken from where they come from:
+    /// `push_reserved` takes none then. The reader stays as it is.
+    pub fn reserve(&self) -> Result<Reservation, OutOfMemory>
+        ensures { IfOk result (λ memory. length self.now.bytes + need_of self.now ≤ memory) }
+    {
+        let bytes = Vec::with_capacity(self.alloc, self.bytes.len() + self.need())?;
+        Ok(Reservation { bytes })
+    }
+
+    /// `push` with memory that was taken before, so that it is never wanting.
+    pub fn push_reserved(&mut self, memory: Reservation, bytes: &[u8]) -> Result<(), FormatKind>
+        requires fits { length bytes.now ≤ need_of self.old }
+        requires reserved { length self.old.bytes + length bytes.now ≤ memory }
+        ensures ok { OnOk result (Pushed self.old bytes.now self.new) }
+        ensures err { IfErr result (λ kind. NotPushed self.old bytes.now self.new (FrameError.Format kind)) }
+    {
+        if let Some(kind) = self.refused {
+            return Err(kind);
+        }
+        let mut grown = memory.bytes;
+        grown.extend_from_slice(&self.bytes).unwrap();
+        grown.extend_from_slice(bytes).unwrap();
+        let body_len = told_len(self.alloc, &grown);
+        if let Some(kind) = fault(body_len) {
+            self.refused = Some(kind);
+            return Err(kind);
+        }
+        self.bytes = grown;
+        self.body_len = body_len;
+        Ok(())
+    }
+
+    /// Whether no byte of a frame has come.
+    pub fn is_empty(&self) -> bool
+        ensures { result ≡ (length self.now.bytes == 0) }
+    {
+        self.bytes.is_empty()
     }
 
     /// The body of the frame, once it is whole.

@@ -16,7 +16,7 @@ mod reading_requests;
 mod reading_shapes;
 mod write;
 
-pub use frame_reader::FrameReader;
+pub use frame_reader::{FrameReader, Reservation};
 pub use head::write_request_head;
 pub use reading_replies::{read_limits, read_reply};
 pub use reading_requests::read_request;

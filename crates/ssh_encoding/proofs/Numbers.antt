@@ -1,5 +1,37 @@
 -- Canonical bytes: what they spell, and that each number has one spelling.
-use Rattle.std.proofs.Common.{◌≡◌, ℕ, zero, suc, ◌+◌, ◌-◌, ◌*◌, ◌^◌, ◌<◌, ◌≤◌, ◌==◌, Bool, true, false, cond, List, [], ◌∷◌, length, get_or, nat_lt, refl, ap, sym, ◌∙◌, arith, inl, inr, ltb, pos, negsuc}
+use Rattle.std.proofs.Common.{
+  ◌≡◌,
+  ℕ,
+  zero,
+  suc,
+  ◌+◌,
+  ◌-◌,
+  ◌*◌,
+  ◌^◌,
+  ◌<◌,
+  ◌≤◌,
+  ◌==◌,
+  Bool,
+  true,
+  false,
+  cond,
+  List,
+  [],
+  ◌∷◌,
+  length,
+  get_or,
+  nat_lt,
+  refl,
+  ap,
+  sym,
+  ◌∙◌,
+  arith,
+  inl,
+  inr,
+  ltb,
+  pos,
+  negsuc,
+}
 use Rattle.std.proofs.Math.Nat.{pow-succ', pow-le-pow_right, mul-le-mul_left, mul-le-mul_right, suc-mul, one-le-pow}
 use Rattle.std.proofs.lemmas.Bool.{ltb-true, ltb-false, lt-ltb, cases_lt}
 use Rattle.std.proofs.lemmas.Grind.{common_steps}
@@ -10,7 +42,8 @@ use Rattle.ssh_encoding.specs.Spelling.{AreBytes}
 
 -- ---- stripping zeros keeps the number
 
-strip_number_at : (b : ℕ) (bytes : List ℕ) (t : Bool) → (b == 0) ≡ t → unsigned (strip bytes) ≡ unsigned bytes → unsigned (cond t (strip bytes) (b ∷ bytes)) ≡ b * 256 ^ length bytes + unsigned bytes
+strip_number_at : (b : ℕ) (bytes : List ℕ) (t : Bool) → (b == 0) ≡ t → unsigned (strip bytes) ≡ unsigned bytes
+    → unsigned (cond t (strip bytes) (b ∷ bytes)) ≡ b * 256 ^ length bytes + unsigned bytes
 strip_number_at b bytes true e h = let z : b ≡ 0 = grind arith in rw z (h ∙ grind arith)
 strip_number_at b bytes false e h = refl
 
@@ -30,7 +63,8 @@ pub positive_number : (bytes : List ℕ) → signed (positive bytes) ≡ pos (un
 positive_number bytes = sign_free_number (strip bytes) ∙ ap (λ n. pos n) (strip_number bytes)
 
 -- a list that is stripped doesn't begin with 0
-strip_first_at : (b : ℕ) (bytes : List ℕ) (t : Bool) → (b == 0) ≡ t → (is_canonical (sign_free (strip bytes)) ≡ true) → is_canonical (sign_free (cond t (strip bytes) (b ∷ bytes))) ≡ true
+strip_first_at : (b : ℕ) (bytes : List ℕ) (t : Bool) → (b == 0) ≡ t → (is_canonical (sign_free (strip bytes)) ≡ true)
+    → is_canonical (sign_free (cond t (strip bytes) (b ∷ bytes))) ≡ true
 strip_first_at b bytes true e h = h
 strip_first_at b [] false e h = grind (arith, common_steps)
 strip_first_at b (c ∷ bytes) false e h = grind (arith, common_steps)
@@ -67,7 +101,8 @@ abbrev IsNeeded : ℕ → List ℕ → Type 0
 IsNeeded b rest = (c : ℕ) (cs : List ℕ) → rest ≡ c ∷ cs → b ≡ 0 → 128 ≤ c
 
 -- the longer one of two such lists spells more
-longer_above : (a : ℕ) (xs : List ℕ) (b : ℕ) (ys : List ℕ) → AreBytes xs → a < 128 → IsNeeded b ys → length xs < length ys → unsigned (a ∷ xs) ≡ unsigned (b ∷ ys) → ⊥
+longer_above : (a : ℕ) (xs : List ℕ) (b : ℕ) (ys : List ℕ) → AreBytes xs → a < 128 → IsNeeded b ys
+    → length xs < length ys → unsigned (a ∷ xs) ≡ unsigned (b ∷ ys) → ⊥
 longer_above a xs b [] h k needed shorter e = omega (arith, shorter)
 longer_above a xs b (c ∷ cs) h k needed shorter e =
     let low = half_below a xs h k in
@@ -76,7 +111,8 @@ longer_above a xs b (c ∷ cs) h k needed shorter e =
     let high = needed_above b c cs (needed c cs refl) in
     omega (arith, low, mul-le-mul_left 128 powers, high, e)
 
-same_length : (a : ℕ) (xs : List ℕ) (b : ℕ) (ys : List ℕ) → AreBytes xs → AreBytes ys → a < 128 → b < 128 → IsNeeded a xs → IsNeeded b ys → unsigned (a ∷ xs) ≡ unsigned (b ∷ ys) → length xs ≡ length ys
+same_length : (a : ℕ) (xs : List ℕ) (b : ℕ) (ys : List ℕ) → AreBytes xs → AreBytes ys → a < 128 → b < 128
+    → IsNeeded a xs → IsNeeded b ys → unsigned (a ∷ xs) ≡ unsigned (b ∷ ys) → length xs ≡ length ys
 same_length a xs b ys h k a-low b-low a-needed b-needed e =
     elim (cases_lt (length xs) (length ys)) [
       | inl l ↦ absurd (longer_above a xs b ys h a-low b-needed l e)
@@ -156,19 +192,24 @@ above_zero_at b (c ∷ bytes) h =
     let power : 1 ≤ 256 ^ length bytes = one-le-pow (length bytes) 256 (let some : zero < 256 = omega arith in some) in
     omega (arith, high, power)
 
-positive_once : (a : ℕ) (xs : List ℕ) (b : ℕ) (ys : List ℕ) → AreBytes (a ∷ xs) → AreBytes (b ∷ ys) → a < 128 → b < 128 → IsNeeded a xs → IsNeeded b ys → unsigned (a ∷ xs) ≡ unsigned (b ∷ ys) → (let l : List ℕ = a ∷ xs in l) ≡ b ∷ ys
+positive_once : (a : ℕ) (xs : List ℕ) (b : ℕ) (ys : List ℕ) → AreBytes (a ∷ xs) → AreBytes (b ∷ ys) → a < 128 → b < 128
+    → IsNeeded a xs → IsNeeded b ys → unsigned (a ∷ xs) ≡ unsigned (b ∷ ys) → (let l : List ℕ = a ∷ xs in l) ≡ b ∷ ys
 positive_once a xs b ys h k a-low b-low a-needed b-needed e =
     let same = same_length a xs b ys (λ i. h (suc i)) (λ i. k (suc i)) a-low b-low a-needed b-needed e in
     unsigned_once (a ∷ xs) (b ∷ ys) h k (ap (λ n. suc n) same) e
 
 once_at : (a : ℕ) (xs : List ℕ) (b : ℕ) (ys : List ℕ) (s t : Bool) → nat_lt 127 a ≡ s → nat_lt 127 b ≡ t → AreBytes (a ∷ xs) → AreBytes (b ∷ ys)
     → is_canonical (a ∷ xs) ≡ true → is_canonical (b ∷ ys) ≡ true
-    → cond s (negsuc (unsigned (inverted (a ∷ xs)))) (pos (unsigned (a ∷ xs))) ≡ cond t (negsuc (unsigned (inverted (b ∷ ys)))) (pos (unsigned (b ∷ ys))) → (let l : List ℕ = a ∷ xs in l) ≡ b ∷ ys
+    → cond s (negsuc (unsigned (inverted (a ∷ xs)))) (pos (unsigned (a ∷ xs)))
+    ≡ cond t (negsuc (unsigned (inverted (b ∷ ys)))) (pos (unsigned (b ∷ ys))) → (let l : List ℕ = a ∷ xs in l)
+    ≡ b ∷ ys
 once_at a xs b ys true true p q h k f g e =
     let sums : unsigned (inverted (a ∷ xs)) ≡ unsigned (inverted (b ∷ ys)) = cc in
     let a-high : 127 < a = ltb-true _ _ p in
     let b-high : 127 < b = ltb-true _ _ q in
-    let turned = positive_once (255 - a) (inverted xs) (255 - b) (inverted ys) (inverted_bytes (a ∷ xs)) (inverted_bytes (b ∷ ys)) (omega (arith, a-high)) (omega (arith, b-high)) (needed_high a xs h f) (needed_high b ys k g) sums in
+    let turned = positive_once (255 - a) (inverted xs) (255 - b) (inverted ys) (inverted_bytes (a ∷ xs))
+    (inverted_bytes (b ∷ ys)) (omega (arith, a-high)) (omega (arith, b-high)) (needed_high a xs h f)
+    (needed_high b ys k g) sums in
     inverted_once (a ∷ xs) (b ∷ ys) h k turned
 once_at a xs b ys true false p q h k f g e = absurd cc
 once_at a xs b ys false true p q h k f g e = absurd cc
@@ -178,7 +219,8 @@ once_at a xs b ys false false p q h k f g e =
     let b-low : b ≤ 127 = ltb-false _ _ q in
     positive_once a xs b ys h k (omega (arith, a-low)) (omega (arith, b-low)) (needed_low a xs f) (needed_low b ys g) sums
 
-zero_at : (b : ℕ) (bytes : List ℕ) (t : Bool) → is_canonical (b ∷ bytes) ≡ true → cond t (negsuc (unsigned (inverted (b ∷ bytes)))) (pos (unsigned (b ∷ bytes))) ≡ pos 0 → ⊥
+zero_at : (b : ℕ) (bytes : List ℕ) (t : Bool) → is_canonical (b ∷ bytes) ≡ true
+    → cond t (negsuc (unsigned (inverted (b ∷ bytes)))) (pos (unsigned (b ∷ bytes))) ≡ pos 0 → ⊥
 zero_at b bytes true h e = absurd cc
 zero_at b bytes false h e = let none : unsigned (b ∷ bytes) ≡ 0 = cc in omega (arith, none, above_zero_at b bytes h)
 
@@ -194,7 +236,8 @@ pub below_zero : (bytes : List ℕ) → 127 < get_or bytes 0 0 → signed bytes 
 below_zero [] h = absurd (grind arith)
 below_zero (b ∷ bytes) h = let first : ltb 127 b ≡ true = lt-ltb _ _ h in rw first refl
 
-above_zero_by : (b : ℕ) (bytes : List ℕ) (t : Bool) → nat_lt 127 b ≡ t → is_canonical (b ∷ bytes) ≡ true → is_above_zero (cond t (negsuc (unsigned (inverted (b ∷ bytes)))) (pos (unsigned (b ∷ bytes)))) ≡ nat_lt b 128
+above_zero_by : (b : ℕ) (bytes : List ℕ) (t : Bool) → nat_lt 127 b ≡ t → is_canonical (b ∷ bytes) ≡ true
+    → is_above_zero (cond t (negsuc (unsigned (inverted (b ∷ bytes)))) (pos (unsigned (b ∷ bytes)))) ≡ nat_lt b 128
 above_zero_by b bytes true e h = grind (arith, common_steps)
 above_zero_by b bytes false e h = let some = above_zero_at b bytes h in grind (arith, common_steps)
 
@@ -202,7 +245,8 @@ pub above_zero : (bytes : List ℕ) → is_canonical bytes ≡ true → 1 ≤ le
 above_zero [] h some = absurd (omega (arith, some))
 above_zero (b ∷ bytes) h some = sym (above_zero_by b bytes (nat_lt 127 b) refl h)
 
-pub same_number : (xs ys : List ℕ) (r : Bool) → r ≡ pointwise ◌==◌ xs ys → AreBytes xs → AreBytes ys → is_canonical xs ≡ true → is_canonical ys ≡ true → IsTrue r ↔ (signed xs ≡ signed ys)
+pub same_number : (xs ys : List ℕ) (r : Bool) → r ≡ pointwise ◌==◌ xs ys → AreBytes xs → AreBytes ys → is_canonical xs
+    ≡ true → is_canonical ys ≡ true → IsTrue r ↔ (signed xs ≡ signed ys)
 same_number xs ys r e h k f g =
     let same = bytes_decides xs ys in
     rw e (λ t. ap (λ l. signed l) (same.0 t), λ n. same.1 (canonical_once xs ys h k f g n))

@@ -5,7 +5,9 @@ use Rattle.std.specs.Borrow.{MutBor}
 use Rattle.ssh_encoding.specs.declared.error.Error.{Error}
 use Rattle.ssh_encoding.specs.Reading.{Reads, ReadsTo, ReadsPrefixed, inside, prefix_at, string_within}
 
-module _ {F S T A : Type 0} (g : Once F (MutBor S × Unit {0}) (Result T Error × (MutBor S × Unit {0}))) (left : S → List ℕ) (gives : Error → Error → Type 0) (f : F) (seen : T → A) (memory : Error → Type 0) (reading : List ℕ → Result (A × List ℕ) Error) where
+module _ {F S T A : Type 0} (g : Once F (MutBor S × Unit {0}) (Result T Error × (MutBor S × Unit {0})))
+    (left : S → List ℕ) (gives : Error → Error → Type 0) (f : F) (seen : T → A) (memory : Error → Type 0)
+    (reading : List ℕ → Result (A × List ℕ) Error) where
   -- a closure that reads what stands after a length
   pub reads_prefixed : (old : List ℕ) (result : Result T Error) (new : List ℕ) (prefix : Result (List ℕ × List ℕ) (Error × List ℕ))
       → ((d e : Error) → gives d e → e ≡ d)

@@ -1,4 +1,26 @@
-use Rattle.std.proofs.Common.{◌≡◌, ℕ, zero, suc, ◌==◌, true, false, List, [], ◌∷◌, ◌++◌, length, Result, Ok, Err, refl, ap, sym, append_assoc, append-nil, arith}
+use Rattle.std.proofs.Common.{
+  ◌≡◌,
+  ℕ,
+  zero,
+  suc,
+  ◌==◌,
+  true,
+  false,
+  List,
+  [],
+  ◌∷◌,
+  ◌++◌,
+  length,
+  Result,
+  Ok,
+  Err,
+  refl,
+  ap,
+  sym,
+  append_assoc,
+  append-nil,
+  arith,
+}
 use Rattle.std.proofs.lemmas.Grind.{common_steps}
 use Rattle.ssh_encoding.specs.declared.error.Error.{Error}
 use Rattle.ssh_encoding.specs.Reading.{with_prefix, texts_within, text_at}
@@ -12,7 +34,8 @@ with_front_twice a b (Ok x) = ap (λ l. Ok (l, x.1)) (sym (append_assoc a b x.0)
 with_front_twice a b (Err e) = refl
 
 -- one more text
-pub texts_more : (front : List (List ℕ)) (fuel less : ℕ) (bytes text rest : List ℕ) → fuel ≡ suc less → (length bytes == 0) ≡ false → text_at bytes ≡ Ok (text, rest)
+pub texts_more : (front : List (List ℕ)) (fuel less : ℕ) (bytes text rest : List ℕ) → fuel ≡ suc less
+    → (length bytes == 0) ≡ false → text_at bytes ≡ Ok (text, rest)
     → with_prefix front (texts_within fuel bytes) ≡ with_prefix (front ++ text ∷ []) (texts_within less rest)
 texts_more front fuel less [] text rest f n h = absurd cc
 texts_more front fuel less (b ∷ bytes) text rest f n h = rw f (rw h (with_front_twice front (text ∷ []) (texts_within less rest)))
@@ -24,7 +47,8 @@ texts_refused front fuel less [] e f n h = absurd cc
 texts_refused front fuel less (b ∷ bytes) e f n h = rw f (rw h refl)
 
 -- the end
-pub texts_end : (front : List (List ℕ)) (fuel : ℕ) (bytes : List ℕ) → (length bytes == 0) ≡ true → with_prefix front (texts_within fuel bytes) ≡ Ok (front, bytes)
+pub texts_end : (front : List (List ℕ)) (fuel : ℕ) (bytes : List ℕ) → (length bytes == 0) ≡ true
+    → with_prefix front (texts_within fuel bytes) ≡ Ok (front, bytes)
 texts_end front zero [] h = ap (λ l. Ok (l, [])) (append-nil front)
 texts_end front (suc fuel) [] h = ap (λ l. Ok (l, [])) (append-nil front)
 texts_end front fuel (b ∷ bytes) h = absurd (grind (arith, common_steps))

@@ -11,7 +11,19 @@ use Rattle.ssh_encoding.specs.declared.error.Error.{Error}
 use Rattle.ssh_encoding.specs.Canonical.{is_canonical}
 use Rattle.ssh_encoding.specs.Reading.{MAX_LEN, MAX_LABEL_LEN, texts_of}
 use Rattle.ssh_encoding.specs.Writing.{uint32, uint64, flag, string}
-use Rattle.ssh_encoding.specs.Spelling.{IsByte, IsArray, IsFlag, IsNumber, IsLen, IsString, IsText, AreTexts, IsTextList, IsMpint, IsLabel}
+use Rattle.ssh_encoding.specs.Spelling.{
+  IsByte,
+  IsArray,
+  IsFlag,
+  IsNumber,
+  IsLen,
+  IsString,
+  IsText,
+  AreTexts,
+  IsTextList,
+  IsMpint,
+  IsLabel,
+}
 
 pub byte_again : (n : ℕ) → IsByte n (n ∷ [])
 byte_again n = refl
@@ -37,7 +49,12 @@ array_again n v h = record { len = h; is = refl }
 
 pub string_again : (v : List ℕ) → length v ≤ MAX_LEN → IsString v (string v)
 unfolding string
-string_again v h = record { head = uint32 (length v); counts = number_again (length v) (omega (arith, h)); is = refl; small = h }
+string_again v h = record {
+  head = uint32 (length v);
+  counts = number_again (length v) (omega (arith, h));
+  is = refl;
+  small = h;
+}
 
 pub text_again : (v : List ℕ) → length v ≤ MAX_LEN → is_utf8 v ≡ true → IsText v (string v)
 text_again v h u = record { is = string_again v h; utf8 = u }
@@ -45,8 +62,16 @@ text_again v h u = record { is = string_again v h; utf8 = u }
 pub mpint_again : (v : List ℕ) → length v ≤ MAX_LEN → is_canonical v ≡ true → IsMpint v (string v)
 mpint_again v h c = record { is = string_again v h; canonical = c }
 
-pub label_again : {A : Type 0} (meaning : List ℕ → Result A Error) (v : A) (name : List ℕ) → length name ≤ MAX_LABEL_LEN → is_utf8 name ≡ true → meaning name ≡ Ok v → IsLabel meaning v (string name)
-label_again meaning v name short u means = record { name = name; is = string_again name (omega (arith, short)); short = short; utf8 = u; means = means }
+pub label_again : {A : Type 0} (meaning : List ℕ → Result A Error) (v : A) (name : List ℕ) → length name ≤ MAX_LABEL_LEN
+    → is_utf8 name ≡ true → meaning name ≡ Ok v → IsLabel meaning v (string name)
+label_again meaning v name short u means = record {
+  name = name;
+  is = string_again name (omega (arith, short));
+  short =
+      short;
+  utf8 = u;
+  means = means;
+}
 
 -- each text is UTF-8
 abbrev pub AreUtf8 : List (List ℕ) → Type 0
@@ -65,15 +90,22 @@ texts_again : (vs : List (List ℕ)) → length (texts_written vs) ≤ MAX_LEN �
 texts_again [] h u = refl
 texts_again (v ∷ vs) h u =
     let both = length-append (string v) (texts_written vs) in
-    let own = string_short v in
-    (string v, texts_written vs, text_again v (omega (arith, h, both, own)) u.0, texts_again vs (omega (arith, h, both)) u.1, refl)
+    let own = string_short v in (
+      string v,
+      texts_written vs,
+      text_again v (omega (arith, h, both, own)) u.0,
+      texts_again vs (omega (arith, h, both)) u.1,
+      refl,
+    )
 
 -- the list as it is written, by its texts
-written_as : {A : Type 0} (items : List (String A)) → flat_map (λ s. string (string_bytes s)) items ≡ texts_written (texts_of items)
+written_as : {A : Type 0} (items : List (String A)) → flat_map (λ s. string (string_bytes s)) items
+    ≡ texts_written (texts_of items)
 written_as [] = refl
 written_as (s ∷ items) = ap (λ l. string (string_bytes s) ++ l) (written_as items)
 
-pub text_list_again : {A : Type 0} (items : List (String A)) → length (texts_written (texts_of items)) ≤ MAX_LEN → AreUtf8 (texts_of items)
+pub text_list_again : {A : Type 0} (items : List (String A)) → length (texts_written (texts_of items)) ≤ MAX_LEN
+    → AreUtf8 (texts_of items)
     → IsTextList (texts_of items) (string (flat_map (λ s. string (string_bytes s)) items))
 text_list_again items h u = record {
   content = texts_written (texts_of items);

@@ -1,5 +1,30 @@
 -- Laws: what a reading takes is a spelling of the value, and a spelling is what it takes.
-use Rattle.std.specs.Prelude.{ℕ, zero, suc, ◌≡◌, ◌≤◌, ◌+◌, ◌==◌, Bool, true, false, not, cond, List, [], ◌∷◌, ◌++◌, length, take, drop, Result, Ok, Err, nat_le, refl}
+use Rattle.std.specs.Prelude.{
+  ℕ,
+  zero,
+  suc,
+  ◌≡◌,
+  ◌≤◌,
+  ◌+◌,
+  ◌==◌,
+  Bool,
+  true,
+  false,
+  not,
+  cond,
+  List,
+  [],
+  ◌∷◌,
+  ◌++◌,
+  length,
+  take,
+  drop,
+  Result,
+  Ok,
+  Err,
+  nat_le,
+  refl,
+}
 use Rattle.std.proofs.Common.{sym, ap, ◌∙◌, subst, arith, append_assoc, ltb}
 use Rattle.std.proofs.lemmas.Bool.{ltb-false, le-ltb}
 use Rattle.std.proofs.lemmas.List.{take_at, drop_at, take-append-drop, length-append, length-take}
@@ -8,8 +33,43 @@ use Rattle.std.specs.Str.{is_utf8}
 use Rattle.ssh_encoding.specs.declared.error.Error.{Error}
 use Rattle.ssh_encoding.specs.declared.error.Error.TheVariants as errors
 use Rattle.ssh_encoding.specs.Canonical.{is_canonical}
-use Rattle.ssh_encoding.specs.Reading.{◌>>=◌, tested, bytes_at, number_at, byte_at, bool_at, len_at, prefix_at, prefixed, inside, all_at, string_at, text_at, mpint_at, label_at, texts_within, texts_at, with_prefix, MAX_LEN, MAX_LABEL_LEN}
-use Rattle.ssh_encoding.specs.Spelling.{Begins, IsExact, IsByte, IsArray, IsFlag, IsNumber, IsLen, IsString, IsText, AreTexts, IsTextList, IsMpint, IsLabel}
+use Rattle.ssh_encoding.specs.Reading.{
+  ◌>>=◌,
+  tested,
+  bytes_at,
+  number_at,
+  byte_at,
+  bool_at,
+  len_at,
+  prefix_at,
+  prefixed,
+  inside,
+  all_at,
+  string_at,
+  text_at,
+  mpint_at,
+  label_at,
+  texts_within,
+  texts_at,
+  with_prefix,
+  MAX_LEN,
+  MAX_LABEL_LEN,
+}
+use Rattle.ssh_encoding.specs.Spelling.{
+  Begins,
+  IsExact,
+  IsByte,
+  IsArray,
+  IsFlag,
+  IsNumber,
+  IsLen,
+  IsString,
+  IsText,
+  AreTexts,
+  IsTextList,
+  IsMpint,
+  IsLabel,
+}
 
 -- ---- steps of a reading
 
@@ -32,49 +92,73 @@ passed true d x y e = (refl, cc)
 passed false d x y e = absurd cc
 
 -- the value of a step that did not fail
-bind_ok : {A B E : Type 0} (r : Result A E) (f : A → Result B E) (y : B) → (r >>= f) ≡ Ok y → (x : A) × (r ≡ Ok x) × (f x ≡ Ok y)
+bind_ok : {A B E : Type 0} (r : Result A E) (f : A → Result B E) (y : B) → (r >>= f) ≡ Ok y → (x : A) × (r ≡ Ok x)
+    × (f x ≡ Ok y)
 bind_ok (Ok x) f y e = (x, refl, e)
 bind_ok (Err d) f y e = absurd cc
 
 -- a tested value
-tested_ok : {A : Type 0} (test : A → Bool) (d : Error) (r : Result (A × List ℕ) Error) (y : A × List ℕ) → tested test d r ≡ Ok y → (test y.0 ≡ true) × (r ≡ Ok y)
+tested_ok : {A : Type 0} (test : A → Bool) (d : Error) (r : Result (A × List ℕ) Error) (y : A × List ℕ)
+    → tested test d r ≡ Ok y → (test y.0 ≡ true) × (r ≡ Ok y)
 tested_ok test d (Ok x) y e =
     let p = passed (test x.0) d x y e in
     (sym (ap (λ (z : _ × List ℕ). test z.0) p.1) ∙ p.0, ap (λ z. Ok z) p.1)
 tested_ok test d (Err x) y e = absurd cc
 
-tested_again : {A : Type 0} (test : A → Bool) (d : Error) (r : Result (A × List ℕ) Error) (y : A × List ℕ) → r ≡ Ok y → test y.0 ≡ true → tested test d r ≡ Ok y
+tested_again : {A : Type 0} (test : A → Bool) (d : Error) (r : Result (A × List ℕ) Error) (y : A × List ℕ) → r ≡ Ok y
+    → test y.0 ≡ true → tested test d r ≡ Ok y
 tested_again test d r y e h = rw (e, h) refl
 
 -- another kind of text
-begins_as : {P Q : List ℕ → Type 0} (bytes rest : List ℕ) → ((text : List ℕ) → P text → Q text) → Begins P bytes rest → Begins Q bytes rest
+begins_as : {P Q : List ℕ → Type 0} (bytes rest : List ℕ) → ((text : List ℕ) → P text → Q text) → Begins P bytes rest
+    → Begins Q bytes rest
 begins_as bytes rest f h = record { text = h.text; is = f h.text h.is; splits = h.splits }
 
 -- a reading with a test spells what the reading spells and the test passes
-tested_exact : {A : Type 0} (spells more : A → List ℕ → Type 0) (reading : List ℕ → Result (A × List ℕ) Error) (test : A → Bool) (d : Error) (bytes rest : List ℕ) (v : A)
-    → ((text : List ℕ) → spells v text → test v ≡ true → more v text) → ((text : List ℕ) → more v text → spells v text × (test v ≡ true))
+tested_exact : {A : Type 0} (spells more : A → List ℕ → Type 0) (reading : List ℕ → Result (A × List ℕ) Error)
+    (test : A → Bool) (d : Error) (bytes rest : List ℕ) (v : A)
+    → ((text : List ℕ) → spells v text → test v ≡ true → more v text)
+    → ((text : List ℕ) → more v text → spells v text × (test v ≡ true))
     → IsExact spells reading bytes rest v → IsExact more (λ b. tested test d (reading b)) bytes rest v
 tested_exact spells more reading test d bytes rest v to from exact = record {
-  takes = λ e. let t = tested_ok test d (reading bytes) (v, rest) e in begins_as bytes rest (λ text h. to text h t.0) (exact.takes t.1);
-  again = λ h. tested_again test d (reading bytes) (v, rest) (exact.again (begins_as bytes rest (λ text m. (from text m).0) h)) (from h.text h.is).1;
+  takes = λ e. let t = tested_ok test d (reading bytes) (v, rest) e in
+      begins_as bytes rest (λ text h. to text h t.0) (exact.takes t.1);
+  again = λ h. tested_again test d (reading bytes) (v, rest) (exact.again
+      (begins_as bytes rest (λ text m. (from text m).0) h)) (from h.text h.is).1;
 }
 
 -- ---- each type
 
 pub byte_exact : (bytes rest : List ℕ) (v : ℕ) → IsExact IsByte byte_at bytes rest v
 unfolding byte_at
-byte_exact [] rest v = record { takes = λ e. absurd cc; again = λ h. let e : [] ≡ v ∷ rest = h.splits ∙ ap (λ (t : List ℕ). t ++ rest) h.is in absurd cc }
+byte_exact [] rest v = record {
+  takes = λ e. absurd cc;
+  again = λ h. let e : [] ≡ v ∷ rest = h.splits
+      ∙ ap (λ (t : List ℕ). t ++ rest) h.is in absurd cc;
+}
 byte_exact (b ∷ bytes) rest v = record {
-  takes = λ e. let is = ok_is (b, bytes) (v, rest) e in record { text = v ∷ []; is = refl; splits = ap (λ (p : ℕ × List ℕ). p.0 ∷ p.1) is };
-  again = λ h. let e : b ∷ bytes ≡ v ∷ rest = h.splits ∙ ap (λ (t : List ℕ). t ++ rest) h.is in let b-is : b ≡ v = cc in let rest-is : bytes ≡ rest = cc in rw (b-is, rest-is) refl;
+  takes = λ e. let is = ok_is (b, bytes) (v, rest) e in record
+      { text = v ∷ []; is = refl; splits = ap (λ (p : ℕ × List ℕ). p.0 ∷ p.1) is };
+  again = λ h. let e : b ∷ bytes ≡ v ∷ rest = h.splits ∙ ap (λ (t : List ℕ). t ++ rest) h.is in let b-is : b ≡ v = cc in
+      let rest-is : bytes ≡ rest = cc in rw (b-is, rest-is) refl;
 }
 
 pub flag_exact : (bytes rest : List ℕ) (b : Bool) → IsExact IsFlag bool_at bytes rest b
 unfolding bool_at byte_at
-flag_exact [] rest b = record { takes = λ e. absurd cc; again = λ h. let e : [] ≡ h.is.byte ∷ rest = h.splits ∙ ap (λ (t : List ℕ). t ++ rest) h.is.is in absurd cc }
+flag_exact [] rest b = record {
+  takes = λ e. absurd cc;
+  again = λ h. let e : [] ≡ h.is.byte ∷ rest = h.splits
+      ∙ ap (λ (t : List ℕ). t ++ rest) h.is.is in absurd cc;
+}
 flag_exact (x ∷ bytes) rest b = record {
-  takes = λ e. let is = ok_is (not (x == 0), bytes) (b, rest) e in record { text = x ∷ []; is = record { byte = x; is = refl; value = sym (ap (λ (p : Bool × List ℕ). p.0) is) }; splits = ap (λ (p : Bool × List ℕ). x ∷ p.1) is };
-  again = λ h. let e : x ∷ bytes ≡ h.is.byte ∷ rest = h.splits ∙ ap (λ (t : List ℕ). t ++ rest) h.is.is in let x-is : x ≡ h.is.byte = cc in let rest-is : bytes ≡ rest = cc in rw (x-is, rest-is, h.is.value) refl;
+  takes = λ e. let is = ok_is (not (x == 0), bytes) (b, rest) e in
+      record {
+        text = x ∷ [];
+        is = record { byte = x; is = refl; value = sym (ap (λ (p : Bool × List ℕ). p.0) is) };
+        splits = ap (λ (p : Bool × List ℕ). x ∷ p.1) is;
+      };
+  again = λ h. let e : x ∷ bytes ≡ h.is.byte ∷ rest = h.splits ∙ ap (λ (t : List ℕ). t ++ rest) h.is.is in let x-is : x
+      ≡ h.is.byte = cc in let rest-is : bytes ≡ rest = cc in rw (x-is, rest-is, h.is.value) refl;
 }
 
 pub array_exact : (n : ℕ) (bytes rest v : List ℕ) → IsExact (IsArray n) (bytes_at n) bytes rest v
@@ -83,7 +167,12 @@ array_exact n bytes rest v = record {
       let g = guard_ok (ltb (length bytes) n) errors.Length (take n bytes, drop n bytes) (v, rest) e in
       let long : n ≤ length bytes = ltb-false _ _ g.0 in
       subst (λ (p : List ℕ × List ℕ). Begins (IsArray n p.0) bytes p.1) g.1
-      record { text = take n bytes; is = record { len = omega (arith, length-take n bytes); is = refl }; splits = sym (take-append-drop n bytes) };
+      record {
+        text = take n bytes;
+        is = record { len = omega (arith, length-take n bytes); is = refl };
+        splits =
+            sym (take-append-drop n bytes);
+      };
   again = λ h.
       let e : bytes ≡ v ++ rest = h.splits ∙ ap (λ (t : List ℕ). t ++ rest) h.is.is in
       let long : ltb (length (v ++ rest)) n ≡ false = le-ltb _ _ (omega (arith, length-append v rest, h.is.len)) in
@@ -93,16 +182,29 @@ array_exact n bytes rest v = record {
 pub number_exact : (w : Width) (bytes rest : List ℕ) (n : ℕ) → IsExact (IsNumber w) (number_at w) bytes rest n
 number_exact w bytes rest n = record {
   takes = λ e.
-      let g = guard_ok (ltb (length bytes) (byte_len w)) errors.Length (from_be_bytes w (take (byte_len w) bytes), drop (byte_len w) bytes) (n, rest) e in
+      let g = guard_ok (ltb (length bytes) (byte_len w)) errors.Length
+      (from_be_bytes w (take (byte_len w) bytes), drop (byte_len w) bytes) (n, rest) e in
       let long : byte_len w ≤ length bytes = ltb-false _ _ g.0 in
       record {
         text = take (byte_len w) bytes;
-        is = record { len = omega (arith, length-take (byte_len w) bytes); value = sym (ap (λ (p : ℕ × List ℕ). p.0) g.1) };
-        splits = sym (take-append-drop (byte_len w) bytes) ∙ ap (λ (p : ℕ × List ℕ). take (byte_len w) bytes ++ p.1) g.1;
+        is = record {
+          len = omega (arith, length-take (byte_len w) bytes);
+          value =
+              sym (ap (λ (p : ℕ × List ℕ). p.0) g.1);
+        };
+        splits = sym (take-append-drop (byte_len w) bytes) ∙ ap (λ (p : ℕ × List ℕ). take (byte_len w) bytes ++ p.1)
+            g.1;
       };
   again = λ b.
-      let long : ltb (length (b.text ++ rest)) (byte_len w) ≡ false = le-ltb _ _ (omega (arith, length-append b.text rest, b.is.len)) in
-      rw (b.splits, long, take_at b.text rest (byte_len w) b.is.len, drop_at b.text rest (byte_len w) b.is.len, ← b.is.value) refl;
+      let long : ltb (length (b.text ++ rest)) (byte_len w) ≡ false =
+      le-ltb _ _ (omega (arith, length-append b.text rest, b.is.len)) in
+      rw (
+        b.splits,
+        long,
+        take_at b.text rest (byte_len w) b.is.len,
+        drop_at b.text rest (byte_len w) b.is.len,
+        ← b.is.value,
+      ) refl;
 }
 
 small_len : (n : ℕ) → nat_le n MAX_LEN ≡ true → n ≤ MAX_LEN
@@ -113,11 +215,14 @@ len_small n h = grind arith
 
 pub len_exact : (bytes rest : List ℕ) (n : ℕ) → IsExact IsLen len_at bytes rest n
 unfolding len_at
-len_exact bytes rest n = tested_exact (IsNumber w32) IsLen (number_at w32) (λ m. nat_le m MAX_LEN) errors.Overflow bytes rest n
-    (λ text h t. record { is = h; small = small_len n t }) (λ text h. (h.is, len_small n h.small)) (number_exact w32 bytes rest n)
+len_exact bytes rest n = tested_exact (IsNumber w32) IsLen (number_at w32) (λ m. nat_le m MAX_LEN) errors.Overflow bytes
+    rest n
+    (λ text h t. record { is = h; small = small_len n t }) (λ text h. (h.is, len_small n h.small))
+    (number_exact w32 bytes rest n)
 
 -- a spelling of an equal value, with an equal rest
-begins_at : (bytes v rest w tail : List ℕ) → (let p : List ℕ × List ℕ = (w, tail) in p) ≡ (v, rest) → Begins (IsString w) bytes tail → Begins (IsString v) bytes rest
+begins_at : (bytes v rest w tail : List ℕ) → (let p : List ℕ × List ℕ = (w, tail) in p) ≡ (v, rest)
+    → Begins (IsString w) bytes tail → Begins (IsString v) bytes rest
 begins_at bytes v rest w tail e h = subst (λ (x : List ℕ × List ℕ). Begins (IsString x.0) bytes x.1) e h
 
 pub prefix_takes : (bytes v rest : List ℕ) → prefix_at bytes ≡ Ok (v, rest) → Begins (IsString v) bytes rest
@@ -138,26 +243,42 @@ prefix_takes bytes v rest e =
     begins_at bytes v rest (take n tail) (drop n tail) is record {
       text = take 4 bytes ++ take n tail;
       is = record { head = take 4 bytes; counts = record { len = four; value = len }; is = refl; small = short };
-      splits = sym (take-append-drop 4 bytes) ∙ ap (λ (l : List ℕ). take 4 bytes ++ l) (sym (take-append-drop n tail)) ∙ sym (append_assoc (take 4 bytes) (take n tail) (drop n tail));
+      splits = sym (take-append-drop 4 bytes) ∙ ap (λ (l : List ℕ). take 4 bytes ++ l) (sym (take-append-drop n tail))
+          ∙ sym (append_assoc (take 4 bytes) (take n tail) (drop n tail));
     }
 
 pub prefix_again : (bytes v rest : List ℕ) → Begins (IsString v) bytes rest → prefix_at bytes ≡ Ok (v, rest)
 unfolding prefix_at
 prefix_again bytes v rest h =
-    let e : bytes ≡ h.is.head ++ (v ++ rest) = h.splits ∙ ap (λ (l : List ℕ). l ++ rest) h.is.is ∙ append_assoc h.is.head v rest in
+    let e : bytes ≡ h.is.head ++ (v ++ rest) = h.splits ∙ ap (λ (l : List ℕ). l ++ rest) h.is.is
+    ∙ append_assoc h.is.head v rest in
     let front : take 4 (h.is.head ++ (v ++ rest)) ≡ h.is.head = take_at h.is.head (v ++ rest) 4 h.is.counts.len in
     let back : drop 4 (h.is.head ++ (v ++ rest)) ≡ v ++ rest = drop_at h.is.head (v ++ rest) 4 h.is.counts.len in
-    let long : ltb (length (h.is.head ++ (v ++ rest))) 4 ≡ false = le-ltb _ _ (omega (arith, length-append h.is.head (v ++ rest), h.is.counts.len)) in
+    let long : ltb (length (h.is.head ++ (v ++ rest))) 4 ≡ false =
+    le-ltb _ _ (omega (arith, length-append h.is.head (v ++ rest), h.is.counts.len)) in
     let small : ltb MAX_LEN (length v) ≡ false = le-ltb _ _ h.is.small in
     let room : ltb (length (v ++ rest)) (length v) ≡ false = le-ltb _ _ (omega (arith, length-append v rest)) in
-    rw (e, long, front, ← h.is.counts.value, small, back, room, take_at v rest (length v) refl, drop_at v rest (length v) refl) refl
+    rw (
+      e,
+      long,
+      front,
+      ← h.is.counts.value,
+      small,
+      back,
+      room,
+      take_at v rest (length v) refl,
+      drop_at v rest (length v) refl,
+    ) refl
 
-inside_ok : {A : Type 0} (reading : List ℕ → Result (A × List ℕ) Error) (r : Result (List ℕ × List ℕ) (Error × List ℕ)) (y : A × List ℕ) → inside reading r ≡ Ok y
+inside_ok : {A : Type 0} (reading : List ℕ → Result (A × List ℕ) Error) (r : Result (List ℕ × List ℕ) (Error × List ℕ))
+    (y : A × List ℕ) → inside reading r ≡ Ok y
     → (p : List ℕ × List ℕ) × (r ≡ Ok p) × ((x : A × List ℕ) × (reading p.0 ≡ Ok x) × ((x.0, p.1) ≡ y))
-inside_ok reading (Ok p) y e = let b = bind_ok (reading p.0) (λ x. Ok (x.0, p.1)) y e in (p, refl, (b.0, b.1, ok_is _ _ b.2))
+inside_ok reading (Ok p) y e = let b = bind_ok (reading p.0) (λ x. Ok (x.0, p.1)) y e in
+    (p, refl, (b.0, b.1, ok_is _ _ b.2))
 inside_ok reading (Err r) y e = absurd cc
 
-all_inside : (r : Result (List ℕ × List ℕ) (Error × List ℕ)) (v rest : List ℕ) → inside all_at r ≡ Ok (v, rest) → r ≡ Ok (v, rest)
+all_inside : (r : Result (List ℕ × List ℕ) (Error × List ℕ)) (v rest : List ℕ) → inside all_at r ≡ Ok (v, rest) → r
+    ≡ Ok (v, rest)
 all_inside (Ok p) v rest e = ap (λ x. Ok x) (ok_is _ _ e)
 all_inside (Err d) v rest e = absurd cc
 
@@ -195,7 +316,8 @@ abbrev name_at : List ℕ → Result (List ℕ × List ℕ) Error
 name_at bytes = tested is_utf8 errors.CharacterEncoding (short_at bytes)
 
 short_exact : (bytes rest v : List ℕ) → IsExact IsName short_at bytes rest v
-short_exact bytes rest v = tested_exact IsString IsName string_at (λ t. nat_le (length t) MAX_LABEL_LEN) errors.Length bytes rest v
+short_exact bytes rest v = tested_exact IsString IsName string_at (λ t. nat_le (length t) MAX_LABEL_LEN) errors.Length
+    bytes rest v
     (λ text h t. record { is = h; short = t }) (λ text h. (h.is, h.short)) (string_exact bytes rest v)
 
 name_exact : (bytes rest v : List ℕ) → IsExact IsNameText name_at bytes rest v
@@ -208,7 +330,8 @@ short_le n h = grind arith
 le_short : (n : ℕ) → n ≤ MAX_LABEL_LEN → nat_le n MAX_LABEL_LEN ≡ true
 le_short n h = grind arith
 
-pub label_exact : {A : Type 0} (meaning : List ℕ → Result A Error) (bytes rest : List ℕ) (v : A) → IsExact (IsLabel meaning) (label_at meaning) bytes rest v
+pub label_exact : {A : Type 0} (meaning : List ℕ → Result A Error) (bytes rest : List ℕ) (v : A)
+    → IsExact (IsLabel meaning) (label_at meaning) bytes rest v
 unfolding label_at
 label_exact meaning bytes rest v = record {
   takes = λ e.
@@ -218,7 +341,13 @@ label_exact meaning bytes rest v = record {
       let name = (name_exact bytes b.0.1 b.0.0).takes b.1 in
       subst (λ x. Begins (IsLabel meaning x.0) bytes x.1) is record {
         text = name.text;
-        is = record { name = b.0.0; is = name.is.is.is; short = short_le _ name.is.is.short; utf8 = name.is.utf8; means = c.1 };
+        is = record {
+          name = b.0.0;
+          is = name.is.is.is;
+          short = short_le _ name.is.is.short;
+          utf8 = name.is.utf8;
+          means = c.1;
+        };
         splits = name.splits;
       };
   again = λ h.
@@ -235,9 +364,16 @@ label_exact meaning bytes rest v = record {
 -- a text takes four bytes at least
 text_shorter : (bytes rest v : List ℕ) → Begins (IsText v) bytes rest → length rest + 4 ≤ length bytes
 text_shorter bytes rest v h =
-    rw (ap (λ l. length l) h.splits, length-append h.text rest, ap (λ l. length l) h.is.is.is, length-append h.is.is.head v, h.is.is.counts.len) (omega arith)
+    rw (
+      ap (λ l. length l) h.splits,
+      length-append h.text rest,
+      ap (λ l. length l) h.is.is.is,
+      length-append h.is.is.head v,
+      h.is.is.counts.len,
+    ) (omega arith)
 
-with_prefix_ok : (front : List (List ℕ)) (r : Result (List (List ℕ) × List ℕ) Error) (y : List (List ℕ) × List ℕ) → with_prefix front r ≡ Ok y
+with_prefix_ok : (front : List (List ℕ)) (r : Result (List (List ℕ) × List ℕ) Error) (y : List (List ℕ) × List ℕ)
+    → with_prefix front r ≡ Ok y
     → (x : List (List ℕ) × List ℕ) × (r ≡ Ok x) × ((front ++ x.0, x.1) ≡ y)
 with_prefix_ok front r y e = let b = bind_ok r (λ x. Ok (front ++ x.0, x.1)) y e in (b.0, b.1, ok_is _ _ b.2)
 
@@ -249,7 +385,8 @@ pub record AllTexts (vs : List (List ℕ)) (bytes rest : List ℕ) : Type 0 wher
 abbrev is_all : List (List ℕ) × List ℕ → List ℕ → Type 0
 is_all y bytes = AllTexts y.0 bytes y.1
 
-texts_takes : (most : ℕ) (bytes : List ℕ) (y : List (List ℕ) × List ℕ) → length bytes ≤ most → texts_within most bytes ≡ Ok y → is_all y bytes
+texts_takes : (most : ℕ) (bytes : List ℕ) (y : List (List ℕ) × List ℕ) → length bytes ≤ most → texts_within most bytes
+    ≡ Ok y → is_all y bytes
 texts_takes zero [] y h e = subst (λ z. is_all z []) (ok_is _ _ e) record { texts = refl; none = refl }
 texts_takes zero (b ∷ bytes) y h e = absurd (omega arith)
 texts_takes (suc most) [] y h e = subst (λ z. is_all z []) (ok_is _ _ e) record { texts = refl; none = refl }
@@ -270,7 +407,8 @@ text_not_empty v front back h e =
     let l : length (front ++ back) ≡ 0 = sym (ap (λ l. length l) e) in
     omega (arith, n, l)
 
-texts_again : (most : ℕ) (vs : List (List ℕ)) (bytes : List ℕ) → length bytes ≤ most → AreTexts vs bytes → texts_within most bytes ≡ Ok (vs, [])
+texts_again : (most : ℕ) (vs : List (List ℕ)) (bytes : List ℕ) → length bytes ≤ most → AreTexts vs bytes
+    → texts_within most bytes ≡ Ok (vs, [])
 texts_again zero [] bytes h t = rw t refl
 texts_again (suc most) [] bytes h t = rw t refl
 texts_again zero (v ∷ vs) [] h t = absurd (text_not_empty v t.0 t.1 t.2 t.4)

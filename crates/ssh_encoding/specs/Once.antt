@@ -3,7 +3,18 @@ use Rattle.std.specs.Prelude.{ℕ, zero, suc, ◌≡◌, List, [], ◌∷◌, �
 use Rattle.std.proofs.Common.{sym, ap, ◌∙◌, arith}
 use Rattle.std.specs.Int.{w32, w64}
 use Rattle.std.proofs.lemmas.Nat.{be_bytes_4, be_bytes_8}
-use Rattle.ssh_encoding.specs.Spelling.{AreBytes, IsByte, IsArray, IsNumber, IsLen, IsString, IsText, AreTexts, IsTextList, IsMpint}
+use Rattle.ssh_encoding.specs.Spelling.{
+  AreBytes,
+  IsByte,
+  IsArray,
+  IsNumber,
+  IsLen,
+  IsString,
+  IsText,
+  AreTexts,
+  IsTextList,
+  IsMpint,
+}
 
 pub byte_once : (v : ℕ) (a b : List ℕ) → AreBytes a → AreBytes b → IsByte v a → IsByte v b → a ≡ b
 byte_once v a b p q h k = h ∙ sym k
@@ -32,7 +43,8 @@ back_bytes a (x ∷ front) back e h = back_bytes (front ++ back) front back refl
 
 pub string_once : (v a b : List ℕ) → AreBytes a → AreBytes b → IsString v a → IsString v b → a ≡ b
 string_once v a b p q h k =
-    let heads = number_once (length v) h.head k.head (front_bytes a h.head v h.is p) (front_bytes b k.head v k.is q) h.counts k.counts in
+    let heads = number_once (length v) h.head k.head (front_bytes a h.head v h.is p) (front_bytes b k.head v k.is q)
+    h.counts k.counts in
     h.is ∙ ap (λ l. l ++ v) heads ∙ sym k.is
 
 pub text_once : (v a b : List ℕ) → AreBytes a → AreBytes b → IsText v a → IsText v b → a ≡ b
@@ -48,7 +60,9 @@ texts_once (v ∷ vs) a b p q h k =
     let back = texts_once vs h.1 k.1 (back_bytes a h.0 h.1 h.4 p) (back_bytes b k.0 k.1 k.4 q) h.3 k.3 in
     h.4 ∙ ap (λ l. l ++ h.1) front ∙ ap (λ l. k.0 ++ l) back ∙ sym k.4
 
-pub text_list_once : (vs : List (List ℕ)) (a b : List ℕ) → AreBytes a → AreBytes b → IsTextList vs a → IsTextList vs b → a ≡ b
+pub text_list_once : (vs : List (List ℕ)) (a b : List ℕ) → AreBytes a → AreBytes b → IsTextList vs a → IsTextList vs b
+    → a ≡ b
 text_list_once vs a b p q h k =
-    let contents = texts_once vs h.content k.content (back_bytes a h.is.head h.content h.is.is p) (back_bytes b k.is.head k.content k.is.is q) h.texts k.texts in
+    let contents = texts_once vs h.content k.content (back_bytes a h.is.head h.content h.is.is p)
+    (back_bytes b k.is.head k.content k.is.is q) h.texts k.texts in
     string_once h.content a b p q h.is (rw contents k.is)

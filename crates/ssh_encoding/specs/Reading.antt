@@ -1,5 +1,31 @@
 -- What a list of bytes begins with, and what follows it: the data types of RFC 4251, section 5.
-use Rattle.std.specs.Prelude.{ℕ, zero, suc, ◌≡◌, ◌⊎◌, ◌≤◌, ◌==◌, Bool, not, List, [], ◌∷◌, ◌++◌, length, map, take, drop, Result, Ok, Err, nat_lt, nat_le, is_ok, IsErrAnd, if◌then◌else◌}
+use Rattle.std.specs.Prelude.{
+  ℕ,
+  zero,
+  suc,
+  ◌≡◌,
+  ◌⊎◌,
+  ◌≤◌,
+  ◌==◌,
+  Bool,
+  not,
+  List,
+  [],
+  ◌∷◌,
+  ◌++◌,
+  length,
+  map,
+  take,
+  drop,
+  Result,
+  Ok,
+  Err,
+  nat_lt,
+  nat_le,
+  is_ok,
+  IsErrAnd,
+  if◌then◌else◌,
+}
 use Rattle.std.specs.Int.{Width, w32, byte_len, from_be_bytes}
 use Rattle.std.specs.Str.{is_utf8}
 use Rattle.std.specs.String.{string_bytes}
@@ -26,6 +52,11 @@ Reads seen memory rest (Err e) read = memory e ⊎ (read ≡ Err e)
 abbrev pub ReadsTo : {T S : Type 0} → (T → S) → List ℕ → Result T Error → Result (S × List ℕ) (Error × List ℕ) → Type 0
 ReadsTo seen rest (Ok v) read = read ≡ Ok (seen v, rest)
 ReadsTo seen rest (Err e) read = read ≡ Err (e, rest)
+
+-- The same where no memory is taken.
+abbrev pub ReadsPlain : {T S : Type 0} → (T → S) → List ℕ → Result T Error → Result (S × List ℕ) Error → Type 0
+ReadsPlain seen rest (Ok v) read = read ≡ Ok (seen v, rest)
+ReadsPlain seen rest (Err e) read = read ≡ Err e
 
 -- What a call returned is what a text means, unless memory ran out.
 abbrev pub Names : {T A : Type 0} → (T → A) → Result T Error → Result A Error → Type 0
@@ -69,7 +100,8 @@ bool_at bytes = do
 
 -- uint32 and uint64: most significant byte first
 abbrev pub number_at : Width → List ℕ → Result (ℕ × List ℕ) Error
-number_at w bytes = if nat_lt (length bytes) (byte_len w) then Err errors.Length else Ok (from_be_bytes w (take (byte_len w) bytes), drop (byte_len w) bytes)
+number_at w bytes = if nat_lt (length bytes) (byte_len w) then Err errors.Length else
+    Ok (from_be_bytes w (take (byte_len w) bytes), drop (byte_len w) bytes)
 
 -- a length: a uint32 within the limit
 unfoldable pub len_at : List ℕ → Result (ℕ × List ℕ) Error
@@ -81,10 +113,14 @@ prefix_at bytes =
     if nat_lt (length bytes) 4 then Err (errors.Length, bytes)
     else if nat_lt MAX_LEN (from_be_bytes w32 (take 4 bytes)) then Err (errors.Overflow, drop 4 bytes)
     else if nat_lt (length (drop 4 bytes)) (from_be_bytes w32 (take 4 bytes)) then Err (errors.Length, drop 4 bytes)
-    else Ok (take (from_be_bytes w32 (take 4 bytes)) (drop 4 bytes), drop (from_be_bytes w32 (take 4 bytes)) (drop 4 bytes))
+    else Ok (
+      take (from_be_bytes w32 (take 4 bytes)) (drop 4 bytes),
+      drop (from_be_bytes w32 (take 4 bytes)) (drop 4 bytes),
+    )
 
 -- What a reading makes of the bytes after a length.
-abbrev pub inside : {A : Type 0} → (List ℕ → Result (A × List ℕ) Error) → Result (List ℕ × List ℕ) (Error × List ℕ) → Result (A × List ℕ) Error
+abbrev pub inside : {A : Type 0} → (List ℕ → Result (A × List ℕ) Error) → Result (List ℕ × List ℕ) (Error × List ℕ)
+    → Result (A × List ℕ) Error
 inside reading (Ok p) = reading p.0 >>= λ x. Ok (x.0, p.1)
 inside reading (Err r) = Err r.0
 
@@ -110,7 +146,8 @@ mpint_at bytes = tested is_canonical errors.MpintEncoding (string_at bytes)
 -- a name: a string of at most 48 bytes in UTF-8 that has a meaning
 unfoldable pub label_at : {A : Type 0} → (List ℕ → Result A Error) → List ℕ → Result (A × List ℕ) Error
 label_at meaning bytes = do
-  text ← tested is_utf8 errors.CharacterEncoding (tested (λ t. nat_le (length t) MAX_LABEL_LEN) errors.Length (string_at bytes))
+  text ← tested is_utf8 errors.CharacterEncoding (tested (λ t. nat_le (length t) MAX_LABEL_LEN) errors.Length
+      (string_at bytes))
   label ← meaning text.0
   Ok (label, text.1)
 
@@ -122,7 +159,8 @@ with_prefix prefix read = read >>= λ x. Ok (prefix ++ x.0, x.1)
 abbrev pub texts_within : ℕ → List ℕ → Result (List (List ℕ) × List ℕ) Error
 texts_within zero bytes = Ok ([], bytes)
 texts_within (suc most) [] = Ok ([], [])
-texts_within (suc most) (b ∷ bytes) = text_at (b ∷ bytes) >>= λ text. with_prefix (text.0 ∷ []) (texts_within most text.1)
+texts_within (suc most) (b ∷ bytes) = text_at (b ∷ bytes) >>= λ text. with_prefix (text.0 ∷ [])
+    (texts_within most text.1)
 
 abbrev pub texts_at : List ℕ → Result (List (List ℕ) × List ℕ) Error
 texts_at bytes = texts_within (length bytes) bytes
@@ -134,29 +172,38 @@ texts_of = map string_bytes
 
 -- a string of at most `most` bytes
 unfoldable pub string_within : ℕ → List ℕ → Result (List ℕ × List ℕ) (Error × List ℕ)
-string_within most bytes = prefix_at bytes >>= λ p. if nat_lt most (length p.0) then Err (errors.Length, drop 4 bytes) else Ok p
+string_within most bytes = prefix_at bytes >>= λ p. if nat_lt most (length p.0) then
+    Err (errors.Length, drop 4 bytes) else Ok p
 
 -- the same in UTF-8
 unfoldable pub text_within : ℕ → List ℕ → Result (List ℕ × List ℕ) (Error × List ℕ)
-text_within most bytes = string_within most bytes >>= λ p. if is_utf8 p.0 then Ok p else Err (errors.CharacterEncoding, p.1)
+text_within most bytes = string_within most bytes >>= λ p. if is_utf8 p.0 then Ok p else
+    Err (errors.CharacterEncoding, p.1)
 
 -- the number of bytes of a string
 unfoldable pub string_len_at : List ℕ → Result (ℕ × List ℕ) (Error × List ℕ)
 string_len_at bytes = prefix_at bytes >>= λ p. Ok (length p.0, p.1)
 
 -- A reader of the bytes after a length was found, and the other one stands after the length.
-abbrev pub FindsPrefix : {S : Type 0} → (S → List ℕ) → List ℕ → Result S Error → List ℕ → Result (List ℕ × List ℕ) (Error × List ℕ) → Type 0
-FindsPrefix left old (Ok inner) new read = (read ≡ Ok (left inner, drop (length (left inner)) new)) × (left inner ≡ take (length (left inner)) new) × (length (left inner) ≤ length new) × (new ≡ drop 4 old)
+abbrev pub FindsPrefix : {S : Type 0} → (S → List ℕ) → List ℕ → Result S Error → List ℕ
+    → Result (List ℕ × List ℕ) (Error × List ℕ) → Type 0
+FindsPrefix left old (Ok inner) new read = (read ≡ Ok (left inner, drop (length (left inner)) new))
+    × (left inner ≡ take (length (left inner)) new) × (length (left inner) ≤ length new) × (new ≡ drop 4 old)
 FindsPrefix left old (Err e) new read = read ≡ Err (e, new)
 
 -- f was lent a reader of these bytes, gave this result and left that reader so.
-pub record Lent {S F T : Type 0} (g : Once F (MutBor S × Unit {0}) (T × (MutBor S × Unit {0}))) (left : S → List ℕ) (f : F) (bytes : List ℕ) (result : T) : Type 0 where
+pub record Lent {S F T : Type 0} (g : Once F (MutBor S × Unit {0}) (T × (MutBor S × Unit {0}))) (left : S → List ℕ)
+    (f : F) (bytes : List ℕ) (result : T) : Type 0 where
   pub inner : S
   pub after : S
   pub shows : left inner ≡ bytes
   pub met : FnOnceReturnsAtMut g f inner result after
 
--- What `read_prefixed` does to a reader that held old and then holds new: after the bytes on Ok, after the length on the closure's own refusal.
-abbrev pub ReadsPrefixed : {F S T E : Type 0} → Once F (MutBor S × Unit {0}) (Result T E × (MutBor S × Unit {0})) → (S → List ℕ) → (Error → E → Type 0) → F → List ℕ → Result T E → List ℕ → Result (List ℕ × List ℕ) (Error × List ℕ) → Type 0
+-- What `read_prefixed` does to a reader that held old and then holds new: after the bytes on Ok, after the length on
+-- the closure's own refusal.
+abbrev pub ReadsPrefixed : {F S T E : Type 0} → Once F (MutBor S × Unit {0}) (Result T E × (MutBor S × Unit {0}))
+    → (S → List ℕ) → (Error → E → Type 0) → F → List ℕ → Result T E → List ℕ → Result (List ℕ × List ℕ) (Error × List ℕ)
+    → Type 0
 ReadsPrefixed g left gives f old result new (Err r) = IsErrAnd result (gives r.0) × (new ≡ r.1)
-ReadsPrefixed g left gives f old result new (Ok p) = Lent g left f p.0 result × (new ≡ (if is_ok result then p.1 else drop 4 old))
+ReadsPrefixed g left gives f old result new (Ok p) = Lent g left f p.0 result
+    × (new ≡ (if is_ok result then p.1 else drop 4 old))

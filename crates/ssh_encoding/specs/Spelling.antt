@@ -13,7 +13,8 @@ pub record Begins (IsText : List ℕ → Type 0) (bytes rest : List ℕ) : Type 
   pub splits : bytes ≡ text ++ rest
 
 -- What is read is spelled so, and what is spelled so is read.
-pub record IsExact {A E : Type 0} (spells : A → List ℕ → Type 0) (reading : List ℕ → Result (A × List ℕ) E) (bytes rest : List ℕ) (v : A) : Type 0 where
+pub record IsExact {A E : Type 0} (spells : A → List ℕ → Type 0) (reading : List ℕ → Result (A × List ℕ) E)
+    (bytes rest : List ℕ) (v : A) : Type 0 where
   pub takes : reading bytes ≡ Ok (v, rest) → Begins (spells v) bytes rest
   pub again : Begins (spells v) bytes rest → reading bytes ≡ Ok (v, rest)
 
@@ -60,7 +61,8 @@ pub record IsText (v text : List ℕ) : Type 0 where
 -- texts one after another
 abbrev pub AreTexts : List (List ℕ) → List ℕ → Type 0
 AreTexts [] content = content ≡ []
-AreTexts (v ∷ vs) content = (front : List ℕ) × (back : List ℕ) × IsText v front × AreTexts vs back × (content ≡ front ++ back)
+AreTexts (v ∷ vs) content = (front : List ℕ) × (back : List ℕ) × IsText v front × AreTexts vs back
+    × (content ≡ front ++ back)
 
 -- a string that holds texts to its end
 pub record IsTextList (vs : List (List ℕ)) (text : List ℕ) : Type 0 where

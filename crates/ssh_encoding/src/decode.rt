@@ -1,7 +1,7 @@
 ghost use Rattle.std.specs.Prelude.{◌≡◌, ℕ, List, Bool, Result, IfOk};
 ghost use Rattle.std.specs.Int.{w32, w64};
 ghost use Rattle.ssh_encoding.specs.declared.error.Error.TheVariants.{OutOfMemory};
-ghost use Rattle.ssh_encoding.specs.Reading.{Reads, IsSuffix, number_at, byte_at, bool_at, len_at, bytes_at};
+ghost use Rattle.ssh_encoding.specs.Reading.{Reads, ReadsPlain, IsSuffix, number_at, byte_at, bool_at, len_at, bytes_at};
 ghost use Rattle.ssh_encoding.specs.Spelling.{Begins, IsExact, IsByte, IsArray, IsFlag, IsNumber, IsLen};
 ghost use Rattle.ssh_encoding.specs.Exact.{byte_exact, array_exact, flag_exact, number_exact, len_exact};
 
@@ -60,7 +60,10 @@ impl Decode for u8 {
     ghost spells = { IsByte };
 
     #[tactic(auto, unfolding(crate::specs::Reading::byte_at), using(crate::proofs::Suffix::suffixes))]
-    fn decode<R: Reader>(_alloc: Global, reader: &mut R) -> Result<u8, Error> {
+    fn decode<R: Reader>(_alloc: Global, reader: &mut R) -> Result<u8, Error>
+        ensures read { ReadsPlain (λ (n : ℕ). n) (R.left reader.new) result (byte_at (R.left reader.old)) }
+        ensures rest { IsSuffix (R.left reader.new) (R.left reader.old) }
+    {
         let mut buf = [0u8; 1];
         reader.fill(&mut buf)?;
         Ok(buf[0])
@@ -82,7 +85,10 @@ impl Decode for bool {
     ghost spells = { IsFlag };
 
     #[tactic(auto, unfolding(crate::specs::Reading::bool_at))]
-    fn decode<R: Reader>(alloc: Global, reader: &mut R) -> Result<bool, Error> {
+    fn decode<R: Reader>(alloc: Global, reader: &mut R) -> Result<bool, Error>
+        ensures read { ReadsPlain (λ (b : Bool). b) (R.left reader.new) result (bool_at (R.left reader.old)) }
+        ensures rest { IsSuffix (R.left reader.new) (R.left reader.old) }
+    {
         let byte = u8::decode(alloc, reader)?;
         Ok(byte != 0)
     }
@@ -103,7 +109,10 @@ impl Decode for u32 {
     ghost spells = { IsNumber w32 };
 
     #[tactic(auto, using(crate::proofs::Suffix::suffixes))]
-    fn decode<R: Reader>(_alloc: Global, reader: &mut R) -> Result<u32, Error> {
+    fn decode<R: Reader>(_alloc: Global, reader: &mut R) -> Result<u32, Error>
+        ensures read { ReadsPlain (λ (n : ℕ). n) (R.left reader.new) result (number_at w32 (R.left reader.old)) }
+        ensures rest { IsSuffix (R.left reader.new) (R.left reader.old) }
+    {
         let mut buf = [0u8; 4];
         reader.fill(&mut buf)?;
         Ok(u32::from_be_bytes(buf))
@@ -125,7 +134,10 @@ impl Decode for u64 {
     ghost spells = { IsNumber w64 };
 
     #[tactic(auto, using(crate::proofs::Suffix::suffixes))]
-    fn decode<R: Reader>(_alloc: Global, reader: &mut R) -> Result<u64, Error> {
+    fn decode<R: Reader>(_alloc: Global, reader: &mut R) -> Result<u64, Error>
+        ensures read { ReadsPlain (λ (n : ℕ). n) (R.left reader.new) result (number_at w64 (R.left reader.old)) }
+        ensures rest { IsSuffix (R.left reader.new) (R.left reader.old) }
+    {
         let mut buf = [0u8; 8];
         reader.fill(&mut buf)?;
         Ok(u64::from_be_bytes(buf))
@@ -147,7 +159,11 @@ impl<const N: usize> Decode for [u8; N] {
     ghost spells = { IsArray N };
 
     #[tactic(auto, using(crate::proofs::Suffix::suffixes))]
-    fn decode<R: Reader>(_alloc: Global, reader: &mut R) -> Result<[u8; N], Error> {
+    fn decode<R: Reader>(_alloc: Global, reader: &mut R) -> Result<[u8; N], Error>
+        ensures read { Reads (λ (a : List ℕ). a) (λ e. e ≡ OutOfMemory) (R.left reader.new) result (bytes_at N (R.left reader.old)) }
+        ensures plain { ReadsPlain (λ (a : List ℕ). a) (R.left reader.new) result (bytes_at N (R.left reader.old)) }
+        ensures rest { IsSuffix (R.left reader.new) (R.left reader.old) }
+    {
         let mut buf = [0u8; N];
         reader.fill(&mut buf)?;
         Ok(buf)
@@ -169,7 +185,10 @@ impl Decode for usize {
     ghost spells = { IsLen };
 
     #[tactic(auto, unfolding(crate::specs::Reading::len_at))]
-    fn decode<R: Reader>(alloc: Global, reader: &mut R) -> Result<usize, Error> {
+    fn decode<R: Reader>(alloc: Global, reader: &mut R) -> Result<usize, Error>
+        ensures read { ReadsPlain (λ (n : ℕ). n) (R.left reader.new) result (len_at (R.left reader.old)) }
+        ensures rest { IsSuffix (R.left reader.new) (R.left reader.old) }
+    {
         let n = u32::decode(alloc, reader)? as usize;
         if n > MAX_LEN {
             return Err(Error::Overflow);

@@ -6,6 +6,7 @@ use crate::file::steps::*;
 use bytes::Bytes;
 use sftp_core::{Core, Ended, Fault};
 use sftp_file::*;
+use sftp_model::OpenOptions;
 use std::alloc::Global;
 use std::test::Fail;
 

@@ -1,6 +1,6 @@
 // The flags of an OPEN, by the draft's section 6.3.
 use bitflags::Flags;
-use sftp_file::OpenOptions;
+use sftp_model::OpenOptions;
 
 /// The options of these letters: read, write, append, truncate, create, create_new.
 fn options(letters: &str) -> OpenOptions {

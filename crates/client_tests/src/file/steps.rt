@@ -7,8 +7,9 @@ ghost use Rattle.sftp_file.specs.Stages.{Keeps};
 ghost use Rattle.sftp_file.specs.Starts.{IsReady};
 
 use bytes::Bytes;
-use sftp_core::{Core, Fault, Grant, SftpOptions};
+use sftp_core::{Core, Fault, Grant};
 use sftp_file::*;
+use sftp_model::{OpenOptions, SftpOptions};
 use std::alloc::Global;
 use std::test::Fail;
 

@@ -119,6 +119,7 @@ fn each_write_is_flushed(rt: HostRuntime) {
     assert_eq!(rt; written(1), ([FAILED, Ok(1)], 3, 3));
     assert_eq!(rt; written(2), ([Ok(2), FAILED], 2, 2));
     assert_eq!(rt; written(3), ([Ok(2), FAILED], 3, 2));
+    assert_eq!(rt; WriteSink::new(Faulty::new(9)).write(&[]), Ok(0));
 }
 
 #[test]

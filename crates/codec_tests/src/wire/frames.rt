@@ -33,6 +33,32 @@ fn pieces(rt: HostRuntime) -> Result<(), Fail> {
     Ok(())
 }
 
+/// Whether a reader whose memory is reserved before each piece has the body of a frame after its length and its body.
+fn takes_reserved(reader: &mut FrameReader, frame: &[u8]) -> Result<bool, Fail> {
+    let mut rest = frame;
+    for _ in 0..2 {
+        let (piece, later) = rest.split_at(reader.need().min(rest.len()));
+        let memory = reader.reserve()?;
+        if reader.push_reserved(memory, piece).is_err() {
+            return Ok(false);
+        }
+        rest = later;
+    }
+    Ok(reader.frame() == frame.get(4..))
+}
+
+/// The hello in two pieces for which memory was reserved, and a length of 0.
+#[test]
+fn reserved(rt: HostRuntime) -> Result<(), Fail> {
+    let mut reader = FrameReader::new(rt.alloc());
+    assert!(rt; reader.is_empty());
+    assert!(rt; takes_reserved(&mut reader, b"\0\0\0\x05\x01\0\0\0\x03")?);
+    assert!(rt; !reader.is_empty());
+    reader.clear();
+    assert!(rt; !takes_reserved(&mut reader, b"\0\0\0\0")?);
+    Ok(())
+}
+
 /// A length of 0 is refused.
 #[test]
 fn no_body(rt: HostRuntime) -> Result<(), Fail> {

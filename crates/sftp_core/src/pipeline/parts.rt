@@ -1,7 +1,7 @@
 // WRITEs whose content is shared.
 ghost use Rattle.std.specs.Prelude.{◌≡◌, ◌<◌, ℕ, None, IsSome, IfOk, IfErr, OnOk, OnErr};
 ghost use Rattle.std.specs.FinMap as fin;
-ghost use Rattle.sftp_core.specs.Core.{at, queued_parts, write_of, is_long, refusal_of, submit_refusal, IsSubmitError};
+ghost use Rattle.sftp_core.specs.Core.{write_of, is_long, refusal_of, submit_refusal, IsSubmitError, SubmittedParts};
 ghost use Rattle.sftp_core.specs.Frames.{IsShort};
 ghost use Rattle.sftp_core.specs.Info.{MAX_IDS, info_of};
 
@@ -17,7 +17,8 @@ use std::alloc::Global;
 impl Core {
     /// Submits the WRITE of these parts, joined; they are shared and not copied. The queue's pieces of it are its head
     /// and then the parts that are not empty, each by itself. As with `submit`, a kept fault is answered before
-    /// `TooLong`, and refused, the core is as before.
+    /// `TooLong` and `OutOfMemory`, and refused, the core is as before.
+    #[tactic(auto, using(crate::proofs::Refusals::no_fault))]
     pub fn submit_parts(
         &mut self,
         handle: &Handle,
@@ -26,9 +27,8 @@ impl Core {
     ) -> Result<Ticket, SubmitError>
         requires ready { IsSome (info_of self.old.phase) }
         requires few { fin.len self.old.table < MAX_IDS }
-        ensures ok { IfOk result (λ ticket. (at self.old ticket ≡ None)
-            × (self.new ≡ queued_parts self.old ticket handle.now offset parts.now)) }
-        ensures only { OnOk result (submit_refusal self.old (write_of handle.now offset parts.now) ≡ None) }
+        ensures ok { IfOk result (λ ticket.
+            SubmittedParts self.old handle.now offset parts.now ticket self.new) }
         ensures refused { IfErr result (λ e.
             IsSubmitError e (submit_refusal self.old (write_of handle.now offset parts.now))) }
         ensures err { OnErr result (self.new ≡ self.old) }
@@ -44,6 +44,7 @@ impl Core {
 }
 
 /// The WRITE of these parts, where its frame is within the limit.
+#[tactic(auto, using(crate::proofs::Refusals::no_fault))]
 fn short_write(
     alloc: Global,
     handle: &Handle,

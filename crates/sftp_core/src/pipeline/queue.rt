@@ -1,8 +1,8 @@
 // What goes out: requests into the queue, and the frames of the queue.
-ghost use Rattle.std.specs.Prelude.{◌≡◌, ◌<◌, map, None, true, IsTrue, IsSome, IfOk, IfErr, OnOk, OnErr};
+ghost use Rattle.std.specs.Prelude.{◌≡◌, ◌<◌, map, IsTrue, IsSome, IfOk, IfErr, OnOk, OnErr};
 ghost use Rattle.std.specs.FinMap as fin;
 ghost use Rattle.sftp_model.specs.Pieces.{joined};
-ghost use Rattle.sftp_core.specs.Core.{at, queued_last, is_call, submit_refusal, IsSubmitError, handed_out};
+ghost use Rattle.sftp_core.specs.Core.{is_call, submit_refusal, IsSubmitError, Submitted, handed_out};
 ghost use Rattle.sftp_core.specs.Frames.{frames_of, AreFilled};
 ghost use Rattle.sftp_core.specs.Info.{MAX_IDS, info_of};
 ghost use Rattle.sftp_core.specs.Table.{marked_all};
@@ -21,14 +21,14 @@ use std::mem;
 
 impl Core {
     /// Puts a request last into the queue, under an id that nothing unanswered bears. An OPEN or OPENDIR takes the
-    /// room for its CLOSE as well. A kept fault is answered before `TooLong`; refused, the core is as before.
+    /// memory for its CLOSE as well. A kept fault is answered before `TooLong` and `OutOfMemory`; refused, the core is
+    /// as before.
+    #[tactic(auto, using(crate::proofs::Refusals::no_fault))]
     pub fn submit(&mut self, request: &Request) -> Result<Ticket, SubmitError>
         requires ready { IsSome (info_of self.old.phase) }
         requires few { fin.len self.old.table < MAX_IDS }
         requires call { IsTrue (is_call request.now) }
-        ensures ok { IfOk result (λ ticket. (at self.old ticket ≡ None)
-            × (self.new ≡ queued_last self.old ticket request.now true)) }
-        ensures only { OnOk result (submit_refusal self.old request.now ≡ None) }
+        ensures ok { IfOk result (λ ticket. Submitted self.old request.now ticket self.new) }
         ensures refused { IfErr result (λ e. IsSubmitError e (submit_refusal self.old request.now)) }
         ensures err { OnErr result (self.new ≡ self.old) }
     {

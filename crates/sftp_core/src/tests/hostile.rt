@@ -1,7 +1,7 @@
 // Replies that no honest server sends.
 use crate::tests::seats::*;
 use crate::*;
-use sftp_model::{FormatKind, Request};
+use sftp_model::{FormatKind, Request, SftpOptions};
 use std::process::Abort;
 use std::test::Fail;
 

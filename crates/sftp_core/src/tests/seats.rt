@@ -4,7 +4,7 @@ ghost use Rattle.sftp_core.specs.Core.{is_call};
 
 use crate::*;
 use bytes::Bytes;
-use sftp_model::{FileAttrs, Handle, OpenFlags, RemotePath, Reply, Request};
+use sftp_model::{FileAttrs, Handle, OpenFlags, RemotePath, Reply, Request, SftpOptions};
 use std::alloc::Global;
 use std::test::Fail;
 

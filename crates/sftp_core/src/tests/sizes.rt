@@ -1,5 +1,6 @@
 // Session lengths.
 use crate::*;
+use sftp_model::SftpOptions;
 use std::test::Fail;
 
 const MOST: u64 = 18446744073709551615;

@@ -4,7 +4,11 @@ use Rattle.plan_tests.proofs.WindowRange.{many_within, opening_within}
 use Rattle.plan_tests.proofs.whole_reads.is_within.Goals as goal
 
 pub returns-in-OpeningToRead : goal.returns-in-OpeningToRead
-returns-in-OpeningToRead c four bytes site = rw c.in-OpeningToRead.is (opening_within c.in-OpeningToRead.place c.in-OpeningToRead.bound bytes site c.args.facts.now (Some c.args.reply.now) (grind (arith, nat_tests)))
+returns-in-OpeningToRead c four bytes site = rw c.in-OpeningToRead.is
+    (opening_within c.in-OpeningToRead.place c.in-OpeningToRead.bound bytes site c.args.facts.now
+    (Some c.args.reply.now) (grind (arith, nat_tests)))
 
-pub returns-then-as_slice-ge2 : goal.returns-then-as_slice-ge2
-returns-then-as_slice-ge2 c large bytes site = rw c.in-ReadingWhole.is (many_within c.in-ReadingWhole.grant c.in-ReadingWhole.bound c.in-ReadingWhole.window bytes site c.args.facts.now c.args.reply.now (search rules))
+pub returns-then-waiting-ge2 : goal.returns-then-waiting-ge2
+returns-then-waiting-ge2 c large bytes site = rw c.in-ReadingWhole.is
+    (many_within c.in-ReadingWhole.grant c.in-ReadingWhole.bound c.in-ReadingWhole.window bytes site c.args.facts.now
+    c.args.reply.now (search rules))

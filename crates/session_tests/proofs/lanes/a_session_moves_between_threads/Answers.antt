@@ -1,7 +1,7 @@
 use denote.Param.Send.{sendable}
 use Rattle.std.proofs.Crossing.{crosses}
 use Rattle.sftp_values.proofs.byte_text.ByteText.TheSendSync as text
-use Rattle.session_tests.proofs.Sends.{session_sends}
+use Rattle.sftp_lanes.proofs.Sends.{session_sends}
 use Rattle.session_tests.proofs.lanes.a_session_moves_between_threads.Goals as goal
 
 pub spawn-requires-send-F : goal.spawn-requires-send-F

@@ -1,8 +1,8 @@
 use Rattle.std.proofs.Common.{rules, ◌≡◌, ◌<◌, ◌∷◌, [], List, length, true, refl, sym, subst, arith}
-use Rattle.sftp_history.specs.declared.call.Call.TheVariants as call
-use Rattle.sftp_history.specs.declared.call.Lane.{Lane}
-use Rattle.sftp_history.specs.Lanes.{are_ok}
-use Rattle.sftp_work.specs.Adding.{with_call}
+use Rattle.plan_model.specs.declared.call.Call.TheVariants as call
+use Rattle.plan_model.specs.declared.call.Lane.{Lane}
+use Rattle.plan_model.specs.Lanes.{are_ok}
+use Rattle.session_driver.specs.Adding.{with_call}
 use Rattle.session_tests.proofs.lanes.change_directory.Goals as goal
 
 pub push_call-requires-clause-ok : goal.push_call-requires-clause-ok

@@ -1,4 +1,4 @@
-use Rattle.std.proofs.Common.{false, sym, inr, refl, if◌then◌else◌}
+use Rattle.std.proofs.Common.{false, sym, if◌then◌else◌}
 use Rattle.std.specs.Prelude.{reverse}
 use Rattle.sftp_cli.proofs.Linked.{is_stopped}
 use Rattle.sftp_cli.proofs.dialled.reply_over.Goals as goal
@@ -6,9 +6,10 @@ use Rattle.sftp_cli.proofs.dialled.reply_over.Goals as goal
 pub returns-in-Some : goal.returns-in-Some
 returns-in-Some g c =
     let link = c.run_lanes.new.link in
-    inr (
-      refl,
-      is_stopped c.args.script.now c.as_slice-lanes.result.now c.as_slice.result.now c.args.link.now.pieces (reverse link.pieces) (g.L.LinkState.state c.args.link.now.link).faults (g.L.LinkState.state link.link).faults
-          (if link.starved then false else (g.L.LinkState.state link.link).ended) c.in-Err.error c.in-Some.name.now c.in_ok-error_line-in-Some.field-0.items c.as_slice-lanes.ensures c.as_slice.ensures c.requires.quiet c.requires.unfailed
-          c.in-Err.ensures.stops c.in-Err.ensures.caused.cause c.in-Err.ensures.caused.end (sym c.in-Some.ensures) c.in_ok-error_line-in-Some.ensures,
-    )
+    is_stopped c.args.script.now c.as_slice-lanes.result.now c.as_slice.result.now c.args.link.now.pieces
+    (reverse link.pieces) (g.L.LinkState.state c.args.link.now.link).faults (g.L.LinkState.state link.link).faults
+    (if link.starved then false else (g.L.LinkState.state link.link).ended) c.in-Err.error c.in-Some.name.now
+    c.in_ok-error_line-in-Some.field-0.items c.as_slice-lanes.ensures c.as_slice.ensures c.requires.quiet
+    c.requires.unfailed
+    c.in-Err.ensures.stops c.in-Err.ensures.caused.cause c.in-Err.ensures.caused.end (sym c.in-Some.ensures)
+    c.in_ok-error_line-in-Some.ensures

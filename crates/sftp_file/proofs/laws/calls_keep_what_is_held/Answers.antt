@@ -1,4 +1,12 @@
-use Rattle.sftp_file.proofs.KeepLaws.{keeps_submitted, keeps_handed_out, keeps_taken, polled_keeps_grants, cancelled_keeps_grants, released_holds, retained_holds}
+use Rattle.sftp_file.proofs.KeepLaws.{
+  keeps_submitted,
+  keeps_handed_out,
+  keeps_taken,
+  polled_keeps_grants,
+  cancelled_keeps_grants,
+  released_holds,
+  retained_holds,
+}
 use Rattle.sftp_file.proofs.laws.calls_keep_what_is_held.Goals as goal
 
 pub returns : goal.returns

@@ -12,7 +12,8 @@ returns-in_err-n-clause-log g c =
 pub returns-then-n-eq0-clause-log : goal.returns-then-n-eq0-clause-log
 returns-then-n-eq0-clause-log g c =
     let some : 0 < length c.recv.new.room = omega arith in
-    told_on _ _ _ _ _ _ c.loop-at.invariant.got c.in_ok-n.ensures.log (got_less_end c.loop-at.room c.recv.new.room c.loop-at.at c.in_ok-n.n some c.if-n-eq0.true)
+    told_on _ _ _ _ _ _ c.loop-at.invariant.got c.in_ok-n.ensures.log
+    (got_less_end c.loop-at.room c.recv.new.room c.loop-at.at c.in_ok-n.n some c.if-n-eq0.true)
 
 pub loop-at-preserved : goal.loop-at-preserved
 loop-at-preserved g c = record {
@@ -20,5 +21,7 @@ loop-at-preserved g c = record {
   faults = search rules;
   service = search rules;
   ended = search rules;
-  got = told_on _ _ _ _ _ _ c.loop-at.invariant.got c.in_ok-n.ensures.log (got_piece c.loop-at.room c.recv.new.room c.loop-at.at c.in_ok-n.n c.loop-at.invariant.within c.in_ok-n.ensures.within);
+  got = told_on _ _ _ _ _ _ c.loop-at.invariant.got c.in_ok-n.ensures.log
+      (got_piece c.loop-at.room c.recv.new.room c.loop-at.at c.in_ok-n.n c.loop-at.invariant.within
+      c.in_ok-n.ensures.within);
 }

@@ -9,4 +9,9 @@ returns-in_err-at-clause-bytes g c =
     rw (p.1) (told_on _ _ _ _ _ _ c.loop-at.invariant.2 c.in_err-at.ensures.bytes (went_less_before c.args.bytes.now c.loop-at.at c.loop-at-test.true))
 
 pub loop-at-preserved : goal.loop-at-preserved
-loop-at-preserved g c = (omega (arith, c.in_ok-at.ensures.within), omega (arith, c.in_ok-at.ensures.cause), told_on _ _ _ _ _ _ c.loop-at.invariant.2 c.in_ok-at.ensures.bytes (went_piece c.args.bytes.now c.loop-at.at c.in_ok-at.field-0))
+loop-at-preserved g c = (
+  let some = c.in_ok-at.ensures.within.0 (omega arith) in omega (arith, some, c.in_ok-at.ensures.within.1),
+  omega (arith, c.in_ok-at.ensures.cause),
+  told_on _ _ _ _ _ _ c.loop-at.invariant.2 c.in_ok-at.ensures.bytes
+      (went_piece c.args.bytes.now c.loop-at.at c.in_ok-at.field-0),
+)

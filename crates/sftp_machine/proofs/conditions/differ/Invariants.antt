@@ -1,5 +1,5 @@
 use Rattle.std.proofs.Common.{◌≡◌, length}
-use Rattle.sftp_tree.specs.FirstTree.{differ}
+use Rattle.machine_model.specs.FirstTree.{differ}
 use Rattle.sftp_machine.proofs.conditions.differ.Given as goal
 
 abbrev pub invariant-loop-rest : goal.invariant-loop-rest

@@ -1,6 +1,6 @@
 use Rattle.std.proofs.Common.{◌≡◌, take}
 use Rattle.std.specs.Prelude.{map}
-use Rattle.sftp_tree.specs.FirstTree.{name_of}
+use Rattle.machine_model.specs.FirstTree.{name_of}
 use Rattle.sftp_machine.proofs.conditions.file_names.Given as goal
 
 -- as many names as files were passed

@@ -1,5 +1,5 @@
 use Rattle.std.proofs.Common.{◌≡◌, length}
-use Rattle.sftp_tree.specs.FirstTree.{stand_apart}
+use Rattle.machine_model.specs.FirstTree.{stand_apart}
 use Rattle.sftp_machine.proofs.conditions.stand_apart.Given as goal
 
 abbrev pub invariant-loop-rest : goal.invariant-loop-rest

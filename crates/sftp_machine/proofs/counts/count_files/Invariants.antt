@@ -1,6 +1,6 @@
 use Rattle.std.proofs.Common.{◌≡◌, ◌≤◌, take, length}
 use Rattle.std.specs.Prelude.{filter}
-use Rattle.sftp_tree.specs.Listing.{has_file}
+use Rattle.machine_model.specs.Listing.{has_file}
 use Rattle.sftp_machine.proofs.counts.count_files.Given as goal
 
 abbrev pub invariant-loop-pair : goal.invariant-loop-pair

@@ -1,7 +1,7 @@
 use Rattle.std.proofs.Common.{◌≡◌, ◌++◌, take}
 use Rattle.std.specs.Prelude.{map}
-use Rattle.sftp_tree.specs.Components.{parent_of}
-use Rattle.sftp_tree.specs.FirstTree.{name_of}
+use Rattle.machine_model.specs.Components.{parent_of}
+use Rattle.machine_model.specs.FirstTree.{name_of}
 use Rattle.sftp_machine.proofs.first_tree.add_parents.Given as goal
 
 -- as many names as files were passed

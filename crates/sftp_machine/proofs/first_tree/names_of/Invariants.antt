@@ -1,6 +1,6 @@
 use Rattle.std.proofs.Common.{◌≡◌, take}
 use Rattle.std.specs.Prelude.{map}
-use Rattle.sftp_tree.specs.Components.{components}
+use Rattle.machine_model.specs.Components.{components}
 use Rattle.sftp_machine.proofs.first_tree.names_of.Given as goal
 
 -- as many names as paths were passed

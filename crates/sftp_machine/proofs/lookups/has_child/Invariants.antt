@@ -1,6 +1,6 @@
 use Rattle.std.proofs.Common.{◌≡◌, length}
 use Rattle.std.specs.List.{list_any}
-use Rattle.sftp_tree.specs.Components.{is_child}
+use Rattle.machine_model.specs.Components.{is_child}
 use Rattle.sftp_machine.proofs.lookups.has_child.Given as goal
 
 abbrev pub invariant-loop-rest : goal.invariant-loop-rest

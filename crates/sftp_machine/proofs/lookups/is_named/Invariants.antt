@@ -1,6 +1,6 @@
 use Rattle.std.proofs.Common.{◌≡◌, length}
 use Rattle.std.specs.List.{list_any}
-use Rattle.sftp_tree.specs.FileTree.{names_file}
+use Rattle.machine_model.specs.FileTree.{names_file}
 use Rattle.sftp_machine.proofs.lookups.is_named.Given as goal
 
 abbrev pub invariant-loop-rest : goal.invariant-loop-rest

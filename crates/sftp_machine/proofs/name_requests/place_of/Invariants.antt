@@ -1,6 +1,6 @@
 use Rattle.std.proofs.Common.{◌≡◌, ◌≤◌, ◌-◌, ◌++◌, ℕ, List, take, drop, length}
 use Rattle.sftp_model.specs.declared.reply.NameEntry.{NameEntry}
-use Rattle.sftp_tree.specs.NameRequests.{placed}
+use Rattle.machine_model.specs.NameRequests.{placed}
 use Rattle.sftp_machine.proofs.name_requests.place_of.Given as goal
 
 -- the entry belongs among what is left

@@ -1,5 +1,5 @@
 use Rattle.std.proofs.Common.{◌≡◌, drop}
-use Rattle.sftp_tree.specs.Components.{components, walked, parts_of}
+use Rattle.machine_model.specs.Components.{components, walked, parts_of}
 use Rattle.sftp_machine.proofs.WalkLaws.{with_prefix}
 use Rattle.sftp_machine.proofs.tree_name.walk.Given as goal
 

@@ -1,5 +1,5 @@
 use Rattle.std.proofs.Common.{◌≡◌, ◌≤◌, ◌^◌, drop}
-use Rattle.sftp_history.specs.Lines.{digits_behind}
+use Rattle.sftp_script.specs.Lines.{digits_behind}
 use Rattle.sftp_script.proofs.Numbers.{capped}
 use Rattle.sftp_script.proofs.number.number_of.Given as goal
 

@@ -1,6 +1,6 @@
 use Rattle.std.proofs.Common.{◌≡◌, length}
-use Rattle.sftp_history.specs.Lines.{bytes_in, words_of}
-use Rattle.sftp_history.specs.Scripts.{each_in}
+use Rattle.sftp_script.specs.Lines.{bytes_in, words_of}
+use Rattle.sftp_script.specs.Scripts.{each_in}
 use Rattle.sftp_script.proofs.PartLaws.{behind_these}
 use Rattle.sftp_script.proofs.parts.each_in.Given as goal
 

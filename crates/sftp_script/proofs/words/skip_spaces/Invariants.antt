@@ -1,5 +1,5 @@
 use Rattle.std.proofs.Common.{◌≡◌, length}
-use Rattle.sftp_history.specs.Lines.{words_of}
+use Rattle.sftp_script.specs.Lines.{words_of}
 use Rattle.sftp_script.proofs.words.skip_spaces.Given as goal
 
 abbrev pub invariant-loop-line : goal.invariant-loop-line

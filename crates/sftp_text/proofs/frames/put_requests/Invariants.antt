@@ -1,6 +1,6 @@
 use Rattle.std.proofs.Common.{◌≡◌, ◌++◌, take}
 use Rattle.std.specs.List.{flat_map}
-use Rattle.sftp_history.specs.Texts.{request_line}
+use Rattle.sftp_text.specs.Texts.{request_line}
 use Rattle.sftp_text.specs.Traces.{submitted}
 use Rattle.sftp_text.proofs.frames.put_requests.Given as goal
 

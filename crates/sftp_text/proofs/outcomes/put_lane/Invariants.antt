@@ -1,6 +1,6 @@
 use Rattle.std.proofs.Common.{◌≡◌, ◌++◌, drop}
 use Rattle.sftp_wire.specs.Body.{Grows}
-use Rattle.sftp_history.specs.Texts.{outcome_lines}
+use Rattle.sftp_text.specs.Texts.{outcome_lines}
 use Rattle.sftp_text.proofs.outcomes.put_lane.Given as goal
 
 -- the lines that are left complete those of all

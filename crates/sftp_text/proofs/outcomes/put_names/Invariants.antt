@@ -1,6 +1,6 @@
 use Rattle.std.proofs.Common.{◌≡◌, ◌++◌, take}
 use Rattle.std.specs.List.{flat_map}
-use Rattle.sftp_history.specs.Texts.{name_text}
+use Rattle.sftp_text.specs.Texts.{name_text}
 use Rattle.sftp_text.proofs.outcomes.put_names.Given as goal
 
 abbrev pub invariant-loop-entry : goal.invariant-loop-entry

@@ -26,6 +26,7 @@ returns-in-Some-clause-ok c =
     let body = c.fields_before_content.ensures c.args.id in
     let head : request_head c.args.request.now c.args.id ≡ uint32 c.in-Some.len ++ body_bytes c.fields_before_content.result c.args.id =
     ap (λ r. request_head r c.args.id) is
-    ∙ ap (λ n. uint32 n ++ of_type SSH_FXP_WRITE c.args.id (string c.in-Write.handle ++ uint64 c.in-Write.offset ++ uint32 (length c.in-Write.content))) (sym (len ∙ ap (λ r. length (request_body r c.args.id)) is))
+    ∙ ap (λ n. uint32 n ++ of_type SSH_FXP_WRITE c.args.id (string c.in-Write.handle ++ uint64 c.in-Write.offset
+    ++ uint32 (length c.in-Write.content))) (sym (len ∙ ap (λ r. length (request_body r c.args.id)) is))
     ∙ ap (λ b. uint32 c.in-Some.len ++ b) (sym (body ∙ search rules)) in
     rw head c.write_after.ensures.ok

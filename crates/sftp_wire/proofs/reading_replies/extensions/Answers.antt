@@ -8,7 +8,9 @@ pub loop-i-preserved : goal.loop-i-preserved
 loop-i-preserved g c =
     let most = c.remaining_len-most.result in
     rw (c.pair_bit-set.ensures, c.deref.ensures.value, c.deref-in-loop-i.ensures.value)
-    (sym (pairs_more (most - c.loop-i.i) (most - (c.loop-i.i + 1)) c.loop-i.set (g.R.Reader.left c.loop-i.reader) _ _ _ _ (omega arith) (sym c.is_finished.ensures ∙ c.if-is_finished.false) c.in_ok-name.ensures.read c.in_ok-value.ensures.read) ∙ c.loop-i.invariant)
+    (sym (pairs_more (most - c.loop-i.i) (most - (c.loop-i.i + 1)) c.loop-i.set (g.R.Reader.left c.loop-i.reader) _ _ _
+    _ (omega arith) (sym c.is_finished.ensures ∙ c.if-is_finished.false) c.in_ok-name.ensures.read
+    c.in_ok-value.ensures.read) ∙ c.loop-i.invariant)
 
 pub returns-in_err-name : goal.returns-in_err-name
 unfolding extensions_at
@@ -17,7 +19,9 @@ returns-in_err-name g c =
     let most = c.remaining_len-most.result in
     rw (p.1, p.2) (elim c.in_err-name.ensures.read [
       | inl m ↦ inl m
-      | inr r ↦ inr (rw (← c.remaining_len-most.ensures) (sym c.loop-i.invariant ∙ pair_name_refused (most - c.loop-i.i) (most - (c.loop-i.i + 1)) c.loop-i.set (g.R.Reader.left c.loop-i.reader) _ (omega arith) (sym c.is_finished.ensures ∙ c.if-is_finished.false) r))
+      | inr r ↦ inr (rw (← c.remaining_len-most.ensures) (sym c.loop-i.invariant
+          ∙ pair_name_refused (most - c.loop-i.i) (most - (c.loop-i.i + 1)) c.loop-i.set
+          (g.R.Reader.left c.loop-i.reader) _ (omega arith) (sym c.is_finished.ensures ∙ c.if-is_finished.false) r))
     ])
 
 pub returns-in_err-value : goal.returns-in_err-value
@@ -27,5 +31,8 @@ returns-in_err-value g c =
     let most = c.remaining_len-most.result in
     rw (p.1, p.2) (elim c.in_err-value.ensures.read [
       | inl m ↦ inl m
-      | inr r ↦ inr (rw (← c.remaining_len-most.ensures) (sym c.loop-i.invariant ∙ pair_value_refused (most - c.loop-i.i) (most - (c.loop-i.i + 1)) c.loop-i.set (g.R.Reader.left c.loop-i.reader) _ _ _ (omega arith) (sym c.is_finished.ensures ∙ c.if-is_finished.false) c.in_ok-name.ensures.read r))
+      | inr r ↦ inr (rw (← c.remaining_len-most.ensures) (sym c.loop-i.invariant
+          ∙ pair_value_refused (most - c.loop-i.i) (most - (c.loop-i.i + 1)) c.loop-i.set
+          (g.R.Reader.left c.loop-i.reader) _ _ _ (omega arith) (sym c.is_finished.ensures ∙ c.if-is_finished.false)
+          c.in_ok-name.ensures.read r))
     ])

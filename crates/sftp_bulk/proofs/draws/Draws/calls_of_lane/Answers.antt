@@ -5,7 +5,8 @@ use Rattle.sftp_bulk.proofs.draws.Draws.calls_of_lane.Goals as goal
 
 pub loop-k-preserved : goal.loop-k-preserved
 loop-k-preserved c =
-    draws_go_on (λ k. call_of c.args.lane) _ _ _ _ _ _ _ _ c.loop-k.invariant c.loop-k-test.true c.in_ok-call.ensures.gives c.in_ok-call.ensures.passes c.in_ok-push.ensures.items
+    draws_go_on (λ k. call_of c.args.lane) _ _ _ _ _ _ _ _ c.loop-k.invariant c.loop-k-test.true
+    c.in_ok-call.ensures.gives c.in_ok-call.ensures.passes c.in_ok-push.ensures.items
 
 pub returns : goal.returns
 returns c =

@@ -5,7 +5,8 @@ use Rattle.sftp_bulk.proofs.draws.Draws.choices.Goals as goal
 
 pub loop-k-preserved : goal.loop-k-preserved
 loop-k-preserved c =
-    draws_go_on (λ k. choice) _ _ _ _ _ _ _ _ c.loop-k.invariant c.loop-k-test.true c.choice-choice.ensures.gives c.choice-choice.ensures.passes c.in_ok-push.ensures.items
+    draws_go_on (λ k. choice) _ _ _ _ _ _ _ _ c.loop-k.invariant c.loop-k-test.true c.choice-choice.ensures.gives
+    c.choice-choice.ensures.passes c.in_ok-push.ensures.items
 
 pub returns : goal.returns
 returns c =

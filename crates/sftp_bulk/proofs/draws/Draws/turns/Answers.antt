@@ -5,7 +5,8 @@ use Rattle.sftp_bulk.proofs.draws.Draws.turns.Goals as goal
 
 pub loop-k-preserved : goal.loop-k-preserved
 loop-k-preserved c =
-    draws_go_on (λ k. turn_of c.args.lanes) _ _ _ _ _ _ _ _ c.loop-k.invariant c.loop-k-test.true c.turn-turn.ensures.gives c.turn-turn.ensures.passes c.in_ok-push.ensures.items
+    draws_go_on (λ k. turn_of c.args.lanes) _ _ _ _ _ _ _ _ c.loop-k.invariant c.loop-k-test.true
+    c.turn-turn.ensures.gives c.turn-turn.ensures.passes c.in_ok-push.ensures.items
 
 pub returns : goal.returns
 returns c =

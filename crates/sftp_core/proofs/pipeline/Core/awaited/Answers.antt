@@ -17,7 +17,8 @@ pub overflow_add-result-else-self : goal.overflow_add-result-else-self
 overflow_add-result-else-self c = let f = few _ _ _ _ _ _ c.self.invariant in omega (arith, f.waiting, c.waiting-else-self.ensures)
 
 pub overflow_sub-result-else-self : goal.overflow_sub-result-else-self
-overflow_sub-result-else-self c = let f = rw c.if-self.false at (few _ _ _ _ _ _ c.self.invariant) in omega (arith, f.sent, c.waiting-else-self.ensures, c.len-else-self.ensures)
+overflow_sub-result-else-self c = let f = rw c.if-self.false at (few _ _ _ _ _ _ c.self.invariant) in
+    omega (arith, f.sent, c.waiting-else-self.ensures, c.len-else-self.ensures)
 
 pub overflow_cast-result-else-self : goal.overflow_cast-result-else-self
 overflow_cast-result-else-self c = let f = few _ _ _ _ _ _ c.self.invariant in omega (arith, f.waiting, c.waiting-else-self.ensures)

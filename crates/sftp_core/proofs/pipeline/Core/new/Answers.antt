@@ -18,6 +18,8 @@ push_reserved-requires-clause-cut c = cut-none (request.Init 3) _ refl c.new.ens
 
 pub returns : goal.returns
 returns c =
-    let hello : map asked_of c.push_reserved.new.queue.items ≡ (0, request.Init 3) ∷ [] = c.push_reserved.ensures.items ∙ ap (λ q. map asked_of q ++ (0, request.Init 3) ∷ []) c.in_ok-queue.ensures.items in
-    let pieces : pieces_of c.push_reserved.new.queue.items ≡ whole 0 (request.Init 3) = c.push_reserved.ensures.pieces ∙ (λ i. pieces_of (c.in_ok-queue.ensures.items i) ++ request_head (request.Init 3) 0 ∷ c.new.ensures.items i) in
+    let hello : map asked_of c.push_reserved.new.queue.items ≡ (0, request.Init 3) ∷ [] = c.push_reserved.ensures.items
+    ∙ ap (λ q. map asked_of q ++ (0, request.Init 3) ∷ []) c.in_ok-queue.ensures.items in
+    let pieces : pieces_of c.push_reserved.new.queue.items ≡ whole 0 (request.Init 3) = c.push_reserved.ensures.pieces
+    ∙ (λ i. pieces_of (c.in_ok-queue.ensures.items i) ++ request_head (request.Init 3) 0 ∷ c.new.ensures.items i) in
     rw (hello, pieces, c.new-2.ensures) refl

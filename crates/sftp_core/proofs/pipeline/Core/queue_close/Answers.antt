@@ -14,7 +14,9 @@ pub invariant_of-self : goal.invariant_of-self
 invariant_of-self c =
     let owing = owed _ _ c.replace.ensures.was (rw (← c.self.view_is) at c.requires) in
     rw c.replace.ensures.now
-    (sound-close _ _ _ _ _ _ _ _ _ _ _ _ _ c.self.invariant c.replace.ensures.was owing.0 owing.1 c.as_bytes-short.ensures.fits c.push_reserved.ensures.items c.push_reserved.ensures.len c.push_reserved.ensures.grows)
+    (sound-close _ _ _ _ _ _ _ _ _ _ _ _ _ c.self.invariant c.replace.ensures.was owing.0 owing.1
+    c.as_bytes-short.ensures.fits c.push_reserved.ensures.items c.push_reserved.ensures.len
+    c.push_reserved.ensures.grows)
 
 pub push_reserved-requires-clause-cut : goal.push_reserved-requires-clause-cut
 push_reserved-requires-clause-cut c = cut-none (request.Close c.args.handle) _ refl c.new.ensures.items

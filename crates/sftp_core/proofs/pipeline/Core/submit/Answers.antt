@@ -11,8 +11,9 @@ invariant_of-self-2 c =
     let most = most_open c.self.inside.phase (rw (← c.self.view_is) at c.requires.ready) in
     let measured : is_some c.request_len.result ≡ true = search rules in
     let same : c.in_ok-copy.copy ≡ c.args.request.now = search rules in
-    let put = c.in_ok-id.ensures in
-    sound-last _ _ _ _ _ _ _ _ _ _ _ _ _ _ c.self.invariant put.free (rw most few) c.self.invariant.range (short-measured _ _ _ _ c.request_len.ensures measured same)
+    let put = c.in_ok-id.ensures.ok in
+    sound-last _ _ _ _ _ _ _ _ _ _ _ _ _ _ c.self.invariant put.free (rw most few) c.self.invariant.range
+    (short-measured _ _ _ _ c.request_len.ensures measured same)
     put.queued put.len put.kept put.capacity
 
 pub put_last-requires-clause-cut : goal.put_last-requires-clause-cut

@@ -15,6 +15,6 @@ invariant_of-self-2 c =
     let few : fin.len c.self.inside.table < 2147483648 = rw (← c.self.view_is) at c.requires.few in
     let most = most_open c.self.inside.phase (rw (← c.self.view_is) at c.requires.ready) in
     let short : IsShort (c.in_ok-id.id, c.in_ok-request.request) = rw c.in_ok-request.ensures.ok (c.in_ok-request.ensures.short c.in_ok-id.id) in
-    let put = c.in_ok-id.ensures in
+    let put = c.in_ok-id.ensures.ok in
     sound-last _ _ _ _ _ _ _ _ _ _ _ _ _ _ c.self.invariant put.free (rw most few) c.self.invariant.range short
     put.queued put.len put.kept put.capacity

@@ -16,8 +16,9 @@ invariant_of-self-2 c =
     let greeting = rw (← c.self.view_is) at c.requires in
     let none = none_kept c.self.inside.phase c.self.inside.table c.self.invariant.few greeting in
     let few : fin.len c.self.inside.table < 2147483648 = omega (arith, none) in
-    let put = c.in_ok-put_last.ensures in
-    sound-last _ _ _ _ _ _ _ _ _ _ _ _ _ _ c.self.invariant (none_here c.self.inside.phase c.self.inside.table c.self.invariant.few greeting c.in_ok-put_last.field-0) few tt (short-limits c.in_ok-put_last.field-0)
+    let put = c.in_ok-put_last.ensures.ok in
+    sound-last _ _ _ _ _ _ _ _ _ _ _ _ _ _ c.self.invariant (none_here c.self.inside.phase c.self.inside.table
+    c.self.invariant.few greeting c.in_ok-put_last.field-0) few tt (short-limits c.in_ok-put_last.field-0)
     put.queued put.len put.kept put.capacity
 
 pub put_last-requires-clause-cut : goal.put_last-requires-clause-cut

@@ -6,4 +6,5 @@ pub overflow_cast-result : goal.overflow_cast-result
 overflow_cast-result c = let f = few _ _ _ _ _ _ c.self.invariant in omega (arith, f.waiting, c.waiting.ensures)
 
 pub overflow_add-result : goal.overflow_add-result
-overflow_add-result c = let f = few _ _ _ _ _ _ c.self.invariant in let one = hello_small c.self.inside.phase in omega (arith, f.waiting, c.waiting.ensures, c.hello.ensures, one)
+overflow_add-result c = let f = few _ _ _ _ _ _ c.self.invariant in let one = hello_small c.self.inside.phase in
+    omega (arith, f.waiting, c.waiting.ensures, c.hello.ensures, one)

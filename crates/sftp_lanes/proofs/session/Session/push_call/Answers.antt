@@ -1,42 +1,42 @@
-use Rattle.std.proofs.Common.{◌≡◌, refl}
-use Rattle.sftp_history.specs.Calls.{Setting}
-use Rattle.sftp_driver.specs.declared.session.Phase.TheVariants.{Open}
-use Rattle.sftp_lanes.specs.Adding.{AddsCall, IsSame}
-use Rattle.sftp_lanes.specs.Seen.{SessionValue, setting_by}
-use Rattle.sftp_work.specs.Adding.{AddsIn}
-use Rattle.sftp_work.specs.Working.{contents_of}
-use Rattle.sftp_work.proofs.AddedLaws.{on_err, on_ok}
-use Rattle.sftp_lanes.proofs.AddedLaws.{pushed_works}
-use Rattle.sftp_lanes.proofs.Opening.{in_phase, open_intact, works_on}
+use Rattle.std.proofs.Common.{◌≢◌, ℕ, rules, subst, sym}
+use Rattle.session_driver.specs.declared.session.Phase.TheVariants.{Failed}
+use Rattle.session_work.specs.SoFar.{IsIntact}
+use Rattle.session_work.proofs.AddedLaws.{on_err, on_ok}
+use Rattle.sftp_lanes.proofs.AddedLaws.{MayAdd, adds_call, pushed_session, same_session}
 use Rattle.sftp_lanes.proofs.session.Session.push_call.Goals as goal
 
-pub push_call-requires-clause-opened : goal.push_call-requires-clause-opened
-push_call-requires-clause-opened c =
-    let s : Setting = setting_by c.self.inside.lanes c.self.inside.options c.self.inside.version c.self.inside.info in
-    (s, in_phase c.self.inside.lanes c.self.inside.options c.self.inside.version c.self.inside.info c.self.inside.work c.self.inside.phase Open c.self.invariant (rw (← c.self.view_is) at c.requires.open))
-
-pub push_call-requires-clause-may : goal.push_call-requires-clause-may
-push_call-requires-clause-may c = record { there = rw (← c.self.view_is) at c.requires.there; held = rw (← c.self.view_is) at c.requires.held; ok = rw (← c.self.view_is) at c.requires.ok }
+pub push_call-requires-clause-there : goal.push_call-requires-clause-there
+push_call-requires-clause-there c = rw (← c.self.view_is) at c.requires.there
 
 pub push_call-requires-clause-intact : goal.push_call-requires-clause-intact
-push_call-requires-clause-intact c = open_intact c.self.inside.lanes c.self.inside.options c.self.inside.version c.self.inside.info c.self.inside.work c.self.inside.phase c.self.invariant (rw (← c.self.view_is) at c.requires.open)
+push_call-requires-clause-intact c =
+    subst (λ (n : ℕ). IsIntact n c.self.inside.work) (sym c.self.invariant.calls.count) c.self.invariant.intact
 
 pub invariant_of-self : goal.invariant_of-self
 invariant_of-self c =
-    let s : Setting = setting_by c.self.inside.lanes c.self.inside.options c.self.inside.version c.self.inside.info in
-    works_on c.self.inside.lanes c.self.inside.options c.self.inside.version c.self.inside.info c.self.inside.work c.push_call.new.self c.self.inside.phase c.self.invariant (rw (← c.self.view_is) at c.requires.open)
-    c.push_call.ensures.intact (λ working. pushed_works s c.args.lane c.args.call (contents_of c.self.inside.work) (contents_of c.push_call.new.self) c.push_call.result working (c.push_call.ensures.adds s working) c.push_call.ensures.left)
+    let may : MayAdd c.args.lane c.args.call c.self.inside.work = record {
+      there = rw (← c.self.view_is) at c.requires.there;
+      held = rw (← c.self.view_is) at c.requires.held;
+      ok = rw (← c.self.view_is) at c.requires.ok;
+    } in
+    let on : c.self.inside.phase ≢ Failed = search rules in
+    pushed_session c.self.inside.lanes c.self.inside.options c.self.inside.version
+    c.self.inside.info c.self.inside.work c.push_call.new.self c.self.inside.phase c.args.lane c.args.call
+    c.push_call.result c.self.invariant on may c.push_call.ensures.intact c.push_call.ensures.adds c.push_call.ensures.left
 
-pub returns-clause-adds : goal.returns-clause-adds
-returns-clause-adds c =
-    let s : Setting = setting_by c.self.inside.lanes c.self.inside.options c.self.inside.version c.self.inside.info in
-    let f = in_phase c.self.inside.lanes c.self.inside.options c.self.inside.version c.self.inside.info c.self.inside.work c.self.inside.phase Open c.self.invariant (rw (← c.self.view_is) at c.requires.open) in
-    let was : SessionValue = record { lanes = c.self.inside.lanes; options = c.self.inside.options; phase = c.self.inside.phase; version = c.self.inside.version; info = c.self.inside.info; work = c.self.inside.work } in
-    let now : SessionValue = record was { work = c.push_call.new.self } in
-    rw (← c.self.view_is) (on_ok c.push_call.result (AddsIn s c.args.lane c.args.call (contents_of c.self.inside.work) (contents_of c.push_call.new.self)) (AddsCall c.args.lane c.args.call was now) (λ a. record { rest = refl; adds = a }) (c.push_call.ensures.adds s f))
-
-pub returns-clause-left : goal.returns-clause-left
-returns-clause-left c =
-    let was : SessionValue = record { lanes = c.self.inside.lanes; options = c.self.inside.options; phase = c.self.inside.phase; version = c.self.inside.version; info = c.self.inside.info; work = c.self.inside.work } in
-    let now : SessionValue = record was { work = c.push_call.new.self } in
-    rw (← c.self.view_is) (on_err c.push_call.result (contents_of c.push_call.new.self ≡ contents_of c.self.inside.work) (IsSame was now) (λ same. record { rest = refl; contents = same }) c.push_call.ensures.left)
+pub returns-in_default : goal.returns-in_default
+returns-in_default c =
+    let may : MayAdd c.args.lane c.args.call c.self.inside.work = record {
+      there = rw (← c.self.view_is) at c.requires.there;
+      held = rw (← c.self.view_is) at c.requires.held;
+      ok = rw (← c.self.view_is) at c.requires.ok;
+    } in
+    let on : c.self.inside.phase ≢ Failed = search rules in
+    rw (← c.self.view_is) (record {
+      adds = on_ok c.push_call.result _ _ (adds_call c.self.inside.lanes c.self.inside.options c.self.inside.version
+          c.self.inside.info c.self.inside.work c.push_call.new.self c.self.inside.phase
+          c.args.lane c.args.call c.self.invariant on may) c.push_call.ensures.adds;
+      left = on_err c.push_call.result _ _ (same_session c.self.inside.lanes c.self.inside.options c.self.inside.version
+          c.self.inside.info c.self.inside.work c.push_call.new.self
+          c.self.inside.phase) c.push_call.ensures.left;
+    })

@@ -1,5 +1,5 @@
-use Rattle.std.proofs.lemmas.Result.{IfOk-weaker}
-use Rattle.sftp_lanes.proofs.Shown.{failed_holds, holds, or_refused, stays}
+use Rattle.std.proofs.lemmas.Result.{IfOk-weaker, on_err_weaker}
+use Rattle.sftp_lanes.proofs.Shown.{failed_left, stays}
 use Rattle.sftp_lanes.proofs.session.SessionRunsLanes.hand_out.Goals as goal
 
 pub returns-clause-ok : goal.returns-clause-ok
@@ -11,5 +11,5 @@ returns-clause-stays c = IfOk-weaker c.hand_out_unsent.result _ _ (λ event g. s
 pub returns-clause-work : goal.returns-clause-work
 returns-clause-work c = IfOk-weaker c.hand_out_unsent.result _ _ (λ event g. g.did.work) c.hand_out_unsent.ensures.hands_out
 
-pub returns-clause-holds : goal.returns-clause-holds
-returns-clause-holds c = or_refused c.hand_out_unsent.result _ _ _ c.hand_out_unsent.ensures.hands_out c.hand_out_unsent.ensures.left (λ event g. holds _ _ _ g) (λ e f. failed_holds _ _ f)
+pub returns-clause-left : goal.returns-clause-left
+returns-clause-left c = on_err_weaker c.hand_out_unsent.result (λ f. failed_left _ _ f) c.hand_out_unsent.ensures.left

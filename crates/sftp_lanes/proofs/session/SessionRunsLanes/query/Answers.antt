@@ -1,7 +1,13 @@
-use Rattle.sftp_lanes.specs.Seen.{seen_of}
-use Rattle.sftp_lanes.proofs.Shown.{failed_holds, queried_holds, or_refused}
+use Rattle.std.proofs.lemmas.Result.{on_err_weaker}
+use Rattle.session_work.proofs.AddedLaws.{on_ok}
+use Rattle.sftp_lanes.proofs.Shown.{failed_left}
 use Rattle.sftp_lanes.proofs.session.SessionRunsLanes.query.Goals as goal
 
-pub returns-clause-holds : goal.returns-clause-holds
-returns-clause-holds c =
-    or_refused c.hand_query.result _ _ _ c.hand_query.ensures.queried c.hand_query.ensures.left (λ chunk g. queried_holds (seen_of c.args.self.now) (seen_of c.hand_query.new.self) g) (λ e f. failed_holds _ _ f)
+pub returns-clause-left : goal.returns-clause-left
+returns-clause-left c = on_err_weaker c.hand_query.result (λ f. failed_left _ _ f) c.hand_query.ensures.left
+
+pub returns-clause-now : goal.returns-clause-now
+returns-clause-now c = on_ok c.hand_query.result _ _ (λ g. g.queried) c.hand_query.ensures.hands
+
+pub returns-clause-later : goal.returns-clause-later
+returns-clause-later c = on_ok c.hand_query.result _ _ (λ g. g.later) c.hand_query.ensures.hands

@@ -1,5 +1,5 @@
-use Rattle.std.proofs.lemmas.Result.{IfOk-weaker}
-use Rattle.sftp_lanes.proofs.Shown.{holds, or_refused, refused_holds, stays}
+use Rattle.std.proofs.lemmas.Result.{IfErr-weaker, IfOk-weaker}
+use Rattle.sftp_lanes.proofs.Shown.{refused_left, stays}
 use Rattle.sftp_lanes.proofs.session.SessionRunsLanes.take.Goals as goal
 
 pub returns-clause-ok : goal.returns-clause-ok
@@ -11,5 +11,5 @@ returns-clause-goes c = IfOk-weaker c.take_reply.result _ _ (λ event g. record 
 pub returns-clause-work : goal.returns-clause-work
 returns-clause-work c = IfOk-weaker c.take_reply.result _ _ (λ event g. g.did.less) c.take_reply.ensures.takes
 
-pub returns-clause-holds : goal.returns-clause-holds
-returns-clause-holds c = or_refused c.take_reply.result _ _ _ c.take_reply.ensures.takes c.take_reply.ensures.kept (λ event g. holds _ _ _ g) (λ e f. refused_holds e _ _ f)
+pub returns-clause-left : goal.returns-clause-left
+returns-clause-left c = IfErr-weaker c.take_reply.result _ _ (λ e f. refused_left e _ _ f) c.take_reply.ensures.kept

@@ -1,16 +1,12 @@
 use Rattle.std.proofs.Common.{rules, ◌<◌, ◌^◌}
-use Rattle.sftp_machine.proofs.ReplyLaws.{answers_where, fits_where, within_where}
+use Rattle.sftp_machine.proofs.ReplyLaws.{answers_where, framed_where}
 use Rattle.sftp_machine.proofs.machine.Machine.answer.Goals as goal
 
 pub returns-clause-answers : goal.returns-clause-answers
-returns-clause-answers c = answers_where c.args.self.now c.args.request.now c.args.choice (λ a. a.reply) c.find.result c.requires.after_hello c.find.ensures.reply
+returns-clause-answers c = answers_where c.args.self.now c.args.request.now c.args.choice (λ a. a.reply) c.find.result
+    c.requires.after_hello c.find.ensures.reply
 
 pub returns-clause-fits : goal.returns-clause-fits
 returns-clause-fits c =
     let code : c.args.choice.refuse < 2 ^ 32 = search rules in
-    fits_where c.args.self.now c.args.request.now c.args.choice (λ a. a.reply) c.find.result c.find.ensures.consistent.fit code c.find.ensures.reply
-
-pub returns-clause-within : goal.returns-clause-within
-returns-clause-within c =
-    let code : c.args.choice.refuse < 2 ^ 32 = search rules in
-    within_where c.args.self.now c.args.request.now c.args.choice (λ a. a.reply) c.find.result c.find.ensures.consistent.fit code c.find.ensures.reply
+    framed_where c.args.self.now c.args.request.now c.args.choice (λ a. a.reply) c.find.result c.find.ensures.consistent.fit code c.find.ensures.reply

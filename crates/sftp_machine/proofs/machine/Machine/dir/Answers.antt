@@ -1,34 +1,24 @@
-use Rattle.std.proofs.Common.{rules, ◌≡◌, ap, ◌∙◌, Some, None, List, ℕ}
+use Rattle.std.proofs.Common.{rules, ◌≡◌, ap, ◌∙◌, Some, None, List}
 use Rattle.std.specs.Option.{option_copied}
-use Rattle.sftp_tree.specs.Components.{Name, written}
-use Rattle.sftp_tree.specs.declared.node.Node.{Node}
-use Rattle.sftp_machine.specs.Listing.{AreInOrder}
-use Rattle.sftp_machine.proofs.SortLaws.{dir_found}
+use Rattle.machine_model.specs.Components.{Name, written}
+use Rattle.machine_model.specs.declared.node.Node.{Node}
+use Rattle.machine_model.specs.Listing.{in_name_order}
+use Rattle.sftp_machine.proofs.ListingLaws.{dir_found}
 use Rattle.sftp_machine.proofs.machine.Machine.dir.Goals as goal
 
 pub returns-in-Some : goal.returns-in-Some
 returns-in-Some c =
     let tree = c.args.self.now.tree in
-    let names : List (Name × Node) = c.names.result.now in
-    let order = c.self.inside.order.items in
-    let places : List ℕ = c.deref.result.now in
-    let sorted : AreInOrder tree.names order = search rules in
-    let same_names : names ≡ tree.names = search rules in
-    let same_places : places ≡ order = search rules in
+    let pairs : List (Name × Node) = c.sorted.result.now in
+    let same : pairs ≡ in_name_order tree.names = search rules in
     let copied : Some c.in-Some.pair.now ≡ option_copied c.nth_of_kind.result = search rules in
-    let is = copied ∙ c.nth_of_kind.ensures in
     let name : c.written.result.now ≡ written c.in-Some.pair.now.0 = search rules in
-    ap Some name ∙ dir_found tree order names places c.args.k (Some c.in-Some.pair.now) sorted same_names same_places is
+    ap Some name ∙ dir_found tree pairs c.args.k (Some c.in-Some.pair.now) same (copied ∙ c.nth_of_kind.ensures)
 
 pub returns-in-None : goal.returns-in-None
 returns-in-None c =
     let tree = c.args.self.now.tree in
-    let names : List (Name × Node) = c.names.result.now in
-    let order = c.self.inside.order.items in
-    let places : List ℕ = c.deref.result.now in
-    let sorted : AreInOrder tree.names order = search rules in
-    let same_names : names ≡ tree.names = search rules in
-    let same_places : places ≡ order = search rules in
+    let pairs : List (Name × Node) = c.sorted.result.now in
+    let same : pairs ≡ in_name_order tree.names = search rules in
     let copied : None ≡ option_copied c.nth_of_kind.result = search rules in
-    let is = copied ∙ c.nth_of_kind.ensures in
-    dir_found tree order names places c.args.k (None) sorted same_names same_places is
+    dir_found tree pairs c.args.k None same (copied ∙ c.nth_of_kind.ensures)

@@ -6,5 +6,8 @@ use Rattle.sftp_machine.proofs.store.Store.grant.Goals as goal
 pub invariant_of-self-2 : goal.invariant_of-self-2
 invariant_of-self-2 c =
     let count = ap (λ (w : MachineState). w.grants) c.self.view_is in
-    let pushed : c.push.new.self.items ≡ c.self.inside.handles.items ++ (numbered_handle c.self.inside.grants, c.args.opened) ∷ [] = search rules in
-    rw pushed (record { handles = below_push c.self.inside.grants c.self.inside.handles.items c.args.opened c.self.invariant.handles; count = omega (arith, count, c.requires) })
+    let pushed : c.push.new.self ≡ c.self.inside.handles ++ (numbered_handle c.self.inside.grants, c.args.opened) ∷ [] = search rules in
+    rw pushed (record {
+      handles = below_push c.self.inside.grants c.self.inside.handles c.args.opened c.self.invariant.handles;
+      count = omega (arith, count, c.requires);
+    })

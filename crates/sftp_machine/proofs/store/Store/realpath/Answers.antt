@@ -1,14 +1,14 @@
 use Rattle.std.proofs.Common.{rules, ◌<◌, ◌≤◌, ◌∷◌, length}
-use Rattle.sftp_tree.specs.Components.{written}
+use Rattle.machine_model.specs.Components.{written}
 use Rattle.sftp_machine.proofs.PathLaws.{path_over, path_within}
 use Rattle.sftp_machine.proofs.store.Store.realpath.Goals as goal
 
 pub returns-then-as_bytes-gt-MAX_PATH_LEN : goal.returns-then-as_bytes-gt-MAX_PATH_LEN
 returns-then-as_bytes-gt-MAX_PATH_LEN c =
-    let long : 1048554 < length (47 ∷ written c.args.name.items) = search rules in
-    rw (path_over c.args.name.items long) c.refused.ensures
+    let long : 1048554 < length (47 ∷ written c.args.name.now) = search rules in
+    rw (path_over c.args.name.now long) c.refused.ensures
 
 pub returns : goal.returns
 returns c =
-    let short : length (47 ∷ written c.args.name.items) ≤ 1048554 = search rules in
-    rw (path_within c.args.name.items short) (search rules)
+    let short : length (47 ∷ written c.args.name.now) ≤ 1048554 = search rules in
+    rw (path_within c.args.name.now short) (search rules)

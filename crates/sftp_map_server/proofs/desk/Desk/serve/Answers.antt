@@ -7,4 +7,6 @@ pub frame_of-requires : goal.frame_of-requires
 frame_of-requires c =
     let within : gives_within c.args.request.now c.choice-choice.result ≡ true = search rules in
     let code : c.choice-choice.result.refuse < 2 ^ 32 = search rules in
-    rw (c.reply.ensures ∙ c.in_ok-answered.ensures.reply) (served_within c.self.inside.machine c.args.request.now c.choice-choice.result c.id_of.result c.self.invariant.1 code (within_of c.args.request.now c.choice-choice.result within))
+    rw (c.reply.ensures ∙ c.in_ok-answered.ensures.reply) (served_within c.self.inside.machine c.args.request.now
+    c.choice-choice.result c.id_of.result c.self.invariant.1 code
+    (within_of c.args.request.now c.choice-choice.result within))

@@ -1,4 +1,4 @@
-use Rattle.std.proofs.Common.{rules, ◌≡◌, [], ◌∷◌, ◌++◌, length, min, take, drop, reverse, subst, sym, ap}
+use Rattle.std.proofs.Common.{rules, ◌≡◌, [], ◌∷◌, ◌++◌, length, min, take, drop, reverse, subst, ap}
 use Rattle.std.specs.Prelude.{nat_eq}
 use Rattle.sftp_link.specs.Script.{limited}
 use Rattle.sftp_link.specs.declared.piece.Piece.TheVariants.{Got}
@@ -16,20 +16,28 @@ invariant_of-self-2 c =
     let after : c.give.new.self ≡ after_giving s.outbox c.min-n.result = search rules in
     let bytes : c.in_ok-piece.piece.items ≡ take c.min-n.result (turned s.outbox).ready = search rules in
     let most : c.min-n.result ≡ min (limited c.cut.result (length c.args.room.now)) (length (turned s.outbox).ready) = search rules in
-    let gives = gives_most s.desk s.input.items c.in_ok-piece.piece.items s.outbox c.give.new.self c.cut.result (length c.args.room.now) c.min-n.result some after bytes most c.requires.some in
+    let gives = gives_most s.desk s.input.items c.in_ok-piece.piece.items s.outbox c.give.new.self c.cut.result
+    (length c.args.room.now) c.min-n.result some after bytes most c.requires.some in
     let more : c.add_piece.new.log.items ≡ s.log.items ++ Got c.in_ok-piece.piece.items ∷ [] = search rules in
-    got_more first before (server_of s.desk s.input.items c.give.new.self) s.log.items c.add_piece.new.log.items c.in_ok-piece.piece.items s.ended (nat_eq c.min-n.result 0) c.self.invariant more gives (λ e. search rules)
+    got_more first before (server_of s.desk s.input.items c.give.new.self) s.log.items c.add_piece.new.log.items
+    c.in_ok-piece.piece.items s.ended (nat_eq c.min-n.result 0) c.self.invariant more gives (λ e. search rules)
 
 pub returns-clause-gives : goal.returns-clause-gives
 returns-clause-gives c =
     let s = c.self.inside in
     let before = server_of s.desk s.input.items s.outbox in
-    let some : NoneEmpty s.outbox.waiting = served_some (opened s.first_desk.value s.first_picks.value) before (reverse s.log.items) tt c.self.invariant.served in
+    let some : NoneEmpty s.outbox.waiting = served_some (opened s.first_desk.value s.first_picks.value) before
+    (reverse s.log.items) tt c.self.invariant.served in
     let after : c.give.new.self ≡ after_giving s.outbox c.min-n.result = search rules in
     let bytes : c.in_ok-piece.piece.items ≡ take c.min-n.result (turned s.outbox).ready = search rules in
     let most : c.min-n.result ≡ min (limited c.cut.result (length c.args.room.now)) (length (turned s.outbox).ready) = search rules in
-    let gives = gives_most s.desk s.input.items c.in_ok-piece.piece.items s.outbox c.give.new.self c.cut.result (length c.args.room.now) c.min-n.result some after bytes most c.requires.some in
+    let gives = gives_most s.desk s.input.items c.in_ok-piece.piece.items s.outbox c.give.new.self c.cut.result
+    (length c.args.room.now) c.min-n.result some after bytes most c.requires.some in
     let copied : c.copy_from_slice.new.self ≡ c.in_ok-piece.piece.items = search rules in
-    let stands = came (turned s.outbox).ready c.in_ok-piece.piece.items c.copy_from_slice.new.self (drop c.min-n.result c.args.room.now) (limited c.cut.result (length c.args.room.now)) c.min-n.result bytes most copied in
-    subst (λ (now : Server). Gives now (take c.min-n.result (c.copy_from_slice.new.self ++ drop c.min-n.result c.args.room.now)) (server_of s.desk s.input.items c.give.new.self)) (ap (λ v. v.now) c.self.view_is)
+    let stands = came (turned s.outbox).ready c.in_ok-piece.piece.items c.copy_from_slice.new.self
+    (drop c.min-n.result c.args.room.now) (limited c.cut.result (length c.args.room.now)) c.min-n.result bytes most
+    copied in
+    subst (λ (now : Server). Gives now (take c.min-n.result (c.copy_from_slice.new.self
+    ++ drop c.min-n.result c.args.room.now)) (server_of s.desk s.input.items c.give.new.self))
+    (ap (λ v. v.now) c.self.view_is)
     (subst (λ bytes. Gives before bytes (server_of s.desk s.input.items c.give.new.self)) stands gives)

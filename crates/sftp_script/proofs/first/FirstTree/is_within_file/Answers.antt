@@ -1,6 +1,6 @@
 use Rattle.std.proofs.Common.{rules, ◌≡◌, ◌∙◌}
 use Rattle.std.specs.Prelude.{map}
-use Rattle.sftp_tree.specs.FirstTree.{name_of}
+use Rattle.machine_model.specs.FirstTree.{name_of}
 use Rattle.sftp_script.proofs.FirstLaws.{any_named_by}
 use Rattle.sftp_script.proofs.first.FirstTree.is_within_file.Goals as goal
 

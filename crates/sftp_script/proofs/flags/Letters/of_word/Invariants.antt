@@ -1,6 +1,6 @@
 use Rattle.std.proofs.Common.{◌≡◌, Some, drop}
-use Rattle.sftp_file.specs.OpenOptions.{nothing_chosen}
-use Rattle.sftp_history.specs.Lines.{with_letters}
+use Rattle.sftp_model.specs.OpenOptions.{nothing_chosen}
+use Rattle.sftp_script.specs.Lines.{with_letters}
 use Rattle.sftp_script.proofs.flags.Letters.of_word.Given as goal
 
 -- the letters that are left give the options of all

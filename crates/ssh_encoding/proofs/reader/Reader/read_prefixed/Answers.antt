@@ -5,7 +5,11 @@ use Rattle.ssh_encoding.proofs.reader.Reader.read_prefixed.Goals.{then-is_ok, el
 use Rattle.ssh_encoding.proofs.reader.Reader.read_prefixed.Goals as goal
 
 pub returns-clause-read : goal.returns-clause-read
-returns-clause-read g c = rw c.in_ok-inner.ensures.read.0 (record { inner = c.in_ok-inner.inner; after = c.call_with-result.new.x; shows = refl; met = c.call_with-result.ensures }, grind (arith, common_steps))
+returns-clause-read g c = rw c.in_ok-inner.ensures.read.0 (
+  record
+      { inner = c.in_ok-inner.inner; after = c.call_with-result.new.x; shows = refl; met = c.call_with-result.ensures },
+  grind (arith, common_steps),
+)
 
 pub returns-clause-rest : goal.returns-clause-rest
 returns-clause-rest g c =

@@ -1,0 +1,214 @@
+-- What a request may change on a tree.
+use Rattle.std.specs.Prelude.{◌≡◌, ◌≢◌, ◌<◌, ℕ, ◌⊎◌, Bool, true, false, ◌||◌, List, [], length, Some, None, drop, ◌≤◌}
+use Rattle.sftp_model.specs.declared.reply.NameEntry.{NameEntry}
+use Rattle.sftp_model.specs.declared.reply.Reply.TheVariants as reply
+use Rattle.sftp_model.specs.declared.request.Request.{Request}
+use Rattle.sftp_model.specs.declared.request.Request.TheVariants as request
+use Rattle.machine_model.specs.declared.node.Node.TheVariants as node
+use Rattle.machine_model.specs.declared.opened.Opened.TheVariants as opened
+use Rattle.sftp_model.specs.Answers.{is_handle}
+use Rattle.machine_model.specs.Components.{Name, components, is_long, is_within, parent_of}
+use Rattle.machine_model.specs.FileTree.{
+  FileTree,
+  after_loss,
+  entries_of,
+  file_of,
+  is_directory,
+  node_at,
+  opened_at,
+  with_bytes,
+  with_file,
+  with_handle,
+  with_name,
+  with_renamed,
+  without_handle,
+  without_name,
+}
+use Rattle.machine_model.specs.HandleRequests.{Answer, creates, truncates}
+use Rattle.machine_model.specs.Limits.{MAX_FILE_LEN}
+use Rattle.machine_model.specs.NameRequests.{entries_at, has_child, with_entries}
+use Rattle.machine_model.specs.Pairs.{Has}
+use Rattle.machine_model.specs.declared.node.Node.{Node}
+use Rattle.machine_model.specs.declared.opened.Held.{Held}
+use Rattle.machine_model.specs.declared.opened.Opened.{Opened}
+
+-- ---- what a request is about
+
+-- an OPEN with CREAT or TRUNC
+abbrev pub makes_or_empties : ℕ → Bool
+makes_or_empties flags = creates flags || truncates flags
+
+-- the request is one to open the name
+abbrev pub Asks : Request → Name → Type 0
+Asks (request.OpenFile path flags attrs) name = components path ≡ name
+Asks other name = ⊥
+
+-- the request may make or take away what the name has, or empty it or cut it
+abbrev pub Denotes : Request → Name → Type 0
+Denotes (request.OpenFile path flags attrs) name = (makes_or_empties flags.0 ≡ true) × (components path ≡ name)
+Denotes (request.Setstat path attrs) name = components path ≡ name
+Denotes (request.Remove path) name = components path ≡ name
+Denotes (request.Mkdir path attrs) name = components path ≡ name
+Denotes (request.Rmdir path) name = components path ≡ name
+Denotes other name = ⊥
+
+-- the request may move one name to the other
+abbrev pub Moves : Request → Name → Name → Type 0
+Moves (request.Rename from into) old to = (components from ≡ old) × (components into ≡ to)
+Moves (request.PosixRename from into) old to = (components from ≡ old) × (components into ≡ to)
+Moves other old to = ⊥
+
+-- the handle has the file
+abbrev pub IsOpenOn : FileTree → List ℕ → ℕ → Type 0
+IsOpenOn tree handle file = (held : Held) × ((file_of (opened_at tree handle) ≡ Some held) × (held.file ≡ file))
+
+-- the request may write to the file by a handle
+abbrev pub WritesTo : FileTree → Request → ℕ → Type 0
+WritesTo tree (request.Write handle offset content) file = IsOpenOn tree handle file
+WritesTo tree (request.Fsetstat handle attrs) file = IsOpenOn tree handle file
+WritesTo tree (request.CopyData from from_offset len to to_offset) file = IsOpenOn tree to file
+WritesTo tree other file = ⊥
+
+-- the request closes the handle
+abbrev pub Closes : Request → List ℕ → Type 0
+Closes (request.Close handle) h = handle ≡ h
+Closes other h = ⊥
+
+-- the request takes further entries of the handle
+abbrev pub Lists : Request → List ℕ → Type 0
+Lists (request.Readdir handle) h = handle ≡ h
+Lists other h = ⊥
+
+-- ---- trees
+
+-- each file has its number, and one name has it at most
+pub record IsWellFormed (tree : FileTree) : Type 0 where
+  pub named : (name : Name) (file : ℕ) → Has tree.names (name, node.File file) → file < length tree.files
+  pub held : (handle : List ℕ) (held : Held) → Has tree.handles (handle, opened.File held)
+      → held.file < length tree.files
+  pub alone : (a b : Name) (file : ℕ) → Has tree.names (a, node.File file) → Has tree.names (b, node.File file) → a ≡ b
+
+-- the handle has the file open
+abbrev pub Opens : FileTree → List ℕ → ℕ → Type 0
+Opens tree handle file = (held : Held) × (Has tree.handles (handle, opened.File held) × (held.file ≡ file))
+
+-- ---- changes
+
+-- what a request may change
+pub data Change : Type 0 where
+  Unchanged : Change
+  Rewritten : ℕ → List ℕ → Change
+  Granted : Opened → Change
+  Truncated : ℕ → Opened → Change
+  Created : Name → Opened → Change
+  ClosedDirectory : List ℕ → Change
+  ClosedFile : List ℕ → ℕ → Change
+  Listed : List ℕ → List NameEntry → Change
+  MadeDirectory : Name → Change
+  RemovedDirectory : Name → Change
+  RemovedFile : Name → ℕ → Change
+  Renamed : Name → Name → Change
+  Replaced : Name → Name → ℕ → Change
+
+-- the tree after a change; `handle` is the granted one
+abbrev pub changed : FileTree → List ℕ → Change → FileTree
+changed tree handle Unchanged = tree
+changed tree handle (Rewritten file bytes) = with_bytes tree file bytes
+changed tree handle (Granted o) = with_handle tree handle o
+changed tree handle (Truncated file o) = with_handle (with_bytes tree file []) handle o
+changed tree handle (Created name o) = with_handle (with_file tree name) handle o
+changed tree handle (ClosedDirectory h) = without_handle tree h
+changed tree handle (ClosedFile h file) = after_loss (without_handle tree h) file
+changed tree handle (Listed h entries) = with_entries tree h entries
+changed tree handle (MadeDirectory name) = with_name tree name node.Directory
+changed tree handle (RemovedDirectory name) = without_name tree name
+changed tree handle (RemovedFile name file) = after_loss (without_name tree name) file
+changed tree handle (Renamed old to) = with_renamed tree old to
+changed tree handle (Replaced old to gone) = after_loss (with_renamed (without_name tree to) old to) gone
+
+-- a file that is opened has this number
+abbrev pub OpensFile : ℕ → Opened → Type 0
+OpensFile file (opened.File held) = held.file ≡ file
+OpensFile file (opened.Directory entries) = ⊥
+
+-- a file that is opened is one that the name has
+abbrev pub OpensNamed : FileTree → Request → Opened → Type 0
+OpensNamed tree r (opened.File held) = (name : Name) × (Asks r name × (node_at tree name ≡ Some (node.File held.file)))
+OpensNamed tree r (opened.Directory entries) = Unit {0}
+
+-- the file is one that the request writes to, or that a name has which it denotes
+abbrev pub Reaches : FileTree → Request → ℕ → Type 0
+Reaches tree r file = WritesTo tree r file ⊎ ((name : Name) ×
+    (Denotes r name × (node_at tree name ≡ Some (node.File file))))
+
+-- the request may lead to the change
+abbrev pub MayLead : FileTree → Request → Change → Type 0
+MayLead tree r Unchanged = Unit {0}
+MayLead tree r (Rewritten file bytes) = Reaches tree r file
+MayLead tree r (Granted o) = OpensNamed tree r o
+MayLead tree r (Truncated file o) = Reaches tree r file × OpensFile file o × OpensNamed tree r o
+MayLead tree r (Created name o) = Denotes r name × (node_at tree name ≡ None) × OpensFile (length tree.files) o
+MayLead tree r (ClosedDirectory h) = Closes r h
+MayLead tree r (ClosedFile h file) = Closes r h
+MayLead tree r (Listed h entries) = (old : List NameEntry) × (entries_of (opened_at tree h) ≡ Some old) × Lists r h
+MayLead tree r (MadeDirectory name) = Denotes r name
+MayLead tree r (RemovedDirectory name) = Denotes r name
+MayLead tree r (RemovedFile name file) = Denotes r name
+MayLead tree r (Renamed old to) = Moves r old to
+MayLead tree r (Replaced old to gone) = Moves r old to
+
+-- ---- conditions of changes
+
+-- a new name isn't there, its parent is a directory, and its last component isn't long
+abbrev pub MayStand : FileTree → Name → Type 0
+MayStand tree name = (node_at tree name ≡ None) × (is_directory (node_at tree (parent_of name)) ≡ true)
+    × (is_long name ≡ false)
+
+-- a directory that is taken away is there, isn't the root, and has nothing in it
+abbrev pub MayGo : FileTree → Name → Type 0
+MayGo tree name = (node_at tree name ≡ Some node.Directory) × (name ≢ []) × (has_child tree name ≡ false)
+
+-- a name that is moved is there, and the new one isn't within it
+abbrev pub MayMove : FileTree → Name → Name → Type 0
+MayMove tree old to = (n : Node) × (node_at tree old ≡ Some n) × (is_within old to ≡ false)
+
+-- a file takes the place of another file, and neither name is within the other
+abbrev pub MayReplace : FileTree → Name → Name → ℕ → Type 0
+MayReplace tree old to gone = (file : ℕ) × (node_at tree old ≡ Some (node.File file))
+    × (node_at tree to ≡ Some (node.File gone)) × (is_within old to ≡ false) × (is_within to old ≡ false)
+
+-- a directory that is opened is opened with the entries of some name
+abbrev pub HasEntries : FileTree → Opened → Type 0
+HasEntries tree (opened.File held) = Unit {0}
+HasEntries tree (opened.Directory entries) = (name : Name) × (entries ≡ entries_at tree name)
+
+-- what was looked at before a change
+abbrev pub WasChecked : FileTree → Change → Type 0
+WasChecked tree (Rewritten file bytes) = length bytes ≤ MAX_FILE_LEN
+WasChecked tree (Granted o) = HasEntries tree o
+WasChecked tree (Truncated file o) = HasEntries tree o
+WasChecked tree (Created name o) = MayStand tree name × HasEntries tree o
+WasChecked tree (Listed h entries) = (old : List NameEntry) × (k : ℕ) × (entries_of (opened_at tree h) ≡ Some old)
+    × (entries ≡ drop k old)
+WasChecked tree (MadeDirectory name) = MayStand tree name
+WasChecked tree (RemovedDirectory name) = MayGo tree name
+WasChecked tree (RemovedFile name file) = node_at tree name ≡ Some (node.File file)
+WasChecked tree (Renamed old to) = MayMove tree old to × MayStand tree to
+WasChecked tree (Replaced old to gone) = MayReplace tree old to gone
+WasChecked tree other = Unit {0}
+
+-- the change grants the handle
+abbrev pub is_grant : Change → Bool
+is_grant (Granted o) = true
+is_grant (Truncated file o) = true
+is_grant (Created name o) = true
+is_grant other = false
+
+-- An answer that leaves what one of the changes leaves, and is a HANDLE, with the granted handle, where that grants it.
+pub record Leaves (tree : FileTree) (r : Request) (handle : List ℕ) (x : Answer) : Type 0 where
+  pub change : Change
+  pub may : MayLead tree r change
+  pub checked : WasChecked tree change
+  pub is : x.1 ≡ changed tree handle change
+  pub said : is_handle x.0 ≡ is_grant change
+  pub named : is_handle x.0 ≡ true → x.0 ≡ reply.Handle handle

@@ -1,0 +1,13 @@
+pub mod Asking
+pub mod Places
+pub mod Feeding
+pub mod Sound
+pub mod Replying
+pub mod Owing
+pub mod Picking
+pub mod Showing
+pub mod Stopping
+pub mod Serving
+pub mod Numbering
+pub mod Counting
+pub mod Whole

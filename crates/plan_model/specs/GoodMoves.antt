@@ -1,0 +1,157 @@
+-- What holds of each move of a call, whatever the call.
+use Rattle.std.specs.Prelude.{ℕ, ◌≡◌, ◌<◌, ◌≤◌, ◌+◌, ◌^◌, ◌⊎◌, true, false, List, [], ◌∷◌, length, Some, None, IfSome}
+use Rattle.sftp_model.specs.declared.reply.Reply.TheVariants as reply
+use Rattle.sftp_model.specs.declared.request.Request.{Request}
+use Rattle.sftp_model.specs.declared.request.Request.TheVariants as request
+use Rattle.sftp_model.specs.declared.slot.Facts.{Facts}
+use Rattle.sftp_model.specs.declared.slot.Move.{Move}
+use Rattle.sftp_model.specs.declared.slot.Move.TheVariants.{Ask, Wait, Done}
+use Rattle.sftp_model.specs.Fits.{FitsAttributes, FitsHandle, FitsLong, FitsNumber, FitsSet}
+use Rattle.sftp_model.specs.Frames.{no_attributes}
+use Rattle.sftp_model.specs.Numbers.{MAX_TRANSFER_LEN}
+use Rattle.sftp_model.specs.declared.slot.Site.{Site}
+use Rattle.sftp_model.specs.declared.slot.Slot.TheVariants.{Empty}
+use Rattle.sftp_model.specs.Slots.{slot_at, with_slot, grant_of, has_grant}
+use Rattle.sftp_model.specs.OpenOptions.{flags_of}
+use Rattle.plan_model.specs.Moves.{Answers, Own, handle_of, is_too_long}
+use Rattle.plan_model.specs.declared.call.Call.TheVariants as call
+use Rattle.plan_model.specs.declared.call.Call.{Call}
+use Rattle.plan_model.specs.CallPlans.{next}
+
+-- What a law is said of: the call's own requests, that its numbers fit, what it may close and what it brought, and what
+-- it began with.
+pub record Situation : Type 1 where
+  pub own : Own
+  pub numbers : Type 0
+  pub closes : List ℕ → Type 0
+  pub brought : ℕ → Type 0
+  pub site : Site
+  pub facts : Facts
+  pub answers : Answers
+
+-- a grant that the lane held at the call's start, or that the call brought
+abbrev pub IsHeld : Situation → ℕ → Type 0
+IsHeld s g = (has_grant s.site g ≡ true) ⊎ s.brought g
+
+-- the handle is that of such a grant
+pub record IsHeldHandle (s : Situation) (handle : List ℕ) : Type 0 where
+  pub grant : ℕ
+  pub held : IsHeld s grant
+  pub bears : handle ≡ handle_of (s.answers grant)
+
+-- A request that a call may ask. Its handles are held, its lengths within the facts, its offsets within the range, its
+-- paths within a frame, and its flags and attributes fit where the numbers of the call do; a handle is asked for by the
+-- call's first request alone; a CLOSE comes where the call may,
+-- and a hello or a query for limits never.
+abbrev pub IsGoodAsk : Situation → Request → Type 0
+IsGoodAsk s (request.Init version) = ⊥
+IsGoodAsk s request.LimitsQuery = ⊥
+IsGoodAsk s (request.Close handle) = s.closes handle
+IsGoodAsk s (request.OpenFile path flags attrs) = (s.own ≡ []) × (s.numbers → FitsSet flags.0) × (attrs ≡ no_attributes)
+    × (is_too_long (request.OpenFile path flags attrs) ≡ false)
+IsGoodAsk s (request.Opendir path) = (s.own ≡ []) × (is_too_long (request.Opendir path) ≡ false)
+IsGoodAsk s (request.Read handle offset len) = IsHeldHandle s handle × (offset + len < 2 ^ 64)
+    × (len ≤ s.facts.read_len)
+IsGoodAsk s (request.Write handle offset content) = IsHeldHandle s handle × (offset + length content < 2 ^ 64)
+    × (length content ≤ s.facts.write_len)
+IsGoodAsk s (request.Fstat handle) = IsHeldHandle s handle
+IsGoodAsk s (request.Fsync handle) = IsHeldHandle s handle
+IsGoodAsk s (request.Readdir handle) = IsHeldHandle s handle
+IsGoodAsk s (request.Fsetstat handle attrs) = IsHeldHandle s handle × (s.numbers → FitsAttributes attrs)
+IsGoodAsk s (request.CopyData from from_offset len to to_offset) = IsHeldHandle s from × IsHeldHandle s to
+    × (from_offset + len < 2 ^ 64) × (to_offset + len < 2 ^ 64)
+IsGoodAsk s (request.Setstat path attrs) = (s.numbers → FitsAttributes attrs)
+    × (is_too_long (request.Setstat path attrs) ≡ false)
+IsGoodAsk s (request.Mkdir path attrs) = (attrs ≡ no_attributes) × (is_too_long (request.Mkdir path attrs) ≡ false)
+IsGoodAsk s r = is_too_long r ≡ false
+
+-- every grant that the site holds is held
+abbrev pub HoldsWithin : Situation → Site → Type 0
+HoldsWithin s after = (g : ℕ) → has_grant after g ≡ true → IsHeld s g
+
+-- A move is good: a request that may be asked, a wait for a reply that was not taken, an end that leaves grants that
+-- were held.
+abbrev pub IsGood : Situation → Move → Type 0
+IsGood s (Ask r) = IsGoodAsk s r
+IsGood s (Wait place) = s.answers place ≡ None
+IsGood s (Done ended after) = HoldsWithin s after
+
+-- ---- what calls bring and close
+
+-- the grant is that of the call's first request, which a HANDLE answered
+pub record IsBrought (own : Own) (answers : Answers) (grant : ℕ) : Type 0 where
+  pub asked : Request
+  pub later : Own
+  pub handle : List ℕ
+  pub first : own ≡ (grant, asked) ∷ later
+  pub came : answers grant ≡ Some (reply.Handle handle)
+
+-- the CLOSE of the grant of a slot that no other slot has, where nothing was asked before
+pub record Closes (slot : ℕ) (site : Site) (own : Own) (answers : Answers) (handle : List ℕ) : Type 0 where
+  pub grant : ℕ
+  pub stood : grant_of (slot_at site slot) ≡ Some grant
+  pub fresh : own ≡ []
+  pub last : has_grant (with_slot site slot Empty) grant ≡ false
+  pub bears : handle ≡ handle_of (answers grant)
+
+-- a `close` alone may close
+abbrev pub closes : Call → Site → Own → Answers → List ℕ → Type 0
+closes (call.Close slot) site own answers handle = Closes slot site own answers handle
+closes other site own answers handle = ⊥
+
+-- the calls with an OPEN or an OPENDIR bring a grant
+abbrev pub brings : Call → Own → Answers → ℕ → Type 0
+brings (call.OpenFile slot flags path) own answers grant = IsBrought own answers grant
+brings (call.FsRead path bound) own answers grant = IsBrought own answers grant
+brings (call.FsWrite path bytes) own answers grant = IsBrought own answers grant
+brings (call.List path bound) own answers grant = IsBrought own answers grant
+brings other own answers grant = ⊥
+
+-- the numbers of a call fit their fields
+abbrev pub FitsCall : Call → Type 0
+FitsCall (call.OpenFile slot flags path) = FitsSet (flags_of flags).0
+FitsCall (call.SetLen slot n) = FitsLong n
+FitsCall (call.SetStat path size mode) = IfSome size FitsLong
+FitsCall (call.FsRead path bound) = FitsNumber bound
+FitsCall other = Unit {0}
+
+abbrev pub situation : Call → Site → Facts → Own → Answers → Situation
+situation c site facts own answers = record {
+  own = own;
+  numbers = FitsCall c;
+  closes = closes c site own answers;
+  brought = brings c own answers;
+  site = site;
+  facts = facts;
+  answers = answers;
+}
+
+-- a READ that the call asks next keeps within the range
+abbrev pub ReadsWithin : Facts → Move → Type 0
+ReadsWithin facts (Ask (request.Read handle offset len)) = (offset + len < 2 ^ 64) × (len ≤ facts.read_len)
+ReadsWithin facts other = Unit {0}
+
+-- what a whole read asks next is within the range, as it is where its own requests are those that its plan asked
+abbrev pub WithinRange : Call → Site → Facts → Own → Answers → Type 0
+WithinRange (call.FsRead path bound) site facts own answers =
+    ReadsWithin facts (next (call.FsRead path bound) site facts own answers)
+WithinRange other site facts own answers = Unit {0}
+
+-- ---- premises
+
+-- the lengths, the limit and the window of a session
+pub record FitsFacts (facts : Facts) : Type 0 where
+  pub read_len : (1 ≤ facts.read_len) × (facts.read_len ≤ MAX_TRANSFER_LEN)
+  pub write_len : (1 ≤ facts.write_len) × (facts.write_len ≤ MAX_TRANSFER_LEN)
+  pub write_limit : 1 ≤ facts.write_limit
+  pub read_window : (1 ≤ facts.read_window) × (facts.read_window ≤ 64)
+
+-- the handles that were granted have at most 256 bytes
+abbrev pub HandlesFit : Answers → Type 0
+HandlesFit answers = (place : ℕ) → FitsHandle (handle_of (answers place))
+
+-- ---- what a cancelled call leaves
+
+-- every grant of the second site is one of the first
+abbrev pub HoldsNoMore : Site → Site → Type 0
+HoldsNoMore site after = (g : ℕ) → has_grant after g ≡ true → has_grant site g ≡ true

@@ -1,0 +1,61 @@
+-- How many requests a call makes at most.
+use Rattle.std.specs.Prelude.{ℕ, suc, ◌≡◌, ◌<◌, ◌≤◌, ◌+◌, List, [], ◌∷◌, length}
+use Rattle.sftp_model.specs.declared.slot.Facts.{Facts}
+use Rattle.sftp_model.specs.declared.slot.Move.{Move}
+use Rattle.sftp_model.specs.declared.slot.Move.TheVariants.{Ask}
+use Rattle.sftp_model.specs.declared.slot.FileAt.{FileAt}
+use Rattle.sftp_model.specs.declared.slot.Buffer.{Buffer}
+use Rattle.sftp_model.specs.declared.slot.Site.{Site}
+use Rattle.sftp_model.specs.declared.slot.Slot.TheVariants.{Buffered}
+use Rattle.sftp_model.specs.Slots.{slot_at}
+use Rattle.plan_model.specs.TransferPlans.{joined_parts}
+use Rattle.plan_model.specs.BufferPlans.{pending}
+use Rattle.plan_model.specs.declared.call.Call.TheVariants as call
+use Rattle.plan_model.specs.declared.call.Call.{Call}
+use Rattle.plan_model.specs.CallPlans.{next}
+use Rattle.plan_model.specs.Ends.{Leaves}
+
+-- where the move asks, the first number is below the second
+abbrev pub AsksBelow : ℕ → ℕ → Move → Type 0
+AsksBelow made most (Ask r) = made < most
+AsksBelow made most other = Unit {0}
+
+-- ---- the most requests of a call
+
+abbrev pub work : Call → Facts → ℕ
+work (call.ReadAll slot n) facts = n
+work (call.WriteAll slot bytes) facts = length bytes
+work (call.WriteParts slot parts) facts = length (joined_parts parts)
+work (call.BufWriteAll slot bytes) facts = length bytes
+work (call.FsRead path bound) facts = bound + facts.read_window
+work (call.FsWrite path bytes) facts = suc (length bytes)
+work (call.List path bound) facts = suc bound
+work (call.Seek slot position) facts = 0
+work (call.CloneFile from to) facts = 0
+work (call.Buffer slot len) facts = 0
+work (call.Unbuffer slot) facts = 0
+work (call.BufFlush slot) facts = 0
+work (call.BufSeek slot position) facts = 0
+work (call.Cwd path) facts = 0
+work other facts = 1
+
+-- ---- what holds of a buffer between calls
+
+-- each deferred write has a byte
+abbrev pub EachHasByte : List (ℕ × ℕ) → Type 0
+EachHasByte [] = Unit {0}
+EachHasByte (write ∷ writes) = (1 ≤ write.1) × EachHasByte writes
+
+-- no more is pending than the limit allows
+pub record IsWithinLimit (facts : Facts) (buffer : Buffer) : Type 0 where
+  pub within : pending buffer.deferred ≤ facts.write_limit
+  pub each : EachHasByte buffer.deferred
+
+-- and so it is in each slot
+abbrev pub BuffersWithin : Facts → Site → Type 0
+BuffersWithin facts site = (slot : ℕ) (file : FileAt) (buffer : Buffer) → slot_at site slot ≡ Buffered file buffer
+    → IsWithinLimit facts buffer
+
+-- a call that ends leaves its buffers so
+abbrev pub LeavesWithin : Facts → Move → Type 0
+LeavesWithin facts move = Leaves (BuffersWithin facts) move

@@ -1,0 +1,11 @@
+pub mod Begun
+pub mod Buffers
+pub mod Runners
+pub mod Cancelling
+pub mod Deferrals
+pub mod Sound
+pub mod Pending
+pub mod Asking
+pub mod RunnerRows
+pub mod Seeks
+pub mod Ran

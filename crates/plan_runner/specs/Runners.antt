@@ -1,0 +1,279 @@
+-- What a runner does, by the plan of its call.
+use Rattle.std.specs.Prelude.{
+  ℕ,
+  ◌≡◌,
+  ◌-◌,
+  ◌==◌,
+  List,
+  [],
+  ◌∷◌,
+  ◌++◌,
+  drop,
+  length,
+  Option,
+  Some,
+  None,
+  Result,
+  Ok,
+  Err,
+  if◌then◌else◌,
+}
+use Rattle.sftp_model.specs.declared.request.Request.{Request}
+use Rattle.sftp_model.specs.declared.request.Request.TheVariants as request
+use Rattle.sftp_model.specs.declared.reply.Reply.{Reply}
+use Rattle.sftp_model.specs.declared.reply.Reply.TheVariants as reply
+use Rattle.sftp_model.specs.declared.outcome.Outcome.{Outcome}
+use Rattle.sftp_model.specs.declared.outcome.Outcome.TheVariants as outcome
+use Rattle.sftp_model.specs.declared.error.Error.TheVariants as error
+use Rattle.sftp_model.specs.declared.error.IoKind.{IoKind}
+use Rattle.sftp_model.specs.declared.error.IoKind.TheVariants as kind
+use Rattle.sftp_model.specs.declared.slot.Facts.{Facts}
+use Rattle.sftp_model.specs.declared.slot.FileAt.{FileAt}
+use Rattle.sftp_model.specs.declared.slot.Slot.TheVariants.{File}
+use Rattle.sftp_model.specs.Slots.{slot_at, with_slot}
+use Rattle.sftp_model.specs.declared.slot.Site.{Site}
+use Rattle.sftp_model.specs.declared.slot.Move.{Move}
+use Rattle.sftp_model.specs.declared.slot.Move.TheVariants.{Ask, Wait, Done}
+use Rattle.sftp_model.specs.Numbers.{SSH_FX_OK}
+use Rattle.plan_model.specs.Moves.{
+  Answers,
+  Own,
+  Plan,
+  once_answered,
+  handle_of,
+  done_by,
+  told_by,
+  on_buffered,
+  on_content,
+  on_handle,
+  on_status,
+  further,
+  refuses,
+}
+use Rattle.plan_model.specs.PathPlans.{named_by}
+use Rattle.plan_model.specs.FilePlans.{opened, opened_file, copied}
+use Rattle.plan_model.specs.TransferPlans.{
+  Keeping,
+  in_slot,
+  joined_parts,
+  missing_next,
+  part_len,
+  rest_next,
+  was_read,
+  was_written,
+}
+use Rattle.plan_model.specs.WholePlans.{entries_next, nowhere, on_names, to_replace}
+use Rattle.plan_model.specs.declared.call.Call.TheVariants as call
+use Rattle.plan_model.specs.declared.call.Call.{Call}
+use Rattle.plan_model.specs.CallPlans.{next}
+use Rattle.plan_model.specs.BufferPlans.{buf_write_all_next, was_filled}
+use Rattle.plan_model.specs.WindowPlans.{answered_prefix, outside, window_next}
+use Rattle.plan_window.specs.declared.window.ReadAt.{ReadAt}
+use Rattle.plan_window.specs.Windows.{Window}
+use Rattle.plan_window.specs.Windows.{answered_more, first_of, reads_of, replies_of, under_way, window_plan}
+use Rattle.plan_runner.specs.Buffers.{flushed_after, oldest_in, reading_in, room_made, sent_next}
+use Rattle.plan_runner.specs.declared.next.Asked.{Asked}
+use Rattle.plan_runner.specs.declared.next.Asked.TheVariants as asked
+use Rattle.plan_runner.specs.declared.next.EndsBy.{EndsBy}
+use Rattle.plan_runner.specs.declared.next.EndsBy.TheVariants as by
+use Rattle.plan_runner.specs.declared.next.Running.{Running}
+use Rattle.plan_runner.specs.declared.next.Running.TheVariants as running
+use Rattle.plan_runner.specs.declared.next.Next.{Next}
+use Rattle.plan_runner.specs.declared.next.Next.TheVariants as step
+
+-- ---- requests
+
+-- the request, with the handles that its grants brought
+abbrev pub filled : Asked → Answers → Request
+filled (asked.Plain r) answers = r
+filled (asked.Close grant) answers = request.Close (handle_of (answers grant))
+filled (asked.Read grant offset len) answers = request.Read (handle_of (answers grant)) offset len
+filled (asked.Write grant offset content) answers = request.Write (handle_of (answers grant)) offset content
+filled (asked.Fstat grant) answers = request.Fstat (handle_of (answers grant))
+filled (asked.Fsetstat grant attrs) answers = request.Fsetstat (handle_of (answers grant)) attrs
+filled (asked.Readdir grant) answers = request.Readdir (handle_of (answers grant))
+filled (asked.Fsync grant) answers = request.Fsync (handle_of (answers grant))
+filled (asked.CopyData from from_offset len to to_offset) answers =
+    request.CopyData (handle_of (answers from)) from_offset len (handle_of (answers to)) to_offset
+
+-- ---- what is left of a plan
+
+-- the place of a READ, where there is one
+abbrev pub place_in : Option ReadAt → Option ℕ
+place_in None = None
+place_in (Some r) = Some r.place
+
+-- the place of the request whose reply a call awaits
+abbrev pub awaited : Running → Site → Option ℕ
+awaited (running.Ending place ends) site = Some place
+awaited (running.Opening place slot flags) site = Some place
+awaited (running.Reading place slot file len) site = Some place
+awaited (running.Gathering place slot file got left len) site = Some place
+awaited (running.Sending place slot file len) site = Some place
+awaited (running.Writing place slot file done) site = Some place
+awaited (running.OpeningToWrite place) site = Some place
+awaited (running.OpeningToRead place bound) site = Some place
+awaited (running.ReadingWhole grant bound window) site = place_in (first_of window.waiting)
+awaited (running.OpeningDirectory place bound) site = Some place
+awaited (running.Listing place grant got bound) site = Some place
+awaited (running.Flushing slot) site = oldest_in (slot_at site slot)
+awaited (running.AwaitingRoom slot start) site = oldest_in (slot_at site slot)
+awaited (running.Deferred slot count) site = None
+awaited (running.DeferringRest slot done) site = None
+awaited (running.FillingBuffer slot n offset own) site = reading_in (slot_at site slot)
+awaited (running.Copying place from to source target len) site = Some place
+
+-- what a reply makes of a call that it ends
+abbrev pub ended_by : EndsBy → Site → Reply → Move
+ended_by by.Status site = done_by site
+ended_by by.Attributes site = told_by site
+ended_by by.FirstName site = named_by site
+
+-- a call that awaits a reply and has none
+abbrev pub with_reply : Site → Option Reply → (Reply → Move) → Move
+with_reply site None go = Done outcome.NoFile site
+with_reply site (Some r) go = go r
+
+-- where a file that was moved is put: into its slot, or nowhere
+abbrev pub keep_in : Option ℕ → Keeping
+keep_in None = nowhere
+keep_in (Some slot) = in_slot slot
+
+-- a part was written of these bytes
+abbrev pub part_after : Keeping → FileAt → List ℕ → ℕ → Site → Facts → Plan
+part_after keep file bytes len site facts = rest_next keep (further file len) (drop len bytes)
+    (keep (further file len) site) facts
+
+-- a DATA came to a read of all
+abbrev pub content_after : ℕ → FileAt → List ℕ → ℕ → List ℕ → Site → Facts → Plan
+content_after slot file got left bytes site facts =
+    missing_next slot (further file (length bytes)) (got ++ bytes) (left - length bytes)
+    (with_slot site slot (File (further file (length bytes)))) facts
+
+-- a window after the reply to its first READ under way, if it came
+abbrev pub answered_by : Window → Option Reply → Window
+answered_by window None = window
+answered_by window (Some y) = answered_more window y
+
+-- How a call goes on after the reply that it awaited, if it awaited one; `bytes` are those that the call carries.
+abbrev pub after : Running → List ℕ → Site → Facts → Option Reply → Plan
+after (running.Ending place ends) bytes site facts r later answers = with_reply site r (ended_by ends site)
+after (running.Opening place slot flags) bytes site facts r later answers =
+    with_reply site r (opened slot flags site place)
+after (running.Reading place slot file len) bytes site facts r later answers =
+    with_reply site r (was_read slot file site)
+after (running.Gathering place slot file got left len) bytes site facts r later answers =
+    with_reply site r (λ y. on_content y site (refuses kind.UnexpectedEof site)
+    (λ content. content_after slot file got left content site facts later answers))
+after (running.Sending place slot file len) bytes site facts r later answers =
+    with_reply site r (was_written slot file len site)
+after (running.Writing place slot file done) bytes site facts r later answers =
+    with_reply site r (λ y. on_status y site (part_after (keep_in slot) file (drop done bytes)
+    (part_len facts (drop done bytes)) site facts later answers))
+after (running.OpeningToWrite place) bytes site facts r later answers =
+    with_reply site r (λ y. on_handle y site (λ handle. rest_next nowhere (opened_file to_replace place) bytes site
+    facts later answers))
+after (running.OpeningToRead place bound) bytes site facts r later answers =
+    with_reply site r (λ y. on_handle y site (λ handle. window_next (handle_of (answers place)) (Some bound) later
+    (answered_prefix later answers) (outside later answers) site facts))
+after (running.ReadingWhole grant bound window) bytes site facts r later answers =
+    window_plan (handle_of (answers grant)) (Some bound) (answered_by window r) site facts later answers
+after (running.OpeningDirectory place bound) bytes site facts r later answers =
+    with_reply site r (λ y. on_handle y site (λ handle. entries_next (handle_of (answers place)) [] bound site later
+    answers))
+after (running.Listing place grant got bound) bytes site facts r later answers =
+    with_reply site r (λ y. on_names y site (Done (outcome.Names got) site)
+    (λ entries. entries_next (handle_of (answers grant)) (got ++ entries) (bound - 1) site later answers))
+after (running.Flushing slot) bytes site facts r later answers =
+    on_buffered (slot_at site slot) site (λ file buffer. with_reply site r
+    (λ y. flushed_after slot file buffer site buffer.deferred y answers))
+after (running.AwaitingRoom slot start) bytes site facts r later answers =
+    on_buffered (slot_at site slot) site (λ file buffer. with_reply site r
+    (λ y. room_made slot file buffer site buffer.deferred y (sent_next slot start file bytes facts later answers)))
+after (running.Deferred slot count) bytes site facts r later answers = Done (outcome.Count count) site
+after (running.DeferringRest slot done) bytes site facts r later answers =
+    buf_write_all_next slot (drop done bytes) site facts later answers
+after (running.FillingBuffer slot n offset own) bytes site facts r later answers =
+    on_buffered (slot_at site slot) site (λ file buffer. with_reply site r (was_filled slot n file buffer site))
+after (running.Copying place from to source target len) bytes site facts r later answers =
+    with_reply site r (λ y. on_status y site (Done outcome.Done (copied from to source target len site)))
+
+-- where a reply is awaited and missing
+abbrev pub waits : Option ℕ → Site → Move
+waits None site = Done outcome.NoFile site
+waits (Some place) site = Wait place
+
+-- What a call does while the reply that it awaits is missing: a whole read may ask for more.
+abbrev pub idle : Running → List ℕ → Site → Facts → Plan
+idle (running.ReadingWhole grant bound window) bytes site facts later answers =
+    window_next (handle_of (answers grant)) (Some bound) (reads_of (handle_of (answers grant)) window ++ later)
+    (replies_of window) (under_way (handle_of (answers grant)) window ++ later) site facts
+idle running bytes site facts later answers = waits (awaited running site) site
+
+-- by the reply that is awaited, if one is
+abbrev pub once : Option ℕ → Answers → (Option Reply → Move) → Move
+once None answers go = go None
+once (Some place) answers go = once_answered place (answers place) (λ r. go (Some r))
+
+-- what is left of the plan of a call that was begun
+abbrev pub residual : Running → List ℕ → Site → Facts → Plan
+residual (running.ReadingWhole grant bound window) bytes site facts later answers =
+    window_plan (handle_of (answers grant)) (Some bound) window site facts later answers
+residual running bytes site facts later answers = once (awaited running site) answers
+    (λ r. after running bytes site facts r later answers)
+
+-- ---- what a runner does
+
+-- What a runner answers goes by a plan: the request that it asks bears this place.
+abbrev pub Goes : Plan → ℕ → List ℕ → Site → Facts → Next → Type 0
+Goes plan place bytes site facts (step.Ask a r) =
+    (answers : Answers) → (plan [] answers ≡ Ask (filled a answers))
+    × ((later : Own) → plan ((place, filled a answers) ∷ later) answers ≡ residual r bytes site facts later answers)
+Goes plan place bytes site facts (step.Wait r) = (answers : Answers) → (later : Own) → plan later answers
+    ≡ residual r bytes site facts later answers
+Goes plan place bytes site facts (step.Done o) = (answers : Answers) → plan [] answers ≡ Done o site
+
+-- What a runner answers while the reply that it awaits is missing: what it asks bears this place, or the plan waits.
+abbrev pub Widens : Running → ℕ → List ℕ → Site → Facts → Next → Type 0
+Widens running place bytes site facts (step.Ask a r) =
+    (answers : Answers) → (idle running bytes site facts [] answers ≡ Ask (filled a answers))
+    × ((later : Own) → residual running bytes site facts ((place, filled a answers) ∷ later) answers
+    ≡ residual r bytes site facts later answers)
+Widens running place bytes site facts (step.Wait r) = (r ≡ running)
+    × ((answers : Answers) → idle running bytes site facts [] answers ≡ waits (awaited running site) site)
+Widens running place bytes site facts (step.Done o) = (answers : Answers) → idle running bytes site facts [] answers
+    ≡ Done o site
+
+-- the bytes that a call carries
+abbrev pub bytes_of : Call → List ℕ
+bytes_of (call.Write slot bytes) = bytes
+bytes_of (call.WriteAll slot bytes) = bytes
+bytes_of (call.WriteParts slot parts) = joined_parts parts
+bytes_of (call.BufWrite slot bytes) = bytes
+bytes_of (call.BufWriteAll slot bytes) = bytes
+bytes_of (call.FsWrite path bytes) = bytes
+bytes_of other = []
+
+-- What begins a call goes by its plan. The site was the first one, and is the second.
+abbrev pub Begins : Call → ℕ → Site → Site → Facts → Next → Type 0
+Begins c place old new facts n = Goes (next c old facts) place (bytes_of c) new facts n
+
+-- ---- seeks
+
+-- a seek that leads to an offset, or is refused
+abbrev pub by_seek : Result ℕ IoKind → Site → (ℕ → Move) → Move
+by_seek (Ok offset) site go = go offset
+by_seek (Err why) site go = refuses why site
+
+-- ---- refusals
+
+-- the outcome of a reply that refuses
+abbrev pub refusal_of : Reply → Outcome
+refusal_of (reply.Status code message language) = outcome.Refused (error.SftpError code message language)
+refusal_of other = outcome.Refused (error.InvalidResponse None)
+
+-- nothing where a STATUS 0 lets the call go on, and else the outcome of the refusal
+abbrev pub failure_of : Reply → Option Outcome
+failure_of (reply.Status code message language) = if code == SSH_FX_OK then None else
+    Some (outcome.Refused (error.SftpError code message language))
+failure_of other = Some (outcome.Refused (error.InvalidResponse None))

@@ -1,0 +1,23 @@
+-- A buffered file that stands elsewhere.
+use Rattle.std.specs.Prelude.{ℕ, ◌-◌, List, [], drop, Option, nat_lt, if◌then◌else◌}
+use Rattle.sftp_model.specs.declared.slot.FileAt.{FileAt}
+use Rattle.sftp_model.specs.declared.slot.Site.{Site}
+use Rattle.sftp_model.specs.declared.slot.Slot.{Slot}
+use Rattle.sftp_model.specs.declared.slot.Slot.TheVariants.{Buffered}
+use Rattle.sftp_model.specs.Slots.{with_slot}
+
+-- the buffered bytes from a new offset on, where that lies ahead
+abbrev pub sought_bytes : ℕ → ℕ → List ℕ → List ℕ
+sought_bytes from to bytes = if nat_lt from to then drop (to - from) bytes else []
+
+-- where a slot holds a buffered file, that file stands there with these bytes and this read under way
+abbrev pub rebuffered : ℕ → Site → Slot → FileAt → List ℕ → Option ℕ → Site
+rebuffered slot site (Buffered old buffer) file bytes reading =
+    with_slot site slot (Buffered file (record {
+      len = buffer.len;
+      bytes = bytes;
+      deferred = buffer.deferred;
+      reading =
+          reading;
+    }))
+rebuffered slot site other file bytes reading = with_slot site slot other

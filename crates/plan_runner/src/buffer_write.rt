@@ -1,0 +1,320 @@
+//! `buf_write` and `buf_write_all`: WRITEs whose statuses are left for later, within the limit of what is pending.
+ghost use Rattle.std.specs.Prelude.{◌≡◌, ◌<◌, ◌≤◌, ◌-◌, ◌^◌, [], Some, None, length, drop, min, IfOk};
+ghost use Rattle.sftp_model.specs.Slots.{slot_at};
+ghost use Rattle.plan_model.specs.declared.call.Call.TheVariants as call;
+ghost use Rattle.plan_model.specs.Moves.{on_buffered};
+ghost use Rattle.plan_model.specs.BufferPlans.{after_write, buf_write_all_next, pending, with_capacity};
+ghost use Rattle.plan_runner.specs.Ran.{BegunBuffered, Continued, Defers};
+ghost use Rattle.plan_runner.specs.declared.next.Running.TheVariants as running;
+ghost use Rattle.plan_runner.specs.Buffers.{running_after, must_wait, rest_of, sent_next};
+ghost use Rattle.plan_runner.specs.Deferrals.{IsDeferral, settled_next, settled_site};
+ghost use Rattle.plan_runner.specs.Runners.{after};
+ghost use Rattle.plan_runner.specs.Sound.{AreWithin, HasDone, IsFullAt};
+
+use crate::buffer_flush::take_oldest;
+use crate::buffer_seek::after_first;
+use crate::next::{Asked, Next, Running};
+use crate::replies::{failure, refused};
+use crate::site::{set_slot, slot_of};
+use crate::writing::content_of;
+use sftp_model::{Buffer, Facts, FileAt, IoKind, Outcome, Reply, Site, Slot};
+use sftp_values::Items;
+use ssh_encoding::OutOfMemory;
+use std::alloc::Global;
+
+/// A WRITE that is to be deferred, before the slot is changed; or why none is asked.
+#[derive(Debug, Drop)]
+pub enum Deferral {
+    /// The call is wrong by itself.
+    Refused(Outcome),
+    /// What is asked, how the call goes on, and what the slot holds after it.
+    Asked {
+        asked: Asked,
+        running: Running,
+        held: Slot,
+    },
+}
+
+/// The bytes of these deferred writes.
+fn pending_len(writes: &[(u64, u32)]) -> u64
+    requires { pending writes.now < 2 ^ 64 }
+    ensures { result ≡ pending writes.now }
+{
+    let mut sum = 0;
+    let mut rest = writes;
+    loop {
+        match rest {
+            [] => return sum,
+            [write, later @ ..] => {
+                sum += write.1 as u64;
+                rest = later;
+            }
+        }
+    }
+}
+
+/// Whether the oldest of these writes must make way for the next.
+fn must_wait(writes: &[(u64, u32)], facts: &Facts) -> bool
+    requires { pending writes.now ≤ facts.now.write_limit }
+    ensures { result ≡ must_wait facts.now.write_limit writes.now }
+{
+    let limit = facts.write_limit;
+    match writes {
+        [] => false,
+        _ => pending_len(writes) == limit,
+    }
+}
+
+/// How many of these bytes one WRITE takes beside these deferred writes.
+fn deferrable_len(bytes: &[u8], writes: &[(u64, u32)], facts: &Facts) -> u32
+    requires { pending writes.now ≤ facts.now.write_limit }
+    ensures { result ≡ min (length bytes.now)
+        (min facts.now.write_len (facts.now.write_limit - pending writes.now)) }
+{
+    let room = facts.write_limit - pending_len(writes);
+    (bytes.len() as u64).min((facts.write_len as u64).min(room)) as u32
+}
+
+/// The buffer after a WRITE of so many bytes, asked at this place beside these deferred writes. Refused only for want
+/// of memory.
+fn after_write(
+    alloc: Global,
+    buffer: &Buffer,
+    writes: &[(u64, u32)],
+    place: u64,
+    len: u32,
+) -> Result<Buffer, OutOfMemory>
+    ensures { IfOk result (λ b. b
+        ≡ after_write (record buffer.now { deferred = writes.now }) place len) }
+{
+    let mut deferred = Vec::from_slice(alloc, writes)?;
+    deferred.push((place, len))?;
+    let bytes = after_first(alloc, buffer.bytes.as_slice(), len as u64)?;
+    Ok(Buffer {
+        len: buffer.len,
+        bytes,
+        deferred: Items::new(deferred),
+        reading: None,
+    })
+}
+
+/// The bytes that are left: all, or those from `done` on.
+fn rest_of(done: Option<usize>, bytes: &[u8]) -> &[u8]
+    requires { HasDone done bytes.now }
+    ensures { result.now ≡ rest_of done bytes.now }
+{
+    match done {
+        None => bytes,
+        Some(done) => &bytes[done..],
+    }
+}
+
+/// How a call goes on after a WRITE of so many bytes.
+fn running_after(slot: u8, done: Option<usize>, len: u32, bytes: &[u8]) -> Running
+    requires done { HasDone done bytes.now }
+    requires len { len ≤ length (rest_of done bytes.now) }
+    ensures { result ≡ running_after slot done len }
+{
+    match done {
+        None => Running::Deferred { slot, count: len },
+        Some(done) => Running::DeferringRest {
+            slot,
+            done: done + len as usize,
+        },
+    }
+}
+
+/// The WRITE of the bytes that are left, beside these deferred writes. Refused only for want of memory.
+fn next_deferral(
+    alloc: Global,
+    slot: u8,
+    done: Option<usize>,
+    file: &FileAt,
+    buffer: &Buffer,
+    writes: &[(u64, u32)],
+    bytes: &[u8],
+    place: u64,
+    facts: &Facts,
+) -> Result<Deferral, OutOfMemory>
+    requires done { HasDone done bytes.now }
+    requires limit { pending writes.now ≤ facts.now.write_limit }
+    ensures { IfOk result (IsDeferral slot done file.now (record buffer.now { deferred = writes.now })
+        bytes.now place facts.now) }
+{
+    let rest = rest_of(done, bytes);
+    let len = deferrable_len(rest, writes, facts);
+    if !file.writable {
+        return Ok(Deferral::Refused(refused(IoKind::NotWritable)));
+    }
+    if file.offset.checked_add(len as u64).is_none() {
+        return Ok(Deferral::Refused(refused(IoKind::OffsetOverflow)));
+    }
+    let after = after_write(alloc, buffer, writes, place, len)?;
+    let moved = FileAt {
+        offset: file.offset + len as u64,
+        ..*file
+    };
+    let asked = Asked::Write {
+        grant: file.grant,
+        offset: file.offset,
+        content: content_of(alloc, &rest[..len as usize])?,
+    };
+    Ok(Deferral::Asked {
+        asked,
+        running: running_after(slot, done, len, bytes),
+        held: Slot::Buffered(moved, after),
+    })
+}
+
+/// Asks a WRITE that is to be deferred, and puts it into its slot.
+fn settle(slot: u8, deferral: Deferral, site: &mut Site) -> Next
+    requires { slot < length site.old.slots }
+    ensures next { result ≡ settled_next deferral }
+    ensures site { site.new ≡ settled_site slot deferral site.old }
+{
+    match deferral {
+        Deferral::Refused(outcome) => Next::Done(outcome),
+        Deferral::Asked {
+            asked,
+            running,
+            held,
+        } => {
+            set_slot(site, slot, held);
+            Next::Ask(asked, running)
+        }
+    }
+}
+
+/// Writes the bytes that are left to the buffered file in a slot, or awaits the oldest status where the window is
+/// full. Refused only for want of memory; the site is as it was then.
+fn send(
+    alloc: Global,
+    slot: u8,
+    done: Option<usize>,
+    bytes: &[u8],
+    place: u64,
+    site: &mut Site,
+    facts: &Facts,
+) -> Result<Next, OutOfMemory>
+    requires slot { slot < length site.old.slots }
+    requires done { HasDone done bytes.now }
+    requires within { AreWithin facts.now site.old }
+    ensures { Defers (λ own answers. on_buffered (slot_at site.old slot) site.old (λ file buffer.
+        with_capacity slot file buffer site.old facts.now answers (sent_next slot done file bytes.now facts.now own answers)))
+        slot bytes.now place site.old site.new facts.now result }
+{
+    let Slot::Buffered(file, buffer) = slot_of(site, slot) else {
+        return Ok(Next::Done(Outcome::NoFile));
+    };
+    let writes = buffer.deferred.as_slice();
+    if must_wait(writes, facts) {
+        return Ok(Next::Wait(Running::AwaitingRoom { slot, done }));
+    }
+    let deferral = next_deferral(alloc, slot, done, file, buffer, writes, bytes, place, facts)?;
+    Ok(settle(slot, deferral, site))
+}
+
+/// Writes the first of these bytes to the buffered file in a slot. Refused only for want of memory; the site is as it
+/// was then.
+pub fn begin_buf_write(
+    alloc: Global,
+    slot: u8,
+    bytes: &[u8],
+    place: u64,
+    site: &mut Site,
+    facts: &Facts,
+) -> Result<Next, OutOfMemory>
+    requires slot { slot < length site.old.slots }
+    requires within { AreWithin facts.now site.old }
+    ensures { BegunBuffered (call.BufWrite slot bytes.now) place site.old site.new facts.now result }
+{
+    let Slot::Buffered(file, _) = slot_of(site, slot) else {
+        return Ok(Next::Done(Outcome::NoFile));
+    };
+    if !file.writable {
+        return Ok(Next::Done(refused(IoKind::NotWritable)));
+    }
+    if bytes.is_empty() {
+        return Ok(Next::Done(Outcome::Count(0)));
+    }
+    send(alloc, slot, None, bytes, place, site, facts)
+}
+
+/// Writes the bytes from `done` on to the buffered file in a slot, one WRITE after another. Refused only for want of
+/// memory; the site is as it was then.
+pub fn defer_rest(
+    alloc: Global,
+    slot: u8,
+    done: usize,
+    bytes: &[u8],
+    place: u64,
+    site: &mut Site,
+    facts: &Facts,
+) -> Result<Next, OutOfMemory>
+    requires slot { slot < length site.old.slots }
+    requires done { done ≤ length bytes.now }
+    requires within { AreWithin facts.now site.old }
+    ensures { Defers (buf_write_all_next slot (drop done bytes.now) site.old facts.now)
+        slot bytes.now place site.old site.new facts.now result }
+{
+    let Slot::Buffered(file, _) = slot_of(site, slot) else {
+        return Ok(Next::Done(Outcome::NoFile));
+    };
+    if bytes[done..].is_empty() {
+        return Ok(Next::Done(Outcome::Done));
+    }
+    if !file.writable {
+        return Ok(Next::Done(refused(IoKind::NotWritable)));
+    }
+    send(alloc, slot, Some(done), bytes, place, site, facts)
+}
+
+/// Writes all of these bytes to the buffered file in a slot. Refused only for want of memory; the site is as it was
+/// then.
+pub fn begin_buf_write_all(
+    alloc: Global,
+    slot: u8,
+    bytes: &[u8],
+    place: u64,
+    site: &mut Site,
+    facts: &Facts,
+) -> Result<Next, OutOfMemory>
+    requires slot { slot < length site.old.slots }
+    requires within { AreWithin facts.now site.old }
+    ensures { BegunBuffered (call.BufWriteAll slot bytes.now) place site.old site.new facts.now result }
+{
+    defer_rest(alloc, slot, 0, bytes, place, site, facts)
+}
+
+/// The reply to the oldest deferred write came at a full window: after a STATUS of OK the next WRITE is asked. Refused
+/// only for want of memory; the site is as it was then.
+pub(crate) fn room_replied(
+    alloc: Global,
+    slot: u8,
+    done: Option<usize>,
+    reply: Reply,
+    bytes: &[u8],
+    place: u64,
+    site: &mut Site,
+    facts: &Facts,
+) -> Result<Next, OutOfMemory>
+    requires slot { slot < length site.old.slots }
+    requires full { IsFullAt facts.now (slot_at site.old slot) }
+    requires done { HasDone done bytes.now }
+    requires within { AreWithin facts.now site.old }
+    ensures { Continued (running.AwaitingRoom slot done) (Some reply) bytes.now place site.old site.new facts.now result }
+{
+    let Slot::Buffered(file, buffer) = slot_of(site, slot) else {
+        return Ok(Next::Done(Outcome::NoFile));
+    };
+    let [_, writes @ ..] = buffer.deferred.as_slice() else {
+        return Ok(Next::Done(Outcome::NoFile));
+    };
+    if let Some(outcome) = failure(reply) {
+        take_oldest(slot, site);
+        return Ok(Next::Done(outcome));
+    }
+    let deferral = next_deferral(alloc, slot, done, file, buffer, writes, bytes, place, facts)?;
+    take_oldest(slot, site);
+    Ok(settle(slot, deferral, site))
+}

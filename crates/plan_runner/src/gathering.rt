@@ -1,0 +1,179 @@
+//! `read_all`: what is missing after what was got, again and again.
+ghost use Rattle.std.specs.Prelude.{◌≡◌, ◌<◌, [], ◌++◌, length, List, ℕ, Option, Some, None, IfOk};
+ghost use Rattle.sftp_model.specs.declared.reply.Reply.TheVariants as reply;
+ghost use Rattle.sftp_model.specs.declared.slot.Site.{Site as SiteValue};
+ghost use Rattle.plan_model.specs.declared.call.Call.TheVariants as call;
+ghost use Rattle.plan_model.specs.TransferPlans.{missing_next};
+ghost use Rattle.plan_runner.specs.Ran.{Transfers};
+ghost use Rattle.plan_runner.specs.declared.next.Running.TheVariants as running;
+ghost use Rattle.plan_runner.specs.Begun.{Begun};
+ghost use Rattle.plan_runner.specs.Runners.{Goes, after, content_after};
+ghost use Rattle.plan_runner.specs.Cancelling.{AsksOffset, Leaves, left_kept};
+ghost use Rattle.plan_runner.specs.Sound.{CanMove, HasRoom, IsKept, Sounds};
+ghost use Rattle.plan_runner.specs.Pending.{Pends, pends_after, pends_idle};
+ghost use Rattle.plan_runner.specs.Asking.{AsksOn, HasGrant};
+
+use crate::next::{Asked, Next, Running};
+use crate::replies::{refused, status_refusal};
+use crate::site::{set_slot, slot_of};
+use bytes::Bytes;
+use sftp_model::numbers::SSH_FX_EOF;
+use sftp_model::{Error, Facts, FileAt, IoKind, Outcome, Reply, Site, Slot};
+use sftp_values::ByteText;
+use ssh_encoding::OutOfMemory;
+use std::alloc::Global;
+
+/// Reads `left` bytes of the file in a slot after those that were got; the site may be any.
+pub fn read_rest(
+    slot: u8,
+    file: FileAt,
+    got: ByteText,
+    left: u64,
+    place: u64,
+    facts: &Facts,
+) -> Next
+    ensures goes { (site : SiteValue) (bytes : List ℕ)
+        → Goes (missing_next slot file got left site facts.now) place bytes site facts.now result }
+    ensures left { (site : SiteValue) (bytes : List ℕ) → IsKept (Some slot) file site
+        → Leaves (left_kept (Some slot) site facts.now) place bytes site facts.now result }
+    ensures sound { (site : SiteValue) (bytes : List ℕ) → IsKept (Some slot) file site
+        → Sounds bytes facts.now site site result }
+    ensures pends { (site : SiteValue) → Pends (pends_idle site) place site result }
+    ensures asks { AsksOffset result }
+    ensures grants { (site : SiteValue) (opened : Option ℕ) → HasGrant site opened file.grant
+        → AsksOn opened place site result }
+{
+    if left == 0 {
+        return Next::Done(Outcome::Bytes(got));
+    }
+    let len = left.min(facts.read_len as u64) as u32;
+    if !file.readable {
+        return Next::Done(refused(IoKind::NotReadable));
+    }
+    if file.offset.checked_add(len as u64).is_none() {
+        return Next::Done(refused(IoKind::OffsetOverflow));
+    }
+    let asked = Asked::Read {
+        grant: file.grant,
+        offset: file.offset,
+        len,
+    };
+    Next::Ask(
+        asked,
+        Running::Gathering {
+            place,
+            slot,
+            file,
+            got,
+            left,
+            len,
+        },
+    )
+}
+
+/// No bytes.
+pub(crate) fn no_bytes(alloc: Global) -> ByteText
+    ensures { result ≡ [] }
+{
+    ByteText::new(Vec::new(alloc))
+}
+
+/// Reads `n` bytes of the file in a slot, and no fewer.
+pub fn begin_read_all(
+    alloc: Global,
+    slot: u8,
+    n: u64,
+    place: u64,
+    site: &Site,
+    facts: &Facts,
+) -> Next
+    requires { slot < length site.now.slots }
+    ensures { Begun (call.ReadAll slot n) place site.now site.now facts.now result }
+{
+    let Slot::File(file) = slot_of(site, slot) else {
+        return Next::Done(Outcome::NoFile);
+    };
+    read_rest(slot, *file, no_bytes(alloc), n, place, facts)
+}
+
+/// The bytes of both, in this order. Refused only for want of memory.
+pub(crate) fn joined(got: ByteText, more: &[u8]) -> Result<ByteText, OutOfMemory>
+    ensures { IfOk result (λ bytes. bytes ≡ got ++ more.now) }
+{
+    let mut bytes = got.into_vec();
+    bytes.extend_from_slice(more)?;
+    Ok(ByteText::new(bytes))
+}
+
+/// A DATA came: the file stands after its bytes, and the rest is read. Refused only for want of memory; the site is
+/// as it was then.
+fn content_came(
+    alloc: Global,
+    awaited: u64,
+    slot: u8,
+    file: FileAt,
+    got: ByteText,
+    left: u64,
+    len: u32,
+    content: Bytes,
+    place: u64,
+    site: &mut Site,
+    facts: &Facts,
+) -> Result<Next, OutOfMemory>
+    requires kept { IsKept (Some slot) file site.old }
+    requires room { CanMove file (length content) }
+    ensures { (bytes : List ℕ) → Transfers (content_after slot file got left content site.old facts.now) (Some slot) None
+        (pends_after (running.Gathering awaited slot file got left len) site.old (Some (reply.Content content)))
+        bytes place site.old site.new facts.now result }
+{
+    let count = content.len() as u64;
+    let all = joined(got, content.as_slice())?;
+    let moved = FileAt {
+        offset: file.offset + count,
+        ..file
+    };
+    let rest = left.saturating_sub(count);
+    let next = read_rest(slot, moved, all, rest, place, facts);
+    set_slot(site, slot, Slot::File(moved));
+    Ok(next)
+}
+
+/// The reply to a READ came: after a DATA the rest is read. Refused only for want of memory; the site is as it was
+/// then.
+pub(crate) fn content_replied(
+    alloc: Global,
+    awaited: u64,
+    slot: u8,
+    file: FileAt,
+    got: ByteText,
+    left: u64,
+    len: u32,
+    reply: Reply,
+    place: u64,
+    site: &mut Site,
+    facts: &Facts,
+) -> Result<Next, OutOfMemory>
+    requires kept { IsKept (Some slot) file site.old }
+    requires room { HasRoom file reply }
+    ensures { (bytes : List ℕ)
+        → Transfers (after (running.Gathering awaited slot file got left len) bytes site.old facts.now (Some reply))
+        (Some slot) None (pends_after (running.Gathering awaited slot file got left len) site.old (Some reply))
+        bytes place site.old site.new facts.now result }
+{
+    match reply {
+        Reply::Content(content) => content_came(
+            alloc, awaited, slot, file, got, left, len, content, place, site, facts,
+        ),
+        Reply::Status {
+            code,
+            message,
+            language,
+        } => {
+            if code == SSH_FX_EOF {
+                return Ok(Next::Done(refused(IoKind::UnexpectedEof)));
+            }
+            Ok(Next::Done(status_refusal(code, message, language)))
+        }
+        _ => Ok(Next::Done(Outcome::Refused(Error::InvalidResponse { id: None }))),
+    }
+}

@@ -1,0 +1,176 @@
+//! Whatever the call: how a call that was begun goes on.
+ghost use Rattle.std.specs.Prelude.{◌≡◌, Some, None};
+ghost use Rattle.plan_runner.specs.Ran.{Continued};
+ghost use Rattle.plan_runner.specs.Runners.{after, awaited, place_in};
+ghost use Rattle.plan_window.specs.Windows.{first_of};
+ghost use Rattle.plan_runner.specs.Sound.{AreWithin, AsksWithin, Fits, Sound};
+
+use crate::buffer_flush::flush_replied;
+use crate::buffer_read::filled_replied;
+use crate::buffer_write::{defer_rest, room_replied};
+use crate::file_calls::copy_replied;
+use crate::gathering::content_replied;
+use crate::next::{Next, Running};
+use crate::opening::open_replied;
+use crate::reading::read_replied;
+use crate::single::ending_told;
+use crate::site::{oldest_deferred, reading_under_way};
+use crate::whole::{directory_opened, names_replied, whole_opened};
+use crate::whole_read::{read_on, read_opened, window_replied};
+use crate::writing::{part_replied, write_replied};
+use plan_window::Window;
+use sftp_model::{Facts, Outcome, Reply, Site};
+use ssh_encoding::OutOfMemory;
+use std::alloc::Global;
+
+impl Running {
+    /// The place of the request whose reply is awaited.
+    pub fn awaited(&self, site: &Site) -> Option<u64>
+        ensures { result ≡ awaited self.now site.now }
+    {
+        match self {
+            Running::ReadingWhole { window, .. } => first_place(window),
+            Running::Flushing { slot } => oldest_deferred(site, *slot),
+            Running::AwaitingRoom { slot, .. } => oldest_deferred(site, *slot),
+            Running::FillingBuffer { slot, .. } => reading_under_way(site, *slot),
+            _ => self.own_place(),
+        }
+    }
+}
+
+/// The place of the first READ of a window that was not answered.
+fn first_place(window: &Window) -> Option<u64>
+    ensures { result ≡ place_in (first_of window.now.waiting) }
+{
+    match window.first() {
+        Some(read) => Some(read.place),
+        None => None,
+    }
+}
+
+/// A call goes on after the reply that it awaited, if it awaited one. `bytes` are those that the call carries, and
+/// what is asked next bears the place. Refused only for want of memory; the site is as it was then.
+pub fn go_on(
+    alloc: Global,
+    running: Running,
+    reply: Option<Reply>,
+    bytes: &[u8],
+    place: u64,
+    site: &mut Site,
+    facts: &Facts,
+) -> Result<Next, OutOfMemory>
+    requires sound { Sound running bytes.now site.old facts.now }
+    requires within { AreWithin facts.now site.old }
+    requires fits { Fits running reply }
+    requires range { AsksWithin facts.now (after running bytes.now site.old facts.now reply) }
+    ensures { Continued running reply bytes.now place site.old site.new facts.now result }
+{
+    let Some(reply) = reply else {
+        return go_on_at_once(alloc, running, bytes, place, site, facts);
+    };
+    match running {
+        Running::Ending { by, .. } => Ok(Next::Done(ending_told(alloc, by, reply)?)),
+        Running::Opening { place, slot, flags } => {
+            Ok(Next::Done(open_replied(place, slot, flags, reply, site)))
+        }
+        Running::Reading { slot, file, .. } => {
+            Ok(Next::Done(read_replied(alloc, slot, file, reply, site)?))
+        }
+        Running::Gathering {
+            place: awaited,
+            slot,
+            file,
+            got,
+            left,
+            len,
+        } => content_replied(
+            alloc, awaited, slot, file, got, left, len, reply, place, site, facts,
+        ),
+        Running::Sending {
+            slot,
+            file,
+            len,
+            ..
+        } => Ok(Next::Done(write_replied(slot, file, len, reply, site))),
+        Running::Writing {
+            place: awaited,
+            slot,
+            file,
+            done,
+        } => part_replied(
+            alloc, awaited, slot, file, done, reply, bytes, place, site, facts,
+        ),
+        Running::OpeningToWrite { place: grant } => {
+            whole_opened(alloc, grant, reply, bytes, place, site, facts)
+        }
+        Running::OpeningToRead {
+            place: grant,
+            bound,
+        } => read_opened(alloc, grant, bound, reply, place, site, facts),
+        Running::ReadingWhole {
+            grant,
+            bound,
+            window,
+        } => window_replied(alloc, grant, bound, window, reply, place, site, facts),
+        Running::OpeningDirectory {
+            place: grant,
+            bound,
+        } => Ok(directory_opened(alloc, grant, bound, reply, place, site, facts)),
+        Running::Listing {
+            place: awaited,
+            grant,
+            got,
+            bound,
+        } => names_replied(awaited, grant, got, bound, reply, place, site, facts),
+        Running::Flushing { slot } => Ok(flush_replied(slot, reply, place, site, facts)),
+        Running::AwaitingRoom { slot, done } => {
+            room_replied(alloc, slot, done, reply, bytes, place, site, facts)
+        }
+        Running::Deferred { count, .. } => Ok(Next::Done(Outcome::Count(count as u64))),
+        Running::DeferringRest { slot, done } => {
+            defer_rest(alloc, slot, done, bytes, place, site, facts)
+        }
+        Running::FillingBuffer {
+            slot,
+            n,
+            offset,
+            ..
+        } => Ok(Next::Done(filled_replied(alloc, slot, n, offset, reply, site)?)),
+        Running::Copying {
+            from,
+            to,
+            source,
+            target,
+            len,
+            ..
+        } => Ok(Next::Done(copy_replied(from, to, source, target, len, reply, site))),
+    }
+}
+
+/// A call goes on that awaits no reply. Refused only for want of memory; the site is as it was then.
+fn go_on_at_once(
+    alloc: Global,
+    running: Running,
+    bytes: &[u8],
+    place: u64,
+    site: &mut Site,
+    facts: &Facts,
+) -> Result<Next, OutOfMemory>
+    requires sound { Sound running bytes.now site.old facts.now }
+    requires within { AreWithin facts.now site.old }
+    requires range { AsksWithin facts.now (after running bytes.now site.old facts.now None) }
+    ensures { Continued running None bytes.now place site.old site.new facts.now result }
+{
+    match running {
+        Running::Deferred { count, .. } => Ok(Next::Done(Outcome::Count(count as u64))),
+        Running::DeferringRest { slot, done } => {
+            defer_rest(alloc, slot, done, bytes, place, site, facts)
+        }
+        Running::ReadingWhole {
+            grant,
+            bound,
+            window,
+        } => read_on(alloc, grant, bound, window, place, site, facts),
+        _ => Ok(Next::Done(Outcome::NoFile)),
+    }
+}

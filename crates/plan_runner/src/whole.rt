@@ -1,0 +1,255 @@
+//! Calls that open a path, work on it and end: `fs_write` and `list`. No slot holds what they open.
+ghost use Rattle.std.specs.Prelude.{◌≡◌, ◌++◌, [], List, ℕ, Some, None, IfOk};
+ghost use Rattle.sftp_model.specs.declared.slot.Facts.{Facts as FactsValue};
+ghost use Rattle.sftp_model.specs.declared.slot.Site.{Site as SiteValue};
+ghost use Rattle.sftp_model.specs.declared.reply.Reply.TheVariants as reply;
+ghost use Rattle.plan_model.specs.declared.call.Call.TheVariants as call;
+ghost use Rattle.plan_model.specs.FilePlans.{opened_file};
+ghost use Rattle.plan_model.specs.Moves.{handle_of};
+ghost use Rattle.plan_model.specs.WholePlans.{entries_next, to_replace};
+ghost use Rattle.plan_runner.specs.declared.next.Running.TheVariants as running;
+ghost use Rattle.plan_runner.specs.Begun.{Begun};
+ghost use Rattle.plan_runner.specs.Runners.{Begins, Goes, after};
+ghost use Rattle.plan_runner.specs.Cancelling.{BeginsLeaving, Leaves};
+ghost use Rattle.plan_runner.specs.Sound.{Sounds};
+ghost use Rattle.plan_runner.specs.Pending.{Pends, pends_after, pends_idle};
+ghost use Rattle.plan_runner.specs.Asking.{Asks, AsksOn, opened_after};
+
+use crate::next::{Asked, Next, Running};
+use crate::opening::{open_request, opened_file};
+use crate::replies::{refusal, refused, status_refusal};
+use crate::single::is_too_long;
+use crate::writing::write_rest;
+use bitflags::Flags;
+use sftp_model::numbers::{SSH_FX_EOF, SSH_FXF_CREAT, SSH_FXF_TRUNC, SSH_FXF_WRITE};
+use sftp_model::{
+    Error, Facts, FileAt, IoKind, NameEntry, OpenFlags, Outcome, Reply, Request, Site,
+};
+use sftp_values::Items;
+use ssh_encoding::OutOfMemory;
+use std::alloc::Global;
+
+/// The flags of a file that is made or emptied.
+fn to_replace() -> OpenFlags
+    ensures { result ≡ to_replace }
+{
+    OpenFlags::from_bits_retain(SSH_FXF_WRITE + SSH_FXF_CREAT + SSH_FXF_TRUNC)
+}
+
+/// The file that the OPEN of a whole write at a place opened.
+fn file_to_replace(grant: u64) -> FileAt
+    ensures { result ≡ opened_file to_replace grant }
+{
+    opened_file(to_replace(), grant)
+}
+
+/// Makes or empties a file, and writes all of the bytes. Refused only for want of memory.
+pub fn begin_fs_write(
+    alloc: Global,
+    path: &[u8],
+    bytes: &[u8],
+    place: u64,
+    site: &Site,
+    facts: &Facts,
+) -> Result<Next, OutOfMemory>
+    ensures { IfOk result (Begun (call.FsWrite path.now bytes.now) place site.now site.now facts.now) }
+{
+    let path = site.directory.join(alloc, path)?;
+    let request = open_request(path, to_replace());
+    if is_too_long(&request) {
+        return Ok(Next::Done(refused(IoKind::PathTooLong)));
+    }
+    Ok(Next::Ask(Asked::Plain(request), Running::OpeningToWrite { place }))
+}
+
+/// The reply to the OPEN of a whole write came: after a HANDLE the bytes are written. Refused only for want of memory.
+pub(crate) fn whole_opened(
+    alloc: Global,
+    grant: u64,
+    reply: Reply,
+    bytes: &[u8],
+    place: u64,
+    site: &Site,
+    facts: &Facts,
+) -> Result<Next, OutOfMemory>
+    ensures goes { IfOk result (Goes (after (running.OpeningToWrite grant) bytes.now site.now facts.now (Some reply))
+        place bytes.now site.now facts.now) }
+    ensures left { IfOk result (Leaves (λ own answers. site.now)
+        place bytes.now site.now facts.now) }
+    ensures sound { IfOk result (Sounds bytes.now facts.now site.now site.now) }
+    ensures pends { IfOk result (Pends (pends_after (running.OpeningToWrite grant) site.now (Some reply)) place site.now) }
+    ensures asks { IfOk result (AsksOn (opened_after (running.OpeningToWrite grant) (Some reply)) place site.now) }
+{
+    match reply {
+        Reply::Handle(_handle) => {
+            let file = file_to_replace(grant);
+            write_rest(alloc, None, file, 0, bytes, place, facts)
+        }
+        Reply::Status {
+            code,
+            message,
+            language,
+        } => Ok(Next::Done(status_refusal(code, message, language))),
+        _ => Ok(Next::Done(Outcome::Refused(Error::InvalidResponse { id: None }))),
+    }
+}
+
+/// Lists a directory by at most `bound` READDIRs. Refused only for want of memory.
+pub fn begin_list(
+    alloc: Global,
+    path: &[u8],
+    bound: u32,
+    place: u64,
+    site: &Site,
+    facts: &Facts,
+) -> Result<Next, OutOfMemory>
+    ensures { IfOk result (Begun (call.List path.now bound) place site.now site.now facts.now) }
+{
+    let path = site.directory.join(alloc, path)?;
+    let request = Request::Opendir { path };
+    if is_too_long(&request) {
+        return Ok(Next::Done(refused(IoKind::PathTooLong)));
+    }
+    Ok(Next::Ask(
+        Asked::Plain(request),
+        Running::OpeningDirectory { place, bound },
+    ))
+}
+
+/// Asks for further entries of a directory after those that were got; the site may be any.
+fn list_rest(grant: u64, got: Items<NameEntry>, bound: u32, place: u64) -> Next
+    ensures goes { (site : SiteValue) (facts : FactsValue) (bytes : List ℕ)
+        → Goes (λ own answers. entries_next (handle_of (answers grant)) got bound site own answers) place bytes site facts result }
+    ensures left { (site : SiteValue) (facts : FactsValue) (bytes : List ℕ)
+        → Leaves (λ own answers. site) place bytes site facts result }
+    ensures sound { (site : SiteValue) (facts : FactsValue) (bytes : List ℕ)
+        → Sounds bytes facts site site result }
+    ensures pends { (site : SiteValue) → Pends (pends_idle site) place site result }
+    ensures asks { (site : SiteValue) → AsksOn (Some grant) place site result }
+{
+    if bound == 0 {
+        return Next::Done(Outcome::GivenUp);
+    }
+    Next::Ask(
+        Asked::Readdir { grant },
+        Running::Listing {
+            place,
+            grant,
+            got,
+            bound,
+        },
+    )
+}
+
+/// No entries.
+fn no_entries(alloc: Global) -> Items<NameEntry>
+    ensures { result ≡ [] }
+{
+    Items::new(Vec::new(alloc))
+}
+
+/// The reply to an OPENDIR came: after a HANDLE the entries are asked for.
+pub(crate) fn directory_opened(
+    alloc: Global,
+    grant: u64,
+    bound: u32,
+    reply: Reply,
+    place: u64,
+    site: &Site,
+    facts: &Facts,
+) -> Next
+    ensures goes { (bytes : List ℕ)
+        → Goes (after (running.OpeningDirectory grant bound) bytes site.now facts.now (Some reply))
+        place bytes site.now facts.now result }
+    ensures left { (bytes : List ℕ) → Leaves (λ own answers. site.now)
+        place bytes site.now facts.now result }
+    ensures sound { (bytes : List ℕ) → Sounds bytes facts.now site.now site.now result }
+    ensures pends { Pends (pends_after (running.OpeningDirectory grant bound) site.now
+        (Some reply)) place site.now result }
+    ensures asks { AsksOn (opened_after (running.OpeningDirectory grant bound) (Some reply)) place site.now result }
+{
+    match reply {
+        Reply::Handle(_handle) => list_rest(grant, no_entries(alloc), bound, place),
+        Reply::Status {
+            code,
+            message,
+            language,
+        } => Next::Done(status_refusal(code, message, language)),
+        _ => Next::Done(Outcome::Refused(Error::InvalidResponse { id: None })),
+    }
+}
+
+/// The entries of both, in this order. Refused only for want of memory.
+fn joined(got: Items<NameEntry>, more: Items<NameEntry>) -> Result<Items<NameEntry>, OutOfMemory>
+    ensures { IfOk result (λ entries. entries ≡ got ++ more) }
+{
+    let mut entries = got.into_vec();
+    let mut rest = more.into_vec();
+    entries.append(&mut rest)?;
+    Ok(Items::new(entries))
+}
+
+/// A NAME came: further entries are asked for, unless it has none. Refused only for want of memory.
+fn names_came(
+    awaited: u64,
+    grant: u64,
+    got: Items<NameEntry>,
+    bound: u32,
+    names: Items<NameEntry>,
+    place: u64,
+    site: &Site,
+    facts: &Facts,
+) -> Result<Next, OutOfMemory>
+    ensures goes { (bytes : List ℕ)
+        → IfOk result (Goes (after (running.Listing awaited grant got bound) bytes
+        site.now facts.now (Some (reply.Names names))) place bytes site.now facts.now) }
+    ensures left { (bytes : List ℕ) → IfOk result (Leaves (λ own answers. site.now)
+        place bytes site.now facts.now) }
+    ensures sound { (bytes : List ℕ) → IfOk result (Sounds bytes facts.now site.now site.now) }
+    ensures pends { IfOk result (Pends (pends_after (running.Listing awaited grant got bound) site.now
+        (Some (reply.Names names))) place site.now) }
+    ensures asks { IfOk result (AsksOn (Some grant) place site.now) }
+{
+    if names.as_slice().is_empty() {
+        return Ok(Next::Done(Outcome::Names(got)));
+    }
+    let entries = joined(got, names)?;
+    let rest = bound.saturating_sub(1);
+    Ok(list_rest(grant, entries, rest, place))
+}
+
+/// The reply to a READDIR came: after a NAME with entries further ones are asked for. Refused only for want of memory.
+pub(crate) fn names_replied(
+    awaited: u64,
+    grant: u64,
+    got: Items<NameEntry>,
+    bound: u32,
+    reply: Reply,
+    place: u64,
+    site: &Site,
+    facts: &Facts,
+) -> Result<Next, OutOfMemory>
+    ensures goes { (bytes : List ℕ)
+        → IfOk result (Goes (after (running.Listing awaited grant got bound) bytes site.now facts.now (Some reply))
+        place bytes site.now facts.now) }
+    ensures left { (bytes : List ℕ) → IfOk result (Leaves (λ own answers. site.now)
+        place bytes site.now facts.now) }
+    ensures sound { (bytes : List ℕ) → IfOk result (Sounds bytes facts.now site.now site.now) }
+    ensures pends { IfOk result (Pends (pends_after (running.Listing awaited grant got bound) site.now (Some reply)) place site.now) }
+    ensures asks { IfOk result (AsksOn (Some grant) place site.now) }
+{
+    match reply {
+        Reply::Names(names) => names_came(awaited, grant, got, bound, names, place, site, facts),
+        Reply::Status {
+            code,
+            message,
+            language,
+        } => {
+            if code == SSH_FX_EOF {
+                return Ok(Next::Done(Outcome::Names(got)));
+            }
+            Ok(Next::Done(status_refusal(code, message, language)))
+        }
+        _ => Ok(Next::Done(Outcome::Refused(Error::InvalidResponse { id: None }))),
+    }
+}

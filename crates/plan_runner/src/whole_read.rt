@@ -1,0 +1,208 @@
+//! `fs_read`: a whole file by several READs under way. No slot holds what it opens.
+ghost use Rattle.std.specs.Prelude.{[], ◌≡◌, ◌||◌, ℕ, List, Some, None, true, IfOk};
+ghost use Rattle.sftp_model.specs.declared.slot.Site.{Site as SiteValue};
+ghost use Rattle.plan_model.specs.declared.call.Call.TheVariants as call;
+ghost use Rattle.plan_model.specs.WindowPlans.{brings_content, to_read};
+ghost use Rattle.sftp_model.specs.Answers.{is_end_of_file};
+ghost use Rattle.plan_runner.specs.Ran.{DecidesNext, Meanwhile, ReadsWhole};
+ghost use Rattle.plan_runner.specs.declared.next.Running.TheVariants as running;
+ghost use Rattle.plan_runner.specs.Begun.{Begun};
+ghost use Rattle.plan_runner.specs.Runners.{after, answered_by, idle};
+ghost use Rattle.plan_runner.specs.Sound.{AsksWithin, Sound};
+ghost use Rattle.plan_runner.specs.Asking.{opened_after};
+ghost use Rattle.plan_window.specs.Windows.{AsksInRange, FitsFirst, IsSound as IsSoundWindow};
+
+use crate::next::{Asked, Next, Running};
+use crate::opening::open_request;
+use crate::replies::{refusal, refused, status_refusal};
+use crate::single::is_too_long;
+use bitflags::Flags;
+use plan_window::{ReadAt, Window, WindowMove};
+use sftp_model::numbers::{SSH_FX_EOF, SSH_FXF_READ};
+use sftp_model::{Error, Facts, IoKind, OpenFlags, Outcome, Reply, Site};
+use ssh_encoding::OutOfMemory;
+use std::alloc::Global;
+
+/// The flags of a file that is read alone.
+fn to_read() -> OpenFlags
+    ensures { result ≡ to_read }
+{
+    OpenFlags::from_bits_retain(SSH_FXF_READ)
+}
+
+/// Reads the file at a path, all of it, by at most `bound` READs that a DATA answers. Refused only for want of memory.
+pub fn begin_fs_read(
+    alloc: Global,
+    path: &[u8],
+    bound: u32,
+    place: u64,
+    site: &Site,
+    facts: &Facts,
+) -> Result<Next, OutOfMemory>
+    ensures { IfOk result (Begun (call.FsRead path.now bound) place site.now site.now facts.now) }
+{
+    let path = site.directory.join(alloc, path)?;
+    let request = open_request(path, to_read());
+    if is_too_long(&request) {
+        return Ok(Next::Done(refused(IoKind::PathTooLong)));
+    }
+    Ok(Next::Ask(
+        Asked::Plain(request),
+        Running::OpeningToRead { place, bound },
+    ))
+}
+
+/// What a whole read does where the reply to its first READ under way hasn't come: it asks for more, waits or ends. The
+/// site may be any. Refused only for want of memory.
+fn decide(
+    alloc: Global,
+    grant: u64,
+    bound: u32,
+    window: Window,
+    place: u64,
+    facts: &Facts,
+) -> Result<Next, OutOfMemory>
+    requires sound { IsSoundWindow window }
+    requires range { AsksInRange bound window facts.now }
+    ensures { (bytes : List ℕ) (site : SiteValue) → DecidesNext (running.ReadingWhole grant bound window)
+        (Some grant) window.waiting bytes place site facts.now result }
+{
+    match window.next_move(alloc, bound, facts)? {
+        WindowMove::Ask { offset, len } => {
+            let window = window.asked(ReadAt { place, offset, len })?;
+            Ok(Next::Ask(
+                Asked::Read { grant, offset, len },
+                Running::ReadingWhole {
+                    grant,
+                    bound,
+                    window,
+                },
+            ))
+        }
+        WindowMove::Wait { .. } => Ok(Next::Wait(Running::ReadingWhole {
+            grant,
+            bound,
+            window,
+        })),
+        WindowMove::Whole(bytes) => Ok(Next::Done(Outcome::Bytes(bytes))),
+        WindowMove::GivenUp => Ok(Next::Done(Outcome::GivenUp)),
+    }
+}
+
+/// A whole read goes on by its window: it awaits the reply to the first READ under way, and decides where none is.
+/// Refused only for want of memory.
+pub(crate) fn read_on(
+    alloc: Global,
+    grant: u64,
+    bound: u32,
+    window: Window,
+    place: u64,
+    site: &Site,
+    facts: &Facts,
+) -> Result<Next, OutOfMemory>
+    requires sound { IsSoundWindow window }
+    requires range { AsksWithin facts.now
+        (after (running.ReadingWhole grant bound window) [] site.now facts.now None) }
+    ensures { (bytes : List ℕ) → ReadsWhole (running.ReadingWhole grant bound window) None (Some grant)
+        window.waiting window.waiting bytes place site.now facts.now result }
+{
+    match window.first() {
+        Some(_) => Ok(Next::Wait(Running::ReadingWhole {
+            grant,
+            bound,
+            window,
+        })),
+        None => decide(alloc, grant, bound, window, place, facts),
+    }
+}
+
+/// The reply to the OPEN of a whole read came: after a HANDLE the file is read. Refused only for want of memory.
+pub(crate) fn read_opened(
+    alloc: Global,
+    grant: u64,
+    bound: u32,
+    reply: Reply,
+    place: u64,
+    site: &Site,
+    facts: &Facts,
+) -> Result<Next, OutOfMemory>
+    requires range { AsksWithin facts.now
+        (after (running.OpeningToRead grant bound) [] site.now facts.now (Some reply)) }
+    ensures { (bytes : List ℕ) → ReadsWhole (running.OpeningToRead grant bound) (Some reply)
+        (opened_after (running.OpeningToRead grant bound) (Some reply)) [] [] bytes place site.now facts.now result }
+{
+    match reply {
+        Reply::Handle(_handle) => {
+            read_on(alloc, grant, bound, Window::new(alloc), place, site, facts)
+        }
+        Reply::Status {
+            code,
+            message,
+            language,
+        } => Ok(Next::Done(status_refusal(code, message, language))),
+        _ => Ok(Next::Done(Outcome::Refused(Error::InvalidResponse { id: None }))),
+    }
+}
+
+/// Whether a reply is a DATA or the end of the file.
+fn is_absorbed(reply: &Reply) -> bool
+    ensures { result ≡ (brings_content reply.now || is_end_of_file reply.now) }
+{
+    match reply {
+        Reply::Content(_) => true,
+        Reply::Status { code, .. } => *code == SSH_FX_EOF,
+        _ => false,
+    }
+}
+
+/// The reply to the first READ under way came: a refusal ends the call. Refused only for want of memory.
+pub(crate) fn window_replied(
+    alloc: Global,
+    grant: u64,
+    bound: u32,
+    window: Window,
+    reply: Reply,
+    place: u64,
+    site: &Site,
+    facts: &Facts,
+) -> Result<Next, OutOfMemory>
+    requires sound { IsSoundWindow window }
+    requires fits { FitsFirst window reply }
+    requires range { AsksWithin facts.now
+        (after (running.ReadingWhole grant bound window) [] site.now facts.now (Some reply)) }
+    ensures { (bytes : List ℕ) → ReadsWhole (running.ReadingWhole grant bound window) (Some reply) (Some grant)
+        window.waiting (answered_by window (Some reply)).waiting bytes place site.now facts.now result }
+{
+    let Some(_) = window.first() else {
+        return read_on(alloc, grant, bound, window, place, site, facts);
+    };
+    if !is_absorbed(&reply) {
+        return Ok(Next::Done(refusal(reply)));
+    }
+    let window = window.replied(reply)?;
+    read_on(alloc, grant, bound, window, place, site, facts)
+}
+
+/// What a call does while the reply that it awaits is missing: a whole read may ask for more, and any other waits.
+/// Refused only for want of memory.
+pub fn widen(
+    alloc: Global,
+    running: Running,
+    bytes: &[u8],
+    place: u64,
+    site: &Site,
+    facts: &Facts,
+) -> Result<Next, OutOfMemory>
+    requires sound { Sound running bytes.now site.now facts.now }
+    requires range { AsksWithin facts.now (idle running bytes.now site.now facts.now) }
+    ensures { Meanwhile running bytes.now place site.now facts.now result }
+{
+    match running {
+        Running::ReadingWhole {
+            grant,
+            bound,
+            window,
+        } => decide(alloc, grant, bound, window, place, facts),
+        other => Ok(Next::Wait(other)),
+    }
+}

@@ -1,0 +1,225 @@
+//! `write`, `write_all` and `write_parts`: each WRITE after the STATUS of OK to the one before.
+ghost use Rattle.std.specs.Prelude.{◌≡◌, ◌<◌, ◌≤◌, length, drop, List, ℕ, Option, Some, IfOk};
+ghost use Rattle.sftp_model.specs.declared.slot.Move.TheVariants.{Done};
+ghost use Rattle.sftp_model.specs.declared.slot.Site.{Site as SiteValue};
+ghost use Rattle.plan_model.specs.declared.call.Call.TheVariants as call;
+ghost use Rattle.plan_model.specs.TransferPlans.{joined_parts, part_len, rest_next, was_written};
+ghost use Rattle.plan_runner.specs.declared.next.Running.TheVariants as running;
+ghost use Rattle.plan_runner.specs.Begun.{Begun};
+ghost use Rattle.plan_runner.specs.Runners.{Goes, after, keep_in};
+ghost use Rattle.plan_runner.specs.Cancelling.{Leaves, left_kept};
+ghost use Rattle.plan_runner.specs.Sound.{CanMove, HasSlot, IsKept, Sounds};
+ghost use Rattle.plan_runner.specs.Pending.{Fewer, Pends, pends_after, pends_idle};
+ghost use Rattle.plan_runner.specs.Asking.{opened_after};
+ghost use Rattle.plan_runner.specs.Ran.{AsksRest, Replied, Transfers};
+
+use crate::next::{Asked, Next, Running};
+use crate::replies::{failure, refused};
+use crate::site::{set_slot, slot_of};
+use bytes::Bytes;
+use sftp_model::{Content, Facts, FileAt, IoKind, Outcome, Reply, Site, Slot};
+use ssh_encoding::OutOfMemory;
+use std::alloc::Global;
+
+/// These bytes as a content.
+pub(crate) fn content_of(alloc: Global, bytes: &[u8]) -> Result<Content, OutOfMemory>
+    ensures { IfOk result (λ c. c ≡ bytes.now) }
+{
+    let mut content = Content::new(alloc);
+    content.push(Bytes::copy_from_slice(alloc, bytes)?)?;
+    Ok(content)
+}
+
+/// Writes the first of these bytes to the file in a slot. Refused only for want of memory.
+pub fn begin_write(
+    alloc: Global,
+    slot: u8,
+    bytes: &[u8],
+    place: u64,
+    site: &Site,
+    facts: &Facts,
+) -> Result<Next, OutOfMemory>
+    requires { slot < length site.now.slots }
+    ensures { IfOk result (Begun (call.Write slot bytes.now) place site.now site.now facts.now) }
+{
+    let Slot::File(file) = slot_of(site, slot) else {
+        return Ok(Next::Done(Outcome::NoFile));
+    };
+    let file = *file;
+    if bytes.is_empty() {
+        return Ok(Next::Done(Outcome::Count(0)));
+    }
+    let len = bytes.len().min(facts.write_len as usize);
+    if !file.writable {
+        return Ok(Next::Done(refused(IoKind::NotWritable)));
+    }
+    if file.offset.checked_add(len as u64).is_none() {
+        return Ok(Next::Done(refused(IoKind::OffsetOverflow)));
+    }
+    let asked = Asked::Write {
+        grant: file.grant,
+        offset: file.offset,
+        content: content_of(alloc, &bytes[..len])?,
+    };
+    let len = len as u32;
+    Ok(Next::Ask(
+        asked,
+        Running::Sending {
+            place,
+            slot,
+            file,
+            len,
+        },
+    ))
+}
+
+/// What the reply to the WRITE of one `write` gives: after a STATUS of OK the file stands after its bytes.
+#[tactic(auto, using(crate::proofs::Fewer::fewer_file))]
+pub(crate) fn write_replied(
+    slot: u8,
+    file: FileAt,
+    len: u32,
+    reply: Reply,
+    site: &mut Site,
+) -> Outcome
+    requires within { slot < length site.old.slots }
+    requires room { CanMove file len }
+    ensures { Replied (was_written slot file len site.old reply) result site.old site.new }
+{
+    if let Some(outcome) = failure(reply) {
+        return outcome;
+    }
+    let moved = FileAt {
+        offset: file.offset + len as u64,
+        ..file
+    };
+    set_slot(site, slot, Slot::File(moved));
+    Outcome::Count(len as u64)
+}
+
+/// Writes the bytes from `done` on to a file, which stands in a slot or in none; the site may be any. Refused only
+/// for want of memory.
+pub fn write_rest(
+    alloc: Global,
+    slot: Option<u8>,
+    file: FileAt,
+    done: usize,
+    bytes: &[u8],
+    place: u64,
+    facts: &Facts,
+) -> Result<Next, OutOfMemory>
+    requires { done ≤ length bytes.now }
+    ensures goes { (site : SiteValue)
+        → IfOk result (Goes (rest_next (keep_in slot) file (drop done bytes.now) site facts.now) place bytes.now site facts.now) }
+    ensures left { (site : SiteValue) → IsKept slot file site
+        → IfOk result (Leaves (left_kept slot site facts.now) place bytes.now site facts.now) }
+    ensures sound { (site : SiteValue) → IsKept slot file site
+        → IfOk result (Sounds bytes.now facts.now site site) }
+    ensures pends { (site : SiteValue) → IfOk result (Pends (pends_idle site) place site) }
+    ensures asks { AsksRest slot file place result }
+{
+    let rest = &bytes[done..];
+    if rest.is_empty() {
+        return Ok(Next::Done(Outcome::Done));
+    }
+    let len = rest.len().min(facts.write_len as usize);
+    if !file.writable {
+        return Ok(Next::Done(refused(IoKind::NotWritable)));
+    }
+    if file.offset.checked_add(len as u64).is_none() {
+        return Ok(Next::Done(refused(IoKind::OffsetOverflow)));
+    }
+    let asked = Asked::Write {
+        grant: file.grant,
+        offset: file.offset,
+        content: content_of(alloc, &rest[..len])?,
+    };
+    Ok(Next::Ask(
+        asked,
+        Running::Writing {
+            place,
+            slot,
+            file,
+            done,
+        },
+    ))
+}
+
+/// Writes all of these bytes to the file in a slot. Refused only for want of memory.
+pub fn begin_write_all(
+    alloc: Global,
+    slot: u8,
+    bytes: &[u8],
+    place: u64,
+    site: &Site,
+    facts: &Facts,
+) -> Result<Next, OutOfMemory>
+    requires { slot < length site.now.slots }
+    ensures { IfOk result (Begun (call.WriteAll slot bytes.now) place site.now site.now facts.now) }
+{
+    let Slot::File(file) = slot_of(site, slot) else {
+        return Ok(Next::Done(Outcome::NoFile));
+    };
+    write_rest(alloc, Some(slot), *file, 0, bytes, place, facts)
+}
+
+/// Writes the bytes of all parts, which are handed in joined, to the file in a slot. Refused only for want of memory.
+pub fn begin_write_parts(
+    alloc: Global,
+    slot: u8,
+    bytes: &[u8],
+    place: u64,
+    site: &Site,
+    facts: &Facts,
+) -> Result<Next, OutOfMemory>
+    requires { slot < length site.now.slots }
+    ensures { (parts : List (List ℕ)) → joined_parts parts ≡ bytes.now
+        → IfOk result (Begun (call.WriteParts slot parts) place site.now site.now facts.now) }
+{
+    begin_write_all(alloc, slot, bytes, place, site, facts)
+}
+
+/// Puts a file where it is kept: into its slot, or nowhere.
+fn keep(site: &mut Site, slot: Option<u8>, file: FileAt)
+    requires { HasSlot slot site.old }
+    ensures { site.new ≡ keep_in slot file site.old }
+{
+    if let Some(slot) = slot {
+        set_slot(site, slot, Slot::File(file));
+    }
+}
+
+/// The reply to the WRITE of a part came: after a STATUS of OK the file stands after the part, and the rest is
+/// written. Refused only for want of memory; the site is as it was then.
+pub(crate) fn part_replied(
+    alloc: Global,
+    awaited: u64,
+    slot: Option<u8>,
+    file: FileAt,
+    done: usize,
+    reply: Reply,
+    bytes: &[u8],
+    place: u64,
+    site: &mut Site,
+    facts: &Facts,
+) -> Result<Next, OutOfMemory>
+    requires kept { IsKept slot file site.old }
+    requires prefix { done ≤ length bytes.now }
+    requires room { CanMove file (part_len facts.now (drop done bytes.now)) }
+    ensures { Transfers (after (running.Writing awaited slot file done) bytes.now site.old facts.now (Some reply))
+        slot (opened_after (running.Writing awaited slot file done) (Some reply))
+        (pends_after (running.Writing awaited slot file done) site.old (Some reply))
+        bytes.now place site.old site.new facts.now result }
+{
+    if let Some(outcome) = failure(reply) {
+        return Ok(Next::Done(outcome));
+    }
+    let len = (bytes.len() - done).min(facts.write_len as usize);
+    let moved = FileAt {
+        offset: file.offset + len as u64,
+        ..file
+    };
+    let next = write_rest(alloc, slot, moved, done + len, bytes, place, facts)?;
+    keep(site, slot, moved);
+    Ok(next)
+}

@@ -1,0 +1,4 @@
+pub mod Windows
+pub mod PlainSteps
+pub mod Tallies
+pub mod WindowRows

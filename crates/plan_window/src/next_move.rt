@@ -1,0 +1,153 @@
+//! What a whole read does next where no further reply came.
+ghost use Rattle.std.specs.Prelude.{◌≡◌, IfOk, Some, List, ℕ, min};
+ghost use Rattle.sftp_model.specs.declared.slot.Site.{Site};
+ghost use Rattle.plan_window.specs.Windows.{AsksInRange, IsMoveInRange, IsSound, move_by, window_move};
+ghost use Rattle.plan_window.specs.PlainSteps.{AsksWithin, ask_next, gap_of, go_further, len_to_next, plain_move, reach_of, wait_first};
+
+use crate::begins::next_above;
+use crate::content::whole_content;
+use crate::gap::least_below;
+use crate::numbers::{least_of, waiting_above, waiting_reach};
+use crate::window::{ReadAt, Window};
+use sftp_model::Facts;
+use sftp_values::ByteText;
+use ssh_encoding::OutOfMemory;
+use std::alloc::Global;
+
+/// What a whole read does next.
+#[derive(Debug, Drop)]
+pub enum WindowMove {
+    /// A READ of `len` bytes from this offset on is asked.
+    Ask { offset: u64, len: u32 },
+    /// The reply to the READ at this place is awaited.
+    Wait { place: u64 },
+    /// These are all bytes of the file.
+    Whole(ByteText),
+    /// As many DATA came as the bound allows, and the end is not known.
+    GivenUp,
+}
+
+/// The first READ under way is awaited.
+fn wait_first(waiting: &[ReadAt]) -> WindowMove
+    ensures { result ≡ wait_first waiting.now }
+{
+    match waiting {
+        [] => WindowMove::GivenUp,
+        [first, ..] => WindowMove::Wait { place: first.place },
+    }
+}
+
+impl Window {
+    /// The greatest offset that was reached or that a READ under way asks for.
+    fn reach(&self) -> u64
+        requires { IsSound self.now }
+        ensures { result ≡ reach_of self.now.answered self.now.waiting }
+    {
+        self.tally
+            .reached
+            .max(waiting_reach(self.waiting.as_slice()))
+    }
+
+    /// How many bytes there are up to the next offset at which a READ begins, and `most` where there are more.
+    fn len_to_next(&self, p: u64, most: u32) -> u32
+        ensures { result ≡ min (len_to_next self.now.answered self.now.waiting p) most }
+    {
+        let answered = next_above(self.tally.begins.as_slice(), p);
+        let next = least_of(answered, waiting_above(self.waiting.as_slice(), p));
+        next.unwrap_or(p).saturating_sub(p).min(most as u64) as u32
+    }
+
+    /// A READ at the gap, or else after all where no end is known.
+    fn ask_next(&self, facts: &Facts, gap: Option<u64>, end: Option<u64>) -> WindowMove
+        requires sound { IsSound self.now }
+        requires within { AsksWithin facts.now (ask_next self.now facts.now gap end) }
+        ensures { result ≡ ask_next self.now facts.now gap end }
+    {
+        if let Some(offset) = gap {
+            return WindowMove::Ask {
+                offset,
+                len: self.len_to_next(offset, facts.read_len),
+            };
+        }
+        if end.is_some() {
+            return wait_first(self.waiting.as_slice());
+        }
+        WindowMove::Ask {
+            offset: self.reach(),
+            len: facts.read_len,
+        }
+    }
+
+    /// The bound ends it; a READ is asked where fewer are under way than the session allows.
+    fn go_further(
+        &self,
+        bound: u32,
+        facts: &Facts,
+        gap: Option<u64>,
+        end: Option<u64>,
+    ) -> WindowMove
+        requires sound { IsSound self.now }
+        requires within { AsksWithin facts.now (go_further bound self.now facts.now gap end) }
+        ensures { result ≡ go_further bound self.now facts.now gap end }
+    {
+        if bound <= self.tally.contents {
+            return WindowMove::GivenUp;
+        }
+        let waiting = self.waiting.as_slice();
+        if (waiting.len() as u64) < facts.read_window as u64 {
+            return self.ask_next(facts, gap, end);
+        }
+        wait_first(waiting)
+    }
+
+    /// The least end of bytes at which no READ begins, below the end of the file, or else below what was reached.
+    fn gap_of(&self, end: Option<u64>) -> Option<u64>
+        requires { IsSound self.now }
+        ensures { result ≡ gap_of self.now.answered self.now.waiting end }
+    {
+        let limit = match end {
+            Some(end) => end,
+            None => self.reach(),
+        };
+        least_below(self.tally.free.as_slice(), limit)
+    }
+
+    /// What is done next, by the READs alone. Refused only for want of memory.
+    fn plain_move(
+        &self,
+        alloc: Global,
+        bound: u32,
+        facts: &Facts,
+    ) -> Result<WindowMove, OutOfMemory>
+        requires sound { IsSound self.now }
+        requires within { AsksWithin facts.now (plain_move bound self.now facts.now) }
+        ensures { IfOk result (λ m. m ≡ plain_move bound self.now facts.now) }
+    {
+        let end = self.tally.end;
+        let gap = self.gap_of(end);
+        if let Some(end) = end {
+            if gap.is_none() && self.waiting.as_slice().is_empty() {
+                let bytes = whole_content(alloc, self.answered.as_slice(), end)?;
+                return Ok(WindowMove::Whole(bytes));
+            }
+        }
+        Ok(self.go_further(bound, facts, gap, end))
+    }
+
+    /// What a whole read does next that may be answered by at most `bound` DATA, where the reply to the first READ under
+    /// way has not come. Refused only for want of memory.
+    pub fn next_move(
+        &self,
+        alloc: Global,
+        bound: u32,
+        facts: &Facts,
+    ) -> Result<WindowMove, OutOfMemory>
+        requires sound { IsSound self.now }
+        requires range { AsksInRange bound self.now facts.now }
+        ensures goes { IfOk result (λ m. (handle : List ℕ) (site : Site)
+            → window_move handle (Some bound) self.now site facts.now ≡ move_by handle site m) }
+        ensures range { IfOk result IsMoveInRange }
+    {
+        self.plain_move(alloc, bound, facts)
+    }
+}

@@ -1,0 +1,375 @@
+-- What whole runs give and leave of what was written, by the lanes that were handed in and the outcomes that are reported.
+use Rattle.std.proofs.Common.{
+  ◌≡◌,
+  ◌≢◌,
+  ◌<◌,
+  ◌≤◌,
+  ◌+◌,
+  ◌-◌,
+  ℕ,
+  zero,
+  suc,
+  Bool,
+  true,
+  List,
+  [],
+  ◌∷◌,
+  ◌++◌,
+  length,
+  Option,
+  Some,
+  None,
+  refl,
+  ap,
+  sym,
+  ◌∙◌,
+  subst,
+  arith,
+  inl,
+  inr,
+}
+use Rattle.std.specs.Prelude.{◌⊎◌, not, take, drop, slice_get, slice_index_or}
+use Rattle.std.specs.List.{list_all}
+use Rattle.std.proofs.lemmas.Bool.{cases_lt}
+use Rattle.std.proofs.lemmas.Bool.Decides.{eqb_tells}
+use Rattle.std.proofs.lemmas.List.{length-append}
+use Rattle.sftp_model.specs.declared.options.SftpOptions.{SftpOptions}
+use Rattle.sftp_model.specs.Lengths.{session_len}
+use Rattle.sftp_model.specs.declared.config.Choice.{Choice}
+use Rattle.sftp_model.specs.declared.config.ServerConfig.{ServerConfig}
+use Rattle.sftp_model.specs.declared.flags.Extensions.{Extensions}
+use Rattle.sftp_model.specs.declared.outcome.Outcome.{Outcome}
+use Rattle.machine_model.specs.Changes.{IsWellFormed}
+use Rattle.machine_model.specs.Components.{Name}
+use Rattle.machine_model.specs.FileTree.{FileTree}
+use Rattle.plan_model.specs.declared.call.Call.{Call}
+use Rattle.plan_model.specs.declared.call.Call.TheVariants as call
+use Rattle.plan_model.specs.declared.call.Lane.{Lane}
+use Rattle.session_model.specs.declared.entry.Entry.{Entry}
+use Rattle.session_model.specs.declared.turn.Turn.{Turn}
+use Rattle.session_model.specs.Calls.{Setting, lane_calls}
+use Rattle.session_model.specs.Readings.{outcomes_below, outcomes_of}
+use Rattle.session_model.specs.Runs.{IsRun}
+use Rattle.session_model.specs.Served.{Serves}
+use Rattle.session_model.specs.Settings.{setting_of}
+use Rattle.run_laws.specs.FilesLeft.{IsUntouched}
+use Rattle.run_laws.proofs.PlainRuns.{plain_calls, run_plain}
+use Rattle.run_laws.proofs.UsedLaws.{some_is}
+use Rattle.run_laws.specs.Flushes.{Flushes, IsAloneBut}
+use Rattle.run_laws.specs.LeavesFiles.{LeavesFiles}
+use Rattle.run_laws.specs.NameCalls.{all_keep_off, may_own, none_writes, writes}
+use Rattle.run_laws.specs.ReadsBack.{GotBytes, IsAlone, Reads, ReadsBack, WritesLast, calls_in, outcome_in}
+use Rattle.run_laws.specs.RoundTrips.{HasGot, HasRead, HasWritten, IsOneLanes, NoneWrites, WritesWhole, outcome_at}
+use Rattle.run_laws.proofs.CallRequests.{MayWrite, may_hold, own_held, own_writes}
+use Rattle.run_laws.proofs.FlushedLaws.{FlushedCalls, flush_left}
+use Rattle.run_laws.proofs.LaneCalls.{each_is}
+use Rattle.run_laws.proofs.OffRequests.{told_apart}
+use Rattle.run_laws.proofs.RoundTripLaws as laws
+
+-- ---- lists
+
+got_index : {A : Type 0} (xs : List A) (x d : A) (i : ℕ) → (slice_index_or (xs ++ x ∷ []) i d ≡ slice_index_or xs i d)
+    ⊎ ((length xs ≡ i) × (slice_index_or (xs ++ x ∷ []) i d ≡ x))
+got_index [] x d zero = inr (refl, refl)
+got_index [] x d (suc i) = inl refl
+got_index (y ∷ xs) x d zero = inl refl
+got_index (y ∷ xs) x d (suc i) = elim (got_index xs x d i) [ inl old ↦ inl old | inr new ↦ inr (ap suc new.0, new.1) ]
+
+got_taken : {A : Type 0} (xs : List A) (n k : ℕ) (x : A) → k < n → slice_get xs k ≡ Some x → slice_get (take n xs) k ≡ Some x
+got_taken [] n k x lt e = absurd cc
+got_taken (y ∷ xs) zero k x lt e = absurd (omega (arith, lt))
+got_taken (y ∷ xs) (suc n) zero x lt e = e
+got_taken (y ∷ xs) (suc n) (suc k) x lt e = got_taken xs n k x (omega (arith, lt)) e
+
+got_dropped : {A : Type 0} (xs : List A) (n k : ℕ) (x : A) → n ≤ k → slice_get xs k ≡ Some x → slice_get (drop n xs) (k - n) ≡ Some x
+got_dropped xs zero k x le e = (let same : k ≡ k - 0 = omega arith in subst (λ (i : ℕ). slice_get xs i ≡ Some x) same e)
+got_dropped [] (suc n) k x le e = absurd cc
+got_dropped (y ∷ xs) (suc n) zero x le e = absurd (omega (arith, le))
+got_dropped (y ∷ xs) (suc n) (suc k) x le e =
+    let same : suc k - suc n ≡ k - n = omega arith in subst (λ (i : ℕ). slice_get (drop n xs) i ≡ Some x) (sym same)
+    (got_dropped xs n k x (omega (arith, le)) e)
+
+-- ---- outcomes
+
+lanes_counted : (past : List Entry) (n : ℕ) → length (outcomes_below past n) ≡ n
+lanes_counted past zero = refl
+lanes_counted past (suc n) = (let l = length-append (outcomes_below past n) (outcomes_of past n ∷ []) in let old =
+    lanes_counted past n in omega (arith, l, old))
+
+-- the outcomes that are reported of a lane are its own, where it is there
+outcomes_are : (past : List Entry) (n lane : ℕ) → (slice_index_or (outcomes_below past n) lane []
+    ≡ outcomes_of past lane) ⊎ (slice_index_or (outcomes_below past n) lane [] ≡ [])
+outcomes_are past zero lane = inr refl
+outcomes_are past (suc n) lane =
+    elim (got_index (outcomes_below past n) (outcomes_of past n) [] lane) [
+      | inl old ↦ elim (outcomes_are past n lane) [ inl own ↦ inl (old ∙ own) | inr none ↦ inr (old ∙ none) ]
+      | inr new ↦ inl (new.1 ∙ ap (outcomes_of past) (sym (lanes_counted past n) ∙ new.0))
+    ]
+
+pub outcome_is : (past : List Entry) (n lane k : ℕ) (o : Outcome) → outcome_in (outcomes_below past n) lane k ≡ Some o → outcome_at past lane k ≡ Some o
+outcome_is past n lane k o e =
+    elim (outcomes_are past n lane) [
+      | inl own ↦ ap (λ (xs : List Outcome). slice_get xs k) (sym own) ∙ e
+      | inr none ↦ absurd (let nothing : None ≡ Some o = ap (λ (xs : List Outcome). slice_get xs k) (sym none) ∙ e in cc)
+    ]
+
+-- ---- calls
+
+writes_none : (name : Name) (c : Call) → not (writes name c) ≡ true → WritesWhole name c → ⊥
+writes_none name (call.FsWrite path bytes) e names = told_apart path name e names
+writes_none name other e names = names
+
+-- the calls of lanes are those that were handed in
+abbrev pub AreHandedIn : List Lane → Setting → List Entry → Type 0
+AreHandedIn lanes s past = (lane : ℕ) → lane_calls s past lane ≡ calls_in lanes lane
+
+pub handed_in : (lanes : List Lane) (options : SftpOptions) (extensions : Extensions) (turns : List Turn)
+    (past : List Entry) → IsRun (setting_of lanes options extensions past) turns past
+    → AreHandedIn lanes (setting_of lanes options extensions past) past
+handed_in lanes options extensions turns past run lane = plain_calls (setting_of lanes options extensions past) past
+    lane (run_plain (setting_of lanes options extensions past) turns past run)
+
+pub call_is : (lanes : List Lane) (s : Setting) (past : List Entry) (lane k : ℕ) (o : Option Call)
+    → AreHandedIn lanes s past → slice_get (calls_in lanes lane) k ≡ o → slice_get (lane_calls s past lane) k ≡ o
+call_is lanes s past lane k o are e = ap (λ (calls : List Call). slice_get calls k) (are lane) ∙ e
+
+call_was : (lanes : List Lane) (s : Setting) (past : List Entry) (lane k : ℕ) (o : Option Call)
+    → AreHandedIn lanes s past → slice_get (lane_calls s past lane) k ≡ o → slice_get (calls_in lanes lane) k ≡ o
+call_was lanes s past lane k o are e = ap (λ (calls : List Call). slice_get calls k) (sym (are lane)) ∙ e
+
+one_lanes : (lanes : List Lane) (s : Setting) (turns : List Turn) (past : List Entry) (name : Name) (lane : ℕ)
+    → AreHandedIn lanes s past → IsRun s turns past → IsAlone lanes name lane → IsOneLanes s past name lane
+one_lanes lanes s turns past name lane are run alone =
+    record {
+      own = subst (λ (calls : List Call). list_all (may_own name) calls ≡ true) (sym (are lane)) alone.own;
+      others = λ other ne. laws.lane_keeps_off s turns past name other run
+          (subst (λ (calls : List Call). all_keep_off name [] calls ≡ true) (sym (are other)) (alone.others other ne));
+    }
+
+has_read : (lanes : List Lane) (s : Setting) (past : List Entry) (name : Name) (lane reader : ℕ) (ended : Outcome)
+    → AreHandedIn lanes s past → Reads lanes (outcomes_below past (length lanes)) name lane reader ended
+    → HasRead s past name lane reader ended
+has_read lanes s past name lane reader ended are r =
+    record {
+      path = r.path;
+      bound = r.bound;
+      is = call_is lanes s past lane reader _ are r.is;
+      denotes = r.denotes;
+      short = r.short;
+      ends = outcome_is past (length lanes) lane reader ended r.ends;
+      uncancelled = r.uncancelled;
+    }
+
+has_got : (lanes : List Lane) (s : Setting) (past : List Entry) (name : Name) (lane reader : ℕ) (got : List ℕ)
+    → AreHandedIn lanes s past → GotBytes lanes (outcomes_below past (length lanes)) name lane reader got
+    → HasGot s past name lane reader got
+has_got lanes s past name lane reader got are r =
+    record {
+      path = r.path;
+      bound = r.bound;
+      is = call_is lanes s past lane reader _ are r.is;
+      denotes = r.denotes;
+      ends = outcome_is past (length lanes) lane reader _ r.ends;
+    }
+
+writes_before : (lanes : List Lane) (s : Setting) (past : List Entry) (name : Name) (lane reader : ℕ)
+    → AreHandedIn lanes s past → none_writes name (take reader (calls_in lanes lane)) ≡ true
+    → NoneWrites s past name lane reader
+writes_before lanes s past name lane reader are before k c below is names =
+    writes_none name c (each_is (λ (c : Call). not (writes name c)) (take reader (calls_in lanes lane)) k c before
+    (got_taken (calls_in lanes lane) reader k c below (call_was lanes s past lane k (Some c) are is))) names
+
+has_written : (lanes : List Lane) (s : Setting) (past : List Entry) (name : Name) (lane writer reader : ℕ)
+    (bytes : List ℕ) → AreHandedIn lanes s past → WritesLast lanes (outcomes_below past (length lanes)) name lane writer
+    reader bytes
+    → HasWritten s past name lane writer reader bytes
+has_written lanes s past name lane writer reader bytes are w =
+    record {
+      path = w.path;
+      is = call_is lanes s past lane writer _ are w.is;
+      denotes = w.denotes;
+      ends = outcome_is past (length lanes) lane writer _ w.ends;
+      earlier = w.earlier;
+      last = λ k c above below is names. writes_none name c
+          (each_is (λ (c : Call). not (writes name c)) (drop (suc writer) (take reader (calls_in lanes lane))) (k - suc writer) c w.last
+          (got_dropped (take reader (calls_in lanes lane)) (suc writer) k c (omega (arith, above))
+          (got_taken (calls_in lanes lane) reader k c below (call_was lanes s past lane k (Some c) are is)))) names;
+    }
+
+-- ---- calls that flush
+
+all_indexed : (test : Call → Bool) (calls : List Call) → ((n : ℕ) (c : Call) → slice_get calls n ≡ Some c → test c ≡ true) → list_all test calls ≡ true
+all_indexed test [] each = refl
+all_indexed test (c ∷ calls) each = rw (each zero c refl, all_indexed test calls (λ n d e. each (suc n) d e)) refl
+
+-- a call at a place is the one that was handed in there
+handed_at : (P : Call → Type 0) (calls : List Call) (n m : ℕ) (c d : Call) → slice_get calls n ≡ Some c → n ≡ m → slice_get calls m ≡ Some d → P d → P c
+handed_at P calls n m c d e same is p = let both : Some c ≡ Some d = sym e ∙ (ap (slice_get calls) same ∙ is) in subst P (sym (some_is c d both)) p
+
+-- where the call stands behind the four, or which of them it is
+data Where (k n : ℕ) : Type 0 where
+  Before : n < k → Where k n
+  First : n ≡ k → Where k n
+  Second : n ≡ k + 1 → Where k n
+  Third : n ≡ k + 2 → Where k n
+  Fourth : n ≡ k + 3 → Where k n
+  After : k + 4 ≤ n → Where k n
+
+where_is : (k n : ℕ) → Where k n
+where_is k n =
+    elim (cases_lt n k) [
+      | inl lt ↦ Before lt
+      | inr ge ↦ elim (eqb_tells n k) [
+        | inl t ↦ First t.1
+        | inr t ↦ elim (eqb_tells n (k + 1)) [
+          | inl u ↦ Second u.1
+          | inr u ↦ elim (eqb_tells n (k + 2)) [
+            | inl v ↦ Third v.1
+            | inr v ↦ elim (eqb_tells n (k + 3)) [
+              | inl w ↦ Fourth w.1
+              | inr w ↦ After (let a : n ≢ k = t.1 in let b : n ≢ k + 1 = u.1 in let c : n ≢ k + 2 = v.1 in
+                  let d : n ≢ k + 3 = w.1 in omega (arith, ge, a, b, c, d))
+            ]
+          ]
+        ]
+      ]
+    ]
+
+may_hold_all : (lanes : List Lane) (outcomes : List (List Outcome)) (name : Name) (lane k : ℕ) (bytes : List ℕ)
+    → IsAloneBut lanes name lane k → Flushes lanes outcomes name lane k bytes
+    → list_all (may_hold name) (calls_in lanes lane) ≡ true
+may_hold_all lanes outcomes name lane k bytes alone f = all_indexed (may_hold name) (calls_in lanes lane) (λ n c e. by_place n c e (where_is k n))
+  where
+    by_place : (n : ℕ) (c : Call) → slice_get (calls_in lanes lane) n ≡ Some c → Where k n → may_hold name c ≡ true
+    by_place n c e (Before lt) = own_held name c (each_is (may_own name) (take k (calls_in lanes lane)) n c alone.before
+        (got_taken (calls_in lanes lane) k n c lt e))
+    by_place n c e (First at) = handed_at (λ d. may_hold name d ≡ true) (calls_in lanes lane) n k c (call.OpenFile f.slot f.options f.path) e at f.opens refl
+    by_place n c e (Second at) = handed_at (λ d. may_hold name d ≡ true) (calls_in lanes lane) n (k + 1) c (call.Buffer f.slot f.len) e at f.buffers refl
+    by_place n c e (Third at) = handed_at (λ d. may_hold name d ≡ true) (calls_in lanes lane) n (k + 2) c (call.BufWriteAll f.slot bytes) e at f.writes refl
+    by_place n c e (Fourth at) = handed_at (λ d. may_hold name d ≡ true) (calls_in lanes lane) n (k + 3) c (call.BufFlush f.slot) e at f.flushes refl
+    by_place n c e (After le) = own_held name c (each_is (may_own name) (drop (k + 4) (calls_in lanes lane))
+        (n - (k + 4)) c alone.after (got_dropped (calls_in lanes lane) (k + 4) n c le e))
+
+others_write_none : (lanes : List Lane) (outcomes : List (List Outcome)) (name : Name) (lane k : ℕ) (bytes : List ℕ)
+    → IsAloneBut lanes name lane k → Flushes lanes outcomes name lane k bytes → (n : ℕ) (c : Call) → k < n → n ≢ k + 2
+    → slice_get (calls_in lanes lane) n ≡ Some c → MayWrite name c → ⊥
+others_write_none lanes outcomes name lane k bytes alone f n c above ne e = by_place (where_is k n)
+  where
+    by_place : Where k n → MayWrite name c → ⊥
+    by_place (Before lt) = λ w. omega (arith, lt, above)
+    by_place (First at) = λ w. omega (arith, at, above)
+    by_place (Second at) = handed_at (λ d. MayWrite name d → ⊥) (calls_in lanes lane) n (k + 1) c (call.Buffer f.slot f.len) e at f.buffers (λ w. w)
+    by_place (Third at) = λ w. ne at
+    by_place (Fourth at) = handed_at (λ d. MayWrite name d → ⊥) (calls_in lanes lane) n (k + 3) c (call.BufFlush f.slot) e at f.flushes (λ w. w)
+    by_place (After le) =
+        λ w. writes_none name c (each_is (λ (d : Call). not (writes name d)) (drop (k + 4) (calls_in lanes lane))
+        (n - (k + 4)) c alone.last (got_dropped (calls_in lanes lane) (k + 4) n c le e))
+        (own_writes name c (each_is (may_own name) (drop (k + 4) (calls_in lanes lane)) (n - (k + 4)) c alone.after
+        (got_dropped (calls_in lanes lane) (k + 4) n c le e)) w)
+
+-- ---- runs
+
+some_len : (most : Option ℕ) (len : ℕ) → 1 ≤ session_len most len
+some_len None len = omega arith
+some_len (Some most) len = omega arith
+
+-- what a whole run gives of what was written
+pub run_reads_back : (lanes : List Lane) (options : SftpOptions) (extensions : Extensions) (turns : List Turn)
+    (past : List Entry) (config : ServerConfig) (choices : List Choice) (tree left : FileTree)
+    → IsRun (setting_of lanes options extensions past) turns past
+    → IsWellFormed tree → Serves config choices tree past left → ReadsBack lanes choices tree (outcomes_below past (length lanes))
+run_reads_back lanes options extensions turns past config choices tree left run well served =
+    record {
+      written = λ name lane writer reader bytes ended none alone w r. laws.reads_back s turns past config choices tree
+          left name lane writer reader bytes ended run reads_some well served none
+          (one_lanes lanes s turns past name lane are run alone)
+          (has_written lanes s past name lane writer reader bytes are w) (has_read lanes s past name lane reader ended are r);
+      there = λ name lane reader bytes ended none alone before has r. laws.reads_first s turns past config choices tree
+          left name lane reader bytes ended run reads_some well served none
+          (one_lanes lanes s turns past name lane are run alone)
+          (writes_before lanes s past name lane reader are before) has (has_read lanes s past name lane reader ended are r);
+      got_written = λ name lane writer reader bytes got honest alone w r. laws.got_back s turns past config choices tree
+          left name lane writer reader bytes got run reads_some well served honest
+          (one_lanes lanes s turns past name lane are run alone)
+          (has_written lanes s past name lane writer reader bytes are w) (has_got lanes s past name lane reader got are r);
+      got_there = λ name lane reader got honest alone before r. laws.got_first s turns past config choices tree left
+          name lane reader got run reads_some well served honest (one_lanes lanes s turns past name lane are run alone)
+          (writes_before lanes s past name lane reader are before) (has_got lanes s past name lane reader got are r);
+      absent = λ name lane reader ended none alone before has r. laws.refused_first s turns past config choices tree
+          left name lane reader ended run reads_some well served none
+          (one_lanes lanes s turns past name lane are run alone)
+          (writes_before lanes s past name lane reader are before) has (has_read lanes s past name lane reader ended are r);
+    }
+  where
+    s : Setting
+    s = setting_of lanes options extensions past
+
+    -- a session's READs ask for a byte or more
+    reads_some : 1 ≤ s.facts.read_len
+    reads_some = some_len options.max_read_len _
+
+    are : AreHandedIn lanes s past
+    are = handed_in lanes options extensions turns past run
+
+-- and what it leaves
+pub run_leaves_files : (lanes : List Lane) (options : SftpOptions) (extensions : Extensions) (turns : List Turn)
+    (past : List Entry) (config : ServerConfig) (choices : List Choice) (tree left : FileTree)
+    → IsRun (setting_of lanes options extensions past) turns past
+    → IsWellFormed tree → Serves config choices tree past left → LeavesFiles lanes tree left (outcomes_below past (length lanes))
+run_leaves_files lanes options extensions turns past config choices tree left run well served =
+    record {
+      written = λ name lane writer bytes alone w. laws.writes_left s turns past config choices tree left name lane
+          writer bytes run well served (one_lanes lanes s turns past name lane are run alone)
+          (to_end name lane writer bytes w);
+      there = λ name lane bytes alone never has. (untouched name lane alone never).bytes bytes has;
+      as_begun = λ name lane alone never. (untouched name lane alone never).node;
+      flushed = λ name lane k bytes alone f. flush_left s turns past config choices tree left name lane k bytes run well served
+          (subst (λ (calls : List Call). list_all (may_hold name) calls ≡ true) (sym (are lane))
+          (may_hold_all lanes (outcomes_below past (length lanes)) name lane k bytes alone f))
+          (λ other ne. laws.lane_keeps_off s turns past name other run
+          (subst (λ (calls : List Call). all_keep_off name [] calls ≡ true) (sym (are other))
+          (alone.others other ne)))
+          (λ n c above ne is. others_write_none lanes (outcomes_below past (length lanes)) name lane k bytes alone f n c
+          above ne (call_was lanes s past lane n (Some c) are is)) (flushed_calls name lane k bytes f);
+    }
+  where
+    s : Setting
+    s = setting_of lanes options extensions past
+
+    are : AreHandedIn lanes s past
+    are = handed_in lanes options extensions turns past run
+
+    to_end : (name : Name) (lane writer : ℕ) (bytes : List ℕ) →
+        WritesLast lanes (outcomes_below past (length lanes)) name lane writer (length (calls_in lanes lane)) bytes
+        → HasWritten s past name lane writer (length (lane_calls s past lane)) bytes
+    to_end name lane writer bytes w = subst (λ (calls : List Call). HasWritten s past name lane writer (length calls)
+        bytes) (sym (are lane)) (has_written lanes s past name lane writer (length (calls_in lanes lane)) bytes are w)
+
+    none_before : (name : Name) (lane : ℕ) → none_writes name (calls_in lanes lane) ≡ true → NoneWrites s past name lane (length (lane_calls s past lane))
+    none_before name lane never k c below is names =
+        writes_none name c (each_is (λ (c : Call). not (writes name c)) (calls_in lanes lane) k c never (call_was lanes s past lane k (Some c) are is)) names
+
+    untouched : (name : Name) (lane : ℕ) → IsAlone lanes name lane → none_writes name (calls_in lanes lane) ≡ true → IsUntouched tree left name
+    untouched name lane alone never =
+        laws.left_untouched s turns past config choices tree left name lane run well served
+        (one_lanes lanes s turns past name lane are run alone) (none_before name lane never)
+
+    flushed_calls : (name : Name) (lane k : ℕ) (bytes : List ℕ)
+        → Flushes lanes (outcomes_below past (length lanes)) name lane k bytes → FlushedCalls s past name lane k bytes
+    flushed_calls name lane k bytes f =
+        record {
+          slot = f.slot;
+          len = f.len;
+          options = f.options;
+          path = f.path;
+          anew = f.anew;
+          denotes = f.denotes;
+          opens = f.opens;
+          buffers = f.buffers;
+          writes = f.writes;
+          flushes = f.flushes;
+          opened = outcome_is past (length lanes) lane k _ f.opened;
+          buffered = outcome_is past (length lanes) lane (k + 1) _ f.buffered;
+          written = outcome_is past (length lanes) lane (k + 2) _ f.written;
+          flushed = outcome_is past (length lanes) lane (k + 3) _ f.flushed;
+        }

@@ -1,0 +1,121 @@
+-- Buffered writes: WRITEs whose statuses are taken later.
+use Rattle.std.specs.Prelude.{◌≡◌, ◌<◌, ℕ, ◌+◌, ◌⊎◌, true, false, List, [], ◌∷◌, ◌++◌, filter, length, Some, nat_lt}
+use Rattle.sftp_model.specs.Numbers.{SSH_FX_OK}
+use Rattle.sftp_model.specs.Slots.{slot_at}
+use Rattle.sftp_model.specs.declared.config.ServerConfig.{ServerConfig}
+use Rattle.sftp_model.specs.declared.outcome.Outcome.TheVariants as outcome
+use Rattle.sftp_model.specs.declared.reply.Reply.TheVariants as reply
+use Rattle.sftp_model.specs.declared.request.Request.{Request}
+use Rattle.sftp_model.specs.declared.request.Request.TheVariants as request
+use Rattle.sftp_model.specs.declared.slot.Buffer.{Buffer}
+use Rattle.sftp_model.specs.declared.slot.Facts.{Facts}
+use Rattle.sftp_model.specs.declared.slot.FileAt.{FileAt}
+use Rattle.sftp_model.specs.declared.slot.Site.{Site}
+use Rattle.sftp_model.specs.declared.slot.Slot.TheVariants.{Buffered}
+use Rattle.machine_model.specs.Changes.{Closes}
+use Rattle.machine_model.specs.FileTree.{FileTree, bytes_of, opened_at, put}
+use Rattle.machine_model.specs.declared.opened.Held.{Held}
+use Rattle.machine_model.specs.declared.opened.Opened.TheVariants as opened
+use Rattle.plan_model.specs.declared.call.Call.TheVariants as call
+use Rattle.plan_model.specs.Moves.{Answers, Own}
+use Rattle.session_model.specs.declared.entry.Entry.{Entry}
+use Rattle.session_model.specs.Readings.{Asked, answer, asked_at, own}
+use Rattle.run_laws.specs.CallsAmong.{HasEnded, ToWrite}
+use Rattle.run_laws.specs.GrantUses.{WritesBy}
+use Rattle.run_laws.specs.InJournals.{is_of_call}
+use Rattle.run_laws.specs.Steps.{Step, after, answer_to}
+
+-- the bytes that a WRITE carries
+abbrev pub content_in : Request → List ℕ
+content_in (request.Write handle offset content) = content
+content_in other = []
+
+-- what these requests carry, joined
+abbrev pub carried : Own → List ℕ
+carried [] = []
+carried (asked ∷ later) = content_in asked.1 ++ carried later
+
+-- their places
+abbrev pub places : Own → List ℕ
+places [] = []
+places (asked ∷ later) = asked.0 ∷ places later
+
+-- each is a WRITE by the handle, the first at the offset and each after the one before it
+abbrev pub AreWrites : List ℕ → ℕ → Own → Type 0
+AreWrites handle offset [] = Unit {0}
+AreWrites handle offset (asked ∷ later) = (asked.1 ≡ request.Write handle offset (content_in asked.1))
+    × AreWrites handle (offset + length (content_in asked.1)) later
+
+-- the requests at these places were each answered by a STATUS 0
+abbrev pub AreWritten : Answers → List ℕ → Type 0
+AreWritten answers [] = Unit {0}
+AreWritten answers (place ∷ later) = ((message : List ℕ) × ((language : List ℕ)
+    × (answers place ≡ Some (reply.Status SSH_FX_OK message language)))) × AreWritten answers later
+
+-- These requests stand among the steps in their order, the last of them being the last step. Each writes by the handle.
+-- No other step
+-- changes the file or closes the handle.
+abbrev pub StandAlone : ServerConfig → ℕ → List ℕ → Own → FileTree → List Step → Type 0
+StandAlone config file handle [] tree [] = Unit {0}
+StandAlone config file handle [] tree (s ∷ steps) = ⊥
+StandAlone config file handle (asked ∷ later) tree [] = ⊥
+StandAlone config file handle (asked ∷ later) tree (s ∷ steps) =
+    ((s.place ≡ asked.0) × (s.request ≡ asked.1) × WritesBy asked.1 handle
+    × StandAlone config file handle later (answer_to config tree s).1 steps)
+    ⊎ ((bytes_of (answer_to config tree s).1 file ≡ bytes_of tree file) × (Closes s.request handle → ⊥)
+    × StandAlone config file handle (asked ∷ later) (answer_to config tree s).1 steps)
+
+-- ---- in journals
+
+-- A call with these requests wrote the bytes to a buffered file, which stood at the offset, and a flush of what it left
+-- ended well.
+pub record IsFlushedWrite (past : List Entry) (own : Own) (offset : ℕ) (bytes : List ℕ) : Type 0 where
+  pub slot : ℕ
+  pub file : FileAt
+  pub buffer : Buffer
+  pub site : Site
+  pub facts : Facts
+  pub stood : slot_at site slot ≡ Buffered file buffer
+  pub at : file.offset ≡ offset
+  pub wrote : HasEnded (call.BufWriteAll slot bytes) site facts own (answer past) outcome.Done
+  pub flush_site : Site
+  pub flush_facts : Facts
+  pub flush_own : Own
+  pub same : slot_at flush_site slot ≡ slot_at wrote.left slot
+  pub flushed : HasEnded (call.BufFlush slot) flush_site flush_facts flush_own (answer past) outcome.Done
+
+-- the tree as the request at a place came, in a run of the machine: what the steps before it left
+abbrev pub tree_at : ServerConfig → FileTree → List Step → ℕ → FileTree
+tree_at config first steps place = after config first (filter (λ s. nat_lt s.place place) steps)
+
+-- the place behind these requests
+abbrev pub behind : ℕ × Request → Own → ℕ
+behind r [] = r.0 + 1
+behind r (a ∷ later) = behind a later
+
+-- each request of the call writes by the handle
+abbrev pub AllWriteBy : List Entry → ℕ → ℕ → List ℕ → Type 0
+AllWriteBy past lane k handle = (place : ℕ) (a : Asked) → is_of_call past (lane, k) place ≡ true → asked_at past place
+    ≡ Some a → WritesBy a.request handle
+
+-- A handle had a file open to be written, and not to append, as the first of a call's requests came. Up to the last of
+-- them each request of others leaves the bytes of the file.
+pub record WritesAlone (config : ServerConfig) (first : FileTree) (past : List Entry) (steps : List Step) (lane k : ℕ)
+    (handle : List ℕ) : Type 0 where
+  pub w : ℕ × Request
+  pub written : Own
+  pub asks : own past lane k ≡ w ∷ written
+  pub held : Held
+  pub is_open : opened_at (tree_at config first steps w.0) handle ≡ Some (opened.File held)
+  pub way : ToWrite held
+  pub others : (place : ℕ) → w.0 < place → place < behind w written → is_of_call past (lane, k) place ≡ false
+      → bytes_of (tree_at config first steps (place + 1)) held.file
+      ≡ bytes_of (tree_at config first steps place) held.file
+
+-- The bytes were put into that file at an offset: behind the last of the call's requests it has what it had as the
+-- first one came, with the bytes at the offset; zeros fill a gap.
+abbrev pub ArePut : (config : ServerConfig) (first : FileTree) (past : List Entry) (steps : List Step) (lane k : ℕ)
+    (handle : List ℕ) → WritesAlone config first past steps lane k handle → ℕ → List ℕ → Type 0
+ArePut config first past steps lane k handle t offset bytes =
+    bytes_of (tree_at config first steps (behind t.w t.written)) t.held.file
+    ≡ put (bytes_of (tree_at config first steps t.w.0) t.held.file) offset bytes

@@ -1,0 +1,370 @@
+-- A worked whole run in which a lane writes to a buffered file and flushes it.
+use Rattle.std.specs.Prelude.{◌≡◌, ◌-◌, ℕ, ◌==◌, Bool, true, false, not, ◌&&◌, List, [], ◌∷◌, codes, drop, None, refl}
+use Rattle.std.proofs.Common.{arith, inl, inr}
+use Rattle.ssh_encoding.specs.Writing.{string, uint32}
+use Rattle.sftp_model.specs.Frames.{attributes, request_body}
+use Rattle.sftp_model.specs.declared.outcome.Outcome.{Outcome}
+use Rattle.sftp_model.specs.declared.outcome.Outcome.TheVariants as outcome
+use Rattle.sftp_model.specs.declared.reply.Reply.TheVariants as reply
+use Rattle.sftp_model.specs.declared.request.Request.TheVariants as request
+use Rattle.machine_model.specs.Components.{components}
+use Rattle.machine_model.specs.FileTree.{FileTree, bytes_of}
+use Rattle.machine_model.specs.RowWords.{choice, config}
+use Rattle.machine_model.specs.declared.node.Node.TheVariants as node
+use Rattle.plan_model.specs.FilePlans.{open_request}
+use Rattle.plan_model.specs.declared.call.Call.TheVariants as call
+use Rattle.session_model.specs.declared.entry.Entry.{Entry}
+use Rattle.session_model.specs.declared.entry.Entry.TheVariants as entry
+use Rattle.session_model.specs.Calls.{Setting}
+use Rattle.session_model.specs.Readings.{answer, outcomes_below}
+use Rattle.session_model.specs.RowWords.{close, end, handle, ok, send, setting_with, submit, take, to_read}
+use Rattle.session_model.specs.Runs.{IsRun, TurnsTo, round_of}
+use Rattle.session_model.specs.Served.{requests_sent}
+use Rattle.session_model.specs.Turns.{Stage, begun_but, none_begun}
+use Rattle.run_laws.specs.DeferredWrites.{WritesAlone, tree_at}
+use Rattle.run_laws.specs.ListedRows.{begun, begun_ended}
+use Rattle.run_laws.specs.Steps.{AreServed, Step, asked_in}
+use Rattle.run_laws.specs.FlushesWrites.{WritesAndFlushes}
+
+-- ---- the run
+
+-- a file
+abbrev pub hello : FileTree
+hello = record { names = (codes "a" ∷ [], node.File 0) ∷ []; files = codes "hello" ∷ []; handles = [] }
+
+-- a lane opens it to be written, buffers it, writes two bytes and flushes them
+abbrev pub writes_flushed : Setting
+writes_flushed =
+    setting_with
+    ((call.OpenFile 0 (record to_read { read = false; write = true }) (codes "a") ∷ call.Buffer 0 8 ∷ call.BufWriteAll 0
+    (codes "hu") ∷ call.BufFlush 0 ∷ []) ∷ [])
+
+abbrev pub flushed_run : List Entry
+flushed_run =
+    take 0 ok
+    ∷ send
+    ∷ close 0 (handle 9)
+    ∷ entry.LetGo 0
+    ∷ end 0 3 outcome.Done
+    ∷ end 0 2 outcome.Done
+    ∷ take 0 ok
+    ∷ send
+    ∷ submit 0 2 0 (request.Write (handle 9) 0 (codes "hu"))
+    ∷ end 0 1 outcome.Done
+    ∷ end 0 0 outcome.Opened
+    ∷ take 0 (reply.Handle (handle 9))
+    ∷ send
+    ∷ submit 0 0 0 (open_request (record { 0 = 2 }) (codes "a"))
+    ∷ []
+
+-- a call that ends as it begins leaves no lane begun
+none_ended : none_begun ≡ begun_but none_begun 0
+none_ended = λ i l. neither_way (0 == l) i
+  where
+    neither_way : (b : Bool) → false ≡ (not b && false)
+    neither_way true = refl
+    neither_way false = refl
+
+abbrev so_far : ℕ → List Entry
+so_far n = drop (14 - n) flushed_run
+
+abbrev at : ℕ → (ℕ → Bool) → Stage
+at n lanes = record { past = so_far n; begun = lanes }
+
+round_1 : TurnsTo writes_flushed (round_of 0) (at 0 none_begun) (at 3 begun)
+unfolding request_body attributes string uint32
+round_1 = (
+  at 1 begun,
+  (
+    (refl, (0, ((omega arith, refl), (so_far 1, ((inl refl, refl), refl))))),
+    (
+      at 2 begun,
+      (
+        (refl, (so_far 2, ((inl refl, refl), refl))),
+        (
+          at 3 begun,
+          (
+            (
+              refl,
+              (
+                0,
+                (
+                  reply.Handle (handle 9),
+                  (
+                    (0, ((refl, omega arith, refl), (refl, refl))),
+                    (so_far 3, ((inl refl, refl), refl)),
+                  ),
+                ),
+              ),
+            ),
+            refl,
+          ),
+        ),
+      ),
+    ),
+  ),
+)
+
+round_2 : TurnsTo writes_flushed (round_of 0) (at 3 begun) (at 4 none_begun)
+unfolding request_body attributes string uint32
+round_2 = (
+  at 4 none_begun,
+  (
+    (begun_ended, (so_far 4, ((inl refl, refl), refl))),
+    (at 4 none_begun, (refl, (at 4 none_begun, (refl, refl)))),
+  ),
+)
+
+round_3 : TurnsTo writes_flushed (round_of 0) (at 4 none_begun) (at 5 none_begun)
+unfolding request_body attributes string uint32
+round_3 = (
+  at 5 none_begun,
+  (
+    (none_ended, (so_far 5, ((inl refl, refl), refl))),
+    (at 5 none_begun, (refl, (at 5 none_begun, (refl, refl)))),
+  ),
+)
+
+round_4 : TurnsTo writes_flushed (round_of 0) (at 5 none_begun) (at 8 begun)
+unfolding request_body attributes string uint32
+round_4 = (
+  at 6 begun,
+  (
+    (refl, (0, ((omega arith, refl), (so_far 6, ((inl refl, refl), refl))))),
+    (
+      at 7 begun,
+      (
+        (refl, (so_far 7, ((inl refl, refl), refl))),
+        (
+          at 8 begun,
+          (
+            (
+              refl,
+              (
+                0,
+                (
+                  ok,
+                  (
+                    (1, ((refl, omega arith, refl), (refl, refl))),
+                    (so_far 8, ((inl refl, refl), refl)),
+                  ),
+                ),
+              ),
+            ),
+            refl,
+          ),
+        ),
+      ),
+    ),
+  ),
+)
+
+round_5 : TurnsTo writes_flushed (round_of 0) (at 8 begun) (at 9 none_begun)
+unfolding request_body attributes string uint32
+round_5 = (
+  at 9 none_begun,
+  (
+    (begun_ended, (so_far 9, ((inl refl, refl), refl))),
+    (at 9 none_begun, (refl, (at 9 none_begun, (refl, refl)))),
+  ),
+)
+
+round_6 : TurnsTo writes_flushed (round_of 0) (at 9 none_begun) (at 10 none_begun)
+unfolding request_body attributes string uint32
+round_6 = (
+  at 10 none_begun,
+  (
+    (none_ended, (so_far 10, ((inl refl, refl), refl))),
+    (at 10 none_begun, (refl, (at 10 none_begun, (refl, refl)))),
+  ),
+)
+
+pub flushed_is_run : IsRun writes_flushed [] flushed_run
+unfolding request_body attributes string uint32
+flushed_is_run = (
+  record {
+    opened = [];
+    turned = at 0 none_begun;
+    ended = at 10 none_begun;
+    let_go = at 12 none_begun;
+    drained =
+        at 14 none_begun;
+  },
+  (
+    record {
+      opens = refl;
+      turns = refl;
+      ends = (
+        at 0 none_begun,
+        (
+          refl,
+          (
+            6,
+            (
+              (λ e. absurd cc),
+              (
+                at 3 begun,
+                (
+                  round_1,
+                  (
+                    (λ e. absurd cc),
+                    (
+                      at 4 none_begun,
+                      (
+                        round_2,
+                        (
+                          (λ e. absurd cc),
+                          (
+                            at 5 none_begun,
+                            (
+                              round_3,
+                              (
+                                (λ e. absurd cc),
+                                (
+                                  at 8 begun,
+                                  (
+                                    round_4,
+                                    (
+                                      (λ e. absurd cc),
+                                      (
+                                        at 9 none_begun,
+                                        (round_5, ((λ e. absurd cc), (at 10 none_begun, (round_6, refl)))),
+                                      ),
+                                    ),
+                                  ),
+                                ),
+                              ),
+                            ),
+                          ),
+                        ),
+                      ),
+                    ),
+                  ),
+                ),
+              ),
+            ),
+          ),
+          refl,
+        ),
+      );
+      lets_go = (
+        at 10 none_begun,
+        (
+          refl,
+          (
+            refl,
+            (
+              so_far 12,
+              (
+                (
+                  inr
+                      ((0, (refl, (0, ((omega arith, refl), refl)))), inl refl),
+                  refl,
+                ),
+                refl,
+              ),
+            ),
+          ),
+        ),
+      );
+      drains = (
+        1,
+        (
+          omega arith,
+          (
+            at 14 none_begun,
+            (
+              (
+                at 13 none_begun,
+                (
+                  (refl, (so_far 13, ((inl refl, refl), refl))),
+                  (
+                    at 14 none_begun,
+                    (
+                      (
+                        refl,
+                        (
+                          0,
+                          (
+                            ok,
+                            (
+                              (2, ((refl, omega arith, refl), (refl, refl))),
+                              (so_far 14, ((inl refl, refl), refl)),
+                            ),
+                          ),
+                        ),
+                      ),
+                      refl,
+                    ),
+                  ),
+                ),
+              ),
+              refl,
+            ),
+          ),
+        ),
+      );
+      answered = refl;
+    },
+    refl,
+  ),
+)
+
+-- ---- what it is served by
+
+-- the steps of the machine
+abbrev pub flushed_steps : List Step
+flushed_steps =
+    record { place = 0; request = open_request (record { 0 = 2 }) (codes "a"); choice = choice 0 0; handle = handle 9 }
+    ∷ record { place = 1; request = request.Write (handle 9) 0 (codes "hu"); choice = choice 0 0; handle = handle 8 }
+    ∷ record { place = 2; request = request.Close (handle 9); choice = choice 0 0; handle = handle 8 }
+    ∷ []
+
+pub flushed_asked : asked_in flushed_steps ≡ requests_sent flushed_run
+flushed_asked = refl
+
+pub flushed_served : AreServed (config 0) (answer flushed_run) hello flushed_steps
+unfolding components
+flushed_served = ((omega arith, refl), refl, ((omega arith, refl), refl, ((omega arith, refl), refl, tt)))
+
+-- ---- what is said of it
+
+abbrev pub flushed_reported : List (List Outcome)
+flushed_reported = (outcome.Opened ∷ outcome.Done ∷ outcome.Done ∷ outcome.Done ∷ []) ∷ []
+
+pub flushed_reports : outcomes_below flushed_run 1 ≡ flushed_reported
+flushed_reports = refl
+
+pub flushed_calls : WritesAndFlushes writes_flushed.lanes writes_flushed flushed_run flushed_reported 0 2 (codes "hu")
+unfolding request_body attributes string uint32
+flushed_calls =
+    record {
+      slot = 0;
+      some = omega arith;
+      writes = refl;
+      flushes = refl;
+      written = refl;
+      flushed = refl;
+      file = record { grant = 0; readable = false; writable = true; offset = 0 };
+      buffer = record { len = 8; bytes = []; deferred = []; reading = None };
+      there = refl;
+      handle = handle 9;
+      came = refl;
+    }
+
+pub flushed_alone : WritesAlone (config 0) hello flushed_run flushed_steps 0 2 (handle 9)
+unfolding components
+flushed_alone =
+    record {
+      w = (1, request.Write (handle 9) 0 (codes "hu"));
+      written = [];
+      asks = refl;
+      held = record { file = 0; readable = false; writable = true; append = false };
+      is_open = refl;
+      way = (refl, refl);
+      others = λ place above below out. absurd (omega (arith, above, below));
+    }
+
+pub flushed_is_put : bytes_of (tree_at (config 0) hello flushed_steps 2) 0 ≡ codes "hullo"
+unfolding components
+flushed_is_put = refl

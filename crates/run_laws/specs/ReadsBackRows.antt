@@ -1,0 +1,191 @@
+-- Worked lanes and outcomes: names that are one lane's alone, what was written and read under one, and names that are
+-- no lane's alone.
+use Rattle.std.specs.Prelude.{◌≡◌, ◌≢◌, ℕ, zero, suc, true, List, [], ◌∷◌, codes, length, refl}
+use Rattle.std.proofs.Common.{arith}
+use Rattle.ssh_encoding.specs.Writing.{string, uint32}
+use Rattle.sftp_model.specs.Frames.{attributes, no_attributes, request_body}
+use Rattle.sftp_model.specs.declared.outcome.Outcome.{Outcome}
+use Rattle.sftp_model.specs.declared.outcome.Outcome.TheVariants as outcome
+use Rattle.machine_model.specs.Components.{components}
+use Rattle.sftp_model.specs.OpenOptions.{nothing_chosen}
+use Rattle.plan_model.specs.declared.call.Call.{Call}
+use Rattle.plan_model.specs.declared.call.Call.TheVariants as call
+use Rattle.plan_model.specs.declared.call.Lane.{Lane}
+use Rattle.session_model.specs.Readings.{outcomes_below}
+use Rattle.session_model.specs.RowWords.{to_read}
+use Rattle.run_laws.specs.ReadBackRows.{name}
+use Rattle.run_laws.specs.Steps.{HasBytes, RefuseNone}
+use Rattle.run_laws.specs.Flushes.{Flushes, IsAloneBut}
+use Rattle.run_laws.specs.NameCalls.{all_keep_off}
+use Rattle.run_laws.specs.ReadsBack.{IsAlone, Reads, WritesLast, calls_in}
+use Rattle.run_laws.specs.RoundTripRows.{left_there}
+use Rattle.run_laws.specs.RoundTripRun.{no_such_file, writes_then_reads, written_then_read}
+
+-- ---- the run in which a lane writes a and reads it, and another one reads b
+
+abbrev pub lanes : List Lane
+lanes = writes_then_reads.lanes
+
+-- what is reported of it
+abbrev pub outcomes : List (List Outcome)
+outcomes = (outcome.Done ∷ outcome.Bytes (codes "hi") ∷ []) ∷ (no_such_file ∷ []) ∷ []
+
+pub reported : outcomes_below written_then_read (length lanes) ≡ outcomes
+reported = refl
+
+pub none_refused : RefuseNone []
+none_refused = tt
+
+pub alone : IsAlone lanes name 0
+unfolding components
+alone = record { own = refl; others = others }
+  where
+    others : (other : ℕ) → other ≢ 0 → all_keep_off name [] (calls_in lanes other) ≡ true
+    others zero ne = absurd (ne refl)
+    others (suc zero) ne = refl
+    others (suc (suc other)) ne = refl
+
+pub writes_last : WritesLast lanes outcomes name 0 0 1 (codes "hi")
+unfolding components
+writes_last = record { path = codes "a"; is = refl; denotes = refl; ends = refl; earlier = omega arith; last = refl }
+
+pub reads : Reads lanes outcomes name 0 1 (outcome.Bytes (codes "hi"))
+unfolding components request_body string uint32 attributes
+reads = record {
+  path = codes "a";
+  bound = 4;
+  is = refl;
+  denotes = refl;
+  short = refl;
+  ends = refl;
+  uncancelled =
+      λ e. cc;
+}
+
+-- no later call writes the file, which is left so
+pub writes_to_end : WritesLast lanes outcomes name 0 0 (length (calls_in lanes 0)) (codes "hi")
+unfolding components
+writes_to_end = record { path = codes "a"; is = refl; denotes = refl; ends = refl; earlier = omega arith; last = refl }
+
+pub is_left : HasBytes left_there name (codes "hi")
+is_left = record { file = 0; is = refl; bytes_are = refl }
+
+-- ---- lanes of many calls
+
+-- Between its write and its read the lane looks at the file's attributes and makes and removes other names, and another
+-- lane opens, reads and closes b, moves c, and looks at a; a third writes a in the directory d, and looks at a of the
+-- topmost.
+abbrev pub many_calls : List Lane
+many_calls =
+    record {
+      calls = call.FsWrite (codes "a") (codes "hi")
+          ∷ call.Stat (codes "a")
+          ∷ call.Mkdir (codes "d")
+          ∷ call.Remove (codes "/d/../b")
+          ∷ call.Lstat (codes "/a")
+          ∷ call.FsRead (codes "a") 4
+          ∷ [];
+    }
+    ∷ record {
+      calls = call.OpenFile 0 to_read (codes "b")
+          ∷ call.ReadAll 0 4
+          ∷ call.Close 0
+          ∷ call.Rename (codes "c") (codes "/d/a")
+          ∷ call.Stat (codes "a")
+          ∷ [];
+    }
+    ∷ record {
+      calls = call.Cwd (codes "d") ∷ call.FsWrite (codes "a") (codes "no") ∷ call.Cwd (codes "/") ∷ call.Stat
+          (codes "a") ∷ [];
+    }
+    ∷ []
+
+pub many_alone : IsAlone many_calls name 0
+unfolding components
+many_alone = record { own = refl; others = others }
+  where
+    others : (other : ℕ) → other ≢ 0 → all_keep_off name [] (calls_in many_calls other) ≡ true
+    others zero ne = absurd (ne refl)
+    others (suc zero) ne = refl
+    others (suc (suc zero)) ne = refl
+    others (suc (suc (suc other))) ne = refl
+
+-- ---- a lane that flushes
+
+-- it opens a to be written anew, buffers it, writes and flushes it, and reads it
+abbrev pub flushing : List Lane
+flushing =
+    record {
+      calls = call.OpenFile 0 (record nothing_chosen { write = true; create = true; truncate = true }) (codes "a")
+          ∷ call.Buffer 0 8
+          ∷ call.BufWriteAll 0 (codes "hi")
+          ∷ call.BufFlush 0
+          ∷ call.Stat (codes "a")
+          ∷ [];
+    }
+    ∷ []
+
+abbrev pub flushed_outcomes : List (List Outcome)
+flushed_outcomes = (outcome.Opened ∷ outcome.Done ∷ outcome.Done ∷ outcome.Done ∷ outcome.Meta no_attributes ∷ []) ∷ []
+
+pub flushing_alone : IsAloneBut flushing name 0 0
+unfolding components
+flushing_alone = record { before = refl; after = refl; last = refl; others = others }
+  where
+    others : (other : ℕ) → other ≢ 0 → all_keep_off name [] (calls_in flushing other) ≡ true
+    others zero ne = absurd (ne refl)
+    others (suc other) ne = refl
+
+pub flushes : Flushes flushing flushed_outcomes name 0 0 (codes "hi")
+unfolding components
+flushes =
+    record {
+      slot = 0;
+      len = 8;
+      options = record nothing_chosen { write = true; create = true; truncate = true };
+      path = codes "a";
+      anew = refl;
+      denotes = refl;
+      opens = refl;
+      buffers = refl;
+      writes = refl;
+      flushes = refl;
+      opened = refl;
+      buffered = refl;
+      written = refl;
+      flushed = refl;
+    }
+
+-- ---- what the record doesn't speak of
+
+-- a lane of these calls beside one that writes a
+abbrev pub beside : List Call → List Lane
+beside calls = record { calls = call.FsWrite (codes "a") (codes "hi") ∷ [] } ∷ record { calls = calls } ∷ []
+
+-- another lane reads the file too, takes it away, moves what it stands within, or takes it away from another directory
+pub shared_is_none : IsAlone (beside (call.FsRead (codes "/a") 4 ∷ [])) name 0 → ⊥
+unfolding components
+shared_is_none alone = (let shared = alone.others 1 (λ e. cc) in cc)
+
+pub removed_is_none : IsAlone (beside (call.Remove (codes "a") ∷ [])) name 0 → ⊥
+unfolding components
+removed_is_none alone = (let shared = alone.others 1 (λ e. cc) in cc)
+
+pub moved_is_none : IsAlone (beside (call.Rename (codes "a") (codes "b") ∷ [])) name 0 → ⊥
+unfolding components
+moved_is_none alone = (let shared = alone.others 1 (λ e. cc) in cc)
+
+pub directory_is_none : IsAlone (beside (call.Cwd (codes "/") ∷ call.Remove (codes "a") ∷ [])) name 0 → ⊥
+unfolding components
+directory_is_none alone = (let shared = alone.others 1 (λ e. cc) in cc)
+
+-- between the two calls the lane writes the file again
+abbrev pub writes_again : List Lane
+writes_again = record {
+  calls = call.FsWrite (codes "a") (codes "hi") ∷ call.FsWrite (codes "/a") (codes "ho") ∷
+      call.FsRead (codes "a") 4 ∷ [];
+} ∷ []
+
+pub again_is_none : (outcomes : List (List Outcome)) → WritesLast writes_again outcomes name 0 0 2 (codes "hi") → ⊥
+unfolding components
+again_is_none outcomes w = (let again = w.last in cc)

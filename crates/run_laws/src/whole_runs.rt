@@ -1,0 +1,70 @@
+// Laws of whole runs over a file machine. The functions do nothing: what they ensure holds of all values.
+ghost use Rattle.std.specs.Prelude.{◌≡◌, ◌≤◌, ℕ, true, List, [], length};
+ghost use Rattle.sftp_model.specs.declared.options.SftpOptions.{SftpOptions};
+ghost use Rattle.sftp_model.specs.declared.config.Choice.{Choice};
+ghost use Rattle.sftp_model.specs.declared.config.ServerConfig.{ServerConfig};
+ghost use Rattle.sftp_model.specs.declared.error.Error.TheVariants as error;
+ghost use Rattle.sftp_model.specs.declared.flags.Extensions.{Extensions};
+ghost use Rattle.sftp_model.specs.declared.outcome.Outcome.{Outcome};
+ghost use Rattle.sftp_model.specs.declared.outcome.Outcome.TheVariants as outcome;
+ghost use Rattle.machine_model.specs.Changes.{IsWellFormed};
+ghost use Rattle.machine_model.specs.Components.{Name};
+ghost use Rattle.machine_model.specs.FileTree.{FileTree, node_at};
+ghost use Rattle.plan_model.specs.declared.call.Lane.{Lane};
+ghost use Rattle.session_model.specs.declared.entry.Entry.{Entry};
+ghost use Rattle.session_model.specs.declared.turn.Turn.{Turn};
+ghost use Rattle.session_model.specs.Calls.{Setting, lane_calls};
+ghost use Rattle.session_model.specs.Readings.{outcomes_below};
+ghost use Rattle.session_model.specs.Runs.{IsRun};
+ghost use Rattle.session_model.specs.Served.{Serves};
+ghost use Rattle.session_model.specs.Settings.{setting_of};
+ghost use Rattle.run_laws.specs.CallsAmong.{Gives, HasNoFile, refusal_of};
+ghost use Rattle.run_laws.specs.InJournals.{KeepsOff};
+ghost use Rattle.run_laws.specs.Steps.{HasBytes, RefuseNone};
+ghost use Rattle.run_laws.specs.KeepsFiles.{KeepsFiles};
+ghost use Rattle.run_laws.specs.NameCalls.{all_keep_off};
+ghost use Rattle.run_laws.specs.RoundTrips.{HasRead, HasWritten, IsOneLanes, NoneWrites};
+
+/// What was written is read back and left, listings give what directories had, and flushed writes are in their files, in each
+/// whole run of lanes whose replies are those of a file machine: by the lanes that were handed in, the outcomes that are reported
+/// of their calls, and the files and directories that the machine is left with.
+pub fn runs_keep_files()
+    ensures { (lanes : List Lane) (options : SftpOptions) (extensions : Extensions) (turns : List Turn)
+        (past : List Entry) (config : ServerConfig) (choices : List Choice) (tree left : FileTree)
+        → IsRun (setting_of lanes options extensions past) turns past → IsWellFormed tree → Serves config choices tree past left
+        → KeepsFiles lanes config choices tree (setting_of lanes options extensions past) past left (outcomes_below past (length lanes)) }
+{}
+
+/// What was written is read back. In a run that a file machine serves whose choices refuse nothing, each call of a lane
+/// writes or reads a file as a whole or keeps off a name on paths, and the other lanes keep off the name. Where a call of the lane wrote the name's file and ended
+/// well, it is the last that did so before a later call, and this one read the file and wasn't cancelled, the read ended
+/// with the bytes of the write, or has reached its bound.
+pub fn lanes_read_back_what_they_wrote()
+    ensures { (s : Setting) (turns : List Turn) (past : List Entry)
+        (config : ServerConfig) (choices : List Choice) (tree left : FileTree) (name : Name) (lane writer reader : ℕ) (bytes : List ℕ) (ended : Outcome)
+        → IsRun s turns past → 1 ≤ s.facts.read_len → IsWellFormed tree → Serves config choices tree past left
+        → RefuseNone choices → IsOneLanes s past name lane
+        → HasWritten s past name lane writer reader bytes → HasRead s past name lane reader ended → Gives ended bytes }
+{}
+
+/// In such a run, a read of the lane before which no call of it wrote the name's file ended with what the name had before
+/// the run: the bytes of its file, unless it has reached its bound, and where there was none, the refusal of its OPEN.
+pub fn lanes_read_back_what_was_there()
+    ensures gives { (s : Setting) (turns : List Turn) (past : List Entry)
+        (config : ServerConfig) (choices : List Choice) (tree left : FileTree) (name : Name) (lane reader : ℕ) (bytes : List ℕ) (ended : Outcome)
+        → IsRun s turns past → 1 ≤ s.facts.read_len → IsWellFormed tree → Serves config choices tree past left
+        → RefuseNone choices → IsOneLanes s past name lane → NoneWrites s past name lane reader
+        → HasBytes tree name bytes → HasRead s past name lane reader ended → Gives ended bytes }
+    ensures refused { (s : Setting) (turns : List Turn) (past : List Entry)
+        (config : ServerConfig) (choices : List Choice) (tree left : FileTree) (name : Name) (lane reader : ℕ) (ended : Outcome)
+        → IsRun s turns past → 1 ≤ s.facts.read_len → IsWellFormed tree → Serves config choices tree past left
+        → RefuseNone choices → IsOneLanes s past name lane → NoneWrites s past name lane reader
+        → HasNoFile (node_at tree name) → HasRead s past name lane reader ended
+        → ended ≡ outcome.Refused (error.SftpError (refusal_of (node_at tree name)) [] []) }
+{}
+
+/// In a run, a lane each of whose calls keeps off a name keeps off it: so lanes that each have their own names are such lanes.
+pub fn lanes_of_other_names_keep_off()
+    ensures { (s : Setting) (turns : List Turn) (past : List Entry) (name : Name) (lane : ℕ) → IsRun s turns past
+        → all_keep_off name [] (lane_calls s past lane) ≡ true → KeepsOff past name lane }
+{}

@@ -1,0 +1,181 @@
+-- The parts of a run joined: the whole of it, or as far as it came.
+use Rattle.std.proofs.Common.{◌≡◌, ◌<◌, ℕ, List, [], length, Option, None, ap, sym, ◌∙◌, subst, inr}
+use Rattle.std.specs.Prelude.{Result, Ok, Err, false, ◌^◌, ◌-◌}
+use Rattle.sftp_model.specs.declared.error.Error.{Error}
+use Rattle.sftp_link.specs.Told.{Told}
+use Rattle.sftp_link.specs.Views.{LinkView}
+use Rattle.session_model.specs.declared.turn.Turn.{Turn}
+use Rattle.session_model.specs.declared.entry.Entry.{Entry}
+use Rattle.session_model.specs.Readings.{was_let_go}
+use Rattle.session_model.specs.Calls.{Setting, current}
+use Rattle.session_model.specs.Turns.{Stage}
+use Rattle.session_model.specs.Runs.{TurnsTo, EndsTo, LetsGoTo, Opens, IsRun, at_first}
+use Rattle.session_driver.specs.RunsSoFar.{OpensSoFar, RunSoFar, in_opening, in_turns, in_rounds, in_letting_go, in_drains}
+use Rattle.session_driver.specs.Session.{Given, Seen, IsFixed, IsOpened, IsSoFar, at_rest}
+use Rattle.session_exchange.specs.Causes.{Caused}
+use Rattle.session_driver.specs.Logs.{Showing, HasRun}
+use Rattle.session_driver.specs.Ongoing.{At, Drives, HasStopped, Ongoing, IsReady, Part, Stopped, StoppedOpen, turns_of, lanes_end, lanes_go, draining}
+use Rattle.session_driver.proofs.Journals.{later_on}
+use Rattle.session_driver.proofs.Settled.{still_fixed}
+use Rattle.session_driver.proofs.ServingLaws.{completes}
+use Rattle.session_driver.proofs.Stopping.{ends_by, shown_stop, shows_on, stopped_as_well}
+use Rattle.session_driver.proofs.Joining.{join}
+use Rattle.session_exchange.proofs.Joining.{caused_on}
+use Rattle.session_exchange.proofs.Joining.{same_caused}
+use Rattle.session_driver.proofs.Loops.{whole_join, stop_join, stops_as, same_setting}
+use Rattle.session_driver.proofs.Rounds.{begins_at_first, is_run, opened_holds, held_on, ended_done}
+
+-- the schedule's turns, and then rounds until no lane has a call left
+pub record Ended (schedule : List Turn) (s : Setting) (a c : Stage) : Type 0 where
+  pub turned : Stage
+  pub turns : TurnsTo s schedule a turned
+  pub ends : EndsTo s (length s.lanes) turned c
+
+-- and then each lane is let go
+pub record Gone (schedule : List Turn) (s : Setting) (a c : Stage) : Type 0 where
+  pub ended : Stage
+  pub first : Ended schedule s a ended
+  pub goes : LetsGoTo s (length s.lanes) ended c
+
+-- a run from where the session was opened
+abbrev pub run_on : List Turn → Part
+run_on schedule = record {
+  whole = λ s a c. Opens s.limits a.past → a.begun ≡ at_rest.begun → IsRun s schedule c.past;
+  so_far = λ s a past. Opens s.limits a.past → a.begun ≡ at_rest.begun → RunSoFar s schedule past;
+}
+
+abbrev pub to_ends : List Turn → Part
+to_ends schedule = record { whole = Ended schedule; so_far = (run_on schedule).so_far }
+
+abbrev pub to_gone : List Turn → Part
+to_gone schedule = record { whole = Gone schedule; so_far = (run_on schedule).so_far }
+
+from_first : (s : Setting) (schedule : List Turn) (a b : Stage) → a.begun ≡ at_rest.begun → TurnsTo s schedule a b → TurnsTo s schedule (at_first a.past) b
+from_first s schedule a b none turns = subst (λ (w : Stage). TurnsTo s schedule w b) (begins_at_first a none) turns
+
+module _ {S : Type 0} where
+  pub turns_stopped : (schedule : List Turn) {a b : At S} {e : Error} → Ongoing (turns_of schedule) a b (Err e) → Ongoing (run_on schedule) a b (Err e)
+  turns_stopped schedule {a = a} {b = b} part = stops_as (λ past so_far opens none. in_turns a.seen.stage.past opens
+      (by_first schedule a past none so_far)) part
+    where
+      by_first : (schedule : List Turn) (a : At S) (past : List Entry) → a.seen.stage.begun ≡ at_rest.begun
+          → (turns_of schedule).so_far a.seen.setting a.seen.stage past
+          → (turns_of schedule).so_far a.seen.setting (at_first a.seen.stage.past) past
+      by_first schedule a past none so_far = subst (λ (w : Stage). (turns_of schedule).so_far a.seen.setting w past) (begins_at_first a.seen.stage none) so_far
+
+  pub ends_stopped : (schedule : List Turn) {a b c : At S} {u : Unit {0}} {e : Error}
+      → Ongoing (turns_of schedule) a b (Ok u) → Ongoing lanes_end b c (Err e) → Ongoing (run_on schedule) a c (Err e)
+  ends_stopped schedule {a = a} {b = b} turned part =
+      stop_join (λ r past so_far opens none. in_rounds a.seen.stage.past b.seen.stage opens
+      (from_first a.seen.setting schedule a.seen.stage b.seen.stage none r) so_far) turned part
+
+  pub ended_on : (schedule : List Turn) {a b c : At S} {u v : Unit {0}} → Ongoing (turns_of schedule) a b (Ok u)
+      → Ongoing lanes_end b c (Ok v) → Ongoing (to_ends schedule) a c (Ok tt)
+  ended_on schedule {b = b} turned part = whole_join (λ r q. record { turned = b.seen.stage; turns = r; ends = q }) turned part
+
+  pub go_stopped : (schedule : List Turn) {a b c : At S} {u : Unit {0}} {e : Error}
+      → Ongoing (to_ends schedule) a b (Ok u) → Ongoing lanes_go b c (Err e) → Ongoing (run_on schedule) a c (Err e)
+  go_stopped schedule {a = a} {b = b} ended part =
+      stop_join (λ r past so_far opens none. in_letting_go a.seen.stage.past r.turned b.seen.stage opens
+      (from_first a.seen.setting schedule a.seen.stage r.turned none r.turns) r.ends so_far) ended part
+
+  pub gone_on : (schedule : List Turn) {a b c : At S} {u v : Unit {0}} → Ongoing (to_ends schedule) a b (Ok u)
+      → Ongoing lanes_go b c (Ok v) → Ongoing (to_gone schedule) a c (Ok tt)
+  gone_on schedule {b = b} ended part = whole_join (λ r q. record { ended = b.seen.stage; first = r; goes = q }) ended part
+
+  pub run_is : (schedule : List Turn) {a b c : At S} {u : Unit {0}} {result : Result (Unit {0}) Error}
+      → Ongoing (to_gone schedule) a b (Ok u) → Ongoing draining b c result → Ongoing (run_on schedule) a c result
+  run_is schedule {a = a} {b = b} {c = c} gone part =
+      join
+      (λ r q opens none. is_run a.seen.setting schedule a.seen.stage r.first.turned r.ended b.seen.stage c.seen.stage
+      opens none r.first.turns r.first.ends r.goes (q.drains, q.went) q.answered)
+      (λ r past so_far opens none. in_drains a.seen.stage.past r.first.turned r.ended b.seen.stage opens
+      (from_first a.seen.setting schedule a.seen.stage r.first.turned none r.first.turns) r.first.ends r.goes
+      so_far)
+      gone part
+
+  -- where rounds have ended, no lane has a call, and none was let go
+  pub all_done : (schedule : List Turn) {a b : At S} {u : Unit {0}} → Ongoing (to_ends schedule) a b (Ok u) → (k : ℕ)
+      → k < length b.seen.setting.lanes → current b.seen.setting b.seen.stage.past k ≡ None
+  all_done schedule {a = a} {b = b} ended k lt =
+      let same = same_setting ended in
+      let r = ended.went.whole in
+      subst (λ (s : Setting). current s b.seen.stage.past k ≡ None) (sym same)
+      (ended_done a.seen.setting (length a.seen.setting.lanes) r.turned b.seen.stage r.ends k (subst (λ (s : Setting). k < length s.lanes) same lt))
+
+  pub all_held : (schedule : List Turn) {a b : At S} {u : Unit {0}} → Opens a.seen.setting.limits a.seen.stage.past
+      → Ongoing (to_ends schedule) a b (Ok u) → (k : ℕ) → was_let_go b.seen.stage.past k ≡ false
+  all_held schedule {a = a} {b = b} opens ended k =
+      let r = ended.went.whole in
+      held_on a.seen.setting schedule (length a.seen.setting.lanes) a.seen.stage r.turned b.seen.stage r.turns r.ends k
+      (opened_holds a.seen.setting.limits a.seen.stage.past opens k)
+
+  -- ---- what the caller is told
+
+  run_told : (given : Given) (schedule : List Turn) (x : Option _) {a c : At S} {u : Unit {0}} → IsOpened given a.seen
+      → Told (Showing a.seen.version a.seen.stage.past) x a.link.log → Ongoing (run_on schedule) a c (Ok u)
+      → HasRun given schedule c.seen x c.link.log
+  run_told given schedule x {a = a} {c = c} opened shows run = record {
+    run = subst (λ (s : Setting). IsRun s schedule c.seen.stage.past) (sym (same_setting run)) (run.went.whole opened.opens opened.begun);
+    fixed = subst (λ (w : Seen). IsFixed given w.version c.seen.stage.past w.setting) (sym run.went.stays)
+        (still_fixed given a.seen.version a.seen.stage.past c.seen.stage.past a.seen.setting opened.fixed opened.opens run.went.later);
+    shows = shows_on a.seen.version c.seen.version a.seen.stage.past c.seen.stage.past x a.link.log c.link.log
+        (ap (λ (w : Seen). w.version) run.went.stays) shows run.went.log;
+  }
+
+  -- where it was opened, and then stopped
+  left_on : (schedule : List Turn) (before : At S) {a c : At S} (e : Error) → IsOpened before.seen.given a.seen
+      → Told (Showing a.seen.version a.seen.stage.past) before.link.log a.link.log → Stopped (run_on schedule) a c e
+      → StoppedOpen (λ s. RunSoFar s schedule) before c e
+  left_on schedule before {a = a} {c = c} e opened shows stopped = record {
+    past = stopped.past;
+    is = subst (λ (w : Seen). RunSoFar w.setting schedule stopped.past) (sym stopped.holds)
+        (stopped.is.so_far opened.opens opened.begun);
+    so_far = subst (λ (w : Seen). IsSoFar before.seen.given w.version w.setting stopped.past) (sym stopped.holds) (
+      later_on a.seen.setting [] a.seen.stage.past stopped.past opened.later stopped.is.later,
+      still_fixed before.seen.given a.seen.version a.seen.stage.past stopped.past a.seen.setting opened.fixed opened.opens stopped.is.later,
+    );
+    same = ap (λ (w : Seen). w.given) stopped.holds ∙ opened.same;
+    ahead = stopped.ahead;
+    log = shown_stop a.seen.version c.seen.version a.seen.stage.past stopped.past c.link.ended e before.link.log a.link.log c.link.log
+        (ap (λ (w : Seen). w.version) stopped.holds) shows stopped.log;
+  }
+
+  -- an error is all that is to be told
+  stopped_drives : {schedule : List Turn} (before : At S) {now : At S} {e : Error} → HasStopped (λ s. RunSoFar s schedule) before now e
+      → Caused {T = Unit {0}} before.link now.link (Err e) → Drives schedule before now (Err e)
+  stopped_drives {schedule = schedule} before {now = now} {e = e} left caused = record {
+    run = tt;
+    left = left;
+    caused = caused;
+    stops = ends_by (λ s. RunSoFar s schedule) before now e left;
+    complete = completes before.seen.given schedule now.link.ended e before.link.faults now.link.faults before.link.log now.link.log
+        (ends_by (λ s. RunSoFar s schedule) before now e left) caused.cause;
+  }
+
+  -- the opening stopped
+  pub unopened : (schedule : List Turn) (before : At S) {now : At S} {T : Type 0} {e : Error}
+      → HasStopped (λ s. OpensSoFar s.limits) before now e → Caused {T = T} before.link now.link (Err e)
+      → Drives schedule before now (Err e)
+  unopened schedule before {now = now} {e = e} left caused =
+      stopped_drives before
+      (stopped_as_well (λ s. OpensSoFar s.limits) (λ s. RunSoFar s schedule) before now e (λ s past so_far. in_opening so_far) left)
+      (same_caused before.link now.link e caused)
+
+  -- a session was opened, and then its lanes ran, or it stopped
+  pub drives : (schedule : List Turn) (before : At S) {a c : At S} {u : Unit {0}} {result : Result (Unit {0}) Error}
+      → IsOpened before.seen.given a.seen → Told (Showing a.seen.version a.seen.stage.past) before.link.log a.link.log
+      → Caused before.link a.link (Ok u) → Ongoing (run_on schedule) a c result → Drives schedule before c result
+  drives schedule before {a = a} {c = c} {u = u} {result = Ok v} opened shows caused run = record {
+    run = run_told before.seen.given schedule before.link.log opened shows run;
+    left = tt;
+    caused = caused_on before.link a.link c.link u (Ok v) caused run.caused;
+    stops = tt;
+    complete = tt;
+  }
+  drives schedule before {a = a} {c = c} {u = u} {result = Err e} opened shows caused run =
+      stopped_drives before (inr (left_on schedule before e opened shows run.stopped))
+      (caused_on before.link a.link c.link u (Err e) caused run.caused)
+
+  pub is_ready : (a : At S) (x : LinkView S) (u : Unit {0}) (given : Given) → x.faults < 2 ^ 64 - 1 → IsOpened given a.seen → Caused x a.link (Ok u) → IsReady a
+  is_ready a x u given count opened caused = record { is_open = opened.is_open; count = subst (λ (n : ℕ). n < 2 ^ 64 - 1) (sym caused.cause) count }

@@ -1,0 +1,11 @@
+use Rattle.std.proofs.Common.{Ok}
+use Rattle.session_driver.specs.Ongoing.{Ongoing, at}
+use Rattle.session_driver.proofs.Rounds.{some_drains}
+use Rattle.session_driver.proofs.runs.drain.Given as goal
+
+abbrev pub invariant-loop-alloc : goal.invariant-loop-alloc
+invariant-loop-alloc g l = Ongoing some_drains (at (g.X.RunsLanes.seen l.initial.session)
+    (g.L.LinkState.state l.initial.link)) (at (g.X.RunsLanes.seen l.session) (g.L.LinkState.state l.link)) (Ok tt)
+
+abbrev pub decreases-loop-alloc : goal.decreases-loop-alloc
+decreases-loop-alloc g l = (g.X.RunsLanes.seen l.session).work

@@ -1,0 +1,10 @@
+pub mod Session
+pub mod NoLanes
+pub mod Refusals
+pub mod Logs
+pub mod Ongoing
+pub mod RunsSoFar
+pub mod RunsSoFarRows
+pub mod Adding
+pub mod ServingLinks
+pub mod ServingRows

@@ -1,0 +1,40 @@
+// A whole run.
+ghost use Rattle.std.specs.Prelude.{◌<◌, ◌^◌, ◌-◌};
+ghost use Rattle.session_driver.specs.Session.{IsFresh};
+ghost use Rattle.session_driver.specs.Ongoing.{Drives, at};
+
+use crate::opening::open;
+use crate::runs::{drain, end_lanes, let_go_lanes, run_turns};
+use crate::session::RunsLanes;
+use session_model::Turn;
+use sftp_link::Link;
+use sftp_model::Error;
+use std::alloc::Global;
+
+/// Runs the lanes of a session over a link: the hello and the limits, the turns of the schedule, then for each lane
+/// in order rounds of a step, a flush and a take until it has no call left; then the lanes are let go in order, and the
+/// last replies are taken.
+///
+/// With Ok the journal is a run of the lanes under these turns, and the link's log, where it tells one, shows VERSION and
+/// the journal. `LinkFault` comes only where the link's count of faults rose, `LinkEnded` only where its last call
+/// found the end, and each other error but `OutOfMemory` is the first thing that is wrong with the frame that came
+/// last. After an error the log shows VERSION and a journal that is a run so far of the lanes under these turns, or the
+/// hello, and then nothing, a prefix of the next frames to be sent, or bytes of one frame that wasn't taken, and none
+/// past it. The session's journal is that one then, or has one entry more: the Send whose frames could not all be sent,
+/// or the fault of the frame that was refused. What its lanes go by is what VERSION and that journal fix.
+pub fn run_session<X: RunsLanes, L: Link>(
+    alloc: Global,
+    session: &mut X,
+    link: &mut L,
+    schedule: &[Turn],
+) -> Result<(), Error>
+    requires fresh { IsFresh (X.seen session.old) }
+    requires count { (L.LinkState.state link.old).faults < 2 ^ 64 - 1 }
+    ensures { Drives schedule.now (at (X.seen session.old) (L.LinkState.state link.old)) (at (X.seen session.new) (L.LinkState.state link.new)) result }
+{
+    open(alloc, session, link)?;
+    run_turns(alloc, session, link, schedule)?;
+    end_lanes(alloc, session, link)?;
+    let_go_lanes(session, link)?;
+    drain(alloc, session, link)
+}

@@ -1,0 +1,4 @@
+pub mod Frames
+pub mod Getting
+pub mod Gathered
+pub mod Joining

@@ -1,0 +1,5 @@
+pub mod Causes
+pub mod Reading
+pub mod Gathering
+pub mod Refusals
+pub mod ExchangeRows

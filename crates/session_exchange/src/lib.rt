@@ -1,0 +1,10 @@
+//! What goes over a link, and what comes of it: pieces that are sent, small neighbours as one, and one frame that is read.
+#![tactic(auto)]
+
+mod exchange;
+mod gather;
+
+pub use exchange::{fault, read_frame, refused};
+pub use gather::send_pieces;
+pub use sftp_core::TakeError;
+pub use sftp_model::Error;

@@ -1,0 +1,121 @@
+-- What a lane holds of a core, by its lists of tickets and grants.
+use Rattle.std.specs.Prelude.{
+  ◌≡◌,
+  ◌≢◌,
+  ◌⊎◌,
+  ◌==◌,
+  ◌||◌,
+  ℕ,
+  Bool,
+  List,
+  [],
+  ◌∷◌,
+  ◌++◌,
+  Option,
+  Some,
+  None,
+  slice_get,
+  true,
+  false,
+}
+use Rattle.std.specs.List.{list_any}
+use Rattle.sftp_model.specs.declared.reply.Reply.{Reply}
+use Rattle.sftp_model.specs.declared.reply.Reply.TheVariants as reply
+use Rattle.sftp_model.specs.declared.request.Request.{Request}
+use Rattle.sftp_model.specs.declared.slot.Slot.{Slot}
+use Rattle.sftp_model.specs.declared.slot.Slot.TheVariants.{Buffered}
+use Rattle.sftp_core.specs.Core.{Core, abandoned, after_poll, at, is_ticket, reply_in}
+use Rattle.sftp_core.specs.declared.place.Place.TheVariants.{Granted}
+use Rattle.plan_model.specs.Moves.{Answers}
+use Rattle.plan_runner.specs.declared.next.Asked.{Asked}
+use Rattle.plan_runner.specs.Runners.{filled}
+use Rattle.session_laws.specs.Lanes.{Held, Ticketed, grant_places}
+use Rattle.session_laws.specs.Places.{is_in, without}
+use Rattle.session_laws.specs.Running.{grants_named}
+
+-- each ticket is one that the core counts
+abbrev pub AreTickets : Core → List Ticketed → Type 0
+AreTickets core tickets = (k : ℕ) (t : Ticketed) → slice_get tickets k ≡ Some t → is_ticket (at core t.ticket) ≡ true
+
+-- each grant has one user in the core
+abbrev pub AreGrants : Core → List Held → Type 0
+AreGrants core grants = (k : ℕ) (g : Held) → slice_get grants k ≡ Some g → at core g.grant.id
+    ≡ Some (Granted g.grant.handle 1)
+
+-- the handle is that of a grant of this place
+pub record IsGrantAt (grants : List Held) (place : ℕ) (handle : List ℕ) : Type 0 where
+  pub k : ℕ
+  pub held : Held
+  pub here : slice_get grants k ≡ Some held
+  pub stands : held.place ≡ place
+  pub bears : handle ≡ held.grant.handle
+
+-- a HANDLE that was polled is a grant
+abbrev pub grants_with : List Held → ℕ → ℕ → Reply → List Held
+grants_with grants place ticket (reply.Handle handle) = grants
+    ++ record { place = place; grant = record { id = ticket; handle = handle } } ∷ []
+grants_with grants place ticket other = grants
+
+-- the reply to a ticket of this place was taken, and the ticket is spent
+pub record Spent (old new : Core) (before after : List Ticketed) (grants held : List Held) (place : ℕ) (r : Reply) :
+    Type 0 where
+  pub k : ℕ
+  pub ticket : ℕ
+  pub here : slice_get before k ≡ Some (record { place = place; ticket = ticket })
+  pub came : reply_in (at old ticket) ≡ Some r
+  pub core : new ≡ after_poll old ticket
+  pub rest : after ≡ without k before
+  pub now : held ≡ grants_with grants place ticket r
+
+-- a ticket is dropped whose reply is missing or brings no handle, and no grant comes
+abbrev pub IsDropped : Core → Core → ℕ → List Held → List Held → Type 0
+IsDropped old new ticket grants held = ((handle : List ℕ) → reply_in (at old ticket) ≢ Some (reply.Handle handle))
+    × ((new ≡ abandoned old ticket) × (held ≡ grants))
+
+-- the HANDLE that had come is a grant
+abbrev pub IsPolled : Core → Core → ℕ → ℕ → List Held → List Held → Type 0
+IsPolled old new place ticket grants held =
+    (handle : List ℕ) × ((reply_in (at old ticket) ≡ Some (reply.Handle handle))
+    × ((new ≡ after_poll old ticket) × (held ≡ grants_with grants place ticket (reply.Handle handle))))
+
+-- a ticket of this place was given up
+pub record IsGivenUp (old new : Core) (before after : List Ticketed) (grants held : List Held) (place : ℕ) : Type 0
+  where
+    pub k : ℕ
+    pub ticket : ℕ
+    pub here : slice_get before k ≡ Some (record { place = place; ticket = ticket })
+    pub rest : after ≡ without k before
+    pub how : IsDropped old new ticket grants held ⊎ IsPolled old new place ticket grants held
+
+-- these replies are what the core has for each ticket
+abbrev pub TellReplies : Core → List Ticketed → Answers → Type 0
+TellReplies core tickets answers = (k : ℕ) (t : Ticketed) → slice_get tickets k ≡ Some t → reply_in (at core t.ticket)
+    ≡ answers t.place
+
+-- ---- what is asked
+
+-- the replies say of each grant which handle it has
+abbrev pub Bears : List Held → Answers → Type 0
+Bears grants answers = (k : ℕ) (g : Held) → slice_get grants k ≡ Some g → answers g.place
+    ≡ Some (reply.Handle g.grant.handle)
+
+-- the request is what was asked, with the handles of these grants
+abbrev pub IsFilledBy : List Held → Asked → Request → Type 0
+IsFilledBy grants a r = (answers : Answers) → Bears grants answers → r ≡ filled a answers
+
+-- each grant that a request names is one of these
+abbrev pub NamesHeld : List Held → Asked → Type 0
+NamesHeld grants a = (g : ℕ) → is_in g (grants_named a) ≡ true → is_in g (grant_places grants) ≡ true
+
+-- ---- what slots await
+
+-- the place, where there is one, is this one
+abbrev pub is_place : ℕ → Option ℕ → Bool
+is_place place None = false
+is_place place (Some reading) = reading == place
+
+-- the file in a slot awaits the reply to this place
+abbrev pub slot_awaits : ℕ → Slot → Bool
+slot_awaits place (Buffered file buffer) = is_place place buffer.reading
+    || list_any (λ write. write.0 == place) buffer.deferred
+slot_awaits place other = false

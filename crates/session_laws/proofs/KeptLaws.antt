@@ -1,0 +1,121 @@
+-- How many ids a core keeps, as it goes on.
+use Rattle.std.proofs.Common.{◌≡◌, ◌≤◌, ◌+◌, ◌-◌, ℕ, Bool, true, false, List, Option, Some, None, refl, ap, sym, ◌∙◌, subst, arith}
+use Rattle.std.specs.Cmp.{nat_cmp_total}
+use Rattle.std.specs.FinMap as fin
+use Rattle.sftp_model.specs.declared.answers.Expected.{Expected}
+use Rattle.sftp_model.specs.declared.error.Fault.{Fault}
+use Rattle.sftp_model.specs.declared.reply.Reply.{Reply}
+use Rattle.sftp_model.specs.declared.request.Request.{Request}
+use Rattle.sftp_model.specs.declared.request.Request.TheVariants as request
+use Rattle.sftp_core.specs.declared.place.Place.{Place}
+use Rattle.sftp_core.specs.declared.place.Place.TheVariants.{Waiting, Answered, Granted}
+use Rattle.sftp_core.specs.Core.{
+  Core,
+  abandon_leaves,
+  abandoned,
+  after_poll,
+  at,
+  dropped,
+  given_leaves,
+  handed_out,
+  poll_leaves,
+  queued_last,
+  released,
+  reply_in,
+}
+use Rattle.sftp_core.specs.Grant.{GrantValue}
+use Rattle.sftp_core.specs.Table.{Places, brings}
+use Rattle.sftp_core.specs.Take.{answered, take_leaves}
+use Rattle.sftp_core.proofs.Counts.{count_len, len_less, len_more, len_same, len_sent}
+use Rattle.sftp_core.proofs.Tables.{count-remove}
+use Rattle.session_laws.specs.Budgets.{kept}
+use Rattle.session_laws.specs.Ends.{let_go}
+use Rattle.session_laws.proofs.CountedLaws.{released_is}
+
+-- ---- a request
+
+-- a request under any id keeps one more at the most
+pub kept_ask : (old : Core) (id : ℕ) (r : Request) (wanted : Bool) → kept (queued_last old id r wanted) ≤ kept old + 1
+kept_ask old id r wanted = len_more old.table id _
+
+-- in the place of what stands there it keeps as many
+kept_again : (old : Core) (id : ℕ) (r : Request) (wanted : Bool) (p : Place) → at old id ≡ Some p → kept (queued_last old id r wanted) ≡ kept old
+kept_again old id r wanted p here = len_same old.table id _ p here
+
+-- so does the CLOSE of a grant
+pub kept_released : (old : Core) (grant : GrantValue) → at old grant.id ≡ Some (Granted grant.handle 1) → kept (released old grant) ≡ kept old
+kept_released old grant here = ap kept (released_is old grant here) ∙ kept_again old grant.id (request.Close grant.handle) true (Granted grant.handle 1) here
+
+-- ---- what is dropped
+
+kept_dropped : (old : Core) (id : ℕ) (b : Option (List ℕ)) (p : Place) → at old id ≡ Some p → kept (dropped old id b) ≤ kept old
+kept_dropped old id (Some handle) p here = (let same = kept_again old id (request.Close handle) false p here in omega (arith, same))
+kept_dropped old id None p here = len_less old.table id
+
+pub kept_abandoned : (old : Core) (t : ℕ) → kept (abandoned old t) ≤ kept old
+kept_abandoned old t = by_place (at old t) refl
+  where
+    by_place : (p : Option Place) → at old t ≡ p → kept (abandon_leaves old t (at old t)) ≤ kept old
+    by_place None is = subst (λ (x : Option Place). kept (abandon_leaves old t x) ≤ kept old) (sym is) (omega arith)
+    by_place (Some (Waiting e sent wanted)) is =
+        subst (λ (x : Option Place). kept (abandon_leaves old t x) ≤ kept old) (sym is)
+        (let same = len_same old.table t (Waiting e sent false) (Waiting e sent wanted) is in omega (arith, same))
+    by_place (Some (Answered e r)) is = subst (λ (x : Option Place). kept (abandon_leaves old t x) ≤ kept old) (sym is)
+        (kept_dropped old t (brings r) (Answered e r) is)
+    by_place (Some (Granted handle users)) is = subst (λ (x : Option Place). kept (abandon_leaves old t x) ≤ kept old) (sym is) (omega arith)
+
+-- a grant that the session lets go of
+pub kept_let_go : (old : Core) (grant : GrantValue) → at old grant.id ≡ Some (Granted grant.handle 1) → kept (let_go old grant) ≤ kept old
+kept_let_go old grant here = (let less = kept_abandoned (released old grant) grant.id in let same = kept_released old grant here in omega (arith, less, same))
+
+-- ---- a poll
+
+some_there : (t : Places) (k : ℕ) (w : Place) → fin.get t k ≡ Some w → 1 ≤ fin.len t
+some_there t k w some = (let one = count-remove (λ (p : Place). true) t k w some in let few = count_len (λ (p : Place). true) t in omega (arith, one, few))
+
+-- what is taken out is one less
+removed : (t : Places) (k : ℕ) (w : Place) → fin.get t k ≡ Some w → fin.len (fin.remove t k) + 1 ≤ fin.len t
+removed t k w some = rw (fin.len-remove nat_cmp_total t k, some) (one_less (fin.len t) (some_there t k w some))
+  where
+    one_less : (n : ℕ) → 1 ≤ n → n - 1 + 1 ≤ n
+    one_less n le = omega (arith, le)
+
+polled_by : (old : Core) (t : ℕ) (y : Reply) (f : Option Fault) (p : Option Place) → at old t ≡ p → reply_in p ≡ Some y
+    → (kept (poll_leaves old t f p) ≤ kept old) × (brings y ≡ None → kept (poll_leaves old t f p) + 1 ≤ kept old)
+polled_by old t y f (Some (Answered e r)) here is = (
+  by_brought (brings r) refl,
+  λ none. (let same : r ≡ y = cc in
+      subst (λ (b : Option (List ℕ)). kept (given_leaves old t b) + 1 ≤ kept old) (sym (ap brings same ∙ none)) (removed old.table t (Answered e r) here)),
+)
+  where
+    by_brought : (b : Option (List ℕ)) → brings r ≡ b → kept (given_leaves old t (brings r)) ≤ kept old
+    by_brought (Some h) b_is = subst (λ (b : Option (List ℕ)). kept (given_leaves old t b) ≤ kept old) (sym b_is)
+        (let same = len_same old.table t (Granted h 1) (Answered e r) here in omega (arith, same))
+    by_brought None b_is = subst (λ (b : Option (List ℕ)). kept (given_leaves old t b) ≤ kept old) (sym b_is) (len_less old.table t)
+polled_by old t y f (Some (Waiting e sent wanted)) here is = absurd cc
+polled_by old t y f (Some (Granted handle users)) here is = absurd cc
+polled_by old t y f None here is = absurd cc
+
+-- a poll of a kept reply keeps no more ids, and one less where it brings no handle
+pub kept_polled : (old : Core) (t : ℕ) (y : Reply) → reply_in (at old t) ≡ Some y → (kept (after_poll old t) ≤ kept old)
+    × (brings y ≡ None → kept (after_poll old t) + 1 ≤ kept old)
+kept_polled old t y is = polled_by old t y old.fault (at old t) refl is
+
+-- ---- what is sent and taken
+
+pub kept_sent : (old : Core) → kept (handed_out old) ≤ kept old
+kept_sent old = (let same = len_sent old.table in omega (arith, same))
+
+pub kept_taken : (old : Core) (id : ℕ) (r : Reply) → kept (take_leaves old id r (at old id)) ≤ kept old
+kept_taken old id r = by_place (at old id) refl
+  where
+    by_wanted : (e : Expected) (wanted : Bool) (p : Place) → at old id ≡ Some p → kept (answered old id r e wanted) ≤ kept old
+    by_wanted e true p is = (let same = len_same old.table id (Answered e r) p is in omega (arith, same))
+    by_wanted e false p is = kept_dropped old id (brings r) p is
+
+    by_place : (p : Option Place) → at old id ≡ p → kept (take_leaves old id r (at old id)) ≤ kept old
+    by_place None is = subst (λ (x : Option Place). kept (take_leaves old id r x) ≤ kept old) (sym is) (omega arith)
+    by_place (Some (Waiting e sent wanted)) is = subst (λ (x : Option Place). kept (take_leaves old id r x) ≤ kept old)
+        (sym is) (by_wanted e wanted (Waiting e sent wanted) is)
+    by_place (Some (Answered e other)) is = subst (λ (x : Option Place). kept (take_leaves old id r x) ≤ kept old) (sym is) (omega arith)
+    by_place (Some (Granted handle users)) is = subst (λ (x : Option Place). kept (take_leaves old id r x) ≤ kept old) (sym is) (omega arith)

@@ -1,0 +1,13 @@
+pub mod BudgetRows
+pub mod Budgets
+pub mod Changes
+pub mod Dues
+pub mod Ends
+pub mod Exchanges
+pub mod Going
+pub mod Lanes
+pub mod Letting
+pub mod Places
+pub mod Rest
+pub mod Running
+pub mod Tables

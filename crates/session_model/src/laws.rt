@@ -1,0 +1,97 @@
+// Laws of the definitions. The functions do nothing: what they ensure holds of all values.
+ghost use Rattle.std.specs.Prelude.{◌≡◌, ◌≢◌, ◌<◌, ◌≤◌, ◌-◌, ◌^◌, ℕ, true, false, List, [], ◌∷◌, length, Some, None};
+ghost use Rattle.sftp_model.specs.declared.reply.Reply.{Reply};
+ghost use Rattle.sftp_model.specs.declared.reply.Reply.TheVariants.{Content};
+ghost use Rattle.sftp_model.specs.declared.slot.FileAt.{FileAt};
+ghost use Rattle.sftp_model.specs.declared.slot.Buffer.{Buffer};
+ghost use Rattle.sftp_model.specs.declared.slot.Slot.TheVariants.{Buffered};
+ghost use Rattle.sftp_model.specs.Answers.{may_answer};
+ghost use Rattle.sftp_model.specs.Slots.{slot_at};
+ghost use Rattle.plan_model.specs.ReadsUnderWay.{ReadsStand};
+ghost use Rattle.plan_model.specs.declared.call.Call.{Call};
+ghost use Rattle.session_model.specs.declared.entry.Entry.{Entry};
+ghost use Rattle.session_model.specs.declared.entry.Entry.TheVariants as entry;
+ghost use Rattle.session_model.specs.declared.event.Event.TheVariants.{Take};
+ghost use Rattle.session_model.specs.Readings.{Asked, answer, asked_at, bearer};
+ghost use Rattle.session_model.specs.Calls.{Setting, current, GoesByPlan, site_of};
+ghost use Rattle.session_model.specs.Ids.{id_state, Reads};
+ghost use Rattle.session_model.specs.Journals.{IsJournal, IsOver, MayTake};
+ghost use Rattle.session_model.specs.Grants.{IsSettled};
+ghost use Rattle.session_model.specs.Grants.{orphan, is_grant, is_held, is_one_of, closed};
+ghost use Rattle.session_model.specs.Closes.{granted_handles, closed_handles, times, AreClosed, closes_of};
+ghost use Rattle.session_model.specs.Submitted.{submitted_at};
+ghost use Rattle.session_model.specs.Runs.{IsRun};
+ghost use Rattle.session_model.specs.Turns.{Stage, ClosesTo};
+ghost use Rattle.session_model.specs.declared.turn.Turn.{Turn};
+
+/// A reply that was taken stays, whatever is taken behind it.
+pub fn replies_stay()
+    ensures { (past : List Entry) (id : ℕ) (r q : Reply) (place : ℕ) → MayTake past id r
+        → answer past place ≡ Some q → answer (entry.Event (Take id r) ∷ past) place ≡ Some q }
+{}
+
+/// No two ids name one request. In a run so far an unanswered request is the last that bears its id, and so no
+/// other unanswered one bears it.
+pub fn ids_name_requests()
+    ensures one_id { (past : List Entry) (i j place : ℕ) → bearer past i ≡ Some place
+        → bearer past j ≡ Some place → i ≡ j }
+    ensures borne { (s : Setting) (past : List Entry) (place : ℕ) (a : Asked) → IsJournal s past
+        → asked_at past place ≡ Some a → answer past place ≡ None → bearer past a.id ≡ Some place }
+    ensures apart { (s : Setting) (past : List Entry) (p q : ℕ) (a b : Asked) → IsJournal s past
+        → asked_at past p ≡ Some a → answer past p ≡ None → asked_at past q ≡ Some b
+        → answer past q ≡ None → a.id ≡ b.id → p ≡ q }
+{}
+
+/// What the recursion over a journal says of an id is what the journal's readings say.
+pub fn ids_are_read()
+    ensures { (past : List Entry) (id : ℕ) → Reads past id (id_state past id) }
+{}
+
+/// In a run so far the current call of a lane goes by its plan: each of its requests was what the plan asked, when
+/// no reply to it had come, by replies that are still there, and each reply to one may answer it.
+pub fn calls_go_by_their_plans()
+    ensures { (s : Setting) (past : List Entry) (lane : ℕ) (c : Call) → IsJournal s past
+        → current s past lane ≡ Some c → GoesByPlan s past lane c }
+{}
+
+/// A whole run is a run so far, and behind it each lane was let go, nothing is to be closed and nothing is
+/// unanswered.
+pub fn runs_are_journals()
+    ensures so_far { (s : Setting) (turns : List Turn) (past : List Entry) → IsRun s turns past → IsJournal s past }
+    ensures over { (s : Setting) (turns : List Turn) (past : List Entry) → IsRun s turns past → IsOver s past }
+{}
+
+/// Where a lane was let go and its grants are closed in the order of its slots, no grant at all is to be closed.
+pub fn letting_go_settles()
+    ensures { (s : Setting) (past now : List Entry) (lane : ℕ) → IsSettled s past
+        → current s past lane ≡ None → ClosesTo s (entry.LetGo lane ∷ past) now → orphan s now ≡ None
+        → IsSettled s now }
+{}
+
+/// Each grant has one CLOSE at most, and where it has one, it came by a HANDLE and nothing holds it any more.
+/// Behind a whole run each grant has one.
+pub fn grants_are_closed_once()
+    ensures once { (s : Setting) (past : List Entry) (g : ℕ) → IsJournal s past → closes_of s past g ≤ 1 }
+    ensures granted { (s : Setting) (past : List Entry) (g : ℕ) → IsJournal s past
+        → is_one_of (closed s past) g ≡ true → (is_grant past g ≡ true) × (is_held s past g ≡ false) }
+    ensures all { (s : Setting) (turns : List Turn) (past : List Entry) (g : ℕ) → IsRun s turns past
+        → is_grant past g ≡ true → closes_of s past g ≡ 1 }
+{}
+
+/// No handle was closed more often than it was granted, and behind a whole run each was closed exactly as often.
+pub fn handles_are_closed()
+    ensures so_far { (s : Setting) (past : List Entry) (handle : List ℕ) → IsJournal s past
+        → times handle (closed_handles past) ≤ times handle (granted_handles past) }
+    ensures all { (s : Setting) (turns : List Turn) (past : List Entry) → IsRun s turns past → AreClosed past }
+{}
+
+/// In a run so far the buffer has no bytes where a READ is under way for a lane's buffered file, and the request is a
+/// READ at the file's offset: so the bytes of a DATA that may answer it end within the range of offsets.
+pub fn reads_under_way_fit()
+    ensures stand { (s : Setting) (past : List Entry) (lane : ℕ) → IsJournal s past
+        → ReadsStand (submitted_at past) (site_of s past lane) }
+    ensures fits { (s : Setting) (past : List Entry) (lane k p : ℕ) (file : FileAt) (buffer : Buffer) (a : Asked)
+        (bytes : List ℕ) → IsJournal s past → slot_at (site_of s past lane) k ≡ Buffered file buffer
+        → buffer.reading ≡ Some p → asked_at past p ≡ Some a → may_answer a.request (Content bytes) ≡ true
+        → length bytes ≤ (2 ^ 64 - 1) - file.offset }
+{}

@@ -1,0 +1,58 @@
+-- The grants that are due are closed, one after another.
+use Rattle.std.specs.Prelude.{◌≡◌, ◌<◌, ◌≤◌, ◌+◌, ◌^◌, ℕ, List, ◌∷◌, length, None, slice_set}
+use Rattle.session_model.specs.declared.entry.Entry.{Entry}
+use Rattle.session_model.specs.Calls.{Setting}
+use Rattle.session_model.specs.Grants.{letting_go}
+use Rattle.session_model.specs.Turns.{ClosesTo}
+use Rattle.session_driver.specs.Session.{IsLater}
+use Rattle.session_laws.specs.Changes.{closed_lane}
+use Rattle.session_laws.specs.Dues.{loose_of}
+use Rattle.session_laws.specs.Lanes.{Held, grant_places}
+use Rattle.session_laws.specs.Ends.{close_entry, let_go}
+use Rattle.session_laws.specs.Rest.{Between, weigh}
+use Rattle.session_work.specs.declared.lanes.Lanes.{Lanes}
+use Rattle.session_work.specs.Working.{Contents, Stands, Works, contents_of, lane_in, lanes_left}
+
+-- the grant at an index of a lane's was closed
+abbrev pub closed_in : Contents → ℕ → ℕ → Held → Contents
+closed_in c lane k g =
+    record {
+      calls = c.calls;
+      core = let_go c.core g.grant;
+      facts = c.facts;
+      past = close_entry g.grant ∷ c.past;
+      asked = c.asked + 1;
+      states = slice_set c.states lane (closed_lane (lane_in c.states lane) k);
+      begun = c.begun;
+    }
+
+pub record HasClosed (old new : Contents) (lane k : ℕ) (g : Held) : Type 0 where
+  pub is : new ≡ closed_in old lane k g
+  pub small : g.grant.id < 2 ^ 32
+
+-- A lane runs no call, and those of its grants are due that no slot has; the journal went on from `before` by CLOSEs of
+-- grants that were due.
+pub record Closing (s : Setting) (before : List Entry) (lane : ℕ) (c : Contents) : Type 0 where
+  pub stands : Stands s c
+  pub there : lane < length s.lanes
+  pub plain : letting_go s c.past ≡ None
+  pub idle : (lane_in c.states lane).running ≡ None
+  pub between : Between s c.past c.core (lane_in c.states) c.begun
+      (loose_of (lane_in c.states lane).site (grant_places (lane_in c.states lane).grants))
+  pub closes : ClosesTo s before c.past
+  pub later : IsLater s before c.past
+
+abbrev pub IsClosing : ℕ → Lanes → Type 0
+IsClosing lane w = (s : Setting) × ((before : List Entry) × Closing s before lane (contents_of w))
+
+-- they are closed: the session is at rest, and there is no more to do than before
+pub record IsClosed (s : Setting) (before : List Entry) (old new : Contents) : Type 0 where
+  pub works : Works s new
+  pub closes : ClosesTo s before new.past
+  pub later : IsLater s before new.past
+  pub begun : new.begun ≡ old.begun
+  pub left : lanes_left new.facts new.past new.calls 0 ≡ lanes_left old.facts old.past old.calls 0
+  pub work : weigh new.core ≤ weigh old.core
+
+abbrev pub Closed : Setting → List Entry → ℕ → Contents → Contents → Type 0
+Closed s before lane old new = Closing s before lane old → IsClosed s before old new

@@ -1,0 +1,44 @@
+-- A lane is let go, slot by slot.
+use Rattle.std.specs.Prelude.{◌≡◌, ◌<◌, ℕ, false, List, ◌∷◌, length, None}
+use Rattle.sftp_model.specs.declared.slot.Slot.{Slot}
+use Rattle.session_model.specs.declared.entry.Entry.{Entry}
+use Rattle.session_model.specs.declared.entry.Entry.TheVariants as entry
+use Rattle.session_model.specs.Calls.{Setting, current}
+use Rattle.session_model.specs.Readings.{was_let_go}
+use Rattle.session_model.specs.Turns.{ClosesTo}
+use Rattle.session_driver.specs.Session.{IsLater}
+use Rattle.session_laws.specs.Ends.{LettingGo}
+use Rattle.session_work.specs.declared.lanes.Lanes.{Lanes}
+use Rattle.session_work.specs.Working.{Contents, IsWorking, Stands, Works, contents_of, lane_in, past_of}
+
+-- A lane is being let go, and of the slots that it had these are left; the journal went on from `before` by CLOSEs of
+-- grants that were to be closed.
+pub record Letting (s : Setting) (before : List Entry) (lane : ℕ) (c : Contents) (rest : List Slot) : Type 0 where
+  pub stands : Stands s c
+  pub there : lane < length s.lanes
+  pub idle : (lane_in c.states lane).running ≡ None
+  pub going : LettingGo s c.past c.core (lane_in c.states) c.begun lane rest
+  pub closes : ClosesTo s before c.past
+  pub later : IsLater s before c.past
+
+abbrev pub IsLetting : ℕ → Lanes → List Slot → Type 0
+IsLetting lane w rest = (s : Setting) × ((before : List Entry) × Letting s before lane (contents_of w) rest)
+
+-- a lane is noted as let go, and nothing else has changed
+abbrev pub gone_in : Contents → ℕ → Contents
+gone_in c lane = record c { past = entry.LetGo lane ∷ c.past }
+
+-- the lane has no call left, and was not let go
+abbrev pub IsDone : ℕ → Lanes → Type 0
+IsDone lane w = (s : Setting) × (IsWorking s w × ((current s (past_of w) lane ≡ None)
+    × (was_let_go (past_of w) lane ≡ false)))
+
+-- its slots are passed: the session is at rest
+pub record IsLetGo (s : Setting) (before : List Entry) (old new : Contents) : Type 0 where
+  pub works : Works s new
+  pub closes : ClosesTo s before new.past
+  pub later : IsLater s before new.past
+  pub begun : new.begun ≡ old.begun
+
+abbrev pub LetGo : Setting → List Entry → ℕ → Contents → Contents → List Slot → Type 0
+LetGo s before lane old new rest = Letting s before lane old rest → IsLetGo s before old new

@@ -1,0 +1,130 @@
+-- What is noted of a lane's turn.
+use Rattle.std.specs.Prelude.{
+  ◌≡◌,
+  ◌≢◌,
+  ◌<◌,
+  ◌+◌,
+  ℕ,
+  Bool,
+  true,
+  false,
+  if◌then◌else◌,
+  List,
+  ◌∷◌,
+  length,
+  Option,
+  Some,
+  None,
+  is_some,
+  slice_get,
+  slice_set,
+}
+use Rattle.sftp_core.specs.Core.{Core}
+use Rattle.plan_model.specs.declared.call.Call.{Call}
+use Rattle.plan_model.specs.declared.call.Lane.{Lane}
+use Rattle.session_model.specs.declared.event.Event.TheVariants.{End, Submit}
+use Rattle.session_model.specs.declared.event.Owner.TheVariants as owner
+use Rattle.session_model.specs.declared.entry.Entry.TheVariants as entry
+use Rattle.session_model.specs.Calls.{Setting}
+use Rattle.session_model.specs.Turns.{begun_but, begun_with}
+use Rattle.sftp_model.specs.declared.outcome.Outcome.{Outcome}
+use Rattle.sftp_model.specs.declared.request.Request.{Request}
+use Rattle.session_driver.specs.declared.session.Stepped.{Stepped}
+use Rattle.session_laws.specs.Changes.{ended_lane}
+use Rattle.session_laws.specs.Lanes.{LaneValue}
+use Rattle.session_laws.specs.Rest.{awaited_in}
+use Rattle.session_lane.specs.Rests.{IsSmall, Leaves}
+use Rattle.session_lane.specs.declared.lane.Moved.{Moved}
+use Rattle.session_lane.specs.declared.lane.Moved.TheVariants as moved
+use Rattle.session_work.specs.declared.lanes.Lanes.{Lanes}
+use Rattle.session_work.specs.Working.{Contents, StepsIn, Works, contents_of, lane_in}
+
+-- ---- the call of a lane
+
+-- the call of a lane by its number, where there is one
+abbrev pub call_by : Option Lane → Option LaneValue → Option Call
+call_by None state = None
+call_by (Some lane) None = None
+call_by (Some lane) (Some v) = slice_get lane.calls v.ended
+
+abbrev pub call_in : List Lane → List LaneValue → ℕ → Option Call
+call_in lanes states lane = call_by (slice_get lanes lane) (slice_get states lane)
+
+-- ---- entries
+
+-- a request of a lane's call was submitted
+abbrev pub asked_in : Contents → ℕ → ℕ → ℕ → Request → Contents
+asked_in c lane n id r =
+    record c {
+      past = entry.Event (Submit (owner.Call lane n) id r) ∷ c.past;
+      asked = c.asked + 1;
+      begun =
+          begun_with c.begun lane;
+    }
+
+-- a lane's call ended
+abbrev pub ended_in : Contents → ℕ → ℕ → Outcome → Contents
+ended_in c lane n o =
+    record c {
+      past = entry.Event (End lane n o) ∷ c.past;
+      states = slice_set c.states lane (ended_lane (lane_in c.states lane) (lane_in c.states lane).site);
+      begun = begun_but c.begun lane;
+    }
+
+-- ---- in the midst of a step
+
+-- these lanes were begun before it
+abbrev pub amid : (ℕ → Bool) → Contents → Contents
+amid begun c = record c { begun = begun }
+
+-- the lanes but the one that is stepped run a call where they were begun
+abbrev pub OthersRun : (ℕ → Bool) → ℕ → List LaneValue → Type 0
+OthersRun begun lane states = (w : ℕ) → lane ≢ w → begun w ≡ is_some (lane_in states w).running
+
+abbrev pub KeepsOthers : ℕ → List LaneValue → List LaneValue → Type 0
+KeepsOthers lane before now = (begun : ℕ → Bool) → OthersRun begun lane before → OthersRun begun lane now
+
+-- the session is at rest, but for a lane that may run a call which was not begun
+abbrev pub IsAmid : Lanes → Type 0
+IsAmid w = (s : Setting) × ((begun : ℕ → Bool) × Works s (amid begun (contents_of w)))
+
+-- ---- a turn that was not noted yet
+
+-- the lane had its turn: it has another value, and the core is another
+abbrev pub turned_in : Contents → ℕ → Core → LaneValue → Contents
+turned_in c lane new now = record c { core = new; states = slice_set c.states lane now }
+
+-- A lane of a session at rest had this turn, which the journal doesn't show yet.
+pub record Turning (s : Setting) (lane : ℕ) (old c : Contents) (m : Moved) : Type 0 where
+  pub works : Works s old
+  pub there : lane < length s.lanes
+  pub call : Call
+  pub calls : call_in old.calls old.states lane ≡ Some call
+  pub new : Core
+  pub now : LaneValue
+  pub is : c ≡ turned_in old lane new now
+  pub small : IsSmall m
+  pub same : now.ended ≡ (lane_in old.states lane).ended
+  pub leaves : Leaves s old.past old.core new (lane_in old.states) old.begun lane now m
+
+-- whether it went on without an entry
+abbrev pub is_went : Moved → Bool
+is_went moved.Went = true
+is_went other = false
+
+abbrev pub IsTurning : ℕ → Lanes → Moved → Type 0
+IsTurning lane w m = (s : Setting) × ((old : Contents) × (Turning s lane old (amid old.begun (contents_of w)) m
+    × OthersRun old.begun lane w.states.items))
+
+-- the lane has a call
+abbrev pub HasCall : Contents → ℕ → Type 0
+HasCall c lane = call_in c.calls c.states lane ≢ None
+
+-- how many turns without an entry the lane may still have: each spends a ticket, but the first that awaits a reply
+abbrev pub turns_left : LaneValue → ℕ
+turns_left v = length v.tickets + (if is_some (awaited_in v.running v.site) then 0 else 1)
+
+-- behind its note it is a step
+abbrev pub Noted : Setting → ℕ → Contents → Lanes → Contents → Moved → Stepped → Type 0
+Noted s lane old w new m event = Turning s lane old (amid old.begun (contents_of w)) m
+    → OthersRun old.begun lane w.states.items → StepsIn s lane old new event

@@ -1,0 +1,69 @@
+-- What the journal of a session is in every phase, also once it has failed.
+use Rattle.std.specs.Prelude.{◌≡◌, ◌<◌, ℕ, List, [], ◌∷◌, Option, Some, None, Result, length, vec_len, vec_capacity}
+use Rattle.sftp_model.specs.declared.error.Fault.{Fault}
+use Rattle.sftp_model.specs.declared.frame_error.FrameError.{FrameError}
+use Rattle.sftp_model.specs.declared.reply.Reply.{Reply}
+use Rattle.sftp_core.specs.declared.errors.TakeError.{TakeError}
+use Rattle.sftp_core.specs.Take.{IsFirst, fault_of}
+use Rattle.session_model.specs.declared.entry.Entry.{Entry}
+use Rattle.session_model.specs.declared.entry.Entry.TheVariants as entry
+use Rattle.session_model.specs.Calls.{Setting}
+use Rattle.session_model.specs.Journals.{IsJournal, IsNext}
+use Rattle.session_driver.specs.Refusals.{refuses}
+use Rattle.session_work.specs.declared.lanes.Lanes.{Lanes}
+use Rattle.session_work.specs.Reports.{AreReports, reports_of}
+use Rattle.session_work.specs.Working.{past_of}
+
+-- the fault that a journal keeps
+abbrev pub kept_in : List Entry → Option Fault
+kept_in [] = None
+kept_in (entry.Kept fault ∷ past) = Some fault
+kept_in (_ ∷ past) = kept_in past
+
+-- the journal once a fault came: it has one entry more where none was kept
+abbrev pub kept_past : Option Fault → Fault → List Entry → List Entry
+kept_past None fault past = entry.Kept fault ∷ past
+kept_past (Some first) fault past = past
+
+-- the journal once a frame was refused: it has the fault that the refusal keeps, where it keeps one
+abbrev pub refused_past : Option Fault → List Entry → List Entry
+refused_past None past = past
+refused_past (Some fault) past = entry.Kept fault ∷ past
+
+-- The journal is a run so far. It has the kept fault, and where none is kept a fault may come next.
+pub record IsSoFar (s : Setting) (fault : Option Fault) (past : List Entry) : Type 0 where
+  pub run : IsJournal s past
+  pub kept : fault ≡ kept_in past
+  pub next : fault ≡ None → (first : Fault) → IsNext s past (entry.Kept first)
+
+-- there is room for the entry of a fault, where none is kept
+abbrev pub HasRoom : Lanes → Type 0
+HasRoom w = w.core.fault ≡ None → vec_len w.journal < vec_capacity w.journal
+
+-- So many lanes are intact: there is room for the entry of a fault, and what is kept of each lane for its report is
+-- what the journal tells.
+pub record IsIntact (n : ℕ) (w : Lanes) : Type 0 where
+  pub room : HasRoom w
+  pub lists : length w.outcomes ≡ n
+  pub marks : length w.gone ≡ n
+  pub reports : AreReports (reports_of w) (past_of w)
+
+-- whatever the journal was a run so far of, it is one now
+abbrev pub StaysSoFar : Lanes → Lanes → Type 0
+StaysSoFar old new = (s : Setting) → IsSoFar s old.core.fault (past_of old) → IsSoFar s new.core.fault (past_of new)
+
+-- what a call leaves where there was no memory: the calls, the journal, the kept fault and what is kept for the report
+-- are as before
+pub record IsLeft (old new : Lanes) : Type 0 where
+  pub past : past_of new ≡ past_of old
+  pub fault : new.core.fault ≡ old.core.fault
+  pub reports : reports_of new ≡ reports_of old
+  pub calls : new.calls ≡ old.calls
+
+-- What the lanes of an open session leave where a frame was refused: this is the first thing that is wrong with it by
+-- the journal, or there was no memory; the fault that it keeps is the newest entry, and the calls are as before.
+pub record Refuses (body_reads : Result (Option ℕ × Reply) FrameError) (e : TakeError) (old new : Lanes) : Type 0 where
+  pub first : IsFirst e (refuses (past_of old) body_reads)
+  pub stays : StaysSoFar old new
+  pub noted : past_of new ≡ refused_past (fault_of e) (past_of old)
+  pub calls : new.calls ≡ old.calls

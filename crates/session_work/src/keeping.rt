@@ -1,0 +1,54 @@
+// A kept fault is an entry of the journal too.
+ghost use Rattle.std.specs.Prelude.{◌≡◌, ◌≤◌, ◌+◌, None, IfOk, IfErr, OnOk, vec_len, vec_capacity};
+ghost use Rattle.sftp_model.specs.ReplyReadings.{reply_at};
+ghost use Rattle.sftp_core.specs.Core.{failed_with};
+ghost use Rattle.sftp_core.specs.Take.{TakenFrom, IsTakeError, fault_of, take_refusal};
+ghost use Rattle.session_work.specs.SoFar.{HasRoom, kept_past, refused_past};
+ghost use Rattle.session_work.specs.Working.{past_of};
+
+use crate::closing::add_entry;
+use crate::lanes::Lanes;
+use session_model::Entry;
+use sftp_core::{Fault, TakeError, Taken};
+
+impl Lanes {
+    /// Keeps a fault where none is kept, also as the last entry of the journal.
+    pub fn keep(&mut self, fault: Fault)
+        requires room { HasRoom self.old }
+        ensures rest { self.new ≡ record self.old { core = failed_with self.old.core fault; journal = self.new.journal } }
+        ensures journal { past_of self.new ≡ kept_past self.old.core.fault fault (past_of self.old) }
+    {
+        if self.core.fault().is_none() {
+            add_entry(&mut self.journal, Entry::Kept(fault));
+        }
+        self.core.fail(fault);
+    }
+
+    /// Takes the body of one frame into the core, and has room then for two entries and that of a fault. Refused by the
+    /// first thing that is wrong with it, which is kept and noted, or for want of memory.
+    pub fn take_frame(&mut self, body: &[u8]) -> Result<Taken, TakeError>
+        requires unfailed { self.old.core.fault ≡ None }
+        requires room { HasRoom self.old }
+        ensures ok { IfOk result (λ told. TakenFrom (reply_at body.now) told self.old.core self.new.core) }
+        ensures only { OnOk result (take_refusal self.old.core (reply_at body.now) ≡ None) }
+        ensures journal { OnOk result (self.new.journal.items ≡ self.old.journal.items) }
+        ensures entries { OnOk result (vec_len self.new.journal + 3 ≤ vec_capacity self.new.journal) }
+        ensures rest { self.new ≡ record self.old { core = self.new.core; journal = self.new.journal } }
+        ensures refused { IfErr result (λ e. IsTakeError e (take_refusal self.old.core (reply_at body.now)) self.old.core self.new.core) }
+        ensures noted { IfErr result (λ e. past_of self.new ≡ refused_past (fault_of e) (past_of self.old)) }
+        ensures room { HasRoom self.new }
+    {
+        if self.journal.reserve(3).is_err() {
+            return Err(TakeError::OutOfMemory);
+        }
+        match self.core.take(body) {
+            Ok(taken) => Ok(taken),
+            Err(e) => {
+                if let Some(fault) = e.fault() {
+                    add_entry(&mut self.journal, Entry::Kept(fault));
+                }
+                Err(e)
+            }
+        }
+    }
+}

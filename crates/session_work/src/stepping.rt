@@ -1,0 +1,76 @@
+// One step of a lane.
+ghost use Rattle.std.specs.Prelude.{◌≡◌, ◌<◌, ◌+◌, ◌^◌, ℕ, Bool, true, length, vec_len, vec_capacity, IfOk, OnErr};
+ghost use Rattle.session_model.specs.Calls.{Setting};
+ghost use Rattle.session_lane.specs.declared.lane.Moved.{Moved as MovedValue};
+ghost use Rattle.session_work.specs.Noting.{HasCall, IsAmid, KeepsOthers, Turning, amid, is_went, turns_left};
+ghost use Rattle.session_work.specs.SoFar.{HasRoom, IsIntact, IsLeft};
+ghost use Rattle.session_work.specs.Working.{IsOpened, IsWorking, Steps, Works, contents_of, lane_in};
+
+use crate::lanes::Lanes;
+use crate::noting::current_call;
+use crate::reports::keep_moved;
+use session_driver::Stepped;
+use session_lane::Moved;
+use ssh_encoding::OutOfMemory;
+use std::alloc::Global;
+
+/// Room for the CLOSEs of so many grants and one more, and for three entries beside them.
+pub(crate) fn entries_for(grants: usize) -> Result<usize, OutOfMemory>
+    ensures { IfOk result (λ n. n ≡ grants + 4) }
+{
+    grants.checked_add(4).ok_or(OutOfMemory)
+}
+
+/// Whether a turn went on to another reply, and left nothing to note.
+fn is_went(moved: &Moved) -> bool
+    ensures { result ≡ is_went moved.now }
+{
+    match moved {
+        Moved::Went => true,
+        _ => false,
+    }
+}
+
+impl Lanes {
+    /// One turn of a lane that has a call. Refused for want of memory. It notes nothing.
+    fn turn(&mut self, alloc: Global, lane: u32) -> Result<Moved, OutOfMemory>
+        requires opened { IsAmid self.old }
+        requires call { HasCall (contents_of self.old) lane }
+        requires room { HasRoom self.old }
+        ensures turned { (s : Setting) (begun : ℕ → Bool) → Works s (amid begun (contents_of self.old)) → IfOk result (Turning s lane (amid begun (contents_of self.old)) (amid begun (contents_of self.new))) }
+        ensures number { IfOk result (λ m. (lane_in self.new.states.items lane).ended ≡ (lane_in self.old.states.items lane).ended) }
+        ensures fewer { IfOk result (λ m. is_went m ≡ true → turns_left (lane_in self.new.states.items lane) < turns_left (lane_in self.old.states.items lane)) }
+        ensures journal { IfOk result (λ m. vec_len self.new.journal + length (lane_in self.new.states.items lane).grants + 1 < vec_capacity self.new.journal) }
+        ensures others { IfOk result (λ m. KeepsOthers lane self.old.states.items self.new.states.items) }
+        ensures left { IsLeft self.old self.new }
+        ensures room { HasRoom self.new }
+    {
+        let Some(call) = current_call(self.calls.as_slice(), &self.states, lane) else {
+            unreachable!()
+        };
+        let state = &mut self.states[lane as usize];
+        self.journal.reserve(entries_for(state.grant_count())?)?;
+        state.turn(alloc, &mut self.core, call, self.asked, &self.facts)
+    }
+
+    /// One step of a lane: turns of its call, up to one that leaves an entry or waits. Refused for want of memory.
+    pub fn step(&mut self, alloc: Global, lane: u32) -> Result<Stepped, OutOfMemory>
+        requires opened { IsOpened self.old }
+        requires intact { IsIntact (length self.old.calls) self.old }
+        ensures steps { (s : Setting) → IsWorking s self.old → IfOk result (λ event. Steps s lane self.old self.new event) }
+        ensures left { OnErr result (IsLeft self.old self.new) }
+        ensures intact { IsIntact (length self.old.calls) self.new }
+    {
+        if current_call(self.calls.as_slice(), &self.states, lane).is_none() {
+            return Ok(Stepped::Nothing);
+        }
+        let number = self.states[lane as usize].ended();
+        loop {
+            let moved = self.turn(alloc, lane)?;
+            if !is_went(&moved) {
+                keep_moved(alloc, &mut self.outcomes, lane as usize, &moved)?;
+                return Ok(self.note(lane, number, moved));
+            }
+        }
+    }
+}

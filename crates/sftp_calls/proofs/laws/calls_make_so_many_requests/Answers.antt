@@ -1,5 +1,0 @@
-use Rattle.sftp_calls.proofs.AskedLaws.{asked_work}
-use Rattle.sftp_calls.proofs.laws.calls_make_so_many_requests.Goals as goal
-
-pub returns : goal.returns
-returns c = asked_work

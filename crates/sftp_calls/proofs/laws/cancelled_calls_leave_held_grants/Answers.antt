@@ -1,5 +1,0 @@
-use Rattle.sftp_calls.proofs.CancelLaws.{cancelled_holds}
-use Rattle.sftp_calls.proofs.laws.cancelled_calls_leave_held_grants.Goals as goal
-
-pub returns : goal.returns
-returns c = cancelled_holds

@@ -1,5 +1,0 @@
-use Rattle.sftp_calls.proofs.CallLaws.{waits_missing}
-use Rattle.sftp_calls.proofs.laws.plans_wait_for_missing_replies.Goals as goal
-
-pub returns : goal.returns
-returns c = waits_missing

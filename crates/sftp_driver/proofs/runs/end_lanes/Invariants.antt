@@ -1,7 +1,0 @@
-use Rattle.std.proofs.Common.{Ok}
-use Rattle.sftp_driver.specs.Ongoing.{Ongoing, at}
-use Rattle.sftp_driver.proofs.Rounds.{first_ends}
-use Rattle.sftp_driver.proofs.runs.end_lanes.Given as goal
-
-abbrev pub invariant-loop-lane : goal.invariant-loop-lane
-invariant-loop-lane g l = Ongoing (first_ends l.lane) (at (g.X.RunsLanes.seen l.initial.session) (g.L.LinkState.state l.initial.link)) (at (g.X.RunsLanes.seen l.session) (g.L.LinkState.state l.link)) (Ok tt)

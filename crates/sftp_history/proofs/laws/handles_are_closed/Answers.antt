@@ -1,5 +1,0 @@
-use Rattle.sftp_history.proofs.AllClosedLaws.{handles_most, handles_closed}
-use Rattle.sftp_history.proofs.laws.handles_are_closed.Goals as goal
-
-pub returns : goal.returns
-returns c = record { so_far = handles_most; all = handles_closed }

@@ -1,6 +1,0 @@
-use Rattle.sftp_history.proofs.RequestLaws.{bearer_one}
-use Rattle.sftp_history.proofs.JournalLaws.{unanswered_borne, unanswered_apart}
-use Rattle.sftp_history.proofs.laws.ids_name_requests.Goals as goal
-
-pub returns : goal.returns
-returns c = record { one_id = bearer_one; borne = unanswered_borne; apart = unanswered_apart }

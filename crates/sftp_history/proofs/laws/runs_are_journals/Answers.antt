@@ -1,5 +1,0 @@
-use Rattle.sftp_history.proofs.OverLaws.{runs_are_journals, runs_are_over}
-use Rattle.sftp_history.proofs.laws.runs_are_journals.Goals as goal
-
-pub returns : goal.returns
-returns c = record { so_far = runs_are_journals; over = runs_are_over }

@@ -1,7 +1,0 @@
-use Rattle.sftp_lane.proofs.Awaiting.{lanes_await}
-use Rattle.sftp_lane.proofs.Ranges.{lanes_in_range}
-use Rattle.sftp_lane.proofs.Rests.{turns_leave}
-use Rattle.sftp_lane.proofs.laws.turns_leave_rest.Goals as goal
-
-pub returns : goal.returns
-returns c = record { turns = turns_leave; may = lanes_await; range = lanes_in_range }

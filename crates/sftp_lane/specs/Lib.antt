@@ -1,5 +1,0 @@
-pub mod Tokens
-pub mod Turning
-pub mod Holding
-pub mod Rests
-pub mod AwaitingRows

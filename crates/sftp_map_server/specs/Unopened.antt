@@ -1,0 +1,30 @@
+-- Servers of files and directories that nothing was sent to.
+use Rattle.std.specs.Prelude.{◌≡◌, ℕ, true, false, List, [], All, IfSome}
+use Rattle.sftp_model.specs.declared.config.Choice.{Choice}
+use Rattle.sftp_model.specs.declared.config.ServerConfig.{ServerConfig}
+use Rattle.sftp_model.specs.Fits.{FitsNumber, FitsSet, FitsLimits}
+use Rattle.machine_model.specs.FirstTree.{FirstFile, may_begin}
+use Rattle.sftp_map_server.specs.Serving.{Server, Serving, first_desk, opened}
+
+-- a server of these files and directories, which is to give its replies by these picks
+abbrev pub unopened : List FirstFile → List (List ℕ) → ServerConfig → List Choice → List ℕ → Serving
+unopened files dirs config choices picks = record {
+  first = opened (first_desk files dirs config choices) picks;
+  now = opened (first_desk files dirs config choices) picks;
+  log = [];
+  ended = false;
+}
+
+-- what the server offers and the choices' codes fit their fields
+pub record IsFitting (config : ServerConfig) (choices : List Choice) : Type 0 where
+  pub known : FitsSet config.extensions.0
+  pub limits : IfSome config.limits FitsLimits
+  pub codes : All (λ choice. FitsNumber choice.refuse) choices
+
+-- the first state of a server of some files and directories, which can tell what it offers
+pub record IsUnopened (first : Server) : Type 0 where
+  pub files : List FirstFile
+  pub dirs : List (List ℕ)
+  pub may : may_begin files dirs ≡ true
+  pub is : first ≡ opened (first_desk files dirs first.desk.machine.config first.desk.choices) first.output.picks
+  pub fits : IsFitting first.desk.machine.config first.desk.choices

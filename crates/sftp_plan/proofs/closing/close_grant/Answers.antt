@@ -1,5 +1,0 @@
-use Rattle.sftp_plan.proofs.Asking.{close_asks}
-use Rattle.sftp_plan.proofs.closing.close_grant.Goals as goal
-
-pub returns-clause-grants : goal.returns-clause-grants
-returns-clause-grants c old has = close_asks c.args.place c.args.grant old has

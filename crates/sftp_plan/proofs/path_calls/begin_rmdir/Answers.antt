@@ -1,5 +1,0 @@
-use Rattle.std.proofs.Common.{sym}
-use Rattle.sftp_plan.proofs.path_calls.begin_rmdir.Goals as goal
-
-pub returns-clause-goes : goal.returns-clause-goes
-returns-clause-goes c = rw (sym c.in_ok-path.ensures) c.ask_path.ensures.goes

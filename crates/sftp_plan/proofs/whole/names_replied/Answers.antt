@@ -1,4 +1,0 @@
-use Rattle.sftp_plan.proofs.whole.names_replied.Goals as goal
-
-pub returns-in-Names-clause-goes : goal.returns-in-Names-clause-goes
-returns-in-Names-clause-goes c bytes = rw c.in-Names.is (c.names_came.ensures.goes bytes)

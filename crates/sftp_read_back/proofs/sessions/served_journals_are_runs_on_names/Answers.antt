@@ -1,5 +1,0 @@
-use Rattle.sftp_read_back.proofs.NamedLaws.{served_run_on}
-use Rattle.sftp_read_back.proofs.sessions.served_journals_are_runs_on_names.Goals as goal
-
-pub returns : goal.returns
-returns c = served_run_on

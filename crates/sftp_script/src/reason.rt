@@ -1,0 +1,36 @@
+//! What a line can be refused for.
+
+/// Why a line of a script is refused.
+#[derive(Clone, Copy, Debug, PartialEq, Eq, thiserror::Error)]
+pub enum Reason {
+    /// The script has more than 16777216 bytes.
+    #[error("size")]
+    Size,
+    /// The words of the command line are none of the program's.
+    #[error("words")]
+    Words,
+    /// The first word is no word of a script.
+    #[error("word")]
+    Word,
+    /// A call stands before the first lane.
+    #[error("lane")]
+    Lane,
+    /// The line has too few words or too many.
+    #[error("count")]
+    Count,
+    /// A number is misspelled.
+    #[error("number")]
+    Number,
+    /// Bytes in hexadecimal digits are misspelled.
+    #[error("hex")]
+    Hex,
+    /// A fixed word is none of its list.
+    #[error("mode")]
+    Mode,
+    /// A value is out of its range.
+    #[error("range")]
+    Range,
+    /// The same was said before.
+    #[error("repeat")]
+    Repeat,
+}

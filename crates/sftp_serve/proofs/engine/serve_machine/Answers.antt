@@ -1,0 +1,14 @@
+use Rattle.std.proofs.Common.{rules}
+use Rattle.sftp_link.specs.Told.{Told}
+use Rattle.sftp_serve.specs.Serving.{HaltsAll}
+use Rattle.sftp_serve.specs.Stream.{first_state}
+use Rattle.sftp_serve.proofs.Ends.{serves_stream}
+use Rattle.sftp_serve.proofs.engine.serve_machine.Goals as goal
+
+pub returns-clause-serves : goal.returns-clause-serves
+returns-clause-serves g c =
+    let before = g.L.LinkState.state c.args.link.now in
+    let now = g.L.LinkState.state c.serve_frames.new.link in
+    let halts : Told (HaltsAll (first_state c.args.machine) c.serve_frames.result now.ended) before.log now.log = search rules in
+    serves_stream (first_state c.args.machine) c.serve_frames.result before now c.serve_frames.ensures.status c.requires
+    halts c.serve_frames.ensures.ended c.serve_frames.ensures.fault

@@ -1,0 +1,7 @@
+use Rattle.sftp_serve.specs.Words.{script_state}
+use Rattle.sftp_serve.proofs.Ends.{any_ok, starved_serves}
+use Rattle.sftp_serve.proofs.serve.serve.Goals as goal
+
+pub returns-in-Err-OutOfMemory-clause-serves : goal.returns-in-Err-OutOfMemory-clause-serves
+returns-in-Err-OutOfMemory-clause-serves g c =
+    any_ok _ _ (λ script. starved_serves (script_state script) (g.L.LinkState.state c.args.link.now) c.requires)

@@ -1,0 +1,62 @@
+//! A server of files and directories in memory on standard input and output, as an SFTP version 3 server answers
+//! (draft-ietf-secsh-filexfer-02).
+#![tactic(auto)]
+
+mod engine;
+mod laws;
+mod serve;
+mod server;
+mod stop;
+#[cfg(test)]
+mod tests;
+mod words;
+
+pub use laws::other_extensions_are_answered;
+pub use serve::serve;
+use sftp_link::{Duplex, ReadSource, WriteSink};
+use std::env;
+use std::io::ErrorKind;
+use std::process::ExitCode;
+
+/// Serves what the words of the command line say, or writes the text that `--help` and `--version` ask for. A status that is
+/// not 0 is told on standard error.
+fn main(rt: HostRuntime) -> ExitCode {
+    let mut words = Vec::new(rt.alloc());
+    let mut unread = None;
+    match env::args(&rt) {
+        Ok(args) => {
+            for word in args.skip(1) {
+                if words.push(word).is_err() {
+                    unread = Some(stop::OUT_OF_MEMORY);
+                }
+            }
+        }
+        Err(error) if error.kind() == ErrorKind::OutOfMemory => unread = Some(stop::OUT_OF_MEMORY),
+        // an argument that is no text is a word that is refused
+        Err(_) => unread = Some(serve::WORDS),
+    }
+    let status = if let Some(status) = unread {
+        status
+    } else if let Some(text) = words::text_for(&words) {
+        match rt.print(text) {
+            Ok(()) => 0,
+            Err(_) => stop::LINK_FAULT,
+        }
+    } else {
+        let mut link = Duplex::new(ReadSource::new(rt.stdin()), WriteSink::new(rt.stdout()));
+        serve(rt.alloc(), &words, &mut link)
+    };
+    if let Some(cause) = words::cause_of(status) {
+        let refused = if status == serve::WORDS {
+            words::refused_word(rt.alloc(), &words)
+        } else {
+            Ok(None)
+        };
+        // where standard error fails too there is nobody to tell
+        let _ = match refused {
+            Ok(Some((number, why))) => eprintln!(rt; "sftp_serve: word {number} {why}"),
+            _ => eprintln!(rt; "sftp_serve: {cause}"),
+        };
+    }
+    ExitCode::from(status)
+}

@@ -1,0 +1,194 @@
+// What is said to the body of a frame.
+ghost use Rattle.std.specs.Prelude.{◌≡◌, IfOk, false};
+ghost use Rattle.sftp_model.specs.Answers.{IsAfterHello, status};
+ghost use Rattle.sftp_model.specs.Numbers.{SSH_FX_OP_UNSUPPORTED};
+ghost use Rattle.sftp_map_server.specs.Serving.{id_of as id_by, is_hello as is_hello_by};
+ghost use Rattle.sftp_serve.specs.Stream.{IsSaid, machine_answer, every_choice, id_in as id_in_by, is_welcome as is_welcome_by, said, to_refused, to_request, unknown_id as unknown_id_by, unsupported, welcomed};
+
+use sftp_machine::Machine;
+use sftp_map_server::{frame_of, version};
+use sftp_model::numbers::{MAX_TRANSFER_LEN, SSH_FX_OP_UNSUPPORTED, SSH_FXP_EXTENDED};
+use sftp_model::{Choice, FormatKind, FrameError, Reply, Request};
+use sftp_values::ByteText;
+use sftp_wire::read_request;
+use ssh_encoding::OutOfMemory;
+use std::alloc::Global;
+use std::marker::Model;
+
+/// A machine, and whether the hello came.
+#[derive(Drop)]
+pub(crate) struct Server {
+    alloc: Global,
+    machine: Machine,
+    greeted: bool,
+}
+
+impl Model for Server {
+    ghost use Rattle.sftp_serve.specs.Stream.{ServedState};
+
+    ghost Value = { ServedState };
+
+    ghost view = { λ s. record { greeted = s.greeted; machine = s.machine } };
+}
+
+/// What is done with each request: none is refused, and a DATA is cut to what a frame can bring.
+fn every_choice() -> Choice
+    ensures { result ≡ every_choice }
+{
+    Choice {
+        refuse: 0,
+        cap: MAX_TRANSFER_LEN,
+    }
+}
+
+/// Whether a request is the hello.
+fn is_hello(request: &Request) -> bool
+    ensures { result ≡ is_hello_by request.now }
+{
+    match request {
+        Request::Init { .. } => true,
+        _ => false,
+    }
+}
+
+/// Whether a request is the hello of a client that knows version 3.
+fn is_welcome(request: &Request) -> bool
+    ensures { result ≡ is_welcome_by request.now }
+{
+    match request {
+        Request::Init { version } => *version >= 3,
+        _ => false,
+    }
+}
+
+/// The id of a request; the hello has none.
+fn id_of(id: Option<u32>) -> u32
+    ensures { result ≡ id_by id }
+{
+    match id {
+        Some(id) => id,
+        None => 0,
+    }
+}
+
+/// The id after the type of a body.
+fn id_in(body: &[u8]) -> Option<u32>
+    ensures { result ≡ id_in_by body.now }
+{
+    if body.len() < 5 {
+        return None;
+    }
+    Some(u32::from_be_bytes([body[1], body[2], body[3], body[4]]))
+}
+
+/// The id of a body that is no request since the name of its extension isn't known.
+fn unknown_id(body: &[u8], e: FrameError) -> Option<u32>
+    ensures { result ≡ unknown_id_by body.now e }
+{
+    match e {
+        FrameError::Format(FormatKind::InvalidDiscriminant(kind)) => {
+            if kind == SSH_FXP_EXTENDED {
+                id_in(body)
+            } else {
+                None
+            }
+        }
+        _ => None,
+    }
+}
+
+/// The answer to an extension that isn't known.
+fn unsupported(alloc: Global) -> Reply
+    ensures { result ≡ status SSH_FX_OP_UNSUPPORTED }
+{
+    Reply::Status {
+        code: SSH_FX_OP_UNSUPPORTED,
+        message: ByteText::new(Vec::new(alloc)),
+        language: ByteText::new(Vec::new(alloc)),
+    }
+}
+
+impl Server {
+    /// Before the first frame.
+    pub(crate) fn new(alloc: Global, machine: Machine) -> Server
+        ensures { result ≡ record { greeted = false; machine = machine } }
+    {
+        Server {
+            alloc,
+            machine,
+            greeted: false,
+        }
+    }
+
+    // The hello is answered by VERSION.
+    fn greet(&mut self) -> Result<Vec<u8>, OutOfMemory>
+        ensures { IfOk result (λ frame. welcomed self.old ≡ (frame.items, self.new)) }
+    {
+        let frame = frame_of(self.alloc, &version(self.machine.config()), 0)?;
+        self.greeted = true;
+        Ok(frame)
+    }
+
+    // A request is answered by the machine.
+    fn serve(&mut self, id: Option<u32>, request: &Request) -> Result<Vec<u8>, OutOfMemory>
+        requires { IsAfterHello request.now }
+        ensures { IfOk result (λ frame. machine_answer self.old id request.now ≡ (frame.items, self.new)) }
+    {
+        let answered = self.machine.answer(request, every_choice())?;
+        let frame = frame_of(self.alloc, answered.reply(), id_of(id))?;
+        self.machine.commit(answered)?;
+        Ok(frame)
+    }
+
+    // Another extension is answered by a STATUS.
+    fn unsupported(&self, id: u32) -> Result<Vec<u8>, OutOfMemory>
+        ensures { IfOk result (λ frame. unsupported self.now id ≡ (frame.items, self.now)) }
+    {
+        frame_of(self.alloc, &unsupported(self.alloc), id)
+    }
+
+    // The answer to a request, of which the first is the hello.
+    fn respond(
+        &mut self,
+        id: Option<u32>,
+        request: &Request,
+    ) -> Result<Option<Vec<u8>>, OutOfMemory>
+        ensures { IfOk result (λ frame. IsSaid (to_request self.old id request.now) frame self.new) }
+    {
+        if !self.greeted {
+            if is_welcome(request) {
+                return Ok(Some(self.greet()?));
+            }
+            return Ok(None);
+        }
+        if is_hello(request) {
+            return Ok(None);
+        }
+        Ok(Some(self.serve(id, request)?))
+    }
+
+    // The answer to a body that reads as no request.
+    fn refuse(&self, body: &[u8], e: FrameError) -> Result<Option<Vec<u8>>, OutOfMemory>
+        ensures { IfOk result (λ frame. IsSaid (to_refused self.now body.now e) frame self.now) }
+    {
+        if !self.greeted {
+            return Ok(None);
+        }
+        match unknown_id(body, e) {
+            Some(id) => Ok(Some(self.unsupported(id)?)),
+            None => Ok(None),
+        }
+    }
+
+    /// The answer to the frame of a body; None where the frame may not come here. An Err comes only for want of memory.
+    #[tactic(auto, unfolding(crate::specs::Stream::said))]
+    pub(crate) fn answer(&mut self, body: &[u8]) -> Result<Option<Vec<u8>>, OutOfMemory>
+        ensures { IfOk result (λ frame. IsSaid (said self.old body.now) frame self.new) }
+    {
+        match read_request(self.alloc, body) {
+            Ok((id, request)) => self.respond(id, &request),
+            Err(FrameError::OutOfMemory) => Err(OutOfMemory),
+            Err(e) => self.refuse(body, e),
+        }
+    }
+}

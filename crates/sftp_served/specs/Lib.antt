@@ -1,2 +1,0 @@
-pub mod Unopened
-pub mod ServingLinks

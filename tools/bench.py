@@ -1,0 +1,275 @@
+#!/usr/bin/env python3
+"""Measures the program: how time and memory of the core alone, and of a run, grow with the requests in flight; how long many
+small files take over OpenSSH's server beside `sftp -b`, how long some files of a few kilobytes take up and down, and how long
+one large file takes; and how long OpenSSH's client takes over the server of crates/sftp_serve, beside its own. It prints tables,
+is no part of the gate, and takes half an hour or more.
+
+    python3 tools/bench.py [FIRST] [LAST]     requests in flight, doubled from FIRST to LAST: from 5000 to 40000
+
+A ratio of 2 at a doubling is linear. `sftp` waits for each reply, so it is measured at FIRST alone where replies are late.
+BENCH_LIMIT is the most seconds that one run may take: 1200. Memory below that of python3 itself, some 15 MiB, shows as that.
+"""
+import os, queue, resource, shutil, socket, subprocess, sys, tempfile, threading, time
+
+ROOT = os.path.dirname(os.path.dirname(os.path.abspath(__file__)))
+PROGRAM = ROOT + "/crates/sftp_cli/out/sftp_cli"
+LOAD = ROOT + "/crates/core_load/out/core_load"
+OUR_SERVER = ROOT + "/crates/sftp_serve/out/sftp_serve"
+SERVER = "/usr/lib/openssh/sftp-server"
+LIMIT = float(os.environ.get("BENCH_LIMIT", "1200"))
+# seconds by which each way to a late server is late
+DELAY = 0.010
+# so many files of so many bytes go up and down: as many as one script may hold
+FILES, FILE_BYTES = 1000, 8000
+# one file of so many bytes comes down, and one of so many goes up: as many as one script may hold
+LARGE_DOWN, LARGE_UP = 1 << 28, 8000000
+# what OpenSSH's client does over either server: so many files of so many bytes up and down, so many directories made and removed
+SERVED_FILES, SERVED_BYTES, SERVED_DIRECTORIES = 4, 1 << 24, 5000
+
+
+# ---- scripts
+
+def digits(text):
+    """The hexadecimal digits of a text, as scripts spell bytes."""
+    return text.encode().hex()
+
+
+def read_script(paths, files=""):
+    """A lane for each path: all OPENs are in flight at once, then all READs, then all CLOSEs."""
+    lanes = range(len(paths))
+    lines = ["option max_pending_requests 65535"]
+    lines += [files] if files else []
+    for path in paths:
+        lines += ["lane", "open 0 r " + digits(path), "read 0 5", "close 0"]
+    for call in range(3):
+        # the step that asks, and later the step that ends the call
+        lines += [f"step {lane}" for lane in lanes] + ["flush"] + ["take"] * len(paths)
+        lines += [f"step {lane}" for lane in lanes]
+    return "\n".join(lines) + "\n"
+
+
+def script_in_turns(calls, phases):
+    """Lanes of these calls, all in flight at once; each phase is a step of every lane, and says whether replies are taken then."""
+    lanes = range(len(calls))
+    lines = ["option max_pending_requests 65535"]
+    for lane in calls:
+        lines += ["lane"] + lane
+    for takes in phases:
+        lines += [f"step {lane}" for lane in lanes] + ["flush"] + ["take"] * (len(calls) if takes else 0)
+    return "\n".join(lines) + "\n"
+
+
+def files_up(paths):
+    """An OPEN, a WRITE and a CLOSE for each path."""
+    return script_in_turns([[f"fs_write {digits(path)} " + "61" * FILE_BYTES] for path in paths], [True, True, True])
+
+
+def files_down(paths):
+    """An OPEN, a READ and a CLOSE for each path."""
+    calls = [[f"open 0 r {digits(path)}", f"read_all 0 {FILE_BYTES}", "close 0"] for path in paths]
+    return script_in_turns(calls, [True, False, True, False, True, False])
+
+
+def large_up(path):
+    """A file that is written through a buffer: many WRITEs are in flight at once."""
+    lines = ["lane", f"open 0 wct {digits(path)}", "buffer 0 1048576", "buf_write_all 0 " + "61" * LARGE_UP, "buf_flush 0", "close 0"]
+    return "\n".join(lines) + "\n"
+
+
+def large_down(path):
+    """A file that is read to its end: 64 READs are in flight at once, in as many rounds as READs of 255 KiB want."""
+    lines = ["option read_window 64", "lane", f"fs_read {digits(path)} {LARGE_DOWN}", "step 0", "flush", "take"]
+    return "\n".join(lines + (["step 0"] * 64 + ["flush"] + ["take"] * 64) * (LARGE_DOWN // 261120 // 64 + 2)) + "\n"
+
+
+# ---- measuring
+
+def measure(folder, command, text):
+    """The seconds, and the greatest memory in MiB, of a command that reads this text; None where it failed."""
+    path = os.path.join(folder, "input")
+    with open(path, "w") as f:
+        f.write(text)
+    with open(path) as source:
+        start = time.monotonic()
+        child = subprocess.Popen(command, stdin=source, stdout=subprocess.DEVNULL, stderr=subprocess.DEVNULL)
+        timer = threading.Timer(LIMIT, child.kill)
+        timer.start()
+        _, status, usage = os.wait4(child.pid, 0)
+        seconds = time.monotonic() - start
+        timer.cancel()
+    child.returncode = status
+    return (seconds, usage.ru_maxrss / 1024) if status == 0 else None
+
+
+def best(folder, command, text, times=9):
+    """The quickest of some runs, since a short one varies."""
+    runs = [measure(folder, command, text) for _ in range(times)]
+    return min(runs) if all(runs) else None
+
+
+def row(words, result, before=None):
+    """Prints a line of a table, with its ratio to the line before; gives the result back."""
+    told = "failed, or over the limit" if result is None else f"{result[0]:10.2f} s {result[1]:9.1f} MiB"
+    if result and before:
+        told += f"   x {result[0] / before[0]:.2f} time, x {result[1] / before[1]:.2f} memory"
+    print(f"{words:62} {told}", flush=True)
+    return result
+
+
+# ---- a server, late or not
+
+def pass_on_later(read, write, close):
+    """Passes bytes on, each DELAY after it came."""
+    waiting = queue.Queue()
+
+    def send():
+        while True:
+            due, data = waiting.get()
+            time.sleep(max(0, due - time.monotonic()))
+            if not data:
+                return close()
+            write(data)
+
+    threading.Thread(target=send, daemon=True).start()
+    while True:
+        try:
+            data = read(65536)
+        except OSError:
+            data = b""
+        waiting.put((time.monotonic() + DELAY, data))
+        if not data:
+            return
+
+
+def serve_late(link):
+    """A server over one connection, whose bytes come late both ways."""
+    server = subprocess.Popen([SERVER], stdin=subprocess.PIPE, stdout=subprocess.PIPE, stderr=subprocess.DEVNULL, bufsize=0)
+    put = lambda data: os.write(server.stdin.fileno(), data)
+    get = lambda most: os.read(server.stdout.fileno(), most)
+    threading.Thread(target=pass_on_later, args=(link.recv, put, server.stdin.close), daemon=True).start()
+    threading.Thread(target=pass_on_later, args=(get, link.sendall, link.close), daemon=True).start()
+
+
+def serve(path, late):
+    """Listens at a path: a server for each connection."""
+    listener = socket.socket(socket.AF_UNIX)
+    listener.bind(path)
+    listener.listen()
+
+    def each():
+        while True:
+            link, _ = listener.accept()
+            if late:
+                serve_late(link)
+            else:
+                subprocess.Popen([SERVER], stdin=link, stdout=link, stderr=subprocess.DEVNULL)
+                link.close()
+
+    threading.Thread(target=each, daemon=True).start()
+
+
+# ---- tables
+
+def table_of_growth(folder, sizes):
+    """The core alone, and runs over the server in memory."""
+    print("the core alone")
+    before = None
+    for n in sizes:
+        before = row(f"{n} requests", best(folder, [LOAD, str(n)], ""), before)
+    print("over the server in memory")
+    before = None
+    for n in sizes:
+        script = read_script(["a"] * n, "file 61 68656c6c6f")
+        before = row(f"{n} lanes", measure(folder, [PROGRAM, "script"], script), before)
+
+
+def table_over_a_server(folder, sizes, names, late):
+    """Files over OpenSSH's server, by the program and by `sftp -b`."""
+    print("over OpenSSH's server" + (f", each way {DELAY * 1000:.0f} ms late" if late else ""))
+    path = os.path.join(folder, "late" if late else "socket")
+    serve(path, late)
+
+    def ours(words, script, before=None):
+        return row(words, measure(folder, [PROGRAM, "unix", path], script), before)
+
+    def theirs(words, lines, before=None):
+        sftp = ["sftp", "-q", "-b", "-", "-D", f"socat - UNIX-CONNECT:{path}"]
+        return row(words + ", sftp -b", measure(folder, sftp, "".join(line + "\n" for line in lines)), before)
+
+    before = None
+    for n in sizes:
+        before = ours(f"{n} files", read_script(names[:n]), before)
+    before = None
+    for n in sizes[:1] if late else sizes:
+        before = theirs(f"{n} files", [f"get {name} /dev/null" for name in names[:n]], before)
+
+    local = made(folder, "local", FILE_BYTES)
+    sent = [os.path.join(folder, f"sent{k}") for k in range(FILES)]
+    words = f"{FILES} files of {FILE_BYTES} bytes"
+    ours(words + " up", files_up(sent))
+    ours(words + " down", files_down(sent))
+    theirs(words + " up", [f"put {local} {name}" for name in sent])
+    theirs(words + " down", [f"get {name} /dev/null" for name in sent])
+
+    large, local_large = made(folder, "large", LARGE_DOWN), made(folder, "local-large", LARGE_UP)
+    sent_large = os.path.join(folder, "sent-large")
+    ours(f"{LARGE_UP} bytes up", large_up(sent_large))
+    theirs(f"{LARGE_UP} bytes up", [f"put {local_large} {sent_large}"])
+    ours(f"{LARGE_DOWN} bytes down", large_down(large))
+    theirs(f"{LARGE_DOWN} bytes down", [f"get {large} /dev/null"])
+
+
+def table_of_servers(folder):
+    """OpenSSH's client over the server in memory, and over OpenSSH's own, whose files are in a folder of the disk."""
+    print("OpenSSH's client over either server")
+    local, got = made(folder, "served-local", SERVED_BYTES), os.path.join(folder, "served-got")
+    files = [line for k in range(SERVED_FILES) for line in (f"put {local} f{k}", f"get f{k} {got}", f"rm f{k}")]
+    directories = [line for k in range(SERVED_DIRECTORIES) for line in (f"mkdir d{k}", f"rmdir d{k}")]
+    limits = "'server limits 262144 261120 261120 0'"
+    within = os.path.join(folder, "served")
+    os.mkdir(within)
+    for words, lines in (
+        (f"{SERVED_FILES} files of {SERVED_BYTES} bytes up and down", files),
+        (f"{SERVED_DIRECTORIES} directories made and removed", directories),
+    ):
+        for name, server, before in (("in memory", f"{OUR_SERVER} {limits}", []), ("OpenSSH's", SERVER, [f"cd {within}"])):
+            text = "".join(line + "\n" for line in before + lines)
+            row(f"{words}, {name}", best(folder, ["sftp", "-q", "-D", server, "-b", "-"], text, 3))
+
+
+def made(folder, name, length):
+    """A file of so many bytes."""
+    path = os.path.join(folder, name)
+    with open(path, "wb") as f:
+        f.truncate(length)
+    return path
+
+
+def main():
+    first = int(sys.argv[1]) if len(sys.argv) > 1 else 5000
+    last = int(sys.argv[2]) if len(sys.argv) > 2 else 40000
+    sizes = [first]
+    while sizes[-1] * 2 <= last:
+        sizes.append(sizes[-1] * 2)
+    for program in (LOAD, PROGRAM, OUR_SERVER):
+        if not os.access(program, os.X_OK):
+            sys.exit(f"bench: {program} is missing: run 'rt ci' first")
+    # each lane holds a handle of the server
+    most = resource.getrlimit(resource.RLIMIT_NOFILE)[1]
+    resource.setrlimit(resource.RLIMIT_NOFILE, (most, most))
+    with tempfile.TemporaryDirectory() as folder:
+        table_of_growth(folder, sizes)
+        missing = [tool for tool in (SERVER, "sftp", "socat") if not shutil.which(tool)]
+        if missing:
+            sys.exit(f"bench: no comparison with sftp, missing: {' '.join(missing)}")
+        table_of_servers(folder)
+        names = [os.path.join(folder, str(k)) for k in range(sizes[-1])]
+        for name in names:
+            with open(name, "w") as f:
+                f.write("hello")
+        for late in (False, True):
+            table_over_a_server(folder, sizes, names, late)
+
+
+if __name__ == "__main__":
+    main()
