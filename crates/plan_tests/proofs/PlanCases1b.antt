@@ -1,21 +1,17 @@
 -- States of plans drawn at random, each with the move or the site that an independent model gives.
-use Rattle.std.specs.Prelude.{◌≡◌, true, false, [], ◌∷◌, Some, None, refl}
-use Rattle.ssh_encoding.specs.Writing.{uint32, uint64, string}
+use Rattle.std.specs.Prelude.{◌≡◌, true, false, [], ◌∷◌, None, refl}
 use Rattle.sftp_model.specs.declared.request.Request.TheVariants as request
 use Rattle.sftp_model.specs.declared.reply.Reply.TheVariants as reply
 use Rattle.sftp_model.specs.declared.outcome.Outcome.TheVariants as outcome
 use Rattle.sftp_model.specs.declared.error.Error.TheVariants as error
 use Rattle.sftp_model.specs.declared.error.IoKind.TheVariants as kind
 use Rattle.sftp_model.specs.declared.slot.Move.TheVariants.{Ask, Wait, Done}
-use Rattle.sftp_model.specs.Frames.{request_body, attributes}
 use Rattle.sftp_model.specs.declared.slot.Slot.TheVariants.{File, Buffered}
 use Rattle.sftp_model.specs.Slots.{fresh_site, with_slot}
 use Rattle.plan_model.specs.declared.call.Call.TheVariants as call
 use Rattle.plan_model.specs.CallPlans.{cancelled, next}
 use Rattle.sftp_model.specs.Answers.{status}
-use Rattle.sftp_model.specs.OpenOptions.{nothing_chosen}
-use Rattle.plan_model.specs.FilePlans.{open_next}
-use Rattle.plan_model.specs.PlanWords.{known, facts, file_at, attributes_of}
+use Rattle.plan_model.specs.PlanWords.{known, facts, file_at}
 
 pub read_all_8_left : cancelled (call.ReadAll 0 8) (with_slot
     (with_slot (with_slot fresh_site 0 (File (file_at 1 true true 0))) 1 (File (file_at 1 false true 0))) 2

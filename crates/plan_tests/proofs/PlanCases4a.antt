@@ -7,7 +7,7 @@ use Rattle.sftp_model.specs.declared.reply.Reply.TheVariants as reply
 use Rattle.sftp_model.specs.declared.outcome.Outcome.TheVariants as outcome
 use Rattle.sftp_model.specs.declared.error.Error.TheVariants as error
 use Rattle.sftp_model.specs.declared.error.IoKind.TheVariants as kind
-use Rattle.sftp_model.specs.declared.slot.Move.TheVariants.{Ask, Wait, Done}
+use Rattle.sftp_model.specs.declared.slot.Move.TheVariants.{Wait, Done}
 use Rattle.sftp_model.specs.Frames.{request_body, attributes}
 use Rattle.sftp_model.specs.declared.slot.Slot.TheVariants.{File, Buffered}
 use Rattle.sftp_model.specs.Slots.{fresh_site, with_slot}

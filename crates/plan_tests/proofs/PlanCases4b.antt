@@ -1,12 +1,10 @@
 -- States of plans drawn at random, each with the move or the site that an independent model gives.
-use Rattle.std.specs.Prelude.{◌≡◌, true, false, [], ◌∷◌, Some, None, pos, negsuc, refl}
-use Rattle.std.specs.declared.io.traits.SeekFrom.TheVariants.{Start, End, Current}
+use Rattle.std.specs.Prelude.{◌≡◌, true, false, [], ◌∷◌, Some, None, refl}
 use Rattle.ssh_encoding.specs.Writing.{uint32, uint64, string}
 use Rattle.sftp_model.specs.declared.request.Request.TheVariants as request
 use Rattle.sftp_model.specs.declared.reply.Reply.TheVariants as reply
 use Rattle.sftp_model.specs.declared.outcome.Outcome.TheVariants as outcome
 use Rattle.sftp_model.specs.declared.error.Error.TheVariants as error
-use Rattle.sftp_model.specs.declared.error.IoKind.TheVariants as kind
 use Rattle.sftp_model.specs.declared.slot.Move.TheVariants.{Ask, Wait, Done}
 use Rattle.sftp_model.specs.Frames.{request_body, attributes}
 use Rattle.sftp_model.specs.declared.slot.Slot.TheVariants.{File, Buffered}

@@ -12,7 +12,7 @@ use Rattle.sftp_model.specs.Slots.{fresh_site, with_slot}
 use Rattle.plan_model.specs.declared.call.Call.TheVariants as call
 use Rattle.plan_model.specs.CallPlans.{cancelled, next}
 use Rattle.sftp_model.specs.Answers.{status}
-use Rattle.plan_model.specs.PlanWords.{known, facts, file_at, entry, attributes_of}
+use Rattle.plan_model.specs.PlanWords.{known, facts, file_at, attributes_of}
 
 pub fs_read_17 : next (call.FsRead (97 ∷ []) 2) (with_slot (with_slot
     (with_slot (record fresh_site { directory = (120 ∷ 47 ∷ []) }) 0

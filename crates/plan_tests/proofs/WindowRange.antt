@@ -1,34 +1,5 @@
 -- What a whole read asks next is within the range, where its window is as the tests have it.
-use Rattle.std.proofs.Common.{
-  ◌≡◌,
-  ◌<◌,
-  ◌≤◌,
-  ◌+◌,
-  ◌^◌,
-  ◌++◌,
-  ◌==◌,
-  ◌∙◌,
-  ap,
-  refl,
-  arith,
-  subst,
-  sym,
-  length,
-  map,
-  ℕ,
-  zero,
-  suc,
-  Bool,
-  true,
-  false,
-  List,
-  [],
-  ◌∷◌,
-  Option,
-  Some,
-  None,
-  if◌then◌else◌,
-}
+use Rattle.std.proofs.Common.{◌≡◌, ◌<◌, ◌≤◌, ◌++◌, ◌==◌, ◌∙◌, ap, refl, arith, subst, sym, length, map, ℕ, suc, Bool, true, false, List, [], ◌∷◌, Option, Some, None, if◌then◌else◌}
 use Rattle.std.specs.Prelude.{◌&&◌, is_some, nat_lt, nat_le, not, slice_index_or}
 use Rattle.std.proofs.lemmas.Bool.Decides.{nat_tests}
 use Rattle.sftp_model.specs.declared.reply.Reply.{Reply}
@@ -41,7 +12,7 @@ use Rattle.sftp_model.specs.declared.slot.Move.TheVariants.{Ask, Wait, Done}
 use Rattle.sftp_model.specs.declared.slot.Site.{Site}
 use Rattle.sftp_model.specs.Answers.{is_end_of_file, status}
 use Rattle.plan_model.specs.GoodMoves.{ReadsWithin}
-use Rattle.plan_model.specs.Moves.{Answers, Own, refused}
+use Rattle.plan_model.specs.Moves.{Answers, Own}
 use Rattle.plan_model.specs.WindowPlans.{await_first, brings_content, contents, ends_or, first_refusal, gaps, least_end, reaches, unless_refused, window_next}
 use Rattle.plan_window.specs.declared.window.Answered.{Answered}
 use Rattle.plan_window.specs.declared.window.ReadAt.{ReadAt}

@@ -1,5 +1,5 @@
 -- Sites within their bounds.
-use Rattle.std.proofs.Common.{◌≡◌, ◌∙◌, ◌≤◌, ◌-◌, ◌^◌, ap, refl, subst, sym, arith, false, ℕ, zero, suc, List, [], ◌∷◌, Option, length}
+use Rattle.std.proofs.Common.{◌≡◌, ◌∙◌, ap, refl, subst, sym, arith, false, ℕ, zero, suc, List, [], ◌∷◌, Option, length}
 use Rattle.std.specs.Prelude.{replicate, slice_index_or, slice_set}
 use Rattle.sftp_model.specs.declared.reply.Reply.{Reply}
 use Rattle.sftp_model.specs.declared.slot.Facts.{Facts}

@@ -1,5 +1,4 @@
-use Rattle.std.proofs.Common.{◌≡◌, ◌∙◌, rules, arith, sym, length, ℕ, List, [], ◌∷◌, Some}
-use Rattle.std.proofs.lemmas.Bool.Decides.{nat_tests}
+use Rattle.std.proofs.Common.{◌≡◌, ◌∙◌, rules, sym, length, [], ◌∷◌, Some}
 use Rattle.plan_window.specs.Windows.{first_of}
 use Rattle.plan_tests.proofs.WindowRange.{alone, last_within, single}
 use Rattle.plan_tests.proofs.whole_reads.is_last.Goals as goal

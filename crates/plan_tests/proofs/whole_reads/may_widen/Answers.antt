@@ -1,4 +1,4 @@
-use Rattle.std.proofs.Common.{◌≡◌, ◌≤◌, ◌∙◌, rules, arith, sym, length, [], Some}
+use Rattle.std.proofs.Common.{◌≡◌, ◌∙◌, rules, arith, sym, length, [], Some}
 use Rattle.std.proofs.lemmas.Bool.Decides.{nat_tests}
 use Rattle.plan_window.specs.Windows.{first_of}
 use Rattle.plan_tests.proofs.WindowRange.{alone, empty, full_within, one_within}
