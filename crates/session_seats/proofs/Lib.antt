@@ -1,0 +1,11 @@
+pub mod Lists
+pub mod Steps
+pub mod SeatSteps
+pub mod HoldLaws
+pub mod NewSeatLaws
+pub mod GrowLaws
+pub mod JoinLaws
+pub mod CoverLaws
+pub mod UserLaws
+pub mod HomeLaws
+pub mod KeptRows

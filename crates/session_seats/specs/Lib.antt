@@ -1,0 +1,9 @@
+pub mod Sights
+pub mod Rules
+pub mod Holds
+pub mod NewSeats
+pub mod Closes
+pub mod Covers
+pub mod Users
+pub mod SeatRows
+pub mod RuleRows

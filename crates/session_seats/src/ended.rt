@@ -1,0 +1,172 @@
+//! The end of a shared value: its seats are taken in, and it is taken out.
+ghost use Rattle.std.specs.Prelude.{◌≡◌, ◌∷◌, ◌++◌, ◌+◌, ◌≤◌, length, true, vec_capacity, vec_len, IfOk, IfErr};
+ghost use Rattle.std.specs.List.{list_all};
+ghost use Rattle.session_seats.specs.Closes.{AllOf, AllWhole, CanJoin, Closes, HandsBack, JoinsAll, Returns, TakesOut, claims_of, receipts_of, whole_of};
+ghost use Rattle.session_seats.specs.Covers.{Complete, Covers};
+
+use crate::rule::{Check, Held, TakeIn};
+use crate::seat::Seat;
+use crate::shared::Shared;
+use crate::view::{Receipt, View};
+use atomic_table::Seat as Inner;
+use std::alloc::Global;
+use std::mem;
+use std::sync::Wait;
+
+/// What a shared value leaves: the value, and for each seat its receipts.
+#[derive(Drop)]
+pub struct Ended<S: Drop> {
+    pub value: S,
+    pub receipts: Vec<Vec<Receipt>>,
+}
+
+/// Whether a shared value may be taken out; if not, `E` tells why.
+pub trait Ending<S: Held, E> {
+    ghost use Rattle.std.specs.Prelude.{OnOk, IfErr};
+
+    // What the value is where it may be taken out.
+    ghost allows: { Self → S → Type 0 };
+    // Why it may not be.
+    ghost refuses: { Self → S → E → Type 0 };
+
+    /// Looks at the value.
+    fn look(&self, value: &S) -> Result<(), E>
+        ensures allowed { OnOk result (allows self.now value.now) }
+        ensures refused { IfErr result (refuses self.now value.now) };
+}
+
+/// A shared value was not taken out. Its seats come back with all their receipts.
+#[derive(Drop)]
+pub struct NotEnded<S: Held + Drop, E: Drop> {
+    /// Why it may not be taken out. None where memory was wanting, now or earlier for a receipt of one of the seats.
+    pub error: Option<E>,
+    pub seat: Seat<S>,
+    pub others: Vec<Seat<S>>,
+}
+
+impl<S: Held + Drop> Shared<S> {
+    /// Takes the seats in, and the value out, where it may be taken out; the value `empty` is dropped in its place. With Ok there are the
+    /// receipts of each seat in the order of the seats. With an Err no seat was taken in, and each comes back with its receipts.
+    pub fn close<E: Drop, X: Ending<S, E>, R: Wait>(
+        self,
+        rt: &R,
+        alloc: Global,
+        seat: Seat<S>,
+        others: Vec<Seat<S>>,
+        empty: S,
+        ending: &X,
+    ) -> Result<Ended<S>, NotEnded<S, E>>
+        requires own { AllOf self.table.shared.table_id (seat ∷ others.items) }
+        ensures closes { IfOk result (λ r. Closes S.shown (seat ∷ others.items) r × X.allows ending.now r.value) }
+        ensures covers { IfOk result (λ r. Complete (claims_of (seat ∷ others.items)) → Covers S.shown r) }
+        ensures kept { IfErr result (λ n. HandsBack S.shown (X.refuses ending.now) seat others.items n.error n.seat n.others.items) }
+    {
+        let mut lists = Vec::new(alloc);
+        if lists.reserve(others.len().saturating_add(1)).is_err() {
+            return Err(NotEnded {
+                error: None,
+                seat,
+                others,
+            });
+        }
+        if !has_all(&seat, &others) {
+            return Err(NotEnded {
+                error: None,
+                seat,
+                others,
+            });
+        }
+        let (mut inner, receipts) = match self.take_out(rt, seat, ending) {
+            Ok(taken) => taken,
+            Err((e, seat)) => {
+                return Err(NotEnded {
+                    error: Some(e),
+                    seat,
+                    others,
+                });
+            }
+        };
+        lists.push_reserved(receipts);
+        self.join_all(&mut inner, &mut lists, others);
+        self.table.shared.load::<Check>(&mut inner, 0);
+        let held = inner.slot_mut(&self.table.shared, 0);
+        let value = mem::replace(held, empty);
+        Ok(Ended {
+            value,
+            receipts: lists,
+        })
+    }
+
+    /// The seat's token that has the value, and the seat's receipts. The seat comes back where the value may not be taken out.
+    fn take_out<E: Drop, X: Ending<S, E>, R: Wait>(
+        &self,
+        rt: &R,
+        seat: Seat<S>,
+        ending: &X,
+    ) -> Result<(Inner<S, View>, Vec<Receipt>), (E, Seat<S>)>
+        requires own { seat.inner.table_id ≡ self.now.table.shared.table_id }
+        ensures taken { IfOk result (λ r. (r.0.table_id ≡ seat.inner.table_id) × (r.1 ≡ seat.receipts) × TakesOut S.shown (X.allows ending.now) seat.inner.me r.0.me) }
+        ensures kept { IfErr result (λ r. Returns S.shown (X.refuses ending.now) seat r.1 r.0) }
+    {
+        let Seat {
+            mut inner,
+            lane,
+            receipts,
+            whole,
+        } = seat;
+        self.acquire(rt, &mut inner);
+        let held = inner.slot_mut(&self.table.shared, 0);
+        match ending.look(held) {
+            Ok(()) => Ok((inner, receipts)),
+            Err(e) => {
+                self.release(&mut inner);
+                let seat = Seat {
+                    inner,
+                    lane,
+                    receipts,
+                    whole,
+                };
+                Err((e, seat))
+            }
+        }
+    }
+
+    /// Takes the seats in.
+    fn join_all(
+        &self,
+        base: &mut Inner<S, View>,
+        lists: &mut Vec<Vec<Receipt>>,
+        seats: Vec<Seat<S>>,
+    )
+        requires own { base.old.table_id ≡ self.now.table.shared.table_id }
+        requires others { AllOf self.now.table.shared.table_id seats.items }
+        requires may { CanJoin base.old.me × (vec_len lists.old + length seats.items ≤ vec_capacity lists.old) }
+        ensures own { base.new.table_id ≡ base.old.table_id }
+        ensures joined { JoinsAll base.old.me base.new.me seats.items }
+        ensures lists { lists.new.items ≡ lists.old.items ++ receipts_of seats.items }
+    {
+        for seat in seats {
+            let Seat {
+                inner,
+                lane: _,
+                receipts,
+                whole: _,
+            } = seat;
+            self.table.shared.join_seat::<TakeIn>(base, inner);
+            lists.push_reserved(receipts);
+        }
+    }
+}
+
+/// Whether no memory was wanting for a receipt of one of the seats.
+fn has_all<S: Held + Drop>(seat: &Seat<S>, others: &[Seat<S>]) -> bool
+    ensures { result ≡ true → (seat.now.whole ≡ true) × AllWhole others.now }
+{
+    seat.whole && are_whole(others)
+}
+
+fn are_whole<S: Held + Drop>(seats: &[Seat<S>]) -> bool
+    ensures { result ≡ list_all whole_of seats.now }
+{
+    seats.iter().all(|seat| seat.whole)
+}

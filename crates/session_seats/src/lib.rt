@@ -1,0 +1,22 @@
+//! Seats at a session that threads share: the session lies behind one lock, each thread comes to it by a seat of its own,
+//! and the rule of the lock tells of every entry of the journal which seat made it. Generic in what lies behind the lock.
+#![tactic(auto)]
+
+mod ended;
+mod event;
+mod new_seats;
+mod origin;
+mod rule;
+mod seat;
+mod shared;
+mod users;
+mod view;
+
+pub use ended::{Ended, Ending, NotEnded};
+pub use event::Event;
+pub use origin::Origin;
+pub use rule::{Acquire, Check, Held, LaneSeat, Release, SeatRule, TakeIn, WorkerSeat};
+pub use seat::Seat;
+pub use shared::Shared;
+pub use users::ThenLeaves;
+pub use view::{Claim, Counts, Receipt, SeatName, Sight, Stamp, View};

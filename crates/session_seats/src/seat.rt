@@ -1,0 +1,145 @@
+//! A seat at a shared value.
+ghost use Rattle.std.specs.Prelude.{◌≡◌, ◌<◌, [], None, Some, false, true, IfNone, IfSome};
+ghost use Rattle.session_seats.specs.Sights.{Made, own};
+ghost use Rattle.session_seats.specs.Holds.{Applied, Hold, IsFresh, IsSeat, NamesLane, Spares, claim_of, passes};
+ghost use Rattle.session_seats.specs.NewSeats.{Gives, GivesLane, HasNone};
+ghost use Rattle.session_seats.specs.Rules.{home};
+
+use crate::event::Event;
+use crate::rule::Held;
+use crate::shared::Shared;
+use crate::view::{Receipt, View};
+use atomic_table::Seat as Inner;
+use ssh_encoding::OutOfMemory;
+use std::alloc::Global;
+use std::sync::Wait;
+
+/// A thread's seat at a shared value. It names a lane, or none, and keeps a receipt of each entry that was added to the journal by it.
+/// Dropped, it is not given again.
+#[derive(Drop)]
+pub struct Seat<S: Held + Drop> {
+    pub(crate) inner: Inner<S, View>,
+    pub(crate) lane: Option<u32>,
+    pub(crate) receipts: Vec<Receipt>,
+    // No memory was wanting for a receipt.
+    pub(crate) whole: bool,
+    ghost free: { IsSeat inner.me },
+    ghost named: { NamesLane (claim_of inner.me) lane },
+    ghost told: { whole ≡ true → receipts.items ≡ own (claim_of inner.me).number (claim_of inner.me).sight.log },
+}
+
+impl<S: Held + Drop> Seat<S> {
+    /// The home seat, which a new shared value comes with.
+    pub(crate) fn home(alloc: Global, inner: Inner<S, View>) -> Seat<S>
+        requires { (m : Made) × (inner.me ≡ (home m, [])) }
+        ensures { (result.inner ≡ inner) × (result.lane ≡ None) × (result.receipts.items ≡ []) × (result.whole ≡ true) }
+    {
+        Seat {
+            inner,
+            lane: None,
+            receipts: Vec::new(alloc),
+            whole: true,
+        }
+    }
+
+    /// A seat that was given, which made nothing yet.
+    pub(crate) fn fresh(alloc: Global, inner: Inner<S, View>, lane: Option<u32>) -> Seat<S>
+        requires free { IsSeat inner.me }
+        requires fresh { IsFresh (claim_of inner.me) lane }
+        ensures { (result.inner ≡ inner) × (result.lane ≡ lane) × (result.receipts.items ≡ []) × (result.whole ≡ true) }
+    {
+        Seat {
+            inner,
+            lane,
+            receipts: Vec::new(alloc),
+            whole: true,
+        }
+    }
+
+    /// The receipts of the entries that this seat made, in the order of the journal: of all of them, unless memory was wanting for one.
+    pub fn receipts(&self) -> &[Receipt]
+        ensures { result.now ≡ self.now.receipts.items }
+    {
+        self.receipts.as_slice()
+    }
+
+    /// The lane that the seat names.
+    pub fn lane(&self) -> Option<u32>
+        ensures { result ≡ self.now.lane }
+    {
+        self.lane
+    }
+
+    /// Whether each entry that this seat made has its receipt.
+    pub fn has_all_receipts(&self) -> bool
+        ensures value { result ≡ self.now.whole }
+        ensures all { result ≡ true → self.now.receipts.items ≡ own (claim_of self.now.inner.me).number (claim_of self.now.inner.me).sight.log }
+    {
+        self.whole
+    }
+
+    /// Does the event in one hold of the lock, keeps a receipt of each entry that it adds, and wakes those that wait for a change. It
+    /// answers what the event does; and an Err where no memory was there for a receipt: the entries stand in the journal then, and the
+    /// seat has lost receipts for good.
+    pub fn apply<A, E: Event<S, A>, R: Wait>(
+        &mut self,
+        rt: &R,
+        alloc: Global,
+        shared: &Shared<S>,
+        event: E,
+    ) -> (A, Result<(), OutOfMemory>)
+        requires own { self.old.inner.table_id ≡ shared.now.table.shared.table_id }
+        requires may { Spares (claim_of self.old.inner.me) (E.needs event) }
+        ensures own { self.new.inner.table_id ≡ self.old.inner.table_id }
+        ensures lane { self.new.lane ≡ self.old.lane }
+        ensures held { Hold S.shown (Applied S.shown (passes (E.only event) self.old.lane) (E.needs event)
+            (λ y z. E.does event self.old.lane y z result.0) result.1 self.old.receipts.items self.new.receipts.items)
+            self.old.inner.me self.new.inner.me }
+    {
+        let mut gate = shared.gate.lock(rt);
+        let (did, copied) = shared.hold(
+            rt,
+            alloc,
+            &mut self.inner,
+            &mut self.receipts,
+            self.lane,
+            event,
+        );
+        *gate = gate.wrapping_add(1);
+        shared.moved.notify_all();
+        drop(gate);
+        if copied.is_err() {
+            self.whole = false;
+        }
+        (did, copied)
+    }
+}
+
+impl<S: Held + Drop> Seat<S> {
+    /// A new worker's token.
+    pub(crate) fn give_worker<R: Wait>(&mut self, rt: &R, shared: &Shared<S>) -> Inner<S, View>
+        requires { self.old.inner.table_id ≡ shared.now.table.shared.table_id }
+        ensures own { (self.new.inner.table_id ≡ self.old.inner.table_id) × (result.table_id ≡ self.old.inner.table_id) }
+        ensures same { (self.new.lane ≡ self.old.lane) × (self.new.receipts ≡ self.old.receipts) × (self.new.whole ≡ self.old.whole) }
+        ensures given { Gives S.shown false self.old.inner.me self.new.inner.me result.me }
+        ensures fresh { IsSeat result.me × IsFresh (claim_of result.me) None }
+    {
+        shared.give_worker(rt, &mut self.inner)
+    }
+
+    /// A new lane's token, and the lane.
+    pub(crate) fn give_lane<R: Wait>(
+        &mut self,
+        rt: &R,
+        shared: &Shared<S>,
+    ) -> Option<(Inner<S, View>, u32)>
+        requires own { self.old.inner.table_id ≡ shared.now.table.shared.table_id }
+        requires share { 0 < (claim_of self.old.inner.me).share }
+        ensures own { self.new.inner.table_id ≡ self.old.inner.table_id }
+        ensures same { (self.new.lane ≡ self.old.lane) × (self.new.receipts ≡ self.old.receipts) × (self.new.whole ≡ self.old.whole) }
+        ensures given { IfSome result (λ s. GivesLane S.shown (Some s.1) self.old.inner.me self.new.inner.me s.0.me × (s.0.table_id ≡ self.old.inner.table_id) × IsSeat s.0.me) }
+        ensures none { IfNone result (HasNone S.shown self.old.inner.me self.new.inner.me) }
+    {
+        shared.give_lane(rt, &mut self.inner)
+    }
+}

@@ -1,0 +1,136 @@
+//! The shared value behind its lock, and one hold of it.
+ghost use Rattle.std.specs.Prelude.{◌≡◌, ◌++◌, [], None, drop, IfOk, OnOk};
+ghost use Rattle.session_seats.specs.Sights.{made_from};
+ghost use Rattle.session_seats.specs.Rules.{home};
+ghost use Rattle.session_seats.specs.Holds.{Applied, CanRelease, HasTaken, Hold, IsSeat, NamesLane, Releases, Spares, at_first, claim_of, passes};
+
+use crate::event::Event;
+use crate::origin::Origin;
+use crate::rule::{Acquire, Held, Release, SeatRule};
+use crate::seat::Seat;
+use crate::view::{Receipt, View};
+use atomic_table::{Seat as Inner, Table};
+use session_model::Entry;
+use sftp_model::TryCopy;
+use ssh_encoding::OutOfMemory;
+use std::alloc::Global;
+use std::sync::{Condvar, Mutex, Wait};
+use std::thread;
+
+/// A value that threads share: it lies in the one slot of a table, and to have taken the slot is to hold the lock.
+#[derive(Drop)]
+pub struct Shared<S: Held + Drop> {
+    pub(crate) table: Table<S, View, Origin, SeatRule, Global>,
+    // Who means to take the value waits here. It counts the holds, for those who wait for a change.
+    pub(crate) gate: Mutex<u64>,
+    pub(crate) moved: Condvar,
+    ghost sized: { (table.shared.table_id.words ≡ 1) × (table.shared.table_id.slots ≡ 1) },
+}
+
+impl<S: Held + Drop> Shared<S> {
+    /// The value behind its lock, which nobody has used yet and which was made of this; and the home seat, which names no lane. Refused
+    /// for want of memory.
+    pub fn new(
+        alloc: Global,
+        value: S,
+        origin: &Origin,
+    ) -> Result<(Shared<S>, Seat<S>), OutOfMemory>
+        requires { S.shown value ≡ at_first origin.now }
+        ensures { IfOk result (λ r. (r.1.inner.me ≡ (home origin.now, [])) × (r.1.lane ≡ None)
+            × (r.1.receipts.items ≡ []) × (r.1.inner.table_id ≡ r.0.table.shared.table_id)) }
+    {
+        let mut slots = Vec::new(alloc);
+        if slots.reserve(1).is_err() {
+            return Err(OutOfMemory);
+        }
+        slots.push_reserved(value);
+        match Table::new(alloc, &[0], slots, origin) {
+            Ok((table, inner)) => Ok((
+                Shared {
+                    table,
+                    gate: Mutex::new(0),
+                    moved: Condvar::new(),
+                },
+                Seat::home(alloc, inner),
+            )),
+            Err(_) => Err(OutOfMemory),
+        }
+    }
+
+    /// Takes the value, once no other seat has it.
+    pub(crate) fn acquire<R: Wait>(&self, rt: &R, seat: &mut Inner<S, View>)
+        requires own { seat.old.table_id ≡ self.now.table.shared.table_id }
+        requires free { IsSeat seat.old.me }
+        ensures own { seat.new.table_id ≡ seat.old.table_id }
+        ensures taken { HasTaken S.shown seat.old.me seat.new.me }
+    {
+        for _ in rt.forever() {
+            if self.table.shared.compare_exchange::<Acquire>(seat, 0, 0, 1) == 0 {
+                return;
+            }
+            thread::yield_now();
+        }
+        unreachable!()
+    }
+
+    /// Gives the value back.
+    pub(crate) fn release(&self, seat: &mut Inner<S, View>)
+        requires own { seat.old.table_id ≡ self.now.table.shared.table_id }
+        requires held { CanRelease S.shown seat.old.me }
+        ensures own { seat.new.table_id ≡ seat.old.table_id }
+        ensures gave { Releases S.shown seat.old.me seat.new.me }
+    {
+        self.table.shared.store::<Release>(seat, 0, 0);
+    }
+
+    /// One hold: an event, and receipts for what it added.
+    pub(crate) fn hold<A, E: Event<S, A>, R: Wait>(
+        &self,
+        rt: &R,
+        alloc: Global,
+        seat: &mut Inner<S, View>,
+        receipts: &mut Vec<Receipt>,
+        lane: Option<u32>,
+        event: E,
+    ) -> (A, Result<(), OutOfMemory>)
+        requires own { seat.old.table_id ≡ self.now.table.shared.table_id }
+        requires free { IsSeat seat.old.me }
+        requires named { NamesLane (claim_of seat.old.me) lane }
+        requires may { Spares (claim_of seat.old.me) (E.needs event) }
+        ensures own { seat.new.table_id ≡ seat.old.table_id }
+        ensures held { Hold S.shown (Applied S.shown (passes (E.only event) lane) (E.needs event)
+            (λ y z. E.does event lane y z result.0) result.1 receipts.old.items receipts.new.items) seat.old.me seat.new.me }
+    {
+        self.acquire(rt, seat);
+        let held = seat.slot_mut(&self.table.shared, 0);
+        let from = held.entries().len();
+        let did = event.act(held, lane);
+        let copied = copy_from(alloc, held.entries(), from, receipts);
+        self.release(seat);
+        (did, copied)
+    }
+}
+
+/// Adds receipts for the entries from the place on. Refused for want of memory; some may have been added then.
+fn copy_from(
+    alloc: Global,
+    journal: &[Entry],
+    from: usize,
+    receipts: &mut Vec<Receipt>,
+) -> Result<(), OutOfMemory>
+    ensures { OnOk result (receipts.new.items ≡ receipts.old.items ++ made_from from (drop from journal.now)) }
+{
+    if from > journal.len() {
+        return Err(OutOfMemory);
+    }
+    let mut place = from as u64;
+    for entry in &journal[from..] {
+        if receipts.reserve(1).is_err() {
+            return Err(OutOfMemory);
+        }
+        let entry = entry.try_copy(alloc)?;
+        receipts.push_reserved(Receipt { place, entry });
+        place += 1;
+    }
+    Ok(())
+}

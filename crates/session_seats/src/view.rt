@@ -1,0 +1,62 @@
+//! What a seat knows of the shared session. Of the types but `Receipt` and `Counts` no value is made: they stand in contracts.
+use session_model::{Entry, Lane};
+use sftp_model::{Reply, SftpOptions};
+use std::collections::LinkedList;
+
+/// An entry that a seat made, and its place in the journal, from 0 on.
+#[derive(Drop)]
+pub struct Receipt {
+    pub place: u64,
+    pub entry: Entry,
+}
+
+/// Numbers of a shared session that never fall, the hello and VERSION included: the frames that were handed out, those of them that
+/// were written whole, the frames that were taken, and the stage of the end. The stage is 0 while there are users, 1 once the last one
+/// has left, and 2 once that is settled.
+#[derive(Clone, Copy)]
+pub struct Counts {
+    pub handed: u64,
+    pub written: u64,
+    pub taken: u64,
+    pub stage: u64,
+}
+
+/// An entry, and the number of the seat that made it.
+pub struct Stamp {
+    pub by: u64,
+    pub entry: Entry,
+}
+
+/// A seat: which one gave it, and the lane that it names.
+pub struct SeatName {
+    pub by: u64,
+    pub lane: Option<u32>,
+}
+
+/// What was seen: the journal so far and the seats that were given, each with the newest first; what the session was made of,
+/// VERSION once it was taken, and the counts.
+pub struct Sight {
+    pub log: LinkedList<Stamp>,
+    pub seats: LinkedList<SeatName>,
+    pub lanes: LinkedList<Lane>,
+    pub options: SftpOptions,
+    pub version: Option<Reply>,
+    pub counts: Counts,
+}
+
+/// A seat's number, its share among the users, how many frames it handed out and has not told as written, and what it has seen. All
+/// that the seat made and gave stands in that.
+pub struct Claim {
+    pub number: u64,
+    pub share: u64,
+    pub unwritten: u64,
+    pub sight: Sight,
+}
+
+/// What a seat knows: its own claim first, and those of the seats that it has taken in. While it has the lock, also how many users
+/// there were when it took it.
+pub struct View {
+    pub right: bool,
+    pub users: u64,
+    pub claims: LinkedList<Claim>,
+}

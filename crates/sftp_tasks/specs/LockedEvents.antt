@@ -1,0 +1,76 @@
+-- What each event does to the locked value, for the lane that its seat names.
+use Rattle.std.specs.Prelude.{◌≡◌, ◌≢◌, ℕ, ◌+◌, ◌^◌, ◌-◌, min, Bool, List, Option, Some, None, Result, Ok, Err, MatchOption, nat_lt}
+use Rattle.std.specs.Option.{option_map}
+use Rattle.plan_model.specs.declared.call.Call.{Call}
+use Rattle.session_driver.specs.declared.session.Phase.TheVariants.{Failed}
+use Rattle.session_driver.specs.declared.session.Stepped.{Stepped}
+use Rattle.sftp_model.specs.declared.error.Error.{Error}
+use Rattle.sftp_model.specs.declared.error.Fault.{Fault}
+use Rattle.sftp_model.specs.Pieces.{joined}
+use Rattle.sftp_model.specs.ReplyReadings.{reply_at}
+use Rattle.sftp_lanes.specs.Counts.{unsent_in}
+use Rattle.sftp_lanes.specs.Events.{CancelsIn, HandsOutIn, StepsIn, TakesIn}
+use Rattle.session_work.specs.Working.{past_of}
+use Rattle.sftp_wire.specs.FrameReader.{Received, body_of}
+use Rattle.session_seats.specs.Holds.{Allowance}
+use Rattle.sftp_tasks.specs.declared.frames.Handed.{Handed}
+use Rattle.sftp_tasks.specs.declared.locked.Locked.{Locked}
+use Rattle.sftp_tasks.specs.SessionEvents.{GivesUp, IsKept, LetsLaneGoIn, Refuses, Submits, TakeStops}
+
+-- a seat that names no lane does nothing
+abbrev pub OfLane : {A : Type 0} → (ℕ → Locked → Locked → A → Type 0) → A → Option ℕ → Locked → Locked → A → Type 0
+OfLane Did nothing None y z a = (z ≡ y) × (a ≡ nothing)
+OfLane Did nothing (Some lane) y z a = Did lane y z a
+
+abbrev pub Stepping : ℕ → Locked → Locked → Result Stepped Error → Type 0
+Stepping lane y z (Ok event) = StepsIn y.session.phase lane y.session z.session event
+Stepping lane y z (Err e) = Refuses e y.session z.session
+
+abbrev pub Cancelling : ℕ → Locked → Locked → Result Bool Error → Type 0
+Cancelling lane y z (Ok event) = CancelsIn y.session.phase lane y.session z.session event
+Cancelling lane y z (Err e) = Refuses e y.session z.session
+
+abbrev pub LettingGo : ℕ → Locked → Locked → Result Bool Error → Type 0
+LettingGo lane y z (Ok event) = LetsLaneGoIn lane y.session z.session event
+LettingGo lane y z (Err e) = Refuses e y.session z.session
+
+abbrev pub Submitting : Call → ℕ → Locked → Locked → Result Bool Error → Type 0
+Submitting call lane y z r = Submits lane call y.session z.session r
+
+-- what was handed out is counted: all frames that are unsent
+pub record Hands (y z : Locked) (h : Handed) : Type 0 where
+  pub counts : z.counts.handed ≡ y.counts.handed + h.frames
+  pub frames : y.session.phase ≢ Failed → h.frames ≡ unsent_in y.session.phase (past_of y.session.work)
+
+abbrev pub HandingOut : Locked → Locked → Result (Option Handed) Error → Type 0
+HandingOut y z (Ok handed) =
+    HandsOutIn y.session.phase y.session z.session (option_map (λ h. joined h.chunk) handed)
+    × (MatchOption handed (z.counts.handed ≡ y.counts.handed) (Hands y z) × (z.counts.written ≡ y.counts.written))
+HandingOut y z (Err e) = Refuses e y.session z.session × (z.counts.handed ≡ y.counts.handed)
+
+abbrev pub Taking : List ℕ → Locked → Locked → Result (Unit {0}) Error → Type 0
+Taking body y z (Ok u) = TakesIn y.session.phase (reply_at body) y.session z.session
+Taking body y z (Err e) = TakeStops (reply_at body) e y.session z.session
+
+-- the frame's body is taken, where it is whole
+abbrev pub TakingFrame : Received → Locked → Locked → Result (Unit {0}) Error → Type 0
+TakingFrame frame y z r = (body : List ℕ) → body_of frame ≡ Some body → Taking body y z r
+
+abbrev pub Writing : ℕ → Locked → Locked → Type 0
+Writing frames y z =
+    z ≡ record y { counts = record y.counts { written = min (y.counts.written + frames) (2 ^ 64 - 1) } }
+
+abbrev pub Failing : Fault → Locked → Locked → Type 0
+Failing fault y z = IsKept fault y.session z.session
+
+abbrev pub GivingUp : Locked → Locked → Type 0
+GivingUp y z = GivesUp y.session z.session
+
+-- so many frames are told as written
+abbrev pub tells : ℕ → Allowance
+tells frames = record { tells = frames; leaves = 0 }
+
+-- a frame may be read where fewer were taken than were written
+abbrev pub Looking : Locked → Locked → Result Bool Error → Type 0
+Looking y z (Ok may) = (z ≡ y) × (may ≡ nat_lt y.counts.taken y.counts.written)
+Looking y z (Err e) = (z ≡ y) × Refuses e y.session y.session

@@ -1,0 +1,118 @@
+-- One round of a worker: what it handed out or took, and what its half of the link shows of it.
+use Rattle.std.specs.Prelude.{◌≡◌, ◌⊎◌, ℕ, Bool, true, false, List, [], Option, Some, None, Ok, Err}
+use Rattle.atomic_table.specs.Table.{Me}
+use Rattle.session_exchange.specs.Causes.{Caused, SentBy}
+use Rattle.session_exchange.specs.Reading.{IsWhole, ReadFails}
+use Rattle.session_model.specs.declared.entry.Entry.{Entry}
+use Rattle.sftp_link.specs.Told.{GotAll, Told}
+use Rattle.sftp_link.specs.Views.{LinkView}
+use Rattle.sftp_model.specs.declared.error.Error.{Error}
+use Rattle.sftp_model.specs.declared.error.Error.TheVariants as error
+use Rattle.sftp_model.specs.declared.error.Fault.{Fault}
+use Rattle.sftp_model.specs.declared.error.Fault.TheVariants as fault
+use Rattle.sftp_wire.specs.FrameReader.{Received}
+use Rattle.sftp_lanes.specs.Events.{HandsOutIn}
+use Rattle.session_seats.specs.declared.view.View.{View}
+use Rattle.session_seats.specs.Holds.{Hold}
+use Rattle.sftp_tasks.specs.declared.locked.Locked.{Locked}
+use Rattle.sftp_tasks.specs.LockedEvents.{Failing, GivingUp, Looking, TakingFrame}
+use Rattle.sftp_tasks.specs.SessionEvents.{Refuses}
+use Rattle.sftp_tasks.specs.Shows.{shown_of}
+
+abbrev pub Token : Type 0
+Token = Me Locked View
+
+-- one hold of the locked value
+abbrev pub Holds : (Locked → Locked → List Entry → Type 0) → Token → Token → Type 0
+Holds Did m n = Hold shown_of Did m n
+
+-- the fault that a session keeps where a round ends so; want of memory keeps none
+abbrev pub fault_for : Error → Option Fault
+fault_for error.LinkFault = Some fault.Link
+fault_for error.LinkEnded = Some fault.Ended
+fault_for (error.UnsupportedSftpProtocol version) = Some (fault.Protocol version)
+fault_for (error.FormatError kind) = Some (fault.Format kind)
+fault_for (error.HandleTooLong len) = Some (fault.HandleTooLong len)
+fault_for (error.InvalidResponseId id) = Some (fault.ResponseId id)
+fault_for (error.InvalidResponse id) = Some (fault.Response id)
+fault_for (error.SftpError code message language) = Some (fault.Limits code)
+fault_for other = None
+
+-- the fault is kept, or the session given up
+abbrev pub Stopping : Option Fault → Locked → Locked → Type 0
+Stopping (Some fault) y z = Failing fault y z
+Stopping None y z = GivingUp y z
+
+abbrev pub Stops : Error → Token → Token → Type 0
+Stops e m n = Holds (λ y z more. Stopping (fault_for e) y z) m n
+
+-- ---- a round that sends
+
+-- what was handed out in one hold was sent, and noted as written in another, which added nothing
+pub record Flushed {Service : Type 0} (m n : Token) (before now : LinkView Service) : Type 0 where
+  pub mid : Token
+  pub bytes : List ℕ
+  pub hands : Holds (λ y z more. HandsOutIn y.session.phase y.session z.session (Some bytes)) m mid
+  pub sent : SentBy {T = Unit {0}} bytes before now (Ok tt)
+  pub notes : Holds (λ y z more. more ≡ []) mid n
+
+abbrev pub Flushes : {Service : Type 0} → Bool → Token → Token → LinkView Service → LinkView Service → Type 0
+Flushes true m n before now = Flushed m n before now
+Flushes false m n before now =
+    Holds (λ y z more. HandsOutIn y.session.phase y.session z.session None) m n × (now ≡ before)
+
+-- what was handed out could not all be sent, and the session stops by it
+pub record Unsent {Service : Type 0} (e : Error) (m n : Token) (before now : LinkView Service) : Type 0 where
+  pub mid : Token
+  pub bytes : List ℕ
+  pub hands : Holds (λ y z more. HandsOutIn y.session.phase y.session z.session (Some bytes)) m mid
+  pub sent : SentBy {T = Unit {0}} bytes before now (Err e)
+  pub stops : Stops e mid n
+
+-- the session refused to hand out, and nothing was sent
+abbrev pub RefusesRound : {Service : Type 0} → Error → Token → Token → LinkView Service → LinkView Service → Type 0
+RefusesRound e m n before now = Holds (λ y z more. Refuses e y.session z.session) m n × (now ≡ before)
+
+-- why a round that sends ended: it was refused, or could not send; or it did all, and a receipt is wanting
+abbrev pub FlushStops : {Service : Type 0} → Error → Token → Token → LinkView Service → LinkView Service → Type 0
+FlushStops e m n before now =
+    RefusesRound e m n before now
+    ⊎ (Unsent e m n before now ⊎ ((e ≡ error.OutOfMemory) × ((did : Bool) × Flushes did m n before now)))
+
+-- ---- a round that reads
+
+-- it was seen that a frame may be read, one was got, and its body was taken
+pub record ReadsOnce {Service : Type 0} (m n : Token) (before now : LinkView Service) : Type 0 where
+  pub mid : Token
+  pub frame : Received
+  pub looks : Holds (λ y z more. Looking y z (Ok true)) m mid
+  pub whole : IsWhole frame
+  pub got : Told (GotAll frame.bytes) before.log now.log
+  pub takes : Holds (λ y z more. TakingFrame frame y z (Ok tt)) mid n
+
+abbrev pub Reads : {Service : Type 0} → Bool → Token → Token → LinkView Service → LinkView Service → Type 0
+Reads true m n before now = ReadsOnce m n before now
+Reads false m n before now = Holds (λ y z more. Looking y z (Ok false)) m n × (now ≡ before)
+
+-- no whole frame was got, and the session stops by it
+pub record Unread {Service : Type 0} (e : Error) (m n : Token) (before now : LinkView Service) : Type 0 where
+  pub mid : Token
+  pub looks : Holds (λ y z more. Looking y z (Ok true)) m mid
+  pub fails : Told (ReadFails e) before.log now.log
+  pub caused : Caused {T = Received} before now (Err e)
+  pub stops : Stops e mid n
+
+-- one was got, and it was refused
+pub record Untaken {Service : Type 0} (e : Error) (m n : Token) (before now : LinkView Service) : Type 0 where
+  pub mid : Token
+  pub frame : Received
+  pub looks : Holds (λ y z more. Looking y z (Ok true)) m mid
+  pub whole : IsWhole frame
+  pub got : Told (GotAll frame.bytes) before.log now.log
+  pub refuses : Holds (λ y z more. TakingFrame frame y z (Err e)) mid n
+
+abbrev pub ReadStops : {Service : Type 0} → Error → Token → Token → LinkView Service → LinkView Service → Type 0
+ReadStops e m n before now =
+    RefusesRound e m n before now
+    ⊎ (Unread e m n before now ⊎ (Untaken e m n before now
+    ⊎ ((e ≡ error.OutOfMemory) × ((did : Bool) × Reads did m n before now))))

@@ -1,0 +1,100 @@
+-- What the calls of the locked value do to its session.
+use Rattle.std.specs.Prelude.{◌≡◌, ◌≢◌, ◌⊎◌, ◌≤◌, ℕ, Bool, true, false, length, Option, Some, None, Result, Ok, Err}
+use Rattle.sftp_core.specs.declared.errors.TakeError.{TakeError}
+use Rattle.sftp_core.specs.Take.{IsFirst}
+use Rattle.plan_model.specs.declared.call.Call.{Call}
+use Rattle.plan_model.specs.Lanes.{are_ok}
+use Rattle.session_driver.specs.declared.session.Phase.TheVariants.{Failed}
+use Rattle.session_driver.specs.declared.session.Stepped.{Stepped}
+use Rattle.session_driver.specs.Adding.{with_call}
+use Rattle.session_exchange.specs.Refusals.{error_of}
+use Rattle.session_model.specs.Calls.{current}
+use Rattle.session_model.specs.Readings.{was_let_go}
+use Rattle.sftp_model.specs.declared.error.Fault.{Fault}
+use Rattle.sftp_model.specs.declared.error.Fault.TheVariants as fault
+use Rattle.sftp_model.specs.declared.error.Error.{Error}
+use Rattle.sftp_model.specs.declared.error.Error.TheVariants as error
+use Rattle.sftp_model.specs.declared.frame_error.FrameError.{FrameError}
+use Rattle.sftp_model.specs.declared.reply.Reply.{Reply}
+use Rattle.sftp_lanes.specs.Adding.{AddsCall, IsSame}
+use Rattle.sftp_lanes.specs.Events.{HasFailed, IsRefused, LetsGoIn, StepsIn, first_wrong, takes_frames}
+use Rattle.sftp_lanes.specs.Seen.{SessionValue, setting_at}
+use Rattle.session_work.specs.SoFar.{kept_past}
+use Rattle.session_work.specs.Working.{past_of}
+
+-- ---- refusals
+
+-- nothing has changed, or there was no memory and the session has failed
+abbrev pub IsUnmoved : SessionValue → SessionValue → Type 0
+IsUnmoved old new = (new ≡ old) ⊎ HasFailed old new
+
+-- why a call is refused, and what stands then
+abbrev pub Refuses : Error → SessionValue → SessionValue → Type 0
+Refuses error.OutOfMemory old new = IsUnmoved old new
+Refuses (error.BackgroundTaskFailure fault) old new = (old.work.core.fault ≡ Some fault) × (new ≡ old)
+Refuses other old new = ⊥
+
+-- a fault is kept, unless one was before
+pub record IsKept (f : Fault) (old new : SessionValue) : Type 0 where
+  pub lanes : new.lanes ≡ old.lanes
+  pub options : new.options ≡ old.options
+  pub version : new.version ≡ old.version
+  pub past : past_of new.work ≡ kept_past old.work.core.fault f (past_of old.work)
+
+-- no call of the lanes can be made any more, and nothing else has changed
+abbrev pub GivesUp : SessionValue → SessionValue → Type 0
+GivesUp old new = new ≡ record old { phase = Failed }
+
+-- ---- lanes
+
+-- a lane is let go where its calls have ended and it was not let go before
+abbrev pub LetsLaneGoIn : ℕ → SessionValue → SessionValue → Bool → Type 0
+LetsLaneGoIn lane old new true = LetsGoIn old.phase lane old new
+    ⊎ ((was_let_go (past_of old.work) lane ≡ true) × (new ≡ old))
+LetsLaneGoIn lane old new false = (current (setting_at old) (past_of old.work) lane ≢ None) × (new ≡ old)
+
+-- the lane isn't there, or it was let go, or a session can't be given the lanes with the call
+abbrev pub MayNotAdd : ℕ → Call → SessionValue → Type 0
+MayNotAdd lane call s =
+    (length s.work.calls ≤ lane) ⊎ ((was_let_go (past_of s.work) lane ≡ true)
+    ⊎ (are_ok (with_call s.work.calls lane call) ≡ false))
+
+-- a call is put behind those of its lane
+abbrev pub AddsIn : ℕ → Call → SessionValue → SessionValue → Bool → Type 0
+AddsIn lane call old new true = AddsCall lane call old new
+AddsIn lane call old new false = MayNotAdd lane call old × (new ≡ old)
+
+-- why a call is not added: nothing has changed
+abbrev pub RefusesToAdd : Error → SessionValue → SessionValue → Type 0
+RefusesToAdd error.OutOfMemory old new = (new ≡ old) ⊎ IsSame old new
+RefusesToAdd (error.BackgroundTaskFailure fault) old new = (old.work.core.fault ≡ Some fault) × (new ≡ old)
+RefusesToAdd other old new = ⊥
+
+-- a call is added, and its lane stepped once
+abbrev pub Submits : ℕ → Call → SessionValue → SessionValue → Result Bool Error → Type 0
+Submits lane call old new (Ok true) =
+    (mid : SessionValue) × (AddsCall lane call old mid × ((event : Stepped) × StepsIn mid.phase lane mid new event))
+Submits lane call old new (Ok false) = MayNotAdd lane call old × (new ≡ old)
+Submits lane call old new (Err e) =
+    RefusesToAdd e old new ⊎ ((mid : SessionValue) × (AddsCall lane call old mid × Refuses e mid new))
+
+-- ---- frames
+
+-- a frame is refused: by the first thing that is wrong with it, which is kept, or for want of memory
+pub record IsRefusedBy (body_reads : Result (Option ℕ × Reply) FrameError) (e : Error) (old new : SessionValue) : Type
+    0 where
+  pub error : TakeError
+  pub is : e ≡ error_of error
+  pub first : IsFirst error (first_wrong old.phase (past_of old.work) body_reads)
+  pub kept : IsRefused error old new
+
+-- the frame came while no reply is awaited
+pub record IsUnawaited (e : Error) (old new : SessionValue) : Type 0 where
+  pub early : takes_frames old.phase ≡ false
+  pub is : e ≡ error.InvalidResponse None
+  pub kept : IsKept (fault.Response None) old new
+
+-- why a frame is not taken, and what stands then
+abbrev pub TakeStops : Result (Option ℕ × Reply) FrameError → Error → SessionValue → SessionValue → Type 0
+TakeStops body_reads (error.BackgroundTaskFailure f) old new = (old.work.core.fault ≡ Some f) × (new ≡ old)
+TakeStops body_reads e old new = IsRefusedBy body_reads e old new ⊎ IsUnawaited e old new

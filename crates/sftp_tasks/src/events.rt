@@ -1,0 +1,244 @@
+//! The events of the locked value, of which a hold of the lock does one.
+use crate::frames::Handed;
+use crate::locked::Locked;
+use session_driver::Stepped;
+use session_model::Call;
+use session_seats::Event;
+use sftp_model::{Error, Fault};
+use sftp_wire::FrameReader;
+use std::alloc::Global;
+
+/// One step of the seat's lane.
+#[derive(Drop)]
+pub struct Step;
+
+impl Event<Locked, Result<Stepped, Error>> for Step {
+    ghost use Rattle.std.specs.Prelude.{Ok};
+    ghost use Rattle.session_driver.specs.declared.session.Stepped.TheVariants as stepped;
+    ghost use Rattle.session_seats.specs.Holds.{no_allowance};
+    ghost use Rattle.sftp_tasks.specs.Entries.{by_step};
+    ghost use Rattle.sftp_tasks.specs.LockedEvents.{OfLane, Stepping};
+
+    ghost only = { λ _. by_step };
+
+    ghost needs = { λ _. no_allowance };
+
+    ghost does = { λ _. OfLane Stepping (Ok stepped.Nothing) };
+
+    fn act(self, value: &mut Locked, lane: Option<u32>) -> Result<Stepped, Error> {
+        let Some(lane) = lane else {
+            return Ok(Stepped::Nothing);
+        };
+        value.step(lane)
+    }
+}
+
+/// Cancels the call of the seat's lane, where it was begun.
+#[derive(Drop)]
+pub struct CancelCall;
+
+impl Event<Locked, Result<bool, Error>> for CancelCall {
+    ghost use Rattle.std.specs.Prelude.{Ok, false};
+    ghost use Rattle.session_seats.specs.Holds.{no_allowance};
+    ghost use Rattle.sftp_tasks.specs.Entries.{by_cancel};
+    ghost use Rattle.sftp_tasks.specs.LockedEvents.{OfLane, Cancelling};
+
+    ghost only = { λ _. by_cancel };
+
+    ghost needs = { λ _. no_allowance };
+
+    ghost does = { λ _. OfLane Cancelling (Ok false) };
+
+    fn act(self, value: &mut Locked, lane: Option<u32>) -> Result<bool, Error> {
+        let Some(lane) = lane else {
+            return Ok(false);
+        };
+        value.cancel(lane)
+    }
+}
+
+/// Lets go of the seat's lane, where its calls have ended.
+#[derive(Drop)]
+pub struct LetGo;
+
+impl Event<Locked, Result<bool, Error>> for LetGo {
+    ghost use Rattle.std.specs.Prelude.{Ok, false};
+    ghost use Rattle.session_seats.specs.Holds.{no_allowance};
+    ghost use Rattle.sftp_tasks.specs.Entries.{by_let_go};
+    ghost use Rattle.sftp_tasks.specs.LockedEvents.{OfLane, LettingGo};
+
+    ghost only = { λ _. by_let_go };
+
+    ghost needs = { λ _. no_allowance };
+
+    ghost does = { λ _. OfLane LettingGo (Ok false) };
+
+    fn act(self, value: &mut Locked, lane: Option<u32>) -> Result<bool, Error> {
+        let Some(lane) = lane else {
+            return Ok(false);
+        };
+        value.let_go(lane)
+    }
+}
+
+/// Hands out what is unsent.
+#[derive(Drop)]
+pub struct HandOut;
+
+impl Event<Locked, Result<Option<Handed>, Error>> for HandOut {
+    ghost use Rattle.session_seats.specs.Holds.{no_allowance};
+    ghost use Rattle.sftp_tasks.specs.Entries.{by_flush};
+    ghost use Rattle.sftp_tasks.specs.LockedEvents.{HandingOut};
+
+    ghost only = { λ _. by_flush };
+
+    ghost needs = { λ _. no_allowance };
+
+    ghost does = { λ _ lane. HandingOut };
+
+    fn act(self, value: &mut Locked, lane: Option<u32>) -> Result<Option<Handed>, Error> {
+        let _ = lane;
+        value.hand_out()
+    }
+}
+
+/// Notes that so many frames were written whole.
+#[derive(Drop)]
+pub struct Written {
+    pub frames: u64,
+}
+
+impl Event<Locked, ()> for Written {
+    ghost use Rattle.sftp_tasks.specs.Entries.{by_nothing};
+    ghost use Rattle.sftp_tasks.specs.LockedEvents.{Writing, tells};
+
+    ghost only = { λ _. by_nothing };
+
+    ghost needs = { λ e. tells e.frames };
+
+    ghost does = { λ e lane y z a. Writing e.frames y z };
+
+    fn act(self, value: &mut Locked, lane: Option<u32>) {
+        let _ = lane;
+        value.written(self.frames);
+    }
+}
+
+/// Keeps a fault, unless one is kept.
+#[derive(Drop)]
+pub struct Fail {
+    pub fault: Fault,
+}
+
+impl Event<Locked, ()> for Fail {
+    ghost use Rattle.session_seats.specs.Holds.{no_allowance};
+    ghost use Rattle.sftp_tasks.specs.Entries.{by_failing};
+    ghost use Rattle.sftp_tasks.specs.LockedEvents.{Failing};
+
+    ghost only = { λ _. by_failing };
+
+    ghost needs = { λ _. no_allowance };
+
+    ghost does = { λ e lane y z a. Failing e.fault y z };
+
+    fn act(self, value: &mut Locked, lane: Option<u32>) {
+        let _ = lane;
+        value.fail(self.fault);
+    }
+}
+
+/// Takes a frame that was read whole.
+#[derive(Drop)]
+pub struct TakeFrame {
+    pub frame: FrameReader,
+}
+
+impl Event<Locked, Result<(), Error>> for TakeFrame {
+    ghost use Rattle.session_seats.specs.Holds.{no_allowance};
+    ghost use Rattle.sftp_tasks.specs.Entries.{by_read};
+    ghost use Rattle.sftp_tasks.specs.LockedEvents.{TakingFrame};
+
+    ghost only = { λ _. by_read };
+
+    ghost needs = { λ _. no_allowance };
+
+    ghost does = { λ e lane. TakingFrame e.frame };
+
+    fn act(self, value: &mut Locked, lane: Option<u32>) -> Result<(), Error> {
+        let _ = lane;
+        match self.frame.frame() {
+            Some(body) => value.take(body),
+            None => Err(Error::OutOfMemory),
+        }
+    }
+}
+
+/// Adds a call to the seat's lane, and steps the lane once.
+#[derive(Drop)]
+pub struct Submit {
+    pub alloc: Global,
+    pub call: Call,
+}
+
+impl Event<Locked, Result<bool, Error>> for Submit {
+    ghost use Rattle.std.specs.Prelude.{Ok, false};
+    ghost use Rattle.session_seats.specs.Holds.{no_allowance};
+    ghost use Rattle.sftp_tasks.specs.Entries.{by_submit};
+    ghost use Rattle.sftp_tasks.specs.LockedEvents.{OfLane, Submitting};
+
+    ghost only = { λ _. by_submit };
+
+    ghost needs = { λ _. no_allowance };
+
+    ghost does = { λ e. OfLane (Submitting e.call) (Ok false) };
+
+    fn act(self, value: &mut Locked, lane: Option<u32>) -> Result<bool, Error> {
+        let Submit { alloc, call } = self;
+        let Some(lane) = lane else {
+            return Ok(false);
+        };
+        value.submit(alloc, lane, call)
+    }
+}
+
+/// Gives the session up, for want of memory.
+#[derive(Drop)]
+pub struct GiveUp;
+
+impl Event<Locked, ()> for GiveUp {
+    ghost use Rattle.session_seats.specs.Holds.{no_allowance};
+    ghost use Rattle.sftp_tasks.specs.Entries.{by_nothing};
+    ghost use Rattle.sftp_tasks.specs.LockedEvents.{GivingUp};
+
+    ghost only = { λ _. by_nothing };
+
+    ghost needs = { λ _. no_allowance };
+
+    ghost does = { λ e lane y z a. GivingUp y z };
+
+    fn act(self, value: &mut Locked, lane: Option<u32>) {
+        let _ = lane;
+        value.give_up();
+    }
+}
+
+/// Looks whether a frame may be read.
+#[derive(Drop)]
+pub struct MayRead;
+
+impl Event<Locked, Result<bool, Error>> for MayRead {
+    ghost use Rattle.session_seats.specs.Holds.{no_allowance};
+    ghost use Rattle.sftp_tasks.specs.Entries.{by_nothing};
+    ghost use Rattle.sftp_tasks.specs.LockedEvents.{Looking};
+
+    ghost only = { λ _. by_nothing };
+
+    ghost needs = { λ _. no_allowance };
+
+    ghost does = { λ _ lane. Looking };
+
+    fn act(self, value: &mut Locked, lane: Option<u32>) -> Result<bool, Error> {
+        let _ = lane;
+        value.may_read()
+    }
+}

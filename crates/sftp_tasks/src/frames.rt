@@ -1,0 +1,101 @@
+//! Frames that go out and come in, and how many did.
+ghost use Rattle.std.specs.Prelude.{◌≡◌, ◌≢◌, ◌≤◌, ◌+◌, ◌-◌, ◌^◌, min, nat_lt, None, IfOk, IfErr, OnOk, MatchOption};
+ghost use Rattle.std.specs.Option.{option_map};
+ghost use Rattle.sftp_model.specs.Pieces.{joined};
+ghost use Rattle.sftp_model.specs.ReplyReadings.{reply_at};
+ghost use Rattle.session_driver.specs.declared.session.Phase.TheVariants as phases;
+ghost use Rattle.session_work.specs.Working.{past_of};
+ghost use Rattle.sftp_lanes.specs.Counts.{unsent_in};
+ghost use Rattle.sftp_lanes.specs.Events.{HandsOutIn, TakesIn};
+ghost use Rattle.sftp_tasks.specs.SessionEvents.{Refuses, TakeStops};
+
+use crate::locked::Locked;
+use session_driver::Phase;
+use session_exchange::refused;
+use sftp_core::Chunk;
+use sftp_model::{Error, Fault};
+use ssh_encoding::OutOfMemory;
+
+/// What was handed out, and how many frames it has.
+#[derive(Drop)]
+pub struct Handed {
+    pub chunk: Chunk,
+    pub frames: u64,
+}
+
+impl Locked {
+    /// The frames that are to be sent next, the hello first; None where nothing is unsent, and while a reply of the opening is awaited.
+    /// They are counted as handed out. Errors as of `step`.
+    pub fn hand_out(&mut self) -> Result<Option<Handed>, Error>
+        ensures rest { self.new ≡ record self.old { session = self.new.session; counts = record self.old.counts { handed = self.new.counts.handed } } }
+        ensures hands_out { IfOk result (λ handed. HandsOutIn self.old.session.phase self.old.session self.new.session (option_map (λ h. joined h.chunk) handed)) }
+        ensures counts { IfOk result (λ handed. MatchOption handed (self.new.counts.handed ≡ self.old.counts.handed)
+            (λ h. self.new.counts.handed ≡ self.old.counts.handed + h.frames)) }
+        ensures frames { IfOk result (λ handed. MatchOption handed (Unit {0})
+            (λ h. self.old.session.phase ≢ phases.Failed → h.frames ≡ unsent_in self.old.session.phase (past_of self.old.session.work))) }
+        ensures refused { IfErr result (λ e. Refuses e self.old.session self.new.session × (self.new.counts.handed ≡ self.old.counts.handed)) }
+    {
+        if let Some(fault) = self.session.fault() {
+            return Err(Error::BackgroundTaskFailure(fault));
+        }
+        let frames = u64::from(self.session.unsent());
+        let Some(handed) = self.counts.handed.checked_add(frames) else {
+            return Err(Error::OutOfMemory);
+        };
+        match self.session.hand_out() {
+            Ok(Some(chunk)) => {
+                self.counts.handed = handed;
+                Ok(Some(Handed { chunk, frames }))
+            }
+            Ok(None) => Ok(None),
+            Err(OutOfMemory) => Err(Error::OutOfMemory),
+        }
+    }
+
+    /// Notes that so many of the frames that were handed out were written whole.
+    pub fn written(&mut self, frames: u64)
+        ensures is { self.new ≡ record self.old { counts = record self.old.counts { written = min (self.old.counts.written + frames) (2 ^ 64 - 1) } } }
+        ensures rises { self.old.counts.written ≤ self.new.counts.written }
+    {
+        self.counts.written = self.counts.written.saturating_add(frames);
+    }
+
+    /// Takes the body of a frame, and counts it. Refused by the first thing that is wrong with it, which the session keeps as its fault, or
+    /// for want of memory. A frame that comes while no reply is awaited, because the hello or the query for limits was not handed out yet,
+    /// is `InvalidResponse`.
+    pub fn take(&mut self, body: &[u8]) -> Result<(), Error>
+        ensures rest { self.new ≡ record self.old { session = self.new.session; counts = record self.old.counts { taken = self.new.counts.taken } } }
+        ensures takes { OnOk result (TakesIn self.old.session.phase (reply_at body.now) self.old.session self.new.session) }
+        ensures counts { OnOk result ((self.new.counts.taken ≡ min (self.old.counts.taken + 1) (2 ^ 64 - 1)) × (self.old.counts.taken ≤ self.new.counts.taken)) }
+        ensures stops { IfErr result (λ e. TakeStops (reply_at body.now) e self.old.session self.new.session × (self.new.counts.taken ≡ self.old.counts.taken)) }
+    {
+        if let Some(fault) = self.session.fault() {
+            return Err(Error::BackgroundTaskFailure(fault));
+        }
+        if !self.session.takes_frames() {
+            self.session.fail(Fault::Response { id: None });
+            return Err(Error::InvalidResponse { id: None });
+        }
+        match self.session.take(body) {
+            Ok(()) => {
+                self.counts.taken = self.counts.taken.saturating_add(1);
+                Ok(())
+            }
+            Err(e) => Err(refused(e)),
+        }
+    }
+
+    /// Whether fewer frames were taken than were written whole, so that one is awaited. Errors as of `step`.
+    pub fn may_read(&self) -> Result<bool, Error>
+        ensures may { IfOk result (λ may. may ≡ nat_lt self.now.counts.taken self.now.counts.written) }
+        ensures refused { IfErr result (λ e. Refuses e self.now.session self.now.session) }
+    {
+        if let Some(fault) = self.session.fault() {
+            return Err(Error::BackgroundTaskFailure(fault));
+        }
+        match self.session.phase() {
+            Phase::Failed => Err(Error::OutOfMemory),
+            _ => Ok(self.counts.taken < self.counts.written),
+        }
+    }
+}

@@ -1,0 +1,27 @@
+//! An SFTP session that threads share. Each thread has a seat at it: that of a lane submits calls, polls and cancels; those of
+//! workers send what is unsent and read what comes, each over its half of the link. Every entry of the journal has its receipt at
+//! the seat that made it.
+#![tactic(auto)]
+
+mod added_calls;
+mod copies;
+mod events;
+mod frames;
+mod locked;
+mod report;
+mod rounds;
+mod shared_sftp;
+
+pub use events::{
+    CancelCall, Fail, GiveUp, HandOut, LetGo, MayRead, Step, Submit, TakeFrame, Written,
+};
+pub use frames::Handed;
+pub use locked::Locked;
+pub use report::{NotClosed, SharedReport};
+pub use rounds::{flush_round, read_round};
+pub use session_driver::{Phase, Stepped};
+pub use session_model::{Call, Entry, Lane, Report, lanes_ok};
+pub use session_seats::Receipt;
+pub use sftp_model::{Error, Fault, SftpOptions};
+pub use shared_sftp::{Seat, SharedSftp};
+pub use ssh_encoding::OutOfMemory;

@@ -1,0 +1,128 @@
+//! What lies behind the lock, and what each call of its session is.
+ghost use Rattle.std.specs.Prelude.{◌≡◌, ◌≤◌, ◌+◌, IfOk, IfErr};
+ghost use Rattle.sftp_lanes.specs.Events.{CancelsIn, StepsIn};
+ghost use Rattle.sftp_tasks.specs.SessionEvents.{GivesUp, IsKept, LetsLaneGoIn, Refuses};
+
+use session_driver::{Phase, RunsLanes, Stepped};
+use session_model::Entry;
+use session_seats::{Counts, Held};
+use sftp_lanes::Session;
+use sftp_model::{Error, Fault};
+use ssh_encoding::OutOfMemory;
+
+/// The session, the counts of its frames with the stage of its end, its users, and how many lanes have a seat.
+#[derive(Drop)]
+pub struct Locked {
+    pub(crate) session: Session,
+    pub(crate) counts: Counts,
+    pub(crate) users: u64,
+    pub(crate) seated: u32,
+    ghost counted: { users ≤ seated + 1 },
+}
+
+impl Held for Locked {
+    ghost use Rattle.sftp_tasks.specs.Shows.{shown_of};
+
+    ghost shown = { shown_of };
+
+    fn entries(&self) -> &[Entry] {
+        self.session.journal()
+    }
+
+    fn seat_lane(&mut self) -> Option<u32> {
+        if self.seated >= self.session.lane_count() {
+            return None;
+        }
+        let lane = self.seated;
+        self.seated += 1;
+        self.users += 1;
+        Some(lane)
+    }
+
+    fn leave(&mut self) -> bool {
+        self.users -= 1;
+        if self.users == 0 {
+            self.counts.stage = 1;
+            return true;
+        }
+        false
+    }
+
+    fn raise(&mut self, stage: u64) {
+        self.counts.stage = self.counts.stage.max(stage);
+    }
+}
+
+impl Locked {
+    /// One step of a lane: nothing before the session is open. `BackgroundTaskFailure` where a fault is kept, and nothing has changed
+    /// then; `OutOfMemory` for want of memory, and for good from then on.
+    pub fn step(&mut self, lane: u32) -> Result<Stepped, Error>
+        ensures rest { self.new ≡ record self.old { session = self.new.session } }
+        ensures steps { IfOk result (λ event. StepsIn self.old.session.phase lane self.old.session self.new.session event) }
+        ensures refused { IfErr result (λ e. Refuses e self.old.session self.new.session) }
+    {
+        if let Some(fault) = self.session.fault() {
+            return Err(Error::BackgroundTaskFailure(fault));
+        }
+        match self.session.step(lane) {
+            Ok(event) => Ok(event),
+            Err(OutOfMemory) => Err(Error::OutOfMemory),
+        }
+    }
+
+    /// Cancels the call of a lane that was begun, and answers whether it was: none is before the session is open. Errors as of `step`.
+    pub fn cancel(&mut self, lane: u32) -> Result<bool, Error>
+        ensures rest { self.new ≡ record self.old { session = self.new.session } }
+        ensures cancels { IfOk result (λ event. CancelsIn self.old.session.phase lane self.old.session self.new.session event) }
+        ensures refused { IfErr result (λ e. Refuses e self.old.session self.new.session) }
+    {
+        if let Some(fault) = self.session.fault() {
+            return Err(Error::BackgroundTaskFailure(fault));
+        }
+        match self.session.cancel(lane) {
+            Ok(event) => Ok(event),
+            Err(OutOfMemory) => Err(Error::OutOfMemory),
+        }
+    }
+
+    /// Lets go of all that the slots of a lane hold, once its calls have ended; false where one has not, and nothing changes then. Errors
+    /// as of `step`.
+    pub fn let_go(&mut self, lane: u32) -> Result<bool, Error>
+        ensures rest { self.new ≡ record self.old { session = self.new.session } }
+        ensures lets_go { IfOk result (λ event. LetsLaneGoIn lane self.old.session self.new.session event) }
+        ensures refused { IfErr result (λ e. Refuses e self.old.session self.new.session) }
+    {
+        if let Some(fault) = self.session.fault() {
+            return Err(Error::BackgroundTaskFailure(fault));
+        }
+        if let Phase::Failed = self.session.phase() {
+            return Err(Error::OutOfMemory);
+        }
+        if !self.session.is_done(lane) {
+            return Ok(false);
+        }
+        if self.session.was_let_go(lane) {
+            return Ok(true);
+        }
+        match self.session.let_go(lane) {
+            Ok(()) => Ok(true),
+            Err(OutOfMemory) => Err(Error::OutOfMemory),
+        }
+    }
+
+    /// Keeps a fault, also as an entry of the journal, unless one is kept.
+    pub fn fail(&mut self, fault: Fault)
+        ensures rest { self.new ≡ record self.old { session = self.new.session } }
+        ensures kept { IsKept fault self.old.session self.new.session }
+    {
+        self.session.fail(fault);
+    }
+
+    /// Lets each later call of the lanes answer `OutOfMemory`, as where a link found no memory. Nothing is added to the journal.
+    pub fn give_up(&mut self)
+        ensures rest { self.new ≡ record self.old { session = self.new.session } }
+        ensures gives_up { GivesUp self.old.session self.new.session }
+    {
+        self.session.give_up();
+    }
+}
