@@ -1,4 +1,2 @@
-// Files over a core that is fed with hand-written bodies.
-mod calls;
+// What a file is opened by.
 mod options;
-mod steps;

@@ -1,28 +1,19 @@
--- Worked examples of flags, answers and moves, and beside each what nearly is one.
-use Rattle.std.specs.Prelude.{ℕ, ◌≡◌, true, false, List, [], ◌∷◌, codes, Some, None, Ok, Err, slice_get, refl}
+-- Worked examples of flags, answers, moves and cuts, and beside each what nearly is one.
+use Rattle.std.specs.Prelude.{ℕ, ◌≡◌, true, false, List, [], ◌∷◌, codes, Some, None, Ok, Err, refl, slice_get}
 use Rattle.sftp_model.specs.declared.error.Error.TheVariants as error
-use Rattle.sftp_model.specs.declared.error.Fault.TheVariants as fault
 use Rattle.sftp_model.specs.declared.flags.OpenFlags.{OpenFlags}
-use Rattle.sftp_model.specs.declared.outcome.Outcome.TheVariants as outcome
 use Rattle.sftp_model.specs.declared.reply.Reply.{Reply}
 use Rattle.sftp_model.specs.declared.reply.Reply.TheVariants as reply
-use Rattle.sftp_model.specs.declared.request.Request.{Request}
-use Rattle.sftp_model.specs.declared.request.Request.TheVariants as request
-use Rattle.sftp_model.specs.declared.slot.Facts.{Facts}
-use Rattle.sftp_model.specs.declared.slot.Site.{Site}
-use Rattle.sftp_model.specs.declared.slot.Slot.TheVariants as slots
-use Rattle.plan_model.specs.Moves.{Answers}
-use Rattle.plan_model.specs.FilePlans.{close_next}
-use Rattle.plan_model.specs.TransferPlans.{read_next}
-use Rattle.sftp_model.specs.Slots.{fresh_site, with_slot}
-use Rattle.sftp_core.specs.Core.{Core}
-use Rattle.sftp_file.specs.declared.poll.Poll.TheVariants as poll
-use Rattle.sftp_file.specs.declared.stage.Stage.TheVariants.{Ended, Ready, Asked}
-use Rattle.sftp_file.specs.Files.{FileValue, file_at, further}
+use Rattle.sftp_model.specs.declared.slot.FileAt.{FileAt}
+use Rattle.sftp_model.specs.declared.slot.Move.TheVariants.{Wait}
 use Rattle.sftp_model.specs.OpenOptions.{nothing_chosen, flags_of}
-use Rattle.sftp_file.specs.Planned.{Planned, read_ended, close_ended}
-use Rattle.sftp_file.specs.Polls.{answered, awaiting, read_answer, file_behind, open_answer, close_answer}
-use Rattle.sftp_file.specs.Starts.{Started}
+use Rattle.plan_model.specs.Moves.{Answers}
+use Rattle.call_state.specs.Machines.{Follows}
+use Rattle.call_state.specs.declared.machine.Then.TheVariants as then
+use Rattle.sftp_file.specs.Outcomes.{read_answer, status_answer}
+use Rattle.sftp_file.specs.Parts.{cut_at}
+use Rattle.sftp_file.specs.Reads.{ReadValue, reading}
+use Rattle.sftp_file.specs.Writes.{writing}
 
 -- ---- flags
 
@@ -54,103 +45,63 @@ flags_t = refl
 
 -- ---- answers
 
-abbrev file : FileValue
-file = record { grant = record { id = 7; handle = codes "h" }; readable = true; writable = false; offset = 3 }
-
-abbrev status : ℕ → Reply
-status code = reply.Status code (codes "m") (codes "l")
-
-abbrev data_of_two : Reply
-data_of_two = reply.Content (codes "ab")
-
--- the file moves by what came, and not at the end
-pub read_bytes : read_answer data_of_two ≡ Ok (Some (codes "ab"))
-read_bytes = refl
-
-pub read_moves : file_behind file (Some data_of_two) ≡ record file { offset = 5 }
-read_moves = refl
-
-pub read_end : read_answer (status 1) ≡ Ok None
+pub read_end : read_answer 1 (codes "m") (codes "l") ≡ Ok None
 read_end = refl
 
-pub end_stays : file_behind file (Some (status 1)) ≡ file
-end_stays = refl
-
-pub read_refused : read_answer (status 2) ≡ Err (error.SftpError 2 (codes "m") (codes "l"))
+pub read_refused : read_answer 2 (codes "m") (codes "l") ≡ Err (error.SftpError 2 (codes "m") (codes "l"))
 read_refused = refl
 
 -- a STATUS 1 is an end for a READ alone
-pub close_refused : close_answer (status 1) ≡ Err (error.SftpError 1 (codes "m") (codes "l"))
-close_refused = refl
+pub status_refused : status_answer 1 (codes "m") (codes "l") ≡ Err (error.SftpError 1 (codes "m") (codes "l"))
+status_refused = refl
 
-pub close_done : close_answer (status 0) ≡ Ok tt
-close_done = refl
-
--- the grant has the number of the OPEN
-pub open_gives : open_answer (record { stage = Asked 7; readable = true; writable = false }) 7
-    (reply.Handle (codes "h")) ≡ Ok (record file { offset = 0 })
-open_gives = refl
-
--- a taken reply comes before a kept fault, and without both the ticket is awaited on
-pub reply_first : answered read_answer (Some (status 1)) (Some fault.Link) ≡ poll.Ready (Ok None)
-reply_first = refl
-
-pub fault_next : answered read_answer None (Some fault.Link) ≡ poll.Ready (Err (error.BackgroundTaskFailure fault.Link))
-fault_next = refl
-
-pub fault_ends : awaiting 7 None (Some fault.Link) ≡ Ended
-fault_ends = refl
-
-pub nothing_yet : answered read_answer None None ≡ poll.Pending
-nothing_yet = refl
-
-pub awaits_on : awaiting 7 None None ≡ Asked 7
-awaits_on = refl
+pub status_done : status_answer 0 (codes "m") (codes "l") ≡ Ok tt
+status_done = refl
 
 -- ---- moves: the OPEN is the lane's request 0, and the call's own is 1
 
 abbrev replies : List Reply → Answers
 replies taken place = slice_get taken place
 
-abbrev facts : Facts
-facts = record {
-  extensions = record { 0 = 0 };
-  read_len = 32768;
-  write_len = 32768;
-  write_limit = 655360;
-  read_window =
-      1;
-}
-
-abbrev asked : ℕ × Request
-asked = (1, request.Read (codes "h") 0 8)
-
-abbrev with_file : FileValue → Site
-with_file f = with_slot fresh_site 0 (slots.File (file_at 0 f))
-
 abbrev after : List Reply → Answers
 after taken = replies (reply.Handle (codes "h") ∷ taken)
 
-pub read_planned : Planned None 1 (read_ended 0 0 (with_file file) (further file 2))
-    (answered read_answer (Some data_of_two) None)
-    (read_next 0 8 (with_file file) facts (asked ∷ []) (after (data_of_two ∷ [])))
-read_planned = refl
+-- the file stands at 3, and may be read alone
+abbrev file : FileAt
+file = record { grant = 0; readable = true; writable = false; offset = 3 }
 
-pub read_waits : Planned None 1 (read_ended 0 0 (with_file file) file) poll.Pending
-    (read_next 0 8 (with_file file) facts (asked ∷ []) (after []))
-read_waits = (refl, refl)
+abbrev read_of_eight : ReadValue
+read_of_eight = record { file = file; len = 8 }
 
--- a kept fault ends the call, and the plan's reply is awaited on
-pub read_fails : Planned (Some fault.Link) 1 (read_ended 0 0 (with_file file) file)
-    (answered read_answer None (Some fault.Link))
-    (read_next 0 8 (with_file file) facts (asked ∷ []) (after []))
-read_fails = (refl, refl)
+-- it moves by what came
+pub read_moves : Follows reading tt read_of_eight (record { file = record file { offset = 5 }; len = 6 })
+    (after (reply.Content (codes "ab") ∷ [])) (then.Done (Ok (Some (codes "ab"))))
+read_moves = refl
 
-pub close_planned : Planned None 1 (close_ended 0 (with_file file)) (answered close_answer (Some (status 4)) None)
-    (close_next 0 (with_file file) facts ((1, request.Close (codes "h")) ∷ []) (after (status 4 ∷ [])))
-close_planned = refl
+-- and not at the end
+pub end_stays : Follows reading tt read_of_eight read_of_eight (after (reply.Status 1 (codes "m") (codes "l") ∷ []))
+    (then.Done (Ok None))
+end_stays = refl
 
--- for no bytes nothing is asked
-pub read_of_none : (core : Core) → Started outcome.End core (Ok Ready) (with_file file)
-    (read_next 0 0 (with_file file) facts [] (after [])) core
-read_of_none core = (refl, refl)
+pub read_waits_on : reading.left tt read_of_eight [] (after []) ≡ Wait 1
+read_waits_on = refl
+
+-- a write moves by all that it asked
+pub write_moves : Follows writing tt (record { file = file; len = 8 })
+    (record { file = record file { offset = 11 }; len = 0 })
+    (after (reply.Status 0 [] [] ∷ [])) (then.Done (Ok 8))
+write_moves = refl
+
+-- ---- pieces
+
+abbrev pieces : List (List ℕ)
+pieces = codes "ab" ∷ [] ∷ codes "cd" ∷ []
+
+pub cut_within : cut_at 1 2 pieces ≡ codes "b" ∷ codes "c" ∷ []
+cut_within = refl
+
+pub cut_whole : cut_at 0 9 pieces ≡ codes "ab" ∷ codes "cd" ∷ []
+cut_whole = refl
+
+pub cut_behind : cut_at 4 9 pieces ≡ []
+cut_behind = refl

@@ -1,37 +1,33 @@
-ghost use Rattle.std.specs.Prelude.{◌≡◌, ◌<◌, ℕ, [], not, ◌==◌, false, IfOk, IsSome};
-ghost use Rattle.std.specs.FinMap as fin;
-ghost use Rattle.sftp_model.specs.declared.answers.Expected.TheVariants as expected;
-ghost use Rattle.sftp_model.specs.declared.outcome.Outcome.TheVariants as outcome;
-ghost use Rattle.sftp_model.specs.declared.request.Request.TheVariants as request;
+//! An open file, and the calls on it that ask nothing.
+ghost use Rattle.std.specs.Prelude.{◌≡◌, ◌+◌, ◌<◌, ◌^◌, ℕ, [], not, ◌==◌, IfErr, OnOk, OnErr, IsSome};
 ghost use Rattle.sftp_model.specs.declared.slot.Facts.{Facts};
 ghost use Rattle.sftp_model.specs.declared.slot.Site.{Site};
-ghost use Rattle.plan_model.specs.Moves.{Answers};
-ghost use Rattle.plan_model.specs.FilePlans.{close_next};
-ghost use Rattle.plan_model.specs.TransferPlans.{read_next};
 ghost use Rattle.sftp_model.specs.declared.slot.Slot.TheVariants as slots;
-ghost use Rattle.sftp_model.specs.Slots.{with_slot, has_grant};
-ghost use Rattle.sftp_core.specs.Core.{at, users_of, IsGrant, retained, released, release_gives, is_long};
-ghost use Rattle.sftp_core.specs.Info.{MAX_IDS, info_of};
-ghost use Rattle.sftp_file.specs.Files.{IsInSlot};
-ghost use Rattle.sftp_file.specs.Polls.{Reading, IsReadOf, closing};
-ghost use Rattle.sftp_file.specs.Stages.{IsAwaited, Keeps};
-ghost use Rattle.sftp_file.specs.Starts.{Started, staged, read_len_of, ClosesBy};
+ghost use Rattle.sftp_model.specs.Slots.{has_grant, slot_at, with_slot};
+ghost use Rattle.plan_model.specs.FilePlans.{close_next, seek_next};
+ghost use Rattle.plan_model.specs.Moves.{Answers, handle_of};
+ghost use Rattle.sftp_core.specs.Core.{at, released, retained, users_of, IsGrant};
+ghost use Rattle.sftp_core.specs.Info.{info_of};
+ghost use Rattle.sftp_file.specs.Files.{alone, facts_of, file_at, file_in};
+ghost use Rattle.sftp_file.specs.Closes.{Closes};
+ghost use Rattle.sftp_file.specs.Outcomes.{seek_outcome};
 
-use crate::close_call::CloseCall;
-use crate::read_call::ReadCall;
-use crate::stage::Stage;
+use crate::facts::facts;
+use crate::looks::sought;
+use crate::settling::{CloseCall, close_call};
 use sftp_core::{Core, Ended, Grant};
-use sftp_model::{Error, IoKind, Request};
+use sftp_model::{Error, FileAt};
+use std::io::SeekFrom;
 use std::marker::Model;
 
 /// An open file of the server, with the offset at which the next read or write stands. It isn't droppable:
 /// `start_close` spends it, and `let_go` where its core was given up.
 #[must_use]
 pub struct File {
-    pub(crate) grant: Grant,
-    pub(crate) readable: bool,
-    pub(crate) writable: bool,
-    pub(crate) offset: u64,
+    grant: Grant,
+    readable: bool,
+    writable: bool,
+    offset: u64,
 }
 
 impl Model for File {
@@ -43,6 +39,30 @@ impl Model for File {
 }
 
 impl File {
+    /// The file of a grant with these rights, at its start.
+    pub(crate) fn of(grant: Grant, readable: bool, writable: bool) -> File
+        ensures { result ≡ record { grant = grant; readable = readable; writable = writable; offset = 0 } }
+    {
+        File {
+            grant,
+            readable,
+            writable,
+            offset: 0,
+        }
+    }
+
+    /// The file as plans have it, where the OPEN at place 0 brought its handle.
+    pub fn at(&self) -> FileAt
+        ensures { result ≡ file_at self.now }
+    {
+        FileAt {
+            grant: 0,
+            readable: self.readable,
+            writable: self.writable,
+            offset: self.offset,
+        }
+    }
+
     /// What the server gave for the file (draft-ietf-secsh-filexfer-02, section 6.3).
     pub fn grant(&self) -> &Grant
         ensures { result.now ≡ self.now.grant }
@@ -52,6 +72,13 @@ impl File {
 
     /// The offset of the next read or write, in bytes.
     pub fn offset(&self) -> u64
+        ensures { result ≡ self.now.offset }
+    {
+        self.offset
+    }
+
+    /// The offset of the next read or write, in bytes: no seek is ever under way.
+    pub fn poll_complete(&self) -> u64
         ensures { result ≡ self.now.offset }
     {
         self.offset
@@ -71,6 +98,64 @@ impl File {
         self.writable
     }
 
+    /// The most bytes that one WRITE of the session carries, from 1 to 1048275.
+    pub fn max_write_len(&self, core: &Core) -> u32
+        requires { IsSome (info_of core.now.phase) }
+        ensures { result ≡ (facts_of core.now).write_len }
+    {
+        facts(core).write_len
+    }
+
+    /// The most bytes that one READ of the session asks for, from 1 to 1048275.
+    pub fn max_read_len(&self, core: &Core) -> u32
+        requires { IsSome (info_of core.now.phase) }
+        ensures { result ≡ (facts_of core.now).read_len }
+    {
+        facts(core).read_len
+    }
+
+    /// The file itself.
+    pub fn as_mut_file(&mut self) -> &mut File
+        ensures same_reference { result.ghost_name ≡ self.entry.ghost_name }
+        ensures value { result.now ≡ self.old }
+    {
+        self
+    }
+
+    /// The file stands at this offset.
+    pub fn stand(&mut self, offset: u64)
+        ensures { self.new ≡ record self.old { offset = offset } }
+    {
+        self.offset = offset;
+    }
+
+    /// The file stands so many bytes further.
+    pub fn advance(&mut self, by: u64)
+        requires { self.old.offset + by < 2 ^ 64 }
+        ensures { self.new ≡ record self.old { offset = self.old.offset + by } }
+    {
+        self.offset += by;
+    }
+
+    /// Moves the offset; no request is needed.
+    ///
+    /// `IOError`, of which `SeekFromEnd` comes for each position from the end, `SeekOverflow` where the offset would be
+    /// over 18446744073709551615, and `SeekUnderflow` where it would be below 0. Refused, the file is as before.
+    pub fn start_seek(&mut self, position: SeekFrom) -> Result<(), Error>
+        ensures seeks { (facts : Facts) (answers : Answers)
+            → seek_next 0 position (alone self.old) facts [] answers ≡ seek_outcome result self.new }
+        ensures rest { self.new ≡ record self.old { offset = self.new.offset } }
+        ensures err { OnErr result (self.new ≡ self.old) }
+    {
+        match sought(self.offset, position) {
+            Ok(offset) => {
+                self.offset = offset;
+                Ok(())
+            }
+            Err(why) => Err(Error::IOError(why)),
+        }
+    }
+
     /// The same file for one user more, at the same offset. It is closed once its last user has closed it.
     pub fn clone_file(&self, core: &mut Core) -> File
         requires counted { IsGrant core.old self.now.grant }
@@ -87,81 +172,11 @@ impl File {
         }
     }
 
-    /// Asks for at most `n` bytes at the offset, as many as one READ may ask for
-    /// (draft-ietf-secsh-filexfer-02, section 6.4). For no bytes nothing is asked, and the first poll gives None.
-    ///
-    /// Looked at in this order: `IOError(NotReadable)`; `IOError(OffsetOverflow)`, where the offset and the length
-    /// of the READ together are over 18446744073709551615; `BackgroundTaskFailure`, where the core keeps a fault.
-    /// `OutOfMemory` may come in place of any answer. Refused, nothing was submitted, and core and file are as
-    /// before. The file stays as it is until the reply is polled.
-    pub fn start_read(&mut self, core: &mut Core, n: u32) -> Result<ReadCall, Error>
-        requires ready { IsSome (info_of core.old.phase) }
-        requires few { fin.len core.old.table < MAX_IDS }
-        ensures starts { (slot place : ℕ) (site : Site) (facts : Facts) (answers : Answers)
-            → IsInSlot self.old slot place site answers → facts.read_len ≡ read_len_of core.old
-            → Started outcome.End core.old (staged (λ (call : Reading). call.stage) result) site
-            (read_next slot n site facts [] answers) core.new }
-        ensures awaits { IfOk result (λ call. IsAwaited core.new call.stage (expected.Content call.len)) }
-        ensures file { IfOk result (λ call. IsReadOf self.old call) }
-        ensures keeps { Keeps core.old core.new }
-        ensures left { self.new ≡ self.old }
-    {
-        if n == 0 {
-            return Ok(ReadCall {
-                stage: Stage::Ready,
-                grant: self.grant.id(),
-                offset: self.offset,
-                len: 0,
-            });
-        }
-        if !self.readable {
-            return Err(Error::IOError(IoKind::NotReadable));
-        }
-        let read_len = match core.info() {
-            Some(info) => info.read_len,
-            None => unreachable!(),
-        };
-        let len = n.min(read_len);
-        if self.offset > u64::MAX - u64::from(len) {
-            return Err(Error::IOError(IoKind::OffsetOverflow));
-        }
-        match Stage::ask(core, self.read_request(len)) {
-            Ok(stage) => Ok(ReadCall {
-                stage,
-                grant: self.grant.id(),
-                offset: self.offset,
-                len,
-            }),
-            Err(e) => Err(e),
-        }
-    }
-
-    /// The READ of `len` bytes at the offset. It fits a frame, since a handle has at most 256 bytes.
-    fn read_request(&self, len: u32) -> Request
-        ensures value { result ≡ request.Read self.now.grant.handle self.now.offset len }
-        ensures short { is_long result ≡ false }
-    {
-        let handle = self.grant.handle();
-        let _short = handle.as_bytes();
-        Request::Read {
-            handle: handle.copied(),
-            offset: self.offset,
-            len,
-        }
-    }
-
     /// Lets the file go. CLOSE is sent exactly for the last user; any other's first poll gives `()`
     /// (draft-ietf-secsh-filexfer-02, section 6.3). It can't be refused.
     pub fn start_close(self, core: &mut Core) -> CloseCall
         requires { IsGrant core.old self.grant }
-        ensures call { result ≡ closing (release_gives self.grant (users_of (at core.old self.grant.id))) }
-        ensures core { core.new ≡ released core.old self.grant }
-        ensures starts { (slot place : ℕ) (site : Site) (facts : Facts) (answers : Answers)
-            → IsInSlot self slot place site answers
-            → has_grant (with_slot site slot slots.Empty) place ≡ not (users_of (at core.old self.grant.id) == 1)
-            → ClosesBy result self.grant.handle (with_slot site slot slots.Empty)
-            (close_next slot site facts [] answers) }
-        ensures awaits { IsAwaited core.new result expected.Status }
+        ensures { Closes self core.old core.new result }
     {
         let File {
             grant,
@@ -169,14 +184,7 @@ impl File {
             writable: _,
             offset: _,
         } = self;
-        match core.release(grant) {
-            Some(ticket) => CloseCall {
-                stage: Stage::Asked(ticket),
-            },
-            None => CloseCall {
-                stage: Stage::Ready,
-            },
-        }
+        close_call(core.release(grant))
     }
 
     /// Lets the file go where its core was given up. No CLOSE is sent.

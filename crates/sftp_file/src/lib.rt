@@ -1,21 +1,30 @@
 //! Files of an SFTP server and the states of their calls.
 #![tactic(auto)]
 
-mod close_call;
+mod copying;
+mod facts;
 mod file;
-mod laws;
-mod open_call;
-mod poll;
-mod read_call;
-mod stage;
-mod start_open;
+mod looks;
+mod on_file;
+mod opening;
+mod parts;
+mod reading;
+mod sending;
+mod settling;
+mod slices;
+mod telling;
+mod writing;
 
-pub use close_call::CloseCall;
+pub use call_state::Poll;
+pub use copying::{CopyCall, Copying, PollCopy};
 pub use file::File;
-pub use laws::{calls_keep_what_is_held, cancelled_opens_are_closed};
-pub use open_call::OpenCall;
-pub use poll::Poll;
-pub use read_call::ReadCall;
+pub use on_file::{OnFile, PollFile};
+pub use opening::{OpenCall, Opening, StartOpen};
+pub use reading::{ReadCall, Reading};
+pub use sending::{Sending, WriteCall};
+pub use settling::{CloseCall, Settling, StatusCall, close_call, status_call};
 pub use sftp_model::{Error, IoKind};
+pub use slices::{take_bytes, take_io_slices};
 pub use ssh_encoding::OutOfMemory;
-pub use start_open::StartOpen;
+pub use telling::{AttrsCall, Telling, attrs_call};
+pub use writing::{WriteAllCall, WritingAll};

@@ -1,6 +1,6 @@
 use Rattle.std.proofs.Common.{rules, ◌≡◌}
 use Rattle.sftp_core.specs.Core.{retained}
-use Rattle.sftp_file.proofs.StageLaws.{retained_grant}
+use Rattle.sftp_file.proofs.Granting.{retained_grant}
 use Rattle.sftp_file.proofs.file.File.clone_file.Goals as goal
 
 pub returns-clause-granted : goal.returns-clause-granted

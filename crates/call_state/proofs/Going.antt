@@ -1,0 +1,161 @@
+-- What a call does is the move of each plan that it is left of.
+use Rattle.std.proofs.Common.{◌≡◌, ◌∙◌, refl, sym, subst, ℕ, true, [], ◌∷◌, Some, None, Result, Ok, Err, inl, inr}
+use Rattle.sftp_model.specs.declared.error.Error.{Error}
+use Rattle.sftp_model.specs.declared.error.Error.TheVariants as error
+use Rattle.sftp_model.specs.declared.error.Fault.{Fault}
+use Rattle.sftp_model.specs.declared.slot.Move.{Move}
+use Rattle.sftp_model.specs.declared.slot.Move.TheVariants.{Ask, Wait}
+use Rattle.plan_model.specs.Moves.{Answers, Own, Plan}
+use Rattle.sftp_core.specs.Core.{Core, after_poll, at, reply_in}
+use Rattle.call_state.specs.declared.stage.Stage.{Stage}
+use Rattle.call_state.specs.declared.stage.Stage.TheVariants.{Ended, Ready, Asked, Came, Unsent}
+use Rattle.call_state.proofs.Keeping.{keeps_same}
+use Rattle.call_state.specs.Machines.{GoesBehind, HoldsValue, IsOwn, Meaning}
+use Rattle.call_state.specs.declared.machine.Then.TheVariants as then
+use Rattle.call_state.specs.declared.asking.Asking.{Asking}
+use Rattle.call_state.specs.Asked.{Submitted, request_of}
+use Rattle.call_state.specs.Calls.{Asks, CallValue, HoldsReady, IsHeldAt, IsLeft, IsLeftAt, IsOver, IsUnfinished, Leaves, Polled, Tells, TellsAt, Went, is_ended, polled_core}
+use Rattle.call_state.specs.declared.poll.Poll.{Poll}
+use Rattle.call_state.specs.declared.poll.Poll.TheVariants as poll
+use Rattle.call_state.specs.declared.told.Told.{Told}
+use Rattle.call_state.specs.Told.{reply_of}
+use Rattle.sftp_model.specs.declared.reply.Reply.{Reply}
+
+-- a plan that goes on as a machine asks what the machine asks
+pub behind_by : {W M V : Type 0} (s : Meaning W M V) (w : W) (plan : Plan) (answers : Answers) (asking : Asking) (m next : M)
+    → ((later : Own) → plan later answers ≡ s.left w m later answers) → GoesBehind s w (s.left w m) answers asking next
+    → GoesBehind s w plan answers asking next
+behind_by s w plan answers asking m next same b =
+    record { asks = same [] ∙ b.asks; rest = λ later. same ((s.place next, request_of asking) ∷ later) ∙ b.rest later; knows = b.knows }
+
+-- and ends as it
+pub ended_by : {W M V : Type 0} (s : Meaning W M V) (w : W) (plan : Plan) (answers : Answers) (old new : Core) (q : CallValue M) (value : Result V Error)
+    → IsOwn value → plan [] answers ≡ s.ended w q.machine value → is_ended q.stage ≡ true → new ≡ old → Went s w plan answers old new q (poll.Ready value)
+ended_by s w plan answers old new q (Ok value) own done over same = (done, over, same)
+ended_by s w plan answers old new q (Err error.OutOfMemory) own done over same = absurd own
+ended_by s w plan answers old new q (Err (error.BackgroundTaskFailure fault)) own done over same = absurd own
+ended_by s w plan answers old new q (Err other) own done over same = (done, over, same)
+
+-- what was submitted is awaited
+pub sent_by : {W M V : Type 0} (s : Meaning W M V) (w : W) (plan : Plan) (answers : Answers) (old new : Core) (m : M)
+    (asking : Asking) (ticket : ℕ) (q : CallValue M)
+    → q.stage ≡ Asked ticket → q.machine ≡ m → GoesBehind s w plan answers asking m → s.cut m asking
+    → Submitted old asking ticket new → Asks s w plan answers old new q
+sent_by s w plan answers old new m asking ticket q is same b cut submitted =
+    record {
+      asking = asking;
+      ticket = ticket;
+      awaits = is;
+      behind =
+          subst (λ x. GoesBehind s w plan answers asking x) (sym same) b;
+      cut =
+          subst (λ x. s.cut x asking) (sym same) cut;
+      submitted = submitted;
+    }
+
+-- the machine goes on behind what it asks
+pub asks_behind : {W M V : Type 0} (s : Meaning W M V) (w : W) (plan : Plan) (answers : Answers) (asking : Asking) (now m next : M) (r : Reply) → now ≡ m
+    → (s.known now answers → answers (s.place now) ≡ Some r → GoesBehind s w (s.left w now) answers asking next)
+    → s.known m answers → answers (s.place m) ≡ Some r → ((later : Own) → plan later answers ≡ s.left w m later answers)
+    → GoesBehind s w plan answers asking next
+asks_behind s w plan answers asking now m next r e f known came same =
+    behind_by s w plan answers asking m next same (subst (λ x. s.known x answers → answers (s.place x) ≡ Some r
+    → GoesBehind s w (s.left w x) answers asking next) e f known came)
+
+pub unfinished_by : (x y : Move) → x ≡ y → IsUnfinished y → IsUnfinished x
+unfinished_by x y e h = subst IsUnfinished (sym e) h
+
+-- a kept fault is answered in place of a request
+pub asks_failed : {W M V : Type 0} (s : Meaning W M V) (w : W) (plan : Plan) (answers : Answers) (old new : Core)
+    (q : CallValue M) (asking : Asking) (m : M) (fault : Fault)
+    → GoesBehind s w plan answers asking m → old.fault ≡ Some fault → is_ended q.stage ≡ true
+    → Went {V = V} s w plan answers old new q (poll.Ready (Err (error.BackgroundTaskFailure fault)))
+asks_failed s w plan answers old new q asking m fault b kept over = (kept, over, unfinished_by (plan [] answers) (Ask (request_of asking)) b.asks tt)
+
+-- ---- a poll, by what was awaited
+
+-- or in place of a reply
+pub failed_polled : {W M V : Type 0} (s : Meaning W M V) (w : W) (plan : Plan) (answers : Answers) (old new : Core)
+    (p q : CallValue M) (ticket : ℕ) (fault : Fault)
+    → ((later : Own) → answers (s.place p.machine) ≡ None → s.left w p.machine later answers ≡ Wait (s.place p.machine))
+    → p.stage ≡ Asked ticket → reply_in (at old ticket) ≡ None → (after_poll old ticket).fault ≡ Some fault
+    → is_ended q.stage ≡ true → IsLeft s w plan answers p → Tells s old p answers
+    → Polled {V = V} s w plan answers old new p q (poll.Ready (Err (error.BackgroundTaskFailure fault)))
+failed_polled s w plan answers old new p q ticket fault waits is none kept over left tells =
+    let l = subst (λ x. IsLeftAt s w plan answers p.machine x) is left in
+    let told : answers (s.place p.machine) ≡ reply_in (at old ticket) = subst (λ x. TellsAt s old p.machine x answers) is tells in
+    inr (
+      subst (λ x. (polled_core old x).fault ≡ Some fault) (sym is) kept,
+      over,
+      unfinished_by (plan [] answers) (Wait (s.place p.machine)) (l.1 [] ∙ waits [] (told ∙ none)) tt,
+    )
+
+pub unsent_polled : {W M V : Type 0} (s : Meaning W M V) (w : W) (plan : Plan) (answers : Answers) (old new : Core)
+    (p q : CallValue M) (result : Poll (Result V Error)) (asking : Asking)
+    → p.stage ≡ Unsent asking → IsLeft s w plan answers p → (GoesBehind s w plan answers asking p.machine
+    → Went s w plan answers old new q result) → Polled s w plan answers old new p q result
+unsent_polled s w plan answers old new p q result asking is left f =
+    inr (subst (λ x. Went s w plan answers (polled_core old x) new q result) (sym is) (f (subst (λ x. IsLeftAt s w plan answers p.machine x) is left)))
+
+-- a machine goes on with a reply
+abbrev pub GoesOn : {W M V : Type 0} → Meaning W M V → W → Plan → Answers → M → Reply → Type 0 → Type 0
+GoesOn s w plan answers m r P = s.known m answers → answers (s.place m) ≡ Some r → ((later : Own) → plan later answers ≡ s.left w m later answers) → P
+
+pub came_polled : {W M V : Type 0} (s : Meaning W M V) (w : W) (plan : Plan) (answers : Answers) (old new : Core)
+    (p q : CallValue M) (result : Poll (Result V Error)) (t : Told)
+    → p.stage ≡ Came t → IsLeft s w plan answers p → Tells s old p answers
+    → GoesOn s w plan answers p.machine (reply_of t) (Went s w plan answers old new q result)
+    → Polled s w plan answers old new p q result
+came_polled s w plan answers old new p q result t is left tells f =
+    let l = subst (λ x. IsLeftAt s w plan answers p.machine x) is left in
+    inr (subst (λ x. Went s w plan answers (polled_core old x) new q result) (sym is) (f l.0 (subst (λ x. TellsAt s old p.machine x answers) is tells) l.1))
+
+pub asked_polled : {W M V : Type 0} (s : Meaning W M V) (w : W) (plan : Plan) (answers : Answers)
+    (old polled new : Core) (p q : CallValue M) (result : Poll (Result V Error)) (ticket : ℕ) (r : Reply)
+    → p.stage ≡ Asked ticket → polled ≡ after_poll old ticket → reply_in (at old ticket) ≡ Some r → IsLeft s w plan answers p → Tells s old p answers
+    → GoesOn s w plan answers p.machine r (Went s w plan answers polled new q result) → Polled s w plan answers old new p q result
+asked_polled s w plan answers old polled new p q result ticket r is core came left tells f =
+    let l = subst (λ x. IsLeftAt s w plan answers p.machine x) is left in
+    let told : answers (s.place p.machine) ≡ reply_in (at old ticket) = subst (λ x. TellsAt s old p.machine x answers) is tells in
+    inr (subst (λ x. Went s w plan answers (polled_core old x) new q result) (sym is)
+    (subst (λ (x : Core). Went s w plan answers x new q result) core (f l.0 (told ∙ came) l.1)))
+
+pub missing_polled : {W M V : Type 0} (s : Meaning W M V) (w : W) (plan : Plan) (answers : Answers) (old new : Core) (p q : CallValue M) (ticket : ℕ)
+    → ((later : Own) → answers (s.place p.machine) ≡ None → s.left w p.machine later answers ≡ Wait (s.place p.machine))
+    → p.stage ≡ Asked ticket → reply_in (at old ticket) ≡ None → old.fault ≡ None → new ≡ old → q ≡ p
+    → IsLeft s w plan answers p → Tells s old p answers → Polled s w plan answers old new p q poll.Pending
+missing_polled s w plan answers old new p q ticket waits is none unfailed core same left tells =
+    let l = subst (λ x. IsLeftAt s w plan answers p.machine x) is left in
+    let told : answers (s.place p.machine) ≡ reply_in (at old ticket) = subst (λ x. TellsAt s old p.machine x answers) is tells in
+    inl (record { pending = refl; waits = l.1 [] ∙ waits [] (told ∙ none); unfailed = unfailed; core = core; same = same })
+
+-- ---- a value
+
+holds_ready : {W M V : Type 0} (s : Meaning W M V) (core : Core) (value : Result V Error)
+    → HoldsValue s core (then.Done value) → HoldsReady s core (poll.Ready value)
+holds_ready s core (Ok value) h = h
+holds_ready s core (Err e) h = tt
+
+over_ready : {V : Type 0} (stage : Stage) (value : Result V Error) → is_ended stage ≡ true → IsOwn value → IsOver stage (poll.Ready value)
+over_ready stage (Ok value) over own = over
+over_ready stage (Err error.OutOfMemory) over own = absurd own
+over_ready stage (Err (error.BackgroundTaskFailure fault)) over own = absurd own
+over_ready stage (Err other) over own = over
+
+held_ended : {W M V : Type 0} (s : Meaning W M V) (core : Core) (m : M) (stage : Stage) → is_ended stage ≡ true → IsHeldAt s core m stage
+held_ended s core m Ended over = tt
+held_ended s core m Ready over = absurd cc
+held_ended s core m (Unsent asking) over = absurd cc
+held_ended s core m (Asked ticket) over = absurd cc
+held_ended s core m (Came t) over = absurd cc
+
+-- a value ends the call
+pub done_leaves : {W M V : Type 0} (s : Meaning W M V) (core : Core) (q : CallValue M) (value : Result V Error) → is_ended q.stage ≡ true → IsOwn value
+    → HoldsValue s core (then.Done value) → Leaves s core core q (poll.Ready value)
+done_leaves s core q value over own h =
+    record {
+      held = held_ended s core q.machine q.stage over;
+      over = over_ready q.stage value over own;
+      holds = holds_ready s core value h;
+      keeps = keeps_same core;
+    }

@@ -1,0 +1,347 @@
+-- What the calls of a core leave to the states and files that stand on it.
+use Rattle.std.proofs.Common.{◌≡◌, ◌≢◌, ℕ, ◌<◌, true, false, refl, sym, ap, ◌∙◌, Option, Some, None, Result, Ok, IsTrue, IsSome, ◌⊎◌, inl, inr, subst, List}
+use Rattle.std.proofs.lemmas.Bool.{cases_eq}
+use Rattle.std.specs.Option.{option_map}
+use Rattle.sftp_model.specs.Answers.{expected_of}
+use Rattle.sftp_model.specs.declared.answers.Expected.{Expected}
+use Rattle.sftp_model.specs.declared.error.Fault.{Fault}
+use Rattle.sftp_model.specs.declared.frame_error.FrameError.{FrameError}
+use Rattle.sftp_model.specs.declared.reply.Reply.{Reply}
+use Rattle.sftp_core.specs.declared.errors.TakeError.{TakeError}
+use Rattle.sftp_core.specs.declared.phase.Phase.{Phase}
+use Rattle.sftp_core.specs.declared.phase.Phase.TheVariants.{Greeting, Asking as AskingLimits, Open}
+use Rattle.sftp_core.specs.declared.place.Place.{Place}
+use Rattle.sftp_core.specs.declared.place.Place.TheVariants.{Waiting, Answered, Granted}
+use Rattle.sftp_core.specs.declared.tokens.Taken.{Taken}
+use Rattle.sftp_core.specs.Core.{
+  Core,
+  abandon_leaves,
+  abandoned,
+  after_poll,
+  at,
+  failed_with,
+  handed_out,
+  is_ticket,
+  released,
+  reply_in,
+  retained,
+  users_of,
+  write_of,
+  IsGrant,
+}
+use Rattle.sftp_core.specs.Grant.{GrantValue}
+use Rattle.sftp_core.specs.Info.{info_of}
+use Rattle.sftp_core.specs.Table.{expected_at, sent_place}
+use Rattle.sftp_core.specs.Take.{Read, Refused, IsTakeError, TakenFrom, fault_of, take_leaves, take_refusal, taken_in, wrong_at, wrong_in}
+use Rattle.sftp_core.proofs.Elsewhere.{
+  abandon_elsewhere,
+  hand_out_each,
+  poll_elsewhere,
+  put_elsewhere,
+  put_here,
+  release_elsewhere,
+  retain_elsewhere,
+  take_elsewhere,
+}
+use Rattle.call_state.specs.declared.asking.Asking.{Asking}
+use Rattle.call_state.specs.declared.asking.Asking.TheVariants.{Whole, Parts}
+use Rattle.call_state.specs.declared.stage.Stage.{Stage}
+use Rattle.call_state.specs.declared.stage.Stage.TheVariants.{Ended, Ready, Unsent, Asked, Came}
+use Rattle.call_state.specs.declared.told.Told.TheVariants as told
+use Rattle.call_state.specs.Asked.{Holds, Submitted, queued_by, request_of}
+use Rattle.call_state.specs.Calls.{Cancels, IsGrantOf, IsHeld, IsHeldAt, IsUnderWay, cancelled, CallValue}
+use Rattle.call_state.specs.Machines.{Meaning}
+use Rattle.call_state.specs.Keeping.{IsDropped, Keeps, KeepsGrants}
+
+-- what is kept under an id tells whether a ticket is held
+pub holds_at : (core : Core) (ticket : ℕ) (kind : Expected) (p : Option Place) → at core ticket ≡ p
+    → IsTrue (is_ticket p) → expected_at p ≡ Some kind → Holds core ticket kind
+holds_at core ticket kind p here counted is = record { counted = rw here counted; expects = rw here is }
+
+-- nothing but what is kept under its id counts
+pub holds_still : (old new : Core) (ticket : ℕ) (kind : Expected) → at new ticket ≡ at old ticket → Holds old ticket kind
+    → Holds new ticket kind
+holds_still old new ticket kind same h = holds_at new ticket kind (at old ticket) same h.counted h.expects
+
+-- ---- a request that is submitted
+
+-- it is kept under its id
+pub queued_here : (core : Core) (ticket : ℕ) (asking : Asking)
+    → at (queued_by core ticket asking) ticket ≡ Some (Waiting (expected_of (request_of asking)) false true)
+queued_here core ticket (Whole asked) = put_here core.table ticket (Waiting (expected_of asked) false true)
+queued_here core ticket (Parts handle offset parts) =
+    put_here core.table ticket (Waiting (expected_of (write_of handle offset parts)) false true)
+
+-- so that its ticket is held
+pub submitted_holds : (old new : Core) (asking : Asking) (ticket : ℕ) (kind : Expected) → Submitted old asking ticket new
+    → kind ≡ expected_of (request_of asking) → Holds new ticket kind
+submitted_holds old new asking ticket kind h is =
+    holds_at new ticket kind (Some (Waiting (expected_of (request_of asking)) false true))
+    (ap (λ (c : Core). at c ticket) h.queued ∙ queued_here old ticket asking) refl (ap (λ (k : Expected). Some k) (sym is))
+
+queued_elsewhere : (core : Core) (ticket : ℕ) (asking : Asking) (q : ℕ) → q ≢ ticket
+    → at (queued_by core ticket asking) q ≡ at core q
+queued_elsewhere core ticket (Whole asked) q h = put_elsewhere core.table ticket _ q h
+queued_elsewhere core ticket (Parts handle offset parts) q h = put_elsewhere core.table ticket _ q h
+
+-- under a free id it changes no place that is there
+other_place : (core : Core) (ticket : ℕ) (asking : Asking) (other : ℕ) (here : Place) → at core ticket ≡ None
+    → at core other ≡ Some here → at (queued_by core ticket asking) other ≡ Some here
+other_place core ticket asking other here free there =
+    queued_elsewhere core ticket asking other (λ same. let clash : Some here ≡ None = sym there ∙ ap (at core) same ∙ free in cc)
+    ∙ there
+
+held_place : (core new : Core) (ticket : ℕ) (kind : Expected) (p : Option Place) → at core ticket ≡ p
+    → ((here : Place) → p ≡ Some here → at new ticket ≡ p) → IsTrue (is_ticket p) → expected_at p ≡ Some kind
+    → Holds new ticket kind
+held_place core new ticket kind (Some here) e still counted is = holds_at new ticket kind (Some here) (still here refl) counted is
+held_place core new ticket kind None e still counted is = cc
+
+pub keeps_submitted : (core : Core) (ticket : ℕ) (asking : Asking) → at core ticket ≡ None → Keeps core (queued_by core ticket asking)
+keeps_submitted core ticket asking free =
+    record {
+      holds = λ other kind h. held_place core (queued_by core ticket asking) other kind (at core other) refl
+          (λ here there. other_place core ticket asking other here free there ∙ sym there) h.counted h.expects;
+      grants = record { grants = λ id handle users here. other_place core ticket asking id (Granted handle users) free here };
+    }
+
+-- ---- nothing, a fault, a hand-out
+
+pub keeps_same : (core : Core) → Keeps core core
+keeps_same core = record { holds = λ ticket kind h. h; grants = record { grants = λ id handle users here. here } }
+
+-- two changes, one after the other
+pub keeps_both : (a b c : Core) → Keeps a b → Keeps b c → Keeps a c
+keeps_both a b c h k =
+    record {
+      holds = λ ticket kind x. k.holds ticket kind (h.holds ticket kind x);
+      grants = record { grants = λ id handle users here. k.grants.grants id handle users (h.grants.grants id handle users here) };
+    }
+
+pub keeps_failed : (core : Core) (fault : Fault) → Keeps core (failed_with core fault)
+keeps_failed core fault =
+    record {
+      holds = λ ticket kind h. holds_at (failed_with core fault) ticket kind (at core ticket) refl h.counted h.expects;
+      grants = record { grants = λ id handle users here. here };
+    }
+
+sent_at : (core : Core) (ticket : ℕ) (kind : Expected) (p : Option Place) → at core ticket ≡ option_map sent_place p
+    → IsTrue (is_ticket p) → expected_at p ≡ Some kind → Holds core ticket kind
+sent_at core ticket kind (Some (Waiting expected sent wanted)) here counted is =
+    holds_at core ticket kind (Some (Waiting expected true wanted)) here counted is
+sent_at core ticket kind (Some (Answered expected r)) here counted is =
+    holds_at core ticket kind (Some (Answered expected r)) here counted is
+sent_at core ticket kind (Some (Granted handle users)) here counted is = cc
+sent_at core ticket kind None here counted is = cc
+
+pub keeps_handed_out : (core : Core) → Keeps core (handed_out core)
+keeps_handed_out core =
+    record {
+      holds = λ ticket kind h. sent_at (handed_out core) ticket kind (at core ticket) (hand_out_each core ticket) h.counted h.expects;
+      grants = record {
+        grants = λ id handle users here. hand_out_each core id ∙ ap (λ (p : Option Place). option_map sent_place p) here;
+      };
+    }
+
+-- ---- a frame that is taken
+
+taken_at : (core : Core) (ticket : ℕ) (kind : Expected) (r : Reply) (p : Option Place) → IsTrue (is_ticket p)
+    → expected_at p ≡ Some kind → wrong_at ticket r p ≡ None
+    → Holds (take_leaves core ticket r p) ticket kind
+taken_at core ticket kind r (Some (Waiting expected true true)) counted is right =
+    holds_at (take_leaves core ticket r (Some (Waiting expected true true))) ticket kind (Some (Answered expected r))
+    (put_here core.table ticket (Answered expected r)) refl is
+taken_at core ticket kind r (Some (Waiting expected false true)) counted is right = cc
+taken_at core ticket kind r (Some (Waiting expected sent false)) counted is right = cc
+taken_at core ticket kind r (Some (Answered expected other)) counted is right = cc
+taken_at core ticket kind r (Some (Granted handle users)) counted is right = cc
+taken_at core ticket kind r None counted is right = cc
+
+took_holds : (core : Core) (id : ℕ) (r : Reply) (ticket : ℕ) (kind : Expected) → wrong_at id r (at core id) ≡ None
+    → (ticket ≡ id) ⊎ (ticket ≡ id → ⊥) → Holds core ticket kind
+    → Holds (take_leaves core id r (at core id)) ticket kind
+took_holds core id r ticket kind right (inl same) h =
+    let Kept : ℕ → Type 0 = λ (q : ℕ). Holds (take_leaves core id r (at core id)) q kind in
+    let There : ℕ → Type 0 = λ (q : ℕ). Holds core q kind in
+    let here : Holds core id kind = subst There same h in
+    subst Kept (sym same) (taken_at core id kind r (at core id) here.counted here.expects right)
+took_holds core id r ticket kind right (inr apart) h = holds_still core (take_leaves core id r (at core id)) ticket kind
+    (take_elsewhere core id r (at core id) ticket apart) h
+
+-- what stands under the id of a frame that is taken is a request
+waiting_there : (id : ℕ) (r : Reply) (p : Option Place) (handle : List ℕ) (users : ℕ) → p ≡ Some (Granted handle users) → wrong_at id r p ≡ None → ⊥
+waiting_there id r (Some (Granted h u)) handle users e right = cc
+waiting_there id r (Some (Waiting expected sent wanted)) handle users e right = cc
+waiting_there id r (Some (Answered expected other)) handle users e right = cc
+waiting_there id r None handle users e right = cc
+
+took_grant : (core : Core) (id : ℕ) (r : Reply) (other : ℕ) (handle : List ℕ) (users : ℕ) → wrong_at id r (at core id) ≡ None
+    → at core other ≡ Some (Granted handle users) → at (take_leaves core id r (at core id)) other ≡ Some (Granted handle users)
+took_grant core id r other handle users right here =
+    take_elsewhere core id r (at core id) other
+    (λ same. waiting_there id r (at core id) handle users (ap (λ (q : ℕ). at core q) (sym same) ∙ here) right) ∙ here
+
+took_keeps : (core : Core) (phase : Phase) (id : Option ℕ) (r : Reply) → IsSome (info_of phase)
+    → wrong_in core phase id r ≡ None → Keeps core (taken_in core phase id r)
+took_keeps core Greeting id r open_now right = cc
+took_keeps core (AskingLimits extensions) id r open_now right = cc
+took_keeps core (Open info) None r open_now right = cc
+took_keeps core (Open info) (Some id) r open_now right =
+    record {
+      holds = λ ticket kind h. took_holds core id r ticket kind right (cases_eq ticket id) h;
+      grants = record { grants = λ other handle users here. took_grant core id r other handle users right here };
+    }
+
+refusal_in : (core : Core) (read : Result Read FrameError) (reading : Read) → read ≡ Ok reading → take_refusal core read
+    ≡ None → wrong_in core core.phase reading.0 reading.1 ≡ None
+refusal_in core read reading is right = let P : Result Read FrameError → Type 0 = λ x. take_refusal core x ≡ None in subst P is right
+
+pub keeps_taken : (old new : Core) (read : Result Read FrameError) (told : Taken) → IsSome (info_of old.phase)
+    → take_refusal old read ≡ None → TakenFrom read told old new → Keeps old new
+keeps_taken old new read told open_now right h =
+    let P : Core → Type 0 = λ (core : Core). Keeps old core in
+    subst P (sym h.leaves) (took_keeps old old.phase h.reading.0 h.reading.1 open_now (refusal_in old read h.reading h.reads right))
+
+refused_keeps : (e : TakeError) (kept : Option Fault) (refusal : Option TakeError) (old new : Core) → Refused e kept refusal old new → Keeps old new
+refused_keeps e None refusal old new h = let P : Core → Type 0 = λ (core : Core). Keeps old core in subst P (sym h) (keeps_same old)
+refused_keeps e (Some fault) refusal old new h = let P : Core → Type 0 = λ (core : Core). Keeps old core in subst P (sym h.1) (keeps_failed old fault)
+
+-- a frame that isn't taken
+pub keeps_refused : (old new : Core) (e : TakeError) (refusal : Option TakeError) → IsTakeError e refusal old new → Keeps old new
+keeps_refused old new e refusal h = refused_keeps e (fault_of e) refusal old new h
+
+-- ---- a ticket and a grant have different numbers
+
+granted_ticket : (p : Option Place) (handle : List ℕ) (users : ℕ) → p ≡ Some (Granted handle users) → IsTrue (is_ticket p) → ⊥
+granted_ticket (Some (Granted handle users)) h u e counted = cc
+granted_ticket (Some (Waiting expected sent wanted)) h u e counted = cc
+granted_ticket (Some (Answered expected r)) h u e counted = cc
+granted_ticket None h u e counted = cc
+
+ticket_apart : (core : Core) (ticket id : ℕ) (handle : List ℕ) (users : ℕ) → IsTrue (is_ticket (at core ticket))
+    → at core id ≡ Some (Granted handle users) → id ≢ ticket
+ticket_apart core ticket id handle users counted here same =
+    granted_ticket (at core ticket) handle users (ap (λ (q : ℕ). at core q) (sym same) ∙ here) counted
+
+-- ---- what a poll, a cancel, a close and a clone leave
+
+pub polled_keeps_grants : (core : Core) (ticket : ℕ) → IsTrue (is_ticket (at core ticket)) → KeepsGrants core (after_poll core ticket)
+polled_keeps_grants core ticket counted =
+    record {
+      grants = λ id handle users here. poll_elsewhere core ticket core.fault (at core ticket) id
+          (ticket_apart core ticket id handle users counted here) ∙ here;
+    }
+
+pub cancelled_keeps_grants : (core : Core) (ticket : ℕ) → IsTrue (is_ticket (at core ticket)) → KeepsGrants core (abandoned core ticket)
+cancelled_keeps_grants core ticket counted =
+    record {
+      grants = λ id handle users here. abandon_elsewhere core ticket (at core ticket) id
+          (ticket_apart core ticket id handle users counted here) ∙ here;
+    }
+
+pub polled_on : (core : Core) (ticket other : ℕ) (kind : Expected) → other ≢ ticket → Holds core other kind
+    → Holds (after_poll core ticket) other kind
+polled_on core ticket other kind apart h =
+    holds_still core (after_poll core ticket) other kind (poll_elsewhere core ticket core.fault (at core ticket) other apart) h
+
+pub cancelled_on : (core : Core) (ticket other : ℕ) (kind : Expected) → other ≢ ticket → Holds core other kind
+    → Holds (abandoned core ticket) other kind
+cancelled_on core ticket other kind apart h =
+    holds_still core (abandoned core ticket) other kind (abandon_elsewhere core ticket (at core ticket) other apart) h
+
+grant_apart : (core : Core) (grant : GrantValue) (ticket : ℕ) (kind : Expected) → IsGrant core grant → Holds core ticket kind → ticket ≢ grant.id
+grant_apart core grant ticket kind g h same =
+    ticket_apart core ticket grant.id grant.handle (users_of (at core grant.id)) h.counted g.kept (sym same)
+
+pub released_holds : (core : Core) (grant : GrantValue) (ticket : ℕ) (kind : Expected) → IsGrant core grant
+    → Holds core ticket kind → Holds (released core grant) ticket kind
+released_holds core grant ticket kind g h =
+    holds_still core (released core grant) ticket kind
+    (release_elsewhere core grant (users_of (at core grant.id)) ticket (grant_apart core grant ticket kind g h)) h
+
+pub retained_holds : (core : Core) (grant : GrantValue) (ticket : ℕ) (kind : Expected) → IsGrant core grant
+    → Holds core ticket kind → Holds (retained core grant) ticket kind
+retained_holds core grant ticket kind g h =
+    holds_still core (retained core grant) ticket kind (retain_elsewhere core grant ticket (grant_apart core grant ticket kind g h)) h
+
+-- ---- a cancel before the reply
+
+dropped_at : (core : Core) (ticket : ℕ) (kind : Expected) (p : Option Place) → IsTrue (is_ticket p) → expected_at p ≡ Some kind → reply_in p ≡ None
+    → IsDropped (at (abandon_leaves core ticket p) ticket) kind
+dropped_at core ticket kind (Some (Waiting expected sent wanted)) counted is none =
+    let same : expected ≡ kind = cc in rw (put_here core.table ticket (Waiting expected sent false)) (same, refl)
+dropped_at core ticket kind (Some (Answered expected r)) counted is none = cc
+dropped_at core ticket kind (Some (Granted handle users)) counted is none = cc
+dropped_at core ticket kind None counted is none = cc
+
+-- it leaves a request whose reply counts for nothing
+pub cancelled_drops : (core : Core) (ticket : ℕ) (kind : Expected) → Holds core ticket kind → reply_in (at core ticket)
+    ≡ None → IsDropped (at (cancelled core (Asked ticket)) ticket) kind
+cancelled_drops core ticket kind h none = dropped_at core ticket kind (at core ticket) h.counted h.expects none
+
+-- ---- going on, polling and giving up
+
+-- a submitted request leaves all that is held
+pub submitted_keeps : (old new : Core) (asking : Asking) (ticket : ℕ) → Submitted old asking ticket new → Keeps old new
+submitted_keeps old new asking ticket h = subst (λ (x : Core). Keeps old x) (sym h.queued) (keeps_submitted old ticket asking h.free)
+
+-- a core that nothing was done to
+pub keeps_unchanged : (old new : Core) → new ≡ old → Keeps old new
+keeps_unchanged old new same = subst (λ (x : Core). Keeps old x) (sym same) (keeps_same old)
+
+-- what keeps all keeps the grants
+pub grants_kept : (old new : Core) → Keeps old new → KeepsGrants old new
+grants_kept old new h = h.grants
+
+-- a poll of a ticket, and then what keeps all
+pub grants_polled : (old mid new : Core) (ticket : ℕ) → IsTrue (is_ticket (at old ticket)) → mid ≡ after_poll old ticket → Keeps mid new → KeepsGrants old new
+grants_polled old mid new ticket counted is h =
+    let polled : KeepsGrants old mid = subst (λ (x : Core). KeepsGrants old x) (sym is) (polled_keeps_grants old ticket counted) in
+    record { grants = λ id handle users here. h.grants.grants id handle users (polled.grants id handle users here) }
+
+cancelled_grants : (core : Core) (stage : Stage) → ((ticket : ℕ) → stage ≡ Asked ticket → IsTrue (is_ticket (at core ticket)))
+    → (id : ℕ) (handle : List ℕ) (users : ℕ) → (IsGrantOf stage id → ⊥) → at core id ≡ Some (Granted handle users)
+    → at (cancelled core stage) id ≡ Some (Granted handle users)
+cancelled_grants core (Asked ticket) counted id handle users own here = (cancelled_keeps_grants core ticket (counted ticket refl)).grants id handle users here
+cancelled_grants core (Came (told.Granted g)) counted id handle users own here =
+    abandon_elsewhere (released core g) g.id (at (released core g) g.id) id (λ same. own (sym same))
+    ∙ (release_elsewhere core g (users_of (at core g.id)) id (λ same. own (sym same)) ∙ here)
+cancelled_grants core (Came (told.Reply r)) counted id handle users own here = here
+cancelled_grants core Ended counted id handle users own here = here
+cancelled_grants core Ready counted id handle users own here = here
+cancelled_grants core (Unsent asking) counted id handle users own here = here
+
+-- a cancel leaves every grant but the one that came
+pub cancels_by : (old new : Core) (stage : Stage) → ((ticket : ℕ) → stage ≡ Asked ticket → IsTrue (is_ticket (at old ticket)))
+    → new ≡ cancelled old stage → Cancels old new stage
+cancels_by old new stage counted is =
+    record { core = is; grants = λ id handle users own here. ap (λ (x : Core). at x id) is ∙ cancelled_grants old stage counted id handle users own here }
+
+-- ---- what a user of a core keeps
+
+-- what is kept under its number tells whether a grant is counted
+pub grant_at : (core : Core) (grant : GrantValue) (users : ℕ) → at core grant.id ≡ Some (Granted grant.handle users) → 0 < users → IsGrant core grant
+grant_at core grant users here some = record { kept = rw here refl; used = rw here some }
+
+-- a grant over a change that keeps the grants
+pub grant_kept : (old new : Core) (grant : GrantValue) → KeepsGrants old new → IsGrant old grant → IsGrant new grant
+grant_kept old new grant k h =
+    let here : at new grant.id ≡ Some (Granted grant.handle (users_of (at old grant.id))) = k.grants grant.id grant.handle _ h.kept in
+    grant_at new grant (users_of (at old grant.id)) here h.used
+
+held_still : {W M V : Type 0} (s : Meaning W M V) (old new : Core) (m : M) (stage : Stage) → Keeps old new → IsHeldAt s old m stage → IsHeldAt s new m stage
+held_still s old new m (Asked ticket) k h = k.holds ticket (s.expected m) h
+held_still s old new m (Came (told.Granted g)) k h =
+    record { allowed = h.allowed; formed = h.formed; counted = k.grants.grants g.id g.handle 1 h.counted }
+held_still s old new m (Came (told.Reply r)) k h = record { allowed = h.allowed; formed = h.formed; counted = tt }
+held_still s old new m Ended k h = h
+held_still s old new m Ready k h = h
+held_still s old new m (Unsent asking) k h = h
+
+-- a call is under way still
+pub still_under_way : {W M V : Type 0} (s : Meaning W M V) (old new : Core) (call : CallValue M) → Keeps old new → IsUnderWay s old call → IsUnderWay s new call
+still_under_way s old new call k h = record { over = h.over; held = held_still s old new call.machine call.stage k h.held }
+
+-- and may be given up
+pub may_be_cancelled : {W M V : Type 0} (s : Meaning W M V) (core : Core) (call : CallValue M) → IsUnderWay s core call → IsHeld s core call
+may_be_cancelled s core call h = h.held

@@ -1,0 +1,4 @@
+pub mod Polling
+pub mod Going
+pub mod Closing
+pub mod Keeping

@@ -1,0 +1,20 @@
+use Rattle.std.proofs.Common.{refl}
+use Rattle.call_state.proofs.Keeping.{submitted_holds, submitted_keeps}
+use Rattle.call_state.proofs.call.Call.ask.Goals as goal
+
+pub returns-in-Ok-clause-begins : goal.returns-in-Ok-clause-begins
+returns-in-Ok-clause-begins g c =
+    record {
+      under_way = record {
+        over = refl;
+        held = submitted_holds c.args.core.now c.submit.new.core c.args.asking c.in-Ok.ticket (g.M.PlanMachine.meaning.expected c.args.machine)
+            c.in-Ok.ensures.ok c.requires.asks.expects;
+      };
+      machine = refl;
+      ticket = c.in-Ok.ticket;
+      awaits = refl;
+      submitted = c.in-Ok.ensures.ok;
+    }
+
+pub returns-in-Ok-clause-keeps : goal.returns-in-Ok-clause-keeps
+returns-in-Ok-clause-keeps g c = submitted_keeps c.args.core.now c.submit.new.core c.args.asking c.in-Ok.ticket c.in-Ok.ensures.ok

@@ -1,0 +1,84 @@
+use Rattle.std.proofs.Common.{rules, ◌≡◌, ap, sym, ◌∙◌, subst, IsTrue}
+use Rattle.sftp_core.specs.Core.{at, is_ticket}
+use Rattle.call_state.specs.declared.stage.Stage.TheVariants.{Asked, Came, Unsent}
+use Rattle.call_state.specs.Machines.{GoesBehind}
+use Rattle.call_state.specs.Calls.{CallValue, Went}
+use Rattle.call_state.specs.Told.{reply_of}
+use Rattle.call_state.proofs.Going.{GoesOn, asked_polled, came_polled, unsent_polled}
+use Rattle.call_state.proofs.Keeping.{grants_polled, keeps_same}
+use Rattle.call_state.proofs.call.Call.step.Goals as goal
+
+pub returns-in-Unsent : goal.returns-in-Unsent
+returns-in-Unsent g c =
+    let m : c.self.inside.machine ≡ c.args.self.now.machine = ap (λ (x : CallValue g.row.M.Denot). x.machine) c.self.view_is in
+    let is : c.args.self.now.stage ≡ Unsent c.in-Unsent.asking =
+    ap (λ (x : CallValue g.row.M.Denot). x.stage) (sym c.self.view_is) ∙ (sym c.take.ensures.was ∙ c.in-Unsent.is)
+    in
+    record {
+      polled = λ w plan answers left tells.
+          unsent_polled g.M.PlanMachine.meaning w plan answers c.args.core.now c.send.new.core c.args.self.now
+          c.send.new.self c.send.result c.in-Unsent.asking is left
+          (λ b. c.send.ensures.went w plan answers (subst (λ x. GoesBehind g.M.PlanMachine.meaning w plan answers c.in-Unsent.asking x) (sym m) b));
+      held = c.send.ensures.leaves.held;
+      over = c.send.ensures.leaves.over;
+      holds = c.send.ensures.leaves.holds;
+      grants = c.send.ensures.leaves.keeps.grants;
+      stays = search rules;
+    }
+
+pub returns-in-Came : goal.returns-in-Came
+returns-in-Came g c =
+    let m : c.self.inside.machine ≡ c.args.self.now.machine = ap (λ (x : CallValue g.row.M.Denot). x.machine) c.self.view_is in
+    let is : c.args.self.now.stage ≡ Came c.in-Came.told = ap (λ (x : CallValue g.row.M.Denot). x.stage)
+    (sym c.self.view_is) ∙ (sym c.take.ensures.was ∙ c.in-Came.is) in
+    record {
+      polled = λ w plan answers left tells.
+          came_polled g.M.PlanMachine.meaning w plan answers c.args.core.now c.go_on.new.core c.args.self.now
+          c.go_on.new.self c.go_on.result c.in-Came.told is left tells
+          (subst (λ x. GoesOn g.M.PlanMachine.meaning w plan answers x (reply_of c.in-Came.told)
+          (Went g.M.PlanMachine.meaning w plan answers c.args.core.now c.go_on.new.core c.go_on.new.self
+          c.go_on.result)) m
+          (c.go_on.ensures.went w plan answers));
+      held = c.go_on.ensures.leaves.held;
+      over = c.go_on.ensures.leaves.over;
+      holds = c.go_on.ensures.leaves.holds;
+      grants = c.go_on.ensures.leaves.keeps.grants;
+      stays = search rules;
+    }
+
+pub returns-in-Ok : goal.returns-in-Ok
+returns-in-Ok g c =
+    let m : c.self.inside.machine ≡ c.args.self.now.machine = ap (λ (x : CallValue g.row.M.Denot). x.machine) c.self.view_is in
+    let is : c.args.self.now.stage ≡ Asked c.in-Asked.ticket =
+    ap (λ (x : CallValue g.row.M.Denot). x.stage) (sym c.self.view_is) ∙ (sym c.take.ensures.was ∙ c.in-Asked.is) in
+    let counted : IsTrue (is_ticket (at c.args.core.now c.in-Asked.ticket)) = search rules in
+    record {
+      polled = λ w plan answers left tells.
+          asked_polled g.M.PlanMachine.meaning w plan answers c.args.core.now c.take_told.new.core
+          c.go_on-in-Ok.new.core c.args.self.now c.go_on-in-Ok.new.self c.go_on-in-Ok.result c.in-Asked.ticket
+          (reply_of c.in-Ok.told) is
+          c.take_told.ensures.core c.in-Ok.ensures.came.taken left tells
+          (subst (λ x. GoesOn g.M.PlanMachine.meaning w plan answers x (reply_of c.in-Ok.told)
+          (Went g.M.PlanMachine.meaning w plan answers c.take_told.new.core c.go_on-in-Ok.new.core
+          c.go_on-in-Ok.new.self c.go_on-in-Ok.result)) m
+          (c.go_on-in-Ok.ensures.went w plan answers));
+      held = c.go_on-in-Ok.ensures.leaves.held;
+      over = c.go_on-in-Ok.ensures.leaves.over;
+      holds = c.go_on-in-Ok.ensures.leaves.holds;
+      grants = grants_polled c.args.core.now c.take_told.new.core c.go_on-in-Ok.new.core c.in-Asked.ticket counted
+          c.take_told.ensures.core c.go_on-in-Ok.ensures.leaves.keeps;
+      stays = search rules;
+    }
+
+pub returns-in-Err-Failed : goal.returns-in-Err-Failed
+returns-in-Err-Failed g c =
+    let counted : IsTrue (is_ticket (at c.args.core.now c.in-Asked.ticket)) = search rules in
+    record {
+      polled = search rules;
+      held = search rules;
+      over = search rules;
+      holds = search rules;
+      grants = grants_polled c.args.core.now c.take_told.new.core c.take_told.new.core c.in-Asked.ticket counted
+          c.take_told.ensures.core (keeps_same c.take_told.new.core);
+      stays = search rules;
+    }

@@ -1,0 +1,225 @@
+-- The state of a call under way, whatever the call, and what a start and a poll make of it by the call's plan.
+use Rattle.std.specs.Prelude.{◌≡◌, ◌⊎◌, ℕ, Bool, true, false, List, [], Option, Some, None, Result, Ok, Err}
+use Rattle.sftp_model.specs.Answers.{allows}
+use Rattle.sftp_model.specs.declared.error.Error.{Error}
+use Rattle.sftp_model.specs.declared.error.Error.TheVariants as error
+use Rattle.sftp_model.specs.declared.slot.Move.{Move}
+use Rattle.sftp_model.specs.declared.slot.Move.TheVariants.{Ask, Done, Wait}
+use Rattle.plan_model.specs.Moves.{Answers, Own, Plan}
+use Rattle.sftp_core.specs.declared.place.Place.TheVariants.{Granted}
+use Rattle.sftp_core.specs.Core.{Core, abandoned, after_poll, at, released, reply_in}
+use Rattle.call_state.specs.declared.asking.Asking.{Asking}
+use Rattle.call_state.specs.declared.poll.Poll.{Poll}
+use Rattle.call_state.specs.declared.poll.Poll.TheVariants as poll
+use Rattle.call_state.specs.declared.stage.Stage.{Stage}
+use Rattle.call_state.specs.declared.stage.Stage.TheVariants.{Ended, Ready, Unsent, Asked, Came}
+use Rattle.call_state.specs.declared.told.Told.{Told}
+use Rattle.call_state.specs.declared.told.Told.TheVariants as told
+use Rattle.call_state.specs.Asked.{Holds, IsReady, Submitted}
+use Rattle.call_state.specs.Keeping.{Keeps, KeepsGrants}
+use Rattle.call_state.specs.Machines.{GoesBehind, MayAsk, Meaning}
+use Rattle.call_state.specs.Told.{IsCounted, IsFormed, reply_of}
+
+-- ---- a state
+
+-- what a call awaits, and its machine
+pub record CallValue (M : Type 0) : Type 0 where
+  pub stage : Stage
+  pub machine : M
+
+-- the call has answered
+abbrev pub is_ended : Stage → Bool
+is_ended Ended = true
+is_ended other = false
+
+-- the number of the awaited ticket
+abbrev pub ticket_of : Stage → Option ℕ
+ticket_of (Asked ticket) = Some ticket
+ticket_of other = None
+
+-- what came may be given to a machine that awaits it
+pub record IsAllowed {W M V : Type 0} (s : Meaning W M V) (core : Core) (m : M) (t : Told) : Type 0 where
+  pub allowed : allows (s.expected m) (reply_of t) ≡ true
+  pub formed : IsFormed t
+  pub counted : IsCounted core t
+
+-- the core and the machine can go on with the stage
+abbrev pub IsHeldAt : {W M V : Type 0} → Meaning W M V → Core → M → Stage → Type 0
+IsHeldAt s core m Ended = Unit {0}
+IsHeldAt s core m Ready = s.ready m
+IsHeldAt s core m (Unsent asking) = MayAsk s asking m × (s.again ≡ true)
+IsHeldAt s core m (Asked ticket) = Holds core ticket (s.expected m)
+IsHeldAt s core m (Came t) = IsAllowed s core m t
+
+abbrev pub IsHeld : {W M V : Type 0} → Meaning W M V → Core → CallValue M → Type 0
+IsHeld s core call = IsHeldAt s core call.machine call.stage
+
+-- From here a plan goes on as the call does.
+abbrev pub IsLeftAt : {W M V : Type 0} → Meaning W M V → W → Plan → Answers → M → Stage → Type 0
+IsLeftAt s w plan answers m Ended = Unit {0}
+IsLeftAt s w plan answers m Ready = plan [] answers ≡ s.first w m
+IsLeftAt s w plan answers m (Unsent asking) = GoesBehind s w plan answers asking m
+IsLeftAt s w plan answers m other = s.known m answers × ((later : Own) → plan later answers ≡ s.left w m later answers)
+
+abbrev pub IsLeft : {W M V : Type 0} → Meaning W M V → W → Plan → Answers → CallValue M → Type 0
+IsLeft s w plan answers call = IsLeftAt s w plan answers call.machine call.stage
+
+-- the reply to the request that is awaited is the one that the core, or the call, has
+abbrev pub TellsAt : {W M V : Type 0} → Meaning W M V → Core → M → Stage → Answers → Type 0
+TellsAt s core m (Asked ticket) answers = answers (s.place m) ≡ reply_in (at core ticket)
+TellsAt s core m (Came t) answers = answers (s.place m) ≡ Some (reply_of t)
+TellsAt s core m other answers = Unit {0}
+
+abbrev pub Tells : {W M V : Type 0} → Meaning W M V → Core → CallValue M → Answers → Type 0
+Tells s core call answers = TellsAt s core call.machine call.stage answers
+
+-- ---- a start and a poll
+
+-- the core once the awaited reply was polled
+abbrev pub polled_core : Core → Stage → Core
+polled_core core (Asked ticket) = after_poll core ticket
+polled_core core other = core
+
+-- the plan waits for a reply that is missing, and nothing changed
+pub record Waits {W M V : Type 0} (s : Meaning W M V) (plan : Plan) (answers : Answers) (old new : Core)
+    (p q : CallValue M) (result : Poll (Result V Error)) : Type 0 where
+  pub pending : result ≡ poll.Pending
+  pub waits : plan [] answers ≡ Wait (s.place p.machine)
+  pub unfailed : old.fault ≡ None
+  pub core : new ≡ old
+  pub same : q ≡ p
+
+-- the plan asks this; it was submitted, and its reply is awaited
+pub record Asks {W M V : Type 0} (s : Meaning W M V) (w : W) (plan : Plan) (answers : Answers) (old new : Core)
+    (q : CallValue M) : Type 0 where
+  pub asking : Asking
+  pub ticket : ℕ
+  pub awaits : q.stage ≡ Asked ticket
+  pub behind : GoesBehind s w plan answers asking q.machine
+  pub cut : s.cut q.machine asking
+  pub submitted : Submitted old asking ticket new
+
+-- the plan asks or waits
+abbrev pub IsUnfinished : Move → Type 0
+IsUnfinished (Ask asked) = Unit {0}
+IsUnfinished (Wait place) = Unit {0}
+IsUnfinished (Done o site) = ⊥
+
+-- What came of a move of the plan: the request that it asks, or the value with which it ends. After want of memory the
+-- call may be polled again, and goes on with the same move.
+abbrev pub Went : {W M V : Type 0} → Meaning W M V → W → Plan → Answers → Core → Core → CallValue M
+    → Poll (Result V Error) → Type 0
+Went s w plan answers old new q poll.Pending = Asks s w plan answers old new q
+Went s w plan answers old new q (poll.Ready (Err error.OutOfMemory)) = IsLeft s w plan answers q × (new ≡ old)
+Went s w plan answers old new q (poll.Ready (Err (error.BackgroundTaskFailure fault))) = (old.fault ≡ Some fault)
+    × (is_ended q.stage ≡ true) × IsUnfinished (plan [] answers)
+Went s w plan answers old new q (poll.Ready value) = (plan [] answers ≡ s.ended w q.machine value)
+    × (is_ended q.stage ≡ true) × (new ≡ old)
+
+-- what a poll answered, by the next move of the plan
+abbrev pub Polled : {W M V : Type 0} → Meaning W M V → W → Plan → Answers → Core → Core → CallValue M → CallValue M
+    → Poll (Result V Error) → Type 0
+Polled s w plan answers old new p q result = Waits s plan answers old new p q result
+    ⊎ Went s w plan answers (polled_core old p.stage) new q result
+
+-- What a start answered, by the first move of the plan: a call that awaits its request or has its value, or a refusal,
+-- of which the core stays as it was.
+abbrev pub Started : {W M V : Type 0} → Meaning W M V → W → (Error → Move) → Plan → Answers → Core → Core
+    → Result (CallValue M) Error → Type 0
+Started s w refused plan answers old new (Ok q) = Asks s w plan answers old new q
+    ⊎ (IsLeft s w plan answers q × (q.stage ≡ Ready) × (new ≡ old))
+Started s w refused plan answers old new (Err error.OutOfMemory) = new ≡ old
+Started s w refused plan answers old new (Err (error.BackgroundTaskFailure fault)) = (old.fault ≡ Some fault)
+    × (new ≡ old) × IsUnfinished (plan [] answers)
+Started s w refused plan answers old new (Err e) = (plan [] answers ≡ refused e) × (new ≡ old)
+
+-- what a core holds for the value that a poll gave, if it gave one
+abbrev pub HoldsReady : {W M V : Type 0} → Meaning W M V → Core → Poll (Result V Error) → Type 0
+HoldsReady s core (poll.Ready (Ok value)) = s.holds core value
+HoldsReady s core other = Unit {0}
+
+-- ---- what a call of each function needs and did
+
+-- a request may be submitted for a machine whose call awaits nothing
+pub record MaySend {W M V : Type 0} (s : Meaning W M V) (core : Core) (call : CallValue M) (asking : Asking) : Type 0
+  where
+    pub over : is_ended call.stage ≡ true
+    pub ready : IsReady core
+    pub asks : MayAsk s asking call.machine
+    pub again : s.again ≡ true
+
+-- a machine whose call awaits nothing may go on with what came
+pub record MayGoOn {W M V : Type 0} (s : Meaning W M V) (core : Core) (call : CallValue M) (t : Told) : Type 0 where
+  pub over : is_ended call.stage ≡ true
+  pub ready : s.again ≡ true → IsReady core
+  pub came : IsAllowed s core call.machine t
+
+-- a call has not answered, and the core and its machine can go on
+pub record IsUnderWay {W M V : Type 0} (s : Meaning W M V) (core : Core) (call : CallValue M) : Type 0 where
+  pub over : is_ended call.stage ≡ false
+  pub held : IsHeld s core call
+
+-- a request of a call was submitted, and the call awaits its reply
+pub record Begins {W M V : Type 0} (s : Meaning W M V) (asking : Asking) (m : M) (old new : Core) (call : CallValue M) :
+    Type 0 where
+  pub under_way : IsUnderWay s new call
+  pub machine : call.machine ≡ m
+  pub ticket : ℕ
+  pub awaits : call.stage ≡ Asked ticket
+  pub submitted : Submitted old asking ticket new
+
+-- a call may be polled
+pub record MayPoll {W M V : Type 0} (s : Meaning W M V) (core : Core) (call : CallValue M) : Type 0 where
+  pub under_way : IsUnderWay s core call
+  pub ready : s.again ≡ true → IsReady core
+
+-- a call has ended where it gave a value or an error, but for want of memory
+abbrev pub IsOver : {V : Type 0} → Stage → Poll (Result V Error) → Type 0
+IsOver stage poll.Pending = is_ended stage ≡ false
+IsOver stage (poll.Ready (Err error.OutOfMemory)) = is_ended stage ≡ false
+IsOver stage (poll.Ready value) = is_ended stage ≡ true
+
+-- what going on with a machine leaves, whatever the plan
+pub record Leaves {W M V : Type 0} (s : Meaning W M V) (old new : Core) (q : CallValue M)
+    (result : Poll (Result V Error)) : Type 0 where
+  pub held : IsHeld s new q
+  pub over : IsOver q.stage result
+  pub holds : HoldsReady s new result
+  pub keeps : Keeps old new
+
+-- A poll did the next move of each plan that the call is what is left of, whatever its replies to come. The call may be
+-- polled on or given up, its machine stays what it was, the core holds what belongs to the value, and every grant
+-- stays.
+pub record Stepped {W M V : Type 0} (s : Meaning W M V) (old new : Core) (p q : CallValue M)
+    (result : Poll (Result V Error)) : Type 0 where
+  pub polled : (w : W) (plan : Plan) (answers : Answers) → IsLeft s w plan answers p → Tells s old p answers
+      → Polled s w plan answers old new p q result
+  pub held : IsHeld s new q
+  pub over : IsOver q.stage result
+  pub holds : HoldsReady s new result
+  pub grants : KeepsGrants old new
+  pub stays : s.stays p.machine q.machine
+
+-- ---- a cancel
+
+-- the core once what came was dropped: a handle is closed
+abbrev pub dropped : Core → Told → Core
+dropped core (told.Reply r) = core
+dropped core (told.Granted g) = abandoned (released core g) g.id
+
+-- the core once a call was given up
+abbrev pub cancelled : Core → Stage → Core
+cancelled core (Asked ticket) = abandoned core ticket
+cancelled core (Came t) = dropped core t
+cancelled core other = core
+
+-- the grant that came, and that no file has yet
+abbrev pub IsGrantOf : Stage → ℕ → Type 0
+IsGrantOf (Came (told.Granted g)) id = g.id ≡ id
+IsGrantOf other id = ⊥
+
+-- what a cancel did; every other grant stays
+pub record Cancels (old new : Core) (stage : Stage) : Type 0 where
+  pub core : new ≡ cancelled old stage
+  pub grants : (id : ℕ) (handle : List ℕ) (users : ℕ) → (IsGrantOf stage id → ⊥)
+      → at old id ≡ Some (Granted handle users) → at new id ≡ Some (Granted handle users)

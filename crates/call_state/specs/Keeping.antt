@@ -1,0 +1,22 @@
+-- What calls of a core by others leave of what a state awaits, and of the grants of files.
+use Rattle.std.specs.Prelude.{◌≡◌, ℕ, false, List, Option, Some}
+use Rattle.sftp_model.specs.declared.answers.Expected.{Expected}
+use Rattle.sftp_core.specs.declared.place.Place.{Place}
+use Rattle.sftp_core.specs.declared.place.Place.TheVariants.{Waiting, Granted}
+use Rattle.sftp_core.specs.Core.{Core, at}
+use Rattle.call_state.specs.Asked.{Holds}
+
+-- each grant stays, with its users
+pub record KeepsGrants (old new : Core) : Type 0 where
+  pub grants : (id : ℕ) (handle : List ℕ) (users : ℕ) → at old id ≡ Some (Granted handle users)
+      → at new id ≡ Some (Granted handle users)
+
+-- each ticket that is held stays so, and each grant
+pub record Keeps (old new : Core) : Type 0 where
+  pub holds : (ticket : ℕ) (kind : Expected) → Holds old ticket kind → Holds new ticket kind
+  pub grants : KeepsGrants old new
+
+-- the reply to this request counts for nothing
+abbrev pub IsDropped : Option Place → Expected → Type 0
+IsDropped (Some (Waiting kind sent wanted)) expected = (kind ≡ expected) × (wanted ≡ false)
+IsDropped other expected = ⊥

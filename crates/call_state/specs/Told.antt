@@ -1,0 +1,53 @@
+-- What came of an awaited reply.
+use Rattle.std.specs.Prelude.{◌≡◌, ℕ, true, false, Some, None}
+use Rattle.sftp_model.specs.Answers.{allows, is_handle}
+use Rattle.sftp_model.specs.declared.answers.Expected.{Expected}
+use Rattle.sftp_model.specs.declared.reply.Reply.{Reply}
+use Rattle.sftp_model.specs.declared.reply.Reply.TheVariants as reply
+use Rattle.sftp_core.specs.Core.{Core, at, reply_in}
+use Rattle.sftp_core.specs.Table.{expected_at}
+use Rattle.sftp_core.specs.declared.place.Place.TheVariants as places
+use Rattle.call_state.specs.declared.machine.Then.{Then}
+use Rattle.call_state.specs.declared.machine.Then.TheVariants as then
+use Rattle.call_state.specs.declared.told.Told.{Told}
+use Rattle.call_state.specs.declared.told.Told.TheVariants as told
+use Rattle.call_state.specs.declared.told.Untold.{Untold}
+use Rattle.call_state.specs.declared.told.Untold.TheVariants as untold
+
+-- the reply; a grant came by a HANDLE
+abbrev pub reply_of : Told → Reply
+reply_of (told.Reply r) = r
+reply_of (told.Granted g) = reply.Handle g.handle
+
+-- a HANDLE comes as a grant
+abbrev pub IsFormed : Told → Type 0
+IsFormed (told.Reply r) = is_handle r ≡ false
+IsFormed (told.Granted g) = Unit {0}
+
+-- a grant that came is named by its ticket, and has one user
+abbrev pub IsNew : Core → ℕ → Told → Type 0
+IsNew core ticket (told.Reply r) = Unit {0}
+IsNew core ticket (told.Granted g) = (g.id ≡ ticket) × (at core g.id ≡ Some (places.Granted g.handle 1))
+
+-- the reply to a ticket was taken, and is one that its request allows
+pub record Came (old new : Core) (ticket : ℕ) (t : Told) : Type 0 where
+  pub taken : reply_in (at old ticket) ≡ Some (reply_of t)
+  pub allowed : (kind : Expected) → expected_at (at old ticket) ≡ Some kind → allows kind (reply_of t) ≡ true
+  pub formed : IsFormed t
+  pub granted : IsNew new ticket t
+
+-- or it was not
+abbrev pub IsUntold : Core → Core → ℕ → Untold → Type 0
+IsUntold old new ticket (untold.Missing t) = (reply_in (at old ticket) ≡ None) × (t ≡ ticket) × (old.fault ≡ None)
+    × (new ≡ old)
+IsUntold old new ticket (untold.Failed fault) = (reply_in (at old ticket) ≡ None) × (old.fault ≡ Some fault)
+
+-- a reply that is given back is the one that was told
+abbrev pub IsBack : {V : Type 0} → Told → Then V → Type 0
+IsBack t (then.Short other) = other ≡ t
+IsBack t other = Unit {0}
+
+-- the core counts a grant that came
+abbrev pub IsCounted : Core → Told → Type 0
+IsCounted core (told.Reply r) = Unit {0}
+IsCounted core (told.Granted g) = at core g.id ≡ Some (places.Granted g.handle 1)

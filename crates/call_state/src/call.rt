@@ -1,0 +1,203 @@
+//! The state of a call under way, whatever the call.
+ghost use Rattle.std.specs.Prelude.{◌≡◌, Some, IfOk};
+ghost use Rattle.sftp_model.specs.declared.error.Error.{Error as ErrorValue};
+ghost use Rattle.sftp_model.specs.declared.slot.Move.{Move};
+ghost use Rattle.plan_model.specs.Moves.{Answers, Own, Plan};
+ghost use Rattle.call_state.specs.declared.stage.Stage.TheVariants as stage;
+ghost use Rattle.call_state.specs.Asked.{IsReady};
+ghost use Rattle.call_state.specs.Calls.{Begins, Cancels, IsHeld, Leaves, MayGoOn, MayPoll, MaySend, Started, Stepped, Went, is_ended, ticket_of};
+ghost use Rattle.call_state.specs.Keeping.{Keeps};
+ghost use Rattle.call_state.specs.Machines.{GoesBehind, MayAsk};
+ghost use Rattle.call_state.specs.Told.{reply_of};
+
+use crate::asking::{Asking, Unsubmitted, refusal, submit};
+use crate::machine::{PlanMachine, Then};
+use crate::poll::Poll;
+use crate::stage::Stage;
+use crate::told::{Told, Untold, take_told};
+use sftp_core::{Core, Ended, Ticket};
+use sftp_model::Error;
+use std::marker::Model;
+
+/// A call under way: what it awaits, and how it goes on. It isn't droppable: `cancel` spends it, once it has answered
+/// too, and `let_go` where its core was given up.
+#[must_use]
+pub struct Call<M> {
+    stage: Stage,
+    machine: M,
+}
+
+impl<M> Model for Call<M> {
+    ghost use Rattle.call_state.specs.Calls.{CallValue};
+
+    ghost Value = { CallValue M };
+
+    ghost view = { λ c. record { stage = c.stage; machine = c.machine } };
+}
+
+impl<M: PlanMachine> Call<M> {
+    /// Submits a request of the call, and awaits its reply.
+    fn send(&mut self, core: &mut Core, asking: Asking) -> Poll<Result<M::Value, Error>>
+        requires { MaySend M.meaning core.old self.old asking }
+        ensures went { (w : M.World) (plan : Plan) (answers : Answers)
+            → GoesBehind M.meaning w plan answers asking self.old.machine
+            → Went M.meaning w plan answers core.old core.new self.new result }
+        ensures leaves { Leaves M.meaning core.old core.new self.new result }
+        ensures machine { self.new.machine ≡ self.old.machine }
+    {
+        match submit(core, asking) {
+            Ok(ticket) => {
+                self.stage.put(Stage::Asked(ticket));
+                Poll::Pending
+            }
+            Err(Unsubmitted::Short(asking)) => {
+                self.stage.put(Stage::Unsent(asking));
+                Poll::Ready(Err(Error::OutOfMemory))
+            }
+            Err(Unsubmitted::Failed(fault)) => {
+                Poll::Ready(Err(Error::BackgroundTaskFailure(fault)))
+            }
+        }
+    }
+
+    /// Goes on with the reply that came.
+    fn go_on(&mut self, core: &mut Core, told: Told) -> Poll<Result<M::Value, Error>>
+        requires { MayGoOn M.meaning core.old self.old told }
+        ensures went { (w : M.World) (plan : Plan) (answers : Answers) → M.meaning.known self.old.machine answers
+            → answers (M.meaning.place self.old.machine) ≡ Some (reply_of told)
+            → ((later : Own) → plan later answers ≡ M.meaning.left w self.old.machine later answers)
+            → Went M.meaning w plan answers core.old core.new self.new result }
+        ensures leaves { Leaves M.meaning core.old core.new self.new result }
+        ensures stays { M.meaning.stays self.old.machine self.new.machine }
+    {
+        match self.machine.on(told) {
+            Then::Done(value) => Poll::Ready(value),
+            Then::Ask(asking) => self.send(core, asking),
+            Then::Short(told) => {
+                self.stage.put(Stage::Came(told));
+                Poll::Ready(Err(Error::OutOfMemory))
+            }
+        }
+    }
+
+    /// Polls what the call awaits, and goes on with it. `Pending` exactly where the reply was not taken and no fault is
+    /// kept, or where a further request was submitted.
+    ///
+    /// `BackgroundTaskFailure`, where the reply was not taken, or a further request is asked, and the core keeps a
+    /// fault; `OutOfMemory`, after which the call may be polled again. The errors of the call's own are its plan's.
+    pub fn step(&mut self, core: &mut Core) -> Poll<Result<M::Value, Error>>
+        requires { MayPoll M.meaning core.old self.old }
+        ensures { Stepped M.meaning core.old core.new self.old self.new result }
+    {
+        match self.stage.take() {
+            Stage::Ended => unreachable!(),
+            Stage::Ready => Poll::Ready(Ok(self.machine.at_once())),
+            Stage::Unsent(asking) => self.send(core, asking),
+            Stage::Came(told) => self.go_on(core, told),
+            Stage::Asked(ticket) => match take_told(core, ticket) {
+                Ok(told) => self.go_on(core, told),
+                Err(Untold::Missing(ticket)) => {
+                    self.stage.put(Stage::Asked(ticket));
+                    Poll::Pending
+                }
+                Err(Untold::Failed(fault)) => Poll::Ready(Err(Error::BackgroundTaskFailure(fault))),
+            },
+        }
+    }
+
+    /// Submits the first request of a call. Refused by a kept fault or for want of memory, the core is as before.
+    pub fn ask(core: &mut Core, asking: Asking, machine: M) -> Result<Call<M>, Error>
+        requires ready { IsReady core.old }
+        requires asks { MayAsk M.meaning asking machine }
+        ensures started { (w : M.World) (refused : ErrorValue → Move) (plan : Plan) (answers : Answers)
+            → GoesBehind M.meaning w plan answers asking machine
+            → Started M.meaning w refused plan answers core.old core.new result }
+        ensures begins { IfOk result (Begins M.meaning asking machine core.old core.new) }
+        ensures keeps { Keeps core.old core.new }
+    {
+        match submit(core, asking) {
+            Ok(ticket) => Ok(Call {
+                stage: Stage::Asked(ticket),
+                machine,
+            }),
+            Err(e) => Err(refusal(e)),
+        }
+    }
+}
+
+/// A machine that works on nothing of its caller.
+pub trait Alone: PlanMachine {}
+
+impl<M: Alone> Call<M> {
+    /// Polls what the call awaits, and goes on with it. `Pending` exactly where the reply was not taken and no fault is
+    /// kept, or where a further request was submitted.
+    ///
+    /// `BackgroundTaskFailure`, where the reply was not taken, or a further request is asked, and the core keeps a
+    /// fault; `OutOfMemory`, after which the call may be polled again. The errors of the call's own are its plan's.
+    pub fn poll(&mut self, core: &mut Core) -> Poll<Result<M::Value, Error>>
+        requires { MayPoll M.PlanMachine.meaning core.old self.old }
+        ensures { Stepped M.PlanMachine.meaning core.old core.new self.old self.new result }
+    {
+        self.step(core)
+    }
+}
+
+impl<M: PlanMachine> Call<M> {
+    /// Gives the call up: its request stays under way, its reply is dropped, and a handle that came or comes is closed.
+    pub fn cancel(self, core: &mut Core)
+        requires { IsHeld M.meaning core.old self }
+        ensures { Cancels core.old core.new self.stage }
+    {
+        let Call { stage, machine: _ } = self;
+        stage.cancel(core);
+    }
+
+    /// Lets the call go where its core was given up.
+    pub fn let_go(self, core: Ended) {
+        let Call { stage, machine: _ } = self;
+        stage.let_go(core);
+    }
+}
+
+impl<M> Call<M> {
+    /// A call that needs no request: its first poll gives the value.
+    pub fn ready(machine: M) -> Call<M>
+        ensures { result ≡ record { stage = stage.Ready; machine = machine } }
+    {
+        Call {
+            stage: Stage::Ready,
+            machine,
+        }
+    }
+
+    /// A call that awaits a ticket that is out.
+    pub fn awaiting(ticket: Ticket, machine: M) -> Call<M>
+        ensures { result ≡ record { stage = stage.Asked ticket; machine = machine } }
+    {
+        Call {
+            stage: Stage::Asked(ticket),
+            machine,
+        }
+    }
+
+    /// How the call goes on.
+    pub fn machine(&self) -> &M
+        ensures { result.now ≡ self.now.machine }
+    {
+        &self.machine
+    }
+
+    /// The number of the request whose reply is awaited.
+    pub fn ticket_id(&self) -> Option<u32>
+        ensures { result ≡ ticket_of self.now.stage }
+    {
+        self.stage.ticket_id()
+    }
+
+    /// Whether the call has answered. It can't be polled then.
+    pub fn is_ended(&self) -> bool
+        ensures { result ≡ is_ended self.now.stage }
+    {
+        self.stage.is_ended()
+    }
+}

@@ -1,0 +1,58 @@
+//! Laws of the definitions. The functions do nothing: what they ensure holds of all values.
+ghost use Rattle.std.specs.Prelude.{◌≡◌, ◌≢◌, ℕ, List, None, Some, false, Result, IsSome, IsTrue};
+ghost use Rattle.sftp_model.specs.declared.answers.Expected.{Expected};
+ghost use Rattle.sftp_model.specs.declared.answers.Expected.TheVariants as expected;
+ghost use Rattle.sftp_model.specs.declared.frame_error.FrameError.{FrameError};
+ghost use Rattle.sftp_model.specs.declared.reply.Reply.TheVariants as reply;
+ghost use Rattle.sftp_model.specs.declared.request.Request.TheVariants as request;
+ghost use Rattle.sftp_core.specs.Core.{Core, abandoned, after_poll, at, handed_out, is_ticket, queued_last, released, reply_in, retained, IsGrant};
+ghost use Rattle.sftp_core.specs.Grant.{GrantValue};
+ghost use Rattle.sftp_core.specs.Info.{info_of};
+ghost use Rattle.sftp_core.specs.Take.{Read, TakenFrom, take_leaves, take_refusal};
+ghost use Rattle.sftp_core.specs.declared.tokens.Taken.{Taken};
+ghost use Rattle.call_state.specs.declared.asking.Asking.{Asking};
+ghost use Rattle.call_state.specs.declared.stage.Stage.TheVariants.{Asked};
+ghost use Rattle.call_state.specs.Asked.{Holds, queued_by};
+ghost use Rattle.call_state.specs.Calls.{cancelled};
+ghost use Rattle.call_state.specs.Keeping.{IsDropped, Keeps, KeepsGrants};
+
+/// The handle of a cancelled open is closed: at once, where its HANDLE was taken; else the request is marked as
+/// dropped, which makes the take of a HANDLE queue the CLOSE.
+pub fn cancelled_opens_are_closed()
+    ensures taken { (core : Core) (ticket : ℕ) (handle : List ℕ)
+        → reply_in (at core ticket) ≡ Some (reply.Handle handle)
+        → cancelled core (Asked ticket) ≡ queued_last core ticket (request.Close handle) false }
+    ensures to_come { (core : Core) (ticket : ℕ) → Holds core ticket expected.Handle
+        → reply_in (at core ticket) ≡ None
+        → IsDropped (at (cancelled core (Asked ticket)) ticket) expected.Handle }
+    ensures closed { (core : Core) (ticket : ℕ) (handle : List ℕ) → IsDropped (at core ticket) expected.Handle
+        → take_leaves core ticket (reply.Handle handle) (at core ticket)
+        ≡ queued_last core ticket (request.Close handle) false }
+{}
+
+/// What states await and the grants of files stay so over each call of a core by others: a request that is submitted, a
+/// hand-out, and a frame that is taken, their own replies included.
+pub fn calls_keep_what_is_held()
+    ensures submitted { (core : Core) (ticket : ℕ) (asking : Asking) → at core ticket ≡ None
+        → Keeps core (queued_by core ticket asking) }
+    ensures handed_out { (core : Core) → Keeps core (handed_out core) }
+    ensures taken { (old new : Core) (read : Result Read FrameError) (told : Taken) → IsSome (info_of old.phase)
+        → take_refusal old read ≡ None → TakenFrom read told old new → Keeps old new }
+{}
+
+/// The poll and the cancel of a state leave every grant and every other ticket; a file that is shared or let go leaves
+/// every ticket.
+pub fn others_keep_what_they_hold()
+    ensures polled { (core : Core) (ticket : ℕ) → IsTrue (is_ticket (at core ticket))
+        → KeepsGrants core (after_poll core ticket) }
+    ensures cancelled { (core : Core) (ticket : ℕ) → IsTrue (is_ticket (at core ticket))
+        → KeepsGrants core (abandoned core ticket) }
+    ensures polled_on { (core : Core) (ticket other : ℕ) (kind : Expected) → other ≢ ticket
+        → Holds core other kind → Holds (after_poll core ticket) other kind }
+    ensures cancelled_on { (core : Core) (ticket other : ℕ) (kind : Expected) → other ≢ ticket
+        → Holds core other kind → Holds (abandoned core ticket) other kind }
+    ensures released { (core : Core) (grant : GrantValue) (ticket : ℕ) (kind : Expected)
+        → IsGrant core grant → Holds core ticket kind → Holds (released core grant) ticket kind }
+    ensures retained { (core : Core) (grant : GrantValue) (ticket : ℕ) (kind : Expected)
+        → IsGrant core grant → Holds core ticket kind → Holds (retained core grant) ticket kind }
+{}

@@ -1,0 +1,19 @@
+use Rattle.std.proofs.Common.{rules, ◌≡◌, ◌==◌, arith, false}
+use Rattle.std.specs.Prelude.{min}
+use Rattle.std.proofs.lemmas.Bool.Decides.{nat_tests}
+use Rattle.plan_model.specs.TransferPlans.{read_next}
+use Rattle.sftp_file.specs.Files.{alone, facts_of}
+use Rattle.sftp_file.specs.Reads.{reading}
+use Rattle.sftp_file.proofs.Starting.{read_behind, starts_with}
+use Rattle.sftp_file.proofs.file.File.start_read.Goals as goal
+
+pub returns-clause-starts : goal.returns-clause-starts
+returns-clause-starts c =
+    let some : (c.args.n == 0) ≡ false = grind (arith, nat_tests) in
+    let len : c.min-len.result ≡ min c.args.n (facts_of c.args.core.now).read_len = search rules in
+    starts_with reading tt (read_next 0 c.args.n) c.args.self.now c.read_request.result _ _ c.args.core.now
+    c.ask.new.core c.ask.result c.read_request.ensures.is
+    (λ answers brought. read_behind c.args.self.now c.at-file.result c.args.n c.min-len.result
+    (facts_of c.args.core.now) answers c.may_read.result c.in_default.field-0 c.at-file.ensures some len brought
+    (c.may_read.ensures.looks (alone c.args.self.now) answers) c.in_default.is)
+    c.ask.ensures.started c.ask.ensures.begins c.ask.ensures.keeps

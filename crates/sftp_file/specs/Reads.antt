@@ -1,0 +1,40 @@
+-- Reads of a file.
+use Rattle.std.specs.Prelude.{◌≡◌, ℕ, false, List, Option, None, refl}
+use Rattle.sftp_model.specs.declared.answers.Expected.TheVariants as expected
+use Rattle.sftp_model.specs.declared.outcome.Outcome.TheVariants as outcome
+use Rattle.sftp_model.specs.declared.slot.FileAt.{FileAt}
+use Rattle.sftp_model.specs.declared.slot.Move.TheVariants.{Done, Wait}
+use Rattle.plan_model.specs.Moves.{Answers, Own, Plan, once_answered}
+use Rattle.plan_model.specs.TransferPlans.{was_read}
+use Rattle.call_state.specs.Machines.{Meaning}
+use Rattle.sftp_file.specs.Files.{one_slot}
+use Rattle.sftp_file.specs.Outcomes.{read_outcome}
+
+-- a READ of a file: where it stands, and the most bytes that were asked for
+pub record ReadValue : Type 0 where
+  pub file : FileAt
+  pub len : ℕ
+
+-- what is left of a read: what its reply makes of it
+abbrev pub read_left : ReadValue → Plan
+read_left m later answers = once_answered 1 (answers 1) (was_read 0 m.file (one_slot m.file))
+
+abbrev pub reading : Meaning (Unit {0}) ReadValue (Option (List ℕ))
+reading =
+    record {
+      left = λ w. read_left;
+      place = λ m. 1;
+      expected = λ m. expected.Content m.len;
+      cut = λ m asking. Unit {0};
+      ended = λ w m value. Done (read_outcome value) (one_slot m.file);
+      known = λ m answers. Unit {0};
+      stays = λ m next. next.file ≡ record m.file { offset = next.file.offset };
+      ready = λ m. Unit {0};
+      first = λ w m. Done outcome.End (one_slot m.file);
+      again = false;
+      holds = λ core value. Unit {0};
+    }
+
+pub read_waits : (w : Unit {0}) (m : ReadValue) (later : Own) (answers : Answers) → answers 1 ≡ None
+    → read_left m later answers ≡ Wait 1
+read_waits w m later answers none = rw none refl

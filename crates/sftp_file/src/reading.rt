@@ -1,0 +1,144 @@
+//! `read`: at most n bytes at the file's offset.
+ghost use Rattle.std.specs.Prelude.{◌≡◌, false, refl, IfOk};
+ghost use Rattle.sftp_core.specs.Core.{is_long};
+ghost use Rattle.sftp_model.specs.declared.request.Request.TheVariants as request;
+ghost use Rattle.plan_model.specs.TransferPlans.{read_next};
+ghost use Rattle.call_state.specs.Asked.{IsReady, request_of};
+ghost use Rattle.call_state.specs.declared.asking.Asking.TheVariants as asking;
+ghost use Rattle.sftp_file.specs.Files.{Starts, file_at};
+ghost use Rattle.sftp_file.specs.Outcomes.{read_answer};
+ghost use Rattle.sftp_file.specs.Reads.{ReadValue, read_waits, reading};
+
+use crate::facts::facts;
+use crate::file::File;
+use crate::looks::may_read;
+use crate::on_file::OnFile;
+use bytes::Bytes;
+use call_state::{Asking, Call, PlanMachine, Then, Told};
+use sftp_core::Core;
+use sftp_model::numbers::SSH_FX_EOF;
+use sftp_model::{Error, FileAt, Reply, Request};
+use sftp_values::ByteText;
+use std::marker::Model;
+
+/// A READ of a file under way, or a read of no bytes.
+#[derive(Drop)]
+pub struct Reading {
+    /// The file, where the READ stands.
+    file: FileAt,
+    /// The most bytes that may come.
+    len: u32,
+}
+
+impl Model for Reading {
+    ghost use Rattle.std.specs.Prelude.{◌+◌, ◌<◌, ◌^◌};
+    ghost use Rattle.sftp_file.specs.Reads.{ReadValue};
+
+    ghost Value = { ReadValue };
+
+    ghost view = { λ m. record { file = m.file; len = m.len } };
+
+    ghost invariant = { λ m. m.file.offset + m.len < 2 ^ 64 };
+}
+
+/// A read of a file under way. It gives the bytes, 1 or more; None at the end of the file, and for a read of no bytes.
+pub type ReadCall = Call<Reading>;
+
+impl PlanMachine for Reading {
+    type Value = Option<Bytes>;
+
+    ghost World = { Unit {0} };
+
+    ghost meaning = { reading };
+
+    ghost waits = { read_waits };
+
+    ghost stays = { λ (m : ReadValue). refl };
+
+    fn at_once(&mut self) -> Option<Bytes> {
+        None
+    }
+
+    fn on(&mut self, told: Told) -> Then<Option<Bytes>> {
+        match told {
+            Told::Reply(Reply::Content(bytes)) => {
+                self.file.offset += bytes.len() as u64;
+                self.len -= bytes.len() as u32;
+                Then::Done(Ok(Some(bytes)))
+            }
+            Told::Reply(
+                Reply::Status {
+                    code,
+                    message,
+                    language,
+                },
+            ) => Then::Done(status_read(code, message, language)),
+            Told::Reply(_) => unreachable!(),
+            Told::Granted(_grant) => unreachable!(),
+        }
+    }
+}
+
+impl OnFile for Reading {
+    ghost file = { λ (m : ReadValue). m.file };
+
+    ghost moves = { λ (m next : ReadValue) same. same };
+
+    fn offset(&self) -> u64 {
+        self.file.offset
+    }
+}
+
+/// What a STATUS gives to a read.
+fn status_read(code: u32, message: ByteText, language: ByteText) -> Result<Option<Bytes>, Error>
+    ensures { result ≡ read_answer code message language }
+{
+    if code == SSH_FX_EOF {
+        return Ok(None);
+    }
+    Err(Error::SftpError {
+        code,
+        message,
+        language,
+    })
+}
+
+impl File {
+    /// Asks for at most `n` bytes at the offset, as many as one READ may ask for
+    /// (draft-ietf-secsh-filexfer-02, section 6.4). For no bytes nothing is asked, and the first poll gives None. The
+    /// file stays as it is until the reply is polled.
+    ///
+    /// Looked at in this order: `IOError(NotReadable)`; `IOError(OffsetOverflow)`, where the offset and the length of
+    /// the READ together are over 18446744073709551615; `BackgroundTaskFailure`, where the core keeps a fault.
+    /// `OutOfMemory` may come in place of any answer. Refused, nothing was submitted, and core and file are as before.
+    pub fn start_read(&mut self, core: &mut Core, n: u32) -> Result<ReadCall, Error>
+        requires { IsReady core.old }
+        ensures starts { Starts reading tt (read_next 0 n) self.old core.old core.new result }
+        ensures file { IfOk result (λ call. call.machine.file ≡ file_at self.old) }
+        ensures left { self.new ≡ self.old }
+    {
+        let file = self.at();
+        if n == 0 {
+            return Ok(Call::ready(Reading { file, len: 0 }));
+        }
+        let len = n.min(facts(core).read_len);
+        if let Err(why) = may_read(&file, len) {
+            return Err(Error::IOError(why));
+        }
+        Call::ask(core, self.read_request(len), Reading { file, len })
+    }
+
+    /// The READ of `len` bytes at the offset. It fits a frame, since a handle has at most 256 bytes.
+    fn read_request(&self, len: u32) -> Asking
+        ensures is { result ≡ asking.Whole (request.Read self.now.grant.handle self.now.offset len) }
+        ensures short { is_long (request_of result) ≡ false }
+    {
+        let handle = self.grant().handle();
+        let _short = handle.as_bytes();
+        Asking::Whole(Request::Read {
+            handle: handle.copied(),
+            offset: self.offset(),
+            len,
+        })
+    }
+}

@@ -1,0 +1,97 @@
+//! Calls of one request whose ATTRS end them.
+ghost use Rattle.std.specs.Prelude.{◌≡◌, false};
+ghost use Rattle.sftp_core.specs.Core.{is_long};
+ghost use Rattle.sftp_model.specs.declared.request.Request.TheVariants as request;
+ghost use Rattle.sftp_model.specs.declared.slot.Site.{Site};
+ghost use Rattle.plan_model.specs.FilePlans.{meta_next};
+ghost use Rattle.call_state.specs.Asked.{IsReady, request_of};
+ghost use Rattle.call_state.specs.declared.asking.Asking.TheVariants as asking;
+ghost use Rattle.call_state.specs.declared.stage.Stage.TheVariants as stage;
+ghost use Rattle.sftp_file.specs.Files.{Starts, alone};
+ghost use Rattle.sftp_file.specs.Tells.{telling, tells_wait};
+
+use crate::file::File;
+use call_state::{Alone, Asking, Call, PlanMachine, Then, Told};
+use sftp_core::{Core, Ticket};
+use sftp_meta::MetaData;
+use sftp_model::{Error, IoKind, Reply, Request};
+
+/// A request whose ATTRS end the call.
+#[derive(Drop)]
+pub struct Telling {}
+
+/// A call under way that gives the metadata of a file.
+pub type AttrsCall = Call<Telling>;
+
+/// The call that awaits the ATTRS to a STAT, LSTAT or FSTAT.
+pub fn attrs_call(ticket: Ticket) -> AttrsCall
+    ensures { result.stage ≡ stage.Asked ticket }
+{
+    Call::awaiting(ticket, Telling {})
+}
+
+impl Alone for Telling {}
+
+impl PlanMachine for Telling {
+    type Value = MetaData;
+
+    ghost World = { Site };
+
+    ghost meaning = { telling };
+
+    ghost waits = { tells_wait };
+
+    ghost stays = { λ m. tt };
+
+    fn at_once(&mut self) -> MetaData {
+        unreachable!()
+    }
+
+    fn on(&mut self, told: Told) -> Then<MetaData> {
+        match told {
+            Told::Reply(Reply::Attrs(attrs)) => Then::Done(Ok(MetaData::new(attrs))),
+            Told::Reply(
+                Reply::Status {
+                    code,
+                    message,
+                    language,
+                },
+            ) => Then::Done(Err(Error::SftpError {
+                code,
+                message,
+                language,
+            })),
+            Told::Reply(_) => unreachable!(),
+            Told::Granted(_grant) => unreachable!(),
+        }
+    }
+}
+
+impl File {
+    /// Asks for the attributes of the file (draft-ietf-secsh-filexfer-02, section 6.8).
+    ///
+    /// Looked at in this order: `IOError(NotReadable)`; `BackgroundTaskFailure`, where the core keeps a fault.
+    /// `OutOfMemory` may come in place of any answer. Refused, nothing was submitted, and core and file are as before.
+    pub fn start_metadata(&mut self, core: &mut Core) -> Result<AttrsCall, Error>
+        requires { IsReady core.old }
+        ensures starts { Starts telling (alone self.old) (meta_next 0) self.old core.old core.new result }
+        ensures left { self.new ≡ self.old }
+    {
+        if !self.is_readable() {
+            return Err(Error::IOError(IoKind::NotReadable));
+        }
+        Call::ask(core, self.fstat_request(), Telling {})
+    }
+
+    /// The FSTAT of the file. It fits a frame, since a handle has at most 256 bytes.
+    fn fstat_request(&self) -> Asking
+        ensures is { result ≡ asking.Whole (request.Fstat self.now.grant.handle) }
+        ensures short { is_long (request_of result) ≡ false }
+    {
+        let handle = self.grant().handle();
+        let _short = handle.as_bytes();
+        Asking::Whole(Request::Fstat {
+            handle: handle.copied(),
+        })
+    }
+}

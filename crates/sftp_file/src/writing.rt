@@ -1,0 +1,319 @@
+//! `write` and `write_all`: the first bytes, or all of them part by part, each after the STATUS of OK to the one
+//! before.
+ghost use Rattle.std.specs.Prelude.{false, ◌≡◌, ◌≤◌, ◌<◌, ◌+◌, ◌^◌, [], ◌∷◌, List, ℕ, length, drop, refl, IfOk, OnErr};
+ghost use Rattle.sftp_model.specs.Numbers.{MAX_TRANSFER_LEN};
+ghost use Rattle.sftp_model.specs.Pieces.{joined};
+ghost use Rattle.plan_model.specs.Moves.{Answers, handle_of};
+ghost use Rattle.plan_model.specs.TransferPlans.{part_len, write_all_next};
+ghost use Rattle.sftp_core.specs.Core.{is_long};
+ghost use Rattle.call_state.specs.Asked.{IsReady, request_of};
+ghost use Rattle.call_state.specs.declared.asking.Asking.TheVariants as asking;
+ghost use Rattle.sftp_file.specs.Files.{Starts, file_at, one_slot};
+ghost use Rattle.sftp_file.specs.Writes.{IsBehind, IsNext, IsPart, WriteAllValue, behind_part, first_part, rest_behind, rest_of, writes_wait, writing_all};
+
+use crate::facts::facts;
+use crate::file::File;
+use crate::looks::may_write;
+use crate::on_file::OnFile;
+use crate::parts::{cut, one_piece, shared};
+use bytes::Bytes;
+use call_state::{Asking, Call, PlanMachine, Then, Told};
+use sftp_core::Core;
+use sftp_model::numbers::SSH_FX_OK;
+use sftp_model::{Error, Facts, FileAt, Handle, Reply};
+use sftp_values::Items;
+use ssh_encoding::OutOfMemory;
+use std::alloc::Global;
+use std::marker::Model;
+
+/// The WRITE of a part under way.
+#[derive(Drop)]
+pub struct WritingAll {
+    alloc: Global,
+    handle: Handle,
+    /// The file, where the part under way stands.
+    file: FileAt,
+    facts: Facts,
+    /// The place of the part's WRITE.
+    place: u64,
+    /// The pieces as they were handed in.
+    pieces: Items<Bytes>,
+    /// The bytes before the part under way.
+    done: usize,
+    /// The bytes of the part.
+    len: usize,
+}
+
+impl Model for WritingAll {
+    ghost use Rattle.std.specs.Prelude.{false, ◌≡◌, ◌≤◌, ◌<◌, ◌+◌, ◌^◌, drop};
+    ghost use Rattle.sftp_model.specs.Numbers.{MAX_TRANSFER_LEN};
+    ghost use Rattle.sftp_model.specs.Pieces.{joined};
+    ghost use Rattle.plan_model.specs.TransferPlans.{part_len};
+    ghost use Rattle.sftp_file.specs.Writes.{WriteAllValue};
+
+    ghost Value = { WriteAllValue };
+
+    ghost view = { λ m. record {
+      handle = m.handle;
+      file = m.file;
+      facts = m.facts;
+      place = m.place;
+      pieces = m.pieces;
+      done = m.done;
+    } };
+
+    ghost invariant = { λ m. (m.len ≡ part_len m.facts (drop m.done (joined m.pieces)))
+        × (m.file.offset + m.len < 2 ^ 64)
+        × (m.done ≤ m.file.offset)
+        × (1 ≤ m.facts.write_len)
+        × (m.facts.write_len ≤ MAX_TRANSFER_LEN) };
+}
+
+/// A write of bytes to a file, part by part.
+pub type WriteAllCall = Call<WritingAll>;
+
+/// What comes behind the parts that were written.
+#[derive(Drop)]
+pub(crate) enum Part {
+    /// The call gives this.
+    Over(Result<(), Error>),
+    /// The WRITE of the next part, and the length of its content.
+    Ask(Asking, usize),
+}
+
+/// The next part of the pieces behind `done` bytes, at the file's offset. Refused only for want of memory.
+fn next_write(
+    alloc: Global,
+    handle: &Handle,
+    file: &FileAt,
+    facts: &Facts,
+    pieces: &[Bytes],
+    done: usize,
+) -> Result<Part, OutOfMemory>
+    requires { (1 ≤ facts.now.write_len) × (facts.now.write_len ≤ MAX_TRANSFER_LEN) }
+    ensures part { (answers : Answers) → handle_of (answers file.now.grant) ≡ handle.now
+        → IfOk result (IsPart (one_slot file.now)
+        (rest_of file.now (drop done (joined pieces.now)) facts.now [] answers)) }
+    ensures next { IfOk result (IsNext file.now facts.now pieces.now done) }
+{
+    let (parts, len) = cut(alloc, pieces, done, facts.write_len as usize)?;
+    if len == 0 {
+        return Ok(Part::Over(Ok(())));
+    }
+    if let Err(why) = may_write(file, len) {
+        return Ok(Part::Over(Err(Error::IOError(why))));
+    }
+    Ok(Part::Ask(write_request(handle, file.offset, parts), len))
+}
+
+/// The WRITE of these parts at an offset.
+pub(crate) fn write_request(handle: &Handle, offset: u64, parts: Vec<Bytes>) -> Asking
+    requires { length (joined parts.items) ≤ MAX_TRANSFER_LEN }
+    ensures is { result ≡ asking.Parts handle.now offset parts.items }
+    ensures short { is_long (request_of result) ≡ false }
+{
+    let _short = handle.as_bytes();
+    Asking::Parts {
+        handle: handle.copied(),
+        offset,
+        parts: Items::new(parts),
+    }
+}
+
+impl WritingAll {
+    /// Goes on behind the part that was written. Refused only for want of memory, it is as before then.
+    fn go_behind(&mut self) -> Result<Part, OutOfMemory>
+        ensures part { (answers : Answers) → handle_of (answers self.old.file.grant) ≡ self.old.handle
+            → IfOk result (IsPart (one_slot (behind_part self.old))
+            (rest_of (behind_part self.old) (rest_behind self.old) self.old.facts [] answers)) }
+        ensures next { IfOk result (IsBehind self.old self.new) }
+        ensures err { OnErr result (self.new ≡ self.old) }
+    {
+        let file = FileAt {
+            offset: self.file.offset + self.len as u64,
+            ..self.file
+        };
+        let done = self.done + self.len;
+        let Some(place) = self.place.checked_add(1) else {
+            return Err(OutOfMemory);
+        };
+        let next = next_write(
+            self.alloc,
+            &self.handle,
+            &file,
+            &self.facts,
+            self.pieces.as_slice(),
+            done,
+        )?;
+        self.file = file;
+        match next {
+            Part::Over(value) => {
+                self.pieces = Items::new(Vec::new(self.alloc));
+                self.done = 0;
+                self.len = 0;
+                Ok(Part::Over(value))
+            }
+            Part::Ask(asking, len) => {
+                self.place = place;
+                self.done = done;
+                self.len = len;
+                Ok(Part::Ask(asking, len))
+            }
+        }
+    }
+}
+
+impl PlanMachine for WritingAll {
+    type Value = ();
+
+    ghost World = { Unit {0} };
+
+    ghost meaning = { writing_all };
+
+    ghost waits = { writes_wait };
+
+    ghost stays = { λ (m : WriteAllValue). refl };
+
+    fn at_once(&mut self) {}
+
+    fn on(&mut self, told: Told) -> Then<()> {
+        match told {
+            Told::Reply(
+                Reply::Status {
+                    code,
+                    message,
+                    language,
+                },
+            ) => {
+                if code != SSH_FX_OK {
+                    return Then::Done(Err(Error::SftpError {
+                        code,
+                        message,
+                        language,
+                    }));
+                }
+                match self.go_behind() {
+                    Ok(Part::Over(value)) => Then::Done(value),
+                    Ok(Part::Ask(asking, _)) => Then::Ask(asking),
+                    Err(OutOfMemory) => Then::Short(Told::Reply(Reply::Status {
+                        code,
+                        message,
+                        language,
+                    })),
+                }
+            }
+            Told::Reply(_) => unreachable!(),
+            Told::Granted(_grant) => unreachable!(),
+        }
+    }
+}
+
+impl OnFile for WritingAll {
+    ghost file = { λ (m : WriteAllValue). m.file };
+
+    ghost moves = { λ (m next : WriteAllValue) same. same };
+
+    fn offset(&self) -> u64 {
+        self.file.offset
+    }
+}
+
+impl File {
+    /// Writes all of these bytes at the offset, part by part (draft-ietf-secsh-filexfer-02, section 6.4): each WRITE
+    /// has as many as the session allows, and is sent after the status of the one before. For no bytes nothing is
+    /// asked. The bytes are copied once.
+    ///
+    /// Looked at in this order: `IOError(NotWritable)`; `IOError(OffsetOverflow)`, where the offset and the length of
+    /// the WRITE together are over 18446744073709551615, as for each later part; `BackgroundTaskFailure`, where the
+    /// core keeps a fault. `OutOfMemory` may come in place of any answer. Refused, nothing was submitted, and core
+    /// and file are as before.
+    pub fn start_write_all(&mut self, core: &mut Core, buf: &[u8]) -> Result<WriteAllCall, Error>
+        requires { IsReady core.old }
+        ensures starts { Starts writing_all tt (write_all_next 0 buf.now) self.old core.old core.new result }
+        ensures file { IfOk result (λ call. call.machine.file ≡ file_at self.old) }
+        ensures left { self.new ≡ self.old }
+    {
+        match one_piece(core.alloc(), buf) {
+            Ok(pieces) => self.write_pieces(core, pieces),
+            Err(OutOfMemory) => Err(Error::OutOfMemory),
+        }
+    }
+
+    /// Writes all of these pieces, joined, as `start_write_all`. No byte is copied: the parts are cut out of the
+    /// pieces.
+    pub fn start_write_all_vectorized(
+        &mut self,
+        core: &mut Core,
+        bufs: &[Bytes],
+    ) -> Result<WriteAllCall, Error>
+        requires { IsReady core.old }
+        ensures starts { Starts writing_all tt (write_all_next 0 (joined bufs.now)) self.old core.old core.new result }
+        ensures shared { IfOk result (λ call. (call.machine.pieces ≡ bufs.now) × (call.machine.done ≡ 0)) }
+        ensures file { IfOk result (λ call. call.machine.file ≡ file_at self.old) }
+        ensures left { self.new ≡ self.old }
+    {
+        match shared(core.alloc(), bufs) {
+            Ok(pieces) => self.write_pieces(core, pieces),
+            Err(OutOfMemory) => Err(Error::OutOfMemory),
+        }
+    }
+
+    /// Another name of `start_write_all_vectorized`.
+    pub fn start_write_all_zero_copy(
+        &mut self,
+        core: &mut Core,
+        bufs: &[Bytes],
+    ) -> Result<WriteAllCall, Error>
+        requires { IsReady core.old }
+        ensures starts { Starts writing_all tt (write_all_next 0 (joined bufs.now)) self.old core.old core.new result }
+        ensures shared { IfOk result (λ call. (call.machine.pieces ≡ bufs.now) × (call.machine.done ≡ 0)) }
+        ensures file { IfOk result (λ call. call.machine.file ≡ file_at self.old) }
+        ensures left { self.new ≡ self.old }
+    {
+        self.start_write_all_vectorized(core, bufs)
+    }
+
+    /// Writes all of these pieces, joined.
+    fn write_pieces(&self, core: &mut Core, pieces: Vec<Bytes>) -> Result<WriteAllCall, Error>
+        requires { IsReady core.old }
+        ensures starts { Starts writing_all tt (write_all_next 0 (joined pieces.items)) self.now
+            core.old core.new result }
+        ensures shared { IfOk result (λ call. (call.machine.pieces ≡ pieces.items) × (call.machine.done ≡ 0)) }
+        ensures file { IfOk result (λ call. call.machine.file ≡ file_at self.now) }
+    {
+        let alloc = core.alloc();
+        let (file, facts) = (self.at(), facts(core));
+        let handle = self.grant().handle();
+        let part = match next_write(alloc, handle, &file, &facts, pieces.as_slice(), 0) {
+            Ok(part) => part,
+            Err(OutOfMemory) => return Err(Error::OutOfMemory),
+        };
+        match part {
+            Part::Ask(asking, len) => {
+                let machine = self.writing(alloc, facts, pieces, len);
+                Call::ask(core, asking, machine)
+            }
+            Part::Over(Ok(())) => Ok(Call::ready(self.writing(alloc, facts, pieces, 0))),
+            Part::Over(Err(e)) => Err(e),
+        }
+    }
+
+    /// The machine of a whole write whose first part has this length.
+    fn writing(&self, alloc: Global, facts: Facts, pieces: Vec<Bytes>, len: usize) -> WritingAll
+        requires part { len ≡ part_len facts (joined pieces.items) }
+        requires room { self.now.offset + len < 2 ^ 64 }
+        requires range { (1 ≤ facts.write_len) × (facts.write_len ≤ MAX_TRANSFER_LEN) }
+        ensures { result ≡ first_part self.now facts pieces.items }
+    {
+        WritingAll {
+            alloc,
+            handle: self.grant().handle().copied(),
+            file: self.at(),
+            facts,
+            place: 1,
+            pieces: Items::new(pieces),
+            done: 0,
+            len,
+        }
+    }
+}
