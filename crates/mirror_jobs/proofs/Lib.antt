@@ -1,0 +1,4 @@
+pub mod DealtLaws
+pub mod TurnLaws
+pub mod PlaceLaws
+pub mod ParentLaws

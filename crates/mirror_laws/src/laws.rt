@@ -1,0 +1,36 @@
+//! Laws of the definitions. The functions do nothing: what they ensure holds of all values.
+ghost use Rattle.std.specs.Prelude.{◌≡◌, ◌≤◌, ◌∷◌, ℕ, List, true};
+ghost use Rattle.std.specs.List.{list_all};
+ghost use Rattle.sftp_model.specs.Paths.{slash};
+ghost use Rattle.sftp_model.specs.declared.config.Choice.{Choice};
+ghost use Rattle.sftp_model.specs.declared.config.ServerConfig.{ServerConfig};
+ghost use Rattle.sftp_model.specs.declared.outcome.Outcome.{Outcome};
+ghost use Rattle.machine_model.specs.Components.{Name, components, written};
+ghost use Rattle.machine_model.specs.FileTree.{FileTree};
+ghost use Rattle.session_model.specs.declared.entry.Entry.{Entry};
+ghost use Rattle.session_model.specs.Calls.{Setting};
+ghost use Rattle.run_laws.specs.KeepsFiles.{KeepsFiles};
+ghost use Rattle.mirror_jobs.specs.declared.job.Job.{Job};
+ghost use Rattle.mirror_jobs.specs.Jobs.{are_ok};
+ghost use Rattle.mirror_jobs.specs.JobLanes.{lanes_of};
+ghost use Rattle.mirror_jobs.specs.Verdicts.{verdicts_of};
+ghost use Rattle.mirror_laws.specs.CopiesFiles.{CopiesFiles};
+ghost use Rattle.mirror_laws.specs.PlainNames.{is_plain};
+
+/// The components of a path are plain: none is empty, a dot or two, and none has a slash. A name of plain components is
+/// what its written form denotes, with or without a slash in front.
+pub fn written_names_denote_themselves()
+    ensures plain { (path : List ℕ) → list_all is_plain (components path) ≡ true }
+    ensures written { (name : Name) → list_all is_plain name ≡ true → components (written name) ≡ name }
+    ensures led { (path : List ℕ) → components (slash ∷ path) ≡ components path }
+{}
+
+/// Where lanes that copy files are served by a file machine, a file that is said to be copied holds its content at the
+/// end, whatever the choices refuse; and the bytes that are said to be got are those that the file had at first, where no
+/// choice feigns an end.
+pub fn copies_keep_files()
+    ensures { (width : ℕ) (jobs : List Job) (config : ServerConfig) (choices : List Choice) (tree left : FileTree)
+        (s : Setting) (past : List Entry) (outcomes : List (List Outcome)) → 1 ≤ width → are_ok jobs ≡ true
+        → KeepsFiles (lanes_of width jobs) config choices tree s past left outcomes
+        → CopiesFiles jobs choices tree left (verdicts_of width jobs outcomes) }
+{}

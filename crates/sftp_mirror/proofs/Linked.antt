@@ -1,0 +1,74 @@
+-- Files that are copied over a link whose log was empty, and what the dial tells of the link then.
+use Rattle.std.proofs.Common.{◌≡◌, ◌∙◌, ℕ, Bool, List, [], refl, ap, sym, subst}
+use Rattle.std.specs.Prelude.{Some, Err, reverse}
+use Rattle.sftp_link.specs.declared.piece.Piece.{Piece}
+use Rattle.sftp_link.specs.Told.{Told}
+use Rattle.sftp_model.specs.declared.error.Error.{Error}
+use Rattle.sftp_model.specs.declared.outcome.Outcome.{Outcome}
+use Rattle.session_model.specs.Settings.{greeting}
+use Rattle.session_model.specs.Shown.{Shows}
+use Rattle.session_exchange.specs.Causes.{Cause, EndCause}
+use Rattle.session_driver.specs.Logs.{Ends}
+use Rattle.sftp_lanes.specs.Seen.{given}
+use Rattle.mirror_jobs.specs.declared.job.Job.{Job}
+use Rattle.mirror_jobs.specs.declared.verdict.Verdict.{Verdict}
+use Rattle.mirror_jobs.specs.JobLanes.{lanes_of, turns_of}
+use Rattle.mirror_jobs.specs.Verdicts.{verdict_lines, verdicts_of}
+use Rattle.sftp_mirror.specs.declared.copy.CopyReport.{CopyReport}
+use Rattle.sftp_mirror.specs.declared.list.CopyList.{CopyList}
+use Rattle.sftp_mirror.specs.declared.schedule.Schedule.{Schedule}
+use Rattle.sftp_mirror.specs.Copies.{CopiesServed, IsCopyReport}
+use Rattle.sftp_mirror.specs.Dialled.{IsShown, IsStopped, error_name, error_line}
+use Rattle.sftp_mirror.specs.Printed.{verdicts_in}
+use Rattle.sftp_mirror.proofs.Running.{from_empty}
+
+pub is_shown : (schedule : Schedule) (list : CopyList) (jobs : List Job) (before log : List Piece) (faults : ℕ) (ended : Bool) (r : CopyReport) (text : List ℕ)
+    → jobs ≡ list.jobs → before ≡ []
+    → IsCopyReport schedule.width schedule.rounds jobs list.script.options (Some (reverse before)) (Some log) r
+    → text ≡ verdict_lines jobs r.verdicts → IsShown (Some (record { log = log; faults = faults; ended = ended })) schedule list text
+is_shown schedule list jobs before log faults ended r text same none copied is =
+    subst (λ (x : List Job). (IsCopyReport schedule.width schedule.rounds x list.script.options (Some (reverse before)) (Some log) r
+    → text ≡ verdict_lines x r.verdicts → IsShown (Some (record { log = log; faults = faults; ended = ended })) schedule
+    list text)) (sym same) of_list copied is
+  where
+    of_list : IsCopyReport schedule.width schedule.rounds list.jobs list.script.options (Some (reverse before)) (Some log) r
+        → text ≡ verdict_lines list.jobs r.verdicts → IsShown (Some (record { log = log; faults = faults; ended = ended })) schedule list text
+    of_list c t =
+        let report = c.report in
+        let verdicts : r.verdicts ≡ verdicts_in schedule list.jobs report.past =
+        c.verdicts ∙ ap (λ (o : List (List Outcome)). verdicts_of schedule.width list.jobs o) report.outcomes in
+        record {
+          extensions = report.extensions;
+          past = report.past;
+          link = record { log = log; faults = faults; ended = ended };
+          back = refl;
+          run = report.run;
+          shown = from_empty (λ (b now : List Piece). Shows (greeting report.extensions) report.past (reverse b) now) before log none report.log;
+          closed = report.closed;
+          copies = subst (λ (v : List Verdict). CopiesServed list.jobs report.past v) verdicts c.copies;
+          is = t ∙ ap (λ (v : List Verdict). verdict_lines list.jobs v) verdicts;
+        }
+
+pub is_stopped : (schedule : Schedule) (list : CopyList) (jobs : List Job) (before log : List Piece) (first faults : ℕ)
+    (ended : Bool) (e : Error) (name text : List ℕ) → jobs ≡ list.jobs → before ≡ [] → first ≡ 0
+    → Told (Ends (given (lanes_of schedule.width jobs) list.script.options)
+    (turns_of schedule.width schedule.rounds jobs) ended e) (Some (reverse before)) (Some log)
+    → Cause {T = CopyReport} first faults (Err e) → EndCause {T = CopyReport} ended (Err e)
+    → error_name e ≡ Some name → text ≡ error_line name → IsStopped (Some (record { log = log; faults = faults; ended = ended })) schedule list text
+is_stopped schedule list jobs before log first faults ended e name text same none zero stops cause end named is =
+    record {
+      error = e;
+      link = record { log = log; faults = faults; ended = ended };
+      back = refl;
+      name = name;
+      named = named;
+      cause = subst (λ (n : ℕ). Cause {T = CopyReport} n faults (Err e)) zero cause;
+      end = end;
+      stops = subst (λ (j : List Job). Ends (given (lanes_of schedule.width j) list.script.options)
+          (turns_of schedule.width schedule.rounds j) ended e [] log) same
+          (from_empty (λ (b now : List Piece). Ends (given (lanes_of schedule.width jobs) list.script.options)
+          (turns_of schedule.width schedule.rounds jobs) ended e (reverse b) now) before log none stops);
+      is = is;
+    }
+
+pub ruleset over_links = (is_shown, is_stopped)

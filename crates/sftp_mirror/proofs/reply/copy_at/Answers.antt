@@ -1,0 +1,11 @@
+use Rattle.sftp_mirror.proofs.Exits.{link_answered}
+use Rattle.sftp_mirror.proofs.reply.copy_at.Goals as goal
+
+pub returns : goal.returns
+returns g c =
+    link_answered g.D.Dial.dialled c.args.path.now c.args.schedule c.deref.result.now c.deref-2.result.now
+    c.in_ok-reply.reply.answered c.write_answer.result (g.S.Source.state c.args.source.now)
+    (g.S.Source.state c.read_bytes.new.source) (g.K.Sink.state c.args.sink.now) (g.K.Sink.state c.write_answer.new.sink)
+    (g.D.Dial.state c.args.dial.now) (g.D.Dial.state c.reply_at.new.dial)
+    (rw (c.deref.ensures.value) c.in_ok-bytes.ensures.bytes) c.in_ok-bytes.ensures.cause c.in_ok-reply.ensures.cause
+    (rw (c.deref-2.ensures.value) c.in_ok-reply.ensures.ok) c.write_answer.ensures

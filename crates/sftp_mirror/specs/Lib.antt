@@ -1,0 +1,10 @@
+pub mod Lists
+pub mod CanCopy
+pub mod Copies
+pub mod Words
+pub mod Printed
+pub mod Dialled
+pub mod Outside
+pub mod Ended
+pub mod Replies
+pub mod Completed

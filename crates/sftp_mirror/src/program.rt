@@ -1,0 +1,51 @@
+ghost use Rattle.std.specs.Prelude.{map};
+ghost use Rattle.std.specs.String.{string_bytes};
+ghost use Rattle.sftp_mirror.specs.Ended.{ProgramEnds};
+ghost use Rattle.sftp_mirror.specs.Outside.{MayFail};
+ghost use Rattle.sftp_mirror.specs.Words.{asked_by};
+
+use crate::answer::answer_to;
+use crate::ending::status_of;
+use crate::reply::{copy_at, copy_in_memory, write_answer};
+use crate::schedule::{copy_schedule, path_of, unix_schedule};
+use sftp_link::{Dial, Sink, Source};
+use sftp_map_server::MapServer;
+use std::alloc::Global;
+
+/// Does all that the program does, by the words of its command line without its name, and answers the status to end with.
+///
+/// With `copy` and two numbers it reads the source to its end and copies the files that it lists over a server of the list's
+/// files and directories in memory, by the list's choices and picks. The server is left in `kept`, and its log shows the
+/// frames of the run; where there was no run nothing is left there.
+/// With `unix`, a path and two numbers it copies them over a link to the server that listens there. That is dialled once,
+/// after the list, whose files, server, choices and picks are passed over; the link is given back to the dial, whatever came
+/// of the run.
+/// `--help` and `--version` are answered with their texts.
+///
+/// The status is 0 where the whole text was written; 1, with `unix` alone, where an error stopped the run and the line that
+/// names it was written; 2 where the bytes are no list or the words are others, and the line that says why was written. It is
+/// 3 where the source failed, 4 where the sink failed, 5 where there was no memory, and 6 where the dial failed; with 4 and 5
+/// a prefix of the text was written, or nothing.
+pub fn mirror<S: Source, K: Sink, D: Dial>(
+    alloc: Global,
+    words: &[String],
+    source: &mut S,
+    sink: &mut K,
+    dial: &mut D,
+    kept: &mut Option<MapServer>,
+) -> u8
+    requires { MayFail (record { source = S.state source.old; sink = K.state sink.old; dial = D.state dial.old }) }
+    ensures { ProgramEnds D.dialled (asked_by (map string_bytes words.now)) result kept.new
+        (record { source = S.state source.old; sink = K.state sink.old; dial = D.state dial.old })
+        (record { source = S.state source.new; sink = K.state sink.new; dial = D.state dial.new }) }
+{
+    *kept = None;
+    if let Some(schedule) = copy_schedule(words) {
+        status_of(copy_in_memory(alloc, schedule, source, sink, kept))
+    } else if let Some(schedule) = unix_schedule(words) {
+        status_of(copy_at(alloc, path_of(words), schedule, source, sink, dial))
+    } else {
+        let answer = answer_to(words);
+        status_of(write_answer(sink, answer.answered, answer.text.as_bytes()))
+    }
+}
