@@ -1,0 +1,6 @@
+pub mod Lowering
+pub mod Sending
+pub mod Getting
+pub mod Draining
+pub mod Taking
+pub mod Opening

@@ -1,0 +1,4 @@
+pub mod Outgoing
+pub mod Incoming
+pub mod Sessions
+pub mod Rounds

@@ -1,0 +1,113 @@
+-- A session over a link from its opening to its end.
+use Rattle.std.specs.Prelude.{◌≡◌, ◌⊎◌, ℕ, zero, suc, [], Option, None, Some, Result, Ok, Err, IsSome}
+use Rattle.sftp_model.specs.declared.error.Error.{Error}
+use Rattle.sftp_model.specs.declared.error.Error.TheVariants as error
+use Rattle.sftp_model.specs.declared.options.SftpOptions.{SftpOptions}
+use Rattle.sftp_core.specs.Core.{fresh, unanswered_of}
+use Rattle.sftp_core.specs.Info.{info_of}
+use Rattle.sftp_core.specs.declared.info.Info.{Info}
+use Rattle.sftp_link.specs.Views.{LinkView}
+use Rattle.sftp_client.specs.Incoming.{nothing_came}
+use Rattle.sftp_client.specs.Sessions.{
+  Flushes,
+  FlushesUnfailed,
+  IsUnfaulted,
+  SendsAll,
+  SftpValue,
+  Takes,
+  TakesFrame,
+  TakesWhole,
+  handed,
+}
+
+-- ---- the opening
+
+-- a session of which nothing was sent or taken
+abbrev pub starting : {L : Type 0} → SftpOptions → L → SftpValue L
+starting options link = record { core = fresh options; unsent = []; coming = nothing_came; link = link }
+
+-- all that was queued was sent, and then one frame was taken
+pub record Exchanges {L S : Type 0} (state : L → LinkView S) (old new : SftpValue L) : Type 0 where
+  pub mid : SftpValue L
+  pub sends : SendsAll state (handed old) mid
+  pub takes : TakesFrame state mid new
+
+-- not all was sent, or no frame was taken
+abbrev pub ExchangeStops : {L S : Type 0} → (L → LinkView S) → SftpValue L → SftpValue L → Error → Type 0
+ExchangeStops {L = L} state old new e = FlushesUnfailed state old new (Err e)
+    ⊎ ((mid : SftpValue L) × (SendsAll state (handed old) mid × TakesWhole state mid new (Err e)))
+
+abbrev pub ExchangeEnds : {L S : Type 0} → (L → LinkView S) → SftpValue L → SftpValue L → Result (Unit {0}) Error
+    → Type 0
+ExchangeEnds state old new (Ok u) = Exchanges state old new
+ExchangeEnds state old new (Err e) = ExchangeStops state old new e
+
+-- after VERSION the limits are asked for, where the core doesn't know yet what the server tells of itself
+abbrev pub GoesOn : {L S : Type 0} → (L → LinkView S) → SftpValue L → SftpValue L → Option Info → Type 0
+GoesOn state greeted new (Some info) = new ≡ greeted
+GoesOn state greeted new None = Exchanges state greeted new
+
+-- the hello was sent and VERSION taken, and the limits where the server offers to tell them
+pub record IsOpened {L S : Type 0} (state : L → LinkView S) (old new : SftpValue L) : Type 0 where
+  pub greeted : SftpValue L
+  pub greets : Exchanges state old greeted
+  pub goes : GoesOn state greeted new (info_of greeted.core.phase)
+  pub unfaulted : IsUnfaulted (state old.link) (state new.link)
+  pub told : IsSome (info_of new.core.phase)
+
+-- VERSION was taken, and the limits were not
+pub record StopsAsking {L S : Type 0} (state : L → LinkView S) (old new : SftpValue L) (e : Error) : Type 0 where
+  pub greeted : SftpValue L
+  pub greets : Exchanges state old greeted
+  pub asks : info_of greeted.core.phase ≡ None
+  pub stops : ExchangeStops state greeted new e
+
+abbrev pub OpenEnds : {L S : Type 0} → (L → LinkView S) → SftpValue L → SftpValue L → Result (Unit {0}) Error → Type 0
+OpenEnds state old new (Ok u) = IsOpened state old new
+OpenEnds state old new (Err e) = ExchangeStops state old new e ⊎ StopsAsking state old new e
+
+-- the link that is handed back is that of a session which stopped so
+abbrev pub HandsBack : {L : Type 0} → (SftpValue L → Type 0) → L → Type 0
+HandsBack {L = L} Stopped link = (last : SftpValue L) × (Stopped last × (last.link ≡ link))
+
+-- it is open; or there was no memory for a core, or the opening stopped, and the link is handed back
+abbrev pub Opens : {L S : Type 0} → (L → LinkView S) → L → SftpOptions → Result (SftpValue L) (Error × L) → Type 0
+Opens state link options (Ok sftp) = IsOpened state (starting options link) sftp
+Opens state link options (Err p) = ((p.0 ≡ error.OutOfMemory) × (p.1 ≡ link))
+    ⊎ HandsBack (λ last. OpenEnds state (starting options link) last (Err p.0)) p.1
+
+-- ---- the end
+
+-- one frame was taken, and what was queued by then was sent
+pub record IsRound {L S : Type 0} (state : L → LinkView S) (old new : SftpValue L) : Type 0 where
+  pub mid : SftpValue L
+  pub takes : TakesFrame state old mid
+  pub sends : SendsAll state (handed mid) new
+
+-- so many rounds, one after another
+abbrev pub AreRounds : {L S : Type 0} → (L → LinkView S) → ℕ → SftpValue L → SftpValue L → Type 0
+AreRounds state zero old new = new ≡ old
+AreRounds {L = L} state (suc n) old new = (mid : SftpValue L) × (AreRounds state n old mid × IsRound state mid new)
+
+-- what was queued was sent, and then rounds came
+pub record HasRounds {L S : Type 0} (state : L → LinkView S) (old new : SftpValue L) : Type 0 where
+  pub first : SftpValue L
+  pub count : ℕ
+  pub unfailed : old.core.fault ≡ None
+  pub sends : SendsAll state (handed old) first
+  pub rounds : AreRounds state count first new
+
+-- a round stopped as its frame was taken, or as what was queued was sent
+abbrev pub RoundStops : {L S : Type 0} → (L → LinkView S) → SftpValue L → SftpValue L → Error → Type 0
+RoundStops {L = L} state old new e = Takes state old new (Err e)
+    ⊎ ((mid : SftpValue L) × (TakesFrame state old mid × Flushes state mid new (Err e)))
+
+-- no request is unanswered and all was sent; or it stopped before the rounds, or in one of them
+abbrev pub Drains : {L S : Type 0} → (L → LinkView S) → SftpValue L → SftpValue L → Result (Unit {0}) Error → Type 0
+Drains state old new (Ok u) = HasRounds state old new × ((unanswered_of new.core ≡ 0) × (new.unsent ≡ []))
+Drains {L = L} state old new (Err e) = Flushes state old new (Err e)
+    ⊎ ((mid : SftpValue L) × (HasRounds state old mid × RoundStops state mid new e))
+
+abbrev pub Closes : {L S : Type 0} → (L → LinkView S) → SftpValue L → Result L (Error × L) → Type 0
+Closes state old (Ok link) = HandsBack (λ last. Drains state old last (Ok tt)) link
+Closes state old (Err p) = HandsBack (λ last. Drains state old last (Err p.0)) p.1

@@ -1,0 +1,162 @@
+// The bytes that were handed out and are not sent yet.
+ghost use Rattle.std.specs.Prelude.{◌≡◌, ◌<◌, ◌≤◌, ◌-◌, ◌^◌, [], ◌++◌, length, drop, Some};
+ghost use Rattle.sftp_core.specs.Frames.{AreFilled};
+ghost use Rattle.sftp_model.specs.Pieces.{joined};
+ghost use Rattle.sftp_link.specs.Moves.{HasSent};
+ghost use Rattle.sftp_client.specs.Outgoing.{Begins, IsAt, IsWithin, SendsOn, unsent_from};
+
+use arrayvec::ArrayVec;
+use bytes::Bytes;
+use session_exchange::fault;
+use sftp_core::Chunk;
+use sftp_link::{DeviceError, LinkOut};
+use sftp_model::Error;
+use std::marker::Model;
+
+/// The most bytes that are gathered into one send.
+const MAX_GATHERED: usize = 65536;
+
+/// A piece of which so many bytes are unsent goes by itself, and is not copied.
+const MIN_ALONE: usize = 16384;
+
+/// What is unsent of a chunk: its pieces from one on, and of that one the bytes from an offset on. A contract sees
+/// these bytes.
+#[derive(Drop)]
+pub(crate) struct Outgoing {
+    chunk: Option<Chunk>,
+    piece: usize,
+    offset: usize,
+}
+
+impl Model for Outgoing {
+    ghost use Rattle.std.specs.Prelude.{List, ℕ};
+    ghost use Rattle.sftp_client.specs.Outgoing.{IsAt, unsent_from};
+
+    ghost Value = { List ℕ };
+
+    ghost view = { λ o. unsent_from o.chunk o.piece o.offset };
+
+    ghost invariant = { λ o. IsAt o.chunk o.piece o.offset };
+}
+
+impl Outgoing {
+    /// Nothing is unsent.
+    pub(crate) fn new() -> Outgoing
+        ensures { result ≡ [] }
+    {
+        Outgoing {
+            chunk: None,
+            piece: 0,
+            offset: 0,
+        }
+    }
+
+    /// All of a chunk is unsent.
+    pub(crate) fn of(chunk: Chunk) -> Outgoing
+        requires { AreFilled chunk }
+        ensures { result ≡ joined chunk }
+    {
+        Outgoing {
+            chunk: Some(chunk),
+            piece: 0,
+            offset: 0,
+        }
+    }
+
+    /// Sends what is unsent, small neighbours gathered into one send. After an error the rest stays unsent, and the
+    /// next call goes on with it.
+    pub(crate) fn send<L: LinkOut>(&mut self, link: &mut L) -> Result<(), Error>
+        requires { (L.LinkState.state link.old).faults < 2 ^ 64 - 1 }
+        ensures { SendsOn self.old self.new (L.LinkState.state link.old) (L.LinkState.state link.new) result }
+    {
+        match &self.chunk {
+            Some(chunk) => send_from(link, chunk.pieces(), &mut self.piece, &mut self.offset),
+            None => Ok(()),
+        }
+    }
+
+    /// The chunk of which all was sent, so that its list may be used again.
+    pub(crate) fn into_chunk(self) -> Option<Chunk> {
+        let Outgoing { chunk, .. } = self;
+        chunk
+    }
+}
+
+/// Sends pieces from a place on, and moves the place past what was sent.
+fn send_from<L: LinkOut>(
+    link: &mut L,
+    pieces: &[Bytes],
+    piece: &mut usize,
+    offset: &mut usize,
+) -> Result<(), Error>
+    requires count { (L.LinkState.state link.old).faults < 2 ^ 64 - 1 }
+    requires at { IsAt (Some pieces.now) piece.old offset.old }
+    ensures sends { SendsOn (unsent_from (Some pieces.now) piece.old offset.old) (unsent_from (Some pieces.now) piece.new offset.new)
+        (L.LinkState.state link.old) (L.LinkState.state link.new) result }
+    ensures at { IsAt (Some pieces.now) piece.new offset.new }
+{
+    while *piece < pieces.len() {
+        match send_some(link, pieces, *piece, *offset) {
+            Ok(n) => pass(pieces, n, piece, offset),
+            Err(e) => return Err(fault(e)),
+        }
+    }
+    Ok(())
+}
+
+/// One send of the first unsent bytes: a large piece by itself, or small ones as one.
+fn send_some<L: LinkOut>(
+    link: &mut L,
+    pieces: &[Bytes],
+    piece: usize,
+    offset: usize,
+) -> Result<usize, DeviceError>
+    requires count { (L.LinkState.state link.old).faults < 2 ^ 64 - 1 }
+    requires at { IsWithin (drop piece pieces.now) offset }
+    requires some { piece < length pieces.now }
+    ensures { HasSent L.LinkState.Service (unsent_from (Some pieces.now) piece offset) (L.LinkState.state link.old) (L.LinkState.state link.new) result }
+{
+    let first = &pieces[piece][offset..];
+    if first.len() >= MIN_ALONE {
+        return link.send(first);
+    }
+    let mut gathered: ArrayVec<u8, MAX_GATHERED> = ArrayVec::new();
+    gather(first, &pieces[piece + 1..], &mut gathered);
+    link.send(gathered.as_slice())
+}
+
+/// Gathers bytes, and as many whole pieces after them as there is room for.
+fn gather(first: &[u8], later: &[Bytes], gathered: &mut ArrayVec<u8, MAX_GATHERED>)
+    requires empty { gathered.old.items ≡ [] }
+    requires fits { length first.now ≤ MAX_GATHERED }
+    ensures begins { Begins gathered.new.items (first.now ++ joined later.now) }
+    ensures first { length first.now ≤ length gathered.new.items }
+{
+    gathered.try_extend_from_slice(first).unwrap();
+    for piece in later {
+        if piece.len() > gathered.remaining_capacity() {
+            return;
+        }
+        gathered.try_extend_from_slice(piece).unwrap();
+    }
+}
+
+/// Moves a place past bytes that were sent.
+fn pass(pieces: &[Bytes], sent: usize, piece: &mut usize, offset: &mut usize)
+    requires at { IsAt (Some pieces.now) piece.old offset.old }
+    requires within { sent ≤ length (unsent_from (Some pieces.now) piece.old offset.old) }
+    ensures passed { unsent_from (Some pieces.now) piece.new offset.new ≡ drop sent (unsent_from (Some pieces.now) piece.old offset.old) }
+    ensures at { IsAt (Some pieces.now) piece.new offset.new }
+{
+    let mut left = sent;
+    while left > 0 {
+        let rest = pieces[*piece].len() - *offset;
+        if left < rest {
+            *offset += left;
+            return;
+        }
+        left -= rest;
+        *piece += 1;
+        *offset = 0;
+    }
+}
