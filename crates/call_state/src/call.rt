@@ -91,7 +91,10 @@ impl<M: PlanMachine> Call<M> {
     {
         match self.stage.take() {
             Stage::Ended => unreachable!(),
-            Stage::Ready => Poll::Ready(Ok(self.machine.at_once())),
+            Stage::Ready => match self.machine.at_once() {
+                Some(value) => Poll::Ready(Ok(value)),
+                None => unreachable!(),
+            },
             Stage::Unsent(asking) => self.send(core, asking),
             Stage::Came(told) => self.go_on(core, told),
             Stage::Asked(ticket) => match take_told(core, ticket) {

@@ -1,5 +1,5 @@
 //! What is left of a call's plan, as a value.
-ghost use Rattle.std.specs.Prelude.{◌≡◌, [], true, Some, None, Ok};
+ghost use Rattle.std.specs.Prelude.{◌≡◌, [], true, Some, None, Ok, IfSome, IsSome};
 ghost use Rattle.sftp_model.specs.Answers.{allows};
 ghost use Rattle.sftp_model.specs.declared.slot.Move.TheVariants.{Wait};
 ghost use Rattle.plan_model.specs.Moves.{Answers, Own};
@@ -33,12 +33,13 @@ pub trait PlanMachine: Sized + Drop {
     // What the machines of this kind mean.
     ghost meaning: { Meaning World Self Self.Value };
 
-    /// What the call gives without a reply.
-    fn at_once(&mut self) -> Self::Value
-        requires { meaning.ready self.old }
-        ensures ends { (w : World) → meaning.first w self.old ≡ meaning.ended w self.new (Ok result) }
+    /// What the call gives without a reply: Some where it needs none.
+    fn at_once(&mut self) -> Option<Self::Value>
+        ensures given { meaning.ready self.old → IsSome result }
+        ensures ends { IfSome result (λ value. (w : World) → meaning.ready self.old
+            → meaning.first w self.old ≡ meaning.ended w self.new (Ok value)) }
         ensures stays { meaning.stays self.old self.new }
-        ensures holds { (core : CoreValue) → meaning.holds core result };
+        ensures holds { IfSome result (λ value. (core : CoreValue) → meaning.holds core value) };
 
     /// Goes on with a reply that its request allows: it does the next move of what is left of the plan.
     fn on(&mut self, told: Told) -> Then<Self::Value>

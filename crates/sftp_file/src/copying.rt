@@ -53,8 +53,8 @@ impl PlanMachine for Copying {
 
     ghost stays = { λ (m : CopyValue). (refl, refl) };
 
-    fn at_once(&mut self) {
-        unreachable!()
+    fn at_once(&mut self) -> Option<()> {
+        None
     }
 
     fn on(&mut self, told: Told) -> Then<()> {

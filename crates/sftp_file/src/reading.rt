@@ -55,8 +55,8 @@ impl PlanMachine for Reading {
 
     ghost stays = { λ (m : ReadValue). refl };
 
-    fn at_once(&mut self) -> Option<Bytes> {
-        None
+    fn at_once(&mut self) -> Option<Option<Bytes>> {
+        Some(None)
     }
 
     fn on(&mut self, told: Told) -> Then<Option<Bytes>> {

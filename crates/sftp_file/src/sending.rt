@@ -58,8 +58,8 @@ impl PlanMachine for Sending {
 
     ghost stays = { λ (m : WriteValue). refl };
 
-    fn at_once(&mut self) -> usize {
-        0
+    fn at_once(&mut self) -> Option<usize> {
+        Some(0)
     }
 
     fn on(&mut self, told: Told) -> Then<usize> {

@@ -65,7 +65,9 @@ impl PlanMachine for Settling {
 
     ghost stays = { λ m. tt };
 
-    fn at_once(&mut self) {}
+    fn at_once(&mut self) -> Option<()> {
+        Some(())
+    }
 
     fn on(&mut self, told: Told) -> Then<()> {
         match told {

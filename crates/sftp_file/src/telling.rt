@@ -43,8 +43,8 @@ impl PlanMachine for Telling {
 
     ghost stays = { λ m. tt };
 
-    fn at_once(&mut self) -> MetaData {
-        unreachable!()
+    fn at_once(&mut self) -> Option<MetaData> {
+        None
     }
 
     fn on(&mut self, told: Told) -> Then<MetaData> {

@@ -174,7 +174,9 @@ impl PlanMachine for WritingAll {
 
     ghost stays = { λ (m : WriteAllValue). refl };
 
-    fn at_once(&mut self) {}
+    fn at_once(&mut self) -> Option<()> {
+        Some(())
+    }
 
     fn on(&mut self, told: Told) -> Then<()> {
         match told {
