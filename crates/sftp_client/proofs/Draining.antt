@@ -38,7 +38,7 @@ drains_first state old new u opened flushed =
 -- where something is unanswered, a take takes a frame
 pub takes_one : {L S : Type 0} (state : L → LinkView S) (old mid new : SftpValue L) (took : Bool) → DrainsOn state old mid
     → 0 < unanswered_of mid.core → Takes state mid new (Ok took) → TakesFrame state mid new
-takes_one state old mid new true d some takes = takes.1
+takes_one state old mid new true d some takes = takes.1.1
 takes_one state old mid new false d some takes =
     let none : awaited_of mid.core ≡ 0 = takes.1.none in
     let opened : IsSome (info_of d.before.phase) = subst (λ (c : Core). IsSome (info_of c.phase)) d.out d.opened in

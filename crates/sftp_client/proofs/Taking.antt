@@ -1,5 +1,5 @@
 -- A frame that comes and is taken.
-use Rattle.std.proofs.Common.{◌≡◌, ℕ, List, [], ◌++◌, ap, sym, ◌∙◌, subst, inl, inr}
+use Rattle.std.proofs.Common.{◌≡◌, ◌<◌, ℕ, List, [], ◌++◌, ap, sym, ◌∙◌, subst, inl, inr}
 use Rattle.std.specs.Prelude.{true, Result, Ok, Err, None, Some}
 use Rattle.std.proofs.lemmas.List.{append-nil}
 use Rattle.sftp_link.specs.Log.{SentOn}
@@ -9,7 +9,7 @@ use Rattle.sftp_link.proofs.Telling.{sent_nothing, told_as, told_on}
 use Rattle.sftp_model.specs.ReplyReadings.{reply_at}
 use Rattle.sftp_model.specs.declared.error.Error.{Error}
 use Rattle.sftp_model.specs.declared.error.Error.TheVariants as error
-use Rattle.sftp_core.specs.Core.{Core, failed_with}
+use Rattle.sftp_core.specs.Core.{Core, awaited_of, failed_with}
 use Rattle.sftp_core.specs.Take.{TakenFrom, take_refusal}
 use Rattle.sftp_core.specs.declared.errors.TakeError.TheVariants as take
 use Rattle.session_exchange.specs.Causes.{Caused}
@@ -169,12 +169,19 @@ refused_after state old mid new e sends refused =
       caused = caused_on (state old.link) (state mid.link) (state new.link) tt (Err e) sends.unfaulted refused.caused;
     }
 
+-- what is awaited stays while bytes are sent
+still_awaited : {L S : Type 0} (state : L → LinkView S) (old mid : SftpValue L) → SendsAll state old mid → 0 < awaited_of mid.core
+    → 0 < awaited_of old.core
+still_awaited state old mid sends due = subst (λ (c : Core). 0 < awaited_of c) (ap (λ (s : SftpValue _). s.core) sends.left) due
+
 -- what was unsent was sent, and then a frame was taken or not
 pub took_after : {L S : Type 0} (state : L → LinkView S) (old mid new : SftpValue L) (u : Unit {0}) → SendsAll state old mid
-    → TakesWhole state mid new (Ok u) → TakesUnfailed state old new (Ok true)
-took_after state old mid new u sends taken = taken_after state old mid new sends taken
+    → 0 < awaited_of mid.core → TakesWhole state mid new (Ok u) → TakesUnfailed state old new (Ok true)
+took_after state old mid new u sends due taken = (still_awaited state old mid sends due, taken_after state old mid new sends taken)
 
 pub none_after : {L S : Type 0} (state : L → LinkView S) (old mid new : SftpValue L) (e : Error) → SendsAll state old mid
-    → TakesWhole state mid new (Err e) → TakesUnfailed state old new (Err e)
-none_after state old mid new e sends (inl stops) = inr (inl (stops_after state old mid new e sends stops))
-none_after state old mid new e sends (inr refused) = inr (inr (refused_after state old mid new e sends refused))
+    → 0 < awaited_of mid.core → TakesWhole state mid new (Err e) → TakesUnfailed state old new (Err e)
+none_after state old mid new e sends due (inl stops) =
+    inr (still_awaited state old mid sends due, inl (stops_after state old mid new e sends stops))
+none_after state old mid new e sends due (inr refused) =
+    inr (still_awaited state old mid sends due, inr (refused_after state old mid new e sends refused))

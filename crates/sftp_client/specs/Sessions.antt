@@ -1,5 +1,5 @@
 -- A session over a link, and what its calls make of it.
-use Rattle.std.specs.Prelude.{◌≡◌, ◌⊎◌, ℕ, Bool, true, false, List, [], ◌++◌, Option, None, Some, Result, Ok, Err}
+use Rattle.std.specs.Prelude.{◌≡◌, ◌⊎◌, ◌<◌, ℕ, Bool, true, false, List, [], ◌++◌, Option, None, Some, Result, Ok, Err}
 use Rattle.ssh_encoding.specs.Writing.{string}
 use Rattle.sftp_model.specs.ReplyReadings.{reply_at}
 use Rattle.sftp_model.specs.declared.error.Error.{Error}
@@ -185,12 +185,15 @@ abbrev pub TakesWhole : {L S : Type 0} → (L → LinkView S) → SftpValue L �
 TakesWhole state old new (Ok u) = TakesFrame state old new
 TakesWhole state old new (Err e) = GetStops state old new e ⊎ RefusesFrame state old new e
 
--- why no frame was taken
+-- why no frame was taken: not all that was unsent was sent, or a sent request had no reply and no good one came
 abbrev pub TakeStops : {L S : Type 0} → (L → LinkView S) → SftpValue L → SftpValue L → Error → Type 0
-TakeStops state old new e = SendStops state old new e ⊎ (GetStops state old new e ⊎ RefusesFrame state old new e)
+TakeStops state old new e = SendStops state old new e
+    ⊎ ((0 < awaited_of old.core) × TakesWhole state old new (Err e))
+
+-- a frame is read only where a sent request has no reply
 
 abbrev pub TakesUnfailed : {L S : Type 0} → (L → LinkView S) → SftpValue L → SftpValue L → Result Bool Error → Type 0
-TakesUnfailed state old new (Ok true) = TakesFrame state old new
+TakesUnfailed state old new (Ok true) = (0 < awaited_of old.core) × TakesFrame state old new
 TakesUnfailed state old new (Ok false) = TakesNone state old new
 TakesUnfailed state old new (Err e) = TakeStops state old new e
 
