@@ -35,13 +35,17 @@ use Rattle.sftp_core.specs.Table.{expected_at, sent_place}
 use Rattle.sftp_core.specs.Take.{Read, Refused, IsTakeError, TakenFrom, fault_of, take_leaves, take_refusal, taken_in, wrong_at, wrong_in}
 use Rattle.sftp_core.proofs.Elsewhere.{
   abandon_elsewhere,
+  abandon_phase,
   hand_out_each,
   poll_elsewhere,
+  poll_phase,
   put_elsewhere,
   put_here,
   release_elsewhere,
+  release_phase,
   retain_elsewhere,
   take_elsewhere,
+  take_phase,
 }
 use Rattle.call_state.specs.declared.asking.Asking.{Asking}
 use Rattle.call_state.specs.declared.asking.Asking.TheVariants.{Whole, Parts}
@@ -51,7 +55,33 @@ use Rattle.call_state.specs.declared.told.Told.TheVariants as told
 use Rattle.call_state.specs.Asked.{Holds, Submitted, queued_by, request_of}
 use Rattle.call_state.specs.Calls.{Cancels, IsGrantOf, IsHeld, IsHeldAt, IsUnderWay, cancelled, CallValue}
 use Rattle.call_state.specs.Machines.{Meaning}
-use Rattle.call_state.specs.Keeping.{IsDropped, Keeps, KeepsGrants}
+use Rattle.call_state.specs.Keeping.{IsDropped, Keeps, KeepsGrants, StaysOpen}
+
+-- ---- an open session
+
+opened_by : (old new : Core) → new.phase ≡ old.phase → StaysOpen old new
+opened_by old new same h = subst (λ (p : Phase). IsSome (info_of p)) (sym same) h
+
+queued_opened : (core : Core) (ticket : ℕ) (asking : Asking) → StaysOpen core (queued_by core ticket asking)
+queued_opened core ticket (Whole asked) h = h
+queued_opened core ticket (Parts handle offset parts) h = h
+
+polled_opened : (core : Core) (ticket : ℕ) → StaysOpen core (after_poll core ticket)
+polled_opened core ticket = opened_by core (after_poll core ticket) (poll_phase core ticket core.fault (at core ticket))
+
+abandoned_opened : (core : Core) (ticket : ℕ) → StaysOpen core (abandoned core ticket)
+abandoned_opened core ticket = opened_by core (abandoned core ticket) (abandon_phase core ticket (at core ticket))
+
+released_opened : (core : Core) (grant : GrantValue) → StaysOpen core (released core grant)
+released_opened core grant = opened_by core (released core grant) (release_phase core grant (users_of (at core grant.id)))
+
+cancelled_opened : (core : Core) (stage : Stage) → StaysOpen core (cancelled core stage)
+cancelled_opened core (Asked ticket) = abandoned_opened core ticket
+cancelled_opened core (Came (told.Granted g)) = λ h. abandoned_opened (released core g) g.id (released_opened core g h)
+cancelled_opened core (Came (told.Reply r)) = λ h. h
+cancelled_opened core Ended = λ h. h
+cancelled_opened core Ready = λ h. h
+cancelled_opened core (Unsent asking) = λ h. h
 
 -- what is kept under an id tells whether a ticket is held
 pub holds_at : (core : Core) (ticket : ℕ) (kind : Expected) (p : Option Place) → at core ticket ≡ p
@@ -102,27 +132,27 @@ keeps_submitted core ticket asking free =
     record {
       holds = λ other kind h. held_place core (queued_by core ticket asking) other kind (at core other) refl
           (λ here there. other_place core ticket asking other here free there ∙ sym there) h.counted h.expects;
-      grants = record { grants = λ id handle users here. other_place core ticket asking id (Granted handle users) free here };
+      grants = record { grants = λ id handle users here. other_place core ticket asking id (Granted handle users) free here; opened = queued_opened core ticket asking };
     }
 
 -- ---- nothing, a fault, a hand-out
 
 pub keeps_same : (core : Core) → Keeps core core
-keeps_same core = record { holds = λ ticket kind h. h; grants = record { grants = λ id handle users here. here } }
+keeps_same core = record { holds = λ ticket kind h. h; grants = record { grants = λ id handle users here. here; opened = λ h. h } }
 
 -- two changes, one after the other
 pub keeps_both : (a b c : Core) → Keeps a b → Keeps b c → Keeps a c
 keeps_both a b c h k =
     record {
       holds = λ ticket kind x. k.holds ticket kind (h.holds ticket kind x);
-      grants = record { grants = λ id handle users here. k.grants.grants id handle users (h.grants.grants id handle users here) };
+      grants = record { grants = λ id handle users here. k.grants.grants id handle users (h.grants.grants id handle users here); opened = λ o. k.grants.opened (h.grants.opened o) };
     }
 
 pub keeps_failed : (core : Core) (fault : Fault) → Keeps core (failed_with core fault)
 keeps_failed core fault =
     record {
       holds = λ ticket kind h. holds_at (failed_with core fault) ticket kind (at core ticket) refl h.counted h.expects;
-      grants = record { grants = λ id handle users here. here };
+      grants = record { grants = λ id handle users here. here; opened = λ h. h };
     }
 
 sent_at : (core : Core) (ticket : ℕ) (kind : Expected) (p : Option Place) → at core ticket ≡ option_map sent_place p
@@ -140,6 +170,7 @@ keeps_handed_out core =
       holds = λ ticket kind h. sent_at (handed_out core) ticket kind (at core ticket) (hand_out_each core ticket) h.counted h.expects;
       grants = record {
         grants = λ id handle users here. hand_out_each core id ∙ ap (λ (p : Option Place). option_map sent_place p) here;
+        opened = λ h. h;
       };
     }
 
@@ -189,7 +220,7 @@ took_keeps core (Open info) None r open_now right = cc
 took_keeps core (Open info) (Some id) r open_now right =
     record {
       holds = λ ticket kind h. took_holds core id r ticket kind right (cases_eq ticket id) h;
-      grants = record { grants = λ other handle users here. took_grant core id r other handle users right here };
+      grants = record { grants = λ other handle users here. took_grant core id r other handle users right here; opened = opened_by core (take_leaves core id r (at core id)) (take_phase core id r (at core id)) };
     }
 
 refusal_in : (core : Core) (read : Result Read FrameError) (reading : Read) → read ≡ Ok reading → take_refusal core read
@@ -230,6 +261,7 @@ polled_keeps_grants core ticket counted =
     record {
       grants = λ id handle users here. poll_elsewhere core ticket core.fault (at core ticket) id
           (ticket_apart core ticket id handle users counted here) ∙ here;
+      opened = polled_opened core ticket;
     }
 
 pub cancelled_keeps_grants : (core : Core) (ticket : ℕ) → IsTrue (is_ticket (at core ticket)) → KeepsGrants core (abandoned core ticket)
@@ -237,6 +269,7 @@ cancelled_keeps_grants core ticket counted =
     record {
       grants = λ id handle users here. abandon_elsewhere core ticket (at core ticket) id
           (ticket_apart core ticket id handle users counted here) ∙ here;
+      opened = abandoned_opened core ticket;
     }
 
 pub polled_on : (core : Core) (ticket other : ℕ) (kind : Expected) → other ≢ ticket → Holds core other kind
@@ -297,7 +330,7 @@ grants_kept old new h = h.grants
 pub grants_polled : (old mid new : Core) (ticket : ℕ) → IsTrue (is_ticket (at old ticket)) → mid ≡ after_poll old ticket → Keeps mid new → KeepsGrants old new
 grants_polled old mid new ticket counted is h =
     let polled : KeepsGrants old mid = subst (λ (x : Core). KeepsGrants old x) (sym is) (polled_keeps_grants old ticket counted) in
-    record { grants = λ id handle users here. h.grants.grants id handle users (polled.grants id handle users here) }
+    record { grants = λ id handle users here. h.grants.grants id handle users (polled.grants id handle users here); opened = λ o. h.grants.opened (polled.opened o) }
 
 cancelled_grants : (core : Core) (stage : Stage) → ((ticket : ℕ) → stage ≡ Asked ticket → IsTrue (is_ticket (at core ticket)))
     → (id : ℕ) (handle : List ℕ) (users : ℕ) → (IsGrantOf stage id → ⊥) → at core id ≡ Some (Granted handle users)
@@ -315,7 +348,8 @@ cancelled_grants core (Unsent asking) counted id handle users own here = here
 pub cancels_by : (old new : Core) (stage : Stage) → ((ticket : ℕ) → stage ≡ Asked ticket → IsTrue (is_ticket (at old ticket)))
     → new ≡ cancelled old stage → Cancels old new stage
 cancels_by old new stage counted is =
-    record { core = is; grants = λ id handle users own here. ap (λ (x : Core). at x id) is ∙ cancelled_grants old stage counted id handle users own here }
+    record { core = is; grants = λ id handle users own here. ap (λ (x : Core). at x id) is ∙ cancelled_grants old stage counted id handle users own here;
+      opened = subst (λ (x : Core). StaysOpen old x) (sym is) (cancelled_opened old stage) }
 
 -- ---- what a user of a core keeps
 

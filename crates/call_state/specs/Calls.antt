@@ -16,7 +16,7 @@ use Rattle.call_state.specs.declared.stage.Stage.TheVariants.{Ended, Ready, Unse
 use Rattle.call_state.specs.declared.told.Told.{Told}
 use Rattle.call_state.specs.declared.told.Told.TheVariants as told
 use Rattle.call_state.specs.Asked.{Holds, IsReady, Submitted}
-use Rattle.call_state.specs.Keeping.{Keeps, KeepsGrants}
+use Rattle.call_state.specs.Keeping.{Keeps, KeepsGrants, StaysOpen}
 use Rattle.call_state.specs.Machines.{GoesBehind, MayAsk, Meaning}
 use Rattle.call_state.specs.Told.{IsCounted, IsFormed, reply_of}
 
@@ -188,8 +188,8 @@ pub record Leaves {W M V : Type 0} (s : Meaning W M V) (old new : Core) (q : Cal
   pub keeps : Keeps old new
 
 -- A poll did the next move of each plan that the call is what is left of, whatever its replies to come. The call may be
--- polled on or given up, its machine stays what it was, the core holds what belongs to the value, and every grant
--- stays.
+-- polled on or given up, its machine stays what it was, the core holds what belongs to the value, every grant stays,
+-- and the session open.
 pub record Stepped {W M V : Type 0} (s : Meaning W M V) (old new : Core) (p q : CallValue M)
     (result : Poll (Result V Error)) : Type 0 where
   pub polled : (w : W) (plan : Plan) (answers : Answers) → IsLeft s w plan answers p → Tells s old p answers
@@ -218,8 +218,9 @@ abbrev pub IsGrantOf : Stage → ℕ → Type 0
 IsGrantOf (Came (told.Granted g)) id = g.id ≡ id
 IsGrantOf other id = ⊥
 
--- what a cancel did; every other grant stays
+-- what a cancel did; every other grant stays, and the session open
 pub record Cancels (old new : Core) (stage : Stage) : Type 0 where
   pub core : new ≡ cancelled old stage
   pub grants : (id : ℕ) (handle : List ℕ) (users : ℕ) → (IsGrantOf stage id → ⊥)
       → at old id ≡ Some (Granted handle users) → at new id ≡ Some (Granted handle users)
+  pub opened : StaysOpen old new

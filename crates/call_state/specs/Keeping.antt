@@ -1,17 +1,23 @@
 -- What calls of a core by others leave of what a state awaits, and of the grants of files.
-use Rattle.std.specs.Prelude.{◌≡◌, ℕ, false, List, Option, Some}
+use Rattle.std.specs.Prelude.{◌≡◌, ℕ, false, List, Option, Some, IsSome}
 use Rattle.sftp_model.specs.declared.answers.Expected.{Expected}
 use Rattle.sftp_core.specs.declared.place.Place.{Place}
 use Rattle.sftp_core.specs.declared.place.Place.TheVariants.{Waiting, Granted}
 use Rattle.sftp_core.specs.Core.{Core, at}
+use Rattle.sftp_core.specs.Info.{info_of}
 use Rattle.call_state.specs.Asked.{Holds}
 
--- each grant stays, with its users
+-- a session that is open stays open
+abbrev pub StaysOpen : Core → Core → Type 0
+StaysOpen old new = IsSome (info_of old.phase) → IsSome (info_of new.phase)
+
+-- each grant stays, with its users, and the session open
 pub record KeepsGrants (old new : Core) : Type 0 where
   pub grants : (id : ℕ) (handle : List ℕ) (users : ℕ) → at old id ≡ Some (Granted handle users)
       → at new id ≡ Some (Granted handle users)
+  pub opened : StaysOpen old new
 
--- each ticket that is held stays so, and each grant
+-- each ticket that is held stays so, each grant, and the session open
 pub record Keeps (old new : Core) : Type 0 where
   pub holds : (ticket : ℕ) (kind : Expected) → Holds old ticket kind → Holds new ticket kind
   pub grants : KeepsGrants old new
