@@ -4,3 +4,4 @@ pub mod Getting
 pub mod Draining
 pub mod Taking
 pub mod Opening
+pub mod Waiting

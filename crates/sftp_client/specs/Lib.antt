@@ -2,3 +2,5 @@ pub mod Outgoing
 pub mod Incoming
 pub mod Sessions
 pub mod Rounds
+pub mod Waits
+pub mod Opening

@@ -5,10 +5,17 @@ mod incoming;
 mod outgoing;
 mod sftp;
 
+pub use call_state::Poll;
 pub use sftp::Sftp;
-pub use sftp_core::Core;
+pub use sftp_core::{Core, Ended};
+pub use sftp_file::{
+    AttrsCall, CloseCall, CopyCall, File, OpenCall, PollCopy, PollFile, ReadCall, StartOpen,
+    StatusCall, WriteAllCall, WriteCall, take_bytes, take_io_slices,
+};
 pub use sftp_link::Link;
-pub use sftp_model::{Error, Fault, SftpOptions};
+pub use sftp_meta::{FileType, MetaData, MetaDataBuilder, Permissions, UnixTimeStamp};
+pub use sftp_model::{Error, Extensions, Fault, IoKind, OpenOptions, SftpOptions};
+pub use ssh_encoding::OutOfMemory;
 
 #[cfg(test)]
 mod tests;

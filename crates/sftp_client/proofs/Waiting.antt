@@ -1,0 +1,278 @@
+-- What the rounds of a session leave to a call that awaits its reply.
+use Rattle.std.proofs.Common.{◌≡◌, ◌⊎◌, ◌<◌, ◌-◌, ◌^◌, ℕ, zero, suc, true, false, refl, ap, sym, ◌∙◌, subst, inl, inr}
+use Rattle.std.specs.Prelude.{Bool, Option, Result, Ok, Err, None, Some, IsSome}
+use Rattle.sftp_model.specs.ReplyReadings.{reply_at}
+use Rattle.sftp_model.specs.declared.error.Error.{Error}
+use Rattle.sftp_model.specs.declared.error.Error.TheVariants as error
+use Rattle.sftp_model.specs.declared.error.Fault.{Fault}
+use Rattle.sftp_core.specs.Core.{Core, failed_with, handed_out}
+use Rattle.sftp_core.specs.Info.{info_of}
+use Rattle.sftp_link.specs.Views.{LinkView}
+use Rattle.call_state.specs.Calls.{CallValue, HoldsReady, IsHeld, IsUnderWay, Stepped}
+use Rattle.call_state.specs.Keeping.{Keeps, KeepsGrants}
+use Rattle.call_state.specs.Machines.{Meaning}
+use Rattle.call_state.specs.declared.poll.Poll.{Poll}
+use Rattle.call_state.specs.declared.poll.Poll.TheVariants as poll
+use Rattle.call_state.proofs.Keeping.{keeps_both, keeps_failed, keeps_handed_out, keeps_same, keeps_taken, keeps_unchanged, still_under_way}
+use Rattle.sftp_model.specs.declared.slot.FileAt.{FileAt}
+use Rattle.sftp_file.specs.Files.{FileValue, IsMoved, file_at}
+use Rattle.sftp_client.specs.Sessions.{Flushes, FlushesUnfailed, IsKept, SendStops, SendsAll, SftpValue, TakeStops, Takes, TakesFrame, TakesUnfailed, TakesWhole, fault_by, failed_by, handed, kept_after, with_core}
+use Rattle.sftp_client.specs.Waits.{AreWaitRounds, HasWaited, IsWaitRound, MayWait, PolledIn, RoundFails, SendsAndTakes, WaitEnds}
+
+-- ---- a core over a round
+
+kept_out : (old new : Core) → new ≡ handed_out old → Keeps old new
+kept_out old new is = subst (λ (c : Core). Keeps old c) (sym is) (keeps_handed_out old)
+
+kept_failed : (old new : Core) (fault : Fault) → new ≡ failed_with old fault → Keeps old new
+kept_failed old new fault is = subst (λ (c : Core). Keeps old c) (sym is) (keeps_failed old fault)
+
+kept_by_fault : (old : Core) (f : Option Fault) → Keeps old (failed_by f old)
+kept_by_fault old None = keeps_same old
+kept_by_fault old (Some fault) = keeps_failed old fault
+
+kept_by_error : (old new : Core) (e : Error) → new ≡ kept_after e old → Keeps old new
+kept_by_error old new e is = subst (λ (c : Core). Keeps old c) (sym is) (kept_by_fault old (fault_by e))
+
+-- ---- a session over a round
+
+send_stops : {L S : Type 0} (state : L → LinkView S) (old new : SftpValue L) (e : Error) → SendStops state old new e
+    → Keeps old.core new.core
+send_stops state old new e h = kept_by_error old.core new.core e (ap (λ (s : SftpValue _). s.core) h.left)
+
+unfailed_flush : {L S : Type 0} (state : L → LinkView S) (old new : SftpValue L) (result : Result (Unit {0}) Error)
+    → FlushesUnfailed state old new result → Keeps old.core new.core
+unfailed_flush state old new (Ok u) h = kept_out old.core new.core (ap (λ (s : SftpValue _). s.core) h.left)
+unfailed_flush state old new (Err e) (inl h) = send_stops state old new e h
+unfailed_flush state old new (Err e) (inr h) =
+    keeps_both old.core (handed_out old.core) new.core (kept_out old.core (handed_out old.core) refl)
+    (send_stops state (handed old) new e h)
+
+kept_same : {L : Type 0} (old new : SftpValue L) (e : Error) → IsKept old new e → new.core ≡ old.core
+kept_same old new (error.BackgroundTaskFailure fault) h = ap (λ (s : SftpValue _). s.core) h.1
+kept_same old new error.OutOfMemory h = absurd h
+kept_same old new error.LinkFault h = absurd h
+kept_same old new error.LinkEnded h = absurd h
+kept_same old new (error.UnsupportedSftpProtocol version) h = absurd h
+kept_same old new (error.FormatError kind) h = absurd h
+kept_same old new (error.HandleTooLong len) h = absurd h
+kept_same old new (error.InvalidResponseId id) h = absurd h
+kept_same old new (error.InvalidResponse id) h = absurd h
+kept_same old new (error.SftpError code message language) h = absurd h
+kept_same old new (error.UnsupportedExtension extension) h = absurd h
+kept_same old new (error.IOError kind) h = absurd h
+
+flush_stays : {L S : Type 0} (state : L → LinkView S) (old new : SftpValue L) (result : Result (Unit {0}) Error)
+    → Flushes state old new result → Keeps old.core new.core
+flush_stays state old new (Ok u) h = unfailed_flush state old new (Ok u) h.1
+flush_stays state old new (Err e) (inl h) = keeps_unchanged old.core new.core (kept_same old new e h)
+flush_stays state old new (Err e) (inr h) = unfailed_flush state old new (Err e) h.1
+
+frame_stays : {L S : Type 0} (state : L → LinkView S) (old new : SftpValue L) → IsSome (info_of old.core.phase)
+    → TakesFrame state old new → Keeps old.core new.core
+frame_stays state old new opened h = keeps_taken old.core new.core (reply_at h.body) h.told opened h.right h.taken
+
+whole_stops : {L S : Type 0} (state : L → LinkView S) (old new : SftpValue L) (e : Error)
+    → TakesWhole state old new (Err e) → Keeps old.core new.core
+whole_stops state old new e (inl h) = kept_by_error old.core new.core e (ap (λ (s : SftpValue _). s.core) h.left)
+whole_stops state old new e (inr h) = kept_failed old.core new.core h.fault (ap (λ (s : SftpValue _). s.core) h.left)
+
+unfailed_take : {L S : Type 0} (state : L → LinkView S) (old new : SftpValue L) (result : Result Bool Error)
+    → IsSome (info_of old.core.phase) → TakesUnfailed state old new result → Keeps old.core new.core
+unfailed_take state old new (Ok true) opened h = frame_stays state old new opened h.1
+unfailed_take state old new (Ok false) opened h = keeps_unchanged old.core new.core (ap (λ (s : SftpValue _). s.core) h.sends.left)
+unfailed_take state old new (Err e) opened (inl h) = send_stops state old new e h
+unfailed_take state old new (Err e) opened (inr h) = whole_stops state old new e h.1
+
+take_stays : {L S : Type 0} (state : L → LinkView S) (old new : SftpValue L) (result : Result Bool Error)
+    → IsSome (info_of old.core.phase) → Takes state old new result → Keeps old.core new.core
+take_stays state old new (Ok took) opened h = unfailed_take state old new (Ok took) opened h.1
+take_stays state old new (Err e) opened (inl h) = keeps_unchanged old.core new.core (kept_same old new e h)
+take_stays state old new (Err e) opened (inr h) = unfailed_take state old new (Err e) opened h.1
+
+-- a round that went well, and one that went wrong
+round_stays : {L S : Type 0} (state : L → LinkView S) (old new : SftpValue L) → IsSome (info_of old.core.phase)
+    → SendsAndTakes state old new → Keeps old.core new.core
+round_stays state old new opened h =
+    let first = flush_stays state old h.mid (Ok tt) h.sends in
+    keeps_both old.core h.mid.core new.core first (take_stays state h.mid new (Ok h.took) (first.grants.opened opened) h.takes)
+
+fail_stays : {L S : Type 0} (state : L → LinkView S) (old new : SftpValue L) (e : Error) → IsSome (info_of old.core.phase)
+    → RoundFails state old new e → Keeps old.core new.core
+fail_stays state old new e opened (inl h) = flush_stays state old new (Err e) h
+fail_stays state old new e opened (inr h) =
+    let first = flush_stays state old h.0 (Ok tt) h.1.0 in
+    keeps_both old.core h.0.core new.core first (take_stays state h.0 new (Err e) (first.grants.opened opened) h.1.1)
+
+-- the link doesn't fail in a round that goes well
+took_unfaulted : {L S : Type 0} (state : L → LinkView S) (old new : SftpValue L) (took : Bool)
+    → TakesUnfailed state old new (Ok took) → (state new.link).faults ≡ (state old.link).faults
+took_unfaulted state old new true h = h.1.unfaulted.cause
+took_unfaulted state old new false h = h.sends.unfaulted.cause
+
+round_unfaulted : {L S : Type 0} (state : L → LinkView S) (old new : SftpValue L) → SendsAndTakes state old new
+    → (state new.link).faults ≡ (state old.link).faults
+round_unfaulted state old new h = took_unfaulted state h.mid new h.took h.takes.1 ∙ h.sends.1.unfaulted.cause
+
+-- ---- a call over rounds
+
+-- what holds between two rounds
+pub record WaitsOn {W M V L S : Type 0} (s : Meaning W M V) (state : L → LinkView S) (old new : SftpValue L)
+    (p q : CallValue M) : Type 0 where
+  pub count : ℕ
+  pub rounds : AreWaitRounds s state count old new p q
+  pub may : MayWait s new.core q
+  pub grants : KeepsGrants old.core new.core
+  pub unfaulted : (state new.link).faults ≡ (state old.link).faults
+
+pub waits_first : {W M V L S : Type 0} (s : Meaning W M V) (state : L → LinkView S) (old : SftpValue L) (p : CallValue M)
+    → MayWait s old.core p → WaitsOn s state old old p p
+waits_first s state old p may =
+    record { count = 0; rounds = (refl, refl); may = may; grants = (keeps_same old.core).grants; unfaulted = refl }
+
+-- what a poll leaves to the call and to the session
+pub record PollLeaves {W M V L : Type 0} (s : Meaning W M V) (old new : SftpValue L) (q : CallValue M)
+    (result : Poll (Result V Error)) : Type 0 where
+  pub held : IsHeld s new.core q
+  pub holds : HoldsReady s new.core result
+  pub grants : KeepsGrants old.core new.core
+  pub opened : IsSome (info_of new.core.phase)
+  pub link : new.link ≡ old.link
+
+grants_both : (a b c : Core) → KeepsGrants a b → KeepsGrants b c → KeepsGrants a c
+grants_both a b c x y = record { grants = λ id handle users h. y.grants id handle users (x.grants id handle users h); opened = λ h. y.opened (x.opened h) }
+
+holds_nothing : {W M V : Type 0} (s : Meaning W M V) (core : Core) (result : Poll (Result V Error))
+    → result ≡ poll.Ready (Err error.OutOfMemory) → HoldsReady s core result
+holds_nothing s core result is = subst (λ r. HoldsReady s core r) (sym is) tt
+
+poll_leaves : {W M V L : Type 0} (s : Meaning W M V) (old new : SftpValue L) (p q : CallValue M)
+    (result : Poll (Result V Error)) → MayWait s old.core p → PolledIn s old new p q result → PollLeaves s old new q result
+poll_leaves s old new p q result may (inl h) =
+    record {
+      held = h.0.held;
+      holds = h.0.holds;
+      grants = h.0.grants;
+      opened = h.0.grants.opened may.opened;
+      link = ap (λ (x : SftpValue _). x.link) h.1;
+    }
+poll_leaves s old new p q result may (inr h) =
+    record {
+      held = subst (λ (x : SftpValue _). IsHeld s x.core q) (sym h.1.0) (subst (λ x. IsHeld s old.core x) (sym h.1.1) may.under_way.held);
+      holds = holds_nothing s new.core result h.0;
+      grants = subst (λ (x : SftpValue _). KeepsGrants old.core x.core) (sym h.1.0) (keeps_same old.core).grants;
+      opened = subst (λ (x : SftpValue _). IsSome (info_of x.core.phase)) (sym h.1.0) may.opened;
+      link = ap (λ (x : SftpValue _). x.link) h.1.0;
+    }
+
+-- a call without an answer is under way still
+pending_on : {W M V L : Type 0} (s : Meaning W M V) (old new : SftpValue L) (p q : CallValue M)
+    → PolledIn s old new p q poll.Pending → IsUnderWay s new.core q
+pending_on s old new p q (inl h) = record { over = h.0.over; held = h.0.held }
+pending_on s old new p q (inr h) = absurd cc
+
+-- a round
+pub waits_next : {W M V L S : Type 0} (s : Meaning W M V) (state : L → LinkView S) (old mid polled new : SftpValue L)
+    (p m q : CallValue M) → WaitsOn s state old mid p m → PolledIn s mid polled m q poll.Pending
+    → SendsAndTakes state polled new → WaitsOn s state old new p q
+waits_next s state old mid polled new p m q w pending round =
+    let left = poll_leaves s mid polled m q poll.Pending w.may pending in
+    let stays = round_stays state polled new left.opened round in
+    record {
+      count = suc w.count;
+      rounds = (mid, (m, (w.rounds, record { mid = polled; polled = pending; round = round })));
+      may = record {
+        opened = stays.grants.opened left.opened;
+        under_way = still_under_way s polled.core new.core q stays (pending_on s mid polled m q pending);
+      };
+      grants = grants_both old.core polled.core new.core (grants_both old.core mid.core polled.core w.grants left.grants) stays.grants;
+      unfaulted = round_unfaulted state polled new round ∙ (ap (λ l. (state l).faults) left.link ∙ w.unfaulted);
+    }
+
+-- the call answered
+pub waits_end : {W M V L S : Type 0} (s : Meaning W M V) (state : L → LinkView S) (old mid new : SftpValue L)
+    (p m q : CallValue M) (result : Result V Error) → WaitsOn s state old mid p m
+    → PolledIn s mid new m q (poll.Ready result) → HasWaited s state old new p q result
+waits_end s state old mid new p m q result w polled =
+    let left = poll_leaves s mid new m q (poll.Ready result) w.may polled in
+    record {
+      count = w.count;
+      mid = mid;
+      call = m;
+      rounds = w.rounds;
+      ends = inl polled;
+      held = left.held;
+      holds = left.holds;
+      grants = grants_both old.core mid.core new.core w.grants left.grants;
+    }
+
+-- or a round went wrong
+pub waits_stop : {W M V L S : Type 0} (s : Meaning W M V) (state : L → LinkView S) (old mid polled new : SftpValue L)
+    (p m q : CallValue M) (e : Error) → WaitsOn s state old mid p m → PolledIn s mid polled m q poll.Pending
+    → RoundFails state polled new e → HasWaited s state old new p q (Err e)
+waits_stop s state old mid polled new p m q e w pending fails =
+    let left = poll_leaves s mid polled m q poll.Pending w.may pending in
+    let stays = fail_stays state polled new e left.opened fails in
+    let on = still_under_way s polled.core new.core q stays (pending_on s mid polled m q pending) in
+    record {
+      count = w.count;
+      mid = mid;
+      call = m;
+      rounds = w.rounds;
+      ends = inr (polled, (e, (pending, (fails, refl))));
+      held = on.held;
+      holds = tt;
+      grants = grants_both old.core polled.core new.core (grants_both old.core mid.core polled.core w.grants left.grants) stays.grants;
+    }
+
+pub waits_count : {W M V L S : Type 0} (s : Meaning W M V) (state : L → LinkView S) (old mid polled : SftpValue L)
+    (p m q : CallValue M) → (state old.link).faults < 2 ^ 64 - 1 → WaitsOn s state old mid p m
+    → PolledIn s mid polled m q poll.Pending → (state polled.link).faults < 2 ^ 64 - 1
+waits_count s state old mid polled p m q count w pending =
+    let left = poll_leaves s mid polled m q poll.Pending w.may pending in
+    subst (λ (n : ℕ). n < 2 ^ 64 - 1) (sym (ap (λ l. (state l).faults) left.link ∙ w.unfaulted)) count
+
+-- ---- a call that moves a file
+
+-- nothing but the offset of the file changes
+abbrev pub MovesOnly : FileAt → FileAt → Type 0
+MovesOnly before after = after ≡ record before { offset = after.offset }
+
+moves_both : (a b c : FileAt) → MovesOnly a b → MovesOnly b c → MovesOnly a c
+moves_both a b c x y = y ∙ (λ i. record (x i) { offset = c.offset })
+
+-- what stays of a machine keeps its file but for the offset
+abbrev pub KeepsFile : {W M V : Type 0} → Meaning W M V → (M → FileAt) → Type 0
+KeepsFile {M = M} s at = (m next : M) → s.stays m next → MovesOnly (at m) (at next)
+
+poll_moves : {W M V L : Type 0} (s : Meaning W M V) (at : M → FileAt) → KeepsFile s at → (old new : SftpValue L) (p q : CallValue M)
+    (result : Poll (Result V Error)) → PolledIn s old new p q result → MovesOnly (at p.machine) (at q.machine)
+poll_moves s at keeps old new p q result (inl h) = keeps p.machine q.machine h.0.stays
+poll_moves s at keeps old new p q result (inr h) = subst (λ x. MovesOnly (at p.machine) (at x.machine)) (sym h.1.1) refl
+
+rounds_move : {W M V L S : Type 0} (s : Meaning W M V) (at : M → FileAt) → KeepsFile s at → (state : L → LinkView S) (n : ℕ)
+    (old new : SftpValue L) (p q : CallValue M) → AreWaitRounds s state n old new p q → MovesOnly (at p.machine) (at q.machine)
+rounds_move s at keeps state zero old new p q h = subst (λ x. MovesOnly (at p.machine) (at x.machine)) (sym h.1) refl
+rounds_move s at keeps state (suc n) old new p q h =
+    moves_both (at p.machine) (at h.1.0.machine) (at q.machine) (rounds_move s at keeps state n old h.0 p h.1.0 h.1.1.0)
+    (poll_moves s at keeps h.0 h.1.1.1.mid h.1.0 q poll.Pending h.1.1.1.polled)
+
+ends_move : {W M V L S : Type 0} (s : Meaning W M V) (at : M → FileAt) → KeepsFile s at → (state : L → LinkView S)
+    (old new : SftpValue L) (p q : CallValue M) (result : Result V Error) → WaitEnds s state old new p q result
+    → MovesOnly (at p.machine) (at q.machine)
+ends_move s at keeps state old new p q result (inl h) = poll_moves s at keeps old new p q (poll.Ready result) h
+ends_move s at keeps state old new p q result (inr h) = poll_moves s at keeps old h.0 p q poll.Pending h.1.1.0
+
+-- where the file stands after the call was run
+pub moved_by : {W M V L S : Type 0} (s : Meaning W M V) (at : M → FileAt) → KeepsFile s at → (state : L → LinkView S)
+    (old new : SftpValue L) (p q : CallValue M) (before after : FileValue) (result : Result V Error)
+    → at p.machine ≡ file_at before → after ≡ record before { offset = (at q.machine).offset }
+    → HasWaited s state old new p q result → IsMoved before after (at q.machine)
+moved_by s at keeps state old new p q before after result stands is w =
+    let only = moves_both (at p.machine) (at w.call.machine) (at q.machine) (rounds_move s at keeps state w.count old w.mid p w.call w.rounds)
+    (ends_move s at keeps state w.mid new w.call q result w.ends)
+    in
+    record {
+      stands = only ∙ ((λ i. record (stands i) { offset = (at q.machine).offset }) ∙ sym (ap file_at is));
+      rest = is ∙ (λ i. record before { offset = (sym (ap (λ (f : FileValue). f.offset) is)) i });
+    }

@@ -1,0 +1,101 @@
+-- Calls that are run to their end over a session's link.
+use Rattle.std.specs.Prelude.{◌≡◌, ◌⊎◌, ◌≤◌, ℕ, zero, suc, Bool, Result, Ok, Err, IsSome}
+use Rattle.sftp_model.specs.declared.error.Error.{Error}
+use Rattle.sftp_model.specs.declared.error.Error.TheVariants as error
+use Rattle.sftp_model.specs.declared.slot.FileAt.{FileAt}
+use Rattle.sftp_core.specs.Core.{Core, kept_of}
+use Rattle.sftp_core.specs.Info.{MAX_IDS, info_of}
+use Rattle.sftp_link.specs.Views.{LinkView}
+use Rattle.call_state.specs.Asked.{IsReady}
+use Rattle.call_state.specs.Calls.{CallValue, HoldsReady, IsHeld, IsUnderWay, Stepped}
+use Rattle.call_state.specs.Keeping.{KeepsGrants}
+use Rattle.call_state.specs.Machines.{Meaning}
+use Rattle.call_state.specs.declared.poll.Poll.{Poll}
+use Rattle.call_state.specs.declared.poll.Poll.TheVariants as poll
+use Rattle.sftp_file.specs.Files.{FileValue, IsMoved, file_at}
+use Rattle.sftp_client.specs.Sessions.{Flushes, SftpValue, Takes, with_core}
+
+-- a further request may be submitted, or all ids are in use
+abbrev pub IsReadyOr : Core → Result (Unit {0}) Error → Type 0
+IsReadyOr core (Ok u) = IsReady core
+IsReadyOr core (Err e) = (e ≡ error.OutOfMemory) × (MAX_IDS ≤ kept_of core)
+
+-- a call can be run to its end: it has not answered, and the session is open
+pub record MayWait {W M V : Type 0} (s : Meaning W M V) (core : Core) (call : CallValue M) : Type 0 where
+  pub opened : IsSome (info_of core.phase)
+  pub under_way : IsUnderWay s core call
+
+-- ---- a round
+
+-- what was queued was sent, and then a frame was taken, or none was awaited
+pub record SendsAndTakes {L S : Type 0} (state : L → LinkView S) (old new : SftpValue L) : Type 0 where
+  pub mid : SftpValue L
+  pub took : Bool
+  pub sends : Flushes state old mid (Ok tt)
+  pub takes : Takes state mid new (Ok took)
+
+-- not all that was queued was sent, or no frame was taken
+abbrev pub RoundFails : {L S : Type 0} → (L → LinkView S) → SftpValue L → SftpValue L → Error → Type 0
+RoundFails {L = L} state old new e = Flushes state old new (Err e)
+    ⊎ ((mid : SftpValue L) × (Flushes state old mid (Ok tt) × Takes state mid new (Err e)))
+
+abbrev pub RoundEnds : {L S : Type 0} → (L → LinkView S) → SftpValue L → SftpValue L → Result (Unit {0}) Error → Type 0
+RoundEnds state old new (Ok u) = SendsAndTakes state old new
+RoundEnds state old new (Err e) = RoundFails state old new e
+
+-- ---- a call
+
+-- A poll of a call changed nothing of the session but its core; or there was no id left, and nothing changed.
+abbrev pub PolledIn : {W M V L : Type 0} → Meaning W M V → SftpValue L → SftpValue L → CallValue M → CallValue M
+    → Poll (Result V Error) → Type 0
+PolledIn s old new p q result = (Stepped s old.core new.core p q result × (new ≡ with_core old new.core))
+    ⊎ ((result ≡ poll.Ready (Err error.OutOfMemory)) × ((new ≡ old) × (q ≡ p)))
+
+-- the call had no answer yet, and then a round went well
+pub record IsWaitRound {W M V L S : Type 0} (s : Meaning W M V) (state : L → LinkView S) (old new : SftpValue L)
+    (p q : CallValue M) : Type 0 where
+  pub mid : SftpValue L
+  pub polled : PolledIn s old mid p q poll.Pending
+  pub round : SendsAndTakes state mid new
+
+-- so many rounds, one after another
+abbrev pub AreWaitRounds : {W M V L S : Type 0} → Meaning W M V → (L → LinkView S) → ℕ → SftpValue L → SftpValue L
+    → CallValue M → CallValue M → Type 0
+AreWaitRounds s state zero old new p q = (new ≡ old) × (q ≡ p)
+AreWaitRounds {M = M} {L = L} s state (suc n) old new p q = (mid : SftpValue L) × ((m : CallValue M)
+    × (AreWaitRounds s state n old mid p m × IsWaitRound s state mid new m q))
+
+-- how it came to its end: the call answered, or a round went wrong, or memory was wanting
+abbrev pub WaitEnds : {W M V L S : Type 0} → Meaning W M V → (L → LinkView S) → SftpValue L → SftpValue L → CallValue M
+    → CallValue M → Result V Error → Type 0
+WaitEnds {L = L} s state old new p q result = PolledIn s old new p q (poll.Ready result)
+    ⊎ ((mid : SftpValue L) × ((e : Error) × (PolledIn s old mid p q poll.Pending
+    × (RoundFails state mid new e × (result ≡ Err e)))))
+
+-- A call was polled, and round after round what was queued was sent and a frame taken, until it answered or a round
+-- went wrong. It may be run on or given up then; the core holds what belongs to its value, each grant stays, and the
+-- session open.
+pub record HasWaited {W M V L S : Type 0} (s : Meaning W M V) (state : L → LinkView S) (old new : SftpValue L)
+    (p q : CallValue M) (result : Result V Error) : Type 0 where
+  pub count : ℕ
+  pub mid : SftpValue L
+  pub call : CallValue M
+  pub rounds : AreWaitRounds s state count old mid p call
+  pub ends : WaitEnds s state mid new call q result
+  pub held : IsHeld s new.core q
+  pub holds : HoldsReady s new.core (poll.Ready result)
+  pub grants : KeepsGrants old.core new.core
+
+-- ---- a call that moves a file
+
+-- it can be run to its end on the file where it stands
+pub record MayWaitOn {W M V : Type 0} (s : Meaning W M V) (at : M → FileAt) (core : Core) (call : CallValue M)
+    (file : FileValue) : Type 0 where
+  pub may : MayWait s core call
+  pub stands : at call.machine ≡ file_at file
+
+-- and the file stands where the call has come
+pub record HasWaitedOn {W M V L S : Type 0} (s : Meaning W M V) (at : M → FileAt) (state : L → LinkView S)
+    (old new : SftpValue L) (p q : CallValue M) (before after : FileValue) (result : Result V Error) : Type 0 where
+  pub waited : HasWaited s state old new p q result
+  pub moved : IsMoved before after (at q.machine)

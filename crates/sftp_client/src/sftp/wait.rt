@@ -1,0 +1,81 @@
+// Calls that are run to their end.
+ghost use Rattle.std.specs.Prelude.{◌<◌, ◌-◌, ◌^◌, IsSome};
+ghost use Rattle.sftp_core.specs.Info.{info_of};
+ghost use Rattle.call_state.specs.Calls.{IsUnderWay};
+ghost use Rattle.sftp_client.specs.Waits.{HasWaited, HasWaitedOn, MayWait, MayWaitOn, PolledIn, RoundEnds};
+
+use super::Sftp;
+use call_state::{Alone, Call, PlanMachine, Poll};
+use sftp_core::MAX_IDS;
+use sftp_file::{File, OnFile};
+use sftp_link::Link;
+use sftp_model::Error;
+
+impl<L: Link> Sftp<L> {
+    /// Runs a call to its end, and gives its answer. While it awaits a reply, what is queued is sent and one frame at
+    /// a time is taken; other calls may be under way, and their replies are kept for them.
+    ///
+    /// The errors of the call are its poll's, those of a round are `flush`'s and `take`'s; after one of a round the
+    /// call has not ended, and is to be given up. `OutOfMemory` comes also where 2147483648 ids are in use: the call
+    /// may be run on then.
+    pub fn wait<M: Alone>(&mut self, call: &mut Call<M>) -> Result<M::Value, Error>
+        requires may { MayWait M.PlanMachine.meaning self.old.core call.old }
+        requires count { (L.LinkState.state self.old.link).faults < 2 ^ 64 - 1 }
+        ensures { HasWaited M.PlanMachine.meaning L.LinkState.state self.old self.new call.old call.new result }
+    {
+        self.run(call)
+    }
+
+    /// Runs a call that moves a file to its end, as `wait` does. The file is the one that the call was started on, and
+    /// stands where the start or the last poll left it; it stands where the call has come then, after an error too.
+    pub fn wait_on<M: OnFile>(
+        &mut self,
+        call: &mut Call<M>,
+        file: &mut File,
+    ) -> Result<M::Value, Error>
+        requires may { MayWaitOn M.PlanMachine.meaning M.file self.old.core call.old file.old }
+        requires count { (L.LinkState.state self.old.link).faults < 2 ^ 64 - 1 }
+        ensures { HasWaitedOn M.PlanMachine.meaning M.file L.LinkState.state self.old self.new call.old call.new file.old file.new result }
+    {
+        let value = self.run(call);
+        file.stand(call.machine().offset());
+        value
+    }
+
+    /// Polls a call, and does a round where it has no answer, until it answers or a round goes wrong.
+    fn run<M: PlanMachine>(&mut self, call: &mut Call<M>) -> Result<M::Value, Error>
+        requires may { MayWait M.meaning self.old.core call.old }
+        requires count { (L.LinkState.state self.old.link).faults < 2 ^ 64 - 1 }
+        ensures { HasWaited M.meaning L.LinkState.state self.old self.new call.old call.new result }
+    {
+        for _ in 0..u64::MAX {
+            match self.poll_call(call) {
+                Poll::Ready(value) => return value,
+                Poll::Pending => self.round()?,
+            }
+        }
+        Err(Error::OutOfMemory)
+    }
+
+    /// Polls a call, where an id is left for a request of it.
+    fn poll_call<M: PlanMachine>(&mut self, call: &mut Call<M>) -> Poll<Result<M::Value, Error>>
+        requires opened { IsSome (info_of self.old.core.phase) }
+        requires under_way { IsUnderWay M.meaning self.old.core call.old }
+        ensures { PolledIn M.meaning self.old self.new call.old call.new result }
+    {
+        if self.core.kept() >= MAX_IDS {
+            return Poll::Ready(Err(Error::OutOfMemory));
+        }
+        call.step(&mut self.core)
+    }
+
+    /// Sends what is queued, and takes a frame where one is awaited.
+    fn round(&mut self) -> Result<(), Error>
+        requires { (L.LinkState.state self.old.link).faults < 2 ^ 64 - 1 }
+        ensures { RoundEnds L.LinkState.state self.old self.new result }
+    {
+        self.flush()?;
+        self.take()?;
+        Ok(())
+    }
+}
