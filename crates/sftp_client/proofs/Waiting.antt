@@ -1,5 +1,5 @@
 -- What the rounds of a session leave to a call that awaits its reply.
-use Rattle.std.proofs.Common.{◌≡◌, ◌⊎◌, ◌<◌, ◌-◌, ◌^◌, ℕ, zero, suc, true, false, refl, ap, sym, ◌∙◌, subst, inl, inr}
+use Rattle.std.proofs.Common.{◌≡◌, ◌⊎◌, ◌<◌, ◌+◌, ◌-◌, ◌^◌, ℕ, zero, suc, true, false, refl, ap, sym, ◌∙◌, subst, arith, inl, inr}
 use Rattle.std.specs.Prelude.{Bool, Option, Result, Ok, Err, None, Some, IsSome}
 use Rattle.sftp_model.specs.ReplyReadings.{reply_at}
 use Rattle.sftp_model.specs.declared.error.Error.{Error}
@@ -17,7 +17,7 @@ use Rattle.call_state.proofs.Keeping.{keeps_both, keeps_failed, keeps_handed_out
 use Rattle.sftp_model.specs.declared.slot.FileAt.{FileAt}
 use Rattle.sftp_file.specs.Files.{FileValue, IsMoved, file_at}
 use Rattle.sftp_client.specs.Sessions.{Flushes, FlushesUnfailed, IsKept, SendStops, SendsAll, SftpValue, TakeStops, Takes, TakesFrame, TakesUnfailed, TakesWhole, fault_by, failed_by, handed, kept_after, with_core}
-use Rattle.sftp_client.specs.Waits.{AreWaitRounds, HasWaited, IsWaitRound, MayWait, PolledIn, RoundFails, SendsAndTakes, WaitEnds}
+use Rattle.sftp_client.specs.Waits.{AreWaitRounds, HasWaited, IsWaitRound, MayWait, PolledIn, RoundFails, SendsAndTakes, WaitEnds, WaitStops}
 
 -- ---- a core over a round
 
@@ -117,18 +117,17 @@ round_unfaulted state old new h = took_unfaulted state h.mid new h.took h.takes.
 -- ---- a call over rounds
 
 -- what holds between two rounds
-pub record WaitsOn {W M V L S : Type 0} (s : Meaning W M V) (state : L → LinkView S) (old new : SftpValue L)
+pub record WaitsOn {W M V L S : Type 0} (s : Meaning W M V) (state : L → LinkView S) (count : ℕ) (old new : SftpValue L)
     (p q : CallValue M) : Type 0 where
-  pub count : ℕ
   pub rounds : AreWaitRounds s state count old new p q
   pub may : MayWait s new.core q
   pub grants : KeepsGrants old.core new.core
   pub unfaulted : (state new.link).faults ≡ (state old.link).faults
 
 pub waits_first : {W M V L S : Type 0} (s : Meaning W M V) (state : L → LinkView S) (old : SftpValue L) (p : CallValue M)
-    → MayWait s old.core p → WaitsOn s state old old p p
+    → MayWait s old.core p → WaitsOn s state 0 old old p p
 waits_first s state old p may =
-    record { count = 0; rounds = (refl, refl); may = may; grants = (keeps_same old.core).grants; unfaulted = refl }
+    record { rounds = (refl, refl); may = may; grants = (keeps_same old.core).grants; unfaulted = refl }
 
 -- what a poll leaves to the call and to the session
 pub record PollLeaves {W M V L : Type 0} (s : Meaning W M V) (old new : SftpValue L) (q : CallValue M)
@@ -158,11 +157,11 @@ poll_leaves s old new p q result may (inl h) =
     }
 poll_leaves s old new p q result may (inr h) =
     record {
-      held = subst (λ (x : SftpValue _). IsHeld s x.core q) (sym h.1.0) (subst (λ x. IsHeld s old.core x) (sym h.1.1) may.under_way.held);
-      holds = holds_nothing s new.core result h.0;
-      grants = subst (λ (x : SftpValue _). KeepsGrants old.core x.core) (sym h.1.0) (keeps_same old.core).grants;
-      opened = subst (λ (x : SftpValue _). IsSome (info_of x.core.phase)) (sym h.1.0) may.opened;
-      link = ap (λ (x : SftpValue _). x.link) h.1.0;
+      held = subst (λ (x : SftpValue _). IsHeld s x.core q) (sym h.1.1.0) (subst (λ x. IsHeld s old.core x) (sym h.1.1.1) may.under_way.held);
+      holds = holds_nothing s new.core result h.1.0;
+      grants = subst (λ (x : SftpValue _). KeepsGrants old.core x.core) (sym h.1.1.0) (keeps_same old.core).grants;
+      opened = subst (λ (x : SftpValue _). IsSome (info_of x.core.phase)) (sym h.1.1.0) may.opened;
+      link = ap (λ (x : SftpValue _). x.link) h.1.1.0;
     }
 
 -- a call without an answer is under way still
@@ -172,14 +171,14 @@ pending_on s old new p q (inl h) = record { over = h.0.over; held = h.0.held }
 pending_on s old new p q (inr h) = absurd cc
 
 -- a round
-pub waits_next : {W M V L S : Type 0} (s : Meaning W M V) (state : L → LinkView S) (old mid polled new : SftpValue L)
-    (p m q : CallValue M) → WaitsOn s state old mid p m → PolledIn s mid polled m q poll.Pending
-    → SendsAndTakes state polled new → WaitsOn s state old new p q
-waits_next s state old mid polled new p m q w pending round =
+pub waits_next : {W M V L S : Type 0} (s : Meaning W M V) (state : L → LinkView S) (count : ℕ) (old mid polled new : SftpValue L)
+    (p m q : CallValue M) → WaitsOn s state count old mid p m → PolledIn s mid polled m q poll.Pending
+    → SendsAndTakes state polled new → WaitsOn s state (count + 1) old new p q
+waits_next s state count old mid polled new p m q w pending round =
+    let next : suc count ≡ count + 1 = omega arith in
     let left = poll_leaves s mid polled m q poll.Pending w.may pending in
     let stays = round_stays state polled new left.opened round in
-    record {
-      count = suc w.count;
+    subst (λ (n : ℕ). WaitsOn s state n old new p q) next (record {
       rounds = (mid, (m, (w.rounds, record { mid = polled; polled = pending; round = round })));
       may = record {
         opened = stays.grants.opened left.opened;
@@ -187,50 +186,66 @@ waits_next s state old mid polled new p m q w pending round =
       };
       grants = grants_both old.core polled.core new.core (grants_both old.core mid.core polled.core w.grants left.grants) stays.grants;
       unfaulted = round_unfaulted state polled new round ∙ (ap (λ l. (state l).faults) left.link ∙ w.unfaulted);
-    }
+    })
 
 -- the call answered
-pub waits_end : {W M V L S : Type 0} (s : Meaning W M V) (state : L → LinkView S) (old mid new : SftpValue L)
-    (p m q : CallValue M) (result : Result V Error) → WaitsOn s state old mid p m
+pub waits_end : {W M V L S : Type 0} (s : Meaning W M V) (state : L → LinkView S) (count : ℕ) (old mid new : SftpValue L)
+    (p m q : CallValue M) (result : Result V Error) → WaitsOn s state count old mid p m
     → PolledIn s mid new m q (poll.Ready result) → HasWaited s state old new p q result
-waits_end s state old mid new p m q result w polled =
+waits_end s state count old mid new p m q result w polled =
     let left = poll_leaves s mid new m q (poll.Ready result) w.may polled in
     record {
-      count = w.count;
+      count = count;
       mid = mid;
       call = m;
       rounds = w.rounds;
-      ends = inl polled;
+      ends = inl (inl polled);
       held = left.held;
       holds = left.holds;
       grants = grants_both old.core mid.core new.core w.grants left.grants;
     }
 
+-- or no round was left
+pub waits_out : {W M V L S : Type 0} (s : Meaning W M V) (state : L → LinkView S) (count : ℕ) (old new : SftpValue L)
+    (p q : CallValue M) → WaitsOn s state count old new p q → count ≡ 2 ^ 64 - 1
+    → HasWaited {V = V} s state old new p q (Err error.OutOfMemory)
+waits_out s state count old new p q w all =
+    record {
+      count = count;
+      mid = new;
+      call = q;
+      rounds = w.rounds;
+      ends = inr (all, (refl, (refl, refl)));
+      held = w.may.under_way.held;
+      holds = tt;
+      grants = w.grants;
+    }
+
 -- or a round went wrong
-pub waits_stop : {W M V L S : Type 0} (s : Meaning W M V) (state : L → LinkView S) (old mid polled new : SftpValue L)
-    (p m q : CallValue M) (e : Error) → WaitsOn s state old mid p m → PolledIn s mid polled m q poll.Pending
+pub waits_stop : {W M V L S : Type 0} (s : Meaning W M V) (state : L → LinkView S) (count : ℕ) (old mid polled new : SftpValue L)
+    (p m q : CallValue M) (e : Error) → WaitsOn s state count old mid p m → PolledIn s mid polled m q poll.Pending
     → RoundFails state polled new e → HasWaited s state old new p q (Err e)
-waits_stop s state old mid polled new p m q e w pending fails =
+waits_stop s state count old mid polled new p m q e w pending fails =
     let left = poll_leaves s mid polled m q poll.Pending w.may pending in
     let stays = fail_stays state polled new e left.opened fails in
     let on = still_under_way s polled.core new.core q stays (pending_on s mid polled m q pending) in
     record {
-      count = w.count;
+      count = count;
       mid = mid;
       call = m;
       rounds = w.rounds;
-      ends = inr (polled, (e, (pending, (fails, refl))));
+      ends = inl (inr (polled, (e, (pending, (fails, refl)))));
       held = on.held;
       holds = tt;
       grants = grants_both old.core polled.core new.core (grants_both old.core mid.core polled.core w.grants left.grants) stays.grants;
     }
 
-pub waits_count : {W M V L S : Type 0} (s : Meaning W M V) (state : L → LinkView S) (old mid polled : SftpValue L)
-    (p m q : CallValue M) → (state old.link).faults < 2 ^ 64 - 1 → WaitsOn s state old mid p m
+pub waits_count : {W M V L S : Type 0} (s : Meaning W M V) (state : L → LinkView S) (count : ℕ) (old mid polled : SftpValue L)
+    (p m q : CallValue M) → (state old.link).faults < 2 ^ 64 - 1 → WaitsOn s state count old mid p m
     → PolledIn s mid polled m q poll.Pending → (state polled.link).faults < 2 ^ 64 - 1
-waits_count s state old mid polled p m q count w pending =
+waits_count s state count old mid polled p m q few w pending =
     let left = poll_leaves s mid polled m q poll.Pending w.may pending in
-    subst (λ (n : ℕ). n < 2 ^ 64 - 1) (sym (ap (λ l. (state l).faults) left.link ∙ w.unfaulted)) count
+    subst (λ (n : ℕ). n < 2 ^ 64 - 1) (sym (ap (λ l. (state l).faults) left.link ∙ w.unfaulted)) few
 
 -- ---- a call that moves a file
 
@@ -248,7 +263,7 @@ KeepsFile {M = M} s at = (m next : M) → s.stays m next → MovesOnly (at m) (a
 poll_moves : {W M V L : Type 0} (s : Meaning W M V) (at : M → FileAt) → KeepsFile s at → (old new : SftpValue L) (p q : CallValue M)
     (result : Poll (Result V Error)) → PolledIn s old new p q result → MovesOnly (at p.machine) (at q.machine)
 poll_moves s at keeps old new p q result (inl h) = keeps p.machine q.machine h.0.stays
-poll_moves s at keeps old new p q result (inr h) = subst (λ x. MovesOnly (at p.machine) (at x.machine)) (sym h.1.1) refl
+poll_moves s at keeps old new p q result (inr h) = subst (λ x. MovesOnly (at p.machine) (at x.machine)) (sym h.1.1.1) refl
 
 rounds_move : {W M V L S : Type 0} (s : Meaning W M V) (at : M → FileAt) → KeepsFile s at → (state : L → LinkView S) (n : ℕ)
     (old new : SftpValue L) (p q : CallValue M) → AreWaitRounds s state n old new p q → MovesOnly (at p.machine) (at q.machine)
@@ -263,6 +278,12 @@ ends_move : {W M V L S : Type 0} (s : Meaning W M V) (at : M → FileAt) → Kee
 ends_move s at keeps state old new p q result (inl h) = poll_moves s at keeps old new p q (poll.Ready result) h
 ends_move s at keeps state old new p q result (inr h) = poll_moves s at keeps old h.0 p q poll.Pending h.1.1.0
 
+stops_move : {W M V L S : Type 0} (s : Meaning W M V) (at : M → FileAt) → KeepsFile s at → (state : L → LinkView S) (count : ℕ)
+    (old new : SftpValue L) (p q : CallValue M) (result : Result V Error) → WaitStops s state count old new p q result
+    → MovesOnly (at p.machine) (at q.machine)
+stops_move s at keeps state count old new p q result (inl h) = ends_move s at keeps state old new p q result h
+stops_move s at keeps state count old new p q result (inr h) = subst (λ x. MovesOnly (at p.machine) (at x.machine)) (sym h.1.1.1) refl
+
 -- where the file stands after the call was run
 pub moved_by : {W M V L S : Type 0} (s : Meaning W M V) (at : M → FileAt) → KeepsFile s at → (state : L → LinkView S)
     (old new : SftpValue L) (p q : CallValue M) (before after : FileValue) (result : Result V Error)
@@ -270,7 +291,7 @@ pub moved_by : {W M V L S : Type 0} (s : Meaning W M V) (at : M → FileAt) → 
     → HasWaited s state old new p q result → IsMoved before after (at q.machine)
 moved_by s at keeps state old new p q before after result stands is w =
     let only = moves_both (at p.machine) (at w.call.machine) (at q.machine) (rounds_move s at keeps state w.count old w.mid p w.call w.rounds)
-    (ends_move s at keeps state w.mid new w.call q result w.ends)
+    (stops_move s at keeps state w.count w.mid new w.call q result w.ends)
     in
     record {
       stands = only ∙ ((λ i. record (stands i) { offset = (at q.machine).offset }) ∙ sym (ap file_at is));

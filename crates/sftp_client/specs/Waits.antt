@@ -1,5 +1,5 @@
 -- Calls that are run to their end over a session's link.
-use Rattle.std.specs.Prelude.{◌≡◌, ◌⊎◌, ◌≤◌, ℕ, zero, suc, Bool, Result, Ok, Err, IsSome}
+use Rattle.std.specs.Prelude.{◌≡◌, ◌⊎◌, ◌≤◌, ◌-◌, ◌^◌, ℕ, zero, suc, Bool, Result, Ok, Err, IsSome}
 use Rattle.sftp_model.specs.declared.error.Error.{Error}
 use Rattle.sftp_model.specs.declared.error.Error.TheVariants as error
 use Rattle.sftp_model.specs.declared.slot.FileAt.{FileAt}
@@ -45,11 +45,11 @@ RoundEnds state old new (Err e) = RoundFails state old new e
 
 -- ---- a call
 
--- A poll of a call changed nothing of the session but its core; or there was no id left, and nothing changed.
+-- A poll of a call changed nothing of the session but its core; or all ids were in use, and nothing changed.
 abbrev pub PolledIn : {W M V L : Type 0} → Meaning W M V → SftpValue L → SftpValue L → CallValue M → CallValue M
     → Poll (Result V Error) → Type 0
 PolledIn s old new p q result = (Stepped s old.core new.core p q result × (new ≡ with_core old new.core))
-    ⊎ ((result ≡ poll.Ready (Err error.OutOfMemory)) × ((new ≡ old) × (q ≡ p)))
+    ⊎ ((MAX_IDS ≤ kept_of old.core) × ((result ≡ poll.Ready (Err error.OutOfMemory)) × ((new ≡ old) × (q ≡ p))))
 
 -- the call had no answer yet, and then a round went well
 pub record IsWaitRound {W M V L S : Type 0} (s : Meaning W M V) (state : L → LinkView S) (old new : SftpValue L)
@@ -65,12 +65,18 @@ AreWaitRounds s state zero old new p q = (new ≡ old) × (q ≡ p)
 AreWaitRounds {M = M} {L = L} s state (suc n) old new p q = (mid : SftpValue L) × ((m : CallValue M)
     × (AreWaitRounds s state n old mid p m × IsWaitRound s state mid new m q))
 
--- how it came to its end: the call answered, or a round went wrong, or memory was wanting
+-- how it came to its end: the call answered, or a round went wrong
 abbrev pub WaitEnds : {W M V L S : Type 0} → Meaning W M V → (L → LinkView S) → SftpValue L → SftpValue L → CallValue M
     → CallValue M → Result V Error → Type 0
 WaitEnds {L = L} s state old new p q result = PolledIn s old new p q (poll.Ready result)
     ⊎ ((mid : SftpValue L) × ((e : Error) × (PolledIn s old mid p q poll.Pending
     × (RoundFails state mid new e × (result ≡ Err e)))))
+
+-- or no round is left of as many as can be counted
+abbrev pub WaitStops : {W M V L S : Type 0} → Meaning W M V → (L → LinkView S) → ℕ → SftpValue L → SftpValue L
+    → CallValue M → CallValue M → Result V Error → Type 0
+WaitStops s state count old new p q result = WaitEnds s state old new p q result
+    ⊎ ((count ≡ 2 ^ 64 - 1) × ((result ≡ Err error.OutOfMemory) × ((new ≡ old) × (q ≡ p))))
 
 -- A call was polled, and round after round what was queued was sent and a frame taken, until it answered or a round
 -- went wrong. It may be run on or given up then; the core holds what belongs to its value, each grant stays, and the
@@ -81,7 +87,7 @@ pub record HasWaited {W M V L S : Type 0} (s : Meaning W M V) (state : L → Lin
   pub mid : SftpValue L
   pub call : CallValue M
   pub rounds : AreWaitRounds s state count old mid p call
-  pub ends : WaitEnds s state mid new call q result
+  pub ends : WaitStops s state count mid new call q result
   pub held : IsHeld s new.core q
   pub holds : HoldsReady s new.core (poll.Ready result)
   pub grants : KeepsGrants old.core new.core

@@ -1,0 +1,49 @@
+-- Worked rows of what a session keeps, by computation.
+use Rattle.std.specs.Prelude.{◌≡◌, refl, ℕ, List, [], ◌∷◌, Option, None, Some}
+use Rattle.sftp_model.specs.declared.error.Error.TheVariants as error
+use Rattle.sftp_model.specs.declared.error.Fault.{Fault}
+use Rattle.sftp_model.specs.declared.error.Fault.TheVariants as fault
+use Rattle.sftp_model.specs.declared.format_kind.FormatKind.TheVariants as format
+use Rattle.sftp_client.specs.Incoming.{bytes_of, nothing_came}
+use Rattle.sftp_client.specs.Outgoing.{unsent_from}
+use Rattle.sftp_client.specs.Sessions.{fault_by}
+
+-- a chunk of two pieces
+two : Option (List (List ℕ))
+two = Some ((1 ∷ 2 ∷ 3 ∷ []) ∷ (4 ∷ 5 ∷ []) ∷ [])
+
+-- nothing of it was sent; a part of its first piece; the whole first piece; all
+pub all_unsent : unsent_from two 0 0 ≡ 1 ∷ 2 ∷ 3 ∷ 4 ∷ 5 ∷ []
+all_unsent = refl
+
+pub part_sent : unsent_from two 0 2 ≡ 3 ∷ 4 ∷ 5 ∷ []
+part_sent = refl
+
+pub piece_sent : unsent_from two 1 0 ≡ 4 ∷ 5 ∷ []
+piece_sent = refl
+
+pub all_sent : unsent_from two 2 0 ≡ []
+all_sent = refl
+
+pub no_chunk : unsent_from None 0 0 ≡ []
+no_chunk = refl
+
+-- what came of a frame: a part of its length
+pub length_begun : bytes_of (record { whole = []; part = 0 ∷ 0 ∷ [] }) ≡ 0 ∷ 0 ∷ []
+length_begun = refl
+
+pub none_came : bytes_of nothing_came ≡ []
+none_came = refl
+
+-- a fault of the link is kept, and its end; want of memory is not, nor what a frame was refused by
+pub link_kept : fault_by error.LinkFault ≡ Some fault.Link
+link_kept = refl
+
+pub end_kept : fault_by error.LinkEnded ≡ Some fault.Ended
+end_kept = refl
+
+pub memory_not_kept : fault_by error.OutOfMemory ≡ None
+memory_not_kept = refl
+
+pub id_not_kept : fault_by (error.InvalidResponseId 7) ≡ None
+id_not_kept = refl
