@@ -3,13 +3,12 @@ use Rattle.std.specs.Prelude.{◌≡◌, refl, ℕ, List, [], ◌∷◌, Option,
 use Rattle.sftp_model.specs.declared.error.Error.TheVariants as error
 use Rattle.sftp_model.specs.declared.error.Fault.{Fault}
 use Rattle.sftp_model.specs.declared.error.Fault.TheVariants as fault
-use Rattle.sftp_model.specs.declared.format_kind.FormatKind.TheVariants as format
 use Rattle.sftp_client.specs.Incoming.{bytes_of, nothing_came}
 use Rattle.sftp_client.specs.Outgoing.{unsent_from}
 use Rattle.sftp_client.specs.Sessions.{fault_by}
 
 -- a chunk of two pieces
-two : Option (List (List ℕ))
+abbrev pub two : Option (List (List ℕ))
 two = Some ((1 ∷ 2 ∷ 3 ∷ []) ∷ (4 ∷ 5 ∷ []) ∷ [])
 
 -- nothing of it was sent; a part of its first piece; the whole first piece; all
