@@ -1,6 +1,6 @@
 -- What the rounds of a session leave to a call that awaits its reply.
-use Rattle.std.proofs.Common.{◌≡◌, ◌⊎◌, ◌<◌, ◌+◌, ◌-◌, ◌^◌, ℕ, zero, suc, true, false, refl, ap, sym, ◌∙◌, subst, arith, inl, inr}
-use Rattle.std.specs.Prelude.{Bool, Option, Result, Ok, Err, None, Some, IsSome}
+use Rattle.std.proofs.Common.{◌≡◌, ◌<◌, ◌+◌, ◌-◌, ◌^◌, ℕ, zero, suc, true, false, refl, ap, sym, ◌∙◌, subst, arith, inl, inr}
+use Rattle.std.specs.Prelude.{Bool, Option, Result, Ok, Err, None, Some, IsSome, OnOk}
 use Rattle.sftp_model.specs.ReplyReadings.{reply_at}
 use Rattle.sftp_model.specs.declared.error.Error.{Error}
 use Rattle.sftp_model.specs.declared.error.Error.TheVariants as error
@@ -8,16 +8,18 @@ use Rattle.sftp_model.specs.declared.error.Fault.{Fault}
 use Rattle.sftp_core.specs.Core.{Core, failed_with, handed_out}
 use Rattle.sftp_core.specs.Info.{info_of}
 use Rattle.sftp_link.specs.Views.{LinkView}
-use Rattle.call_state.specs.Calls.{CallValue, HoldsReady, IsHeld, IsUnderWay, Stepped}
+use Rattle.call_state.specs.Calls.{CallValue, Cancels, HoldsReady, IsHeld, IsUnderWay, cancelled, is_ended}
 use Rattle.call_state.specs.Keeping.{Keeps, KeepsGrants}
 use Rattle.call_state.specs.Machines.{Meaning}
 use Rattle.call_state.specs.declared.poll.Poll.{Poll}
+use Rattle.call_state.specs.declared.stage.Stage.{Stage}
+use Rattle.call_state.specs.declared.stage.Stage.TheVariants.{Ended, Ready, Unsent, Asked, Came}
 use Rattle.call_state.specs.declared.poll.Poll.TheVariants as poll
 use Rattle.call_state.proofs.Keeping.{keeps_both, keeps_failed, keeps_handed_out, keeps_same, keeps_taken, keeps_unchanged, still_under_way}
 use Rattle.sftp_model.specs.declared.slot.FileAt.{FileAt}
 use Rattle.sftp_file.specs.Files.{FileValue, IsMoved, file_at}
-use Rattle.sftp_client.specs.Sessions.{Flushes, FlushesUnfailed, IsKept, SendStops, SendsAll, SftpValue, TakeStops, Takes, TakesFrame, TakesUnfailed, TakesWhole, fault_by, failed_by, handed, kept_after, with_core}
-use Rattle.sftp_client.specs.Waits.{AreWaitRounds, HasWaited, IsWaitRound, MayWait, PolledIn, RoundFails, SendsAndTakes, WaitEnds, WaitStops}
+use Rattle.sftp_client.specs.Sessions.{Flushes, FlushesUnfailed, IsKept, SendStops, SftpValue, Takes, TakesFrame, TakesUnfailed, TakesWhole, fault_by, failed_by, handed, kept_after, with_core}
+use Rattle.sftp_client.specs.Waits.{AreWaitRounds, HasFinished, HasFinishedOn, HasWaited, HasWaitedOn, MayWait, PolledIn, RoundFails, SendsAndTakes, WaitEnds, WaitStops}
 
 -- ---- a core over a round
 
@@ -188,6 +190,10 @@ waits_next s state count old mid polled new p m q w pending round =
       unfaulted = round_unfaulted state polled new round ∙ (ap (λ l. (state l).faults) left.link ∙ w.unfaulted);
     })
 
+where_ok : {V : Type 0} {P : Type 0} (result : Result V Error) → P → OnOk result P
+where_ok (Ok value) h = h
+where_ok (Err e) h = tt
+
 -- the call answered
 pub waits_end : {W M V L S : Type 0} (s : Meaning W M V) (state : L → LinkView S) (count : ℕ) (old mid new : SftpValue L)
     (p m q : CallValue M) (result : Result V Error) → WaitsOn s state count old mid p m
@@ -203,6 +209,7 @@ waits_end s state count old mid new p m q result w polled =
       held = left.held;
       holds = left.holds;
       grants = grants_both old.core mid.core new.core w.grants left.grants;
+      unfaulted = where_ok result (ap (λ l. (state l).faults) left.link ∙ w.unfaulted);
     }
 
 -- or no round was left
@@ -219,6 +226,7 @@ waits_out s state count old new p q w all =
       held = w.may.under_way.held;
       holds = tt;
       grants = w.grants;
+      unfaulted = tt;
     }
 
 -- or a round went wrong
@@ -238,6 +246,7 @@ waits_stop s state count old mid polled new p m q e w pending fails =
       held = on.held;
       holds = tt;
       grants = grants_both old.core polled.core new.core (grants_both old.core mid.core polled.core w.grants left.grants) stays.grants;
+      unfaulted = tt;
     }
 
 pub waits_count : {W M V L S : Type 0} (s : Meaning W M V) (state : L → LinkView S) (count : ℕ) (old mid polled : SftpValue L)
@@ -246,6 +255,41 @@ pub waits_count : {W M V L S : Type 0} (s : Meaning W M V) (state : L → LinkVi
 waits_count s state count old mid polled p m q few w pending =
     let left = poll_leaves s mid polled m q poll.Pending w.may pending in
     subst (λ (n : ℕ). n < 2 ^ 64 - 1) (sym (ap (λ l. (state l).faults) left.link ∙ w.unfaulted)) few
+
+-- ---- a call that is given up once it was run
+
+ended_by : {W M V L S : Type 0} (s : Meaning W M V) (state : L → LinkView S) (count : ℕ) (old new : SftpValue L)
+    (p q : CallValue M) (value : V) → WaitStops s state count old new p q (Ok value) → is_ended q.stage ≡ true
+ended_by s state count old new p q value (inl (inl (inl h))) = h.0.over
+ended_by s state count old new p q value (inl (inl (inr h))) = absurd cc
+ended_by s state count old new p q value (inl (inr h)) = absurd cc
+ended_by s state count old new p q value (inr h) = absurd cc
+
+-- nothing is left of a call that has answered
+nothing_left : (core : Core) (stage : Stage) → is_ended stage ≡ true → cancelled core stage ≡ core
+nothing_left core Ended over = refl
+nothing_left core Ready over = absurd cc
+nothing_left core (Unsent asking) over = absurd cc
+nothing_left core (Asked ticket) over = absurd cc
+nothing_left core (Came t) over = absurd cc
+
+given_up : {W M V L S : Type 0} (s : Meaning W M V) (state : L → LinkView S) (old mid : SftpValue L) (new : Core)
+    (p last : CallValue M) (result : Result V Error) → HasWaited s state old mid p last result → Cancels mid.core new last.stage
+    → HoldsReady s new (poll.Ready result) × OnOk result (KeepsGrants old.core new)
+given_up s state old mid new p last (Err e) w cancels = (tt, tt)
+given_up s state old mid new p last (Ok value) w cancels =
+    let over = ended_by s state w.count w.mid mid w.call last value w.ends in
+    let same : new ≡ mid.core = cancels.core ∙ nothing_left mid.core last.stage over in
+    let P : Core → Type 0 = λ (c : Core). s.holds c value × KeepsGrants old.core c in
+    subst P (sym same) (w.holds, w.grants)
+
+pub finished : {W M V L S : Type 0} (s : Meaning W M V) (state : L → LinkView S) (old mid inside new : SftpValue L)
+    (p last : CallValue M) (result : Result V Error) → HasWaited s state old mid p last result → inside ≡ mid
+    → Cancels inside.core new.core last.stage → new ≡ with_core inside new.core → HasFinished s state old new p result
+finished s state old mid inside new p last result w same cancels left =
+    let waited = subst (λ (x : SftpValue _). HasWaited s state old x p last result) (sym same) w in
+    let up = given_up s state old inside new.core p last result waited cancels in
+    record { mid = inside; last = last; waited = waited; given_up = cancels; left = left; holds = up.0; grants = up.1 }
 
 -- ---- a call that moves a file
 
@@ -296,4 +340,18 @@ moved_by s at keeps state old new p q before after result stands is w =
     record {
       stands = only ∙ ((λ i. record (stands i) { offset = (at q.machine).offset }) ∙ sym (ap file_at is));
       rest = is ∙ (λ i. record before { offset = (sym (ap (λ (f : FileValue). f.offset) is)) i });
+    }
+
+-- where it stands once the call was given up, too
+pub finished_on : {W M V L S : Type 0} (s : Meaning W M V) (at : M → FileAt) (state : L → LinkView S)
+    (old mid inside new : SftpValue L) (p last : CallValue M) (before after : FileValue) (result : Result V Error)
+    → HasWaitedOn s at state old mid p last before after result → inside ≡ mid
+    → Cancels inside.core new.core last.stage → new ≡ with_core inside new.core
+    → HasFinishedOn s at state old new p before after result
+finished_on s at state old mid inside new p last before after result w same cancels left =
+    let waited = subst (λ (x : SftpValue _). HasWaited s state old x p last result) (sym same) w.waited in
+    let up = given_up s state old inside new.core p last result waited cancels in
+    record {
+      finished = record { mid = inside; last = last; waited = waited; given_up = cancels; left = left; holds = up.0; grants = up.1 };
+      moved = w.moved;
     }

@@ -1,7 +1,6 @@
 -- Worked rows of what a session keeps, by computation.
 use Rattle.std.specs.Prelude.{◌≡◌, refl, ℕ, List, [], ◌∷◌, Option, None, Some}
 use Rattle.sftp_model.specs.declared.error.Error.TheVariants as error
-use Rattle.sftp_model.specs.declared.error.Fault.{Fault}
 use Rattle.sftp_model.specs.declared.error.Fault.TheVariants as fault
 use Rattle.sftp_client.specs.Incoming.{bytes_of, nothing_came}
 use Rattle.sftp_client.specs.Outgoing.{unsent_from}

@@ -1,5 +1,5 @@
 -- Calls that are run to their end over a session's link.
-use Rattle.std.specs.Prelude.{◌≡◌, ◌⊎◌, ◌≤◌, ◌-◌, ◌^◌, ℕ, zero, suc, Bool, Result, Ok, Err, IsSome}
+use Rattle.std.specs.Prelude.{◌≡◌, ◌⊎◌, ◌≤◌, ◌-◌, ◌^◌, ℕ, zero, suc, Bool, Result, Ok, Err, IsSome, OnOk}
 use Rattle.sftp_model.specs.declared.error.Error.{Error}
 use Rattle.sftp_model.specs.declared.error.Error.TheVariants as error
 use Rattle.sftp_model.specs.declared.slot.FileAt.{FileAt}
@@ -7,7 +7,7 @@ use Rattle.sftp_core.specs.Core.{Core, kept_of}
 use Rattle.sftp_core.specs.Info.{MAX_IDS, info_of}
 use Rattle.sftp_link.specs.Views.{LinkView}
 use Rattle.call_state.specs.Asked.{IsReady}
-use Rattle.call_state.specs.Calls.{CallValue, HoldsReady, IsHeld, IsUnderWay, Stepped}
+use Rattle.call_state.specs.Calls.{CallValue, Cancels, HoldsReady, IsHeld, IsUnderWay, Stepped}
 use Rattle.call_state.specs.Keeping.{KeepsGrants}
 use Rattle.call_state.specs.Machines.{Meaning}
 use Rattle.call_state.specs.declared.poll.Poll.{Poll}
@@ -80,7 +80,7 @@ WaitStops s state count old new p q result = WaitEnds s state old new p q result
 
 -- A call was polled, and round after round what was queued was sent and a frame taken, until it answered or a round
 -- went wrong. It may be run on or given up then; the core holds what belongs to its value, each grant stays, and the
--- session open.
+-- session open. The link did not fail where the call gave a value.
 pub record HasWaited {W M V L S : Type 0} (s : Meaning W M V) (state : L → LinkView S) (old new : SftpValue L)
     (p q : CallValue M) (result : Result V Error) : Type 0 where
   pub count : ℕ
@@ -91,6 +91,19 @@ pub record HasWaited {W M V L S : Type 0} (s : Meaning W M V) (state : L → Lin
   pub held : IsHeld s new.core q
   pub holds : HoldsReady s new.core (poll.Ready result)
   pub grants : KeepsGrants old.core new.core
+  pub unfaulted : OnOk result ((state new.link).faults ≡ (state old.link).faults)
+
+-- A call was run to its end and given up there, so that nothing is left of it. Where it gave a value the core holds
+-- what belongs to that, and each grant stays; else each grant but one that came for this call.
+pub record HasFinished {W M V L S : Type 0} (s : Meaning W M V) (state : L → LinkView S) (old new : SftpValue L)
+    (p : CallValue M) (result : Result V Error) : Type 0 where
+  pub mid : SftpValue L
+  pub last : CallValue M
+  pub waited : HasWaited s state old mid p last result
+  pub given_up : Cancels mid.core new.core last.stage
+  pub left : new ≡ with_core mid new.core
+  pub holds : HoldsReady s new.core (poll.Ready result)
+  pub grants : OnOk result (KeepsGrants old.core new.core)
 
 -- ---- a call that moves a file
 
@@ -105,3 +118,9 @@ pub record HasWaitedOn {W M V L S : Type 0} (s : Meaning W M V) (at : M → File
     (old new : SftpValue L) (p q : CallValue M) (before after : FileValue) (result : Result V Error) : Type 0 where
   pub waited : HasWaited s state old new p q result
   pub moved : IsMoved before after (at q.machine)
+
+-- it was run to its end and given up there, and the file stands where the call has come
+pub record HasFinishedOn {W M V L S : Type 0} (s : Meaning W M V) (at : M → FileAt) (state : L → LinkView S)
+    (old new : SftpValue L) (p : CallValue M) (before after : FileValue) (result : Result V Error) : Type 0 where
+  pub finished : HasFinished s state old new p result
+  pub moved : IsMoved before after (at finished.last.machine)

@@ -2,7 +2,7 @@
 ghost use Rattle.std.specs.Prelude.{◌<◌, ◌-◌, ◌^◌, IsSome};
 ghost use Rattle.sftp_core.specs.Info.{info_of};
 ghost use Rattle.call_state.specs.Calls.{IsUnderWay};
-ghost use Rattle.sftp_client.specs.Waits.{HasWaited, HasWaitedOn, MayWait, MayWaitOn, PolledIn, RoundEnds};
+ghost use Rattle.sftp_client.specs.Waits.{HasFinished, HasFinishedOn, HasWaited, HasWaitedOn, MayWait, MayWaitOn, PolledIn, RoundEnds};
 
 use super::Sftp;
 use call_state::{Alone, Call, PlanMachine, Poll};
@@ -40,6 +40,36 @@ impl<L: Link> Sftp<L> {
         let value = self.run(call);
         file.stand(call.machine().offset());
         value
+    }
+
+    /// Runs a call to its end, and gives its answer. After an error nothing is left of the call: a reply that still
+    /// comes is dropped, and a handle that comes is closed. To go on after `OutOfMemory`, use `wait`.
+    pub fn finish<M: Alone>(&mut self, call: Call<M>) -> Result<M::Value, Error>
+        requires may { MayWait M.PlanMachine.meaning self.old.core call }
+        requires count { (L.LinkState.state self.old.link).faults < 2 ^ 64 - 1 }
+        ensures { HasFinished M.PlanMachine.meaning L.LinkState.state self.old self.new call result }
+    {
+        let mut call = call;
+        let answer = self.run(&mut call);
+        call.cancel(&mut self.core);
+        answer
+    }
+
+    /// Runs a call that moves a file to its end, as `finish` does. The file is the one that the call was started on,
+    /// and stands where the call has come then, after an error too.
+    pub fn finish_on<M: OnFile>(
+        &mut self,
+        call: Call<M>,
+        file: &mut File,
+    ) -> Result<M::Value, Error>
+        requires may { MayWaitOn M.PlanMachine.meaning M.file self.old.core call file.old }
+        requires count { (L.LinkState.state self.old.link).faults < 2 ^ 64 - 1 }
+        ensures { HasFinishedOn M.PlanMachine.meaning M.file L.LinkState.state self.old self.new call file.old file.new result }
+    {
+        let mut call = call;
+        let answer = self.wait_on(&mut call, file);
+        call.cancel(&mut self.core);
+        answer
     }
 
     /// Polls a call, and does a round where it has no answer, until it answers or a round goes wrong.
