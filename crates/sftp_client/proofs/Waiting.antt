@@ -17,6 +17,8 @@ use Rattle.call_state.specs.declared.stage.Stage.TheVariants.{Ended, Ready, Unse
 use Rattle.call_state.specs.declared.poll.Poll.TheVariants as poll
 use Rattle.call_state.proofs.Keeping.{keeps_both, keeps_failed, keeps_handed_out, keeps_same, keeps_taken, keeps_unchanged, still_under_way}
 use Rattle.sftp_model.specs.declared.slot.FileAt.{FileAt}
+use Rattle.sftp_core.specs.Table.{asks_handle}
+use Rattle.sftp_file.proofs.Steps.{cancelled_keeps}
 use Rattle.sftp_file.specs.Files.{FileValue, IsMoved, file_at}
 use Rattle.sftp_client.specs.Sessions.{Flushes, FlushesUnfailed, IsKept, SendStops, SftpValue, Takes, TakesFrame, TakesUnfailed, TakesWhole, fault_by, failed_by, handed, kept_after, with_core}
 use Rattle.sftp_client.specs.Waits.{AreWaitRounds, HasFinished, HasFinishedOn, HasWaited, HasWaitedOn, MayWait, PolledIn, RoundFails, SendsAndTakes, WaitEnds, WaitStops}
@@ -355,3 +357,13 @@ finished_on s at state old mid inside new p last before after result w same canc
       finished = record { mid = inside; last = last; waited = waited; given_up = cancels; left = left; holds = up.0; grants = up.1 };
       moved = w.moved;
     }
+
+-- ---- the grants of others
+
+-- a call that no HANDLE answers leaves every grant, whatever it answered
+pub finish_keeps : {W M V L S : Type 0} (s : Meaning W M V) (state : L → LinkView S) (old new : SftpValue L) (p : CallValue M)
+    (result : Result V Error) → ((m : M) → asks_handle (s.expected m) ≡ false) → HasFinished s state old new p result
+    → KeepsGrants old.core new.core
+finish_keeps s state old new p result none h =
+    grants_both old.core h.mid.core new.core h.waited.grants
+    (cancelled_keeps s h.mid.core new.core h.last (none h.last.machine) h.waited.held h.given_up)

@@ -1,0 +1,66 @@
+-- Files of a server that a program writes and reads whole, one call after another.
+use Rattle.std.specs.Prelude.{◌≡◌, ◌<◌, ◌-◌, ◌^◌, ℕ, zero, suc, List, [], ◌++◌, Option, None, Some, Result, Ok, Err, IsSome}
+use Rattle.sftp_model.specs.declared.error.Error.{Error}
+use Rattle.sftp_model.specs.declared.open_options.OpenOptions.{OpenOptions}
+use Rattle.plan_model.specs.TransferPlans.{read_next, write_all_next}
+use Rattle.sftp_core.specs.Core.{Core, IsGrant}
+use Rattle.sftp_core.specs.Info.{info_of}
+use Rattle.sftp_link.specs.Views.{LinkView}
+use Rattle.call_state.specs.Calls.{CallValue}
+use Rattle.sftp_file.specs.declared.opening.Opening.{Opening}
+use Rattle.sftp_file.specs.declared.settling.Settling.{Settling}
+use Rattle.sftp_file.specs.Closes.{Closes}
+use Rattle.sftp_file.specs.Files.{FileValue, Starts}
+use Rattle.sftp_file.specs.Opens.{opening}
+use Rattle.sftp_file.specs.Reads.{ReadValue, reading}
+use Rattle.sftp_file.specs.Settles.{settling}
+use Rattle.sftp_file.specs.Writes.{WriteAllValue, writing_all}
+use Rattle.sftp_client.specs.Opening.{OpensFile, to_create, to_read}
+use Rattle.sftp_client.specs.Sessions.{SftpValue, with_core}
+use Rattle.sftp_client.specs.Waits.{HasFinished, HasFinishedOn}
+
+-- a session that a program may go on with
+pub record IsUsable {L S : Type 0} (state : L → LinkView S) (s : SftpValue L) : Type 0 where
+  pub opened : IsSome (info_of s.core.phase)
+  pub count : (state s.link).faults < 2 ^ 64 - 1
+
+-- its file is one that may be closed
+abbrev pub HasFile : {L : Type 0} → SftpValue L → FileValue → Type 0
+HasFile s file = IsGrant s.core file.grant
+
+-- ---- one call each
+
+-- the OPEN of a path was answered by the handle of this file
+pub record IsOpened {L S : Type 0} (options : OpenOptions) (path : List ℕ) (state : L → LinkView S)
+    (old new : SftpValue L) (file : FileValue) : Type 0 where
+  pub mid : SftpValue L
+  pub call : CallValue Opening
+  pub starts : OpensFile options path old mid (Ok call)
+  pub runs : HasFinished opening state mid new call (Ok file)
+
+-- each WRITE of these bytes, from where the file stood, was answered by OK
+pub record IsWritten {L S : Type 0} (content : List ℕ) (state : L → LinkView S) (old new : SftpValue L)
+    (before after : FileValue) : Type 0 where
+  pub core : Core
+  pub call : CallValue WriteAllValue
+  pub starts : Starts writing_all tt (write_all_next 0 content) before old.core core (Ok call)
+  pub runs : HasFinishedOn writing_all (λ (m : WriteAllValue). m.file) state (with_core old core) new call before after (Ok tt)
+
+-- the CLOSE of a file was answered by OK
+pub record IsClosed {L S : Type 0} (file : FileValue) (state : L → LinkView S) (old new : SftpValue L) : Type 0 where
+  pub core : Core
+  pub call : CallValue Settling
+  pub starts : Closes file old.core core call
+  pub runs : HasFinished settling state (with_core old core) new call (Ok tt)
+
+-- ---- a file whole
+
+-- a file was made or emptied, all its bytes were written, and it was closed
+pub record IsPut {L S : Type 0} (path content : List ℕ) (state : L → LinkView S) (old new : SftpValue L) : Type 0 where
+  pub opened : SftpValue L
+  pub written : SftpValue L
+  pub before : FileValue
+  pub after : FileValue
+  pub opens : IsOpened to_create path state old opened before
+  pub writes : IsWritten content state opened written before after
+  pub closes : IsClosed after state written new

@@ -1,0 +1,6 @@
+//! Programs over `sftp_client`, each proved.
+#![tactic(auto)]
+
+mod files;
+
+pub use files::put;
