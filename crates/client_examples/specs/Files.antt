@@ -46,6 +46,32 @@ pub record IsWritten {L S : Type 0} (content : List ℕ) (state : L → LinkView
   pub starts : Starts writing_all tt (write_all_next 0 content) before old.core core (Ok call)
   pub runs : HasFinishedOn writing_all (λ (m : WriteAllValue). m.file) state (with_core old core) new call before after (Ok tt)
 
+-- a READ of at most so many bytes, where the file stood, was answered by these, or by the end
+pub record IsRead {L S : Type 0} (len : ℕ) (state : L → LinkView S) (old new : SftpValue L) (before after : FileValue)
+    (answer : Option (List ℕ)) : Type 0 where
+  pub core : Core
+  pub call : CallValue ReadValue
+  pub starts : Starts reading tt (read_next 0 len) before old.core core (Ok call)
+  pub runs : HasFinishedOn reading (λ (m : ReadValue). m.file) state (with_core old core) new call before after (Ok answer)
+
+-- so many READs, each where the one before had come, gave these bytes
+abbrev pub AreReads : {L S : Type 0} → ℕ → (L → LinkView S) → ℕ → SftpValue L → SftpValue L → FileValue → FileValue
+    → List ℕ → Type 0
+AreReads len state zero old new before after bytes = (new ≡ old) × ((after ≡ before) × (bytes ≡ []))
+AreReads {L = L} len state (suc n) old new before after bytes = (mid : SftpValue L) × ((file : FileValue)
+    × ((first : List ℕ) × ((part : List ℕ) × (AreReads len state n old mid before file first
+    × (IsRead len state mid new file after (Some part) × (bytes ≡ first ++ part))))))
+
+-- all READs from where the file stood, up to the one that was answered by the end
+pub record IsReadToEnd {L S : Type 0} (state : L → LinkView S) (old new : SftpValue L) (before after : FileValue)
+    (bytes : List ℕ) : Type 0 where
+  pub len : ℕ
+  pub count : ℕ
+  pub mid : SftpValue L
+  pub file : FileValue
+  pub reads : AreReads len state count old mid before file bytes
+  pub end : IsRead len state mid new file after None
+
 -- the CLOSE of a file was answered by OK
 pub record IsClosed {L S : Type 0} (file : FileValue) (state : L → LinkView S) (old new : SftpValue L) : Type 0 where
   pub core : Core
@@ -64,3 +90,14 @@ pub record IsPut {L S : Type 0} (path content : List ℕ) (state : L → LinkVie
   pub opens : IsOpened to_create path state old opened before
   pub writes : IsWritten content state opened written before after
   pub closes : IsClosed after state written new
+
+-- a file was opened, read to its end, and closed
+pub record IsGot {L S : Type 0} (path : List ℕ) (state : L → LinkView S) (old new : SftpValue L) (bytes : List ℕ) :
+    Type 0 where
+  pub opened : SftpValue L
+  pub read : SftpValue L
+  pub before : FileValue
+  pub after : FileValue
+  pub opens : IsOpened to_read path state old opened before
+  pub reads : IsReadToEnd state opened read before after bytes
+  pub closes : IsClosed after state read new

@@ -1,10 +1,12 @@
 //! Files of a server, written and read whole, one call after another.
-ghost use Rattle.std.specs.Prelude.{OnOk, IfOk, Ok};
+ghost use Rattle.std.specs.Prelude.{◌≡◌, ◌++◌, OnOk, IfOk, Ok};
 ghost use Rattle.call_state.specs.Asked.{IsReady};
 ghost use Rattle.sftp_client.specs.Opening.{to_create, to_read};
-ghost use Rattle.client_examples.specs.Files.{HasFile, IsClosed, IsOpened, IsPut, IsUsable, IsWritten};
+ghost use Rattle.client_examples.specs.Files.{HasFile, IsClosed, IsGot, IsOpened, IsPut, IsRead, IsReadToEnd, IsUsable, IsWritten};
 
+use bytes::Bytes;
 use sftp_client::{Error, File, Link, Sftp};
+use std::alloc::Global;
 
 /// Writes a file whole: it is made where it isn't there, and emptied where it is. After an error the file is closed,
 /// and has what was written until then.
@@ -20,6 +22,82 @@ pub fn put<L: Link>(sftp: &mut Sftp<L>, path: &[u8], content: &[u8]) -> Result<(
             Err(e)
         }
     }
+}
+
+/// Reads a file whole, one READ after another. After an error the file is closed, and what was read is gone.
+pub fn get<L: Link>(alloc: Global, sftp: &mut Sftp<L>, path: &[u8]) -> Result<Vec<u8>, Error>
+    requires { IsUsable L.LinkState.state sftp.old }
+    ensures { IfOk result (λ bytes. IsGot path.now L.LinkState.state sftp.old sftp.new bytes.items) }
+{
+    let mut file = open(sftp, path)?;
+    match read_to_end(alloc, sftp, &mut file) {
+        Ok(bytes) => {
+            close(sftp, file)?;
+            Ok(bytes)
+        }
+        Err(e) => {
+            give_up(sftp, file);
+            Err(e)
+        }
+    }
+}
+
+/// Opens a file to be read.
+fn open<L: Link>(sftp: &mut Sftp<L>, path: &[u8]) -> Result<File, Error>
+    requires { IsUsable L.LinkState.state sftp.old }
+    ensures opened { IfOk result (IsOpened to_read path.now L.LinkState.state sftp.old sftp.new) }
+    ensures held { IfOk result (HasFile sftp.new) }
+    ensures usable { OnOk result (IsUsable L.LinkState.state sftp.new) }
+{
+    sftp.ready()?;
+    let call = sftp.start_open(path)?;
+    sftp.finish(call)
+}
+
+/// Reads from where the file stands to its end.
+fn read_to_end<L: Link>(
+    alloc: Global,
+    sftp: &mut Sftp<L>,
+    file: &mut File,
+) -> Result<Vec<u8>, Error>
+    requires usable { IsUsable L.LinkState.state sftp.old }
+    requires held { HasFile sftp.old file.old }
+    ensures read { IfOk result (λ bytes. IsReadToEnd L.LinkState.state sftp.old sftp.new file.old file.new bytes.items) }
+    ensures held { HasFile sftp.new file.new }
+    ensures usable { OnOk result (IsUsable L.LinkState.state sftp.new) }
+{
+    let len = sftp.max_read_len();
+    let mut bytes = Vec::new(alloc);
+    for _ in 0..u64::MAX {
+        match read(sftp, file, len)? {
+            Some(part) => append(&mut bytes, &part)?,
+            None => return Ok(bytes),
+        }
+    }
+    Err(Error::OutOfMemory)
+}
+
+/// Puts bytes behind others.
+fn append(bytes: &mut Vec<u8>, part: &[u8]) -> Result<(), Error>
+    ensures { OnOk result (bytes.new.items ≡ bytes.old.items ++ part.now) }
+{
+    match bytes.extend_from_slice(part) {
+        Ok(()) => Ok(()),
+        Err(_) => Err(Error::OutOfMemory),
+    }
+}
+
+/// Reads at most so many bytes where the file stands; None at its end.
+fn read<L: Link>(sftp: &mut Sftp<L>, file: &mut File, len: u32) -> Result<Option<Bytes>, Error>
+    requires usable { IsUsable L.LinkState.state sftp.old }
+    requires held { HasFile sftp.old file.old }
+    ensures read { IfOk result (λ answer. IsRead len L.LinkState.state sftp.old sftp.new file.old file.new answer) }
+    ensures held { HasFile sftp.new file.new }
+    ensures usable { OnOk result (IsUsable L.LinkState.state sftp.new) }
+{
+    sftp.ready()?;
+    let call = file.start_read(sftp.core(), len)?;
+    sftp.finish_on(call, file)
 }
 
 /// Opens a file to be written.

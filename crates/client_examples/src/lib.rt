@@ -3,4 +3,4 @@
 
 mod files;
 
-pub use files::put;
+pub use files::{get, put};

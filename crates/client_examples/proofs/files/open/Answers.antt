@@ -1,0 +1,14 @@
+use Rattle.std.proofs.Common.{subst}
+use Rattle.sftp_file.specs.Opens.{opening}
+use Rattle.sftp_client.specs.Waits.{HasFinished}
+use Rattle.client_examples.proofs.Answered.{where_value}
+use Rattle.client_examples.proofs.files.open.Goals as goal
+
+pub returns-clause-opened : goal.returns-clause-opened
+returns-clause-opened g c =
+    where_value c.finish.result (λ file is. record {
+      mid = c.start_open.new.self;
+      call = c.in_ok-call.call;
+      starts = c.in_ok-call.ensures;
+      runs = subst (λ r. HasFinished opening g.L.LinkState.state c.start_open.new.self c.finish.new.self c.in_ok-call.call r) is c.finish.ensures;
+    })
