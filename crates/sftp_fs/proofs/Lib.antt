@@ -1,0 +1,5 @@
+pub mod BodyLens
+pub mod PathLaws
+pub mod DirectoryLaws
+pub mod ListingLaws
+pub mod ListingSteps

@@ -1,0 +1,77 @@
+//! How the calls on paths begin: with a request that fits a frame, or a refusal.
+ghost use Rattle.std.specs.Prelude.{◌≡◌, true, List, ℕ, IsSome};
+ghost use Rattle.sftp_model.specs.Answers.{expected_of};
+ghost use Rattle.sftp_model.specs.declared.answers.Expected.TheVariants as expected;
+ghost use Rattle.plan_model.specs.Moves.{is_too_long, offers};
+ghost use Rattle.plan_model.specs.PathPlans.{path_done, path_told};
+ghost use Rattle.sftp_core.specs.Core.{is_call};
+ghost use Rattle.sftp_core.specs.Info.{info_of};
+ghost use Rattle.call_state.specs.Asked.{IsReady};
+ghost use Rattle.sftp_file.specs.Files.{facts_of};
+ghost use Rattle.sftp_file.specs.Settles.{settling};
+ghost use Rattle.sftp_file.specs.Tells.{telling};
+ghost use Rattle.sftp_fs.specs.PathStarts.{AsksFirst, IsPathPlan, MayAskFirst, PathPlan, StartsFrom};
+
+use bitflags::Flags;
+use call_state::{Asking, Call, PlanMachine};
+use sftp_core::Core;
+use sftp_file::{AttrsCall, Settling, StatusCall, Telling};
+use sftp_model::{Error, Extensions, IoKind, Request};
+use sftp_wire::request_len;
+
+/// Whether the body of a request passes 1048575 bytes.
+fn is_too_long(request: &Request) -> bool
+    ensures { result ≡ is_too_long request.now }
+{
+    request_len(request).is_none()
+}
+
+/// Whether the server offers an extension.
+pub(crate) fn offers(core: &Core, extension: Extensions) -> bool
+    requires { IsSome (info_of core.now.phase) }
+    ensures { result ≡ offers (facts_of core.now) extension.0 }
+{
+    let Some(info) = core.info() else {
+        unreachable!()
+    };
+    info.extensions.bits() & extension.bits() != 0
+}
+
+/// Submits the first request of a call on paths. `IOError(PathTooLong)`, exactly where its body would pass 1048575
+/// bytes; then as `Call::ask`.
+pub(crate) fn ask<M: PlanMachine>(
+    core: &mut Core,
+    request: Request,
+    machine: M,
+) -> Result<Call<M>, Error>
+    requires ready { IsReady core.old }
+    requires asks { MayAskFirst M.meaning request machine }
+    ensures { AsksFirst M.meaning request machine core.old core.new result }
+{
+    if is_too_long(&request) {
+        return Err(Error::IOError(IoKind::PathTooLong));
+    }
+    Call::ask(core, Asking::Whole(request), machine)
+}
+
+/// Submits a request whose STATUS ends the call.
+pub(crate) fn ask_status(core: &mut Core, request: Request) -> Result<StatusCall, Error>
+    requires ready { IsReady core.old }
+    requires call { is_call request ≡ true }
+    requires expects { expected.Status ≡ expected_of request }
+    ensures { (cwd : List ℕ) (plan : PathPlan) → IsPathPlan path_done request cwd (facts_of core.old) plan
+        → StartsFrom settling plan cwd core.old core.new result }
+{
+    ask(core, request, Settling {})
+}
+
+/// Submits a request whose ATTRS end the call.
+pub(crate) fn ask_attrs(core: &mut Core, request: Request) -> Result<AttrsCall, Error>
+    requires ready { IsReady core.old }
+    requires call { is_call request ≡ true }
+    requires expects { expected.Attrs ≡ expected_of request }
+    ensures { (cwd : List ℕ) (plan : PathPlan) → IsPathPlan path_told request cwd (facts_of core.old) plan
+        → StartsFrom telling plan cwd core.old core.new result }
+{
+    ask(core, request, Telling {})
+}

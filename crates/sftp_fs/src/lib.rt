@@ -1,0 +1,22 @@
+//! Calls on paths and directories of an SFTP server, for programs, over a core.
+#![tactic(auto)]
+
+mod asks;
+mod attributes;
+mod dir_entry;
+mod directory;
+mod directory_builder;
+mod fs;
+mod laws;
+mod linking;
+mod naming;
+mod read_dir;
+mod removing;
+
+pub use dir_entry::DirEntry;
+pub use directory::{Dir, DirCall, OpeningDir};
+pub use directory_builder::DirBuilder;
+pub use fs::Fs;
+pub use laws::listings_are_planned;
+pub use naming::{Naming, PathCall};
+pub use read_dir::ReadDir;
