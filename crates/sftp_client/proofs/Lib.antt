@@ -5,3 +5,4 @@ pub mod Draining
 pub mod Taking
 pub mod Opening
 pub mod Waiting
+pub mod Listing

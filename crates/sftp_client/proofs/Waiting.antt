@@ -21,7 +21,7 @@ use Rattle.sftp_core.specs.Table.{asks_handle}
 use Rattle.sftp_file.proofs.Steps.{cancelled_keeps}
 use Rattle.sftp_file.specs.Files.{FileValue, IsMoved, file_at}
 use Rattle.sftp_client.specs.Sessions.{Flushes, FlushesUnfailed, IsKept, SendStops, SftpValue, Takes, TakesFrame, TakesUnfailed, TakesWhole, fault_by, failed_by, handed, kept_after, with_core}
-use Rattle.sftp_client.specs.Waits.{AreWaitRounds, HasFinished, HasFinishedOn, HasWaited, HasWaitedOn, MayWait, PolledIn, RoundFails, SendsAndTakes, WaitEnds, WaitStops}
+use Rattle.sftp_client.specs.Waits.{ArePollRounds, HasFinished, HasFinishedOn, HasWaited, HasWaitedOn, MayWait, PolledIn, RoundFails, SendsAndTakes, WaitEnds, WaitStops, WaitsIn}
 
 -- ---- a core over a round
 
@@ -95,13 +95,13 @@ take_stays state old new (Err e) opened (inl h) = keeps_unchanged old.core new.c
 take_stays state old new (Err e) opened (inr h) = unfailed_take state old new (Err e) opened h.1
 
 -- a round that went well, and one that went wrong
-round_stays : {L S : Type 0} (state : L → LinkView S) (old new : SftpValue L) → IsSome (info_of old.core.phase)
+pub round_stays : {L S : Type 0} (state : L → LinkView S) (old new : SftpValue L) → IsSome (info_of old.core.phase)
     → SendsAndTakes state old new → Keeps old.core new.core
 round_stays state old new opened h =
     let first = flush_stays state old h.mid (Ok tt) h.sends in
     keeps_both old.core h.mid.core new.core first (take_stays state h.mid new (Ok h.took) (first.grants.opened opened) h.takes)
 
-fail_stays : {L S : Type 0} (state : L → LinkView S) (old new : SftpValue L) (e : Error) → IsSome (info_of old.core.phase)
+pub fail_stays : {L S : Type 0} (state : L → LinkView S) (old new : SftpValue L) (e : Error) → IsSome (info_of old.core.phase)
     → RoundFails state old new e → Keeps old.core new.core
 fail_stays state old new e opened (inl h) = flush_stays state old new (Err e) h
 fail_stays state old new e opened (inr h) =
@@ -114,7 +114,7 @@ took_unfaulted : {L S : Type 0} (state : L → LinkView S) (old new : SftpValue 
 took_unfaulted state old new true h = h.1.unfaulted.cause
 took_unfaulted state old new false h = h.sends.unfaulted.cause
 
-round_unfaulted : {L S : Type 0} (state : L → LinkView S) (old new : SftpValue L) → SendsAndTakes state old new
+pub round_unfaulted : {L S : Type 0} (state : L → LinkView S) (old new : SftpValue L) → SendsAndTakes state old new
     → (state new.link).faults ≡ (state old.link).faults
 round_unfaulted state old new h = took_unfaulted state h.mid new h.took h.takes.1 ∙ h.sends.1.unfaulted.cause
 
@@ -123,7 +123,7 @@ round_unfaulted state old new h = took_unfaulted state h.mid new h.took h.takes.
 -- what holds between two rounds
 pub record WaitsOn {W M V L S : Type 0} (s : Meaning W M V) (state : L → LinkView S) (count : ℕ) (old new : SftpValue L)
     (p q : CallValue M) : Type 0 where
-  pub rounds : AreWaitRounds s state count old new p q
+  pub rounds : ArePollRounds (WaitsIn s) state count old new p q
   pub may : MayWait s new.core q
   pub grants : KeepsGrants old.core new.core
   pub unfaulted : (state new.link).faults ≡ (state old.link).faults
@@ -142,7 +142,7 @@ pub record PollLeaves {W M V L : Type 0} (s : Meaning W M V) (old new : SftpValu
   pub opened : IsSome (info_of new.core.phase)
   pub link : new.link ≡ old.link
 
-grants_both : (a b c : Core) → KeepsGrants a b → KeepsGrants b c → KeepsGrants a c
+pub grants_both : (a b c : Core) → KeepsGrants a b → KeepsGrants b c → KeepsGrants a c
 grants_both a b c x y = record { grants = λ id handle users h. y.grants id handle users (x.grants id handle users h); opened = λ h. y.opened (x.opened h) }
 
 holds_nothing : {W M V : Type 0} (s : Meaning W M V) (core : Core) (result : Poll (Result V Error))
@@ -183,7 +183,7 @@ waits_next s state count old mid polled new p m q w pending round =
     let left = poll_leaves s mid polled m q poll.Pending w.may pending in
     let stays = round_stays state polled new left.opened round in
     subst (λ (n : ℕ). WaitsOn s state n old new p q) next (record {
-      rounds = (mid, (m, (w.rounds, record { mid = polled; polled = pending; round = round })));
+      rounds = (mid, (m, (w.rounds, record { mid = polled; waits = pending; round = round })));
       may = record {
         opened = stays.grants.opened left.opened;
         under_way = still_under_way s polled.core new.core q stays (pending_on s mid polled m q pending);
@@ -192,7 +192,7 @@ waits_next s state count old mid polled new p m q w pending round =
       unfaulted = round_unfaulted state polled new round ∙ (ap (λ l. (state l).faults) left.link ∙ w.unfaulted);
     })
 
-where_ok : {V : Type 0} {P : Type 0} (result : Result V Error) → P → OnOk result P
+pub where_ok : {V : Type 0} {P : Type 0} (result : Result V Error) → P → OnOk result P
 where_ok (Ok value) h = h
 where_ok (Err e) h = tt
 
@@ -312,11 +312,11 @@ poll_moves s at keeps old new p q result (inl h) = keeps p.machine q.machine h.0
 poll_moves s at keeps old new p q result (inr h) = subst (λ x. MovesOnly (at p.machine) (at x.machine)) (sym h.1.1.1) refl
 
 rounds_move : {W M V L S : Type 0} (s : Meaning W M V) (at : M → FileAt) → KeepsFile s at → (state : L → LinkView S) (n : ℕ)
-    (old new : SftpValue L) (p q : CallValue M) → AreWaitRounds s state n old new p q → MovesOnly (at p.machine) (at q.machine)
+    (old new : SftpValue L) (p q : CallValue M) → ArePollRounds (WaitsIn s) state n old new p q → MovesOnly (at p.machine) (at q.machine)
 rounds_move s at keeps state zero old new p q h = subst (λ x. MovesOnly (at p.machine) (at x.machine)) (sym h.1) refl
 rounds_move s at keeps state (suc n) old new p q h =
     moves_both (at p.machine) (at h.1.0.machine) (at q.machine) (rounds_move s at keeps state n old h.0 p h.1.0 h.1.1.0)
-    (poll_moves s at keeps h.0 h.1.1.1.mid h.1.0 q poll.Pending h.1.1.1.polled)
+    (poll_moves s at keeps h.0 h.1.1.1.mid h.1.0 q poll.Pending h.1.1.1.waits)
 
 ends_move : {W M V L S : Type 0} (s : Meaning W M V) (at : M → FileAt) → KeepsFile s at → (state : L → LinkView S)
     (old new : SftpValue L) (p q : CallValue M) (result : Result V Error) → WaitEnds s state old new p q result

@@ -5,3 +5,4 @@ pub mod Rounds
 pub mod Waits
 pub mod Opening
 pub mod SessionRows
+pub mod Listed

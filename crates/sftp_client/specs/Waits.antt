@@ -51,19 +51,23 @@ abbrev pub PolledIn : {W M V L : Type 0} → Meaning W M V → SftpValue L → S
 PolledIn s old new p q result = (Stepped s old.core new.core p q result × (new ≡ with_core old new.core))
     ⊎ ((MAX_IDS ≤ kept_of old.core) × ((result ≡ poll.Ready (Err error.OutOfMemory)) × ((new ≡ old) × (q ≡ p))))
 
--- the call had no answer yet, and then a round went well
-pub record IsWaitRound {W M V L S : Type 0} (s : Meaning W M V) (state : L → LinkView S) (old new : SftpValue L)
-    (p q : CallValue M) : Type 0 where
+-- Something that is polled had no answer yet, and then a round went well.
+pub record IsPollRound {C L S : Type 0} (Waits : SftpValue L → SftpValue L → C → C → Type 0) (state : L → LinkView S)
+    (old new : SftpValue L) (p q : C) : Type 0 where
   pub mid : SftpValue L
-  pub polled : PolledIn s old mid p q poll.Pending
+  pub waits : Waits old mid p q
   pub round : SendsAndTakes state mid new
 
 -- so many rounds, one after another
-abbrev pub AreWaitRounds : {W M V L S : Type 0} → Meaning W M V → (L → LinkView S) → ℕ → SftpValue L → SftpValue L
-    → CallValue M → CallValue M → Type 0
-AreWaitRounds s state zero old new p q = (new ≡ old) × (q ≡ p)
-AreWaitRounds {M = M} {L = L} s state (suc n) old new p q = (mid : SftpValue L) × ((m : CallValue M)
-    × (AreWaitRounds s state n old mid p m × IsWaitRound s state mid new m q))
+abbrev pub ArePollRounds : {C L S : Type 0} → (SftpValue L → SftpValue L → C → C → Type 0) → (L → LinkView S) → ℕ
+    → SftpValue L → SftpValue L → C → C → Type 0
+ArePollRounds Waits state zero old new p q = (new ≡ old) × (q ≡ p)
+ArePollRounds {C = C} {L = L} Waits state (suc n) old new p q = (mid : SftpValue L) × ((m : C)
+    × (ArePollRounds Waits state n old mid p m × IsPollRound Waits state mid new m q))
+
+-- the call had no answer yet
+abbrev pub WaitsIn : {W M V L : Type 0} → Meaning W M V → SftpValue L → SftpValue L → CallValue M → CallValue M → Type 0
+WaitsIn s old new p q = PolledIn s old new p q poll.Pending
 
 -- how it came to its end: the call answered, or a round went wrong
 abbrev pub WaitEnds : {W M V L S : Type 0} → Meaning W M V → (L → LinkView S) → SftpValue L → SftpValue L → CallValue M
@@ -86,7 +90,7 @@ pub record HasWaited {W M V L S : Type 0} (s : Meaning W M V) (state : L → Lin
   pub count : ℕ
   pub mid : SftpValue L
   pub call : CallValue M
-  pub rounds : AreWaitRounds s state count old mid p call
+  pub rounds : ArePollRounds (WaitsIn s) state count old mid p call
   pub ends : WaitStops s state count mid new call q result
   pub held : IsHeld s new.core q
   pub holds : HoldsReady s new.core (poll.Ready result)

@@ -7,6 +7,7 @@ ghost use Rattle.sftp_core.specs.Frames.{AreFilled};
 ghost use Rattle.sftp_model.specs.Pieces.{joined};
 ghost use Rattle.sftp_client.specs.Sessions.{Flushes, FlushesUnfailed, IsWholeFrame, PullsFrame, SendsRest, Takes, TakesPulled, TakesUnfailed, TakesWhole, fault_by, kept_after, with_core};
 
+mod list;
 mod offers;
 mod open;
 mod opening;

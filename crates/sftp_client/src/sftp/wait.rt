@@ -100,7 +100,7 @@ impl<L: Link> Sftp<L> {
     }
 
     /// Sends what is queued, and takes a frame where one is awaited.
-    fn round(&mut self) -> Result<(), Error>
+    pub(super) fn round(&mut self) -> Result<(), Error>
         requires { (L.LinkState.state self.old.link).faults < 2 ^ 64 - 1 }
         ensures { RoundEnds L.LinkState.state self.old self.new result }
     {

@@ -1,0 +1,134 @@
+-- What the rounds of a session leave to a listing that is waited for.
+use Rattle.std.proofs.Common.{◌≡◌, ◌⊎◌, ◌<◌, ◌+◌, ◌-◌, ◌^◌, ℕ, suc, refl, ap, sym, ◌∙◌, subst, arith, inl, inr}
+use Rattle.std.specs.Prelude.{Option, Some, None, Result, Ok, Err, IsSome}
+use Rattle.sftp_model.specs.declared.error.Error.{Error}
+use Rattle.sftp_model.specs.declared.error.Error.TheVariants as error
+use Rattle.sftp_model.specs.declared.answers.Expected.TheVariants as expected
+use Rattle.sftp_model.specs.declared.reply.NameEntry.{NameEntry}
+use Rattle.sftp_core.specs.Core.{Core}
+use Rattle.sftp_core.specs.Info.{info_of}
+use Rattle.sftp_link.specs.Views.{LinkView}
+use Rattle.call_state.specs.Keeping.{Keeps, KeepsGrants}
+use Rattle.call_state.proofs.Keeping.{grant_kept, keeps_same}
+use Rattle.sftp_fs.specs.Listings.{Given, IsAwaiting, IsListing, ListingValue}
+use Rattle.sftp_client.specs.Listed.{AwaitsEntry, HasListed, ListedIn, MayWaitFor, given_by}
+use Rattle.sftp_client.specs.Sessions.{SftpValue, with_core}
+use Rattle.sftp_client.specs.Waits.{ArePollRounds, RoundFails, SendsAndTakes}
+use Rattle.sftp_client.proofs.Waiting.{fail_stays, grants_both, round_stays, round_unfaulted, where_ok}
+
+-- a listing stays what it is over what keeps a core
+awaits_still : (old new : Core) (asked : Option ℕ) → Keeps old new → IsAwaiting old asked → IsAwaiting new asked
+awaits_still old new None k h = tt
+awaits_still old new (Some ticket) k h = k.holds ticket expected.Names h
+
+listing_still : (old new : Core) (p : ListingValue) → Keeps old new → IsListing old p → IsListing new p
+listing_still old new p k h =
+    record { granted = grant_kept old new p.grant k.grants h.granted; awaits = awaits_still old new p.asked k h.awaits }
+
+-- what holds between two rounds
+pub record ListsOn {L S : Type 0} (state : L → LinkView S) (count : ℕ) (old new : SftpValue L) (p q : ListingValue) : Type 0 where
+  pub rounds : ArePollRounds AwaitsEntry state count old new p q
+  pub may : MayWaitFor new.core q
+  pub grants : KeepsGrants old.core new.core
+  pub unfaulted : (state new.link).faults ≡ (state old.link).faults
+
+pub lists_first : {L S : Type 0} (state : L → LinkView S) (old : SftpValue L) (p : ListingValue) → MayWaitFor old.core p
+    → ListsOn state 0 old old p p
+lists_first state old p may =
+    record { rounds = (refl, refl); may = may; grants = (keeps_same old.core).grants; unfaulted = refl }
+
+-- what a poll leaves to the listing and to the session
+pub record EntryLeaves {L : Type 0} (old new : SftpValue L) (q : ListingValue) : Type 0 where
+  pub may : MayWaitFor new.core q
+  pub grants : KeepsGrants old.core new.core
+  pub link : new.link ≡ old.link
+
+entry_leaves : {L : Type 0} (old new : SftpValue L) (p q : ListingValue) (given : Given) → MayWaitFor old.core p
+    → ListedIn old new p q given → EntryLeaves old new q
+entry_leaves old new p q given may (inl h) =
+    record {
+      may = record { opened = h.0.grants.opened may.opened; listing = h.0.listing };
+      grants = h.0.grants;
+      link = ap (λ (x : SftpValue _). x.link) h.1;
+    }
+entry_leaves old new p q given may (inr h) =
+    record {
+      may = subst (λ (x : SftpValue _). MayWaitFor x.core q) (sym h.1.1.0) (subst (λ x. MayWaitFor old.core x) (sym h.1.1.1) may);
+      grants = subst (λ (x : SftpValue _). KeepsGrants old.core x.core) (sym h.1.1.0) (keeps_same old.core).grants;
+      link = ap (λ (x : SftpValue _). x.link) h.1.1.0;
+    }
+
+-- a round
+pub lists_next : {L S : Type 0} (state : L → LinkView S) (count : ℕ) (old mid polled new : SftpValue L) (p m q : ListingValue)
+    → ListsOn state count old mid p m → AwaitsEntry mid polled m q → SendsAndTakes state polled new
+    → ListsOn state (count + 1) old new p q
+lists_next state count old mid polled new p m q w waits round =
+    let next : suc count ≡ count + 1 = omega arith in
+    let left = entry_leaves mid polled m q _ w.may waits in
+    let stays = round_stays state polled new left.may.opened round in
+    subst (λ (n : ℕ). ListsOn state n old new p q) next (record {
+      rounds = (mid, (m, (w.rounds, record { mid = polled; waits = waits; round = round })));
+      may = record {
+        opened = stays.grants.opened left.may.opened;
+        listing = listing_still polled.core new.core q stays left.may.listing;
+      };
+      grants = grants_both old.core polled.core new.core (grants_both old.core mid.core polled.core w.grants left.grants) stays.grants;
+      unfaulted = round_unfaulted state polled new round ∙ (ap (λ l. (state l).faults) left.link ∙ w.unfaulted);
+    })
+
+-- the listing gave something
+pub lists_end : {L S : Type 0} (state : L → LinkView S) (count : ℕ) (old mid new : SftpValue L) (p m q : ListingValue)
+    (result : Result (Option NameEntry) Error) → ListsOn state count old mid p m → ListedIn mid new m q (given_by result)
+    → HasListed state old new p q result
+lists_end state count old mid new p m q result w listed =
+    let left = entry_leaves mid new m q (given_by result) w.may listed in
+    record {
+      count = count;
+      mid = mid;
+      listing = m;
+      rounds = w.rounds;
+      stops = inl listed;
+      held = left.may.listing;
+      grants = grants_both old.core mid.core new.core w.grants left.grants;
+      unfaulted = where_ok result (ap (λ l. (state l).faults) left.link ∙ w.unfaulted);
+    }
+
+-- or no round was left
+pub lists_out : {L S : Type 0} (state : L → LinkView S) (count : ℕ) (old new : SftpValue L) (p q : ListingValue)
+    → ListsOn state count old new p q → count ≡ 2 ^ 64 - 1 → HasListed state old new p q (Err error.OutOfMemory)
+lists_out state count old new p q w all =
+    record {
+      count = count;
+      mid = new;
+      listing = q;
+      rounds = w.rounds;
+      stops = inr (inr (all, (refl, (refl, refl))));
+      held = w.may.listing;
+      grants = w.grants;
+      unfaulted = tt;
+    }
+
+-- or a round went wrong
+pub lists_stop : {L S : Type 0} (state : L → LinkView S) (count : ℕ) (old mid polled new : SftpValue L) (p m q : ListingValue)
+    (e : Error) → ListsOn state count old mid p m → AwaitsEntry mid polled m q → RoundFails state polled new e
+    → HasListed state old new p q (Err e)
+lists_stop state count old mid polled new p m q e w waits fails =
+    let left = entry_leaves mid polled m q _ w.may waits in
+    let stays = fail_stays state polled new e left.may.opened fails in
+    record {
+      count = count;
+      mid = mid;
+      listing = m;
+      rounds = w.rounds;
+      stops = inr (inl (polled, (e, (waits, (fails, refl)))));
+      held = listing_still polled.core new.core q stays left.may.listing;
+      grants = grants_both old.core polled.core new.core (grants_both old.core mid.core polled.core w.grants left.grants) stays.grants;
+      unfaulted = tt;
+    }
+
+pub lists_count : {L S : Type 0} (state : L → LinkView S) (count : ℕ) (old mid polled : SftpValue L) (p m q : ListingValue)
+    → (state old.link).faults < 2 ^ 64 - 1 → ListsOn state count old mid p m → AwaitsEntry mid polled m q
+    → (state polled.link).faults < 2 ^ 64 - 1
+lists_count state count old mid polled p m q few w waits =
+    let left = entry_leaves mid polled m q _ w.may waits in
+    subst (λ (n : ℕ). n < 2 ^ 64 - 1) (sym (ap (λ l. (state l).faults) left.link ∙ w.unfaulted)) few
