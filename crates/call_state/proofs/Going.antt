@@ -9,7 +9,7 @@ use Rattle.plan_model.specs.Moves.{Answers, Own, Plan}
 use Rattle.sftp_core.specs.Core.{Core, after_poll, at, reply_in}
 use Rattle.call_state.specs.declared.stage.Stage.{Stage}
 use Rattle.call_state.specs.declared.stage.Stage.TheVariants.{Ended, Ready, Asked, Came, Unsent}
-use Rattle.call_state.proofs.Keeping.{keeps_same}
+use Rattle.call_state.proofs.Keeping.{ended_idle, idle_others, keeps_same}
 use Rattle.call_state.specs.Machines.{GoesBehind, HoldsValue, IsOwn, Meaning}
 use Rattle.call_state.specs.declared.machine.Then.TheVariants as then
 use Rattle.call_state.specs.declared.asking.Asking.{Asking}
@@ -158,4 +158,5 @@ done_leaves s core q value over own h =
       over = over_ready q.stage value over own;
       holds = holds_ready s core value h;
       keeps = keeps_same core;
+      others = idle_others core core Ended q.stage (keeps_same core) (ended_idle q.stage over);
     }

@@ -1,5 +1,5 @@
 -- What the calls of a core leave to the states and files that stand on it.
-use Rattle.std.proofs.Common.{◌≡◌, ◌≢◌, ℕ, ◌<◌, true, false, refl, sym, ap, ◌∙◌, Option, Some, None, Result, Ok, IsTrue, IsSome, ◌⊎◌, inl, inr, subst, List}
+use Rattle.std.proofs.Common.{◌≡◌, ◌≢◌, ℕ, ◌<◌, true, false, refl, sym, ap, ◌∙◌, Option, Some, None, Result, Ok, IsTrue, IsSome, ◌⊎◌, inl, inr, subst, arith, List}
 use Rattle.std.proofs.lemmas.Bool.{cases_eq}
 use Rattle.std.specs.Option.{option_map}
 use Rattle.sftp_model.specs.Answers.{expected_of}
@@ -51,9 +51,11 @@ use Rattle.call_state.specs.declared.asking.Asking.{Asking}
 use Rattle.call_state.specs.declared.asking.Asking.TheVariants.{Whole, Parts}
 use Rattle.call_state.specs.declared.stage.Stage.{Stage}
 use Rattle.call_state.specs.declared.stage.Stage.TheVariants.{Ended, Ready, Unsent, Asked, Came}
+use Rattle.call_state.specs.declared.told.Told.{Told}
 use Rattle.call_state.specs.declared.told.Told.TheVariants as told
+use Rattle.call_state.specs.Told.{IsCounted}
 use Rattle.call_state.specs.Asked.{Holds, Submitted, queued_by, request_of}
-use Rattle.call_state.specs.Calls.{Cancels, IsGrantOf, IsHeld, IsHeldAt, IsUnderWay, cancelled, CallValue}
+use Rattle.call_state.specs.Calls.{Cancels, IsGrantOf, IsHeld, IsHeldAt, IsNotOf, IsUnderWay, KeepsOthers, cancelled, is_ended, CallValue}
 use Rattle.call_state.specs.Machines.{Meaning}
 use Rattle.call_state.specs.Keeping.{IsDropped, Keeps, KeepsGrants, StaysOpen}
 
@@ -344,13 +346,6 @@ cancelled_grants core Ended counted id handle users own here = here
 cancelled_grants core Ready counted id handle users own here = here
 cancelled_grants core (Unsent asking) counted id handle users own here = here
 
--- a cancel leaves every grant but the one that came
-pub cancels_by : (old new : Core) (stage : Stage) → ((ticket : ℕ) → stage ≡ Asked ticket → IsTrue (is_ticket (at old ticket)))
-    → new ≡ cancelled old stage → Cancels old new stage
-cancels_by old new stage counted is =
-    record { core = is; grants = λ id handle users own here. ap (λ (x : Core). at x id) is ∙ cancelled_grants old stage counted id handle users own here;
-      opened = subst (λ (x : Core). StaysOpen old x) (sym is) (cancelled_opened old stage) }
-
 -- ---- what a user of a core keeps
 
 -- what is kept under its number tells whether a grant is counted
@@ -362,6 +357,72 @@ pub grant_kept : (old new : Core) (grant : GrantValue) → KeepsGrants old new �
 grant_kept old new grant k h =
     let here : at new grant.id ≡ Some (Granted grant.handle (users_of (at old grant.id))) = k.grants grant.id grant.handle _ h.kept in
     grant_at new grant (users_of (at old grant.id)) here h.used
+
+-- what others await stands elsewhere
+ticket_elsewhere : (core : Core) (ticket : ℕ) (kind : Expected) → Holds core ticket kind → at core ticket ≡ None → ⊥
+ticket_elsewhere core ticket kind h none = let gone = subst (λ (p : Option Place). IsTrue (is_ticket p)) none h.counted in cc
+
+ticket_no_grant : (core : Core) (grant : GrantValue) (ticket : ℕ) (kind : Expected) → IsGrant core grant → Holds core ticket kind
+    → ticket ≢ grant.id
+ticket_no_grant core grant ticket kind g h same = ticket_apart core ticket grant.id grant.handle (users_of (at core grant.id)) h.counted g.kept (sym same)
+
+-- what others await stays so as a call is given up
+cancelled_others : (core : Core) (stage : Stage) (other : ℕ) (kind : Expected) → ((t : Told) → stage ≡ Came t → IsCounted core t)
+    → IsNotOf stage other → Holds core other kind → Holds (cancelled core stage) other kind
+cancelled_others core (Asked ticket) other kind counted apart h = cancelled_on core ticket other kind (λ same. apart (ap Asked (sym same))) h
+cancelled_others core (Came (told.Granted g)) other kind counted apart h =
+    let grant = grant_at core g 1 (counted (told.Granted g) refl) (omega arith) in
+    cancelled_on (released core g) g.id other kind (ticket_no_grant core g other kind grant h) (released_holds core g other kind grant h)
+cancelled_others core (Came (told.Reply r)) other kind counted apart h = h
+cancelled_others core Ended other kind counted apart h = h
+cancelled_others core Ready other kind counted apart h = h
+cancelled_others core (Unsent asking) other kind counted apart h = h
+
+asked_number : Stage → ℕ
+asked_number (Asked n) = n
+asked_number other = 0
+
+asked_same : (a b : ℕ) → Asked a ≡ Asked b → a ≡ b
+unfolding asked_number
+asked_same a b e = ap asked_number e
+
+-- what was submitted is none of others
+pub submitted_others : (old new : Core) (asking : Asking) (ticket : ℕ) (before after : Stage) → Submitted old asking ticket new
+    → after ≡ Asked ticket → KeepsOthers old new before after
+submitted_others old new asking ticket before after h is other kind apart held =
+    ((submitted_keeps old new asking ticket h).holds other kind held, λ same.
+    ticket_elsewhere old other kind held (subst (λ (q : ℕ). at old q ≡ None) (asked_same ticket other (sym is ∙ same)) h.free))
+
+-- a call that awaits nothing keeps others apart
+pub idle_others : (old new : Core) (before after : Stage) → Keeps old new → ((ticket : ℕ) → IsNotOf after ticket) → KeepsOthers old new before after
+idle_others old new before after k idle other kind apart held = (k.holds other kind held, idle other)
+
+pub ended_idle : (stage : Stage) → is_ended stage ≡ true → (ticket : ℕ) → IsNotOf stage ticket
+ended_idle Ended over ticket same = cc
+ended_idle Ready over ticket same = cc
+ended_idle (Unsent asking) over ticket same = cc
+ended_idle (Asked other) over ticket same = cc
+ended_idle (Came t) over ticket same = cc
+
+-- a poll of a ticket, and then what keeps others apart
+pub polled_others : (old mid new : Core) (ticket : ℕ) (before after : Stage) → before ≡ Asked ticket → mid ≡ after_poll old ticket
+    → KeepsOthers mid new Ended after → KeepsOthers old new before after
+polled_others old mid new ticket before after is core k other kind apart held =
+    let elsewhere : other ≢ ticket = λ same. apart (is ∙ ap Asked (sym same)) in
+    let here : Holds mid other kind = subst (λ (x : Core). Holds x other kind) (sym core) (polled_on old ticket other kind elsewhere held) in
+    k other kind (λ same. cc) here
+
+-- a cancel leaves every grant but the one that came
+pub cancels_by : (old new : Core) (stage : Stage) → ((ticket : ℕ) → stage ≡ Asked ticket → IsTrue (is_ticket (at old ticket)))
+    → ((t : Told) → stage ≡ Came t → IsCounted old t) → new ≡ cancelled old stage → Cancels old new stage
+cancels_by old new stage asked counted is =
+    record {
+      core = is;
+      grants = λ id handle users own here. ap (λ (x : Core). at x id) is ∙ cancelled_grants old stage asked id handle users own here;
+      opened = subst (λ (x : Core). StaysOpen old x) (sym is) (cancelled_opened old stage);
+      others = λ ticket kind apart h. subst (λ (x : Core). Holds x ticket kind) (sym is)
+          (cancelled_others old stage ticket kind counted apart h);
+    }
 
 held_still : {W M V : Type 0} (s : Meaning W M V) (old new : Core) (m : M) (stage : Stage) → Keeps old new → IsHeldAt s old m stage → IsHeldAt s new m stage
 held_still s old new m (Asked ticket) k h = k.holds ticket (s.expected m) h

@@ -1,6 +1,7 @@
 -- The state of a call under way, whatever the call, and what a start and a poll make of it by the call's plan.
 use Rattle.std.specs.Prelude.{◌≡◌, ◌⊎◌, ℕ, Bool, true, false, List, [], Option, Some, None, Result, Ok, Err}
 use Rattle.sftp_model.specs.Answers.{allows}
+use Rattle.sftp_model.specs.declared.answers.Expected.{Expected}
 use Rattle.sftp_model.specs.declared.error.Error.{Error}
 use Rattle.sftp_model.specs.declared.error.Error.TheVariants as error
 use Rattle.sftp_model.specs.declared.slot.Move.{Move}
@@ -179,6 +180,15 @@ IsOver stage poll.Pending = is_ended stage ≡ false
 IsOver stage (poll.Ready (Err error.OutOfMemory)) = is_ended stage ≡ false
 IsOver stage (poll.Ready value) = is_ended stage ≡ true
 
+-- the call doesn't await the reply to this ticket
+abbrev pub IsNotOf : Stage → ℕ → Type 0
+IsNotOf stage ticket = stage ≡ Asked ticket → ⊥
+
+-- each ticket that others hold stays so, and is none of the call's
+abbrev pub KeepsOthers : Core → Core → Stage → Stage → Type 0
+KeepsOthers old new before after = (ticket : ℕ) (kind : Expected) → IsNotOf before ticket → Holds old ticket kind
+    → Holds new ticket kind × IsNotOf after ticket
+
 -- what going on with a machine leaves, whatever the plan
 pub record Leaves {W M V : Type 0} (s : Meaning W M V) (old new : Core) (q : CallValue M)
     (result : Poll (Result V Error)) : Type 0 where
@@ -186,10 +196,11 @@ pub record Leaves {W M V : Type 0} (s : Meaning W M V) (old new : Core) (q : Cal
   pub over : IsOver q.stage result
   pub holds : HoldsReady s new result
   pub keeps : Keeps old new
+  pub others : KeepsOthers old new Ended q.stage
 
 -- A poll did the next move of each plan that the call is what is left of, whatever its replies to come. The call may be
 -- polled on or given up, its machine stays what it was, the core holds what belongs to the value, every grant stays,
--- and the session open.
+-- what others await, and the session open.
 pub record Stepped {W M V : Type 0} (s : Meaning W M V) (old new : Core) (p q : CallValue M)
     (result : Poll (Result V Error)) : Type 0 where
   pub polled : (w : W) (plan : Plan) (answers : Answers) → IsLeft s w plan answers p → Tells s old p answers
@@ -198,6 +209,7 @@ pub record Stepped {W M V : Type 0} (s : Meaning W M V) (old new : Core) (p q : 
   pub over : IsOver q.stage result
   pub holds : HoldsReady s new result
   pub grants : KeepsGrants old new
+  pub others : KeepsOthers old new p.stage q.stage
   pub stays : s.stays p.machine q.machine
 
 -- ---- a cancel
@@ -218,9 +230,10 @@ abbrev pub IsGrantOf : Stage → ℕ → Type 0
 IsGrantOf (Came (told.Granted g)) id = g.id ≡ id
 IsGrantOf other id = ⊥
 
--- what a cancel did; every other grant stays, and the session open
+-- what a cancel did; every other grant stays, what others await, and the session open
 pub record Cancels (old new : Core) (stage : Stage) : Type 0 where
   pub core : new ≡ cancelled old stage
   pub grants : (id : ℕ) (handle : List ℕ) (users : ℕ) → (IsGrantOf stage id → ⊥)
       → at old id ≡ Some (Granted handle users) → at new id ≡ Some (Granted handle users)
   pub opened : StaysOpen old new
+  pub others : (ticket : ℕ) (kind : Expected) → IsNotOf stage ticket → Holds old ticket kind → Holds new ticket kind

@@ -1,8 +1,8 @@
 use Rattle.std.proofs.Common.{◌≡◌, ap, ◌∙◌, refl}
-use Rattle.call_state.specs.declared.stage.Stage.TheVariants.{Asked}
+use Rattle.call_state.specs.declared.stage.Stage.TheVariants.{Asked, Ended}
 use Rattle.call_state.specs.Calls.{CallValue}
 use Rattle.call_state.proofs.Going.{sent_by}
-use Rattle.call_state.proofs.Keeping.{submitted_holds, submitted_keeps}
+use Rattle.call_state.proofs.Keeping.{submitted_holds, submitted_keeps, submitted_others}
 use Rattle.call_state.proofs.call.Call.send.Goals as goal
 
 pub returns-in-Ok-clause-went : goal.returns-in-Ok-clause-went
@@ -19,4 +19,5 @@ returns-in-Ok-clause-leaves g c =
       over = rw stands refl;
       holds = tt;
       keeps = submitted_keeps c.args.core.now c.submit.new.core c.args.asking c.in-Ok.ticket c.in-Ok.ensures.ok;
+      others = submitted_others c.args.core.now c.submit.new.core c.args.asking c.in-Ok.ticket Ended c.put.new.self c.in-Ok.ensures.ok stands;
     }

@@ -1,11 +1,11 @@
 use Rattle.std.proofs.Common.{rules, ◌≡◌, ap, sym, ◌∙◌, subst, IsTrue}
 use Rattle.sftp_core.specs.Core.{at, is_ticket}
-use Rattle.call_state.specs.declared.stage.Stage.TheVariants.{Asked, Came, Unsent}
+use Rattle.call_state.specs.declared.stage.Stage.TheVariants.{Asked, Came, Ended, Unsent}
 use Rattle.call_state.specs.Machines.{GoesBehind}
 use Rattle.call_state.specs.Calls.{CallValue, Went}
 use Rattle.call_state.specs.Told.{reply_of}
 use Rattle.call_state.proofs.Going.{GoesOn, asked_polled, came_polled, unsent_polled}
-use Rattle.call_state.proofs.Keeping.{grants_polled, keeps_same}
+use Rattle.call_state.proofs.Keeping.{ended_idle, grants_polled, idle_others, keeps_same, polled_others}
 use Rattle.call_state.proofs.call.Call.step.Goals as goal
 
 pub returns-in-Unsent : goal.returns-in-Unsent
@@ -23,6 +23,7 @@ returns-in-Unsent g c =
       over = c.send.ensures.leaves.over;
       holds = c.send.ensures.leaves.holds;
       grants = c.send.ensures.leaves.keeps.grants;
+      others = λ ticket kind apart h. c.send.ensures.leaves.others ticket kind (λ same. cc) h;
       stays = search rules;
     }
 
@@ -43,6 +44,7 @@ returns-in-Came g c =
       over = c.go_on.ensures.leaves.over;
       holds = c.go_on.ensures.leaves.holds;
       grants = c.go_on.ensures.leaves.keeps.grants;
+      others = λ ticket kind apart h. c.go_on.ensures.leaves.others ticket kind (λ same. cc) h;
       stays = search rules;
     }
 
@@ -67,11 +69,15 @@ returns-in-Ok g c =
       holds = c.go_on-in-Ok.ensures.leaves.holds;
       grants = grants_polled c.args.core.now c.take_told.new.core c.go_on-in-Ok.new.core c.in-Asked.ticket counted
           c.take_told.ensures.core c.go_on-in-Ok.ensures.leaves.keeps;
+      others = polled_others c.args.core.now c.take_told.new.core c.go_on-in-Ok.new.core c.in-Asked.ticket c.args.self.now.stage
+          c.go_on-in-Ok.new.self.stage is c.take_told.ensures.core c.go_on-in-Ok.ensures.leaves.others;
       stays = search rules;
     }
 
 pub returns-in-Err-Failed : goal.returns-in-Err-Failed
 returns-in-Err-Failed g c =
+    let is : c.args.self.now.stage ≡ Asked c.in-Asked.ticket =
+    ap (λ (x : CallValue g.row.M.Denot). x.stage) (sym c.self.view_is) ∙ (sym c.take.ensures.was ∙ c.in-Asked.is) in
     let counted : IsTrue (is_ticket (at c.args.core.now c.in-Asked.ticket)) = search rules in
     record {
       polled = search rules;
@@ -80,5 +86,7 @@ returns-in-Err-Failed g c =
       holds = search rules;
       grants = grants_polled c.args.core.now c.take_told.new.core c.take_told.new.core c.in-Asked.ticket counted
           c.take_told.ensures.core (keeps_same c.take_told.new.core);
+      others = polled_others c.args.core.now c.take_told.new.core c.take_told.new.core c.in-Asked.ticket c.args.self.now.stage _ is
+          c.take_told.ensures.core (idle_others c.take_told.new.core c.take_told.new.core Ended _ (keeps_same c.take_told.new.core) (ended_idle _ (search rules)));
       stays = search rules;
     }

@@ -10,7 +10,7 @@ close-requires c =
     c.requires.counted (told.Granted c.in-Came-Granted.grant) is
 
 pub returns-in-Asked : goal.returns-in-Asked
-returns-in-Asked c = cancels_by c.args.core.now c.abandon.new.self c.args.self c.requires.ticket (search rules)
+returns-in-Asked c = cancels_by c.args.core.now c.abandon.new.self c.args.self c.requires.ticket c.requires.counted (search rules)
 
 pub returns-in-Came-Granted : goal.returns-in-Came-Granted
-returns-in-Came-Granted c = cancels_by c.args.core.now c.close.new.core c.args.self c.requires.ticket (search rules)
+returns-in-Came-Granted c = cancels_by c.args.core.now c.close.new.core c.args.self c.requires.ticket c.requires.counted (search rules)
