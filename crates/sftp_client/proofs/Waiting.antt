@@ -8,7 +8,7 @@ use Rattle.sftp_model.specs.declared.error.Fault.{Fault}
 use Rattle.sftp_core.specs.Core.{Core, failed_with, handed_out}
 use Rattle.sftp_core.specs.Info.{info_of}
 use Rattle.sftp_link.specs.Views.{LinkView}
-use Rattle.call_state.specs.Calls.{CallValue, Cancels, HoldsReady, IsHeld, IsUnderWay, cancelled, is_ended}
+use Rattle.call_state.specs.Calls.{CallValue, Cancels, HoldsReady, IsHeld, IsUnderWay, KeepsOthers, Stepped, cancelled, is_ended}
 use Rattle.call_state.specs.Keeping.{Keeps, KeepsGrants}
 use Rattle.call_state.specs.Machines.{Meaning}
 use Rattle.call_state.specs.declared.poll.Poll.{Poll}
@@ -126,19 +126,21 @@ pub record WaitsOn {W M V L S : Type 0} (s : Meaning W M V) (state : L → LinkV
   pub rounds : ArePollRounds (WaitsIn s) state count old new p q
   pub may : MayWait s new.core q
   pub grants : KeepsGrants old.core new.core
+  pub others : KeepsOthers old.core new.core p.stage q.stage
   pub unfaulted : (state new.link).faults ≡ (state old.link).faults
 
 pub waits_first : {W M V L S : Type 0} (s : Meaning W M V) (state : L → LinkView S) (old : SftpValue L) (p : CallValue M)
     → MayWait s old.core p → WaitsOn s state 0 old old p p
 waits_first s state old p may =
-    record { rounds = (refl, refl); may = may; grants = (keeps_same old.core).grants; unfaulted = refl }
+    record { rounds = (refl, refl); may = may; grants = (keeps_same old.core).grants; others = λ ticket kind apart h. (h, apart); unfaulted = refl }
 
 -- what a poll leaves to the call and to the session
-pub record PollLeaves {W M V L : Type 0} (s : Meaning W M V) (old new : SftpValue L) (q : CallValue M)
+pub record PollLeaves {W M V L : Type 0} (s : Meaning W M V) (old new : SftpValue L) (p q : CallValue M)
     (result : Poll (Result V Error)) : Type 0 where
   pub held : IsHeld s new.core q
   pub holds : HoldsReady s new.core result
   pub grants : KeepsGrants old.core new.core
+  pub others : KeepsOthers old.core new.core p.stage q.stage
   pub opened : IsSome (info_of new.core.phase)
   pub link : new.link ≡ old.link
 
@@ -150,12 +152,13 @@ holds_nothing : {W M V : Type 0} (s : Meaning W M V) (core : Core) (result : Pol
 holds_nothing s core result is = subst (λ r. HoldsReady s core r) (sym is) tt
 
 poll_leaves : {W M V L : Type 0} (s : Meaning W M V) (old new : SftpValue L) (p q : CallValue M)
-    (result : Poll (Result V Error)) → MayWait s old.core p → PolledIn s old new p q result → PollLeaves s old new q result
+    (result : Poll (Result V Error)) → MayWait s old.core p → PolledIn s old new p q result → PollLeaves s old new p q result
 poll_leaves s old new p q result may (inl h) =
     record {
       held = h.0.held;
       holds = h.0.holds;
       grants = h.0.grants;
+      others = h.0.others;
       opened = h.0.grants.opened may.opened;
       link = ap (λ (x : SftpValue _). x.link) h.1;
     }
@@ -164,6 +167,8 @@ poll_leaves s old new p q result may (inr h) =
       held = subst (λ (x : SftpValue _). IsHeld s x.core q) (sym h.1.1.0) (subst (λ x. IsHeld s old.core x) (sym h.1.1.1) may.under_way.held);
       holds = holds_nothing s new.core result h.1.0;
       grants = subst (λ (x : SftpValue _). KeepsGrants old.core x.core) (sym h.1.1.0) (keeps_same old.core).grants;
+      others = subst (λ (x : SftpValue _). KeepsOthers old.core x.core p.stage q.stage) (sym h.1.1.0)
+          (subst (λ x. KeepsOthers old.core old.core p.stage x.stage) (sym h.1.1.1) (λ ticket kind apart here. (here, apart)));
       opened = subst (λ (x : SftpValue _). IsSome (info_of x.core.phase)) (sym h.1.1.0) may.opened;
       link = ap (λ (x : SftpValue _). x.link) h.1.1.0;
     }
@@ -173,6 +178,14 @@ pending_on : {W M V L : Type 0} (s : Meaning W M V) (old new : SftpValue L) (p q
     → PolledIn s old new p q poll.Pending → IsUnderWay s new.core q
 pending_on s old new p q (inl h) = record { over = h.0.over; held = h.0.held }
 pending_on s old new p q (inr h) = absurd cc
+
+others_both : (a b c : Core) (x y z : Stage) → KeepsOthers a b x y → KeepsOthers b c y z → KeepsOthers a c x z
+others_both a b c x y z first last ticket kind apart h =
+    let mid = first ticket kind apart h in last ticket kind mid.1 mid.0
+
+others_kept : (a b c : Core) (x y : Stage) → KeepsOthers a b x y → Keeps b c → KeepsOthers a c x y
+others_kept a b c x y first k ticket kind apart h =
+    let mid = first ticket kind apart h in (k.holds ticket kind mid.0, mid.1)
 
 -- a round
 pub waits_next : {W M V L S : Type 0} (s : Meaning W M V) (state : L → LinkView S) (count : ℕ) (old mid polled new : SftpValue L)
@@ -189,6 +202,8 @@ waits_next s state count old mid polled new p m q w pending round =
         under_way = still_under_way s polled.core new.core q stays (pending_on s mid polled m q pending);
       };
       grants = grants_both old.core polled.core new.core (grants_both old.core mid.core polled.core w.grants left.grants) stays.grants;
+      others = others_kept old.core polled.core new.core p.stage q.stage
+          (others_both old.core mid.core polled.core p.stage m.stage q.stage w.others left.others) stays;
       unfaulted = round_unfaulted state polled new round ∙ (ap (λ l. (state l).faults) left.link ∙ w.unfaulted);
     })
 
@@ -211,6 +226,7 @@ waits_end s state count old mid new p m q result w polled =
       held = left.held;
       holds = left.holds;
       grants = grants_both old.core mid.core new.core w.grants left.grants;
+      others = others_both old.core mid.core new.core p.stage m.stage q.stage w.others left.others;
       unfaulted = where_ok result (ap (λ l. (state l).faults) left.link ∙ w.unfaulted);
     }
 
@@ -228,6 +244,7 @@ waits_out s state count old new p q w all =
       held = w.may.under_way.held;
       holds = tt;
       grants = w.grants;
+      others = w.others;
       unfaulted = tt;
     }
 
@@ -248,6 +265,8 @@ waits_stop s state count old mid polled new p m q e w pending fails =
       held = on.held;
       holds = tt;
       grants = grants_both old.core polled.core new.core (grants_both old.core mid.core polled.core w.grants left.grants) stays.grants;
+      others = others_kept old.core polled.core new.core p.stage q.stage
+          (others_both old.core mid.core polled.core p.stage m.stage q.stage w.others left.others) stays;
       unfaulted = tt;
     }
 
@@ -291,7 +310,16 @@ pub finished : {W M V L S : Type 0} (s : Meaning W M V) (state : L → LinkView 
 finished s state old mid inside new p last result w same cancels left =
     let waited = subst (λ (x : SftpValue _). HasWaited s state old x p last result) (sym same) w in
     let up = given_up s state old inside new.core p last result waited cancels in
-    record { mid = inside; last = last; waited = waited; given_up = cancels; left = left; holds = up.0; grants = up.1 }
+    record {
+      mid = inside;
+      last = last;
+      waited = waited;
+      given_up = cancels;
+      left = left;
+      holds = up.0;
+      grants = up.1;
+      others = λ ticket kind apart h. let on = waited.others ticket kind apart h in cancels.others ticket kind on.1 on.0;
+    }
 
 -- ---- a call that moves a file
 
@@ -354,7 +382,16 @@ finished_on s at state old mid inside new p last before after result w same canc
     let waited = subst (λ (x : SftpValue _). HasWaited s state old x p last result) (sym same) w.waited in
     let up = given_up s state old inside new.core p last result waited cancels in
     record {
-      finished = record { mid = inside; last = last; waited = waited; given_up = cancels; left = left; holds = up.0; grants = up.1 };
+      finished = record {
+        mid = inside;
+        last = last;
+        waited = waited;
+        given_up = cancels;
+        left = left;
+        holds = up.0;
+        grants = up.1;
+        others = λ ticket kind apart h. let on = waited.others ticket kind apart h in cancels.others ticket kind on.1 on.0;
+      };
       moved = w.moved;
     }
 

@@ -1,13 +1,14 @@
 -- Calls that are run to their end over a session's link.
 use Rattle.std.specs.Prelude.{◌≡◌, ◌⊎◌, ◌≤◌, ◌-◌, ◌^◌, ℕ, zero, suc, Bool, Result, Ok, Err, IsSome, OnOk}
+use Rattle.sftp_model.specs.declared.answers.Expected.{Expected}
 use Rattle.sftp_model.specs.declared.error.Error.{Error}
 use Rattle.sftp_model.specs.declared.error.Error.TheVariants as error
 use Rattle.sftp_model.specs.declared.slot.FileAt.{FileAt}
 use Rattle.sftp_core.specs.Core.{Core, kept_of}
 use Rattle.sftp_core.specs.Info.{MAX_IDS, info_of}
 use Rattle.sftp_link.specs.Views.{LinkView}
-use Rattle.call_state.specs.Asked.{IsReady}
-use Rattle.call_state.specs.Calls.{CallValue, Cancels, HoldsReady, IsHeld, IsUnderWay, Stepped}
+use Rattle.call_state.specs.Asked.{Holds, IsReady}
+use Rattle.call_state.specs.Calls.{CallValue, Cancels, HoldsReady, IsHeld, IsNotOf, IsUnderWay, KeepsOthers, Stepped}
 use Rattle.call_state.specs.Keeping.{KeepsGrants}
 use Rattle.call_state.specs.Machines.{Meaning}
 use Rattle.call_state.specs.declared.poll.Poll.{Poll}
@@ -83,8 +84,8 @@ WaitStops s state count old new p q result = WaitEnds s state old new p q result
     ⊎ ((count ≡ 2 ^ 64 - 1) × ((result ≡ Err error.OutOfMemory) × ((new ≡ old) × (q ≡ p))))
 
 -- A call was polled, and round after round what was queued was sent and a frame taken, until it answered or a round
--- went wrong. It may be run on or given up then; the core holds what belongs to its value, each grant stays, and the
--- session open. The link did not fail where the call gave a value.
+-- went wrong. It may be run on or given up then; the core holds what belongs to its value, each grant stays, what others
+-- await, and the session open. The link did not fail where the call gave a value.
 pub record HasWaited {W M V L S : Type 0} (s : Meaning W M V) (state : L → LinkView S) (old new : SftpValue L)
     (p q : CallValue M) (result : Result V Error) : Type 0 where
   pub count : ℕ
@@ -95,10 +96,11 @@ pub record HasWaited {W M V L S : Type 0} (s : Meaning W M V) (state : L → Lin
   pub held : IsHeld s new.core q
   pub holds : HoldsReady s new.core (poll.Ready result)
   pub grants : KeepsGrants old.core new.core
+  pub others : KeepsOthers old.core new.core p.stage q.stage
   pub unfaulted : OnOk result ((state new.link).faults ≡ (state old.link).faults)
 
 -- A call was run to its end and given up there, so that nothing is left of it. Where it gave a value the core holds
--- what belongs to that, and each grant stays; else each grant but one that came for this call.
+-- what belongs to that, and each grant stays; else each grant but one that came for this call. What others await stays.
 pub record HasFinished {W M V L S : Type 0} (s : Meaning W M V) (state : L → LinkView S) (old new : SftpValue L)
     (p : CallValue M) (result : Result V Error) : Type 0 where
   pub mid : SftpValue L
@@ -108,6 +110,8 @@ pub record HasFinished {W M V L S : Type 0} (s : Meaning W M V) (state : L → L
   pub left : new ≡ with_core mid new.core
   pub holds : HoldsReady s new.core (poll.Ready result)
   pub grants : OnOk result (KeepsGrants old.core new.core)
+  pub others : (ticket : ℕ) (kind : Expected) → IsNotOf p.stage ticket → Holds old.core ticket kind
+      → Holds new.core ticket kind
 
 -- ---- a call that moves a file
 

@@ -1,5 +1,5 @@
 // What a session offers: options to open files by, extensions, and lengths.
-ghost use Rattle.std.specs.Prelude.{◌≡◌, Some, IsSome};
+ghost use Rattle.std.specs.Prelude.{◌≡◌, [], Some, IsSome};
 ghost use Rattle.plan_model.specs.Moves.{offers};
 ghost use Rattle.sftp_core.specs.Info.{info_of};
 ghost use Rattle.sftp_file.specs.Files.{facts_of};
@@ -10,8 +10,9 @@ ghost use Rattle.sftp_model.specs.OpenOptions.{nothing_chosen};
 use super::Sftp;
 use bitflags::Flags;
 use sftp_core::{Info, MAX_IDS};
+use sftp_fs::Fs;
 use sftp_link::Link;
-use sftp_model::{Error, Extensions, OpenOptions};
+use sftp_model::{Error, Extensions, OpenOptions, RemotePath};
 
 impl<L: Link> Sftp<L> {
     /// Options of which nothing is chosen, to open a file by.
@@ -19,6 +20,13 @@ impl<L: Link> Sftp<L> {
         ensures { result ≡ nothing_chosen }
     {
         OpenOptions::new()
+    }
+
+    /// The calls on paths from where the session began. Takes no memory.
+    pub fn fs(&self) -> Fs
+        ensures { result ≡ [] }
+    {
+        Fs::new(RemotePath::new(Vec::new(self.alloc)))
     }
 
     /// Whether the server finds the whole name of a path that begins with `~` (`expand-path@openssh.com`, OpenSSH's
