@@ -78,7 +78,7 @@ fn read_to_end<L: Link>(
 }
 
 /// Puts bytes behind others.
-fn append(bytes: &mut Vec<u8>, part: &[u8]) -> Result<(), Error>
+pub(crate) fn append(bytes: &mut Vec<u8>, part: &[u8]) -> Result<(), Error>
     ensures { OnOk result (bytes.new.items ≡ bytes.old.items ++ part.now) }
 {
     match bytes.extend_from_slice(part) {

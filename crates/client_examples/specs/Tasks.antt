@@ -1,0 +1,21 @@
+-- What an example does over a session, by its word.
+use Rattle.std.specs.Prelude.{◌≡◌, ℕ, List, [], ◌∷◌, ◌++◌, flat_map}
+use Rattle.sftp_model.specs.declared.reply.NameEntry.{NameEntry}
+use Rattle.sftp_link.specs.Views.{LinkView}
+use Rattle.sftp_client.specs.Sessions.{SftpValue}
+use Rattle.client_examples.specs.declared.tasks.Task.{Task}
+use Rattle.client_examples.specs.declared.tasks.Task.TheVariants.{Put, Get, ListDir}
+use Rattle.client_examples.specs.Directories.{IsListOf}
+use Rattle.client_examples.specs.Files.{IsGot, IsPut}
+
+-- the name of an entry, and a line feed
+abbrev pub line_of : NameEntry → List ℕ
+line_of entry = entry.filename ++ 10 ∷ []
+
+-- what is printed: nothing of a file that was written, the bytes of one that was read, a line for each entry
+abbrev pub IsDone : {L S : Type 0} → Task → List ℕ → List ℕ → (L → LinkView S) → SftpValue L → SftpValue L → List ℕ
+    → Type 0
+IsDone Put path content state old new printed = IsPut path content state old new × (printed ≡ [])
+IsDone Get path content state old new printed = IsGot path state old new printed
+IsDone ListDir path content state old new printed = (entries : List NameEntry) × (IsListOf path state old new entries
+    × (printed ≡ flat_map line_of entries))
