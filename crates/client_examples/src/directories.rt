@@ -9,11 +9,7 @@ use sftp_client::{Dir, DirEntry, Error, Link, ReadDir, Sftp};
 use std::alloc::Global;
 
 /// The entries of a directory, in the server's order. After an error the directory is closed, and what came is gone.
-pub fn list<L: Link>(
-    alloc: Global,
-    sftp: &mut Sftp<L>,
-    path: &[u8],
-) -> Result<Vec<DirEntry>, Error>
+pub fn list<L: Link>(alloc: Global, sftp: &mut Sftp<L>, path: &[u8]) -> Result<Vec<DirEntry>, Error>
     requires { IsUsable L.LinkState.state sftp.old }
     ensures { IfOk result (λ entries. IsListOf path.now L.LinkState.state sftp.old sftp.new entries.items) }
 {

@@ -1,0 +1,59 @@
+#!/bin/sh
+# Runs the examples over OpenSSH's SFTP server: files of several sizes put and got and compared, a directory listed, and a
+# file that isn't there. It installs nothing: where the server or socat is missing it says which, and passes. Another program
+# than the one that `rt ci` built may be given as an argument.
+set -u
+cd "$(dirname "$0")/.." || exit 1
+
+program=${1:-$PWD/crates/client_examples/out/client_examples}
+server=/usr/lib/openssh/sftp-server
+
+missing=
+[ -x "$server" ] || missing="$missing openssh-sftp-server ($server)"
+command -v socat >/dev/null || missing="$missing socat"
+if [ -n "$missing" ]; then
+    echo "examples: skipped, missing:$missing"
+    exit 0
+fi
+if ! [ -x "$program" ]; then
+    echo "examples: $program is missing: run 'rt ci' first, or 'rt run' in crates/client_examples"
+    exit 1
+fi
+
+room=$(mktemp -d) || exit 1
+socat "UNIX-LISTEN:$room/socket,fork" "EXEC:$server" 2>/dev/null &
+listener=$!
+trap 'kill $listener 2>/dev/null; rm -rf "$room"' EXIT
+tries=0
+while ! [ -S "$room/socket" ] && [ $tries -lt 100 ]; do
+    sleep 0.1
+    tries=$((tries + 1))
+done
+failed=0
+
+# says what failed
+fail() {
+    echo "examples: $1"
+    failed=$((failed + 1))
+}
+
+mkdir "$room/files"
+for size in 0 1 32768 32769 1000000; do
+    head -c $size /dev/urandom >"$room/from"
+    timeout 60 "$program" put "$room/socket" "$room/files/$size" <"$room/from" || fail "put of $size bytes"
+    cmp -s "$room/from" "$room/files/$size" || fail "what was put of $size bytes differs"
+    timeout 60 "$program" get "$room/socket" "$room/files/$size" >"$room/to" || fail "get of $size bytes"
+    cmp -s "$room/from" "$room/to" || fail "what was got of $size bytes differs"
+done
+
+timeout 60 "$program" list "$room/socket" "$room/files" | sort >"$room/names" || fail "list"
+printf '%s\n' . .. 0 1 1000000 32768 32769 | sort | cmp -s - "$room/names" || fail "the names that were listed differ"
+
+if timeout 60 "$program" get "$room/socket" "$room/none" >"$room/to" 2>"$room/why"; then
+    fail "a file that isn't there was got"
+fi
+[ -s "$room/why" ] || fail "no reason was told"
+[ -s "$room/to" ] && fail "something was printed of a file that isn't there"
+
+[ $failed -eq 0 ] && echo "examples: ok"
+[ $failed -eq 0 ]
