@@ -1,0 +1,5 @@
+pub mod Buffered
+pub mod Steps
+pub mod Polls
+pub mod Writes
+pub mod Flushes

@@ -1,0 +1,13 @@
+//! A file of an SFTP server with a buffer for reads, and with writes whose statuses are left for later.
+#![tactic(auto)]
+
+mod file;
+mod flush;
+mod limits;
+mod oldest;
+mod reply;
+mod window;
+mod write;
+
+pub use file::{DEFAULT_BUFLEN, TokioCompatFile};
+pub use sftp_file::{File, Poll};
