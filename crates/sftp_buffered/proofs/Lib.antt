@@ -6,3 +6,5 @@ pub mod Sound
 pub mod Others
 pub mod Planning
 pub mod Flushing
+pub mod Filling
+pub mod Reading

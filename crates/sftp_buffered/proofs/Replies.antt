@@ -1,5 +1,5 @@
 -- A reply that was taken, and what a session's facts are.
-use Rattle.std.proofs.Common.{◌≡◌, refl, ℕ, true, List, Option, Some, None, Ok, Err, IsSome, max}
+use Rattle.std.proofs.Common.{ap, sym, ◌∙◌, ◌≡◌, refl, ℕ, true, List, Option, Some, None, Ok, Err, IsSome, max}
 use Rattle.sftp_model.specs.Answers.{allows}
 use Rattle.sftp_model.specs.declared.answers.Expected.TheVariants as expected
 use Rattle.sftp_model.specs.declared.error.Fault.{Fault}
@@ -13,6 +13,8 @@ use Rattle.sftp_core.specs.declared.info.Info.{Info}
 use Rattle.sftp_core.specs.declared.tokens.Polled.TheVariants as polled
 use Rattle.call_state.proofs.Polling.{came_grant, failed_by, missed_by}
 use Rattle.sftp_file.specs.Files.{facts_in}
+use Rattle.sftp_buffered.specs.declared.file.ReadUnderWay.{ReadUnderWay}
+use Rattle.sftp_buffered.specs.Reads.{IsAllowedRead}
 use Rattle.sftp_buffered.specs.Steps.{HasReply}
 
 -- what options say of the write limit, whatever the server told
@@ -45,3 +47,12 @@ status_plain handle e = cc
 -- nor a DATA
 pub content_plain : (len : ℕ) (handle : List ℕ) → allows (expected.Content len) (reply.Handle handle) ≡ true → ⊥
 content_plain len handle e = cc
+
+-- the reply to the READ is one that it allows
+pub allowed_read : (core : Core) (r : Option ReadUnderWay) (read : ReadUnderWay) (got : Reply) → r ≡ Some read → reply_in (at core read.ticket) ≡ Some got
+    → allows (expected.Content read.len) got ≡ true → IsAllowedRead core r
+allowed_read core None read got is came fits = absurd cc
+allowed_read core (Some x) read got is came fits = λ r e.
+    (let same : x ≡ read = cc in
+    let both : Some r ≡ Some got = sym e ∙ (ap (λ (y : ReadUnderWay). reply_in (at core y.ticket)) same ∙ came) in
+    let one : r ≡ got = cc in (λ i. allows (expected.Content (same i).len) (one i)) ∙ fits)

@@ -3,3 +3,4 @@ pub mod Steps
 pub mod Polls
 pub mod Writes
 pub mod Flushes
+pub mod Reads

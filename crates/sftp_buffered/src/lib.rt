@@ -2,9 +2,11 @@
 #![tactic(auto)]
 
 mod file;
+mod fill;
 mod flush;
 mod limits;
 mod oldest;
+mod read;
 mod reply;
 mod window;
 mod write;
