@@ -8,3 +8,5 @@ pub mod Planning
 pub mod Flushing
 pub mod Filling
 pub mod Reading
+pub mod Seeking
+pub mod Abandoning

@@ -333,7 +333,7 @@ unreadable_reads n core c room not_so s =
     record {
       polled = λ answers d. record {
         ends = (λ i. if not (not_so i) then refuses kind.NotReadable (lane_of c) else if n == 0 then Done (outcome.Bytes []) (lane_of c)
-        else from_buffer 0 n (file_at c.file) (buffer_of c) (lane_of c) (facts_of core) c.buffered [] answers);
+            else from_buffer 0 n (file_at c.file) (buffer_of c) (lane_of c) (facts_of core) c.buffered [] answers);
         rest = rest_same c;
       };
       sound = s;
@@ -345,7 +345,7 @@ empty_reads n core c room may none s =
     record {
       polled = λ answers d. inl (record {
         ends = (λ i. if not (may i) then refuses kind.NotReadable (lane_of c) else if none i then Done (outcome.Bytes []) (lane_of c)
-        else from_buffer 0 n (file_at c.file) (buffer_of c) (lane_of c) (facts_of core) c.buffered [] answers)
+            else from_buffer 0 n (file_at c.file) (buffer_of c) (lane_of c) (facts_of core) c.buffered [] answers)
             ∙ (λ i. Done (if not (sym none i) then outcome.End else outcome.Bytes (take 0 room)) (lane_of c));
         rest = rest_same c;
       });

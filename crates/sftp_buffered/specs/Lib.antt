@@ -4,3 +4,5 @@ pub mod Polls
 pub mod Writes
 pub mod Flushes
 pub mod Reads
+pub mod Seeks
+pub mod Whole

@@ -1,6 +1,7 @@
 //! A file of an SFTP server with a buffer for reads, and with writes whose statuses are left for later.
 #![tactic(auto)]
 
+mod buffer;
 mod file;
 mod fill;
 mod flush;
@@ -8,6 +9,8 @@ mod limits;
 mod oldest;
 mod read;
 mod reply;
+mod seek;
+mod whole;
 mod window;
 mod write;
 

@@ -33,8 +33,10 @@ impl TokioCompatFile {
         self.fill(core, amt as usize)
     }
 
-    /// Reads into the buffer where it is empty, as `poll_read_into_buffer` of the buffer's length.
-    fn poll_ready(&mut self, core: &mut Core) -> Poll<Result<(), Error>>
+    /// Reads into the buffer where it is empty, as `poll_read_into_buffer` of the buffer's length, with its `Pending` and
+    /// errors. `buffer` then lends what is buffered; nothing of it goes before `consume`. At the end of the file it is
+    /// empty still.
+    pub fn poll_fill_buf(&mut self, core: &mut Core) -> Poll<Result<(), Error>>
         requires ready { IsReady core.old }
         requires sound { IsSound core.old self.old }
         ensures { ReadsTo (ready_plan core.old self.old) (λ u. outcome.Done) core.old core.new self.old self.new result }

@@ -1,18 +1,17 @@
 //! The window of deferred writes: how many bytes the next WRITE may carry.
-ghost use Rattle.std.specs.Prelude.{◌≡◌, ◌≤◌, ◌<◌, ◌+◌, ◌^◌, true, None, IsSome};
+ghost use Rattle.std.specs.Prelude.{◌≡◌, ◌≤◌, ◌<◌, ◌+◌, ◌^◌, true, IsSome};
 ghost use Rattle.plan_model.specs.BufferPlans.{is_good};
 ghost use Rattle.sftp_model.specs.Numbers.{MAX_TRANSFER_LEN};
 ghost use Rattle.sftp_buffered.specs.Buffered.{AreHeld, IsHeldRead, IsSound};
-ghost use Rattle.sftp_buffered.specs.Steps.{behind, freed, freed_core, must_wait, oldest_len, oldest_reply, read_dropped, room_of, skipped};
+ghost use Rattle.sftp_buffered.specs.Steps.{behind, freed, freed_core, must_wait, oldest_len, oldest_reply, read_dropped, room_of};
 ghost use Rattle.sftp_buffered.specs.Writes.{IsWindow};
 ghost use Rattle.sftp_file.specs.Files.{facts_of};
 ghost use Rattle.sftp_core.specs.Info.{info_of};
 
-use crate::file::{ReadUnderWay, TokioCompatFile};
+use crate::file::TokioCompatFile;
 use crate::limits::{write_len, write_limit};
 use sftp_core::Core;
 use sftp_file::{Error, Poll};
-use std::mem;
 
 /// What a window has for a WRITE.
 #[derive(Clone, Copy, Debug)]
@@ -78,35 +77,6 @@ impl TokioCompatFile {
     {
         if full {
             let _ = self.take_oldest(core);
-        }
-    }
-
-    /// Lets the first buffered bytes go, or all where there are fewer.
-    pub(crate) fn skip(&mut self, len: u64)
-        ensures { self.new ≡ skipped self.old len }
-    {
-        if len < self.buffered.len() as u64 {
-            self.buffered.advance(len as usize);
-        } else {
-            self.buffered.clear();
-        }
-    }
-
-    /// Gives the READ under way up.
-    pub(crate) fn drop_read(&mut self, core: &mut Core)
-        requires { IsHeldRead core.old self.old.reading }
-        ensures left { self.new ≡ record self.old { reading = None } }
-        ensures core { core.new ≡ read_dropped core.old self.old.reading }
-    {
-        if let Some(
-            ReadUnderWay {
-                place: _,
-                len: _,
-                ticket,
-            },
-        ) = mem::replace(&mut self.reading, None)
-        {
-            core.abandon(ticket);
         }
     }
 

@@ -3,7 +3,7 @@ use Rattle.std.specs.Prelude.{min}
 use Rattle.sftp_file.specs.Files.{facts_of}
 use Rattle.sftp_buffered.specs.Reads.{Fills}
 use Rattle.sftp_buffered.proofs.Reading.{ready_reads}
-use Rattle.sftp_buffered.proofs.file.TokioCompatFile.poll_ready.Goals as goal
+use Rattle.sftp_buffered.proofs.file.TokioCompatFile.poll_fill_buf.Goals as goal
 
 pub returns : goal.returns
 returns c =
