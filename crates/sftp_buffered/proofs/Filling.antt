@@ -30,7 +30,7 @@ use Rattle.call_state.proofs.Keeping.{submitted_holds, submitted_keeps}
 use Rattle.sftp_buffered.specs.declared.file.DeferredWrite.{DeferredWrite}
 use Rattle.sftp_buffered.specs.declared.file.ReadUnderWay.{ReadUnderWay}
 use Rattle.sftp_buffered.specs.Buffered.{AreElsewhere, AreHeld, AreRising, CompatValue, Defers, IsApart, IsCounted, IsHeld, IsHeldRead, IsOther, IsRestOf, IsSound, IsTold, LeavesOthers, lane_of, len_of}
-use Rattle.sftp_buffered.specs.Polls.{Ends, Polls, Waits}
+use Rattle.sftp_buffered.specs.Polls.{AnyCut, Ends, Polls, Waits}
 use Rattle.sftp_buffered.specs.Reads.{AwaitsFill, BeginsFill, BeginsRead, Begun, EndsFill, Fills, IsAllowedRead, LooksAtRead, TookRead, appended, end_of, fill_value, read_behind, read_reply, read_taken, with_read, without_read}
 use Rattle.sftp_buffered.specs.Steps.{IsLeft}
 use Rattle.sftp_buffered.proofs.Others.{others_left, others_polled, others_submitted}
@@ -299,7 +299,7 @@ pub took_goes : (plan : Plan) (len : ℕ) (go : Reply → Move) (answers : Answe
 took_goes plan len go answers old new p q value h d t = h.waits t.read t.under_way ∙ ap (λ (r : Option Reply). once_answered t.read.place r go) (read_told old p answers t.read d t.under_way ∙ t.came)
 
 begins_stop : {V : Type 0} (o : V → Outcome) (plan : Plan) (len : ℕ) (go : Reply → Move) (answers : Answers) (old new : Core) (p q : CompatValue) (e : Error) → ReadsBy plan len go answers p → p.reading ≡ None
-    → BeginsRead len old new p q (poll.Ready (Err e)) → Polls {V = V} (Waits plan answers old (IsLeft old new p q) ⊎ Begun plan answers old new p q) (IsLeft old new p q) plan o answers old p q (poll.Ready (Err e))
+    → BeginsRead len old new p q (poll.Ready (Err e)) → Polls {V = V} (Waits plan answers old (IsLeft old new p q) ⊎ Begun plan answers old new p q) (IsLeft old new p q) AnyCut plan o answers old p q (poll.Ready (Err e))
 begins_stop o plan len go answers old new p q error.OutOfMemory h none b = b
 begins_stop o plan len go answers old new p q (error.BackgroundTaskFailure fault) h none b =
     (b.1, unfinished_at (plan [] answers) (Ask (read_behind p len)) (begun_asks plan len go answers p h none b.0) tt, b.2)
@@ -335,7 +335,7 @@ took_refused plan len go answers old new p q e h d ends t =
 
 awaits_stop : {V : Type 0} (o : V → Outcome) (plan : Plan) (len : ℕ) (go : Reply → Move) (answers : Answers) (old new : Core) (p q : CompatValue) (e : Error) (r : ReadUnderWay) → ReadsBy plan len go answers p → Defers old p answers
     → EndsRefused go p → p.reading ≡ Some r → AwaitsFill old new p q (poll.Ready (Err e))
-    → Polls {V = V} (Waits plan answers old (IsLeft old new p q) ⊎ Begun plan answers old new p q) (IsLeft old new p q) plan o answers old p q (poll.Ready (Err e))
+    → Polls {V = V} (Waits plan answers old (IsLeft old new p q) ⊎ Begun plan answers old new p q) (IsLeft old new p q) AnyCut plan o answers old p q (poll.Ready (Err e))
 awaits_stop o plan len go answers old new p q error.OutOfMemory r h d ends is a = a
 awaits_stop o plan len go answers old new p q (error.BackgroundTaskFailure fault) r h d ends is a =
     (a.1, unfinished_at (plan [] answers) (Wait r.place) (unread_waits plan len go answers old p r h d is a.0) tt, a.2)
@@ -343,7 +343,7 @@ awaits_stop o plan len go answers old new p q e r h d ends is a = took_refused p
 
 pub fills_stop : {V : Type 0} (o : V → Outcome) (plan : Plan) (len : ℕ) (go : Reply → Move) (answers : Answers) (old new : Core) (p q : CompatValue) (e : Error) → ReadsBy plan len go answers p → Defers old p answers
     → EndsRefused go p → Fills len old new p q (poll.Ready (Err e))
-    → Polls {V = V} (Waits plan answers old (IsLeft old new p q) ⊎ Begun plan answers old new p q) (IsLeft old new p q) plan o answers old p q (poll.Ready (Err e))
+    → Polls {V = V} (Waits plan answers old (IsLeft old new p q) ⊎ Begun plan answers old new p q) (IsLeft old new p q) AnyCut plan o answers old p q (poll.Ready (Err e))
 fills_stop o plan len go answers old new p q e h d ends (inl b) = begins_stop o plan len go answers old new p q e h b.none b.begins
 fills_stop o plan len go answers old new p q e h d ends (inr a) = awaits_stop o plan len go answers old new p q e a.read h d ends a.under_way a.awaits
 

@@ -78,11 +78,11 @@ use Rattle.sftp_buffered.specs.Buffered.{
   writes_of,
 }
 use Rattle.sftp_buffered.specs.Flushes.{FlushesTo, IsFlushed, Settles, flush_plan, unsettled, with_writes}
-use Rattle.sftp_buffered.specs.Polls.{Polls, Waits}
+use Rattle.sftp_buffered.specs.Polls.{AnyCut, Polls, Waits}
 use Rattle.sftp_buffered.specs.Steps.{IsLeft, LooksAtOldest, oldest_len, oldest_polled, oldest_reply, status_value, without_oldest}
 use Rattle.sftp_buffered.proofs.Holding.{other_kind}
 use Rattle.sftp_buffered.proofs.Others.{others_both, others_left, others_looked, others_oldest, others_same}
-use Rattle.sftp_buffered.proofs.Planning.{bad_ends, good_goes, missing_waits}
+use Rattle.sftp_buffered.proofs.Planning.{bad_ends, good_goes, missing_waits, status_memory}
 use Rattle.sftp_buffered.proofs.Sound.{sound_left, sound_looked, sound_taken}
 
 -- ---- a poll of the oldest status changes no other reply
@@ -349,19 +349,10 @@ left_flushed old mid new p r q answers s l d =
 unfinished_wait : (m : Move) (place : ℕ) → m ≡ Wait place → IsUnfinished m
 unfinished_wait m place e = subst IsUnfinished (sym e) tt
 
--- no STATUS is want of memory
-pub status_memory : (r : Reply) → status_value r ≡ Err error.OutOfMemory → ⊥
-status_memory (reply.Status code message language) is = by_code (code == SSH_FX_OK) is
-  where
-    by_code : (b : Bool) → (◌≡◌ {A = Result (Unit {0}) Error} (if b then Ok tt else Err (error.SftpError code message language)) (Err error.OutOfMemory)) → ⊥
-    by_code true is = cc
-    by_code false is = cc
-status_memory other is = cc
-
 flush_polls : (old mid new : Core) (p r q : CompatValue) (d : DeferredWrite) (ds : List DeferredWrite)
     (result : Poll (Result (Unit {0}) Error)) → p.file.writable ≡ true → Settles old mid p r → r.deferred ≡ d ∷ ds
     → LooksAtOldest mid new r q result → (answers : Answers) → Defers old p answers
-    → Polls (Waits (flush_plan old p) answers old (IsFlushed old p q answers)) (IsFlushed old p q answers)
+    → Polls (Waits (flush_plan old p) answers old (IsFlushed old p q answers)) (IsFlushed old p q answers) AnyCut
     (flush_plan old p) (λ u. outcome.Done) answers old p q result
 flush_polls old mid new p r q d ds poll.Pending may s is l answers told =
     record {

@@ -10,3 +10,4 @@ pub mod Filling
 pub mod Reading
 pub mod Seeking
 pub mod Abandoning
+pub mod Pieces

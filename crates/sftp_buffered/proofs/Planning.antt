@@ -59,6 +59,7 @@ use Rattle.plan_model.specs.BufferPlans.{ask_deferred, buf_write_next, deferrabl
 use Rattle.sftp_core.specs.Core.{Core}
 use Rattle.call_state.specs.Asked.{Submitted}
 use Rattle.call_state.specs.Calls.{IsUnfinished}
+use Rattle.call_state.specs.declared.asking.Asking.{Asking}
 use Rattle.call_state.specs.declared.poll.Poll.TheVariants as poll
 use Rattle.sftp_file.specs.Files.{FileValue, facts_of, file_at}
 use Rattle.sftp_buffered.proofs.Holding.{counted_less, freed_deferring, freed_file, parts_of}
@@ -280,15 +281,16 @@ part_asks plan facts bytes answers c parts n over g h is =
 part_long : (facts : Facts) (bytes : List ℕ) (c : CompatValue) (parts : List (List ℕ)) (n : ℕ) → IsPartOf facts bytes c parts n → length (take n bytes) ≡ n
 part_long facts bytes c parts n h = length-take-le n bytes (short_is n (room_of facts c) bytes h.len)
 
-sent_asks : (plan : Plan) (facts : Facts) (bytes : List ℕ) (answers : Answers) (old middle : Core) (p c q : CompatValue)
+sent_asks : (Cut : Asking → Type 0) (plan : Plan) (facts : Facts) (bytes : List ℕ) (answers : Answers) (old middle : Core) (p c q : CompatValue)
     (parts : List (List ℕ)) (n ticket : ℕ) → GoesAs plan facts bytes answers c
     → IsPartOf facts bytes c parts n → c.file.offset + n < 2 ^ 64 → Submitted old (parts_of c parts) ticket middle
-    → IsRestOf p c → q ≡ behind (deferring c n ticket) n
-    → Asks plan (outcome.Count n) answers old p q
-sent_asks plan facts bytes answers old middle p c q parts n ticket g h fits submitted stays left =
+    → Cut (parts_of c parts) → IsRestOf p c → q ≡ behind (deferring c n ticket) n
+    → Asks plan (outcome.Count n) Cut answers old p q
+sent_asks Cut plan facts bytes answers old middle p c q parts n ticket g h fits submitted cut stays left =
     let asked : Request = request.Write c.file.grant.handle c.file.offset (joined parts) in
     record {
       asking = parts_of c parts;
+      cut = cut;
       ticket = ticket;
       middle = middle;
       asks = part_asks plan facts bytes answers c parts n false g h
@@ -338,33 +340,33 @@ goes_as : (full : Bool) (c : CompatValue) (facts : Facts) (bytes : List ℕ) (an
 goes_as true c facts bytes answers core may some counted is d good = full_goes_as c facts bytes answers core may some counted (sym is) d (good refl)
 goes_as false c facts bytes answers core may some counted is d good = room_goes_as c facts bytes answers core may some counted (sym is) d
 
-polls_sent : (full : Bool) (plan : Plan) (facts : Facts) (bytes : List ℕ) (answers : Answers) (old new : Core)
+polls_sent : (Cut : Asking → Type 0) (full : Bool) (plan : Plan) (facts : Facts) (bytes : List ℕ) (answers : Answers) (old new : Core)
     (p q : CompatValue) (parts : List (List ℕ)) (n : ℕ) → GoesAs plan facts bytes answers (freed full p)
     → IsPartOf facts bytes (freed full p) parts n → (full ≡ true → is_good (oldest_reply old p.deferred) ≡ true)
-    → Sent full parts old new p q n → Asks plan (outcome.Count n) answers old p q
-polls_sent true plan facts bytes answers old new p q parts n g h good s =
-    sent_asks plan facts bytes answers old s.middle p (without_oldest p) q parts n s.ticket g h s.fits s.submitted (rest_freed true p)
+    → Cut (parts_of p parts) → Sent full parts old new p q n → Asks plan (outcome.Count n) Cut answers old p q
+polls_sent Cut true plan facts bytes answers old new p q parts n g h good cut s =
+    sent_asks Cut plan facts bytes answers old s.middle p (without_oldest p) q parts n s.ticket g h s.fits s.submitted cut (rest_freed true p)
     (s.left ∙ ap (λ (x : CompatValue). behind x n) (freed_deferring true old p n s.ticket good))
-polls_sent false plan facts bytes answers old new p q parts n g h good s =
-    sent_asks plan facts bytes answers old s.middle p p q parts n s.ticket g h s.fits s.submitted (rest_freed false p)
+polls_sent Cut false plan facts bytes answers old new p q parts n g h good cut s =
+    sent_asks Cut plan facts bytes answers old s.middle p p q parts n s.ticket g h s.fits s.submitted cut (rest_freed false p)
     s.left
 
 unfinished_ask : (plan : Plan) (answers : Answers) (asked : Request) → plan [] answers ≡ Ask asked → IsUnfinished (plan [] answers)
 unfinished_ask plan answers asked e = subst IsUnfinished (sym e) tt
 
-polls_unsent : (full : Bool) (plan : Plan) (facts : Facts) (bytes : List ℕ) (answers : Answers) (old new : Core)
+polls_unsent : (Cut : Asking → Type 0) (full : Bool) (plan : Plan) (facts : Facts) (bytes : List ℕ) (answers : Answers) (old new : Core)
     (p q : CompatValue) (parts : List (List ℕ)) (n : ℕ) (e : Error) → GoesAs plan facts bytes answers (freed full p)
     → IsPartOf facts bytes (freed full p) parts n → (freed full p).file ≡ p.file → Unsent full n old new p q e
-    → Polls {V = ℕ} (Waits plan answers old (IsLeft old new p q)) (IsLeft old new p q) plan (λ k. outcome.Count k) answers old p q (poll.Ready (Err e))
-polls_unsent full plan facts bytes answers old new p q parts n error.OutOfMemory g h same u = u
-polls_unsent full plan facts bytes answers old new p q parts n (error.BackgroundTaskFailure fault) g h same u = (
+    → Polls {V = ℕ} (Waits plan answers old (IsLeft old new p q)) (IsLeft old new p q) Cut plan (λ k. outcome.Count k) answers old p q (poll.Ready (Err e))
+polls_unsent Cut full plan facts bytes answers old new p q parts n error.OutOfMemory g h same u = u
+polls_unsent Cut full plan facts bytes answers old new p q parts n (error.BackgroundTaskFailure fault) g h same u = (
   u.1,
   unfinished_ask plan answers _ (part_asks plan facts bytes answers (freed full p) parts n false g h
       (within_is (freed full p).file.offset n (subst (λ (f : FileValue). f.offset + n < 2 ^ 64) (sym same) u.0) _
       (part_long facts bytes (freed full p) parts n h))),
   u.2,
 )
-polls_unsent full plan facts bytes answers old new p q parts n (error.IOError kind.OffsetOverflow) g h same u =
+polls_unsent Cut full plan facts bytes answers old new p q parts n (error.IOError kind.OffsetOverflow) g h same u =
     record {
       ends = part_asks plan facts bytes answers (freed full p) parts n true g h
           (past_is (freed full p).file.offset n (subst (λ (f : FileValue). 2 ^ 64 ≤ f.offset + n) (sym same) u.0) _
@@ -372,20 +374,30 @@ polls_unsent full plan facts bytes answers old new p q parts n (error.IOError ki
           ∙ ap (λ (x : CompatValue). Done (outcome.Refused (error.IOError kind.OffsetOverflow)) (lane_of x)) (sym u.1);
       rest = subst (λ (x : CompatValue). IsRestOf p x) (sym u.1) (rest_freed full p);
     }
-polls_unsent full plan facts bytes answers old new p q parts n other g h same u = absurd u
+polls_unsent Cut full plan facts bytes answers old new p q parts n other g h same u = absurd u
 
-polls_result : (full : Bool) (plan : Plan) (facts : Facts) (bytes : List ℕ) (answers : Answers) (old new : Core)
+polls_result : (Cut : Asking → Type 0) (full : Bool) (plan : Plan) (facts : Facts) (bytes : List ℕ) (answers : Answers) (old new : Core)
     (p q : CompatValue) (parts : List (List ℕ)) (n : ℕ) (result : Result ℕ Error)
     → GoesAs plan facts bytes answers (freed full p)
     → IsPartOf facts bytes (freed full p) parts n → (full ≡ true → is_good (oldest_reply old p.deferred) ≡ true)
-    → IfOk result (λ k. (k ≡ n) × Sent full parts old new p q n) → IfErr result (Unsent full n old new p q)
-    → Polls {V = ℕ} (Waits plan answers old (IsLeft old new p q)) (IsLeft old new p q) plan (λ k. outcome.Count k) answers old p q (poll.Ready result)
-polls_result full plan facts bytes answers old new p q parts n (Ok k) g h good ok err =
-    inr (subst (λ (x : ℕ). Asks plan (outcome.Count x) answers old p q) (sym ok.0) (polls_sent full plan facts bytes answers old new p q parts n g h good ok.1))
-polls_result full plan facts bytes answers old new p q parts n (Err e) g h good ok err =
-    polls_unsent full plan facts bytes answers old new p q parts n e g h (freed_file full p) err
+    → Cut (parts_of p parts) → IfOk result (λ k. (k ≡ n) × Sent full parts old new p q n)
+    → IfErr result (Unsent full n old new p q)
+    → Polls {V = ℕ} (Waits plan answers old (IsLeft old new p q)) (IsLeft old new p q) Cut plan (λ k. outcome.Count k) answers old p q (poll.Ready result)
+polls_result Cut full plan facts bytes answers old new p q parts n (Ok k) g h good cut ok err =
+    inr (subst (λ (x : ℕ). Asks plan (outcome.Count x) Cut answers old p q) (sym ok.0) (polls_sent Cut full plan facts bytes answers old new p q parts n g h good cut ok.1))
+polls_result Cut full plan facts bytes answers old new p q parts n (Err e) g h good cut ok err =
+    polls_unsent Cut full plan facts bytes answers old new p q parts n e g h (freed_file full p) err
 
 -- ---- the poll
+
+-- no STATUS is want of memory
+pub status_memory : (r : Reply) → status_value r ≡ Err error.OutOfMemory → ⊥
+status_memory (reply.Status code message language) is = by_code (code == SSH_FX_OK) is
+  where
+    by_code : (b : Bool) → (◌≡◌ {A = Result (Unit {0}) Error} (if b then Ok tt else Err (error.SftpError code message language)) (Err error.OutOfMemory)) → ⊥
+    by_code true is = cc
+    by_code false is = cc
+status_memory other is = cc
 
 -- the looks before the window
 pub record MayWrite (bytes : List ℕ) (c : CompatValue) : Type 0 where
@@ -406,94 +418,85 @@ window_waits bytes old new p q m s w answers d =
     }
 
 -- the window was full, and the oldest status isn't good
-pub pending_writes : (bytes : List ℕ) (old new : Core) (p q : CompatValue) → MayWrite bytes p → IsSound old p
-    → IsWindow old new p q poll.Pending → Writes bytes old new p q poll.Pending
-pending_writes bytes old new p q m s w = record {
+pub pending_writes : (Cut : Asking → Type 0) (bytes : List ℕ) (old new : Core) (p q : CompatValue) → MayWrite bytes p → IsSound old p
+    → IsWindow old new p q poll.Pending → Writes Cut bytes old new p q poll.Pending
+pending_writes Cut bytes old new p q m s w = record {
   polled = window_waits bytes old new p q m s w;
   sound =
       sound_left old new p q w.1.2 s;
   others = others_left old new p w.1.2.core;
 }
 
-refused_polls : (bytes : List ℕ) (old new : Core) (p q : CompatValue) (e : Error) → MayWrite bytes p → IsSound old p
+refused_polls : (Cut : Asking → Type 0) (bytes : List ℕ) (old new : Core) (p q : CompatValue) (e : Error) → MayWrite bytes p → IsSound old p
     → must_wait (facts_of old) p ≡ true → LooksAtOldest old new p q (poll.Ready (Err e))
     → (answers : Answers) → Defers old p answers
-    → Polls {V = ℕ} (Waits (write_plan bytes old p) answers old (IsLeft old new p q)) (IsLeft old new p q)
+    → Polls {V = ℕ} (Waits (write_plan bytes old p) answers old (IsLeft old new p q)) (IsLeft old new p q) Cut
     (write_plan bytes old p) (λ k. outcome.Count k) answers old p q (poll.Ready (Err e))
-refused_polls bytes old new p q (error.BackgroundTaskFailure fault) m s full w answers d =
+refused_polls Cut bytes old new p q (error.BackgroundTaskFailure fault) m s full w answers d =
     let o : Oldest p = has_oldest p (facts_of old) full in
     let waits : write_plan bytes old p [] answers ≡ Wait o.write.place =
     full_looks p (facts_of old) bytes [] answers old o m.may m.some s.counted full d.writes ∙ missing_waits (oldest_reply old p.deferred) o.write.place _ w.0 in
     (w.1, subst IsUnfinished (sym waits) tt, w.2)
-refused_polls bytes old new p q error.OutOfMemory m s full w answers d = absurd (never w.reply w.refuses)
-  where
-    no_memory : (code : ℕ) (message language : List ℕ) (b : Bool)
-        → (◌≡◌ {A = Result (Unit {0}) Error} (if b then Ok tt else Err (error.SftpError code message language))
-        (Err error.OutOfMemory)) → ⊥
-    no_memory code message language true is = cc
-    no_memory code message language false is = cc
-
-    never : (r : Reply) → status_value r ≡ Err error.OutOfMemory → ⊥
-    never (reply.Status code message language) is = no_memory code message language (code == SSH_FX_OK) is
-    never other is = cc
-refused_polls bytes old new p q e m s full w answers d =
+refused_polls Cut bytes old new p q error.OutOfMemory m s full w answers d = absurd (status_memory w.reply w.refuses)
+refused_polls Cut bytes old new p q e m s full w answers d =
     let o : Oldest p = has_oldest p (facts_of old) full in
     record {
       ends = full_looks p (facts_of old) bytes [] answers old o m.may m.some s.counted full d.writes ∙ bad_ends old new p q o.write.place _ e w;
       rest = subst (λ (x : CompatValue). IsRestOf p x) (sym w.left) (rest_freed true p);
     }
 
-pub refused_writes : (bytes : List ℕ) (old new : Core) (p q : CompatValue) (e : Error) → MayWrite bytes p
-    → IsSound old p → IsWindow old new p q (poll.Ready (Err e)) → Writes bytes old new p q (poll.Ready (Err e))
-refused_writes bytes old new p q e m s w = record {
-  polled = refused_polls bytes old new p q e m s w.0 w.1;
+pub refused_writes : (Cut : Asking → Type 0) (bytes : List ℕ) (old new : Core) (p q : CompatValue) (e : Error) → MayWrite bytes p
+    → IsSound old p → IsWindow old new p q (poll.Ready (Err e)) → Writes Cut bytes old new p q (poll.Ready (Err e))
+refused_writes Cut bytes old new p q e m s w = record {
+  polled = refused_polls Cut bytes old new p q e m s w.0 w.1;
   sound =
       sound_looked old new p q e w.1 s;
   others = others_looked old new p q e w.1 s;
 }
 
 -- the window has room, and a part was handed to a send
-pub record SendsPart (bytes : List ℕ) (core : Core) (c : CompatValue) (w : Window) (parts : List (List ℕ)) (n : ℕ) : Type 0 where
+pub record SendsPart (Cut : Asking → Type 0) (bytes : List ℕ) (core : Core) (c : CompatValue) (w : Window) (parts : List (List ℕ)) (n : ℕ) : Type 0 where
   pub room : HasRoom (facts_of core) core c w
   pub len : n ≡ min (length bytes) w.len
   pub first : joined parts ≡ take n bytes
+  pub cut : Cut (parts_of c parts)
 
-sent_writes_here : (bytes : List ℕ) (old new : Core) (p q : CompatValue) (w : Window) (parts : List (List ℕ)) (n : ℕ)
-    (result : Result ℕ Error) → MayWrite bytes p → IsSound old p → SendsPart bytes old p w parts n
+sent_writes_here : (Cut : Asking → Type 0) (bytes : List ℕ) (old new : Core) (p q : CompatValue) (w : Window) (parts : List (List ℕ)) (n : ℕ)
+    (result : Result ℕ Error) → MayWrite bytes p → IsSound old p → SendsPart Cut bytes old p w parts n
     → IfOk result (λ k. (k ≡ n) × Sent w.is_full parts old new p q n) → IfErr result (Unsent w.is_full n old new p q)
-    → Writes bytes old new p q (poll.Ready result)
-sent_writes_here bytes old new p q w parts n result m s h ok err =
+    → Writes Cut bytes old new p q (poll.Ready result)
+sent_writes_here Cut bytes old new p q w parts n result m s h ok err =
     let part : IsPartOf (facts_of old) bytes (freed w.is_full p) parts n =
     record { len = h.len ∙ ap (λ (k : ℕ). min (length bytes) k) h.room.len; first = h.first } in
     record {
-      polled = λ answers d. polls_result w.is_full (write_plan bytes old p) (facts_of old) bytes answers old new p q parts n result
-          (goes_as w.is_full p (facts_of old) bytes answers old m.may m.some s.counted h.room.full d h.room.good) part h.room.good ok err;
+      polled = λ answers d. polls_result Cut w.is_full (write_plan bytes old p) (facts_of old) bytes answers old new p q parts n result
+          (goes_as w.is_full p (facts_of old) bytes answers old m.may m.some s.counted h.room.full d h.room.good) part h.room.good h.cut ok err;
       sound = sound_send w.is_full parts n old new p q result s h.room.good ok err;
       others = others_send w.is_full parts n old new p q result s h.room.good ok err;
     }
 
-pub sent_writes : (bytes : List ℕ) (old now new : Core) (p r q : CompatValue) (w : Window) (parts : List (List ℕ))
+pub sent_writes : (Cut : Asking → Type 0) (bytes : List ℕ) (old now new : Core) (p r q : CompatValue) (w : Window) (parts : List (List ℕ))
     (n : ℕ) (result : Result ℕ Error) → MayWrite bytes p → IsSound old p → IsLeft old now p r
-    → SendsPart bytes old p w parts n
+    → SendsPart Cut bytes old p w parts n
     → IfOk result (λ k. (k ≡ n) × Sent w.is_full parts now new r q n) → IfErr result (Unsent w.is_full n now new r q)
-    → Writes bytes old new p q (poll.Ready result)
-sent_writes bytes old now new p r q w parts n result m s l h ok err =
-    sent_writes_here bytes old new p q w parts n result m s h
+    → Writes Cut bytes old new p q (poll.Ready result)
+sent_writes Cut bytes old now new p r q w parts n result m s l h ok err =
+    sent_writes_here Cut bytes old new p q w parts n result m s h
     (subst (λ (x : CompatValue). IfOk result (λ k. (k ≡ n) × Sent w.is_full parts old new x q n)) l.same
     (subst (λ (x : Core). IfOk result (λ k. (k ≡ n) × Sent w.is_full parts x new r q n)) l.core ok))
     (subst (λ (x : CompatValue). IfErr result (Unsent w.is_full n old new x q)) l.same
     (subst (λ (x : Core). IfErr result (Unsent w.is_full n x new r q)) l.core err))
 
 -- want of memory behind the window
-pub short_writes : (bytes : List ℕ) (old new : Core) (p q : CompatValue) → IsSound old p → IsLeft old new p q
-    → Writes bytes old new p q (poll.Ready (Err error.OutOfMemory))
-short_writes bytes old new p q s l = record { polled = λ answers d. l; sound = sound_left old new p q l s; others = others_left old new p l.core }
+pub short_writes : (Cut : Asking → Type 0) (bytes : List ℕ) (old new : Core) (p q : CompatValue) → IsSound old p → IsLeft old new p q
+    → Writes Cut bytes old new p q (poll.Ready (Err error.OutOfMemory))
+short_writes Cut bytes old new p q s l = record { polled = λ answers d. l; sound = sound_left old new p q l s; others = others_left old new p l.core }
 
 -- ---- before the window
 
-pub unwritable_writes : (bytes : List ℕ) (core : Core) (c : CompatValue) → c.file.writable ≡ false → IsSound core c
-    → Writes bytes core core c c (poll.Ready (Err (error.IOError kind.NotWritable)))
-unwritable_writes bytes core c not_so s =
+pub unwritable_writes : (Cut : Asking → Type 0) (bytes : List ℕ) (core : Core) (c : CompatValue) → c.file.writable ≡ false → IsSound core c
+    → Writes Cut bytes core core c c (poll.Ready (Err (error.IOError kind.NotWritable)))
+unwritable_writes Cut bytes core c not_so s =
     record {
       polled = λ answers d. record {
         ends = (λ i. if not (not_so i) then refuses kind.NotWritable (lane_of c) else if length bytes == 0 then Done (outcome.Count 0) (lane_of c)
@@ -505,9 +508,9 @@ unwritable_writes bytes core c not_so s =
       others = others_same core c;
     }
 
-pub empty_writes : (bytes : List ℕ) (core : Core) (c : CompatValue) → c.file.writable ≡ true → (length bytes == 0)
-    ≡ true → IsSound core c → Writes bytes core core c c (poll.Ready (Ok 0))
-empty_writes bytes core c may none s =
+pub empty_writes : (Cut : Asking → Type 0) (bytes : List ℕ) (core : Core) (c : CompatValue) → c.file.writable ≡ true → (length bytes == 0)
+    ≡ true → IsSound core c → Writes Cut bytes core core c c (poll.Ready (Ok 0))
+empty_writes Cut bytes core c may none s =
     record {
       polled = λ answers d. inl (record {
         ends = (λ i. if not (may i) then refuses kind.NotWritable (lane_of c) else if none i then Done (outcome.Count 0) (lane_of c)

@@ -30,7 +30,7 @@ use Rattle.sftp_file.specs.Files.{facts_of, file_at}
 use Rattle.sftp_buffered.specs.declared.file.DeferredWrite.{DeferredWrite}
 use Rattle.sftp_buffered.specs.declared.file.ReadUnderWay.{ReadUnderWay}
 use Rattle.sftp_buffered.specs.Buffered.{CompatValue, Defers, IsCounted, IsRestOf, IsSound, LeavesOthers, buffer_of, lane_of, len_of, place_of, writes_of}
-use Rattle.sftp_buffered.specs.Polls.{Ends, Polls, Waits}
+use Rattle.sftp_buffered.specs.Polls.{AnyCut, Ends, Polls, Waits}
 use Rattle.sftp_buffered.specs.Reads.{Begun, Fills, ReadsTo, TookRead, append_next, appended, buf_fill_next, consumed, end_of, fill_plan, fill_value, read_behind, read_plan, ready_next, ready_plan, room_outcome, was_appended, without_read}
 use Rattle.sftp_buffered.specs.Steps.{IsLeft}
 use Rattle.sftp_buffered.proofs.Filling.{EndsRefused, ReadsBy, content_some, ended_status, fills_others, fills_pending, fills_sound, fills_stop, fills_took, refused_content, rest_same, took_goes, took_rest}
@@ -70,7 +70,7 @@ append_ends p (reply.Attrs attrs) is = absurd cc
 append_ends p (reply.Extended content) is = absurd cc
 
 fills_by : (plan : Plan) (len : ℕ) (old new : Core) (p q : CompatValue) (result : Poll (Result (Unit {0}) Error)) (answers : Answers) → ReadsBy plan len (append_go p) answers p → Defers old p answers → Fills len old new p q result
-    → Polls (Waits plan answers old (IsLeft old new p q) ⊎ Begun plan answers old new p q) (IsLeft old new p q) plan (λ (u : Unit {0}). outcome.Done) answers old p q result
+    → Polls (Waits plan answers old (IsLeft old new p q) ⊎ Begun plan answers old new p q) (IsLeft old new p q) AnyCut plan (λ (u : Unit {0}). outcome.Done) answers old p q result
 fills_by plan len old new p q poll.Pending answers h d f = fills_pending plan len (append_go p) answers old new p q h d f
 fills_by plan len old new p q (poll.Ready (Ok u)) answers h d f =
     let t : TookRead old new p q (Ok tt) = fills_took len old new p q f in

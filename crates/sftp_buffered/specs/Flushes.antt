@@ -9,7 +9,7 @@ use Rattle.call_state.specs.declared.poll.Poll.{Poll}
 use Rattle.sftp_file.specs.Files.{facts_of}
 use Rattle.sftp_buffered.specs.declared.file.DeferredWrite.{DeferredWrite}
 use Rattle.sftp_buffered.specs.Buffered.{CompatValue, Defers, IsRestOf, IsSound, LeavesOthers, lane_of, writes_of}
-use Rattle.sftp_buffered.specs.Polls.{Polls, Waits}
+use Rattle.sftp_buffered.specs.Polls.{AnyCut, Polls, Waits}
 use Rattle.sftp_buffered.specs.Steps.{oldest_reply}
 
 -- the writes from the first on whose STATUS of OK wasn't taken
@@ -47,7 +47,7 @@ pub record IsFlushed (old : Core) (p q : CompatValue) (answers : Answers) : Type
 -- core as it was. `Pending` and a kept fault leave what a flush leaves that is cancelled there.
 pub record FlushesTo (old new : Core) (p q : CompatValue) (result : Poll (Result (Unit {0}) Error)) : Type 0 where
   pub polled : (answers : Answers) → Defers old p answers
-      → Polls (Waits (flush_plan old p) answers old (IsFlushed old p q answers)) (IsFlushed old p q answers)
+      → Polls (Waits (flush_plan old p) answers old (IsFlushed old p q answers)) (IsFlushed old p q answers) AnyCut
       (flush_plan old p) (λ u. outcome.Done) answers old p q result
   pub sound : IsSound new q
   pub others : LeavesOthers old new p

@@ -27,10 +27,16 @@ pub record Ends (plan : Plan) (o : Outcome) (answers : Answers) (p q : CompatVal
   pub ends : plan [] answers ≡ Done o (lane_of q)
   pub rest : IsRestOf p q
 
--- The plan asks this; it was submitted, and with it the plan has ended. It is the file's next request and the last
--- deferred write, and the file stands behind its bytes.
-pub record Asks (plan : Plan) (o : Outcome) (answers : Answers) (old : Core) (p q : CompatValue) : Type 0 where
+-- any request may be cut into parts as it is
+abbrev pub AnyCut : Asking → Type 0
+AnyCut asking = Unit {0}
+
+-- The plan asks this; it was submitted in such parts, and with it the plan has ended. It is the file's next request and
+-- the last deferred write, and the file stands behind its bytes.
+pub record Asks (plan : Plan) (o : Outcome) (Cut : Asking → Type 0) (answers : Answers) (old : Core)
+    (p q : CompatValue) : Type 0 where
   pub asking : Asking
+  pub cut : Cut asking
   pub ticket : ℕ
   pub middle : Core
   pub asks : plan [] answers ≡ Ask (request_of asking)
@@ -43,12 +49,12 @@ pub record Asks (plan : Plan) (o : Outcome) (answers : Answers) (old : Core) (p 
 
 -- What a poll answered, where `Pending`, want of memory and a kept fault leave what is said of them; a fault is
 -- answered where the plan is not at its end.
-abbrev pub Polls : {V : Type 0} → Type 0 → Type 0 → Plan → (V → Outcome) → Answers → Core → CompatValue → CompatValue
-    → Poll (Result V Error) → Type 0
-Polls Pending Left plan o answers old p q poll.Pending = Pending
-Polls Pending Left plan o answers old p q (poll.Ready (Err error.OutOfMemory)) = Left
-Polls Pending Left plan o answers old p q (poll.Ready (Err (error.BackgroundTaskFailure fault))) =
+abbrev pub Polls : {V : Type 0} → Type 0 → Type 0 → (Asking → Type 0) → Plan → (V → Outcome) → Answers → Core
+    → CompatValue → CompatValue → Poll (Result V Error) → Type 0
+Polls Pending Left Cut plan o answers old p q poll.Pending = Pending
+Polls Pending Left Cut plan o answers old p q (poll.Ready (Err error.OutOfMemory)) = Left
+Polls Pending Left Cut plan o answers old p q (poll.Ready (Err (error.BackgroundTaskFailure fault))) =
     (old.fault ≡ Some fault) × IsUnfinished (plan [] answers) × Left
-Polls Pending Left plan o answers old p q (poll.Ready (Ok value)) = Ends plan (o value) answers p q
-    ⊎ Asks plan (o value) answers old p q
-Polls Pending Left plan o answers old p q (poll.Ready (Err e)) = Ends plan (outcome.Refused e) answers p q
+Polls Pending Left Cut plan o answers old p q (poll.Ready (Ok value)) = Ends plan (o value) answers p q
+    ⊎ Asks plan (o value) Cut answers old p q
+Polls Pending Left Cut plan o answers old p q (poll.Ready (Err e)) = Ends plan (outcome.Refused e) answers p q

@@ -59,7 +59,7 @@ use Rattle.call_state.specs.declared.poll.Poll.TheVariants as poll
 use Rattle.sftp_file.specs.Files.{facts_of}
 use Rattle.sftp_buffered.specs.declared.file.ReadUnderWay.{ReadUnderWay}
 use Rattle.sftp_buffered.specs.Buffered.{CompatValue, Defers, IsSound, LeavesOthers, lane_of}
-use Rattle.sftp_buffered.specs.Polls.{Polls, Waits}
+use Rattle.sftp_buffered.specs.Polls.{AnyCut, Polls, Waits}
 use Rattle.sftp_buffered.specs.Steps.{IsLeft}
 
 -- ---- the plan of a read into the buffer
@@ -214,8 +214,8 @@ pub record Begun (plan : Plan) (answers : Answers) (old new : Core) (p q : Compa
 pub record ReadsTo {V : Type 0} (plan : Plan) (o : V → Outcome) (old new : Core) (p q : CompatValue)
     (result : Poll (Result V Error)) : Type 0 where
   pub polled : (answers : Answers) → Defers old p answers
-      → Polls (Waits plan answers old (IsLeft old new p q) ⊎ Begun plan answers old new p q) (IsLeft old new p q) plan o
-      answers old p q result
+      → Polls (Waits plan answers old (IsLeft old new p q) ⊎ Begun plan answers old new p q) (IsLeft old new p q) AnyCut
+      plan o answers old p q result
   pub sound : IsSound new q
   pub others : LeavesOthers old new p
 

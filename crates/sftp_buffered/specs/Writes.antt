@@ -10,10 +10,12 @@ use Rattle.plan_model.specs.BufferPlans.{buf_write_next, is_good}
 use Rattle.plan_model.specs.Moves.{Answers, Plan}
 use Rattle.sftp_core.specs.Core.{Core}
 use Rattle.call_state.specs.Asked.{Submitted}
+use Rattle.call_state.specs.declared.asking.Asking.{Asking}
 use Rattle.call_state.specs.declared.asking.Asking.TheVariants.{Parts}
 use Rattle.call_state.specs.declared.poll.Poll.{Poll}
 use Rattle.call_state.specs.declared.poll.Poll.TheVariants as poll
 use Rattle.sftp_file.specs.Files.{facts_of}
+use Rattle.sftp_file.specs.Parts.{cut_at}
 use Rattle.sftp_buffered.specs.declared.window.Window.{Window}
 use Rattle.sftp_buffered.specs.Buffered.{CompatValue, Defers, IsSound, LeavesOthers, lane_of}
 use Rattle.sftp_buffered.specs.Polls.{Polls, Waits}
@@ -78,11 +80,16 @@ Unsent full n old new p q other = ⊥
 abbrev pub write_plan : List ℕ → Core → CompatValue → Plan
 write_plan bytes core c = buf_write_next 0 bytes (lane_of c) (facts_of core)
 
+-- the WRITE is cut out of these pieces
+abbrev pub IsCutOut : List (List ℕ) → CompatValue → Asking → Type 0
+IsCutOut pieces c asking = (n : ℕ) × (asking ≡ Parts c.file.grant.handle c.file.offset (cut_at 0 n pieces))
+
 -- The poll did the next move of the write of these bytes, whatever the replies to come, the file may be polled on, and
 -- others find the core as it was. `Pending`, want of memory and a kept fault leave core and file as they were.
-pub record Writes (bytes : List ℕ) (old new : Core) (p q : CompatValue) (result : Poll (Result ℕ Error)) : Type 0 where
+pub record Writes (Cut : Asking → Type 0) (bytes : List ℕ) (old new : Core) (p q : CompatValue)
+    (result : Poll (Result ℕ Error)) : Type 0 where
   pub polled : (answers : Answers) → Defers old p answers
-      → Polls (Waits (write_plan bytes old p) answers old (IsLeft old new p q)) (IsLeft old new p q)
+      → Polls (Waits (write_plan bytes old p) answers old (IsLeft old new p q)) (IsLeft old new p q) Cut
       (write_plan bytes old p) (λ n. outcome.Count n) answers old p q result
   pub sound : IsSound new q
   pub others : LeavesOthers old new p

@@ -1,18 +1,20 @@
 //! Writes whose statuses are left for later.
-ghost use Rattle.std.specs.Prelude.{◌≡◌, ◌≤◌, ◌<◌, ◌+◌, ◌^◌, length, true, IfOk, IfErr, OnOk, OnErr};
+ghost use Rattle.std.specs.List.{list_all};
+ghost use Rattle.std.specs.Prelude.{◌≡◌, ◌==◌, ◌≤◌, ◌<◌, ◌+◌, ◌^◌, length, true, IfOk, IfErr, OnOk, OnErr};
 ghost use Rattle.sftp_model.specs.Numbers.{MAX_TRANSFER_LEN};
 ghost use Rattle.sftp_model.specs.Pieces.{joined};
 ghost use Rattle.plan_model.specs.BufferPlans.{is_good};
 ghost use Rattle.call_state.specs.Asked.{IsReady, Submitted};
 ghost use Rattle.call_state.specs.declared.asking.Asking.TheVariants as asking;
 ghost use Rattle.sftp_buffered.specs.Buffered.{IsCounted, IsHeld, IsSound};
+ghost use Rattle.sftp_buffered.specs.Polls.{AnyCut};
 ghost use Rattle.sftp_buffered.specs.Steps.{IsLeft, IsStopped, freed, oldest_reply};
-ghost use Rattle.sftp_buffered.specs.Writes.{IsDeferred, Sent, Unsent, Writes};
+ghost use Rattle.sftp_buffered.specs.Writes.{IsCutOut, IsDeferred, Sent, Unsent, Writes};
 
 use crate::file::{DeferredWrite, TokioCompatFile};
 use bytes::Bytes;
 use sftp_core::{Core, SubmitError, Ticket};
-use sftp_file::{Error, IoKind, OutOfMemory, Poll, one_piece};
+use sftp_file::{Error, IoKind, OutOfMemory, Poll, cut, one_piece};
 
 impl TokioCompatFile {
     /// Submits the WRITE of these parts at the offset. Refused by a kept fault or for want of memory, the core is as
@@ -107,7 +109,7 @@ impl TokioCompatFile {
     pub fn poll_write(&mut self, core: &mut Core, buf: &[u8]) -> Poll<Result<usize, Error>>
         requires ready { IsReady core.old }
         requires sound { IsSound core.old self.old }
-        ensures { Writes buf.now core.old core.new self.old self.new result }
+        ensures { Writes AnyCut buf.now core.old core.new self.old self.new result }
     {
         if !self.file.is_writable() {
             return Poll::Ready(Err(Error::IOError(IoKind::NotWritable)));
@@ -127,4 +129,38 @@ impl TokioCompatFile {
             }
         }
     }
+
+    /// Writes the first bytes of these pieces, joined, as `poll_write`. No byte is copied: what is sent is cut out of the
+    /// pieces.
+    pub fn poll_write_vectored(
+        &mut self,
+        core: &mut Core,
+        bufs: &[Bytes],
+    ) -> Poll<Result<usize, Error>>
+        requires ready { IsReady core.old }
+        requires sound { IsSound core.old self.old }
+        ensures { Writes (IsCutOut bufs.now self.old) (joined bufs.now) core.old core.new self.old self.new result }
+    {
+        if !self.file.is_writable() {
+            return Poll::Ready(Err(Error::IOError(IoKind::NotWritable)));
+        }
+        if are_empty(bufs) {
+            return Poll::Ready(Ok(0));
+        }
+        match self.poll_window(core) {
+            Poll::Pending => Poll::Pending,
+            Poll::Ready(Err(e)) => Poll::Ready(Err(e)),
+            Poll::Ready(Ok(window)) => match cut(core.alloc(), bufs, 0, window.len) {
+                Ok((parts, len)) => Poll::Ready(self.send(core, &parts, len, window.is_full)),
+                Err(OutOfMemory) => Poll::Ready(Err(Error::OutOfMemory)),
+            },
+        }
+    }
+}
+
+/// Whether these pieces join to nothing.
+fn are_empty(bufs: &[Bytes]) -> bool
+    ensures { result ≡ list_all (λ piece. length piece == 0) bufs.now }
+{
+    bufs.iter().all(|piece| piece.is_empty())
 }
