@@ -6,3 +6,4 @@ pub mod Flushes
 pub mod Reads
 pub mod Seeks
 pub mod Whole
+pub mod Lending

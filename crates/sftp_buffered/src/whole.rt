@@ -1,8 +1,10 @@
 //! The file below the buffer: taken out, shared, and lent.
+ghost use Rattle.std.specs.Borrow.{sem};
 ghost use Rattle.std.specs.Prelude.{◌≡◌, ◌<◌};
 ghost use Rattle.sftp_core.specs.Core.{at, retained, users_of, IsGrant};
 ghost use Rattle.sftp_buffered.specs.Buffered.{AreHeld, IsHeld, IsSound, new_value};
-ghost use Rattle.sftp_buffered.specs.Whole.{Abandons, all_dropped, emptied};
+ghost use Rattle.sftp_buffered.specs.Lending.{LendsFile};
+ghost use Rattle.sftp_buffered.specs.Whole.{Abandons, all_dropped};
 ghost use Rattle.sftp_buffered.specs.Steps.{read_dropped};
 
 use crate::buffer::abandon_read;
@@ -33,6 +35,19 @@ impl TokioCompatFile {
         abandon_read(core, reading);
         abandon_all(core, deferred);
         file
+    }
+
+    /// The file below, to be moved or asked. The buffer is emptied before, and the READ under way is given up; the
+    /// deferred writes stay.
+    pub fn as_mut_file(&mut self, core: &mut Core) -> &mut File
+        requires { IsSound core.old self.old }
+        ensures* writes_back { sem 𝓛 (LendsFile self.entry result) }
+        ensures value { result.now ≡ self.old.file }
+        ensures core { core.new ≡ read_dropped core.old self.old.reading }
+    {
+        self.buffered.clear();
+        self.drop_read(core);
+        &mut self.file
     }
 
     /// The same file once more, for one user more, at the same offset and with the same buffer length; nothing of it is
