@@ -4,10 +4,11 @@ use Rattle.std.specs.Prelude.{nat_le}
 use Rattle.std.specs.Option.{option_to_list}
 use Rattle.sftp_core.specs.Core.{Core, abandoned, at}
 use Rattle.sftp_core.proofs.Elsewhere.{abandon_elsewhere}
+use Rattle.sftp_file.specs.Files.{FileValue}
 use Rattle.sftp_buffered.specs.declared.file.DeferredWrite.{DeferredWrite}
-use Rattle.sftp_buffered.specs.Buffered.{AreApart, AreHeld, CompatValue, IsApart, IsCounted, IsSound, LeavesOthers, len_of}
+use Rattle.sftp_buffered.specs.Buffered.{AreApart, AreHeld, CompatValue, IsApart, IsCounted, IsSound, LeavesOthers, len_of, new_value}
 use Rattle.sftp_buffered.specs.Steps.{IsLeft, read_dropped}
-use Rattle.sftp_buffered.specs.Whole.{Abandons, Shrinks, all_dropped, emptied, shrunk, shrunk_core}
+use Rattle.sftp_buffered.specs.Whole.{Abandons, Empties, Shrinks, all_dropped, emptied, shrunk, shrunk_core}
 use Rattle.sftp_buffered.proofs.Others.{others_abandoned, others_both, others_dropped, others_left, others_same}
 use Rattle.sftp_buffered.proofs.Sound.{held_but, held_dropped, sound_left}
 
@@ -92,3 +93,31 @@ fits_already cap core c within s =
 
 pub shrink_refused : {E : Type 0} (cap : ℕ) (old new : Core) (p q : CompatValue) (e : E) → IsSound old p → IsLeft old new p q → Shrinks {E = E} cap old new p q (Err e)
 shrink_refused cap old new p q e s l = record { shrinks = l; sound = sound_left old new p q l s; others = others_left old new p l.core }
+
+-- ---- the file below, lent
+
+pub empties : (old new : Core) (c : CompatValue) → IsSound old c → new ≡ read_dropped old c.reading → Empties old new c
+empties old new c s is =
+    record {
+      core = is;
+      sound = λ file below. subst (λ (x : Core). IsSound x (record (emptied c) { file = file })) (sym is) (record {
+        held = record { writes = held_dropped old c.reading c.deferred s.held.read s.held.writes; read = tt };
+        counted = record {
+          pending = s.counted.pending;
+          rising = s.counted.rising;
+          placed = tt;
+          ends = omega (arith, below);
+          capacity = omega arith;
+        };
+      });
+      others = subst (λ (x : Core). LeavesOthers old x c) (sym is) (others_dropped old c.reading c (λ other apart. apart.read) s.held.read);
+    }
+
+-- ---- a file of which nothing is under way
+
+pub new_sound : (core : Core) (file : FileValue) (buffer_len : ℕ) → file.offset < 2 ^ 64 → IsSound core (new_value file buffer_len)
+new_sound core file buffer_len below =
+    record {
+      held = record { writes = tt; read = tt };
+      counted = record { pending = refl; rising = omega arith; placed = tt; ends = omega (arith, below); capacity = omega arith };
+    }

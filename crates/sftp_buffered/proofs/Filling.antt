@@ -107,7 +107,7 @@ rising_below : (from : ℕ) (ds : List DeferredWrite) (to : ℕ) → AreRising f
 rising_below from [] to h = h
 rising_below from (d ∷ ds) to h = (let below : d.place + 1 ≤ to = rising_below (d.place + 1) ds to h.1 in omega (arith, below, h.0))
 
-rising_elsewhere : (from : ℕ) (ds : List DeferredWrite) (to : ℕ) → AreRising from ds to → AreElsewhere to ds
+pub rising_elsewhere : (from : ℕ) (ds : List DeferredWrite) (to : ℕ) → AreRising from ds to → AreElsewhere to ds
 rising_elsewhere from [] to h = tt
 rising_elsewhere from (d ∷ ds) to h =
     (let below : d.place + 1 ≤ to = rising_below (d.place + 1) ds to h.1 in λ same. omega (arith, below, same), rising_elsewhere (d.place + 1) ds to h.1)

@@ -11,3 +11,4 @@ pub mod Reading
 pub mod Seeking
 pub mod Abandoning
 pub mod Pieces
+pub mod Keeping

@@ -159,6 +159,20 @@ pub record IsApart (ticket : ℕ) (c : CompatValue) : Type 0 where
   pub writes : AreApart ticket c.deferred
   pub read : IsOther ticket c.reading
 
+-- the tickets of these writes are none of a file's
+abbrev pub AreNone : List DeferredWrite → CompatValue → Type 0
+AreNone [] c = Unit {0}
+AreNone (d ∷ ds) c = IsApart d.ticket c × AreNone ds c
+
+abbrev pub IsNone : Option ReadUnderWay → CompatValue → Type 0
+IsNone None c = Unit {0}
+IsNone (Some r) c = IsApart r.ticket c
+
+-- no request of a file has the ticket of one of another's
+pub record AreOthers (other c : CompatValue) : Type 0 where
+  pub writes : AreNone c.deferred other
+  pub read : IsNone c.reading other
+
 -- a core as others see it: each ticket that is none of the file's is held as before, each grant stays, and so does what
 -- was told of the session
 pub record LeavesOthers (old new : Core) (c : CompatValue) : Type 0 where

@@ -1,6 +1,7 @@
 -- What becomes of the whole of a buffered file: its capacity, and the file below it.
-use Rattle.std.specs.Prelude.{◌≡◌, ◌≤◌, ◌<◌, ℕ, List, [], ◌∷◌, None, Result, Ok, Err, nat_le, if◌then◌else◌}
+use Rattle.std.specs.Prelude.{◌≡◌, ◌<◌, ◌^◌, ℕ, List, [], ◌∷◌, None, Result, Ok, Err, nat_le, if◌then◌else◌}
 use Rattle.sftp_core.specs.Core.{Core, abandoned}
+use Rattle.sftp_file.specs.Files.{FileValue}
 use Rattle.sftp_buffered.specs.declared.file.DeferredWrite.{DeferredWrite}
 use Rattle.sftp_buffered.specs.Buffered.{CompatValue, IsRestOf, IsSound, LeavesOthers}
 use Rattle.sftp_buffered.specs.Steps.{IsLeft, read_dropped}
@@ -26,6 +27,13 @@ pub record Shrinks {E : Type 0} (cap : ℕ) (old new : Core) (p q : CompatValue)
   pub shrinks : ShrinksTo cap old new p q result
   pub sound : IsSound new q
   pub others : LeavesOthers old new p
+
+-- The READ was given up, others find the core as it was, and however the file below is left, the emptied file may be
+-- polled on.
+pub record Empties (old new : Core) (c : CompatValue) : Type 0 where
+  pub core : new ≡ read_dropped old c.reading
+  pub sound : (file : FileValue) → file.offset < 2 ^ 64 → IsSound new (record (emptied c) { file = file })
+  pub others : LeavesOthers old new c
 
 -- the core once all these writes were abandoned, the oldest first
 abbrev pub all_dropped : Core → List DeferredWrite → Core

@@ -1,6 +1,7 @@
 //! The file, its buffer, and what is under way.
 ghost use Rattle.std.specs.Prelude.{◌≡◌, ◌≤◌, [], None, true};
-ghost use Rattle.sftp_buffered.specs.Buffered.{new_value};
+ghost use Rattle.sftp_core.specs.Core.{Core as CoreValue};
+ghost use Rattle.sftp_buffered.specs.Buffered.{IsSound, new_value};
 
 use bytes::BytesMut;
 use sftp_core::Ticket;
@@ -68,7 +69,8 @@ impl Model for TokioCompatFile {
 impl TokioCompatFile {
     /// The file with an empty buffer, whose reads ask for at least `DEFAULT_BUFLEN` bytes. No memory is taken.
     pub fn new(alloc: Global, inner: File) -> TokioCompatFile
-        ensures { result ≡ new_value inner 4096 }
+        ensures value { result ≡ new_value inner 4096 }
+        ensures sound { (core : CoreValue) → IsSound core result }
     {
         TokioCompatFile::with_capacity(alloc, inner, DEFAULT_BUFLEN)
     }
@@ -76,7 +78,8 @@ impl TokioCompatFile {
     /// The file with an empty buffer, whose reads ask for at least `buffer_len` bytes. No memory is taken.
     pub fn with_capacity(alloc: Global, inner: File, buffer_len: usize) -> TokioCompatFile
         requires { 1 ≤ buffer_len }
-        ensures { result ≡ new_value inner buffer_len }
+        ensures value { result ≡ new_value inner buffer_len }
+        ensures sound { (core : CoreValue) → IsSound core result }
     {
         TokioCompatFile {
             file: inner,

@@ -5,6 +5,7 @@ mod buffer;
 mod file;
 mod fill;
 mod flush;
+mod laws;
 mod limits;
 mod oldest;
 mod read;
@@ -15,4 +16,5 @@ mod window;
 mod write;
 
 pub use file::{DEFAULT_BUFLEN, TokioCompatFile};
+pub use laws::{others_leave_it_sound, replies_can_be_told};
 pub use sftp_file::{File, Poll};

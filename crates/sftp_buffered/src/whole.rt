@@ -1,11 +1,10 @@
 //! The file below the buffer: taken out, shared, and lent.
 ghost use Rattle.std.specs.Borrow.{sem};
 ghost use Rattle.std.specs.Prelude.{◌≡◌, ◌<◌};
-ghost use Rattle.sftp_core.specs.Core.{at, retained, users_of, IsGrant};
+ghost use Rattle.sftp_core.specs.Core.{Core as CoreValue, at, retained, users_of, IsGrant};
 ghost use Rattle.sftp_buffered.specs.Buffered.{AreHeld, IsHeld, IsSound, new_value};
 ghost use Rattle.sftp_buffered.specs.Lending.{LendsFile};
-ghost use Rattle.sftp_buffered.specs.Whole.{Abandons, all_dropped};
-ghost use Rattle.sftp_buffered.specs.Steps.{read_dropped};
+ghost use Rattle.sftp_buffered.specs.Whole.{Abandons, Empties, all_dropped};
 
 use crate::buffer::abandon_read;
 use crate::file::{DeferredWrite, ReadUnderWay, TokioCompatFile};
@@ -43,7 +42,7 @@ impl TokioCompatFile {
         requires { IsSound core.old self.old }
         ensures* writes_back { sem 𝓛 (LendsFile self.entry result) }
         ensures value { result.now ≡ self.old.file }
-        ensures core { core.new ≡ read_dropped core.old self.old.reading }
+        ensures empties { Empties core.old core.new self.old }
     {
         self.buffered.clear();
         self.drop_read(core);
@@ -58,6 +57,7 @@ impl TokioCompatFile {
         ensures file { result ≡ new_value self.now.file self.now.buffer_len }
         ensures core { core.new ≡ retained core.old self.now.file.grant }
         ensures granted { IsGrant core.new self.now.file.grant }
+        ensures sound { (other : CoreValue) → IsSound other result }
     {
         TokioCompatFile {
             file: self.file.clone_file(core),
