@@ -1,14 +1,14 @@
 -- What is left where the requests of a buffered file are given up.
-use Rattle.std.proofs.Common.{◌≡◌, ◌≤◌, ◌<◌, ◌+◌, ◌^◌, ◌∙◌, refl, sym, ap, subst, arith, ℕ, Bool, true, false, List, [], ◌∷◌, ◌++◌, Option, Some, None, Result, Ok, Err, length, if◌then◌else◌}
+use Rattle.std.proofs.Common.{◌≡◌, ◌<◌, ◌+◌, ◌^◌, ◌∙◌, refl, sym, ap, subst, arith, ℕ, true, false, List, [], ◌∷◌, ◌++◌, Option, Some, None, Ok, Err, length, if◌then◌else◌}
 use Rattle.std.specs.Prelude.{nat_le}
 use Rattle.std.specs.Option.{option_to_list}
 use Rattle.sftp_core.specs.Core.{Core, abandoned, at}
 use Rattle.sftp_core.proofs.Elsewhere.{abandon_elsewhere}
 use Rattle.sftp_file.specs.Files.{FileValue}
 use Rattle.sftp_buffered.specs.declared.file.DeferredWrite.{DeferredWrite}
-use Rattle.sftp_buffered.specs.Buffered.{AreApart, AreHeld, CompatValue, IsApart, IsCounted, IsSound, LeavesOthers, len_of, new_value}
+use Rattle.sftp_buffered.specs.Buffered.{AreApart, AreHeld, CompatValue, IsApart, IsSound, LeavesOthers, len_of, new_value}
 use Rattle.sftp_buffered.specs.Steps.{IsLeft, read_dropped}
-use Rattle.sftp_buffered.specs.Whole.{Abandons, Empties, Shrinks, all_dropped, emptied, shrunk, shrunk_core}
+use Rattle.sftp_buffered.specs.Whole.{Abandons, Empties, Shrinks, all_dropped, emptied}
 use Rattle.sftp_buffered.proofs.Others.{others_abandoned, others_both, others_dropped, others_left, others_same}
 use Rattle.sftp_buffered.proofs.Sound.{held_but, held_dropped, sound_left}
 
@@ -25,22 +25,26 @@ pub record DropsSoFar (old : Core) (all : List DeferredWrite) (core : Core) (ds 
 pub drops_none : (core : Core) (ds : List DeferredWrite) → AreHeld core ds → DropsSoFar core ds core ds
 drops_none core ds held = record { held = held; drops = refl }
 
-pub drops_on : (old core new : Core) (all ds rest : List DeferredWrite) (r : Option DeferredWrite) (d : DeferredWrite) → DropsSoFar old all core ds → ds ≡ option_to_list r ++ rest → r ≡ Some d → new ≡ abandoned core d.ticket
+pub drops_on : (old core new : Core) (all ds rest : List DeferredWrite) (r : Option DeferredWrite) (d : DeferredWrite)
+    → DropsSoFar old all core ds → ds ≡ option_to_list r ++ rest → r ≡ Some d → new ≡ abandoned core d.ticket
     → DropsSoFar old all new rest
 drops_on old core new all ds rest r d s items is next =
     let cons : ds ≡ d ∷ rest = items ∙ ap (λ (x : Option DeferredWrite). option_to_list x ++ rest) is in
     subst (λ (x : Core). DropsSoFar old all x rest) (sym next)
     (record { held = held_rest core d rest (subst (AreHeld core) cons s.held); drops = ap (all_dropped core) (sym cons) ∙ s.drops })
 
-pub drops_all : (old core : Core) (all ds rest : List DeferredWrite) (r : Option DeferredWrite) → DropsSoFar old all core ds → ds ≡ option_to_list r ++ rest → r ≡ None → rest ≡ [] → core ≡ all_dropped old all
+pub drops_all : (old core : Core) (all ds rest : List DeferredWrite) (r : Option DeferredWrite)
+    → DropsSoFar old all core ds → ds ≡ option_to_list r ++ rest → r ≡ None → rest ≡ [] → core ≡ all_dropped old all
 drops_all old core all ds rest r s items is none =
     let nothing : ds ≡ [] = items ∙ (ap (λ (x : Option DeferredWrite). option_to_list x ++ rest) is ∙ none) in
     sym (ap (all_dropped core) nothing) ∙ s.drops
 
-others_all : (core : Core) (ds : List DeferredWrite) (c : CompatValue) → ((other : ℕ) → IsApart other c → AreApart other ds) → AreHeld core ds → LeavesOthers core (all_dropped core ds) c
+others_all : (core : Core) (ds : List DeferredWrite) (c : CompatValue)
+    → ((other : ℕ) → IsApart other c → AreApart other ds) → AreHeld core ds → LeavesOthers core (all_dropped core ds) c
 others_all core [] c own held = others_same core c
 others_all core (d ∷ ds) c own held =
-    others_both core (abandoned core d.ticket) (all_dropped (abandoned core d.ticket) ds) c (others_abandoned core d.ticket c held.0.counted (λ other apart. (own other apart).0))
+    others_both core (abandoned core d.ticket) (all_dropped (abandoned core d.ticket) ds) c
+    (others_abandoned core d.ticket c held.0.counted (λ other apart. (own other apart).0))
     (others_all (abandoned core d.ticket) ds c (λ other apart. (own other apart).1) (held_rest core d ds held))
 
 -- all that is under way
@@ -50,8 +54,10 @@ abandons old mid new c s read writes =
     record {
       core = all;
       others = subst (λ (x : Core). LeavesOthers old x c) (sym all)
-          (others_both old (read_dropped old c.reading) (all_dropped (read_dropped old c.reading) c.deferred) c (others_dropped old c.reading c (λ other apart. apart.read) s.held.read)
-          (others_all (read_dropped old c.reading) c.deferred c (λ other apart. apart.writes) (held_dropped old c.reading c.deferred s.held.read s.held.writes)));
+          (others_both old (read_dropped old c.reading) (all_dropped (read_dropped old c.reading) c.deferred) c
+          (others_dropped old c.reading c (λ other apart. apart.read) s.held.read)
+          (others_all (read_dropped old c.reading) c.deferred c (λ other apart. apart.writes)
+          (held_dropped old c.reading c.deferred s.held.read s.held.writes)));
     }
 
 -- ---- the capacity
@@ -72,18 +78,23 @@ emptied_sound core c cap s =
       };
     }
 
-pub shrinks : {E : Type 0} (cap : ℕ) (old new : Core) (p q : CompatValue) → nat_le p.capacity cap ≡ false → IsSound old p → q ≡ record (emptied p) { capacity = cap } → new ≡ read_dropped old p.reading → Shrinks {E = E} cap old new p q (Ok tt)
+pub shrinks : {E : Type 0} (cap : ℕ) (old new : Core) (p q : CompatValue) → nat_le p.capacity cap ≡ false
+    → IsSound old p → q ≡ record (emptied p) { capacity = cap } → new ≡ read_dropped old p.reading
+    → Shrinks {E = E} cap old new p q (Ok tt)
 shrinks cap old new p q over s left core =
     record {
       shrinks = (
         left ∙ sym (λ i. if over i then p else record (emptied p) { capacity = cap }),
         core ∙ sym (λ i. if over i then old else read_dropped old p.reading),
       );
-      sound = subst (λ (x : CompatValue). IsSound new x) (sym left) (subst (λ (x : Core). IsSound x (record (emptied p) { capacity = cap })) (sym core) (emptied_sound old p cap s));
+      sound = subst (λ (x : CompatValue). IsSound new x) (sym left)
+          (subst (λ (x : Core). IsSound x (record (emptied p) { capacity = cap })) (sym core)
+          (emptied_sound old p cap s));
       others = subst (λ (x : Core). LeavesOthers old x p) (sym core) (others_dropped old p.reading p (λ other apart. apart.read) s.held.read);
     }
 
-pub fits_already : {E : Type 0} (cap : ℕ) (core : Core) (c : CompatValue) → nat_le c.capacity cap ≡ true → IsSound core c → Shrinks {E = E} cap core core c c (Ok tt)
+pub fits_already : {E : Type 0} (cap : ℕ) (core : Core) (c : CompatValue) → nat_le c.capacity cap ≡ true
+    → IsSound core c → Shrinks {E = E} cap core core c c (Ok tt)
 fits_already cap core c within s =
     record {
       shrinks = (sym (λ i. if within i then c else record (emptied c) { capacity = cap }), sym (λ i. if within i then core else read_dropped core c.reading));
@@ -91,7 +102,8 @@ fits_already cap core c within s =
       others = others_same core c;
     }
 
-pub shrink_refused : {E : Type 0} (cap : ℕ) (old new : Core) (p q : CompatValue) (e : E) → IsSound old p → IsLeft old new p q → Shrinks {E = E} cap old new p q (Err e)
+pub shrink_refused : {E : Type 0} (cap : ℕ) (old new : Core) (p q : CompatValue) (e : E) → IsSound old p
+    → IsLeft old new p q → Shrinks {E = E} cap old new p q (Err e)
 shrink_refused cap old new p q e s l = record { shrinks = l; sound = sound_left old new p q l s; others = others_left old new p l.core }
 
 -- ---- the file below, lent

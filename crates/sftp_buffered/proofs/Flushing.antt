@@ -1,47 +1,12 @@
 -- What settling the oldest statuses leaves, and the plan of a flush.
-use Rattle.std.proofs.Common.{
-  ◌≡◌,
-  ◌+◌,
-  ◌-◌,
-  ◌∙◌,
-  refl,
-  sym,
-  ap,
-  subst,
-  arith,
-  ℕ,
-  Bool,
-  true,
-  false,
-  List,
-  [],
-  ◌∷◌,
-  Option,
-  Some,
-  None,
-  Result,
-  Ok,
-  Err,
-  inl,
-  inr,
-  ◌⊎◌,
-  ◌==◌,
-  drop,
-  zero,
-  suc,
-  if◌then◌else◌,
-  slice_get,
-}
+use Rattle.std.proofs.Common.{◌≡◌, ◌+◌, ◌-◌, ◌∙◌, refl, sym, ap, subst, arith, ℕ, Bool, true, false, List, [], ◌∷◌, Option, Some, None, Result, Ok, Err, inl, inr, ◌⊎◌, drop, zero, suc, if◌then◌else◌, slice_get}
 use Rattle.std.specs.Prelude.{not}
 use Rattle.std.proofs.lemmas.List.{drop-drop}
-use Rattle.sftp_model.specs.Numbers.{SSH_FX_OK}
 use Rattle.sftp_model.specs.declared.error.Error.{Error}
 use Rattle.sftp_model.specs.declared.error.Error.TheVariants as error
 use Rattle.sftp_model.specs.declared.error.Fault.{Fault}
 use Rattle.sftp_model.specs.declared.error.IoKind.TheVariants as kind
 use Rattle.sftp_model.specs.declared.outcome.Outcome.TheVariants as outcome
-use Rattle.sftp_model.specs.declared.reply.Reply.{Reply}
-use Rattle.sftp_model.specs.declared.reply.Reply.TheVariants as reply
 use Rattle.sftp_model.specs.declared.slot.Buffer.{Buffer}
 use Rattle.sftp_model.specs.declared.slot.FileAt.{FileAt}
 use Rattle.sftp_model.specs.declared.slot.Move.{Move}
@@ -79,7 +44,7 @@ use Rattle.sftp_buffered.specs.Buffered.{
 }
 use Rattle.sftp_buffered.specs.Flushes.{FlushesTo, IsFlushed, Settles, flush_plan, unsettled, with_writes}
 use Rattle.sftp_buffered.specs.Polls.{AnyCut, Polls, Waits}
-use Rattle.sftp_buffered.specs.Steps.{IsLeft, LooksAtOldest, oldest_len, oldest_polled, oldest_reply, status_value, without_oldest}
+use Rattle.sftp_buffered.specs.Steps.{IsLeft, LooksAtOldest, WasRefused, oldest_len, oldest_polled, oldest_reply, without_oldest}
 use Rattle.sftp_buffered.proofs.Holding.{other_kind}
 use Rattle.sftp_buffered.proofs.Others.{others_both, others_left, others_looked, others_oldest, others_same}
 use Rattle.sftp_buffered.proofs.Planning.{bad_ends, good_goes, missing_waits, status_memory}
@@ -376,6 +341,11 @@ flush_polls old mid new p r q d ds (poll.Ready (Err e)) may s is l answers told 
       rest = subst (λ (x : CompatValue). IsRestOf p x) (sym l.left) (rest_less p r s.rest);
     }
 
+flush_memory : (old new : Core) (p q : CompatValue) (result : Poll (Result (Unit {0}) Error))
+    → LooksAtOldest old new p q result → result ≡ poll.Ready (Err error.OutOfMemory) → ⊥
+flush_memory old new p q result l is = (let w : WasRefused old new p q error.OutOfMemory =
+    subst (LooksAtOldest old new p q) is l in status_memory w.reply w.refuses)
+
 flush_sound : (old new : Core) (p q : CompatValue) (result : Poll (Result (Unit {0}) Error)) → LooksAtOldest old new p q result → IsSound old p → IsSound new q
 flush_sound old new p q poll.Pending l s = sound_left old new p q l.2 s
 flush_sound old new p q (poll.Ready (Ok u)) l s = sound_left old new p q l.1 s
@@ -395,6 +365,7 @@ flushes_at old mid new p r q [] result may s is some l = absurd (some refl)
 flushes_at old mid new p r q (d ∷ ds) result may s is some l =
     record {
       polled = flush_polls old mid new p r q d ds result may s is l;
+      memory = flush_memory mid new r q result l;
       sound = flush_sound mid new r q result l s.sound;
       others = others_both old mid new p s.others (others_rest mid new p r s.rest (flush_others mid new r q result l s.sound));
     }
@@ -419,6 +390,7 @@ flushes_all old new p q may s none =
             (buffer_of p) (lane_of q) answers (writes_of xs)) (none_left q.deferred none);
         rest = s.rest;
       });
+      memory = λ is. cc;
       sound = s.sound;
       others = s.others;
     }
@@ -432,6 +404,7 @@ unwritable_flushes core c not_so s =
             flush_next 0 (file_at c.file) (buffer_of c) (lane_of c) answers (writes_of c.deferred));
         rest = (settles_none core c s).rest;
       };
+      memory = λ is. cc;
       sound = s;
       others = others_same core c;
     }

@@ -1,9 +1,8 @@
 -- What others leave of a buffered file, and the replies that its core has for it.
-use Rattle.std.proofs.Common.{◌≡◌, ◌≤◌, ◌<◌, ◌+◌, ◌∙◌, refl, sym, ap, subst, arith, ℕ, Bool, true, false, List, [], ◌∷◌, Option, Some, None, ◌==◌, if◌then◌else◌}
+use Rattle.std.proofs.Common.{◌≡◌, ◌<◌, ◌+◌, ◌∙◌, refl, sym, ap, arith, ℕ, true, false, List, [], ◌∷◌, Option, Some, None, ◌==◌, if◌then◌else◌}
 use Rattle.std.proofs.lemmas.Bool.Decides.{nat_tests}
 use Rattle.sftp_model.specs.declared.answers.Expected.{Expected}
 use Rattle.sftp_model.specs.declared.answers.Expected.TheVariants as expected
-use Rattle.sftp_model.specs.declared.reply.Reply.{Reply}
 use Rattle.sftp_model.specs.declared.reply.Reply.TheVariants as reply
 use Rattle.plan_model.specs.Moves.{Answers, handle_of}
 use Rattle.sftp_core.specs.Core.{Core, IsGrant, abandoned, after_poll, at, released, reply_in, retained}
@@ -13,8 +12,25 @@ use Rattle.call_state.specs.Keeping.{Keeps}
 use Rattle.call_state.proofs.Keeping.{cancelled_on, polled_on, released_holds, retained_holds}
 use Rattle.sftp_buffered.specs.declared.file.DeferredWrite.{DeferredWrite}
 use Rattle.sftp_buffered.specs.declared.file.ReadUnderWay.{ReadUnderWay}
-use Rattle.sftp_buffered.specs.Buffered.{AreApart, AreElsewhere, AreHeld, AreNone, AreOthers, AreRising, AreTold, CompatValue, Defers, IsApart, IsHeldRead, IsNone, IsOther, IsPlaced, IsSound, IsTold, LeavesOthers}
-use Rattle.sftp_buffered.proofs.Filling.{rising_elsewhere}
+use Rattle.sftp_buffered.specs.Buffered.{
+  AreApart,
+  AreElsewhere,
+  AreHeld,
+  AreNone,
+  AreOthers,
+  AreRising,
+  AreTold,
+  CompatValue,
+  Defers,
+  IsApart,
+  IsHeldRead,
+  IsNone,
+  IsOther,
+  IsPlaced,
+  IsSound,
+  IsTold,
+  LeavesOthers,
+}
 
 -- ---- what others leave
 
@@ -28,12 +44,14 @@ EachRead P None = Unit {0}
 EachRead P (Some r) = P r.ticket
 
 -- each ticket that is held stays so, of those that pass
-held_of : (P : ℕ → Type 0) (old new : Core) (ds : List DeferredWrite) → ((ticket : ℕ) (kind : Expected) → P ticket → Holds old ticket kind → Holds new ticket kind)
+held_of : (P : ℕ → Type 0) (old new : Core) (ds : List DeferredWrite)
+    → ((ticket : ℕ) (kind : Expected) → P ticket → Holds old ticket kind → Holds new ticket kind)
     → Each P ds → AreHeld old ds → AreHeld new ds
 held_of P old new [] keeps own held = tt
 held_of P old new (d ∷ ds) keeps own held = (keeps d.ticket expected.Status own.0 held.0, held.1, held_of P old new ds keeps own.1 held.2)
 
-read_of : (P : ℕ → Type 0) (old new : Core) (r : Option ReadUnderWay) → ((ticket : ℕ) (kind : Expected) → P ticket → Holds old ticket kind → Holds new ticket kind)
+read_of : (P : ℕ → Type 0) (old new : Core) (r : Option ReadUnderWay)
+    → ((ticket : ℕ) (kind : Expected) → P ticket → Holds old ticket kind → Holds new ticket kind)
     → EachRead P r → IsHeldRead old r → IsHeldRead new r
 read_of P old new None keeps own held = tt
 read_of P old new (Some r) keeps own held = keeps r.ticket (expected.Content r.len) own held
@@ -41,7 +59,14 @@ read_of P old new (Some r) keeps own held = keeps r.ticket (expected.Content r.l
 sound_of : (P : ℕ → Type 0) (old new : Core) (c : CompatValue) → ((ticket : ℕ) (kind : Expected) → P ticket → Holds old ticket kind → Holds new ticket kind)
     → Each P c.deferred → EachRead P c.reading → IsSound old c → IsSound new c
 sound_of P old new c keeps writes read s =
-    record { held = record { writes = held_of P old new c.deferred keeps writes s.held.writes; read = read_of P old new c.reading keeps read s.held.read }; counted = s.counted }
+    record {
+      held = record {
+        writes = held_of P old new c.deferred keeps writes s.held.writes;
+        read =
+            read_of P old new c.reading keeps read s.held.read;
+      };
+      counted = s.counted;
+    }
 
 all_pass : (ds : List DeferredWrite) → Each (λ ticket. Unit {0}) ds
 all_pass [] = tt
@@ -56,11 +81,13 @@ kept_sound old new c k s = sound_of (λ ticket. Unit {0}) old new c (λ ticket k
 
 pub released_sound : (core : Core) (grant : GrantValue) (c : CompatValue) → IsGrant core grant → IsSound core c → IsSound (released core grant) c
 released_sound core grant c g s =
-    sound_of (λ ticket. Unit {0}) core (released core grant) c (λ ticket kind own h. released_holds core grant ticket kind g h) (all_pass c.deferred) (read_passes c.reading) s
+    sound_of (λ ticket. Unit {0}) core (released core grant) c
+    (λ ticket kind own h. released_holds core grant ticket kind g h) (all_pass c.deferred) (read_passes c.reading) s
 
 pub retained_sound : (core : Core) (grant : GrantValue) (c : CompatValue) → IsGrant core grant → IsSound core c → IsSound (retained core grant) c
 retained_sound core grant c g s =
-    sound_of (λ ticket. Unit {0}) core (retained core grant) c (λ ticket kind own h. retained_holds core grant ticket kind g h) (all_pass c.deferred) (read_passes c.reading) s
+    sound_of (λ ticket. Unit {0}) core (retained core grant) c
+    (λ ticket kind own h. retained_holds core grant ticket kind g h) (all_pass c.deferred) (read_passes c.reading) s
 
 -- a ticket that is none of the file's
 none_of : (t : ℕ) (ds : List DeferredWrite) → AreApart t ds → Each (λ ticket. ticket ≡ t → ⊥) ds
@@ -73,11 +100,15 @@ not_read t (Some r) other = λ same. other (sym same)
 
 pub polled_sound : (core : Core) (ticket : ℕ) (c : CompatValue) → IsApart ticket c → IsSound core c → IsSound (after_poll core ticket) c
 polled_sound core ticket c apart s =
-    sound_of (λ other. other ≡ ticket → ⊥) core (after_poll core ticket) c (λ other kind own h. polled_on core ticket other kind own h) (none_of ticket c.deferred apart.writes) (not_read ticket c.reading apart.read) s
+    sound_of (λ other. other ≡ ticket → ⊥) core (after_poll core ticket) c
+    (λ other kind own h. polled_on core ticket other kind own h) (none_of ticket c.deferred apart.writes)
+    (not_read ticket c.reading apart.read) s
 
 pub cancelled_sound : (core : Core) (ticket : ℕ) (c : CompatValue) → IsApart ticket c → IsSound core c → IsSound (abandoned core ticket) c
 cancelled_sound core ticket c apart s =
-    sound_of (λ other. other ≡ ticket → ⊥) core (abandoned core ticket) c (λ other kind own h. cancelled_on core ticket other kind own h) (none_of ticket c.deferred apart.writes) (not_read ticket c.reading apart.read) s
+    sound_of (λ other. other ≡ ticket → ⊥) core (abandoned core ticket) c
+    (λ other kind own h. cancelled_on core ticket other kind own h) (none_of ticket c.deferred apart.writes)
+    (not_read ticket c.reading apart.read) s
 
 -- a request of another file
 each_none : (ds : List DeferredWrite) (other : CompatValue) → AreNone ds other → Each (λ ticket. IsApart ticket other) ds
@@ -90,7 +121,8 @@ read_none (Some r) other none = none
 
 pub left_sound : (old new : Core) (other c : CompatValue) → LeavesOthers old new other → AreOthers other c → IsSound old c → IsSound new c
 left_sound old new other c l o s =
-    sound_of (λ ticket. IsApart ticket other) old new c (λ ticket kind own h. l.holds ticket kind own h) (each_none c.deferred other o.writes) (read_none c.reading other o.read) s
+    sound_of (λ ticket. IsApart ticket other) old new c (λ ticket kind own h. l.holds ticket kind own h)
+    (each_none c.deferred other o.writes) (read_none c.reading other o.read) s
 
 -- ---- the replies that a core has for a file
 
@@ -123,11 +155,15 @@ rising_above from place (d ∷ ds) to below rising =
     (λ same. omega (arith, same, below, rising.0), rising_above (d.place + 1) place ds to (omega (arith, below, rising.0)) rising.1)
 
 -- a write more at a place that is none of theirs
-told_more : (core : Core) (d : DeferredWrite) (ds es : List DeferredWrite) (rest : Answers) → AreElsewhere d.place es → AreTold core (told_by core ds rest) es → AreTold core (told_by core (d ∷ ds) rest) es
+told_more : (core : Core) (d : DeferredWrite) (ds es : List DeferredWrite) (rest : Answers) → AreElsewhere d.place es
+    → AreTold core (told_by core ds rest) es → AreTold core (told_by core (d ∷ ds) rest) es
 unfolding told_by
 told_more core d ds [] rest away told = tt
-told_more core d ds (e ∷ es) rest away told =
-    ((λ i. if other_test e.place d.place (λ same. away.0 (sym same)) i then reply_in (at core d.ticket) else told_by core ds rest e.place) ∙ told.0, told_more core d ds es rest away.1 told.1)
+told_more core d ds (e ∷ es) rest away told = (
+  (λ i. if other_test e.place d.place (λ same. away.0 (sym same)) i then reply_in (at core d.ticket) else
+      told_by core ds rest e.place) ∙ told.0,
+  told_more core d ds es rest away.1 told.1,
+)
 
 told_all : (core : Core) (from : ℕ) (ds : List DeferredWrite) (to : ℕ) (rest : Answers) → AreRising from ds to → AreTold core (told_by core ds rest) ds
 unfolding told_by
@@ -137,17 +173,20 @@ told_all core from (d ∷ ds) to rest rising = (
   told_more core d ds ds rest (rising_above (d.place + 1) d.place ds to (omega arith) rising.1) (told_all core (d.place + 1) ds to rest rising.1),
 )
 
-read_told : (core : Core) (ds : List DeferredWrite) (r : Option ReadUnderWay) (next : ℕ) (rest : Answers) → IsPlaced r ds next → IsTold core (told_by core ds (read_by core r rest)) r
+read_told : (core : Core) (ds : List DeferredWrite) (r : Option ReadUnderWay) (next : ℕ) (rest : Answers)
+    → IsPlaced r ds next → IsTold core (told_by core ds (read_by core r rest)) r
 unfolding read_by
 read_told core ds None next rest placed = tt
 read_told core ds (Some r) next rest placed =
     told_past core ds (read_by core (Some r) rest) r.place placed.2 ∙ (λ i. if same_test r.place i then reply_in (at core r.ticket) else rest r.place)
 
 -- the OPEN's place is none of the READ's
-opened_past : (core : Core) (r : Option ReadUnderWay) (ds : List DeferredWrite) (next : ℕ) (rest : Answers) → IsPlaced r ds next → read_by core r rest 0 ≡ rest 0
+opened_past : (core : Core) (r : Option ReadUnderWay) (ds : List DeferredWrite) (next : ℕ) (rest : Answers)
+    → IsPlaced r ds next → read_by core r rest 0 ≡ rest 0
 unfolding read_by
 opened_past core None ds next rest placed = refl
-opened_past core (Some r) ds next rest placed = (λ i. if other_test 0 r.place (λ same. omega (arith, same, placed.0)) i then reply_in (at core r.ticket) else rest 0)
+opened_past core (Some r) ds next rest placed = (λ i. if other_test 0 r.place (λ same. omega (arith, same, placed.0)) i
+    then reply_in (at core r.ticket) else rest 0)
 
 pub replies_told : (core : Core) (c : CompatValue) → IsSound core c → (answers : Answers) × Defers core c answers
 replies_told core c s =
@@ -155,7 +194,9 @@ replies_told core c s =
     let rest : Answers = read_by core c.reading opened in (
       told_by core c.deferred rest,
       record {
-        brought = ap handle_of (told_past core c.deferred rest 0 (rising_above 1 0 c.deferred c.place (omega arith) s.counted.rising) ∙ opened_past core c.reading c.deferred c.place opened s.counted.placed);
+        brought = ap handle_of (told_past core c.deferred rest 0
+            (rising_above 1 0 c.deferred c.place (omega arith) s.counted.rising)
+            ∙ opened_past core c.reading c.deferred c.place opened s.counted.placed);
         writes = told_all core 1 c.deferred c.place rest s.counted.rising;
         read = read_told core c.deferred c.reading c.place opened s.counted.placed;
       },

@@ -384,7 +384,8 @@ polls_result : (Cut : Asking → Type 0) (full : Bool) (plan : Plan) (facts : Fa
     → IfErr result (Unsent full n old new p q)
     → Polls {V = ℕ} (Waits plan answers old (IsLeft old new p q)) (IsLeft old new p q) Cut plan (λ k. outcome.Count k) answers old p q (poll.Ready result)
 polls_result Cut full plan facts bytes answers old new p q parts n (Ok k) g h good cut ok err =
-    inr (subst (λ (x : ℕ). Asks plan (outcome.Count x) Cut answers old p q) (sym ok.0) (polls_sent Cut full plan facts bytes answers old new p q parts n g h good cut ok.1))
+    inr (subst (λ (x : ℕ). Asks plan (outcome.Count x) Cut answers old p q) (sym ok.0)
+    (polls_sent Cut full plan facts bytes answers old new p q parts n g h good cut ok.1))
 polls_result Cut full plan facts bytes answers old new p q parts n (Err e) g h good cut ok err =
     polls_unsent Cut full plan facts bytes answers old new p q parts n e g h (freed_file full p) err
 

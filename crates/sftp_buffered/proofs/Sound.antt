@@ -61,7 +61,8 @@ use Rattle.sftp_buffered.specs.Steps.{
 use Rattle.sftp_buffered.specs.Writes.{Sent, Unsent}
 use Rattle.sftp_buffered.proofs.Holding.{counted_less, freed_deferring, freed_file, freed_reading, held_last, other_kind, parts_of, read_polled, read_stays}
 
-pub held_but : (old new : Core) (t : ℕ) (ds : List DeferredWrite) → ((q : ℕ) → (q ≡ t → ⊥) → at new q ≡ at old q) → AreApart t ds → AreHeld old ds → AreHeld new ds
+pub held_but : (old new : Core) (t : ℕ) (ds : List DeferredWrite) → ((q : ℕ) → (q ≡ t → ⊥) → at new q ≡ at old q)
+    → AreApart t ds → AreHeld old ds → AreHeld new ds
 held_but old new t [] same apart held = tt
 held_but old new t (d ∷ ds) same apart held =
     (holds_still old new d.ticket expected.Status (same d.ticket (λ e. apart.0 (sym e))) held.0, held.1, held_but old new t ds same apart.1 held.2)
@@ -137,7 +138,8 @@ held_more old new parts c n ticket s h =
 
 -- ---- the READ dropped
 
-pub apart_read : (core : Core) (r : ReadUnderWay) (ds : List DeferredWrite) → Holds core r.ticket (expected.Content r.len) → AreHeld core ds → AreApart r.ticket ds
+pub apart_read : (core : Core) (r : ReadUnderWay) (ds : List DeferredWrite)
+    → Holds core r.ticket (expected.Content r.len) → AreHeld core ds → AreApart r.ticket ds
 apart_read core r [] read held = tt
 apart_read core r (d ∷ ds) read held = (other_kind core r.ticket d.ticket r.len read held.0, apart_read core r ds read held.2)
 

@@ -1,11 +1,13 @@
 -- Flushes: the deferred statuses, from the oldest on.
-use Rattle.std.specs.Prelude.{◌≡◌, false, List, [], ◌∷◌, Result, if◌then◌else◌}
+use Rattle.std.specs.Prelude.{◌≡◌, false, List, [], ◌∷◌, Result, Err, if◌then◌else◌}
 use Rattle.sftp_model.specs.declared.error.Error.{Error}
+use Rattle.sftp_model.specs.declared.error.Error.TheVariants as error
 use Rattle.sftp_model.specs.declared.outcome.Outcome.TheVariants as outcome
 use Rattle.plan_model.specs.BufferPlans.{buf_flush_next, cancelled_buf_flush, is_good, pending}
 use Rattle.plan_model.specs.Moves.{Answers, Plan}
 use Rattle.sftp_core.specs.Core.{Core, at, reply_in}
 use Rattle.call_state.specs.declared.poll.Poll.{Poll}
+use Rattle.call_state.specs.declared.poll.Poll.TheVariants as poll
 use Rattle.sftp_file.specs.Files.{facts_of}
 use Rattle.sftp_buffered.specs.declared.file.DeferredWrite.{DeferredWrite}
 use Rattle.sftp_buffered.specs.Buffered.{CompatValue, Defers, IsRestOf, IsSound, LeavesOthers, lane_of, writes_of}
@@ -44,10 +46,12 @@ pub record IsFlushed (old : Core) (p q : CompatValue) (answers : Answers) : Type
   pub rest : IsRestOf p q
 
 -- The poll did the next move of the flush, whatever the replies to come, the file may be polled on, and others find the
--- core as it was. `Pending` and a kept fault leave what a flush leaves that is cancelled there.
+-- core as it was. `Pending` and a kept fault leave what a flush leaves that is cancelled there. No memory is
+-- taken.
 pub record FlushesTo (old new : Core) (p q : CompatValue) (result : Poll (Result (Unit {0}) Error)) : Type 0 where
   pub polled : (answers : Answers) → Defers old p answers
       → Polls (Waits (flush_plan old p) answers old (IsFlushed old p q answers)) (IsFlushed old p q answers) AnyCut
       (flush_plan old p) (λ u. outcome.Done) answers old p q result
+  pub memory : result ≡ poll.Ready (Err error.OutOfMemory) → ⊥
   pub sound : IsSound new q
   pub others : LeavesOthers old new p

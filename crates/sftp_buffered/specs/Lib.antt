@@ -7,3 +7,4 @@ pub mod Reads
 pub mod Seeks
 pub mod Whole
 pub mod Lending
+pub mod BufferedRows

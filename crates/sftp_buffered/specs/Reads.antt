@@ -50,7 +50,17 @@ use Rattle.sftp_model.specs.declared.slot.Site.{Site}
 use Rattle.sftp_model.specs.declared.slot.Slot.{Slot}
 use Rattle.sftp_model.specs.declared.slot.Slot.TheVariants.{Buffered}
 use Rattle.plan_model.specs.BufferPlans.{buf_read_next, cancelled_buf_read, without_reading}
-use Rattle.plan_model.specs.Moves.{Answers, Plan, ask_read, by_reply, further, on_buffered, on_content, once_answered, refuses}
+use Rattle.plan_model.specs.Moves.{
+  Answers,
+  Plan,
+  ask_read,
+  by_reply,
+  further,
+  on_buffered,
+  on_content,
+  once_answered,
+  refuses,
+}
 use Rattle.sftp_core.specs.Core.{Core, after_poll, at, reply_in}
 use Rattle.call_state.specs.Asked.{Submitted}
 use Rattle.call_state.specs.declared.asking.Asking.TheVariants.{Whole}

@@ -3,7 +3,7 @@ use Rattle.std.specs.Prelude.{◌≡◌, ◌<◌, ◌^◌, ℕ, List, [], ◌∷
 use Rattle.sftp_core.specs.Core.{Core, abandoned}
 use Rattle.sftp_file.specs.Files.{FileValue}
 use Rattle.sftp_buffered.specs.declared.file.DeferredWrite.{DeferredWrite}
-use Rattle.sftp_buffered.specs.Buffered.{CompatValue, IsRestOf, IsSound, LeavesOthers}
+use Rattle.sftp_buffered.specs.Buffered.{CompatValue, IsSound, LeavesOthers}
 use Rattle.sftp_buffered.specs.Steps.{IsLeft, read_dropped}
 
 -- nothing is buffered, and the READ is given up
@@ -23,10 +23,11 @@ ShrinksTo cap old new p q (Ok u) = (q ≡ shrunk p cap) × (new ≡ shrunk_core 
 ShrinksTo cap old new p q (Err e) = IsLeft old new p q
 
 -- The capacity was lowered, the file may be polled on, and others find the core as it was.
-pub record Shrinks {E : Type 0} (cap : ℕ) (old new : Core) (p q : CompatValue) (result : Result (Unit {0}) E) : Type 0 where
-  pub shrinks : ShrinksTo cap old new p q result
-  pub sound : IsSound new q
-  pub others : LeavesOthers old new p
+pub record Shrinks {E : Type 0} (cap : ℕ) (old new : Core) (p q : CompatValue) (result : Result (Unit {0}) E) : Type 0
+  where
+    pub shrinks : ShrinksTo cap old new p q result
+    pub sound : IsSound new q
+    pub others : LeavesOthers old new p
 
 -- The READ was given up, others find the core as it was, and however the file below is left, the emptied file may be
 -- polled on.

@@ -9,5 +9,6 @@ pub returns : goal.returns
 returns c =
     let may : c.args.self.now.file.readable ≡ true = search rules in
     let none : (length c.args.self.now.buffered == 0) ≡ true = search rules in
-    let fills : Fills (min c.args.self.now.buffer_len (facts_of c.args.core.now).read_len) c.args.core.now c.fill.new.core c.args.self.now c.fill.new.self c.fill.result = search rules in
+    let fills : Fills (min c.args.self.now.buffer_len (facts_of c.args.core.now).read_len) c.args.core.now
+    c.fill.new.core c.args.self.now c.fill.new.self c.fill.result = search rules in
     ready_reads c.args.core.now c.fill.new.core c.args.self.now c.fill.new.self c.fill.result may none c.requires.sound fills

@@ -11,4 +11,5 @@ returns-else-to-from c =
     (λ site go. c.sought.ensures site go ∙ ap (λ (r : Result ℕ IoKind). sought r site go) c.in-Ok.is) in
     let other : c.in-Ok.to ≡ c.args.self.now.file.offset → ⊥ = search rules in
     let below : c.in-Ok.to < 2 ^ 64 = search rules in
-    seek_moved c.args.position c.args.core.now c.stand.new.core c.args.self.now c.stand.new.self c.in-Ok.to leads other below c.requires c.stand.ensures.left c.stand.ensures.core
+    seek_moved c.args.position c.args.core.now c.stand.new.core c.args.self.now c.stand.new.self c.in-Ok.to leads other
+    below c.requires c.stand.ensures.left c.stand.ensures.core

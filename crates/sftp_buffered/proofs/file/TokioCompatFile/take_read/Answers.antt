@@ -1,5 +1,4 @@
-use Rattle.std.proofs.Common.{rules, ◌≡◌, subst, Some, true}
-use Rattle.sftp_model.specs.Answers.{allows}
+use Rattle.std.proofs.Common.{rules, ◌≡◌, subst, Some}
 use Rattle.sftp_model.specs.declared.answers.Expected.TheVariants as expected
 use Rattle.sftp_core.specs.Core.{at, reply_in}
 use Rattle.call_state.specs.Asked.{Holds}
@@ -14,4 +13,5 @@ returns-clause-allowed c =
     let is : c.args.self.now.reading ≡ Some read = search rules in
     let held : Holds c.args.core.now read.ticket (expected.Content read.len) = subst (IsHeldRead c.args.core.now) is c.requires.held in
     let came : reply_in (at c.args.core.now read.ticket) ≡ Some c.take_reply.result = search rules in
-    allowed_read c.args.core.now c.args.self.now.reading read c.take_reply.result is came (c.take_reply.ensures.allowed (expected.Content read.len) held.expects)
+    allowed_read c.args.core.now c.args.self.now.reading read c.take_reply.result is came
+    (c.take_reply.ensures.allowed (expected.Content read.len) held.expects)
