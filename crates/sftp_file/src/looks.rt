@@ -59,7 +59,7 @@ pub(crate) fn offers(facts: &Facts, extension: Extensions) -> bool
 }
 
 /// The offset that a seek from another leads to.
-pub(crate) fn sought(offset: u64, position: SeekFrom) -> Result<u64, IoKind>
+pub fn sought(offset: u64, position: SeekFrom) -> Result<u64, IoKind>
     ensures { (site : Site) (go : ℕ → Move) → on_seek position offset site go ≡ sought result site go }
 {
     match position {

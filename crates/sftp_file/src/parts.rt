@@ -8,7 +8,7 @@ use ssh_encoding::OutOfMemory;
 use std::alloc::Global;
 
 /// These bytes, copied once, as one piece.
-pub(crate) fn one_piece(alloc: Global, bytes: &[u8]) -> Result<Vec<Bytes>, OutOfMemory>
+pub fn one_piece(alloc: Global, bytes: &[u8]) -> Result<Vec<Bytes>, OutOfMemory>
     ensures { IfOk result (λ pieces. joined pieces.items ≡ bytes.now) }
 {
     let mut pieces = Vec::new(alloc);
@@ -29,7 +29,7 @@ pub(crate) fn shared(alloc: Global, pieces: &[Bytes]) -> Result<Vec<Bytes>, OutO
 
 /// The bytes from a place on, at most `limit`, as pieces that share their bytes with these, and how many they are; no
 /// piece is empty.
-pub(crate) fn cut(
+pub fn cut(
     alloc: Global,
     pieces: &[Bytes],
     from: usize,

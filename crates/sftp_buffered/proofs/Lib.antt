@@ -1,0 +1,14 @@
+pub mod Replies
+pub mod Fronts
+pub mod Holding
+pub mod Deferring
+pub mod Sound
+pub mod Others
+pub mod Planning
+pub mod Flushing
+pub mod Filling
+pub mod Reading
+pub mod Seeking
+pub mod Abandoning
+pub mod Pieces
+pub mod Keeping

@@ -1,0 +1,182 @@
+-- A buffered file as its user sees it, and as the slot of a lane.
+use Rattle.std.specs.Prelude.{◌≡◌, ◌≤◌, ◌<◌, ◌^◌, ◌+◌, ◌⊎◌, ℕ, List, [], ◌∷◌, map, drop, length, Option, Some, None}
+use Rattle.sftp_model.specs.declared.answers.Expected.{Expected}
+use Rattle.sftp_model.specs.declared.answers.Expected.TheVariants as expected
+use Rattle.sftp_model.specs.declared.slot.Buffer.{Buffer}
+use Rattle.sftp_model.specs.declared.slot.Site.{Site}
+use Rattle.sftp_model.specs.declared.slot.Slot.TheVariants as slots
+use Rattle.plan_model.specs.Moves.{Answers, handle_of}
+use Rattle.plan_model.specs.BufferPlans.{pending}
+use Rattle.sftp_core.specs.Core.{Core, at, reply_in}
+use Rattle.call_state.specs.Asked.{Holds}
+use Rattle.call_state.specs.Keeping.{KeepsGrants}
+use Rattle.sftp_file.specs.Files.{FileValue, file_at}
+use Rattle.sftp_buffered.specs.declared.file.DeferredWrite.{DeferredWrite}
+use Rattle.sftp_buffered.specs.declared.file.ReadUnderWay.{ReadUnderWay}
+
+-- A buffered file: the file, the bytes that a read into the buffer asks for, the buffer's capacity, what is buffered
+-- from the file's offset on, the deferred writes, the oldest first, and how many bytes these carry, the READ under way,
+-- and the place of the next request. Place 0 is that of the OPEN.
+pub record CompatValue : Type 0 where
+  pub file : FileValue
+  pub buffer_len : ℕ
+  pub capacity : ℕ
+  pub buffered : List ℕ
+  pub deferred : List DeferredWrite
+  pub pending : ℕ
+  pub reading : Option ReadUnderWay
+  pub place : ℕ
+
+-- nothing is buffered or under way
+abbrev pub new_value : FileValue → ℕ → CompatValue
+new_value file buffer_len =
+    record {
+      file = file;
+      buffer_len = buffer_len;
+      capacity = 0;
+      buffered = [];
+      deferred = [];
+      pending = 0;
+      reading = None;
+      place = 1;
+    }
+
+-- ---- the slot
+
+-- a deferred write in a plan
+abbrev pub write_of : DeferredWrite → ℕ × ℕ
+write_of d = (d.place, d.len)
+
+abbrev pub writes_of : List DeferredWrite → List (ℕ × ℕ)
+writes_of ds = map write_of ds
+
+abbrev pub place_of : Option ReadUnderWay → Option ℕ
+place_of None = None
+place_of (Some r) = Some r.place
+
+abbrev pub buffer_of : CompatValue → Buffer
+buffer_of c = record {
+  len = c.buffer_len;
+  bytes = c.buffered;
+  deferred = writes_of c.deferred;
+  reading = place_of c.reading;
+}
+
+-- a lane whose one slot holds the buffered file
+abbrev pub lane_of : CompatValue → Site
+lane_of c = record { slots = slots.Buffered (file_at c.file) (buffer_of c) ∷ []; directory = [] }
+
+-- ---- the replies
+
+-- the reply to each deferred write is the one that the core has for its ticket
+abbrev pub AreTold : Core → Answers → List DeferredWrite → Type 0
+AreTold core answers [] = Unit {0}
+AreTold core answers (d ∷ ds) = (answers d.place ≡ reply_in (at core d.ticket)) × AreTold core answers ds
+
+-- and that to the READ
+abbrev pub IsTold : Core → Answers → Option ReadUnderWay → Type 0
+IsTold core answers None = Unit {0}
+IsTold core answers (Some r) = answers r.place ≡ reply_in (at core r.ticket)
+
+-- The handle came at place 0, and each reply that the buffered file may await is the one that the core has.
+pub record Defers (core : Core) (c : CompatValue) (answers : Answers) : Type 0 where
+  pub brought : handle_of (answers 0) ≡ c.file.grant.handle
+  pub writes : AreTold core answers c.deferred
+  pub read : IsTold core answers c.reading
+
+-- ---- what holds between polls
+
+-- no deferred write has this ticket
+abbrev pub AreApart : ℕ → List DeferredWrite → Type 0
+AreApart ticket [] = Unit {0}
+AreApart ticket (d ∷ ds) = (ticket ≡ d.ticket → ⊥) × AreApart ticket ds
+
+-- the core counts the ticket of each deferred write, once
+abbrev pub AreHeld : Core → List DeferredWrite → Type 0
+AreHeld core [] = Unit {0}
+AreHeld core (d ∷ ds) = Holds core d.ticket expected.Status × AreApart d.ticket ds × AreHeld core ds
+
+-- and that of the READ
+abbrev pub IsHeldRead : Core → Option ReadUnderWay → Type 0
+IsHeldRead core None = Unit {0}
+IsHeldRead core (Some r) = Holds core r.ticket (expected.Content r.len)
+
+pub record IsHeld (core : Core) (c : CompatValue) : Type 0 where
+  pub writes : AreHeld core c.deferred
+  pub read : IsHeldRead core c.reading
+
+-- the most bytes that may come
+abbrev pub len_of : Option ReadUnderWay → ℕ
+len_of None = 0
+len_of (Some r) = r.len
+
+-- the places of the deferred writes rise, from one place on and below another
+abbrev pub AreRising : ℕ → List DeferredWrite → ℕ → Type 0
+AreRising from [] to = from ≤ to
+AreRising from (d ∷ ds) to = (from ≤ d.place) × AreRising (d.place + 1) ds to
+
+-- no deferred write has this place
+abbrev pub AreElsewhere : ℕ → List DeferredWrite → Type 0
+AreElsewhere place [] = Unit {0}
+AreElsewhere place (d ∷ ds) = (place ≡ d.place → ⊥) × AreElsewhere place ds
+
+-- the place of the READ is below the next one, and no other's
+abbrev pub IsPlaced : Option ReadUnderWay → List DeferredWrite → ℕ → Type 0
+IsPlaced None ds next = Unit {0}
+IsPlaced (Some r) ds next = (1 ≤ r.place) × (r.place < next) × AreElsewhere r.place ds
+
+-- The bytes of the deferred writes are counted, no two requests have one place, what is buffered and read ends at the
+-- greatest offset at last, and the capacity reaches over what is buffered.
+pub record IsCounted (c : CompatValue) : Type 0 where
+  pub pending : c.pending ≡ pending (writes_of c.deferred)
+  pub rising : AreRising 1 c.deferred c.place
+  pub placed : IsPlaced c.reading c.deferred c.place
+  pub ends : c.file.offset + length c.buffered + len_of c.reading < 2 ^ 64
+  pub capacity : length c.buffered ≤ c.capacity
+
+-- what holds between polls
+pub record IsSound (core : Core) (c : CompatValue) : Type 0 where
+  pub held : IsHeld core c
+  pub counted : IsCounted c
+
+-- ---- what a call leaves
+
+-- Of what is under way the oldest writes may be gone, and the READ; nothing came to it.
+pub record IsRestOf (p q : CompatValue) : Type 0 where
+  pub gone : ℕ
+  pub deferred : q.deferred ≡ drop gone p.deferred
+  pub reading : (q.reading ≡ p.reading) ⊎ (q.reading ≡ None)
+  pub place : q.place ≡ p.place
+  pub capacity : p.capacity ≤ q.capacity
+
+-- the READ has another ticket
+abbrev pub IsOther : ℕ → Option ReadUnderWay → Type 0
+IsOther ticket None = Unit {0}
+IsOther ticket (Some r) = ticket ≡ r.ticket → ⊥
+
+-- no request of the file has this ticket
+pub record IsApart (ticket : ℕ) (c : CompatValue) : Type 0 where
+  pub writes : AreApart ticket c.deferred
+  pub read : IsOther ticket c.reading
+
+-- the tickets of these writes are none of a file's
+abbrev pub AreNone : List DeferredWrite → CompatValue → Type 0
+AreNone [] c = Unit {0}
+AreNone (d ∷ ds) c = IsApart d.ticket c × AreNone ds c
+
+abbrev pub IsNone : Option ReadUnderWay → CompatValue → Type 0
+IsNone None c = Unit {0}
+IsNone (Some r) c = IsApart r.ticket c
+
+-- no request of a file has the ticket of one of another's
+pub record AreOthers (other c : CompatValue) : Type 0 where
+  pub writes : AreNone c.deferred other
+  pub read : IsNone c.reading other
+
+-- a core as others see it: each ticket that is none of the file's is held as before, each grant stays, and so does what
+-- was told of the session
+pub record LeavesOthers (old new : Core) (c : CompatValue) : Type 0 where
+  pub holds : (ticket : ℕ) (kind : Expected) → IsApart ticket c → Holds old ticket kind → Holds new ticket kind
+  pub grants : KeepsGrants old new
+  pub phase : new.phase ≡ old.phase
+  pub options : new.options ≡ old.options

@@ -1,0 +1,20 @@
+//! A file of an SFTP server with a buffer for reads, and with writes whose statuses are left for later.
+#![tactic(auto)]
+
+mod buffer;
+mod file;
+mod fill;
+mod flush;
+mod laws;
+mod limits;
+mod oldest;
+mod read;
+mod reply;
+mod seek;
+mod whole;
+mod window;
+mod write;
+
+pub use file::{DEFAULT_BUFLEN, TokioCompatFile};
+pub use laws::{others_leave_it_sound, replies_can_be_told};
+pub use sftp_file::{File, Poll};

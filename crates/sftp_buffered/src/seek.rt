@@ -1,0 +1,50 @@
+//! Seeks, which need no request.
+ghost use Rattle.std.specs.Prelude.{◌≡◌};
+ghost use Rattle.sftp_buffered.specs.Buffered.{IsSound};
+ghost use Rattle.sftp_buffered.specs.Seeks.{Seeks, stood};
+ghost use Rattle.sftp_buffered.specs.Steps.{read_dropped};
+
+use crate::file::TokioCompatFile;
+use sftp_core::Core;
+use sftp_file::{Error, sought};
+use std::io::SeekFrom;
+
+impl TokioCompatFile {
+    /// Moves the offset; no request is needed. Where it changes, the READ under way is given up; a move forward inside
+    /// the buffer keeps the bytes from there on, and any other move none.
+    ///
+    /// `IOError`, of which `SeekFromEnd` comes for each position from the end, `SeekOverflow` where the offset would be
+    /// over 18446744073709551615, and `SeekUnderflow` where it would be below 0. Refused, core and file are as before.
+    pub fn start_seek(&mut self, core: &mut Core, position: SeekFrom) -> Result<(), Error>
+        requires { IsSound core.old self.old }
+        ensures { Seeks position core.old core.new self.old self.new result }
+    {
+        let from = self.file.offset();
+        match sought(from, position) {
+            Ok(to) => {
+                if to == from {
+                    return Ok(());
+                }
+                self.stand(core, from, to);
+                Ok(())
+            }
+            Err(why) => Err(Error::IOError(why)),
+        }
+    }
+
+    /// Stands at another offset.
+    fn stand(&mut self, core: &mut Core, from: u64, to: u64)
+        requires sound { IsSound core.old self.old }
+        requires here { self.old.file.offset ≡ from }
+        ensures left { self.new ≡ stood self.old to }
+        ensures core { core.new ≡ read_dropped core.old self.old.reading }
+    {
+        self.file.stand(to);
+        if from < to {
+            self.skip(to - from);
+        } else {
+            self.buffered.clear();
+        }
+        self.drop_read(core);
+    }
+}
