@@ -2,15 +2,9 @@
 use Rattle.std.proofs.Common.{◌≡◌, ℕ, List, [], ◌∷◌, refl, sym, subst}
 use Rattle.std.specs.Prelude.{IsTrue}
 use Rattle.sftp_core.specs.Core.{Core, abandoned, at, is_ticket}
-use Rattle.call_state.proofs.Keeping.{cancelled_on}
+use Rattle.sftp_streams.proofs.PartLaws.{others_stay}
 use Rattle.sftp_streams.specs.declared.parts.Part.{Part}
 use Rattle.sftp_streams.specs.Parts.{AreAwaited, IsApart, KindOf, without_parts}
-
-others_stay : (kind : KindOf) (core : Core) (t : ℕ) (parts : List Part) → IsApart t parts → AreAwaited kind core parts
-    → AreAwaited kind (abandoned core t) parts
-others_stay kind core t [] apart held = tt
-others_stay kind core t (part ∷ later) (ne, apart) (h, some, own, held) =
-    (cancelled_on core t part.ticket (kind part) (λ e. ne (sym e)) h, some, own, others_stay kind core t later apart held)
 
 -- these parts are left of all
 pub record Abandoning (first core : Core) (all parts : List Part) : Type 0 where

@@ -61,11 +61,12 @@ after_first core (part ∷ later) = after_poll core part.ticket
 
 -- ---- what others hold
 
--- Each ticket that is none of the parts' stays held, each grant stays, and the session stays open.
+-- Each ticket that is none of the parts' stays held, each grant stays, the session stays open, and its fault is kept.
 pub record KeepsOthers (parts : List Part) (old new : Core) : Type 0 where
   pub holds : (ticket : ℕ) (kind : Expected) → IsApart ticket parts → Holds old ticket kind → Holds new ticket kind
   pub grants : KeepsGrants old new
   pub phase : new.phase ≡ old.phase
+  pub fault : new.fault ≡ old.fault
 
 -- ---- why nothing was asked
 

@@ -9,7 +9,7 @@ ghost use Rattle.call_state.specs.Asked.{Submitted};
 ghost use Rattle.call_state.specs.declared.asking.Asking.TheVariants as asking;
 ghost use Rattle.call_state.specs.declared.poll.Poll.TheVariants.{Ready};
 ghost use Rattle.sftp_file.specs.Outcomes.{read_answer};
-ghost use Rattle.sftp_streams.specs.Parts.{AreAwaited, IsUnasked, without_parts};
+ghost use Rattle.sftp_streams.specs.Parts.{AreAwaited, IsUnasked, KeepsOthers, without_parts};
 ghost use Rattle.sftp_streams.specs.Downloads.{AsksFirst, AsksLast, AsksMore, Begins, Fills, GivesFirst, IsFilled, IsHandedOut, IsMissing, IsReading, MayRead, Reads, content_kind};
 
 use crate::parts::{Answer, Part, Unasked, abandon_parts, take_reply};
@@ -257,7 +257,8 @@ impl Download {
     /// Gives the download up: the replies to its READs, come or to come, are dropped.
     pub fn cancel(self, core: &mut Core)
         requires { AreAwaited content_kind core.old self.parts }
-        ensures { core.new ≡ without_parts core.old self.parts }
+        ensures core { core.new ≡ without_parts core.old self.parts }
+        ensures others { KeepsOthers self.parts core.old core.new }
     {
         let Download {
             handle: _,

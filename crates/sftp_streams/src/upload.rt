@@ -7,7 +7,7 @@ ghost use Rattle.sftp_core.specs.Core.{Core as CoreValue};
 ghost use Rattle.sftp_core.specs.Info.{info_of};
 ghost use Rattle.call_state.specs.Asked.{Submitted};
 ghost use Rattle.call_state.specs.declared.asking.Asking.TheVariants as asking;
-ghost use Rattle.sftp_streams.specs.Parts.{AreAwaited, IsUnasked, without_parts};
+ghost use Rattle.sftp_streams.specs.Parts.{AreAwaited, IsUnasked, KeepsOthers, without_parts};
 ghost use Rattle.sftp_streams.specs.Uploads.{AsksWrite, Begins, IsAccepted, IsRefusedPush, IsWriting, MayPush, MayWrite, Writes, room_of, status_kind};
 
 use crate::parts::{Answer, Part, Unasked, abandon_parts, take_reply};
@@ -191,7 +191,8 @@ impl Upload {
     /// Gives the upload up: the statuses of its WRITEs, come or to come, are dropped.
     pub fn cancel(self, core: &mut Core)
         requires { AreAwaited status_kind core.old self.parts }
-        ensures { core.new ≡ without_parts core.old self.parts }
+        ensures core { core.new ≡ without_parts core.old self.parts }
+        ensures others { KeepsOthers self.parts core.old core.new }
     {
         let Upload {
             handle: _,
