@@ -1,0 +1,9 @@
+pub mod StreamLaws
+pub mod OneFile
+pub mod PartLaws
+pub mod CancelLaws
+pub mod Taking
+pub mod AskLaws
+pub mod PollLaws
+pub mod PushLaws
+pub mod StatusLaws

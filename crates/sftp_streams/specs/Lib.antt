@@ -1,0 +1,5 @@
+pub mod Streams
+pub mod StreamRows
+pub mod Parts
+pub mod Downloads
+pub mod Uploads
