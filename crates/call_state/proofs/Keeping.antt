@@ -150,6 +150,11 @@ keeps_both a b c h k =
       grants = record { grants = λ id handle users here. k.grants.grants id handle users (h.grants.grants id handle users here); opened = λ o. k.grants.opened (h.grants.opened o) };
     }
 
+-- two changes that keep the grants, one after the other
+pub grants_both : (a b c : Core) → KeepsGrants a b → KeepsGrants b c → KeepsGrants a c
+grants_both a b c x y =
+    record { grants = λ id handle users here. y.grants id handle users (x.grants id handle users here); opened = λ o. y.opened (x.opened o) }
+
 pub keeps_failed : (core : Core) (fault : Fault) → Keeps core (failed_with core fault)
 keeps_failed core fault =
     record {

@@ -41,7 +41,7 @@ use Rattle.call_state.specs.Keeping.{Keeps}
 use Rattle.call_state.specs.declared.asking.Asking.{Asking}
 use Rattle.call_state.specs.declared.asking.Asking.TheVariants.{Whole, Parts}
 use Rattle.call_state.specs.declared.poll.Poll.TheVariants as poll
-use Rattle.call_state.proofs.Keeping.{cancelled_keeps_grants, cancelled_on, keeps_same, polled_keeps_grants, polled_on, submitted_keeps}
+use Rattle.call_state.proofs.Keeping.{grants_both, cancelled_keeps_grants, cancelled_on, keeps_same, polled_keeps_grants, polled_on, submitted_keeps}
 use Rattle.sftp_buffered.specs.declared.file.DeferredWrite.{DeferredWrite}
 use Rattle.sftp_buffered.specs.declared.file.ReadUnderWay.{ReadUnderWay}
 use Rattle.sftp_buffered.specs.Buffered.{AreApart, AreHeld, CompatValue, IsApart, IsHeldRead, IsOther, IsSound, LeavesOthers}
@@ -94,7 +94,7 @@ pub others_both : (a b d : Core) (c : CompatValue) → LeavesOthers a b c → Le
 others_both a b d c h k =
     record {
       holds = λ ticket kind apart x. k.holds ticket kind apart (h.holds ticket kind apart x);
-      grants = record { grants = λ id handle users here. k.grants.grants id handle users (h.grants.grants id handle users here) };
+      grants = grants_both a b d h.grants k.grants;
       phase = k.phase ∙ h.phase;
       options = k.options ∙ h.options;
     }

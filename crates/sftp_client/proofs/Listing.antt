@@ -9,12 +9,12 @@ use Rattle.sftp_core.specs.Core.{Core}
 use Rattle.sftp_core.specs.Info.{info_of}
 use Rattle.sftp_link.specs.Views.{LinkView}
 use Rattle.call_state.specs.Keeping.{Keeps, KeepsGrants}
-use Rattle.call_state.proofs.Keeping.{grant_kept, keeps_same}
+use Rattle.call_state.proofs.Keeping.{grant_kept, grants_both, keeps_same}
 use Rattle.sftp_fs.specs.Listings.{Given, IsAwaiting, IsListing, ListingValue}
 use Rattle.sftp_client.specs.Listed.{AwaitsEntry, HasListed, ListedIn, MayWaitFor, given_by}
 use Rattle.sftp_client.specs.Sessions.{SftpValue, with_core}
 use Rattle.sftp_client.specs.Waits.{ArePollRounds, RoundFails, SendsAndTakes}
-use Rattle.sftp_client.proofs.Waiting.{fail_stays, grants_both, round_stays, round_unfaulted, where_ok}
+use Rattle.sftp_client.proofs.Waiting.{fail_stays, round_stays, round_unfaulted, where_ok}
 
 -- a listing stays what it is over what keeps a core
 awaits_still : (old new : Core) (asked : Option ℕ) → Keeps old new → IsAwaiting old asked → IsAwaiting new asked

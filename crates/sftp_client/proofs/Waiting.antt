@@ -15,7 +15,7 @@ use Rattle.call_state.specs.declared.poll.Poll.{Poll}
 use Rattle.call_state.specs.declared.stage.Stage.{Stage}
 use Rattle.call_state.specs.declared.stage.Stage.TheVariants.{Ended, Ready, Unsent, Asked, Came}
 use Rattle.call_state.specs.declared.poll.Poll.TheVariants as poll
-use Rattle.call_state.proofs.Keeping.{keeps_both, keeps_failed, keeps_handed_out, keeps_same, keeps_taken, keeps_unchanged, still_under_way}
+use Rattle.call_state.proofs.Keeping.{grants_both, keeps_both, keeps_failed, keeps_handed_out, keeps_same, keeps_taken, keeps_unchanged, still_under_way}
 use Rattle.sftp_model.specs.declared.slot.FileAt.{FileAt}
 use Rattle.sftp_core.specs.Table.{asks_handle}
 use Rattle.sftp_file.proofs.Steps.{cancelled_keeps}
@@ -143,9 +143,6 @@ pub record PollLeaves {W M V L : Type 0} (s : Meaning W M V) (old new : SftpValu
   pub others : KeepsOthers old.core new.core p.stage q.stage
   pub opened : IsSome (info_of new.core.phase)
   pub link : new.link ≡ old.link
-
-pub grants_both : (a b c : Core) → KeepsGrants a b → KeepsGrants b c → KeepsGrants a c
-grants_both a b c x y = record { grants = λ id handle users h. y.grants id handle users (x.grants id handle users h); opened = λ h. y.opened (x.opened h) }
 
 holds_nothing : {W M V : Type 0} (s : Meaning W M V) (core : Core) (result : Poll (Result V Error))
     → result ≡ poll.Ready (Err error.OutOfMemory) → HoldsReady s core result

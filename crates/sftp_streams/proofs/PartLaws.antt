@@ -11,7 +11,7 @@ use Rattle.call_state.specs.Asked.{Holds, Submitted}
 use Rattle.call_state.specs.Keeping.{Keeps, KeepsGrants}
 use Rattle.call_state.specs.declared.asking.Asking.{Asking}
 use Rattle.call_state.specs.declared.asking.Asking.TheVariants.{Whole, Parts}
-use Rattle.call_state.proofs.Keeping.{cancelled_keeps_grants, cancelled_on, keeps_same, polled_keeps_grants, polled_on, submitted_keeps}
+use Rattle.call_state.proofs.Keeping.{grants_both, cancelled_keeps_grants, cancelled_on, keeps_same, polled_keeps_grants, polled_on, submitted_keeps}
 use Rattle.sftp_streams.specs.declared.parts.Part.{Part}
 use Rattle.sftp_streams.specs.Parts.{AreAwaited, IsApart, KeepsOthers, KindOf, parts_len, without_parts}
 
@@ -83,13 +83,10 @@ others_submitted old new asking ticket s =
       fault = fault_queued old new asking ticket s;
     }
 
-grants_then : (a b c : Core) → KeepsGrants a b → KeepsGrants b c → KeepsGrants a c
-grants_then a b c x y = record { grants = λ id handle users here. y.grants id handle users (x.grants id handle users here) }
-
 pub others_then : (a b c : Core) → KeepsOthers [] a b → KeepsOthers [] b c → KeepsOthers [] a c
 others_then a b c x y = record {
   holds = λ t k apart h. y.holds t k tt (x.holds t k tt h);
-  grants = grants_then a b c x.grants y.grants;
+  grants = grants_both a b c x.grants y.grants;
   phase = y.phase ∙ x.phase;
   fault = y.fault ∙ x.fault;
 }
@@ -143,7 +140,7 @@ others_given_up kind core (part ∷ later) (h, some, own, held) =
     let below = others_given_up kind mid later (others_stay kind core part.ticket later own held) in
     record {
       holds = λ t k apart x. below.holds t k apart.1 (cancelled_on core part.ticket t k apart.0 x);
-      grants = grants_then core mid (without_parts mid later) (cancelled_keeps_grants core part.ticket h.counted) below.grants;
+      grants = grants_both core mid (without_parts mid later) (cancelled_keeps_grants core part.ticket h.counted) below.grants;
       phase = below.phase ∙ abandon_phase core part.ticket (at core part.ticket);
       fault = below.fault ∙ abandon_fault core part.ticket (at core part.ticket);
     }
