@@ -7,3 +7,5 @@ mod file;
 mod history;
 #[cfg(test)]
 mod link;
+#[cfg(test)]
+mod paths;

@@ -3,3 +3,4 @@ pub mod PathLaws
 pub mod DirectoryLaws
 pub mod ListingLaws
 pub mod ListingSteps
+pub mod CallSteps

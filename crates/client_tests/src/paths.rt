@@ -1,0 +1,138 @@
+// Calls on paths and directories over a scripted core: what each sends, and what each gives for a reply, a refusal and a
+// fault. Frames are laid out by draft-ietf-secsh-filexfer-02, sections 3, 6 and 7, and OpenSSH's PROTOCOL, section 4.
+ghost use Rattle.std.specs.Prelude.{◌≡◌, true, false, IsSome};
+ghost use Rattle.sftp_core.specs.Info.{info_of};
+ghost use Rattle.call_state.specs.Asked.{IsReady};
+ghost use Rattle.call_state.specs.Calls.{HoldsReady, IsUnderWay};
+ghost use Rattle.call_state.specs.Keeping.{Keeps};
+
+mod listing;
+mod names;
+
+use call_state::{Alone, Call};
+use sftp_core::Core;
+use sftp_file::Poll;
+use sftp_fs::Fs;
+use sftp_model::{Error, Fault, IoKind, RemotePath, SftpOptions};
+use std::alloc::Global;
+use std::process::Abort;
+use std::test::Fail;
+
+/// Bodies of VERSION: without extensions, and with those that calls on paths use.
+const PLAIN: &[u8] = b"\x02\0\0\0\x03";
+
+const OFFERS: &[u8] =
+    b"\x02\0\0\0\x03\0\0\0\x18posix-rename@openssh.com\0\0\0\x011\0\0\0\x14hardlink@openssh.com\0\0\0\x011\0\0\0\x17expand-path@openssh.com\0\0\0\x011";
+
+/// Bodies of a STATUS of 0 and of 4 to the request 0.
+const DONE: &[u8] = b"\x65\0\0\0\0\0\0\0\0\0\0\0\0\0\0\0\0";
+
+const REFUSED: &[u8] = b"\x65\0\0\0\0\0\0\0\x04\0\0\0\0\0\0\0\0";
+
+/// What a poll, or a start, gave.
+#[derive(Clone, Copy, Debug, PartialEq, Eq)]
+enum Seen {
+    Pending,
+    /// A value.
+    Given,
+    /// A STATUS of this code.
+    Status(u32),
+    Unsupported,
+    TooLong,
+    Failed(Fault),
+    Other,
+}
+
+fn error_seen(e: &Error) -> Seen {
+    match e {
+        Error::SftpError { code, .. } => Seen::Status(*code),
+        Error::UnsupportedExtension(_) => Seen::Unsupported,
+        Error::IOError(IoKind::PathTooLong) => Seen::TooLong,
+        Error::BackgroundTaskFailure(fault) => Seen::Failed(*fault),
+        _ => Seen::Other,
+    }
+}
+
+fn poll_seen<T>(told: &Poll<Result<T, Error>>) -> Seen {
+    match told {
+        Poll::Pending => Seen::Pending,
+        Poll::Ready(Ok(_)) => Seen::Given,
+        Poll::Ready(Err(e)) => error_seen(e),
+    }
+}
+
+/// A core whose hello was sent and that took this VERSION.
+fn greeted(alloc: Global, version: &[u8]) -> Result<Core, Fail> {
+    let mut core = Core::new(alloc, &SftpOptions::new())?;
+    let hello = core.hand_out()?;
+    core.give_back(hello);
+    if core.fault().is_none() && core.take(version).is_ok() {
+        return Ok(core);
+    }
+    Err("no greeting")?
+}
+
+/// Whether a request may be submitted.
+fn may_ask(core: &Core) -> bool
+    ensures { result ≡ true → IsReady core.now }
+{
+    core.info().is_some() && core.kept() < 100
+}
+
+/// The calls from `/x`.
+fn from_x(alloc: Global) -> Result<Fs, Fail> {
+    Ok(Fs::new(RemotePath::new(Vec::from_slice(alloc, b"/x")?)))
+}
+
+/// Whether what is queued is this frame, and this reply was taken.
+fn exchange(core: &mut Core, frame: &[u8], reply: &[u8]) -> bool
+    requires { IsSome (info_of core.old.phase) }
+    ensures { Keeps core.old core.new }
+{
+    sends(core, frame) && takes(core, reply)
+}
+
+/// Whether what is queued is this frame.
+fn sends(core: &mut Core, frame: &[u8]) -> bool
+    requires { IsSome (info_of core.old.phase) }
+    ensures keeps { Keeps core.old core.new }
+    ensures opened { IsSome (info_of core.new.phase) }
+{
+    let Ok(chunk) = core.hand_out() else {
+        return false;
+    };
+    let went = match chunk.pieces() {
+        [one] => one.as_slice() == frame,
+        _ => false,
+    };
+    core.give_back(chunk);
+    went
+}
+
+/// Whether this body was taken.
+fn takes(core: &mut Core, body: &[u8]) -> bool
+    requires { IsSome (info_of core.old.phase) }
+    ensures { Keeps core.old core.new }
+{
+    core.fault().is_none() && core.take(body).is_ok()
+}
+
+/// Sends the request of a call, which has to be this frame, takes this reply, and polls.
+fn answer<M: Alone>(
+    rt: &impl Abort,
+    core: &mut Core,
+    call: Call<M>,
+    frame: &[u8],
+    reply: &[u8],
+) -> Poll<Result<M::Value, Error>>
+    requires call { IsUnderWay M.PlanMachine.meaning core.old call }
+    requires once { M.PlanMachine.meaning.again ≡ false }
+    ensures { HoldsReady M.PlanMachine.meaning core.new result }
+{
+    let mut call = call;
+    assert!(rt; may_ask(core));
+    assert!(rt; exchange(core, frame, reply));
+    let told = call.poll(core);
+    call.cancel(core);
+    told
+}
