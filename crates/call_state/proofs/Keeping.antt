@@ -394,9 +394,11 @@ asked_same a b e = ap asked_number e
 -- what was submitted is none of others
 pub submitted_others : (old new : Core) (asking : Asking) (ticket : ℕ) (before after : Stage) → Submitted old asking ticket new
     → after ≡ Asked ticket → KeepsOthers old new before after
-submitted_others old new asking ticket before after h is other kind apart held =
-    ((submitted_keeps old new asking ticket h).holds other kind held, λ same.
-    ticket_elsewhere old other kind held (subst (λ (q : ℕ). at old q ≡ None) (asked_same ticket other (sym is ∙ same)) h.free))
+submitted_others old new asking ticket before after h is other kind apart held = (
+  (submitted_keeps old new asking ticket h).holds other kind held,
+  λ same.
+      ticket_elsewhere old other kind held (subst (λ (q : ℕ). at old q ≡ None) (asked_same ticket other (sym is ∙ same)) h.free),
+)
 
 -- a call that awaits nothing keeps others apart
 pub idle_others : (old new : Core) (before after : Stage) → Keeps old new → ((ticket : ℕ) → IsNotOf after ticket) → KeepsOthers old new before after
