@@ -364,5 +364,32 @@ sed -n 's/^lane 0 call 0 names //p' "$room/outcomes" | tr ' ' '\n' | sort >"$roo
 [ $status -eq 0 ] && cmp "$room/wanted" "$room/got"
 tell 'a listing of 1,000 entries' $?
 
+# ---- 200 files of 0 to 100,000 bytes are copied up by 16 lanes, and down again
+
+mirror=$PWD/crates/sftp_mirror/out/sftp_mirror
+if [ -x "$mirror" ]; then
+    mkdir "$room/mirrored" "$room/kept"
+    number=0
+    while [ $number -lt 200 ]; do
+        head -c $((number * number * 100000 / 39601)) /dev/urandom >"$room/kept/$number"
+        content=$(hex <"$room/kept/$number")
+        echo "up $(at "mirrored/$number") ${content:--}"
+        number=$((number + 1))
+    done >"$room/list"
+    timeout 60 "$mirror" unix "$room/socket" 16 4096 <"$room/list" >"$room/outcomes"
+    status=$?
+    [ $status -eq 0 ] && [ "$(grep -c '^copied ' "$room/outcomes")" -eq 200 ] && diff -r "$room/kept" "$room/mirrored"
+    tell '200 files are copied up' $?
+
+    sed 's/^up \([^ ]*\) .*/down \1 1000/' "$room/list" >"$room/downs"
+    timeout 60 "$mirror" unix "$room/socket" 16 4096 <"$room/downs" >"$room/outcomes"
+    status=$?
+    sed 's/^up /got /' "$room/list" >"$room/wanted"
+    [ $status -eq 0 ] && cmp "$room/wanted" "$room/outcomes"
+    tell 'and down again' $?
+else
+    echo "interop: $mirror is missing: no list of files was copied"
+fi
+
 echo "interop over OpenSSH's server: $passed passed, $failed failed"
 [ "$failed" -eq 0 ]
