@@ -32,8 +32,8 @@ impl TokioCompatFile {
         Ok(())
     }
 
-    /// Lowers the capacity to `new_cap` bytes, where it is over: the buffer is emptied then, and the READ under way given
-    /// up. The offset stays. Refused, nothing changes.
+    /// Lowers the capacity to `new_cap` bytes, where it is over: the buffer is emptied then, and the READ under way is
+    /// given up. The offset stays. Refused, nothing changes.
     pub fn shrink_to(&mut self, core: &mut Core, new_cap: usize) -> Result<(), OutOfMemory>
         requires { IsSound core.old self.old }
         ensures { Shrinks new_cap core.old core.new self.old self.new result }

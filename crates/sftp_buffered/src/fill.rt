@@ -92,7 +92,8 @@ impl TokioCompatFile {
         }
     }
 
-    /// Looks at the reply to the READ under way, and copies its bytes to the end of the buffer. Refused, nothing changes.
+    /// Looks at the reply to the READ under way, and copies its bytes to the end of the buffer. Refused, nothing
+    /// changes.
     fn append_reply(&mut self, core: &Core) -> Poll<Result<(), Error>>
         requires { IsHeldRead core.now self.old.reading }
         ensures { LooksAtRead core.now self.old self.new result }

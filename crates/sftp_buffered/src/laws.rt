@@ -6,9 +6,9 @@ ghost use Rattle.call_state.specs.Keeping.{Keeps};
 ghost use Rattle.plan_model.specs.Moves.{Answers};
 ghost use Rattle.sftp_buffered.specs.Buffered.{AreOthers, CompatValue, Defers, IsApart, IsSound, LeavesOthers};
 
-/// A buffered file stays sound over what others do on its core: a call that keeps all that is held (a submit, a hand-out
-/// or a take of `calls_keep_what_is_held` in `call_state`), a poll and a cancel of another request, a file that is let go
-/// or shared, and what a buffered file does of which no request is this one's.
+/// A buffered file stays sound over what others do on its core: a call that keeps all that is held (a submit, a
+/// hand-out or a take of `calls_keep_what_is_held` in `call_state`), a poll and a cancel of another request, a file that
+/// is let go or shared, and what another buffered file does, where no request is of both.
 pub fn others_leave_it_sound()
     ensures kept { (old new : Core) (c : CompatValue) → Keeps old new → IsSound old c → IsSound new c }
     ensures polled { (core : Core) (ticket : ℕ) (c : CompatValue) → IsApart ticket c → IsSound core c

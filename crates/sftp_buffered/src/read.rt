@@ -19,13 +19,14 @@ impl TokioCompatFile {
     ///
     /// Looked at in this order: `IOError(NotReadable)`; where no READ is under way `IOError(OffsetOverflow)`, where its
     /// bytes would end past 18446744073709551615; `BackgroundTaskFailure`, where the READ or its reply is due and the
-    /// core keeps a fault. A refusal is answered as `SftpError`. `OutOfMemory` may come in place of any answer; core and
-    /// file are as before then.
+    /// core keeps a fault. A refusal is answered as `SftpError`. `OutOfMemory` may come in place of any answer; core
+    /// and file are as before then.
     pub fn poll_read_into_buffer(&mut self, core: &mut Core, amt: u32) -> Poll<Result<(), Error>>
         requires ready { IsReady core.old }
         requires sound { IsSound core.old self.old }
         requires some { 1 ≤ amt }
-        ensures { ReadsTo (fill_plan amt core.old self.old) (λ u. outcome.Done) core.old core.new self.old self.new result }
+        ensures { ReadsTo (fill_plan amt core.old self.old) (λ u. outcome.Done) core.old core.new self.old self.new
+            result }
     {
         if !self.file.is_readable() {
             return Poll::Ready(Err(Error::IOError(IoKind::NotReadable)));
@@ -33,13 +34,14 @@ impl TokioCompatFile {
         self.fill(core, amt as usize)
     }
 
-    /// Reads into the buffer where it is empty, as `poll_read_into_buffer` of the buffer's length, with its `Pending` and
-    /// errors. `buffer` then lends what is buffered; nothing of it goes before `consume`. At the end of the file it is
-    /// empty still.
+    /// Reads into the buffer where it is empty, as `poll_read_into_buffer` of the buffer's length, with its `Pending`
+    /// and errors. `buffer` then lends what is buffered; nothing of it goes before `consume`. At the end of the file it
+    /// is empty still.
     pub fn poll_fill_buf(&mut self, core: &mut Core) -> Poll<Result<(), Error>>
         requires ready { IsReady core.old }
         requires sound { IsSound core.old self.old }
-        ensures { ReadsTo (ready_plan core.old self.old) (λ u. outcome.Done) core.old core.new self.old self.new result }
+        ensures { ReadsTo (ready_plan core.old self.old) (λ u. outcome.Done) core.old core.new self.old self.new
+            result }
     {
         if !self.buffered.is_empty() {
             return Poll::Ready(Ok(()));
@@ -91,16 +93,16 @@ impl TokioCompatFile {
         len
     }
 
-    /// Reads the next bytes of the file, at most as many as there is room for, and stands behind them: what is buffered,
-    /// and where that is nothing what one READ brings, which asks for the buffer's length at least. 0 comes at the end
-    /// of the file, and for no room.
+    /// Reads the next bytes of the file, at most as many as there is room for, and stands behind them: what is
+    /// buffered, and where that is nothing what one READ brings, which asks for the buffer's length at least. 0 comes at
+    /// the end of the file, and for no room.
     ///
     /// `Pending` and the errors are those of `poll_read_into_buffer`. The room stays as it was but for the bytes.
     pub fn poll_read(&mut self, core: &mut Core, room: &mut [u8]) -> Poll<Result<usize, Error>>
         requires ready { IsReady core.old }
         requires sound { IsSound core.old self.old }
-        ensures reads { ReadsTo (read_plan (length room.old) core.old self.old) (room_outcome (length room.old) room.new)
-            core.old core.new self.old self.new result }
+        ensures reads { ReadsTo (read_plan (length room.old) core.old self.old)
+            (room_outcome (length room.old) room.new) core.old core.new self.old self.new result }
         ensures room { IsGiven room.old room.new result }
     {
         if !self.file.is_readable() {

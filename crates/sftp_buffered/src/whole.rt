@@ -14,8 +14,8 @@ use sftp_file::File;
 use std::collections::VecDeque;
 
 impl TokioCompatFile {
-    /// The file below. The buffer is dropped, and the deferred writes and the READ under way are given up: they stay under
-    /// way, and their replies are dropped.
+    /// The file below. The buffer is dropped, and the deferred writes and the READ under way are given up: they stay
+    /// under way, and their replies are dropped.
     pub fn into_inner(self, core: &mut Core) -> File
         requires { IsSound core.old self }
         ensures file { result ≡ self.file }

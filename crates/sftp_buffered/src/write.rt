@@ -130,8 +130,8 @@ impl TokioCompatFile {
         }
     }
 
-    /// Writes the first bytes of these pieces, joined, as `poll_write`. No byte is copied: what is sent is cut out of the
-    /// pieces.
+    /// Writes the first bytes of these pieces, joined, as `poll_write`. No byte is copied: what is sent is cut out of
+    /// the pieces.
     pub fn poll_write_vectored(
         &mut self,
         core: &mut Core,

@@ -1,0 +1,14 @@
+use Rattle.std.proofs.Common.{rules}
+use Rattle.call_state.specs.Calls.{IsUnderWay}
+use Rattle.call_state.proofs.Keeping.{still_under_way}
+use Rattle.sftp_file.specs.Opens.{opening}
+use Rattle.client_tests.proofs.buffered.opened.Goals as goal
+
+pub poll-polled-requires : goal.poll-polled-requires
+poll-polled-requires c =
+    let opens : IsUnderWay opening c.start_open.new.core c.in-Ok.call = search rules in
+    let sent : IsUnderWay opening c.sends.new.core c.in-Ok.call = still_under_way opening c.start_open.new.core c.sends.new.core c.in-Ok.call c.sends.ensures.keeps opens in
+    record {
+      under_way = still_under_way opening c.sends.new.core c.takes.new.core c.in-Ok.call c.takes.ensures.keeps sent;
+      ready = λ again. absurd cc;
+    }
