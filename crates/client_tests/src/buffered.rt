@@ -77,7 +77,7 @@ fn sends(core: &mut Core, bytes: &[u8]) -> bool
 }
 
 /// Whether the pieces are these bytes, joined.
-fn is_chunk(chunk: &Chunk, bytes: &[u8]) -> bool {
+pub(crate) fn is_chunk(chunk: &Chunk, bytes: &[u8]) -> bool {
     let mut rest = bytes;
     for piece in chunk.pieces() {
         if rest.len() < piece.len() {
@@ -269,7 +269,7 @@ fn greeted(alloc: Global) -> Result<Core, Fail> {
 }
 
 /// The file that an OPEN brings.
-fn opened(alloc: Global, core: &mut Core) -> Result<File, Fail> {
+pub(crate) fn opened(alloc: Global, core: &mut Core) -> Result<File, Fail> {
     if !is_ready(core) {
         return Err("no session".into());
     }

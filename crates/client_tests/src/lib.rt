@@ -11,3 +11,5 @@ mod history;
 mod link;
 #[cfg(test)]
 mod paths;
+#[cfg(test)]
+mod transfers;

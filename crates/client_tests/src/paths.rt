@@ -9,6 +9,7 @@ ghost use Rattle.call_state.specs.Keeping.{Keeps};
 mod listing;
 mod names;
 
+use crate::buffered::is_chunk;
 use call_state::{Alone, Call};
 use sftp_core::Core;
 use sftp_file::Poll;
@@ -25,13 +26,13 @@ const OFFERS: &[u8] =
     b"\x02\0\0\0\x03\0\0\0\x18posix-rename@openssh.com\0\0\0\x011\0\0\0\x14hardlink@openssh.com\0\0\0\x011\0\0\0\x17expand-path@openssh.com\0\0\0\x011";
 
 /// Bodies of a STATUS of 0 and of 4 to the request 0.
-const DONE: &[u8] = b"\x65\0\0\0\0\0\0\0\0\0\0\0\0\0\0\0\0";
+pub(crate) const DONE: &[u8] = b"\x65\0\0\0\0\0\0\0\0\0\0\0\0\0\0\0\0";
 
-const REFUSED: &[u8] = b"\x65\0\0\0\0\0\0\0\x04\0\0\0\0\0\0\0\0";
+pub(crate) const REFUSED: &[u8] = b"\x65\0\0\0\0\0\0\0\x04\0\0\0\0\0\0\0\0";
 
 /// What a poll, or a start, gave.
 #[derive(Clone, Copy, Debug, PartialEq, Eq)]
-enum Seen {
+pub(crate) enum Seen {
     Pending,
     /// A value.
     Given,
@@ -39,21 +40,24 @@ enum Seen {
     Status(u32),
     Unsupported,
     TooLong,
+    /// Refused by the file, before anything was sent.
+    Io(IoKind),
     Failed(Fault),
     Other,
 }
 
-fn error_seen(e: &Error) -> Seen {
+pub(crate) fn error_seen(e: &Error) -> Seen {
     match e {
         Error::SftpError { code, .. } => Seen::Status(*code),
         Error::UnsupportedExtension(_) => Seen::Unsupported,
         Error::IOError(IoKind::PathTooLong) => Seen::TooLong,
+        Error::IOError(kind) => Seen::Io(*kind),
         Error::BackgroundTaskFailure(fault) => Seen::Failed(*fault),
         _ => Seen::Other,
     }
 }
 
-fn poll_seen<T>(told: &Poll<Result<T, Error>>) -> Seen {
+pub(crate) fn poll_seen<T>(told: &Poll<Result<T, Error>>) -> Seen {
     match told {
         Poll::Pending => Seen::Pending,
         Poll::Ready(Ok(_)) => Seen::Given,
@@ -62,7 +66,7 @@ fn poll_seen<T>(told: &Poll<Result<T, Error>>) -> Seen {
 }
 
 /// A core whose hello was sent and that took this VERSION.
-fn greeted(alloc: Global, version: &[u8]) -> Result<Core, Fail> {
+pub(crate) fn greeted(alloc: Global, version: &[u8]) -> Result<Core, Fail> {
     let mut core = Core::new(alloc, &SftpOptions::new())?;
     let hello = core.hand_out()?;
     core.give_back(hello);
@@ -73,7 +77,7 @@ fn greeted(alloc: Global, version: &[u8]) -> Result<Core, Fail> {
 }
 
 /// Whether a request may be submitted.
-fn may_ask(core: &Core) -> bool
+pub(crate) fn may_ask(core: &Core) -> bool
     ensures { result ≡ true → IsReady core.now }
 {
     core.info().is_some() && core.kept() < 100
@@ -85,7 +89,7 @@ fn from_x(alloc: Global) -> Result<Fs, Fail> {
 }
 
 /// Whether what is queued is this frame, and this reply was taken.
-fn exchange(core: &mut Core, frame: &[u8], reply: &[u8]) -> bool
+pub(crate) fn exchange(core: &mut Core, frame: &[u8], reply: &[u8]) -> bool
     requires { IsSome (info_of core.old.phase) }
     ensures { Keeps core.old core.new }
 {
@@ -93,7 +97,7 @@ fn exchange(core: &mut Core, frame: &[u8], reply: &[u8]) -> bool
 }
 
 /// Whether what is queued is this frame.
-fn sends(core: &mut Core, frame: &[u8]) -> bool
+pub(crate) fn sends(core: &mut Core, frame: &[u8]) -> bool
     requires { IsSome (info_of core.old.phase) }
     ensures keeps { Keeps core.old core.new }
     ensures opened { IsSome (info_of core.new.phase) }
@@ -101,16 +105,13 @@ fn sends(core: &mut Core, frame: &[u8]) -> bool
     let Ok(chunk) = core.hand_out() else {
         return false;
     };
-    let went = match chunk.pieces() {
-        [one] => one.as_slice() == frame,
-        _ => false,
-    };
+    let went = is_chunk(&chunk, frame);
     core.give_back(chunk);
     went
 }
 
 /// Whether this body was taken.
-fn takes(core: &mut Core, body: &[u8]) -> bool
+pub(crate) fn takes(core: &mut Core, body: &[u8]) -> bool
     requires { IsSome (info_of core.old.phase) }
     ensures { Keeps core.old core.new }
 {
@@ -118,7 +119,7 @@ fn takes(core: &mut Core, body: &[u8]) -> bool
 }
 
 /// Sends the request of a call, which has to be this frame, takes this reply, and polls.
-fn answer<M: Alone>(
+pub(crate) fn answer<M: Alone>(
     rt: &impl Abort,
     core: &mut Core,
     call: Call<M>,

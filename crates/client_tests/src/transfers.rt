@@ -1,0 +1,204 @@
+// Calls on a file over a scripted core: what each sends, what each gives for a reply, a refusal and a fault, and where
+// the file stands then (draft-ietf-secsh-filexfer-02, sections 6.3 to 6.5 and 6.8). The file has the handle `h`, whose OPEN
+// has the id 0, so that each request has the id 1.
+ghost use Rattle.std.specs.Prelude.{◌≡◌, false, IsSome};
+ghost use Rattle.sftp_core.specs.Info.{info_of};
+ghost use Rattle.call_state.specs.Asked.{IsReady};
+ghost use Rattle.call_state.specs.Calls.{IsUnderWay};
+ghost use Rattle.call_state.specs.Keeping.{Keeps};
+ghost use Rattle.sftp_file.specs.Files.{file_at};
+
+use crate::buffered::opened;
+use crate::paths::{Seen, error_seen, greeted, may_ask, poll_seen, sends, takes};
+use bytes::Bytes;
+use call_state::Call;
+use sftp_core::Core;
+use sftp_file::{File, OnFile, Poll, PollFile};
+use sftp_model::{Error, Fault, FormatKind};
+use std::test::Fail;
+
+/// A VERSION that offers `fsync@openssh.com`.
+const OFFERS_FSYNC: &[u8] = b"\x02\0\0\0\x03\0\0\0\x11fsync@openssh.com\0\0\0\x011";
+
+/// Bodies of replies to the request 1: a STATUS of 0, of 4 and of 1, and a DATA of three bytes.
+const DONE: &[u8] = b"\x65\0\0\0\x01\0\0\0\0\0\0\0\0\0\0\0\0";
+
+const REFUSED: &[u8] = b"\x65\0\0\0\x01\0\0\0\x04\0\0\0\0\0\0\0\0";
+
+const END: &[u8] = b"\x65\0\0\0\x01\0\0\0\x01\0\0\0\0\0\0\0\0";
+
+const DATA: &[u8] = b"\x67\0\0\0\x01\0\0\0\x03abc";
+
+/// A body that is no reply, which is kept as a fault.
+const BROKEN: &[u8] = b"\x65\0\0\0\x01";
+
+/// A call that moves the file.
+#[derive(Clone, Copy)]
+enum Transfer {
+    Read(u32),
+    Write(&'static [u8]),
+    /// The same bytes in two pieces.
+    Vectored(&'static [u8], &'static [u8]),
+    ZeroCopy(&'static [u8], &'static [u8]),
+}
+
+/// A call, its request, the reply, which may be none, what the poll gives, and where the file stands then.
+#[derive(Drop)]
+struct Row {
+    call: Transfer,
+    sends: &'static [u8],
+    reply: &'static [u8],
+    gives: Seen,
+    stands: u64,
+}
+
+/// Sends the request of a call on a file, takes a reply, and polls; and whether the request was the row's.
+fn answer_on<M: OnFile>(
+    core: &mut Core,
+    call: Call<M>,
+    file: &mut File,
+    row: &Row,
+) -> (bool, Poll<Result<M::Value, Error>>)
+    requires opened { IsSome (info_of core.old.phase) }
+    requires call { IsUnderWay M.PlanMachine.meaning core.old call }
+    requires once { M.PlanMachine.meaning.again ≡ false }
+    requires stands { M.file call.machine ≡ file_at file.old }
+{
+    let mut call = call;
+    let sent = exchanged(core, row);
+    let told = call.poll(core, file);
+    call.cancel(core);
+    (sent, told)
+}
+
+/// Sends what is queued, and takes the reply of a row: whether it was the row's request.
+fn exchanged(core: &mut Core, row: &Row) -> bool
+    requires { IsSome (info_of core.old.phase) }
+    ensures { Keeps core.old core.new }
+{
+    let sent = sends(core, row.sends);
+    if !row.reply.is_empty() {
+        let _ = takes(core, row.reply);
+    }
+    sent
+}
+
+/// What a call gave, where it sent its row's request.
+fn seen<T>(answer: &(bool, Poll<Result<T, Error>>)) -> Seen {
+    if answer.0 {
+        poll_seen(&answer.1)
+    } else {
+        Seen::Other
+    }
+}
+
+/// What the call of a row gives.
+fn given(core: &mut Core, file: &mut File, row: &Row) -> Seen
+    requires { IsReady core.old }
+{
+    let call = match row.call {
+        Transfer::Read(n) => match file.start_read(core, n) {
+            Ok(call) => return seen(&answer_on(core, call, file, row)),
+            Err(e) => return error_seen(&e),
+        },
+        Transfer::Write(bytes) => file.start_write(core, bytes),
+        Transfer::Vectored(a, b) => {
+            let pieces = [Bytes::from_static(a), Bytes::from_static(b)];
+            file.start_write_vectorized(core, &pieces)
+        }
+        Transfer::ZeroCopy(a, b) => {
+            let pieces = [Bytes::from_static(a), Bytes::from_static(b)];
+            file.start_write_zero_copy(core, &pieces)
+        }
+    };
+    match call {
+        Ok(call) => seen(&answer_on(core, call, file, row)),
+        Err(e) => error_seen(&e),
+    }
+}
+
+/// The number of the first row that is not met on a file, or of them all.
+fn first_unmet(core: &mut Core, file: &mut File, rows: &[Row]) -> usize {
+    let mut met = 0;
+    for row in rows {
+        if !may_ask(core) || given(core, file, row) != row.gives || file.offset() != row.stands {
+            return met;
+        }
+        met = met.saturating_add(1);
+    }
+    met
+}
+
+#[test]
+fn reads_and_writes(rt: HostRuntime) -> Result<(), Fail> {
+    let alloc = rt.alloc();
+    let mut core = greeted(alloc, OFFERS_FSYNC)?;
+    let mut file = opened(alloc, &mut core)?;
+    let met = first_unmet(&mut core, &mut file, &ROWS);
+    file.let_go(core.end());
+    assert_eq!(rt; met, ROWS.len());
+    Ok(())
+}
+
+const ROWS: [Row; 8] = [
+    // the offset moves by what came, and not by what was asked for
+    Row {
+        call: Transfer::Read(5),
+        sends: b"\0\0\0\x16\x05\0\0\0\x01\0\0\0\x01h\0\0\0\0\0\0\0\0\0\0\0\x05",
+        reply: DATA,
+        gives: Seen::Given,
+        stands: 3,
+    },
+    Row {
+        call: Transfer::Write(b"xy"),
+        sends: b"\0\0\0\x18\x06\0\0\0\x01\0\0\0\x01h\0\0\0\0\0\0\0\x03\0\0\0\x02xy",
+        reply: DONE,
+        gives: Seen::Given,
+        stands: 5,
+    },
+    Row {
+        call: Transfer::Vectored(b"x", b"y"),
+        sends: b"\0\0\0\x18\x06\0\0\0\x01\0\0\0\x01h\0\0\0\0\0\0\0\x05\0\0\0\x02xy",
+        reply: DONE,
+        gives: Seen::Given,
+        stands: 7,
+    },
+    Row {
+        call: Transfer::ZeroCopy(b"", b"z"),
+        sends: b"\0\0\0\x17\x06\0\0\0\x01\0\0\0\x01h\0\0\0\0\0\0\0\x07\0\0\0\x01z",
+        reply: DONE,
+        gives: Seen::Given,
+        stands: 8,
+    },
+    // a refusal, and the end of the file, leave it where it stood
+    Row {
+        call: Transfer::Write(b"xy"),
+        sends: b"\0\0\0\x18\x06\0\0\0\x01\0\0\0\x01h\0\0\0\0\0\0\0\x08\0\0\0\x02xy",
+        reply: REFUSED,
+        gives: Seen::Status(4),
+        stands: 8,
+    },
+    Row {
+        call: Transfer::Read(1),
+        sends: b"\0\0\0\x16\x05\0\0\0\x01\0\0\0\x01h\0\0\0\0\0\0\0\x08\0\0\0\x01",
+        reply: END,
+        gives: Seen::Given,
+        stands: 8,
+    },
+    // nothing is asked for no bytes
+    Row {
+        call: Transfer::Write(b""),
+        sends: b"",
+        reply: b"",
+        gives: Seen::Given,
+        stands: 8,
+    },
+    // a broken frame is kept as the fault, and told
+    Row {
+        call: Transfer::Read(1),
+        sends: b"\0\0\0\x16\x05\0\0\0\x01\0\0\0\x01h\0\0\0\0\0\0\0\x08\0\0\0\x01",
+        reply: BROKEN,
+        gives: Seen::Failed(Fault::Format(FormatKind::Length)),
+        stands: 8,
+    },
+];
