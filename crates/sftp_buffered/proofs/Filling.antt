@@ -1,5 +1,38 @@
 -- What a read into the buffer makes of the buffer and its core, and of its plan.
-use Rattle.std.proofs.Common.{◌≡◌, ◌≤◌, ◌<◌, ◌+◌, ◌^◌, ◌∙◌, refl, sym, ap, subst, arith, ℕ, Bool, true, false, List, [], ◌∷◌, ◌++◌, Option, Some, None, Result, Ok, Err, inl, inr, ◌⊎◌, ◌==◌, length, if◌then◌else◌, length-append}
+use Rattle.std.proofs.Common.{
+  ◌≡◌,
+  ◌≤◌,
+  ◌<◌,
+  ◌+◌,
+  ◌^◌,
+  ◌∙◌,
+  refl,
+  sym,
+  ap,
+  subst,
+  arith,
+  ℕ,
+  Bool,
+  true,
+  false,
+  List,
+  [],
+  ◌∷◌,
+  ◌++◌,
+  Option,
+  Some,
+  None,
+  Result,
+  Ok,
+  Err,
+  inl,
+  inr,
+  ◌⊎◌,
+  ◌==◌,
+  length,
+  if◌then◌else◌,
+  length-append,
+}
 use Rattle.std.specs.Prelude.{max, ◌||◌}
 use Rattle.std.proofs.lemmas.Bool.Decides.{nat_tests}
 use Rattle.sftp_model.specs.Answers.{allows, is_content}
@@ -28,10 +61,41 @@ use Rattle.call_state.specs.declared.poll.Poll.TheVariants as poll
 use Rattle.call_state.proofs.Keeping.{submitted_holds, submitted_keeps}
 use Rattle.sftp_buffered.specs.declared.file.DeferredWrite.{DeferredWrite}
 use Rattle.sftp_buffered.specs.declared.file.ReadUnderWay.{ReadUnderWay}
-use Rattle.sftp_buffered.specs.Buffered.{AreElsewhere, AreHeld, AreRising, CompatValue, Defers, IsCounted, IsHeldRead, IsOther, IsRestOf, IsSound, IsTold, LeavesOthers, lane_of, len_of}
+use Rattle.sftp_buffered.specs.Buffered.{
+  AreElsewhere,
+  AreHeld,
+  AreRising,
+  CompatValue,
+  Defers,
+  IsCounted,
+  IsHeldRead,
+  IsOther,
+  IsSound,
+  IsTold,
+  LeavesOthers,
+  lane_of,
+  len_of,
+}
 use Rattle.sftp_buffered.specs.Polls.{AnyCut, Ends, Polls, Waits}
-use Rattle.sftp_buffered.specs.Reads.{AwaitsFill, BeginsRead, Begun, EndsFill, Fills, IsAllowedRead, LooksAtRead, TookRead, appended, end_of, fill_value, read_behind, read_reply, read_taken, with_read, without_read}
-use Rattle.sftp_buffered.specs.Steps.{IsLeft}
+use Rattle.sftp_buffered.specs.Reads.{
+  AwaitsFill,
+  BeginsRead,
+  Begun,
+  EndsFill,
+  Fills,
+  IsAllowedRead,
+  LooksAtRead,
+  TookRead,
+  appended,
+  end_of,
+  fill_value,
+  read_behind,
+  read_reply,
+  with_read,
+  without_read,
+}
+use Rattle.sftp_buffered.specs.Steps.{IsLeft, IsRestOf, read_taken}
+use Rattle.sftp_buffered.proofs.Resting.{rest_at, rest_same}
 use Rattle.sftp_buffered.proofs.Others.{others_left, others_polled, others_submitted}
 use Rattle.sftp_buffered.proofs.Planning.{missing_waits}
 use Rattle.sftp_buffered.proofs.Sound.{apart_read, held_but, sound_left}
@@ -310,20 +374,33 @@ fills_pending plan len go answers old new p q h d (inr e) =
 unfinished_at : (m n : Move) → m ≡ n → IsUnfinished n → IsUnfinished m
 unfinished_at m n same h = subst IsUnfinished (sym same) h
 
-pub rest_same : (p : CompatValue) → IsRestOf p p
-rest_same p = record { gone = 0; deferred = refl; reading = inl refl; place = refl; capacity = omega arith }
+appended_place : (r : Reply) (c : CompatValue) → (appended r c).place ≡ c.place
+appended_place (reply.Content bytes) c = refl
+appended_place (reply.Status code message language) c = refl
+appended_place (reply.Handle handle) c = refl
+appended_place (reply.Version version extensions) c = refl
+appended_place (reply.Names names) c = refl
+appended_place (reply.Attrs attrs) c = refl
+appended_place (reply.Extended content) c = refl
 
-appended_rest : (r : Reply) (p : CompatValue) → IsRestOf p (without_read (appended r p))
-appended_rest (reply.Content bytes) p = record { gone = 0; deferred = refl; reading = inr refl; place = refl; capacity = omega arith }
-appended_rest (reply.Status code message language) p = record { gone = 0; deferred = refl; reading = inr refl; place = refl; capacity = omega arith }
-appended_rest (reply.Handle handle) p = record { gone = 0; deferred = refl; reading = inr refl; place = refl; capacity = omega arith }
-appended_rest (reply.Version version extensions) p = record { gone = 0; deferred = refl; reading = inr refl; place = refl; capacity = omega arith }
-appended_rest (reply.Names names) p = record { gone = 0; deferred = refl; reading = inr refl; place = refl; capacity = omega arith }
-appended_rest (reply.Attrs attrs) p = record { gone = 0; deferred = refl; reading = inr refl; place = refl; capacity = omega arith }
-appended_rest (reply.Extended content) p = record { gone = 0; deferred = refl; reading = inr refl; place = refl; capacity = omega arith }
+appended_capacity : (r : Reply) (c : CompatValue) → c.capacity ≤ (appended r c).capacity
+appended_capacity (reply.Content bytes) c = omega arith
+appended_capacity (reply.Status code message language) c = omega arith
+appended_capacity (reply.Handle handle) c = omega arith
+appended_capacity (reply.Version version extensions) c = omega arith
+appended_capacity (reply.Names names) c = omega arith
+appended_capacity (reply.Attrs attrs) c = omega arith
+appended_capacity (reply.Extended content) c = omega arith
 
-pub took_rest : (old new : Core) (p q : CompatValue) (value : Result (Unit {0}) Error) → TookRead old new p q value → IsRestOf p q
-took_rest old new p q value t = subst (IsRestOf p) (sym t.left) (appended_rest t.reply p)
+pub took_rest : (old new : Core) (p q : CompatValue) (value : Result (Unit {0}) Error) → TookRead old new p q value → IsRestOf old new p q
+took_rest old new p q value t =
+    subst (IsRestOf old new p) (sym t.left) (record {
+      between = old;
+      taken = record { gone = []; deferred = sym (appended_deferred t.reply p); core = refl };
+      reading = inr (refl, inl (t.core ∙ sym (ap (read_taken old) t.under_way)));
+      place = appended_place t.reply p;
+      capacity = appended_capacity t.reply p;
+    })
 
 -- what the reply makes of the plan
 pub took_goes : (plan : Plan) (len : ℕ) (go : Reply → Move) (answers : Answers) (old new : Core) (p q : CompatValue)
@@ -336,7 +413,7 @@ begins_stop : {V : Type 0} (o : V → Outcome) (plan : Plan) (len : ℕ) (go : R
     (old new : Core) (p q : CompatValue) (e : Error) → ReadsBy plan len go answers p → p.reading ≡ None
     → BeginsRead len old new p q (poll.Ready (Err e)) → Polls {V = V}
     (Waits plan answers old (IsLeft old new p q) ⊎ Begun plan answers old new p q) (IsLeft old new p q) AnyCut plan
-    o answers old p q (poll.Ready (Err e))
+    o answers old new p q (poll.Ready (Err e))
 begins_stop o plan len go answers old new p q error.OutOfMemory h none b = b
 begins_stop o plan len go answers old new p q (error.BackgroundTaskFailure fault) h none b =
     (b.1, unfinished_at (plan [] answers) (Ask (read_behind p len)) (begun_asks plan len go answers p h none b.0) tt, b.2)
@@ -344,7 +421,7 @@ begins_stop o plan len go answers old new p q (error.IOError kind.OffsetOverflow
     record {
       ends = h.asks none ∙ ((λ i. if past_end (end_of p) len b.0 i then refuses kind.OffsetOverflow (lane_of p) else Ask (read_behind p len))
           ∙ ap (λ (x : CompatValue). Done (outcome.Refused (error.IOError kind.OffsetOverflow)) (lane_of x)) (sym b.1.same));
-      rest = subst (IsRestOf p) (sym b.1.same) (rest_same p);
+      rest = rest_at old old new p p q (rest_same old p) b.1.core b.1.same;
     }
 begins_stop o plan len go answers old new p q other h none b = absurd b
 
@@ -363,7 +440,7 @@ refused_appends (reply.Extended content) e c is = refl
 
 took_refused : (plan : Plan) (len : ℕ) (go : Reply → Move) (answers : Answers) (old new : Core) (p q : CompatValue)
     (e : Error) → ReadsBy plan len go answers p → Defers old p answers → EndsRefused go p
-    → TookRead old new p q (Err e) → Ends plan (outcome.Refused e) answers p q
+    → TookRead old new p q (Err e) → Ends plan (outcome.Refused e) answers old new p q
 took_refused plan len go answers old new p q e h d ends t =
     record {
       ends = took_goes plan len go answers old new p q (Err e) h d t
@@ -377,7 +454,7 @@ awaits_stop : {V : Type 0} (o : V → Outcome) (plan : Plan) (len : ℕ) (go : R
     → Defers old p answers
     → EndsRefused go p → p.reading ≡ Some r → AwaitsFill old new p q (poll.Ready (Err e))
     → Polls {V = V} (Waits plan answers old (IsLeft old new p q) ⊎ Begun plan answers old new p q) (IsLeft old new p q)
-    AnyCut plan o answers old p q (poll.Ready (Err e))
+    AnyCut plan o answers old new p q (poll.Ready (Err e))
 awaits_stop o plan len go answers old new p q error.OutOfMemory r h d ends is a = a
 awaits_stop o plan len go answers old new p q (error.BackgroundTaskFailure fault) r h d ends is a =
     (a.1, unfinished_at (plan [] answers) (Wait r.place) (unread_waits plan len go answers old p r h d is a.0) tt, a.2)
@@ -387,7 +464,7 @@ pub fills_stop : {V : Type 0} (o : V → Outcome) (plan : Plan) (len : ℕ) (go 
     (old new : Core) (p q : CompatValue) (e : Error) → ReadsBy plan len go answers p → Defers old p answers
     → EndsRefused go p → Fills len old new p q (poll.Ready (Err e))
     → Polls {V = V} (Waits plan answers old (IsLeft old new p q) ⊎ Begun plan answers old new p q) (IsLeft old new p q)
-    AnyCut plan o answers old p q (poll.Ready (Err e))
+    AnyCut plan o answers old new p q (poll.Ready (Err e))
 fills_stop o plan len go answers old new p q e h d ends (inl b) = begins_stop o plan len go answers old new p q e h b.none b.begins
 fills_stop o plan len go answers old new p q e h d ends (inr a) = awaits_stop o plan len go answers old new p q e a.read h d ends a.under_way a.awaits
 

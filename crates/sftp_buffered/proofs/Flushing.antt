@@ -1,7 +1,6 @@
 -- What settling the oldest statuses leaves, and the plan of a flush.
-use Rattle.std.proofs.Common.{◌≡◌, ◌+◌, ◌-◌, ◌∙◌, refl, sym, ap, subst, arith, ℕ, Bool, true, false, List, [], ◌∷◌, Option, Some, None, Result, Ok, Err, inl, inr, ◌⊎◌, drop, zero, suc, if◌then◌else◌, slice_get}
+use Rattle.std.proofs.Common.{◌≡◌, ◌-◌, ◌∙◌, refl, sym, ap, subst, ℕ, Bool, true, false, List, [], ◌∷◌, Option, Some, None, Result, Ok, Err, inl, drop, if◌then◌else◌, slice_get}
 use Rattle.std.specs.Prelude.{not}
-use Rattle.std.proofs.lemmas.List.{drop-drop}
 use Rattle.sftp_model.specs.declared.error.Error.{Error}
 use Rattle.sftp_model.specs.declared.error.Error.TheVariants as error
 use Rattle.sftp_model.specs.declared.error.Fault.{Fault}
@@ -25,26 +24,11 @@ use Rattle.call_state.specs.declared.poll.Poll.TheVariants as poll
 use Rattle.sftp_file.specs.Files.{file_at}
 use Rattle.sftp_buffered.specs.declared.file.DeferredWrite.{DeferredWrite}
 use Rattle.sftp_buffered.specs.declared.file.ReadUnderWay.{ReadUnderWay}
-use Rattle.sftp_buffered.specs.Buffered.{
-  AreApart,
-  AreHeld,
-  AreTold,
-  CompatValue,
-  Defers,
-  IsApart,
-  IsHeldRead,
-  IsOther,
-  IsRestOf,
-  IsSound,
-  IsTold,
-  LeavesOthers,
-  buffer_of,
-  lane_of,
-  writes_of,
-}
+use Rattle.sftp_buffered.specs.Buffered.{AreApart, AreHeld, AreTold, CompatValue, Defers, IsApart, IsHeldRead, IsSound, IsTold, LeavesOthers, buffer_of, lane_of, writes_of}
 use Rattle.sftp_buffered.specs.Flushes.{FlushesTo, IsFlushed, Settles, flush_plan, unsettled, with_writes}
 use Rattle.sftp_buffered.specs.Polls.{AnyCut, Polls, Waits}
-use Rattle.sftp_buffered.specs.Steps.{IsLeft, LooksAtOldest, WasRefused, oldest_len, oldest_polled, oldest_reply, without_oldest}
+use Rattle.sftp_buffered.specs.Steps.{AreTaken, IsLeft, IsRestOf, LooksAtOldest, WasRefused, oldest_len, oldest_polled, oldest_reply, without_oldest}
+use Rattle.sftp_buffered.proofs.Resting.{others_taken, rest_at, rest_by, rest_same, taken_at, taken_more, taken_none}
 use Rattle.sftp_buffered.proofs.Holding.{other_kind}
 use Rattle.sftp_buffered.proofs.Others.{others_both, others_left, others_looked, others_oldest, others_same}
 use Rattle.sftp_buffered.proofs.Planning.{bad_ends, good_goes, missing_waits, status_memory}
@@ -113,7 +97,7 @@ defers_less core c answers s d =
 
 pub record SettlesSoFar (old : Core) (p : CompatValue) (core : Core) (c : CompatValue) : Type 0 where
   pub unsettled : unsettled core c.deferred ≡ unsettled old p.deferred
-  pub rest : IsRestOf p c
+  pub rest : AreTaken old core p c
   pub same : c ≡ record p { deferred = c.deferred; pending = c.pending }
   pub told : (answers : Answers) → Defers old p answers → Defers core c answers
   pub fault : core.fault ≡ old.fault
@@ -125,23 +109,13 @@ pub settles_none : (core : Core) (c : CompatValue) → IsSound core c → Settle
 settles_none core c s =
     record {
       unsettled = refl;
-      rest = record { gone = 0; deferred = refl; reading = inl refl; place = refl; capacity = omega arith };
+      rest = taken_none core c;
       same = refl;
       told = λ answers d. d;
       fault = refl;
       sound = s;
       apart = λ ticket apart. apart;
       others = others_same core c;
-    }
-
-rest_less : (p c : CompatValue) → IsRestOf p c → IsRestOf p (without_oldest c)
-rest_less p c r =
-    record {
-      gone = r.gone + 1;
-      deferred = ap (λ (ds : List DeferredWrite). drop 1 ds) r.deferred ∙ drop-drop 1 r.gone p.deferred;
-      reading = r.reading;
-      place = r.place;
-      capacity = r.capacity;
     }
 
 apart_less : (ticket : ℕ) (ds : List DeferredWrite) → AreApart ticket ds → AreApart ticket (drop 1 ds)
@@ -153,7 +127,7 @@ settles_more : (old : Core) (p : CompatValue) (core : Core) (c : CompatValue) �
 settles_more old p core c s good =
     record {
       unsettled = unsettled_less core c.deferred s.sound.held.writes good ∙ s.unsettled;
-      rest = rest_less p c s.rest;
+      rest = taken_more old core p c s.rest;
       same = ap (λ (x : CompatValue). record x { deferred = drop 1 c.deferred; pending = c.pending - oldest_len c.deferred }) s.same;
       told = λ answers d. defers_less core c answers s.sound (s.told answers d);
       fault = oldest_fault core c.deferred ∙ s.fault;
@@ -280,36 +254,23 @@ plan_here old mid p r answers d ds may s deferred is =
 
 -- ---- the poll
 
-apart_drop : (ticket n : ℕ) (ds : List DeferredWrite) → AreApart ticket ds → AreApart ticket (drop n ds)
-apart_drop ticket zero ds apart = apart
-apart_drop ticket (suc n) [] apart = tt
-apart_drop ticket (suc n) (d ∷ ds) apart = apart_drop ticket n ds apart.1
-
-other_rest : (ticket : ℕ) (r s : Option ReadUnderWay) → (s ≡ r) ⊎ (s ≡ None) → IsOther ticket r → IsOther ticket s
-other_rest ticket r s (inl same) other = subst (IsOther ticket) (sym same) other
-other_rest ticket r s (inr none) other = subst (IsOther ticket) (sym none) tt
-
--- a ticket of another is none of what is left
-pub apart_rest : (ticket : ℕ) (p q : CompatValue) → IsRestOf p q → IsApart ticket p → IsApart ticket q
-apart_rest ticket p q r apart =
-    record {
-      writes = subst (AreApart ticket) (sym r.deferred) (apart_drop ticket r.gone p.deferred apart.writes);
-      read = other_rest ticket p.reading q.reading r.reading apart.read;
-    }
-
-pub others_rest : (old new : Core) (p q : CompatValue) → IsRestOf p q → LeavesOthers old new q → LeavesOthers old new p
-others_rest old new p q r h = record {
-  holds = λ ticket kind apart x. h.holds ticket kind
-      (apart_rest ticket p q r apart) x;
-  grants = h.grants;
-  phase = h.phase;
-  options = h.options;
-}
-
 left_flushed : (old mid new : Core) (p r q : CompatValue) (answers : Answers) → Settles old mid p r → IsLeft mid new r q
-    → Defers old p answers → IsFlushed old p q answers
+    → Defers old p answers → IsFlushed old new p q answers
 left_flushed old mid new p r q answers s l d =
-    subst (λ (x : CompatValue). IsFlushed old p x answers) (sym l.same) (record { lane = s.lane answers d; rest = s.rest })
+    record { lane = ap lane_of l.same ∙ s.lane answers d; rest = taken_at old mid new p r q s.rest l.core l.same }
+
+-- what was settled, with the READ as it was
+rest_settled : (old mid : Core) (p r : CompatValue) → Settles old mid p r → IsRestOf old mid p r
+rest_settled old mid p r s =
+    rest_by old mid p r s.rest (ap (λ (x : CompatValue). x.reading) s.left) (ap (λ (x : CompatValue). x.place) s.left)
+    (ap (λ (x : CompatValue). x.capacity) s.left)
+
+-- and a refusal behind it
+rest_refused : (old mid new : Core) (p r q : CompatValue) (e : Error) → Settles old mid p r → WasRefused mid new r q e → IsRestOf old new p q
+rest_refused old mid new p r q e s w =
+    rest_at old (oldest_polled mid r.deferred) new p (without_oldest r) q
+    (rest_by old (oldest_polled mid r.deferred) p (without_oldest r) (taken_more old mid p r s.rest) (ap (λ (x : CompatValue). x.reading) s.left)
+    (ap (λ (x : CompatValue). x.place) s.left) (ap (λ (x : CompatValue). x.capacity) s.left)) w.core w.left
 
 unfinished_wait : (m : Move) (place : ℕ) → m ≡ Wait place → IsUnfinished m
 unfinished_wait m place e = subst IsUnfinished (sym e) tt
@@ -317,8 +278,8 @@ unfinished_wait m place e = subst IsUnfinished (sym e) tt
 flush_polls : (old mid new : Core) (p r q : CompatValue) (d : DeferredWrite) (ds : List DeferredWrite)
     (result : Poll (Result (Unit {0}) Error)) → p.file.writable ≡ true → Settles old mid p r → r.deferred ≡ d ∷ ds
     → LooksAtOldest mid new r q result → (answers : Answers) → Defers old p answers
-    → Polls (Waits (flush_plan old p) answers old (IsFlushed old p q answers)) (IsFlushed old p q answers) AnyCut
-    (flush_plan old p) (λ u. outcome.Done) answers old p q result
+    → Polls (Waits (flush_plan old p) answers old (IsFlushed old new p q answers)) (IsFlushed old new p q answers) AnyCut
+    (flush_plan old p) (λ u. outcome.Done) answers old new p q result
 flush_polls old mid new p r q d ds poll.Pending may s is l answers told =
     record {
       place = d.place;
@@ -338,7 +299,7 @@ flush_polls old mid new p r q d ds (poll.Ready (Err error.OutOfMemory)) may s is
 flush_polls old mid new p r q d ds (poll.Ready (Err e)) may s is l answers told =
     record {
       ends = plan_here old mid p r answers d ds may s told is ∙ bad_ends mid new r q d.place (left_over p r answers ds) e l;
-      rest = subst (λ (x : CompatValue). IsRestOf p x) (sym l.left) (rest_less p r s.rest);
+      rest = rest_refused old mid new p r q e s l;
     }
 
 flush_memory : (old new : Core) (p q : CompatValue) (result : Poll (Result (Unit {0}) Error))
@@ -367,7 +328,8 @@ flushes_at old mid new p r q (d ∷ ds) result may s is some l =
       polled = flush_polls old mid new p r q d ds result may s is l;
       memory = flush_memory mid new r q result l;
       sound = flush_sound mid new r q result l s.sound;
-      others = others_both old mid new p s.others (others_rest mid new p r s.rest (flush_others mid new r q result l s.sound));
+      others = others_both old mid new p s.others (others_taken old mid new p r s.rest
+          (ap (λ (x : CompatValue). x.reading) s.left) (flush_others mid new r q result l s.sound));
     }
 
 -- a status is left, which the look answered
@@ -388,7 +350,7 @@ flushes_all old new p q may s none =
       polled = λ answers d. inl (record {
         ends = plan_at old new p q answers may s d ∙ ap (λ (xs : List DeferredWrite). flush_next 0 (file_at p.file)
             (buffer_of p) (lane_of q) answers (writes_of xs)) (none_left q.deferred none);
-        rest = s.rest;
+        rest = rest_settled old new p q s;
       });
       memory = λ is. cc;
       sound = s.sound;
@@ -402,7 +364,7 @@ unwritable_flushes core c not_so s =
       polled = λ answers d. record {
         ends = (λ i. if not (not_so i) then refuses kind.NotWritable (lane_of c) else
             flush_next 0 (file_at c.file) (buffer_of c) (lane_of c) answers (writes_of c.deferred));
-        rest = (settles_none core c s).rest;
+        rest = rest_same core c;
       };
       memory = λ is. cc;
       sound = s;

@@ -170,3 +170,13 @@ pub room_counts : (full : Bool) (c : CompatValue) (facts : Facts) (n : ℕ) → 
     → (freed full c).pending + n < 2 ^ 64
 room_counts true c facts n e pending limit = omega (arith, e, pending, limit)
 room_counts false c facts n e pending limit = omega (arith, e, pending, limit)
+
+polled_stays : (old core : Core) (ds more : List DeferredWrite) → is_good (oldest_reply old ds) ≡ true → oldest_polled core (ds ++ more) ≡ oldest_polled core ds
+polled_stays old core [] more good = absurd cc
+polled_stays old core (d ∷ ds) more good = refl
+
+-- the core once the oldest status made way, before or after the next write was deferred
+pub freed_core_deferring : (full : Bool) (old core : Core) (c : CompatValue) (n ticket : ℕ) → (full ≡ true → is_good (oldest_reply old c.deferred) ≡ true)
+    → freed_core full core (deferring c n ticket) ≡ freed_core full core c
+freed_core_deferring true old core c n ticket good = polled_stays old core c.deferred (record { place = c.place; len = n; ticket = ticket } ∷ []) (good refl)
+freed_core_deferring false old core c n ticket good = refl

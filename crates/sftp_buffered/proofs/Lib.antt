@@ -4,6 +4,7 @@ pub mod Holding
 pub mod Deferring
 pub mod Sound
 pub mod Others
+pub mod Resting
 pub mod Planning
 pub mod Flushing
 pub mod Filling

@@ -62,25 +62,30 @@ use Rattle.call_state.specs.Calls.{IsUnfinished}
 use Rattle.call_state.specs.declared.asking.Asking.{Asking}
 use Rattle.call_state.specs.declared.poll.Poll.TheVariants as poll
 use Rattle.sftp_file.specs.Files.{FileValue, facts_of, file_at}
-use Rattle.sftp_buffered.proofs.Holding.{counted_less, freed_deferring, freed_file, parts_of}
+use Rattle.sftp_buffered.proofs.Holding.{counted_less, freed_core_deferring, freed_deferring, freed_file, parts_of}
 use Rattle.sftp_buffered.specs.declared.file.DeferredWrite.{DeferredWrite}
 use Rattle.sftp_buffered.specs.declared.window.Window.{Window}
-use Rattle.sftp_buffered.specs.Buffered.{AreTold, CompatValue, Defers, IsCounted, IsRestOf, IsSound, buffer_of, lane_of, write_of, writes_of}
+use Rattle.sftp_buffered.specs.Buffered.{AreTold, CompatValue, Defers, IsCounted, IsSound, buffer_of, lane_of, write_of, writes_of}
 use Rattle.sftp_buffered.specs.Polls.{Asks, Polls, Waits}
 use Rattle.sftp_buffered.specs.Steps.{
   IsLeft,
+  IsRestOf,
   LooksAtOldest,
   WasRefused,
   behind,
   deferring,
   freed,
+  freed_core,
   must_wait,
   oldest_len,
+  oldest_polled,
   oldest_reply,
+  read_dropped,
   room_of,
   status_value,
   without_oldest,
 }
+use Rattle.sftp_buffered.proofs.Resting.{rest_at, rest_freed}
 use Rattle.sftp_buffered.specs.Writes.{HasRoom, IsWindow, Sent, Unsent, Writes, write_plan}
 use Rattle.sftp_buffered.proofs.Sound.{sound_left, sound_looked, sound_send}
 use Rattle.sftp_buffered.proofs.Others.{others_left, others_looked, others_same, others_send}
@@ -281,12 +286,12 @@ part_asks plan facts bytes answers c parts n over g h is =
 part_long : (facts : Facts) (bytes : List ℕ) (c : CompatValue) (parts : List (List ℕ)) (n : ℕ) → IsPartOf facts bytes c parts n → length (take n bytes) ≡ n
 part_long facts bytes c parts n h = length-take-le n bytes (short_is n (room_of facts c) bytes h.len)
 
-sent_asks : (Cut : Asking → Type 0) (plan : Plan) (facts : Facts) (bytes : List ℕ) (answers : Answers) (old middle : Core) (p c q : CompatValue)
+sent_asks : (Cut : Asking → Type 0) (plan : Plan) (facts : Facts) (bytes : List ℕ) (answers : Answers) (old middle between new : Core) (p c q : CompatValue)
     (parts : List (List ℕ)) (n ticket : ℕ) → GoesAs plan facts bytes answers c
     → IsPartOf facts bytes c parts n → c.file.offset + n < 2 ^ 64 → Submitted old (parts_of c parts) ticket middle
-    → Cut (parts_of c parts) → IsRestOf p c → q ≡ behind (deferring c n ticket) n
-    → Asks plan (outcome.Count n) Cut answers old p q
-sent_asks Cut plan facts bytes answers old middle p c q parts n ticket g h fits submitted cut stays left =
+    → Cut (parts_of c parts) → IsRestOf middle between p c → q ≡ behind (deferring c n ticket) n → new ≡ read_dropped between c.reading
+    → Asks plan (outcome.Count n) Cut answers old new p q
+sent_asks Cut plan facts bytes answers old middle between new p c q parts n ticket g h fits submitted cut stays left core =
     let asked : Request = request.Write c.file.grant.handle c.file.offset (joined parts) in
     record {
       asking = parts_of c parts;
@@ -301,14 +306,12 @@ sent_asks Cut plan facts bytes answers old middle p c q parts n ticket g h fits 
           (len_is c facts bytes g.counted ∙ sym h.len)
           ∙ ap (λ (x : CompatValue). Done (outcome.Count n) (lane_of x)) (sym left)));
       rest = c;
+      between = between;
       stays = stays;
       len = n;
       left = left;
+      core = core;
     }
-
-rest_freed : (full : Bool) (c : CompatValue) → IsRestOf c (freed full c)
-rest_freed true c = record { gone = 1; deferred = refl; reading = inl refl; place = refl; capacity = omega arith }
-rest_freed false c = record { gone = 0; deferred = refl; reading = inl refl; place = refl; capacity = omega arith }
 
 -- in a full window
 full_goes_as : (c : CompatValue) (facts : Facts) (bytes : List ℕ) (answers : Answers) (core : Core) → c.file.writable
@@ -343,13 +346,15 @@ goes_as false c facts bytes answers core may some counted is d good = room_goes_
 polls_sent : (Cut : Asking → Type 0) (full : Bool) (plan : Plan) (facts : Facts) (bytes : List ℕ) (answers : Answers) (old new : Core)
     (p q : CompatValue) (parts : List (List ℕ)) (n : ℕ) → GoesAs plan facts bytes answers (freed full p)
     → IsPartOf facts bytes (freed full p) parts n → (full ≡ true → is_good (oldest_reply old p.deferred) ≡ true)
-    → Cut (parts_of p parts) → Sent full parts old new p q n → Asks plan (outcome.Count n) Cut answers old p q
+    → Cut (parts_of p parts) → Sent full parts old new p q n → Asks plan (outcome.Count n) Cut answers old new p q
 polls_sent Cut true plan facts bytes answers old new p q parts n g h good cut s =
-    sent_asks Cut plan facts bytes answers old s.middle p (without_oldest p) q parts n s.ticket g h s.fits s.submitted cut (rest_freed true p)
-    (s.left ∙ ap (λ (x : CompatValue). behind x n) (freed_deferring true old p n s.ticket good))
+    sent_asks Cut plan facts bytes answers old s.middle (oldest_polled s.middle p.deferred) new p (without_oldest p) q
+    parts n s.ticket g h s.fits s.submitted cut
+    (rest_freed true s.middle p) (s.left ∙ ap (λ (x : CompatValue). behind x n) (freed_deferring true old p n s.ticket good))
+    (s.core ∙ ap (λ (x : Core). read_dropped x p.reading) (freed_core_deferring true old s.middle p n s.ticket good))
 polls_sent Cut false plan facts bytes answers old new p q parts n g h good cut s =
-    sent_asks Cut plan facts bytes answers old s.middle p p q parts n s.ticket g h s.fits s.submitted cut (rest_freed false p)
-    s.left
+    sent_asks Cut plan facts bytes answers old s.middle s.middle new p p q parts n s.ticket g h s.fits s.submitted cut
+    (rest_freed false s.middle p) s.left s.core
 
 unfinished_ask : (plan : Plan) (answers : Answers) (asked : Request) → plan [] answers ≡ Ask asked → IsUnfinished (plan [] answers)
 unfinished_ask plan answers asked e = subst IsUnfinished (sym e) tt
@@ -357,7 +362,7 @@ unfinished_ask plan answers asked e = subst IsUnfinished (sym e) tt
 polls_unsent : (Cut : Asking → Type 0) (full : Bool) (plan : Plan) (facts : Facts) (bytes : List ℕ) (answers : Answers) (old new : Core)
     (p q : CompatValue) (parts : List (List ℕ)) (n : ℕ) (e : Error) → GoesAs plan facts bytes answers (freed full p)
     → IsPartOf facts bytes (freed full p) parts n → (freed full p).file ≡ p.file → Unsent full n old new p q e
-    → Polls {V = ℕ} (Waits plan answers old (IsLeft old new p q)) (IsLeft old new p q) Cut plan (λ k. outcome.Count k) answers old p q (poll.Ready (Err e))
+    → Polls {V = ℕ} (Waits plan answers old (IsLeft old new p q)) (IsLeft old new p q) Cut plan (λ k. outcome.Count k) answers old new p q (poll.Ready (Err e))
 polls_unsent Cut full plan facts bytes answers old new p q parts n error.OutOfMemory g h same u = u
 polls_unsent Cut full plan facts bytes answers old new p q parts n (error.BackgroundTaskFailure fault) g h same u = (
   u.1,
@@ -372,7 +377,7 @@ polls_unsent Cut full plan facts bytes answers old new p q parts n (error.IOErro
           (past_is (freed full p).file.offset n (subst (λ (f : FileValue). 2 ^ 64 ≤ f.offset + n) (sym same) u.0) _
           (part_long facts bytes (freed full p) parts n h))
           ∙ ap (λ (x : CompatValue). Done (outcome.Refused (error.IOError kind.OffsetOverflow)) (lane_of x)) (sym u.1);
-      rest = subst (λ (x : CompatValue). IsRestOf p x) (sym u.1) (rest_freed full p);
+      rest = rest_at old (freed_core full old p) new p (freed full p) q (rest_freed full old p) u.2 u.1;
     }
 polls_unsent Cut full plan facts bytes answers old new p q parts n other g h same u = absurd u
 
@@ -382,9 +387,9 @@ polls_result : (Cut : Asking → Type 0) (full : Bool) (plan : Plan) (facts : Fa
     → IsPartOf facts bytes (freed full p) parts n → (full ≡ true → is_good (oldest_reply old p.deferred) ≡ true)
     → Cut (parts_of p parts) → IfOk result (λ k. (k ≡ n) × Sent full parts old new p q n)
     → IfErr result (Unsent full n old new p q)
-    → Polls {V = ℕ} (Waits plan answers old (IsLeft old new p q)) (IsLeft old new p q) Cut plan (λ k. outcome.Count k) answers old p q (poll.Ready result)
+    → Polls {V = ℕ} (Waits plan answers old (IsLeft old new p q)) (IsLeft old new p q) Cut plan (λ k. outcome.Count k) answers old new p q (poll.Ready result)
 polls_result Cut full plan facts bytes answers old new p q parts n (Ok k) g h good cut ok err =
-    inr (subst (λ (x : ℕ). Asks plan (outcome.Count x) Cut answers old p q) (sym ok.0)
+    inr (subst (λ (x : ℕ). Asks plan (outcome.Count x) Cut answers old new p q) (sym ok.0)
     (polls_sent Cut full plan facts bytes answers old new p q parts n g h good cut ok.1))
 polls_result Cut full plan facts bytes answers old new p q parts n (Err e) g h good cut ok err =
     polls_unsent Cut full plan facts bytes answers old new p q parts n e g h (freed_file full p) err
@@ -432,7 +437,7 @@ refused_polls : (Cut : Asking → Type 0) (bytes : List ℕ) (old new : Core) (p
     → must_wait (facts_of old) p ≡ true → LooksAtOldest old new p q (poll.Ready (Err e))
     → (answers : Answers) → Defers old p answers
     → Polls {V = ℕ} (Waits (write_plan bytes old p) answers old (IsLeft old new p q)) (IsLeft old new p q) Cut
-    (write_plan bytes old p) (λ k. outcome.Count k) answers old p q (poll.Ready (Err e))
+    (write_plan bytes old p) (λ k. outcome.Count k) answers old new p q (poll.Ready (Err e))
 refused_polls Cut bytes old new p q (error.BackgroundTaskFailure fault) m s full w answers d =
     let o : Oldest p = has_oldest p (facts_of old) full in
     let waits : write_plan bytes old p [] answers ≡ Wait o.write.place =
@@ -443,7 +448,7 @@ refused_polls Cut bytes old new p q e m s full w answers d =
     let o : Oldest p = has_oldest p (facts_of old) full in
     record {
       ends = full_looks p (facts_of old) bytes [] answers old o m.may m.some s.counted full d.writes ∙ bad_ends old new p q o.write.place _ e w;
-      rest = subst (λ (x : CompatValue). IsRestOf p x) (sym w.left) (rest_freed true p);
+      rest = rest_at old (oldest_polled old p.deferred) new p (without_oldest p) q (rest_freed true old p) w.core w.left;
     }
 
 pub refused_writes : (Cut : Asking → Type 0) (bytes : List ℕ) (old new : Core) (p q : CompatValue) (e : Error) → MayWrite bytes p
@@ -503,7 +508,7 @@ unwritable_writes Cut bytes core c not_so s =
         ends = (λ i. if not (not_so i) then refuses kind.NotWritable (lane_of c) else if length bytes == 0 then Done (outcome.Count 0) (lane_of c)
             else with_capacity 0 (file_at c.file) (buffer_of c) (lane_of c) (facts_of core) answers
             (send_next 0 (file_at c.file) bytes (facts_of core) [] answers));
-        rest = rest_freed false c;
+        rest = rest_freed false core c;
       };
       sound = s;
       others = others_same core c;
@@ -517,7 +522,7 @@ empty_writes Cut bytes core c may none s =
         ends = (λ i. if not (may i) then refuses kind.NotWritable (lane_of c) else if none i then Done (outcome.Count 0) (lane_of c)
             else with_capacity 0 (file_at c.file) (buffer_of c) (lane_of c) (facts_of core) answers
             (send_next 0 (file_at c.file) bytes (facts_of core) [] answers));
-        rest = rest_freed false c;
+        rest = rest_freed false core c;
       });
       sound = s;
       others = others_same core c;

@@ -1,5 +1,36 @@
 -- Reads through the buffer, by their plans.
-use Rattle.std.proofs.Common.{◌≡◌, ◌≤◌, ◌<◌, ◌+◌, ◌-◌, ◌^◌, ◌∙◌, refl, sym, ap, subst, arith, ℕ, true, false, List, [], ◌∷◌, ◌++◌, None, Result, Ok, Err, inl, ◌⊎◌, ◌==◌, length, take, drop, if◌then◌else◌}
+use Rattle.std.proofs.Common.{
+  ◌≡◌,
+  ◌≤◌,
+  ◌<◌,
+  ◌+◌,
+  ◌-◌,
+  ◌^◌,
+  ◌∙◌,
+  refl,
+  sym,
+  ap,
+  subst,
+  arith,
+  ℕ,
+  true,
+  false,
+  List,
+  [],
+  ◌∷◌,
+  ◌++◌,
+  None,
+  Result,
+  Ok,
+  Err,
+  inl,
+  ◌⊎◌,
+  ◌==◌,
+  length,
+  take,
+  drop,
+  if◌then◌else◌,
+}
 use Rattle.std.specs.Prelude.{min, max, not, ◌&&◌}
 use Rattle.std.proofs.lemmas.Bool.Decides.{nat_tests}
 use Rattle.std.proofs.lemmas.List.{length-take, length-take-le, length-drop, take_min, drop_min}
@@ -25,10 +56,28 @@ use Rattle.sftp_core.specs.Core.{Core}
 use Rattle.call_state.specs.declared.poll.Poll.{Poll}
 use Rattle.call_state.specs.declared.poll.Poll.TheVariants as poll
 use Rattle.sftp_file.specs.Files.{facts_of, file_at}
-use Rattle.sftp_buffered.specs.Buffered.{CompatValue, Defers, IsRestOf, IsSound, buffer_of, lane_of, len_of, place_of}
+use Rattle.sftp_buffered.specs.Buffered.{CompatValue, Defers, IsSound, buffer_of, lane_of, len_of, place_of}
 use Rattle.sftp_buffered.specs.Polls.{AnyCut, Polls, Waits}
-use Rattle.sftp_buffered.specs.Reads.{Begun, Fills, ReadsTo, TookRead, append_next, appended, buf_fill_next, consumed, end_of, fill_plan, fill_value, read_plan, ready_next, ready_plan, room_outcome, was_appended, without_read}
-use Rattle.sftp_buffered.specs.Steps.{IsLeft}
+use Rattle.sftp_buffered.specs.Reads.{
+  Begun,
+  Fills,
+  ReadsTo,
+  TookRead,
+  append_next,
+  appended,
+  buf_fill_next,
+  consumed,
+  end_of,
+  fill_plan,
+  fill_value,
+  read_plan,
+  ready_next,
+  ready_plan,
+  room_outcome,
+  was_appended,
+  without_read,
+}
+use Rattle.sftp_buffered.specs.Steps.{IsLeft, IsRestOf}
 use Rattle.sftp_buffered.proofs.Filling.{
   EndsRefused,
   ReadsBy,
@@ -40,11 +89,11 @@ use Rattle.sftp_buffered.proofs.Filling.{
   fills_stop,
   fills_took,
   refused_content,
-  rest_same,
   took_goes,
   took_rest,
 }
 use Rattle.sftp_buffered.proofs.Others.{others_same}
+use Rattle.sftp_buffered.proofs.Resting.{rest_same}
 
 -- ---- into the buffer
 
@@ -86,7 +135,7 @@ append_ends p (reply.Extended content) is = absurd cc
 fills_by : (plan : Plan) (len : ℕ) (old new : Core) (p q : CompatValue) (result : Poll (Result (Unit {0}) Error))
     (answers : Answers) → ReadsBy plan len (append_go p) answers p → Defers old p answers → Fills len old new p q result
     → Polls (Waits plan answers old (IsLeft old new p q) ⊎ Begun plan answers old new p q) (IsLeft old new p q) AnyCut
-    plan (λ (u : Unit {0}). outcome.Done) answers old p q result
+    plan (λ (u : Unit {0}). outcome.Done) answers old new p q result
 fills_by plan len old new p q poll.Pending answers h d f = fills_pending plan len (append_go p) answers old new p q h d f
 fills_by plan len old new p q (poll.Ready (Ok u)) answers h d f =
     let t : TookRead old new p q (Ok tt) = fills_took len old new p q f in
@@ -147,7 +196,7 @@ ready_stays core c some s =
       polled = λ answers d. inl (record {
         ends = full_ready core c c.buffered answers some;
         rest =
-            rest_same c;
+            rest_same core c;
       });
       sound = s;
       others = others_same core c;
@@ -163,7 +212,11 @@ pub unreadable_fills : (amt : ℕ) (core : Core) (c : CompatValue) → c.file.re
     → ReadsTo (fill_plan amt core c) (λ (u : Unit {0}). outcome.Done) core core c c
     (poll.Ready (Err (error.IOError kind.NotReadable)))
 unreadable_fills amt core c not_so s =
-    record { polled = λ answers d. record { ends = unreadable_fill amt core c answers not_so; rest = rest_same c }; sound = s; others = others_same core c }
+    record {
+      polled = λ answers d. record { ends = unreadable_fill amt core c answers not_so; rest = rest_same core c };
+      sound = s;
+      others = others_same core c;
+    }
 
 pub unreadable_ready : (core : Core) (c : CompatValue) → c.file.readable ≡ false → (length c.buffered == 0) ≡ true → IsSound core c
     → ReadsTo (ready_plan core c) (λ (u : Unit {0}). outcome.Done) core core c c (poll.Ready (Err (error.IOError kind.NotReadable)))
@@ -172,7 +225,7 @@ unreadable_ready core c not_so none s =
       polled = λ answers d. record {
         ends = ready_is core c answers (empty_is c.buffered none)
             ∙ unreadable_fill c.buffer_len core c answers not_so;
-        rest = rest_same c;
+        rest = rest_same core c;
       };
       sound = s;
       others = others_same core c;
@@ -199,8 +252,15 @@ consumed_sound core c n within s =
       };
     }
 
-consumed_rest : (p m : CompatValue) (n : ℕ) → IsRestOf p m → IsRestOf p (consumed m n)
-consumed_rest p m n r = record { gone = r.gone; deferred = r.deferred; reading = r.reading; place = r.place; capacity = r.capacity }
+consumed_rest : (old new : Core) (p m : CompatValue) (n : ℕ) → IsRestOf old new p m → IsRestOf old new p (consumed m n)
+consumed_rest old new p m n r =
+    record {
+      between = r.between;
+      taken = record { gone = r.taken.gone; deferred = r.taken.deferred; core = r.taken.core };
+      reading = r.reading;
+      place = r.place;
+      capacity = r.capacity;
+    }
 
 -- the bytes that are given
 given_is : (m : CompatValue) (n : ℕ) → given 0 n m.buffered (file_at m.file) (buffer_of m) (lane_of m)
@@ -272,7 +332,7 @@ buffered_reads n k core p q old new m there s h left =
             ∙ ((λ i. Done (sym (put_outcome n k p.buffered old new h m.some there) i)
             (lane_of (consumed p (sym h.len i)))) ∙ ap (λ (x : CompatValue). Done (room_outcome n new k)
             (lane_of x)) (sym left))));
-        rest = subst (IsRestOf p) (sym left) (consumed_rest p p k (rest_same p));
+        rest = subst (IsRestOf core core p) (sym left) (consumed_rest core core p p k (rest_same core p));
       });
       sound = subst (IsSound core) (sym left) (consumed_sound core p k within s);
       others = others_same core p;
@@ -360,7 +420,7 @@ filled_reads n k core next p m q old new h empty s f put left =
             ∙ (read_gives n k t.read.len p t.reply old new h.some none t.allowed t.says here
             ∙ (ap (λ (x : CompatValue). Done (room_outcome n new k) (lane_of (consumed x k))) (sym t.left)
             ∙ ap (λ (x : CompatValue). Done (room_outcome n new k) (lane_of x)) (sym left)));
-        rest = subst (IsRestOf p) (sym left) (consumed_rest p m k (took_rest core next p m (Ok tt) t));
+        rest = subst (IsRestOf core next p) (sym left) (consumed_rest core next p m k (took_rest core next p m (Ok tt) t));
       });
       sound = subst (IsSound next) (sym left) (consumed_sound next m k within (fills_sound len core next p m (poll.Ready (Ok tt)) s f));
       others = fills_others len core next p m (poll.Ready (Ok tt)) s f;
@@ -402,7 +462,7 @@ unreadable_reads n core c room not_so s =
       polled = λ answers d. record {
         ends = (λ i. if not (not_so i) then refuses kind.NotReadable (lane_of c) else if n == 0 then Done (outcome.Bytes []) (lane_of c)
             else from_buffer 0 n (file_at c.file) (buffer_of c) (lane_of c) (facts_of core) c.buffered [] answers);
-        rest = rest_same c;
+        rest = rest_same core c;
       };
       sound = s;
       others = others_same core c;
@@ -416,7 +476,7 @@ empty_reads n core c room may none s =
         ends = (λ i. if not (may i) then refuses kind.NotReadable (lane_of c) else if none i then Done (outcome.Bytes []) (lane_of c)
             else from_buffer 0 n (file_at c.file) (buffer_of c) (lane_of c) (facts_of core) c.buffered [] answers)
             ∙ (λ i. Done (if not (sym none i) then outcome.End else outcome.Bytes (take 0 room)) (lane_of c));
-        rest = rest_same c;
+        rest = rest_same core c;
       });
       sound = s;
       others = others_same core c;

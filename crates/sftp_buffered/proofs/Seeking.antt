@@ -1,5 +1,31 @@
 -- Seeks of a buffered file, by their plan.
-use Rattle.std.proofs.Common.{◌≡◌, ◌≤◌, ◌<◌, ◌+◌, ◌-◌, ◌^◌, ◌∙◌, refl, sym, ap, subst, arith, ℕ, Bool, true, false, List, [], Ok, inr, ◌==◌, length, drop, if◌then◌else◌}
+use Rattle.std.proofs.Common.{
+  Err,
+  ◌≡◌,
+  ◌≤◌,
+  ◌<◌,
+  ◌+◌,
+  ◌-◌,
+  ◌^◌,
+  ◌∙◌,
+  refl,
+  sym,
+  ap,
+  subst,
+  arith,
+  ℕ,
+  Bool,
+  true,
+  false,
+  List,
+  [],
+  Ok,
+  inr,
+  ◌==◌,
+  length,
+  drop,
+  if◌then◌else◌,
+}
 use Rattle.std.specs.Prelude.{nat_lt}
 use Rattle.std.proofs.lemmas.Bool.Decides.{nat_tests}
 use Rattle.std.proofs.lemmas.List.{length-drop}
@@ -13,13 +39,15 @@ use Rattle.sftp_model.specs.declared.slot.Slot.TheVariants.{Buffered}
 use Rattle.sftp_model.specs.Slots.{with_slot}
 use Rattle.plan_model.specs.BufferPlans.{buf_seek_next, sought_buffer, sought_slot}
 use Rattle.plan_model.specs.FilePlans.{on_seek}
-use Rattle.plan_model.specs.Moves.{Answers}
+use Rattle.plan_model.specs.Moves.{Answers, refuses}
+use Rattle.sftp_model.specs.declared.error.Error.TheVariants as error
+use Rattle.sftp_model.specs.declared.error.IoKind.{IoKind}
 use Rattle.sftp_core.specs.Core.{Core}
 use Rattle.sftp_file.specs.Files.{file_at}
 use Rattle.sftp_buffered.specs.Buffered.{CompatValue, IsSound, buffer_of, lane_of, len_of}
 use Rattle.sftp_buffered.specs.Seeks.{Seeks, stood}
 use Rattle.sftp_buffered.specs.Steps.{read_dropped}
-use Rattle.sftp_buffered.proofs.Filling.{rest_same}
+use Rattle.sftp_buffered.proofs.Resting.{rest_same}
 use Rattle.sftp_buffered.proofs.Others.{others_dropped, others_same}
 use Rattle.sftp_buffered.proofs.Sound.{held_dropped}
 
@@ -50,7 +78,7 @@ seek_same position core c to leads same s =
           ∙ ((λ i. Done (outcome.Count to) (with_slot (lane_of c) 0 (if same_test to c.file.offset same i then Buffered (file_at c.file) (buffer_of c)
           else Buffered (record (file_at c.file) { offset = to }) (sought_buffer c.file.offset to (buffer_of c)))))
           ∙ ap (λ (k : ℕ). Done (outcome.Count k) (lane_of c)) same);
-      rest = rest_same c;
+      rest = rest_same core c;
       err = tt;
       sound = s;
       others = others_same core c;
@@ -88,10 +116,31 @@ seek_moved position old new p q to leads other below s left core =
       seeks = λ facts answers. seek_goes position p to facts answers leads
           ∙ (λ i. Done (outcome.Count to) (with_slot (lane_of p) 0 (if other_test to p.file.offset other i then Buffered (file_at p.file) (buffer_of p)
           else Buffered (record (file_at p.file) { offset = to }) (sought_buffer p.file.offset to (buffer_of p)))));
-      rest = record { gone = 0; deferred = refl; reading = inr refl; place = refl; capacity = omega arith };
+      rest = record {
+        between = old;
+        taken = record { gone = []; deferred = refl; core = refl };
+        reading = inr (refl, inr refl);
+        place = refl;
+        capacity = omega arith;
+      };
       err = tt;
       sound = stood_sound old p to below s;
       others = others_dropped old p.reading p (λ ticket apart. apart.read) s.held.read;
     } in
     subst (λ (x : CompatValue). Seeks position old new p x (Ok tt)) (sym left)
     (subst (λ (x : Core). Seeks position old x p (stood p to) (Ok tt)) (sym core) now)
+
+-- a position leads to no offset
+abbrev pub LeadsNowhere : SeekFrom → ℕ → IoKind → Type 0
+LeadsNowhere position from why = (site : Site) (go : ℕ → Move) → on_seek position from site go ≡ refuses why site
+
+pub seek_refused : (position : SeekFrom) (core : Core) (c : CompatValue) (why : IoKind)
+    → LeadsNowhere position c.file.offset why → IsSound core c → Seeks position core core c c (Err (error.IOError why))
+seek_refused position core c why leads s =
+    record {
+      seeks = λ facts answers. leads (lane_of c) (λ k. Done (outcome.Count k) (sought_site c k));
+      rest = rest_same core c;
+      err = record { core = refl; same = refl };
+      sound = s;
+      others = others_same core c;
+    }

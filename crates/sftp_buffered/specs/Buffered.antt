@@ -1,5 +1,5 @@
 -- A buffered file as its user sees it, and as the slot of a lane.
-use Rattle.std.specs.Prelude.{◌≡◌, ◌≤◌, ◌<◌, ◌^◌, ◌+◌, ◌⊎◌, ℕ, List, [], ◌∷◌, map, drop, length, Option, Some, None}
+use Rattle.std.specs.Prelude.{◌≡◌, ◌≤◌, ◌<◌, ◌^◌, ◌+◌, ℕ, List, [], ◌∷◌, map, length, Option, Some, None}
 use Rattle.sftp_model.specs.declared.answers.Expected.{Expected}
 use Rattle.sftp_model.specs.declared.answers.Expected.TheVariants as expected
 use Rattle.sftp_model.specs.declared.slot.Buffer.{Buffer}
@@ -140,14 +140,6 @@ pub record IsSound (core : Core) (c : CompatValue) : Type 0 where
   pub counted : IsCounted c
 
 -- ---- what a call leaves
-
--- Of what is under way the oldest writes may be gone, and the READ; nothing came to it.
-pub record IsRestOf (p q : CompatValue) : Type 0 where
-  pub gone : ℕ
-  pub deferred : q.deferred ≡ drop gone p.deferred
-  pub reading : (q.reading ≡ p.reading) ⊎ (q.reading ≡ None)
-  pub place : q.place ≡ p.place
-  pub capacity : p.capacity ≤ q.capacity
 
 -- the READ has another ticket
 abbrev pub IsOther : ℕ → Option ReadUnderWay → Type 0

@@ -1,5 +1,22 @@
 -- Worked examples of buffered files, and beside each what nearly is one. The OPEN has place 0, and the next request 4.
-use Rattle.std.specs.Prelude.{ℕ, ◌≡◌, ◌==◌, true, false, List, [], ◌∷◌, codes, Option, Some, None, Ok, Err, refl, if◌then◌else◌}
+use Rattle.std.specs.Prelude.{
+  ℕ,
+  ◌≡◌,
+  ◌==◌,
+  true,
+  false,
+  List,
+  [],
+  ◌∷◌,
+  codes,
+  Option,
+  Some,
+  None,
+  Ok,
+  Err,
+  refl,
+  if◌then◌else◌,
+}
 use Rattle.sftp_model.specs.Answers.{status}
 use Rattle.sftp_model.specs.declared.error.Error.TheVariants as error
 use Rattle.sftp_model.specs.declared.outcome.Outcome.TheVariants as outcome

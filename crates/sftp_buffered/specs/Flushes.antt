@@ -10,9 +10,9 @@ use Rattle.call_state.specs.declared.poll.Poll.{Poll}
 use Rattle.call_state.specs.declared.poll.Poll.TheVariants as poll
 use Rattle.sftp_file.specs.Files.{facts_of}
 use Rattle.sftp_buffered.specs.declared.file.DeferredWrite.{DeferredWrite}
-use Rattle.sftp_buffered.specs.Buffered.{CompatValue, Defers, IsRestOf, IsSound, LeavesOthers, lane_of, writes_of}
+use Rattle.sftp_buffered.specs.Buffered.{CompatValue, Defers, IsSound, LeavesOthers, lane_of, writes_of}
 use Rattle.sftp_buffered.specs.Polls.{AnyCut, Polls, Waits}
-use Rattle.sftp_buffered.specs.Steps.{oldest_reply}
+use Rattle.sftp_buffered.specs.Steps.{AreTaken, oldest_reply}
 
 -- the writes from the first on whose STATUS of OK wasn't taken
 abbrev pub unsettled : Core → List DeferredWrite → List DeferredWrite
@@ -27,7 +27,7 @@ with_writes c ds = record c { deferred = ds; pending = pending (writes_of ds) }
 -- core has for the rest is as before, as is the kept fault.
 pub record Settles (old new : Core) (p q : CompatValue) : Type 0 where
   pub left : q ≡ with_writes p (unsettled old p.deferred)
-  pub rest : IsRestOf p q
+  pub rest : AreTaken old new p q
   pub lane : (answers : Answers) → Defers old p answers
       → lane_of q ≡ cancelled_buf_flush 0 (lane_of p) (facts_of old) [] answers
   pub told : (answers : Answers) → Defers old p answers → Defers new q answers
@@ -41,17 +41,18 @@ abbrev pub flush_plan : Core → CompatValue → Plan
 flush_plan core c = buf_flush_next 0 (lane_of c) (facts_of core)
 
 -- what a cancelled flush leaves
-pub record IsFlushed (old : Core) (p q : CompatValue) (answers : Answers) : Type 0 where
+pub record IsFlushed (old new : Core) (p q : CompatValue) (answers : Answers) : Type 0 where
   pub lane : lane_of q ≡ cancelled_buf_flush 0 (lane_of p) (facts_of old) [] answers
-  pub rest : IsRestOf p q
+  pub rest : AreTaken old new p q
 
 -- The poll did the next move of the flush, whatever the replies to come, the file may be polled on, and others find the
 -- core as it was. `Pending` and a kept fault leave what a flush leaves that is cancelled there. No memory is
 -- taken.
 pub record FlushesTo (old new : Core) (p q : CompatValue) (result : Poll (Result (Unit {0}) Error)) : Type 0 where
   pub polled : (answers : Answers) → Defers old p answers
-      → Polls (Waits (flush_plan old p) answers old (IsFlushed old p q answers)) (IsFlushed old p q answers) AnyCut
-      (flush_plan old p) (λ u. outcome.Done) answers old p q result
+      → Polls (Waits (flush_plan old p) answers old (IsFlushed old new p q answers)) (IsFlushed old new p q answers)
+      AnyCut
+      (flush_plan old p) (λ u. outcome.Done) answers old new p q result
   pub memory : result ≡ poll.Ready (Err error.OutOfMemory) → ⊥
   pub sound : IsSound new q
   pub others : LeavesOthers old new p

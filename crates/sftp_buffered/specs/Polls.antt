@@ -12,8 +12,8 @@ use Rattle.call_state.specs.Calls.{IsUnfinished}
 use Rattle.call_state.specs.declared.asking.Asking.{Asking}
 use Rattle.call_state.specs.declared.poll.Poll.{Poll}
 use Rattle.call_state.specs.declared.poll.Poll.TheVariants as poll
-use Rattle.sftp_buffered.specs.Buffered.{CompatValue, IsRestOf, lane_of}
-use Rattle.sftp_buffered.specs.Steps.{behind, deferring}
+use Rattle.sftp_buffered.specs.Buffered.{CompatValue, lane_of}
+use Rattle.sftp_buffered.specs.Steps.{IsRestOf, behind, deferring, read_dropped}
 
 -- the plan waits for a reply, no fault is kept, and this is what is left
 pub record Waits (plan : Plan) (answers : Answers) (old : Core) (Left : Type 0) : Type 0 where
@@ -23,17 +23,18 @@ pub record Waits (plan : Plan) (answers : Answers) (old : Core) (Left : Type 0) 
   pub left : Left
 
 -- the plan ends so, and nothing was submitted
-pub record Ends (plan : Plan) (o : Outcome) (answers : Answers) (p q : CompatValue) : Type 0 where
+pub record Ends (plan : Plan) (o : Outcome) (answers : Answers) (old new : Core) (p q : CompatValue) : Type 0 where
   pub ends : plan [] answers ≡ Done o (lane_of q)
-  pub rest : IsRestOf p q
+  pub rest : IsRestOf old new p q
 
 -- any request may be cut into parts as it is
 abbrev pub AnyCut : Asking → Type 0
 AnyCut asking = Unit {0}
 
--- The plan asks this; it was submitted in such parts, and with it the plan has ended. It is the file's next request and
--- the last deferred write, and the file stands behind its bytes.
-pub record Asks (plan : Plan) (o : Outcome) (Cut : Asking → Type 0) (answers : Answers) (old : Core)
+-- The plan asks this; it was submitted in such parts, and with it the plan has ended. Then the oldest writes may be
+-- gone. It is the file's next request and the last deferred write, the file stands behind its bytes, and the READ was
+-- given up.
+pub record Asks (plan : Plan) (o : Outcome) (Cut : Asking → Type 0) (answers : Answers) (old new : Core)
     (p q : CompatValue) : Type 0 where
   pub asking : Asking
   pub cut : Cut asking
@@ -43,18 +44,21 @@ pub record Asks (plan : Plan) (o : Outcome) (Cut : Asking → Type 0) (answers :
   pub submitted : Submitted old asking ticket middle
   pub ends : plan ((p.place, request_of asking) ∷ []) answers ≡ Done o (lane_of q)
   pub rest : CompatValue
-  pub stays : IsRestOf p rest
+  pub between : Core
+  pub stays : IsRestOf middle between p rest
   pub len : ℕ
   pub left : q ≡ behind (deferring rest len ticket) len
+  pub core : new ≡ read_dropped between rest.reading
 
 -- What a poll answered, where `Pending`, want of memory and a kept fault leave what is said of them; a fault is
 -- answered where the plan is not at its end.
-abbrev pub Polls : {V : Type 0} → Type 0 → Type 0 → (Asking → Type 0) → Plan → (V → Outcome) → Answers → Core
+abbrev pub Polls : {V : Type 0} → Type 0 → Type 0 → (Asking → Type 0) → Plan → (V → Outcome) → Answers → Core → Core
     → CompatValue → CompatValue → Poll (Result V Error) → Type 0
-Polls Pending Left Cut plan o answers old p q poll.Pending = Pending
-Polls Pending Left Cut plan o answers old p q (poll.Ready (Err error.OutOfMemory)) = Left
-Polls Pending Left Cut plan o answers old p q (poll.Ready (Err (error.BackgroundTaskFailure fault))) =
+Polls Pending Left Cut plan o answers old new p q poll.Pending = Pending
+Polls Pending Left Cut plan o answers old new p q (poll.Ready (Err error.OutOfMemory)) = Left
+Polls Pending Left Cut plan o answers old new p q (poll.Ready (Err (error.BackgroundTaskFailure fault))) =
     (old.fault ≡ Some fault) × IsUnfinished (plan [] answers) × Left
-Polls Pending Left Cut plan o answers old p q (poll.Ready (Ok value)) = Ends plan (o value) answers p q
-    ⊎ Asks plan (o value) Cut answers old p q
-Polls Pending Left Cut plan o answers old p q (poll.Ready (Err e)) = Ends plan (outcome.Refused e) answers p q
+Polls Pending Left Cut plan o answers old new p q (poll.Ready (Ok value)) = Ends plan (o value) answers old new p q
+    ⊎ Asks plan (o value) Cut answers old new p q
+Polls Pending Left Cut plan o answers old new p q (poll.Ready (Err e)) =
+    Ends plan (outcome.Refused e) answers old new p q

@@ -129,11 +129,6 @@ abbrev pub read_reply : Core → Option ReadUnderWay → Option Reply
 read_reply core None = None
 read_reply core (Some r) = reply_in (at core r.ticket)
 
--- the core once that reply was polled
-abbrev pub read_taken : Core → Option ReadUnderWay → Core
-read_taken core None = core
-read_taken core (Some r) = after_poll core r.ticket
-
 -- that reply is one that the READ allows
 abbrev pub IsAllowedRead : Core → Option ReadUnderWay → Type 0
 IsAllowedRead core None = Unit {0}
@@ -225,7 +220,7 @@ pub record ReadsTo {V : Type 0} (plan : Plan) (o : V → Outcome) (old new : Cor
     (result : Poll (Result V Error)) : Type 0 where
   pub polled : (answers : Answers) → Defers old p answers
       → Polls (Waits plan answers old (IsLeft old new p q) ⊎ Begun plan answers old new p q) (IsLeft old new p q) AnyCut
-      plan o answers old p q result
+      plan o answers old new p q result
   pub sound : IsSound new q
   pub others : LeavesOthers old new p
 

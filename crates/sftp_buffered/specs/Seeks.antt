@@ -9,8 +9,8 @@ use Rattle.sftp_model.specs.declared.slot.Move.TheVariants.{Done}
 use Rattle.plan_model.specs.BufferPlans.{buf_seek_next}
 use Rattle.plan_model.specs.Moves.{Answers}
 use Rattle.sftp_core.specs.Core.{Core}
-use Rattle.sftp_buffered.specs.Buffered.{CompatValue, IsRestOf, IsSound, LeavesOthers, lane_of}
-use Rattle.sftp_buffered.specs.Steps.{IsLeft}
+use Rattle.sftp_buffered.specs.Buffered.{CompatValue, IsSound, LeavesOthers, lane_of}
+use Rattle.sftp_buffered.specs.Steps.{IsLeft, IsRestOf}
 
 -- the file stands at another offset: a move forward keeps the bytes from there on, and the READ is given up
 abbrev pub stood : CompatValue → ℕ → CompatValue
@@ -36,7 +36,7 @@ pub record Seeks (position : SeekFrom) (old new : Core) (p q : CompatValue) (res
   where
     pub seeks : (facts : Facts) (answers : Answers)
         → buf_seek_next 0 position (lane_of p) facts [] answers ≡ seek_ended result q
-    pub rest : IsRestOf p q
+    pub rest : IsRestOf old new p q
     pub err : IsLeftByErr old new p q result
     pub sound : IsSound new q
     pub others : LeavesOthers old new p

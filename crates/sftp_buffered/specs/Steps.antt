@@ -1,6 +1,8 @@
 -- What the steps of a poll make of a buffered file and its core.
 use Rattle.std.specs.Prelude.{
   ◌≡◌,
+  ◌⊎◌,
+  ◌≤◌,
   ◌+◌,
   ◌-◌,
   ◌==◌,
@@ -151,3 +153,35 @@ behind c n =
       pending = c.pending + n;
       reading = None;
     }
+
+-- ---- what is left of what is under way
+
+-- the core once the statuses of these writes were polled, the oldest first
+abbrev pub all_polled : Core → List DeferredWrite → Core
+all_polled core [] = core
+all_polled core (d ∷ ds) = all_polled (after_poll core d.ticket) ds
+
+-- the oldest writes are gone, whose statuses were polled
+pub record AreTaken (old new : Core) (p q : CompatValue) : Type 0 where
+  pub gone : List DeferredWrite
+  pub deferred : p.deferred ≡ gone ++ q.deferred
+  pub core : new ≡ all_polled old gone
+
+-- the core once the reply to the READ was polled
+abbrev pub read_taken : Core → Option ReadUnderWay → Core
+read_taken core None = core
+read_taken core (Some r) = after_poll core r.ticket
+
+-- the READ stays under way, or it is gone: its reply was polled, or it was given up
+abbrev pub IsReadLeft : Core → Core → Option ReadUnderWay → Option ReadUnderWay → Type 0
+IsReadLeft old new read left = ((left ≡ read) × (new ≡ old))
+    ⊎ ((left ≡ None) × ((new ≡ read_taken old read) ⊎ (new ≡ read_dropped old read)))
+
+-- Of what is under way the oldest writes may be gone, and the READ; nothing was submitted, and the core is else as it
+-- was.
+pub record IsRestOf (old new : Core) (p q : CompatValue) : Type 0 where
+  pub between : Core
+  pub taken : AreTaken old between p q
+  pub reading : IsReadLeft between new p.reading q.reading
+  pub place : q.place ≡ p.place
+  pub capacity : p.capacity ≤ q.capacity

@@ -90,6 +90,6 @@ pub record Writes (Cut : Asking → Type 0) (bytes : List ℕ) (old new : Core) 
     (result : Poll (Result ℕ Error)) : Type 0 where
   pub polled : (answers : Answers) → Defers old p answers
       → Polls (Waits (write_plan bytes old p) answers old (IsLeft old new p q)) (IsLeft old new p q) Cut
-      (write_plan bytes old p) (λ n. outcome.Count n) answers old p q result
+      (write_plan bytes old p) (λ n. outcome.Count n) answers old new p q result
   pub sound : IsSound new q
   pub others : LeavesOthers old new p

@@ -8,8 +8,8 @@ ghost use Rattle.call_state.specs.Asked.{IsReady, Submitted};
 ghost use Rattle.call_state.specs.declared.asking.Asking.TheVariants as asking;
 ghost use Rattle.sftp_file.specs.Files.{facts_of};
 ghost use Rattle.sftp_buffered.specs.Buffered.{IsHeldRead, IsSound};
-ghost use Rattle.sftp_buffered.specs.Reads.{BeginsRead, Fills, IsAllowedRead, LooksAtRead, ReadsTo, end_of, fill_plan, fill_value, read_reply, read_taken, ready_plan, without_read};
-ghost use Rattle.sftp_buffered.specs.Steps.{IsStopped};
+ghost use Rattle.sftp_buffered.specs.Reads.{BeginsRead, Fills, IsAllowedRead, LooksAtRead, ReadsTo, end_of, fill_plan, fill_value, read_reply, without_read};
+ghost use Rattle.sftp_buffered.specs.Steps.{IsStopped, read_taken};
 
 use crate::file::{ReadUnderWay, TokioCompatFile};
 use crate::limits::read_len;

@@ -1,8 +1,8 @@
-use Rattle.std.proofs.Common.{rules, ◌≡◌, ◌==◌, true, length}
+use Rattle.std.proofs.Common.{rules, ◌≡◌, ◌==◌, true, false, length}
 use Rattle.std.specs.Prelude.{min}
 use Rattle.sftp_file.specs.Files.{facts_of}
 use Rattle.sftp_buffered.specs.Reads.{Fills}
-use Rattle.sftp_buffered.proofs.Reading.{ready_reads}
+use Rattle.sftp_buffered.proofs.Reading.{ready_reads, ready_stays, unreadable_ready}
 use Rattle.sftp_buffered.proofs.file.TokioCompatFile.poll_fill_buf.Goals as goal
 
 pub returns : goal.returns
@@ -12,3 +12,14 @@ returns c =
     let fills : Fills (min c.args.self.now.buffer_len (facts_of c.args.core.now).read_len) c.args.core.now
     c.fill.new.core c.args.self.now c.fill.new.self c.fill.result = search rules in
     ready_reads c.args.core.now c.fill.new.core c.args.self.now c.fill.new.self c.fill.result may none c.requires.sound fills
+
+pub returns-then-not-is_empty : goal.returns-then-not-is_empty
+returns-then-not-is_empty c =
+    let some : (length c.args.self.now.buffered == 0) ≡ false = search rules in
+    ready_stays c.args.core.now c.args.self.now some c.requires.sound
+
+pub returns-then-not-is_readable : goal.returns-then-not-is_readable
+returns-then-not-is_readable c =
+    let none : (length c.args.self.now.buffered == 0) ≡ true = search rules in
+    let not_so : c.args.self.now.file.readable ≡ false = search rules in
+    unreadable_ready c.args.core.now c.args.self.now not_so none c.requires.sound

@@ -3,7 +3,7 @@ use Rattle.std.specs.Prelude.{min, max}
 use Rattle.call_state.specs.declared.poll.Poll.TheVariants as poll
 use Rattle.sftp_file.specs.Files.{facts_of}
 use Rattle.sftp_buffered.specs.Reads.{Fills}
-use Rattle.sftp_buffered.proofs.Reading.{IsPut, MayRead, buffered_reads, filled_reads, pending_reads, refused_reads}
+use Rattle.sftp_buffered.proofs.Reading.{IsPut, MayRead, buffered_reads, empty_reads, filled_reads, pending_reads, refused_reads, unreadable_reads}
 use Rattle.sftp_buffered.proofs.file.TokioCompatFile.poll_read.Goals as goal
 
 pub returns-then-not-is_empty-clause-reads : goal.returns-then-not-is_empty-clause-reads
@@ -51,3 +51,14 @@ returns-in-Ready-Ok-clause-reads c =
     filled_reads (length c.args.room.now) c.give-in-Ready-Ok.result c.args.core.now c.fill.new.core c.args.self.now
     c.fill.new.self c.give-in-Ready-Ok.new.self c.args.room.now c.give-in-Ready-Ok.new.room m none c.requires.sound
     fills put c.give-in-Ready-Ok.ensures.left
+
+pub returns-then-not-is_readable-clause-reads : goal.returns-then-not-is_readable-clause-reads
+returns-then-not-is_readable-clause-reads c =
+    let not_so : c.args.self.now.file.readable ≡ false = search rules in
+    unreadable_reads (length c.args.room.now) c.args.core.now c.args.self.now c.args.room.now not_so c.requires.sound
+
+pub returns-then-is_empty-clause-reads : goal.returns-then-is_empty-clause-reads
+returns-then-is_empty-clause-reads c =
+    let may : c.args.self.now.file.readable ≡ true = search rules in
+    let none : (length c.args.room.now == 0) ≡ true = search rules in
+    empty_reads (length c.args.room.now) c.args.core.now c.args.self.now c.args.room.now may none c.requires.sound

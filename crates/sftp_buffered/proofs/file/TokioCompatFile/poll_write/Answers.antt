@@ -1,9 +1,9 @@
-use Rattle.std.proofs.Common.{rules, ◌≡◌, Ok, Err, take}
+use Rattle.std.proofs.Common.{rules, ◌≡◌, ◌==◌, true, false, length, Ok, Err, take}
 use Rattle.sftp_model.specs.Pieces.{joined}
 use Rattle.call_state.specs.declared.poll.Poll.TheVariants as poll
 use Rattle.sftp_buffered.specs.Polls.{AnyCut}
 use Rattle.sftp_buffered.specs.Writes.{IsWindow}
-use Rattle.sftp_buffered.proofs.Planning.{MayWrite, pending_writes, refused_writes, sent_writes}
+use Rattle.sftp_buffered.proofs.Planning.{MayWrite, empty_writes, pending_writes, refused_writes, sent_writes, unwritable_writes}
 use Rattle.sftp_buffered.proofs.file.TokioCompatFile.poll_write.Goals as goal
 
 pub returns-in-Pending : goal.returns-in-Pending
@@ -26,3 +26,14 @@ returns-in-Ok c =
     sent_writes AnyCut c.args.buf.now c.args.core.now c.poll_window.new.core c.send.new.core c.args.self.now
     c.poll_window.new.self c.send.new.self c.in-Ready-Ok.window c.deref.result.now c.min-len.result c.send.result
     m c.requires.sound w.1 (record { room = w.0; len = c.min-len.ensures; first = first; cut = tt }) c.send.ensures.ok c.send.ensures.err
+
+pub returns-then-not-is_writable : goal.returns-then-not-is_writable
+returns-then-not-is_writable c =
+    let not_so : c.args.self.now.file.writable ≡ false = search rules in
+    unwritable_writes AnyCut c.args.buf.now c.args.core.now c.args.self.now not_so c.requires.sound
+
+pub returns-then-is_empty : goal.returns-then-is_empty
+returns-then-is_empty c =
+    let may : c.args.self.now.file.writable ≡ true = search rules in
+    let none : (length c.args.buf.now == 0) ≡ true = search rules in
+    empty_writes AnyCut c.args.buf.now c.args.core.now c.args.self.now may none c.requires.sound

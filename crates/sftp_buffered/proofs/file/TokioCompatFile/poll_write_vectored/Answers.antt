@@ -5,7 +5,7 @@ use Rattle.sftp_file.specs.Parts.{cut_at}
 use Rattle.sftp_buffered.specs.Writes.{IsCutOut, IsWindow}
 use Rattle.sftp_buffered.proofs.Holding.{parts_of}
 use Rattle.sftp_buffered.proofs.Pieces.{first_of, none_joined}
-use Rattle.sftp_buffered.proofs.Planning.{MayWrite, SendsPart, empty_writes, pending_writes, refused_writes, sent_writes}
+use Rattle.sftp_buffered.proofs.Planning.{MayWrite, SendsPart, empty_writes, pending_writes, refused_writes, sent_writes, unwritable_writes}
 use Rattle.sftp_buffered.proofs.file.TokioCompatFile.poll_write_vectored.Goals as goal
 
 pub returns-then-are_empty : goal.returns-then-are_empty
@@ -49,3 +49,8 @@ returns-in-Ok c =
     c.poll_window.new.core c.send.new.core c.args.self.now c.poll_window.new.self c.send.new.self
     c.in-Ready-Ok.window c.deref.result.now c.in-Ok.len
     c.send.result m c.requires.sound w.1 part c.send.ensures.ok c.send.ensures.err
+
+pub returns-then-not-is_writable : goal.returns-then-not-is_writable
+returns-then-not-is_writable c =
+    let not_so : c.args.self.now.file.writable ≡ false = search rules in
+    unwritable_writes (IsCutOut c.args.bufs.now c.args.self.now) (joined c.args.bufs.now) c.args.core.now c.args.self.now not_so c.requires.sound
