@@ -1,5 +1,5 @@
 -- A lane ends no more calls than it has.
-use Rattle.std.proofs.Common.{◌≡◌, ◌≢◌, ◌<◌, ◌≤◌, ◌==◌, ◌+◌, ℕ, zero, suc, Bool, true, false, List, [], ◌∷◌, ◌++◌, length, Option, Some, None, if◌then◌else◌, refl, ap, sym, ◌∙◌, subst, arith, eqb-true}
+use Rattle.std.proofs.Common.{◌≡◌, ◌≢◌, ◌<◌, ◌≤◌, ◌==◌, ◌+◌, ℕ, zero, suc, Bool, true, false, List, [], ◌∷◌, ◌++◌, length, Option, Some, None, if◌then◌else◌, refl, ap, sym, subst, arith, eqb-true}
 use Rattle.std.specs.Prelude.{MatchOption, slice_get}
 use Rattle.std.proofs.lemmas.List.{length-append}
 use Rattle.sftp_model.specs.declared.outcome.Outcome.{Outcome}
@@ -8,13 +8,12 @@ use Rattle.sftp_model.specs.declared.slot.Move.{Move}
 use Rattle.sftp_model.specs.declared.slot.Site.{Site}
 use Rattle.plan_model.specs.Moves.{Answers, Own}
 use Rattle.plan_model.specs.declared.call.Call.{Call}
-use Rattle.plan_model.specs.declared.call.Lane.{Lane}
 use Rattle.session_model.specs.declared.entry.Entry.{Entry}
 use Rattle.session_model.specs.declared.entry.Entry.TheVariants as entry
 use Rattle.session_model.specs.declared.event.Event.TheVariants.{Cancel, End}
-use Rattle.session_model.specs.Calls.{Setting, added, calls_of, current, lane_calls, move_at, move_of}
+use Rattle.session_model.specs.Calls.{Setting, added, calls_of, current, lane_calls, move_at}
 use Rattle.session_model.specs.Grants.{orphan}
-use Rattle.session_model.specs.Journals.{IsJournal, IsNext, MayCome, MustClose, cancelled_end}
+use Rattle.session_model.specs.Journals.{IsJournal, MayCome, MustClose, cancelled_end}
 use Rattle.session_model.specs.Readings.{ended, last_cancel}
 
 -- the item at n is there

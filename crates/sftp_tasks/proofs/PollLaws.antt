@@ -1,5 +1,5 @@
 -- A lane whose calls have ended, and a seat that leaves.
-use Rattle.std.proofs.Common.{◌≡◌, ◌≤◌, ℕ, ◌+◌, ◌-◌, List, ◌++◌, length, Bool, true, false, true≢false, refl, sym, ap, ◌∙◌, subst, arith, Ok, Err, Some, None}
+use Rattle.std.proofs.Common.{◌≡◌, ◌≤◌, ℕ, ◌+◌, ◌-◌, List, length, Bool, true, true≢false, refl, sym, ap, ◌∙◌, subst, arith, Ok, Err, Some, None}
 use Rattle.std.specs.Prelude.{Option, Result}
 use Rattle.plan_model.specs.declared.call.Lane.{Lane}
 use Rattle.session_model.specs.declared.entry.Entry.{Entry}
@@ -7,7 +7,8 @@ use Rattle.session_model.specs.Calls.{current, lane_calls}
 use Rattle.session_model.specs.Journals.{IsJournal}
 use Rattle.session_model.specs.Readings.{ended, outcomes_of}
 use Rattle.run_laws.proofs.CallEnds.{outcomes_count}
-use Rattle.session_seats.specs.Holds.{Hold, claim_of, sight_by}
+use Rattle.session_seats.specs.declared.view.Receipt.{Receipt}
+use Rattle.session_seats.specs.Holds.{Applied, Hold, claim_of, no_allowance, sight_by}
 use Rattle.session_seats.proofs.RepeatLaws.{sees_lanes, sees_past}
 use Rattle.session_work.specs.Working.{past_of}
 use Rattle.sftp_lanes.specs.Seen.{SessionValue, setting_at}
@@ -57,3 +58,11 @@ pub share_kept : {Did : Locked → Locked → List Entry → Type 0} (m n : Toke
 share_kept m n h same =
     let is : (claim_of n).share ≡ (claim_of m).share + h.after.users - h.before.users = ap (λ (x : Token). (claim_of x).share) h.is in
     omega (arith, is, same)
+
+-- nor does one that may take none out take any of it
+pub share_stays : {X Y : Type 0} {test : Entry → Bool} {Does : Locked → Locked → Type 0} {copied : Result X Y} {old new : List Receipt} (m n : Token)
+    → Hold shown_of (Applied shown_of test no_allowance Does copied old new) m n → (claim_of m).share ≤ (claim_of n).share
+share_stays m n h =
+    let is : (claim_of n).share ≡ (claim_of m).share + h.after.users - h.before.users = ap (λ (x : Token). (claim_of x).share) h.is in
+    let stay : h.before.users ≤ 0 + h.after.users = h.did.goes.users in
+    omega (arith, is, stay)

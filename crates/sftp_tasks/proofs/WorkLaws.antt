@@ -1,19 +1,17 @@
 -- The rounds of a worker.
-use Rattle.std.proofs.Common.{◌≡◌, ◌≤◌, ℕ, ◌==◌, List, Bool, true, false, true≢false, ◌&&◌, refl, sym, ap, ◌∙◌, subst, arith, inl, inr, ⊎_elim, Ok, Err, eqb-true}
+use Rattle.std.proofs.Common.{◌≡◌, ◌≤◌, ℕ, ◌==◌, Bool, true, false, true≢false, refl, sym, ap, ◌∙◌, arith, inl, inr, Ok, eqb-true}
 use Rattle.std.proofs.lemmas.Bool.Decides.{nat_tests}
-use Rattle.std.specs.Prelude.{Result, nat_le, ◌⊎◌}
+use Rattle.std.specs.Prelude.{nat_le}
 use Rattle.session_driver.specs.declared.session.Phase.{Phase}
 use Rattle.session_driver.specs.declared.session.Phase.TheVariants.{Fresh, Open}
-use Rattle.session_model.specs.declared.entry.Entry.{Entry}
 use Rattle.session_model.specs.Readings.{unanswered}
 use Rattle.session_seats.specs.declared.view.Counts.{Counts}
 use Rattle.session_seats.specs.declared.view.Sight.{Sight}
-use Rattle.session_seats.specs.Holds.{Hold, sight_by}
-use Rattle.session_seats.specs.Sights.{Shown, entries}
+use Rattle.session_seats.specs.Holds.{sight_by}
+use Rattle.session_seats.specs.Sights.{entries}
 use Rattle.session_seats.proofs.HoldLaws.{both_true}
 use Rattle.session_seats.proofs.RepeatLaws.{sees_counts, sees_past}
 use Rattle.session_work.specs.Working.{past_of}
-use Rattle.sftp_model.specs.declared.error.Error.{Error}
 use Rattle.sftp_tasks.specs.declared.locked.Locked.{Locked}
 use Rattle.sftp_tasks.specs.declared.workers.Shift.{Shift}
 use Rattle.sftp_tasks.specs.declared.workers.Shift.TheVariants.{Worked, Idle, Over}

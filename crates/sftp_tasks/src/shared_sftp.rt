@@ -1,17 +1,18 @@
 //! The shared session, and the calls of a lane's seat.
-ghost use Rattle.std.specs.Prelude.{◌≡◌, ◌<◌, [], None, Ok, false, true, IfNone, IfOk, IfSome};
+ghost use Rattle.std.specs.Prelude.{◌≡◌, ◌<◌, ◌≤◌, [], None, Ok, false, true, IfNone, IfOk, IfSome};
 ghost use Rattle.plan_model.specs.Lanes.{are_ok};
 ghost use Rattle.session_seats.specs.Holds.{Grew, IsFresh, at_first, claim_of};
 ghost use Rattle.session_seats.specs.NewSeats.{Gives, GivesLane, HasNone};
 ghost use Rattle.session_seats.specs.Rules.{home};
 ghost use Rattle.session_seats.specs.Sights.{made};
 ghost use Rattle.sftp_tasks.specs.Calls.{Answers, BeginsWith, Releases, settled};
-ghost use Rattle.sftp_tasks.specs.Entries.{by_cancel, by_let_go, by_submit};
-ghost use Rattle.sftp_tasks.specs.LockedEvents.{Cancelling, OfLane, Submitting};
+ghost use Rattle.sftp_tasks.specs.Entries.{by_cancel, by_let_go, by_nothing, by_submit};
+ghost use Rattle.sftp_tasks.specs.LockedEvents.{Cancelling, GivingUp, OfLane, Submitting};
+ghost use Rattle.sftp_tasks.specs.Rounds.{Holds};
 ghost use Rattle.sftp_tasks.specs.Shows.{shown_of};
 
 use crate::copies::copies_of;
-use crate::events::{CancelCall, Release, Submit};
+use crate::events::{CancelCall, GiveUp, Release, Submit};
 use crate::locked::Locked;
 use session_model::{Call, Lane};
 use session_seats::{Counts, Origin, Shared};
@@ -110,7 +111,8 @@ impl SharedSftp {
     /// have been added, and the session may have failed, which answers so for good.
     pub fn submit<R: Wait>(&self, rt: &R, seat: &mut Seat, call: Call) -> Result<bool, Error>
         requires own { seat.old.inner.table_id ≡ self.now.shared.table.shared.table_id }
-        ensures own { (seat.new.inner.table_id ≡ seat.old.inner.table_id) × (seat.new.lane ≡ seat.old.lane) }
+        ensures own { (seat.new.inner.table_id ≡ seat.old.inner.table_id) × (seat.new.lane ≡ seat.old.lane)
+            × ((claim_of seat.old.inner.me).share ≤ (claim_of seat.new.inner.me).share) }
         ensures only { Grew (by_submit seat.old.lane) (claim_of seat.old.inner.me) (claim_of seat.new.inner.me) }
         ensures answers { Answers (OfLane (Submitting call) (Ok false) seat.old.lane) seat.old.receipts.items seat.new.receipts.items
             result seat.old.inner.me seat.new.inner.me }
@@ -131,7 +133,8 @@ impl SharedSftp {
     /// Cancels the call of the seat's lane that was begun, and answers whether it was. Errors as of `submit`.
     pub fn cancel<R: Wait>(&self, rt: &R, seat: &mut Seat) -> Result<bool, Error>
         requires own { seat.old.inner.table_id ≡ self.now.shared.table.shared.table_id }
-        ensures own { (seat.new.inner.table_id ≡ seat.old.inner.table_id) × (seat.new.lane ≡ seat.old.lane) }
+        ensures own { (seat.new.inner.table_id ≡ seat.old.inner.table_id) × (seat.new.lane ≡ seat.old.lane)
+            × ((claim_of seat.old.inner.me).share ≤ (claim_of seat.new.inner.me).share) }
         ensures only { Grew (by_cancel seat.old.lane) (claim_of seat.old.inner.me) (claim_of seat.new.inner.me) }
         ensures answers { Answers (OfLane Cancelling (Ok false) seat.old.lane) seat.old.receipts.items seat.new.receipts.items
             result seat.old.inner.me seat.new.inner.me }
@@ -158,6 +161,17 @@ impl SharedSftp {
         }
         seat.leave(rt, &self.shared);
         Ok(true)
+    }
+
+    /// Gives the session up, so that no thread waits for one that can't go on: each later call of its seats answers `OutOfMemory`, or
+    /// `BackgroundTaskFailure` where the session keeps a fault. Nothing is added to the journal.
+    pub fn give_up<R: Wait>(&self, rt: &R, seat: &mut Seat)
+        requires own { seat.old.inner.table_id ≡ self.now.shared.table.shared.table_id }
+        ensures own { (seat.new.inner.table_id ≡ seat.old.inner.table_id) × (seat.new.lane ≡ seat.old.lane) }
+        ensures only { Grew (by_nothing seat.old.lane) (claim_of seat.old.inner.me) (claim_of seat.new.inner.me) }
+        ensures gives_up { Holds (λ y z more. GivingUp y z) seat.old.inner.me seat.new.inner.me }
+    {
+        let _ = seat.apply(rt, self.alloc, &self.shared, GiveUp);
     }
 }
 

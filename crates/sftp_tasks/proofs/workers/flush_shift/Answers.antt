@@ -1,5 +1,5 @@
-use Rattle.std.proofs.Common.{rules, ◌≡◌, ◌∙◌, sym, ap, subst, refl, inl, inr, Ok, Err, true, false, Bool, ℕ, Option}
-use Rattle.std.specs.Prelude.{Result, IfOk, IfErr, nat_le}
+use Rattle.std.proofs.Common.{◌∙◌, ap, subst, refl, inl, inr, Ok, Bool, ℕ, Option}
+use Rattle.std.specs.Prelude.{Result, IfOk, IfErr}
 use Rattle.session_seats.specs.Holds.{Grew, claim_of}
 use Rattle.session_seats.proofs.GrowLaws.{grew_on}
 use Rattle.sftp_model.specs.declared.error.Error.{Error}

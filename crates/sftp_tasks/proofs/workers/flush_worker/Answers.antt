@@ -1,4 +1,4 @@
-use Rattle.std.proofs.Common.{rules, ◌≡◌, ◌<◌, ◌∙◌, sym, ap, subst, refl, arith, Ok, Err, true, false, Option, ℕ}
+use Rattle.std.proofs.Common.{rules, ◌≡◌, ◌∙◌, ap, subst, refl, arith, Ok, true, false, Option, ℕ}
 use Rattle.std.specs.Prelude.{Result}
 use Rattle.session_seats.specs.Holds.{Grew, claim_of}
 use Rattle.session_seats.proofs.GrowLaws.{grew_none, grew_on}

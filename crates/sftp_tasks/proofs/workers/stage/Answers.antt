@@ -1,4 +1,4 @@
-use Rattle.std.proofs.Common.{sym, subst, ℕ, Bool}
+use Rattle.std.proofs.Common.{sym, subst, ℕ}
 use Rattle.std.specs.Prelude.{Result}
 use Rattle.session_seats.specs.Holds.{no_allowance}
 use Rattle.session_seats.proofs.GrowLaws.{grew_applied}

@@ -1,6 +1,6 @@
-use Rattle.std.proofs.Common.{◌≡◌, ◌∙◌, ◌+◌, ℕ, sym, ap, subst, arith, Ok, Err, true, false, Bool, Option}
+use Rattle.std.proofs.Common.{◌∙◌, sym, ap, subst, arith, Ok, true, Bool}
 use Rattle.std.specs.Prelude.{Result}
-use Rattle.session_seats.specs.Holds.{Grew, claim_of, no_allowance}
+use Rattle.session_seats.specs.Holds.{no_allowance}
 use Rattle.session_seats.proofs.GrowLaws.{grew_applied, grew_leaves, grew_on}
 use Rattle.sftp_model.specs.declared.error.Error.{Error}
 use Rattle.sftp_tasks.specs.declared.locked.Locked.{Locked}
