@@ -9,3 +9,4 @@ pub mod CoverLaws
 pub mod UserLaws
 pub mod HomeLaws
 pub mod KeptRows
+pub mod RepeatLaws

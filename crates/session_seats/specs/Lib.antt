@@ -4,6 +4,7 @@ pub mod Holds
 pub mod NewSeats
 pub mod Closes
 pub mod Covers
+pub mod Repeats
 pub mod Users
 pub mod SeatRows
 pub mod RuleRows

@@ -11,6 +11,7 @@ mod seat;
 mod shared;
 mod users;
 mod view;
+mod waiting;
 
 pub use ended::{Ended, Ending, NotEnded};
 pub use event::Event;

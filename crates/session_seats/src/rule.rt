@@ -20,6 +20,9 @@ pub trait Held {
     fn entries(&self) -> &[Entry]
         ensures { reverse result.now ≡ (shown self.now).past };
 
+    /// A number that is another one once the value has changed in a way for which a thread may wait. Nothing is said of it.
+    fn moves(&self) -> u64;
+
     /// The next lane that has no seat, from lane 0 on: it has one then, and there is one user more. None exactly where each lane
     /// that it was made of has one.
     fn seat_lane(&mut self) -> Option<u32>

@@ -97,7 +97,7 @@ impl<S: Held + Drop> Seat<S> {
             self.old.inner.me self.new.inner.me }
     {
         let mut gate = shared.gate.lock(rt);
-        let (did, copied) = shared.hold(
+        let (did, copied, moved) = shared.hold(
             rt,
             alloc,
             &mut self.inner,
@@ -105,8 +105,7 @@ impl<S: Held + Drop> Seat<S> {
             self.lane,
             event,
         );
-        *gate = gate.wrapping_add(1);
-        shared.moved.notify_all();
+        shared.wake(&mut *gate, moved);
         drop(gate);
         if copied.is_err() {
             self.whole = false;

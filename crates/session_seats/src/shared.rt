@@ -21,7 +21,7 @@ use std::thread;
 #[derive(Drop)]
 pub struct Shared<S: Held + Drop> {
     pub(crate) table: Table<S, View, Origin, SeatRule, Global>,
-    // Who means to take the value waits here. It counts the holds, for those who wait for a change.
+    // Who means to take the value waits here. It counts the changes, for those who wait for one.
     pub(crate) gate: Mutex<u64>,
     pub(crate) moved: Condvar,
     ghost sized: { (table.shared.table_id.words ≡ 1) × (table.shared.table_id.slots ≡ 1) },
@@ -83,7 +83,7 @@ impl<S: Held + Drop> Shared<S> {
         self.table.shared.store::<Release>(seat, 0, 0);
     }
 
-    /// One hold: an event, and receipts for what it added.
+    /// One hold: an event, and receipts for what it added. The last answer is whether those who wait are to be woken.
     pub(crate) fn hold<A, E: Event<S, A>, R: Wait>(
         &self,
         rt: &R,
@@ -92,7 +92,7 @@ impl<S: Held + Drop> Shared<S> {
         receipts: &mut Vec<Receipt>,
         lane: Option<u32>,
         event: E,
-    ) -> (A, Result<(), OutOfMemory>)
+    ) -> (A, Result<(), OutOfMemory>, bool)
         requires own { seat.old.table_id ≡ self.now.table.shared.table_id }
         requires free { IsSeat seat.old.me }
         requires named { NamesLane (claim_of seat.old.me) lane }
@@ -104,10 +104,12 @@ impl<S: Held + Drop> Shared<S> {
         self.acquire(rt, seat);
         let held = seat.slot_mut(&self.table.shared, 0);
         let from = held.entries().len();
+        let before = held.moves();
         let did = event.act(held, lane);
+        let moved = held.moves() != before;
         let copied = copy_from(alloc, held.entries(), from, receipts);
         self.release(seat);
-        (did, copied)
+        (did, copied, moved)
     }
 }
 

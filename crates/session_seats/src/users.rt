@@ -56,8 +56,7 @@ impl<S: Held + Drop> Seat<S> {
     {
         let mut gate = shared.gate.lock(rt);
         let last = shared.leave_with(rt, &mut self.inner);
-        *gate = gate.wrapping_add(1);
-        shared.moved.notify_all();
+        shared.wake(&mut *gate, true);
         drop(gate);
         last
     }
@@ -72,8 +71,7 @@ impl<S: Held + Drop> Seat<S> {
     {
         let mut gate = shared.gate.lock(rt);
         shared.raise_with(rt, &mut self.inner, stage);
-        *gate = gate.wrapping_add(1);
-        shared.moved.notify_all();
+        shared.wake(&mut *gate, true);
         drop(gate);
     }
 }

@@ -42,7 +42,7 @@ use Rattle.sftp_lanes.specs.Seen.{SessionValue}
 use Rattle.sftp_model.specs.declared.error.Error.{Error}
 use Rattle.sftp_model.specs.declared.error.Error.TheVariants as error
 use Rattle.sftp_tasks.specs.declared.locked.Locked.{Locked}
-use Rattle.sftp_tasks.specs.Calls.{Answers, BeginsWith, settled}
+use Rattle.sftp_tasks.specs.Calls.{Answers, BeginsWith, InOneHold, settled}
 use Rattle.sftp_tasks.specs.LockedEvents.{OfLane, Submitting}
 use Rattle.sftp_tasks.specs.Rounds.{Token}
 use Rattle.sftp_tasks.specs.SessionEvents.{Submits}
@@ -56,6 +56,13 @@ pub answers_of : {A X Y : Type 0} {test : Entry → Bool} {needs : Allowance} (D
 answers_of Does (Err e) copied old new m n h = hold_map shown_of m n h (inl h.did.does)
 answers_of Does (Ok a) (Ok x) old new m n h = hold_map shown_of m n h (h.did.does, h.did.kept)
 answers_of Does (Ok a) (Err y) old new m n h = hold_map shown_of m n h (inr (refl, (a, h.did.does)))
+
+pub in_one_hold : {A X Y : Type 0} {test : Entry → Bool} {needs : Allowance} (Does : Locked → Locked → Result A Error → Type 0)
+    (did : Result A Error) (copied : Result X Y) {old new : List Receipt} (m n : Token)
+    → Hold shown_of (Applied shown_of test needs (λ y z. Does y z did) copied old new) m n → InOneHold Does (settled did copied) m n
+in_one_hold Does (Err e) copied m n h = hold_map shown_of m n h (inl h.did.does)
+in_one_hold Does (Ok a) (Ok x) m n h = hold_map shown_of m n h h.did.does
+in_one_hold Does (Ok a) (Err y) m n h = hold_map shown_of m n h (inr (refl, (a, h.did.does)))
 
 pub settled_ok : {A X Y : Type 0} (a : A) (copied : Result X Y) (P : A → Type 0) → P a → IfOk (settled (Ok a) copied) P
 settled_ok a (Ok x) P p = p

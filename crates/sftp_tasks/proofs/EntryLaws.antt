@@ -1,5 +1,6 @@
 -- What the calls of a session add to its journal.
-use Rattle.std.proofs.Common.{◌≡◌, ◌≢◌, ◌⊎◌, ◌≤◌, ℕ, ◌+◌, ◌-◌, ◌==◌, List, [], ◌∷◌, ◌++◌, Bool, true, false, true≢false, ◌&&◌, refl, sym, ap, ◌∙◌, subst, ⊎_elim, arith, Some, None, Ok, Err, append_assoc, eq-eqb, MatchBool, IfOk, IfErr, OnOk, MatchOption, ◌^◌, min}
+use Rattle.std.proofs.Common.{◌≡◌, ◌≢◌, ◌⊎◌, ◌≤◌, ℕ, ◌+◌, ◌-◌, ◌==◌, List, [], ◌∷◌, ◌++◌, Bool, true, false, true≢false, ◌&&◌, refl, sym, ap, ◌∙◌, subst, ⊎_elim, arith, Some, None, Ok, Err, append_assoc, eq-eqb, MatchBool, IfOk, IfErr, OnOk, MatchOption, ◌^◌, min, nat_le}
+use Rattle.std.proofs.lemmas.Bool.Decides.{nat_tests}
 use Rattle.std.specs.Prelude.{Option, Result}
 use Rattle.std.specs.List.{list_all}
 use Rattle.sftp_core.specs.declared.errors.TakeError.{TakeError}
@@ -20,7 +21,7 @@ use Rattle.session_driver.specs.Session.{Given, Seen, StepsTo, Cancels, LetsGo, 
 use Rattle.session_model.specs.Calls.{Setting, move_of}
 use Rattle.session_model.specs.Turns.{Stage, ClosesTo, SettlesTo, begun_but}
 use Rattle.session_model.specs.Journals.{cancelled_end}
-use Rattle.session_model.specs.Readings.{was_let_go}
+use Rattle.session_model.specs.Readings.{unanswered, was_let_go}
 use Rattle.session_model.specs.declared.entry.Entry.{Entry}
 use Rattle.session_model.specs.declared.entry.Entry.TheVariants as entry
 use Rattle.session_model.specs.declared.event.Event.TheVariants.{Submit, Send, Take, Cancel}
@@ -43,8 +44,10 @@ use Rattle.sftp_model.specs.ReplyReadings.{reply_at}
 use Rattle.std.specs.Option.{option_map}
 use Rattle.plan_model.specs.declared.call.Call.{Call}
 use Rattle.sftp_lanes.specs.Adding.{AddsCall, IsSame}
-use Rattle.sftp_tasks.specs.SessionEvents.{GivesUp, IsKept, IsRefusedBy, IsUnawaited, IsUnmoved, LetsLaneGoIn, Refuses, RefusesToAdd, Submits, TakeStops}
-use Rattle.sftp_tasks.specs.LockedEvents.{HandingOut, Hands, Taking, TakingFrame, Writing, tells}
+use Rattle.sftp_tasks.specs.SessionEvents.{GivesUp, IsKept, IsRefusedBy, IsUnawaited, IsUnmoved, LetsLaneGoIn, PollsIn, Refuses, RefusesToAdd, Submits, TakeStops}
+use Rattle.sftp_tasks.specs.LockedEvents.{Finishing, HandingOut, Hands, Taking, TakingFrame, Writing, at_end, is_answered, tells}
+use Rattle.sftp_tasks.specs.declared.polls.Polled.{Polled}
+use Rattle.sftp_tasks.specs.declared.polls.Polled.TheVariants as polled
 use Rattle.sftp_wire.specs.FrameReader.{Received, body_of}
 use Rattle.sftp_lanes.specs.Counts.{unsent_in}
 use Rattle.sftp_tasks.specs.declared.frames.Handed.{Handed}
@@ -190,6 +193,12 @@ result_extended test old new (Err e) P f p q = refuses_extended test e old new q
 either_way : {X Y Z : Type 0} (b : Bool) → MatchBool b X Y → (X → Z) → (Y → Z) → Z
 either_way true h f g = f h
 either_way false h f g = g h
+
+-- a lane that is polled
+pub polls_extended : (lane : ℕ) (old new : SessionValue) (p : Polled) → PollsIn lane old new p → Extended (passes by_step (Some lane)) old new
+polls_extended lane old new (polled.Ended calls) h = same_extended _ old new h.1
+polls_extended lane old new polled.Moved h = steps_extended old.phase lane old new h.0 h.1.1
+polls_extended lane old new polled.Waits h = steps_extended old.phase lane old new h.0 h.1.1
 
 -- ---- cancels
 
@@ -433,7 +442,7 @@ failing_goes lane f y z rest h = session_goes _ y z rest (kept_extended _ (λ g.
 hands_from : (y z : Locked) (handed : Option Handed) → MatchOption handed (z.counts.handed ≡ y.counts.handed)
     (λ h. z.counts.handed ≡ y.counts.handed + h.frames)
     → MatchOption handed (Unit {0}) (λ h. y.session.phase ≢ Failed → h.frames ≡ unsent_in y.session.phase (past_of y.session.work))
-    → MatchOption handed (z.counts.handed ≡ y.counts.handed) (Hands y z)
+    → MatchOption handed (z.counts.handed ≡ y.counts.handed) (λ h. Hands y z h.frames)
 hands_from y z None counts frames = counts
 hands_from y z (Some h) counts frames = record { counts = counts; frames = frames }
 
@@ -461,6 +470,49 @@ gives_up_goes lane y z rest h = session_goes _ y z rest record {
   options = ap (λ (s : SessionValue). s.options) h;
   version = subst (Stays y.session.version) (sym (ap (λ (s : SessionValue). s.version) h)) (stays_same y.session.version);
 }
+
+-- the end is settled
+answered_begun : (p : Phase) (stage unanswered : ℕ) → is_answered p stage unanswered ≡ true → 1 ≤ stage
+answered_begun Open stage unanswered is =
+    let low = (Rattle.session_seats.proofs.HoldLaws.both_true (nat_le 1 stage) (unanswered == 0) is).0 in grind (arith, nat_tests)
+answered_begun Fresh stage unanswered is = absurd (true≢false (sym is))
+answered_begun other stage unanswered is = absurd (true≢false (sym is))
+
+ends_at : (lane : Option ℕ) (y : Locked) (all : Bool) → y.counts.stage ≤ 2 → (all ≡ true → 1 ≤ y.counts.stage)
+    → GoesBy (passes by_nothing lane) no_allowance (shown_of y) (shown_of (record y { counts = at_end all y.counts }))
+ends_at lane y false most begun = session_goes _ y y refl (same_extended _ y.session y.session refl)
+ends_at lane y true most begun =
+    let low = begun refl in (
+      [],
+      record {
+        past = refl;
+        passes = refl;
+        seated = refl;
+        lanes = refl;
+        options = refl;
+        version = stays_same y.session.version;
+        rises = record { handed = omega arith; written = omega arith; taken = omega arith; stage = omega (arith, most) };
+        written = omega arith;
+        users = omega arith;
+        ends = λ was. (omega arith, λ rose. was.1 (omega (arith, low)));
+      },
+    )
+
+pub finishing_goes : (lane : Option ℕ) (y z : Locked) (r : Result Bool Error) → y.counts.stage ≤ 2 → Finishing y z r
+    → GoesBy (passes by_nothing lane) no_allowance (shown_of y) (shown_of z)
+finishing_goes lane y z (Ok all) most h =
+    subst (λ (x : Locked). GoesBy (passes by_nothing lane) no_allowance (shown_of y) (shown_of x)) (sym h.1)
+    (ends_at lane y all most (λ yes. answered_begun y.session.phase y.counts.stage _ (sym h.0 ∙ yes)))
+finishing_goes lane y z (Err e) most h =
+    subst (λ (x : Locked). GoesBy (passes by_nothing lane) no_allowance (shown_of y) (shown_of x)) (sym h.0)
+    (session_goes _ y y refl (same_extended _ y.session y.session refl))
+
+pub finishing_from : (y z : Locked) (r : Result Bool Error)
+    → IfOk r (λ all. all ≡ is_answered y.session.phase y.counts.stage (unanswered (past_of y.session.work)))
+    → IfOk r (λ all. z ≡ record y { counts = at_end all y.counts })
+    → IfErr r (λ e. Refuses e y.session y.session × (z ≡ y)) → Finishing y z r
+finishing_from y z (Ok all) told stage refused = (told, stage)
+finishing_from y z (Err e) told stage refused = (refused.1, refused.0)
 
 -- ---- calls that are added
 

@@ -3,3 +3,7 @@ pub mod CallLaws
 pub mod RoundLaws
 pub mod CloseLaws
 pub mod SameLocked
+pub mod EndedLaws
+pub mod PollLaws
+pub mod WorkLaws
+pub mod Sends

@@ -14,7 +14,7 @@ use Rattle.sftp_wire.specs.FrameReader.{Received}
 use Rattle.sftp_tasks.specs.declared.frames.Handed.{Handed}
 use Rattle.sftp_tasks.specs.declared.locked.Locked.{Locked}
 use Rattle.sftp_tasks.specs.Entries.{by_failing, by_flush, by_nothing, by_read}
-use Rattle.sftp_tasks.specs.LockedEvents.{HandingOut, Looking, TakingFrame, tells}
+use Rattle.sftp_tasks.specs.LockedEvents.{HandingOut, Looking, TakingFrame, Writing, tells}
 use Rattle.sftp_tasks.specs.Rounds.{Flushes, Reads, RefusesRound}
 use Rattle.sftp_tasks.specs.SessionEvents.{Refuses}
 use Rattle.sftp_tasks.specs.Shows.{shown_of}
@@ -60,6 +60,9 @@ nothing_then_failing lane a b c g h = nothing_then_read lane a b c g (grew_weake
 pub nothing_reads_all : (lane : Option ℕ) (a b : Claim) → Grew (by_nothing lane) a b → Grew (by_read lane) a b
 nothing_reads_all lane a b g = grew_weaker (by_nothing lane) (by_read lane) (nothing_reads lane) a b g
 
+pub nothing_flushes_all : (lane : Option ℕ) (a b : Claim) → Grew (by_nothing lane) a b → Grew (by_flush lane) a b
+nothing_flushes_all lane a b g = grew_weaker (by_nothing lane) (by_flush lane) (nothing_flushes lane) a b g
+
 -- where the second fault came with the answer of the hold
 pub kept_was_read : (lane : Option ℕ) (a b : Claim) → Grew (by_failing lane) a b → Grew (by_read lane) a b
 kept_was_read lane a b g = grew_weaker (by_failing lane) (by_read lane) (failing_reads lane) a b g
@@ -98,6 +101,7 @@ module _ {X Y : Type 0} {test : Entry → Bool} {needs : Allowance} {old new : L
       → Hold shown_of (Applied shown_of test needs (λ y z. TakingFrame frame y z did) copied old new) m n → Holds (λ y z more. TakingFrame frame y z r) m n
   took frame did r is h = hold_map shown_of m n h (subst (λ (x : Result (Unit {0}) Error). TakingFrame frame h.before h.after x) is h.did.does)
 
-pub noted : {X Y : Type 0} {frames : ℕ} {old new : List Receipt} {copied : Result X Y} {Does : Locked → Locked → Type 0} (lane : Option ℕ) (m n : Token)
-    → Hold shown_of (Applied shown_of (passes by_nothing lane) (tells frames) Does copied old new) m n → Holds (λ y z more. more ≡ []) m n
-noted lane m n h = hold_map shown_of m n h (none_passes lane h.more h.did.goes.passes)
+pub noted : {X Y : Type 0} {frames : ℕ} {old new : List Receipt} {copied : Result X Y} (lane : Option ℕ) (m n : Token)
+    → Hold shown_of (Applied shown_of (passes by_nothing lane) (tells frames) (Writing frames) copied old new) m n
+    → Holds (λ y z more. (more ≡ []) × Writing frames y z) m n
+noted lane m n h = hold_map shown_of m n h (none_passes lane h.more h.did.goes.passes, h.did.does)

@@ -4,4 +4,5 @@ pub mod Entries
 pub mod LockedEvents
 pub mod Rounds
 pub mod Calls
+pub mod Workers
 pub mod Reported

@@ -1,8 +1,9 @@
 -- What each event does to the locked value, for the lane that its seat names.
-use Rattle.std.specs.Prelude.{◌≡◌, ◌≢◌, ℕ, ◌+◌, ◌^◌, ◌-◌, min, Bool, List, Option, Some, None, Result, Ok, Err, MatchOption, nat_lt}
+use Rattle.std.specs.Prelude.{◌≡◌, ◌≢◌, ℕ, ◌+◌, ◌^◌, ◌-◌, ◌==◌, ◌&&◌, min, Bool, true, false, List, Option, Some, None, Result, Ok, Err, MatchOption, nat_le, nat_lt}
 use Rattle.std.specs.Option.{option_map}
 use Rattle.plan_model.specs.declared.call.Call.{Call}
-use Rattle.session_driver.specs.declared.session.Phase.TheVariants.{Failed}
+use Rattle.session_driver.specs.declared.session.Phase.{Phase}
+use Rattle.session_driver.specs.declared.session.Phase.TheVariants.{Failed, Open}
 use Rattle.session_driver.specs.declared.session.Stepped.{Stepped}
 use Rattle.sftp_model.specs.declared.error.Error.{Error}
 use Rattle.sftp_model.specs.declared.error.Fault.{Fault}
@@ -10,12 +11,15 @@ use Rattle.sftp_model.specs.Pieces.{joined}
 use Rattle.sftp_model.specs.ReplyReadings.{reply_at}
 use Rattle.sftp_lanes.specs.Counts.{unsent_in}
 use Rattle.sftp_lanes.specs.Events.{CancelsIn, HandsOutIn, StepsIn, TakesIn}
+use Rattle.session_model.specs.Readings.{unanswered}
 use Rattle.session_work.specs.Working.{past_of}
 use Rattle.sftp_wire.specs.FrameReader.{Received, body_of}
+use Rattle.session_seats.specs.declared.view.Counts.{Counts}
 use Rattle.session_seats.specs.Holds.{Allowance}
 use Rattle.sftp_tasks.specs.declared.frames.Handed.{Handed}
 use Rattle.sftp_tasks.specs.declared.locked.Locked.{Locked}
-use Rattle.sftp_tasks.specs.SessionEvents.{GivesUp, IsKept, LetsLaneGoIn, Refuses, Submits, TakeStops}
+use Rattle.sftp_tasks.specs.declared.polls.Polled.{Polled}
+use Rattle.sftp_tasks.specs.SessionEvents.{GivesUp, IsKept, LetsLaneGoIn, PollsIn, Refuses, Submits, TakeStops}
 
 -- a seat that names no lane does nothing
 abbrev pub OfLane : {A : Type 0} → (ℕ → Locked → Locked → A → Type 0) → A → Option ℕ → Locked → Locked → A → Type 0
@@ -34,18 +38,31 @@ abbrev pub LettingGo : ℕ → Locked → Locked → Result Bool Error → Type 
 LettingGo lane y z (Ok event) = LetsLaneGoIn lane y.session z.session event
 LettingGo lane y z (Err e) = Refuses e y.session z.session
 
+abbrev pub Polling : ℕ → Locked → Locked → Result Polled Error → Type 0
+Polling lane y z (Ok p) = PollsIn lane y.session z.session p
+Polling lane y z (Err e) = Refuses e y.session z.session
+
+-- what a seat lets go of before it leaves the users: its lane, or nothing where it names none
+abbrev pub LetsSeatGo : Option ℕ → Locked → Locked → Result Bool Error → Type 0
+LetsSeatGo None y z (Ok did) = (did ≡ true) × (z ≡ y)
+LetsSeatGo None y z (Err e) = (z ≡ y) × Refuses e y.session y.session
+LetsSeatGo (Some lane) y z r = LettingGo lane y z r
+
+abbrev pub Releasing : Option ℕ → Locked → Locked → Result Bool Error → Type 0
+Releasing lane y z r = (z ≡ record y { session = z.session }) × LetsSeatGo lane y z r
+
 abbrev pub Submitting : Call → ℕ → Locked → Locked → Result Bool Error → Type 0
 Submitting call lane y z r = Submits lane call y.session z.session r
 
--- what was handed out is counted: all frames that are unsent
-pub record Hands (y z : Locked) (h : Handed) : Type 0 where
-  pub counts : z.counts.handed ≡ y.counts.handed + h.frames
-  pub frames : y.session.phase ≢ Failed → h.frames ≡ unsent_in y.session.phase (past_of y.session.work)
+-- what was handed out is counted, so many frames: all that are unsent
+pub record Hands (y z : Locked) (n : ℕ) : Type 0 where
+  pub counts : z.counts.handed ≡ y.counts.handed + n
+  pub frames : y.session.phase ≢ Failed → n ≡ unsent_in y.session.phase (past_of y.session.work)
 
 abbrev pub HandingOut : Locked → Locked → Result (Option Handed) Error → Type 0
 HandingOut y z (Ok handed) =
     HandsOutIn y.session.phase y.session z.session (option_map (λ h. joined h.chunk) handed)
-    × (MatchOption handed (z.counts.handed ≡ y.counts.handed) (Hands y z) × (z.counts.written ≡ y.counts.written))
+    × (MatchOption handed (z.counts.handed ≡ y.counts.handed) (λ h. Hands y z h.frames) × (z.counts.written ≡ y.counts.written))
 HandingOut y z (Err e) = Refuses e y.session z.session × (z.counts.handed ≡ y.counts.handed)
 
 abbrev pub Taking : List ℕ → Locked → Locked → Result (Unit {0}) Error → Type 0
@@ -74,3 +91,24 @@ tells frames = record { tells = frames; leaves = 0 }
 abbrev pub Looking : Locked → Locked → Result Bool Error → Type 0
 Looking y z (Ok may) = (z ≡ y) × (may ≡ nat_lt y.counts.taken y.counts.written)
 Looking y z (Err e) = (z ≡ y) × Refuses e y.session y.session
+
+-- how far the end has come
+abbrev pub TellsStage : Locked → Locked → Result ℕ Error → Type 0
+TellsStage y z (Ok stage) = (z ≡ y) × (stage ≡ y.counts.stage)
+TellsStage y z (Err e) = (z ≡ y) × Refuses e y.session y.session
+
+-- the end has begun, and each request of an open session has its reply
+abbrev pub is_answered : Phase → ℕ → ℕ → Bool
+is_answered Open stage unanswered = nat_le 1 stage && (unanswered == 0)
+is_answered other stage unanswered = false
+
+abbrev pub at_end : Bool → Counts → Counts
+at_end true counts = record counts { stage = 2 }
+at_end false counts = counts
+
+-- the end is settled where all is answered
+abbrev pub Finishing : Locked → Locked → Result Bool Error → Type 0
+Finishing y z (Ok all) =
+    (all ≡ is_answered y.session.phase y.counts.stage (unanswered (past_of y.session.work)))
+    × (z ≡ record y { counts = at_end all y.counts })
+Finishing y z (Err e) = (z ≡ y) × Refuses e y.session y.session

@@ -15,7 +15,7 @@ use Rattle.sftp_lanes.specs.Events.{HandsOutIn}
 use Rattle.session_seats.specs.declared.view.View.{View}
 use Rattle.session_seats.specs.Holds.{Hold}
 use Rattle.sftp_tasks.specs.declared.locked.Locked.{Locked}
-use Rattle.sftp_tasks.specs.LockedEvents.{Failing, GivingUp, Looking, TakingFrame}
+use Rattle.sftp_tasks.specs.LockedEvents.{Failing, GivingUp, Hands, Looking, TakingFrame, Writing}
 use Rattle.sftp_tasks.specs.SessionEvents.{Refuses}
 use Rattle.sftp_tasks.specs.Shows.{shown_of}
 
@@ -48,13 +48,14 @@ Stops e m n = Holds (λ y z more. Stopping (fault_for e) y z) m n
 
 -- ---- a round that sends
 
--- what was handed out in one hold was sent, and noted as written in another, which added nothing
+-- what was handed out in one hold was sent, and all its frames were noted as written in another, which added nothing
 pub record Flushed {Service : Type 0} (m n : Token) (before now : LinkView Service) : Type 0 where
   pub mid : Token
   pub bytes : List ℕ
-  pub hands : Holds (λ y z more. HandsOutIn y.session.phase y.session z.session (Some bytes)) m mid
+  pub frames : ℕ
+  pub hands : Holds (λ y z more. HandsOutIn y.session.phase y.session z.session (Some bytes) × Hands y z frames) m mid
   pub sent : SentBy {T = Unit {0}} bytes before now (Ok tt)
-  pub notes : Holds (λ y z more. more ≡ []) mid n
+  pub notes : Holds (λ y z more. (more ≡ []) × Writing frames y z) mid n
 
 abbrev pub Flushes : {Service : Type 0} → Bool → Token → Token → LinkView Service → LinkView Service → Type 0
 Flushes true m n before now = Flushed m n before now
@@ -88,6 +89,7 @@ pub record ReadsOnce {Service : Type 0} (m n : Token) (before now : LinkView Ser
   pub looks : Holds (λ y z more. Looking y z (Ok true)) m mid
   pub whole : IsWhole frame
   pub got : Told (GotAll frame.bytes) before.log now.log
+  pub caused : Caused {T = Received} before now (Ok frame)
   pub takes : Holds (λ y z more. TakingFrame frame y z (Ok tt)) mid n
 
 abbrev pub Reads : {Service : Type 0} → Bool → Token → Token → LinkView Service → LinkView Service → Type 0

@@ -1,15 +1,18 @@
 -- What the calls of the locked value do to its session.
-use Rattle.std.specs.Prelude.{◌≡◌, ◌≢◌, ◌⊎◌, ◌≤◌, ℕ, Bool, true, false, length, Option, Some, None, Result, Ok, Err}
+use Rattle.std.specs.Prelude.{◌≡◌, ◌≢◌, ◌⊎◌, ◌≤◌, ℕ, Bool, true, false, List, ◌++◌, length, Option, Some, None, Result, Ok, Err, slice_get}
 use Rattle.sftp_core.specs.declared.errors.TakeError.{TakeError}
 use Rattle.sftp_core.specs.Take.{IsFirst}
 use Rattle.plan_model.specs.declared.call.Call.{Call}
+use Rattle.plan_model.specs.declared.call.Lane.{Lane}
 use Rattle.plan_model.specs.Lanes.{are_ok}
 use Rattle.session_driver.specs.declared.session.Phase.TheVariants.{Failed}
 use Rattle.session_driver.specs.declared.session.Stepped.{Stepped}
+use Rattle.session_driver.specs.declared.session.Stepped.TheVariants as stepped
 use Rattle.session_driver.specs.Adding.{with_call}
 use Rattle.session_exchange.specs.Refusals.{error_of}
-use Rattle.session_model.specs.Calls.{current}
-use Rattle.session_model.specs.Readings.{was_let_go}
+use Rattle.session_model.specs.declared.entry.Entry.{Entry}
+use Rattle.session_model.specs.Calls.{added, calls_of, current}
+use Rattle.session_model.specs.Readings.{ended, was_let_go}
 use Rattle.sftp_model.specs.declared.error.Fault.{Fault}
 use Rattle.sftp_model.specs.declared.error.Fault.TheVariants as fault
 use Rattle.sftp_model.specs.declared.error.Error.{Error}
@@ -21,6 +24,8 @@ use Rattle.sftp_lanes.specs.Events.{HasFailed, IsRefused, LetsGoIn, StepsIn, fir
 use Rattle.sftp_lanes.specs.Seen.{SessionValue, setting_at}
 use Rattle.session_work.specs.SoFar.{kept_past}
 use Rattle.session_work.specs.Working.{past_of}
+use Rattle.sftp_tasks.specs.declared.polls.Polled.{Polled}
+use Rattle.sftp_tasks.specs.declared.polls.Polled.TheVariants as polled
 
 -- ---- refusals
 
@@ -52,6 +57,23 @@ abbrev pub LetsLaneGoIn : ℕ → SessionValue → SessionValue → Bool → Typ
 LetsLaneGoIn lane old new true = LetsGoIn old.phase lane old new
     ⊎ ((was_let_go (past_of old.work) lane ≡ true) × (new ≡ old))
 LetsLaneGoIn lane old new false = (current (setting_at old) (past_of old.work) lane ≢ None) × (new ≡ old)
+
+-- a lane has so many calls, and as many of them have ended
+pub record AllEnded (lanes : List Lane) (past : List Entry) (lane calls : ℕ) : Type 0 where
+  pub are : length (calls_of (slice_get lanes lane) ++ added past lane) ≡ calls
+  pub have_ended : ended past lane ≡ calls
+
+-- what a step tells of its lane
+abbrev pub polled_of : Stepped → Polled
+polled_of stepped.Nothing = polled.Waits
+polled_of stepped.Submitted = polled.Moved
+polled_of stepped.Ended = polled.Moved
+
+-- a lane is stepped once, unless all of its calls have ended
+abbrev pub PollsIn : ℕ → SessionValue → SessionValue → Polled → Type 0
+PollsIn lane old new (polled.Ended calls) = AllEnded old.lanes (past_of old.work) lane calls × (new ≡ old)
+PollsIn lane old new polled.Moved = (event : Stepped) × ((polled.Moved ≡ polled_of event) × StepsIn old.phase lane old new event)
+PollsIn lane old new polled.Waits = (event : Stepped) × ((polled.Waits ≡ polled_of event) × StepsIn old.phase lane old new event)
 
 -- the lane isn't there, or it was let go, or a session can't be given the lanes with the call
 abbrev pub MayNotAdd : ℕ → Call → SessionValue → Type 0

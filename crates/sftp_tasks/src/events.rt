@@ -1,6 +1,7 @@
 //! The events of the locked value, of which a hold of the lock does one.
 use crate::frames::Handed;
 use crate::locked::Locked;
+use crate::polls::Polled;
 use session_driver::Stepped;
 use session_model::Call;
 use session_seats::Event;
@@ -240,5 +241,96 @@ impl Event<Locked, Result<bool, Error>> for MayRead {
     fn act(self, value: &mut Locked, lane: Option<u32>) -> Result<bool, Error> {
         let _ = lane;
         value.may_read()
+    }
+}
+
+/// One step of the seat's lane, unless all of its calls have ended. A seat that names no lane has none.
+#[derive(Drop)]
+pub struct Poll;
+
+impl Event<Locked, Result<Polled, Error>> for Poll {
+    ghost use Rattle.session_seats.specs.Holds.{no_allowance};
+    ghost use Rattle.sftp_tasks.specs.Calls.{PollsSeat};
+    ghost use Rattle.sftp_tasks.specs.Entries.{by_step};
+
+    ghost only = { λ _. by_step };
+
+    ghost needs = { λ _. no_allowance };
+
+    ghost does = { λ _. PollsSeat };
+
+    fn act(self, value: &mut Locked, lane: Option<u32>) -> Result<Polled, Error> {
+        let Some(lane) = lane else {
+            return Ok(Polled::Ended(0));
+        };
+        value.poll(lane)
+    }
+}
+
+/// Lets go of the seat's lane, where its calls have ended. A seat that names no lane has nothing to let go of.
+#[derive(Drop)]
+pub struct Release;
+
+impl Event<Locked, Result<bool, Error>> for Release {
+    ghost use Rattle.session_seats.specs.Holds.{no_allowance};
+    ghost use Rattle.sftp_tasks.specs.Entries.{by_let_go};
+    ghost use Rattle.sftp_tasks.specs.LockedEvents.{Releasing};
+
+    ghost only = { λ _. by_let_go };
+
+    ghost needs = { λ _. no_allowance };
+
+    ghost does = { λ _. Releasing };
+
+    fn act(self, value: &mut Locked, lane: Option<u32>) -> Result<bool, Error> {
+        let Some(lane) = lane else {
+            return match value.check() {
+                Ok(()) => Ok(true),
+                Err(e) => Err(e),
+            };
+        };
+        value.let_go(lane)
+    }
+}
+
+/// Looks how far the end has come.
+#[derive(Drop)]
+pub struct LookStage;
+
+impl Event<Locked, Result<u64, Error>> for LookStage {
+    ghost use Rattle.session_seats.specs.Holds.{no_allowance};
+    ghost use Rattle.sftp_tasks.specs.Entries.{by_nothing};
+    ghost use Rattle.sftp_tasks.specs.LockedEvents.{TellsStage};
+
+    ghost only = { λ _. by_nothing };
+
+    ghost needs = { λ _. no_allowance };
+
+    ghost does = { λ _ lane. TellsStage };
+
+    fn act(self, value: &mut Locked, lane: Option<u32>) -> Result<u64, Error> {
+        let _ = lane;
+        value.stage()
+    }
+}
+
+/// Settles the end, where it has begun and each request of an open session has its reply.
+#[derive(Drop)]
+pub struct Finish;
+
+impl Event<Locked, Result<bool, Error>> for Finish {
+    ghost use Rattle.session_seats.specs.Holds.{no_allowance};
+    ghost use Rattle.sftp_tasks.specs.Entries.{by_nothing};
+    ghost use Rattle.sftp_tasks.specs.LockedEvents.{Finishing};
+
+    ghost only = { λ _. by_nothing };
+
+    ghost needs = { λ _. no_allowance };
+
+    ghost does = { λ _ lane. Finishing };
+
+    fn act(self, value: &mut Locked, lane: Option<u32>) -> Result<bool, Error> {
+        let _ = lane;
+        value.finish()
     }
 }

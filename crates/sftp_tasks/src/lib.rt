@@ -5,18 +5,23 @@
 
 mod added_calls;
 mod copies;
+mod endings;
 mod events;
 mod frames;
 mod locked;
+mod polls;
 mod report;
 mod rounds;
 mod shared_sftp;
+mod workers;
 
 pub use events::{
-    CancelCall, Fail, GiveUp, HandOut, LetGo, MayRead, Step, Submit, TakeFrame, Written,
+    CancelCall, Fail, Finish, GiveUp, HandOut, LetGo, LookStage, MayRead, Poll, Release, Step,
+    Submit, TakeFrame, Written,
 };
 pub use frames::Handed;
 pub use locked::Locked;
+pub use polls::Polled;
 pub use report::{NotClosed, SharedReport};
 pub use rounds::{flush_round, read_round};
 pub use session_driver::{Phase, Stepped};
@@ -25,3 +30,4 @@ pub use session_seats::Receipt;
 pub use sftp_model::{Error, Fault, SftpOptions};
 pub use shared_sftp::{Seat, SharedSftp};
 pub use ssh_encoding::OutOfMemory;
+pub use workers::{flush_worker, read_worker};

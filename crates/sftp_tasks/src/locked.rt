@@ -29,6 +29,16 @@ impl Held for Locked {
         self.session.journal()
     }
 
+    fn moves(&self) -> u64 {
+        let failed = matches!(self.session.phase(), Phase::Failed);
+        (self.session.journal().len() as u64)
+            .wrapping_add(self.counts.handed)
+            .wrapping_add(self.counts.written)
+            .wrapping_add(self.counts.taken)
+            .wrapping_add(self.counts.stage)
+            .wrapping_add(u64::from(failed))
+    }
+
     fn seat_lane(&mut self) -> Option<u32> {
         if self.seated >= self.session.lane_count() {
             return None;

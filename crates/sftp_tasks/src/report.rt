@@ -107,7 +107,11 @@ impl SharedSftp {
         ensures covers { IfOk result (λ r. Complete (claims_of (seat ∷ others.items)) → Once (length r.journal.items) (map items_of r.receipts.items)) }
         ensures refused { IfErr result (λ n. Refused seat others.items n.error n.seats) }
     {
-        let SharedSftp { alloc, shared } = self;
+        let SharedSftp {
+            alloc,
+            shared,
+            flush_interval: _,
+        } = self;
         let Ok(empty) = Locked::new(alloc, &[], &SftpOptions::default()) else {
             return Err(NotClosed {
                 error: Error::OutOfMemory,

@@ -1,17 +1,18 @@
 //! The shared session, and the calls of a lane's seat.
-ghost use Rattle.std.specs.Prelude.{◌≡◌, ◌<◌, [], None, Ok, false, true, IfNone, IfOk, IfSome};
+ghost use Rattle.std.specs.Prelude.{◌≡◌, ◌<◌, ◌≤◌, [], None, Ok, false, true, IfNone, IfOk, IfSome};
 ghost use Rattle.plan_model.specs.Lanes.{are_ok};
 ghost use Rattle.session_seats.specs.Holds.{Grew, IsFresh, at_first, claim_of};
 ghost use Rattle.session_seats.specs.NewSeats.{Gives, GivesLane, HasNone};
 ghost use Rattle.session_seats.specs.Rules.{home};
 ghost use Rattle.session_seats.specs.Sights.{made};
-ghost use Rattle.sftp_tasks.specs.Calls.{Answers, BeginsWith, settled};
-ghost use Rattle.sftp_tasks.specs.Entries.{by_cancel, by_submit};
-ghost use Rattle.sftp_tasks.specs.LockedEvents.{Cancelling, OfLane, Submitting};
+ghost use Rattle.sftp_tasks.specs.Calls.{Answers, BeginsWith, Releases, settled};
+ghost use Rattle.sftp_tasks.specs.Entries.{by_cancel, by_let_go, by_nothing, by_submit};
+ghost use Rattle.sftp_tasks.specs.LockedEvents.{Cancelling, GivingUp, OfLane, Submitting};
+ghost use Rattle.sftp_tasks.specs.Rounds.{Holds};
 ghost use Rattle.sftp_tasks.specs.Shows.{shown_of};
 
 use crate::copies::copies_of;
-use crate::events::{CancelCall, Submit};
+use crate::events::{CancelCall, GiveUp, Release, Submit};
 use crate::locked::Locked;
 use session_model::{Call, Lane};
 use session_seats::{Counts, Origin, Shared};
@@ -21,6 +22,7 @@ use sftp_values::Items;
 use ssh_encoding::OutOfMemory;
 use std::alloc::Global;
 use std::sync::Wait;
+use std::time::Duration;
 
 /// A seat at the shared session.
 pub type Seat = session_seats::Seat<Locked>;
@@ -30,6 +32,8 @@ pub type Seat = session_seats::Seat<Locked>;
 pub struct SharedSftp {
     pub(crate) alloc: Global,
     pub(crate) shared: Shared<Locked>,
+    // For how long a request may stay unsent; zero bounds nothing.
+    pub(crate) flush_interval: Duration,
 }
 
 impl Locked {
@@ -66,7 +70,15 @@ impl SharedSftp {
         let value = Locked::new(alloc, lanes, options)?;
         let origin = Origin::of(&Items::new(copies_of(alloc, lanes)?), options);
         let (shared, seat) = Shared::new(alloc, value, &origin)?;
-        Ok((SharedSftp { alloc, shared }, seat))
+        let flush_interval = Duration::from_micros(options.get_flush_interval());
+        Ok((
+            SharedSftp {
+                alloc,
+                shared,
+                flush_interval,
+            },
+            seat,
+        ))
     }
 
     /// The next lane's seat, from lane 0 on. None exactly where each lane has one. Nothing is added to the journal.
@@ -99,7 +111,8 @@ impl SharedSftp {
     /// have been added, and the session may have failed, which answers so for good.
     pub fn submit<R: Wait>(&self, rt: &R, seat: &mut Seat, call: Call) -> Result<bool, Error>
         requires own { seat.old.inner.table_id ≡ self.now.shared.table.shared.table_id }
-        ensures own { (seat.new.inner.table_id ≡ seat.old.inner.table_id) × (seat.new.lane ≡ seat.old.lane) }
+        ensures own { (seat.new.inner.table_id ≡ seat.old.inner.table_id) × (seat.new.lane ≡ seat.old.lane)
+            × ((claim_of seat.old.inner.me).share ≤ (claim_of seat.new.inner.me).share) }
         ensures only { Grew (by_submit seat.old.lane) (claim_of seat.old.inner.me) (claim_of seat.new.inner.me) }
         ensures answers { Answers (OfLane (Submitting call) (Ok false) seat.old.lane) seat.old.receipts.items seat.new.receipts.items
             result seat.old.inner.me seat.new.inner.me }
@@ -120,7 +133,8 @@ impl SharedSftp {
     /// Cancels the call of the seat's lane that was begun, and answers whether it was. Errors as of `submit`.
     pub fn cancel<R: Wait>(&self, rt: &R, seat: &mut Seat) -> Result<bool, Error>
         requires own { seat.old.inner.table_id ≡ self.now.shared.table.shared.table_id }
-        ensures own { (seat.new.inner.table_id ≡ seat.old.inner.table_id) × (seat.new.lane ≡ seat.old.lane) }
+        ensures own { (seat.new.inner.table_id ≡ seat.old.inner.table_id) × (seat.new.lane ≡ seat.old.lane)
+            × ((claim_of seat.old.inner.me).share ≤ (claim_of seat.new.inner.me).share) }
         ensures only { Grew (by_cancel seat.old.lane) (claim_of seat.old.inner.me) (claim_of seat.new.inner.me) }
         ensures answers { Answers (OfLane Cancelling (Ok false) seat.old.lane) seat.old.receipts.items seat.new.receipts.items
             result seat.old.inner.me seat.new.inner.me }
@@ -128,13 +142,44 @@ impl SharedSftp {
         let (did, copied) = seat.apply(rt, self.alloc, &self.shared, CancelCall);
         settle(did, copied)
     }
+
+    /// Lets go of all that the slots of the seat's lane hold, and then leaves the users; a seat that names no lane only leaves. False where
+    /// a call of the lane has not ended, and nothing has changed then. The seat must have a share: it has none after true, and keeps it
+    /// after another answer. Errors as of `submit`; after `OutOfMemory` the lane may have been let go.
+    pub fn release<R: Wait>(&self, rt: &R, seat: &mut Seat) -> Result<bool, Error>
+        requires own { seat.old.inner.table_id ≡ self.now.shared.table.shared.table_id }
+        requires share { 0 < (claim_of seat.old.inner.me).share }
+        ensures own { (seat.new.inner.table_id ≡ seat.old.inner.table_id) × (seat.new.lane ≡ seat.old.lane) }
+        ensures only { Grew (by_let_go seat.old.lane) (claim_of seat.old.inner.me) (claim_of seat.new.inner.me) }
+        ensures releases { Releases seat.old.lane seat.old.receipts.items seat.new.receipts.items result seat.old.inner.me seat.new.inner.me }
+    {
+        let (did, copied) = seat.apply(rt, self.alloc, &self.shared, Release);
+        match settle(did, copied) {
+            Ok(true) => {}
+            Ok(false) => return Ok(false),
+            Err(e) => return Err(e),
+        }
+        seat.leave(rt, &self.shared);
+        Ok(true)
+    }
+
+    /// Gives the session up, so that no thread waits for one that can't go on: each later call of its seats answers `OutOfMemory`, or
+    /// `BackgroundTaskFailure` where the session keeps a fault. Nothing is added to the journal.
+    pub fn give_up<R: Wait>(&self, rt: &R, seat: &mut Seat)
+        requires own { seat.old.inner.table_id ≡ self.now.shared.table.shared.table_id }
+        ensures own { (seat.new.inner.table_id ≡ seat.old.inner.table_id) × (seat.new.lane ≡ seat.old.lane) }
+        ensures only { Grew (by_nothing seat.old.lane) (claim_of seat.old.inner.me) (claim_of seat.new.inner.me) }
+        ensures gives_up { Holds (λ y z more. GivingUp y z) seat.old.inner.me seat.new.inner.me }
+    {
+        let _ = seat.apply(rt, self.alloc, &self.shared, GiveUp);
+    }
 }
 
 /// What an event answered, unless a receipt is wanting.
-pub(crate) fn settle(
-    did: Result<bool, Error>,
+pub(crate) fn settle<T: Drop>(
+    did: Result<T, Error>,
     copied: Result<(), OutOfMemory>,
-) -> Result<bool, Error>
+) -> Result<T, Error>
     ensures { result ≡ settled did copied }
 {
     match did {

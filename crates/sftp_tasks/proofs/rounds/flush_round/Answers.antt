@@ -105,7 +105,8 @@ returns-in-Ok-copied-clause-flushes g c =
     let flushed : Flushed m end before after = record {
       mid = n;
       bytes = joined c.in-Ok-Some.handed.chunk;
-      hands = hold_map shown_of m n h r.0;
+      frames = c.in-Ok-Some.handed.frames;
+      hands = hold_map shown_of m n h (r.0, r.1.0);
       sent = subst (λ (l : List (List ℕ)). SentBy {T = Unit {0}} (joined l) before after (Ok tt)) pieces c.in-Ok.ensures;
       notes = noted c.apply-did.new.self.lane n end c.apply-told.ensures.held;
     } in
@@ -126,7 +127,8 @@ returns-in-Ok-copied-clause-stops g c =
     let flushed : Flushed m end before after = record {
       mid = n;
       bytes = joined c.in-Ok-Some.handed.chunk;
-      hands = hold_map shown_of m n h r.0;
+      frames = c.in-Ok-Some.handed.frames;
+      hands = hold_map shown_of m n h (r.0, r.1.0);
       sent = subst (λ (l : List (List ℕ)). SentBy {T = Unit {0}} (joined l) before after (Ok tt)) pieces c.in-Ok.ensures;
       notes = noted c.apply-did.new.self.lane n end c.apply-told.ensures.held;
     } in
@@ -147,7 +149,8 @@ returns-clause-stops g c =
     let flushed : Flushed m end before after = record {
       mid = n;
       bytes = joined c.in-Ok-Some.handed.chunk;
-      hands = hold_map shown_of m n h r.0;
+      frames = c.in-Ok-Some.handed.frames;
+      hands = hold_map shown_of m n h (r.0, r.1.0);
       sent = subst (λ (l : List (List ℕ)). SentBy {T = Unit {0}} (joined l) before after (Ok tt)) pieces c.in-Ok.ensures;
       notes = noted c.apply-did.new.self.lane n end c.apply-told.ensures.held;
     } in

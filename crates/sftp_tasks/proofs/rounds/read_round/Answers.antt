@@ -111,6 +111,7 @@ returns-in-Ok-looked-clause-reads g c =
       looks = looks;
       whole = c.in-Ok.ensures.whole;
       got = c.in-Ok.ensures.log;
+      caused = c.in-Ok.ensures.caused;
       takes = took n end c.in-Ok.frame c.apply-did.result.0 (Ok tt) c.in-Ok-did.is c.apply-did.ensures.held;
     } in
     subst (λ (r : Result Bool Error). IfOk r (λ did. Reads did m end before after)) (sym c.settle-in-Ok-looked.ensures)
@@ -131,6 +132,7 @@ returns-in-Ok-looked-clause-stops g c =
       looks = looks;
       whole = c.in-Ok.ensures.whole;
       got = c.in-Ok.ensures.log;
+      caused = c.in-Ok.ensures.caused;
       takes = took n end c.in-Ok.frame c.apply-did.result.0 (Ok tt) c.in-Ok-did.is c.apply-did.ensures.held;
     } in
     subst (λ (r : Result Bool Error). IfErr r (λ e. ReadStops e m end before after)) (sym c.settle-in-Ok-looked.ensures)
@@ -161,6 +163,7 @@ returns-in-Err-looked-clause-stops g c =
       looks = looks;
       whole = c.in-Ok.ensures.whole;
       got = c.in-Ok.ensures.log;
+      caused = c.in-Ok.ensures.caused;
       takes = took n end c.in-Ok.frame c.apply-did.result.0 (Ok tt) c.in-Ok-did.is c.apply-did.ensures.held;
     } in
     inr (inr (inr (refl, (true, reads))))

@@ -8,6 +8,7 @@ use Rattle.sftp_tasks.specs.Entries.{by_cancel}
 use Rattle.sftp_tasks.specs.LockedEvents.{Cancelling, OfLane}
 use Rattle.sftp_tasks.specs.Shows.{shown_of}
 use Rattle.sftp_tasks.proofs.CallLaws.{answers_of}
+use Rattle.sftp_tasks.proofs.PollLaws.{share_stays}
 use Rattle.sftp_tasks.proofs.shared_sftp.SharedSftp.cancel.Goals as goal
 
 pub returns : goal.returns
@@ -19,7 +20,7 @@ returns g c =
     let new = c.apply-did.new.self.receipts.items in
     let h = c.apply-did.ensures.held in
     let Does = OfLane Cancelling (Ok false) lane in record {
-      own = (c.apply-did.ensures.own, c.apply-did.ensures.lane);
+      own = (c.apply-did.ensures.own, c.apply-did.ensures.lane, share_stays m n h);
       only = grew_applied shown_of by_cancel lane no_allowance m n h;
       answers = subst (λ (r : Result Bool Error). Answers Does old new r m n) (sym c.settle.ensures)
           (answers_of Does c.apply-did.result.0 c.apply-did.result.1 old new m n h);

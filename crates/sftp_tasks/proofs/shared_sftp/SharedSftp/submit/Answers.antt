@@ -8,6 +8,7 @@ use Rattle.sftp_tasks.specs.Entries.{by_submit}
 use Rattle.sftp_tasks.specs.LockedEvents.{OfLane, Submitting}
 use Rattle.sftp_tasks.specs.Shows.{shown_of}
 use Rattle.sftp_tasks.proofs.CallLaws.{answers_of, first_receipt}
+use Rattle.sftp_tasks.proofs.PollLaws.{share_stays}
 use Rattle.sftp_tasks.proofs.shared_sftp.SharedSftp.submit.Goals as goal
 
 pub returns : goal.returns
@@ -23,7 +24,7 @@ returns g c =
     (λ (r : Result Bool Error). Answers Does old new r m n) (sym c.settle.ensures)
     (answers_of Does c.apply-did.result.0 c.apply-did.result.1 old new m n h) in
     record {
-      own = (c.apply-did.ensures.own, c.apply-did.ensures.lane);
+      own = (c.apply-did.ensures.own, c.apply-did.ensures.lane, share_stays m n h);
       only = grew_applied shown_of by_submit lane no_allowance m n h;
       answers = answers;
       first = first_receipt lane c.args.call old new c.settle.result m n answers;

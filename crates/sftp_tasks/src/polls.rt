@@ -1,0 +1,137 @@
+//! A lane that is polled until its calls have ended.
+ghost use Rattle.std.specs.Prelude.{◌≡◌, Ok, IfErr, IfOk, IfSome};
+ghost use Rattle.session_seats.specs.Holds.{Grew, claim_of, sight_by};
+ghost use Rattle.sftp_tasks.specs.Calls.{Answers, InOneHold, PollsSeat, PollsUntil, SeesEnded, calls_in, is_ended};
+ghost use Rattle.sftp_tasks.specs.Entries.{by_step};
+ghost use Rattle.sftp_tasks.specs.SessionEvents.{AllEnded, PollsIn, Refuses, polled_of};
+ghost use Rattle.session_work.specs.Working.{past_of};
+
+use crate::events::Poll;
+use crate::locked::Locked;
+use crate::shared_sftp::{Seat, SharedSftp, settle};
+use session_driver::Stepped;
+use sftp_model::Error;
+use std::sync::Wait;
+
+/// What one poll of a lane found.
+#[derive(Clone, Copy)]
+pub enum Polled {
+    /// All calls of the lane have ended, so many.
+    Ended(u64),
+    /// A request was submitted, or a call ended.
+    Moved,
+    /// The lane's call waits for a reply, or for the session to open.
+    Waits,
+}
+
+impl Polled {
+    /// Whether all calls have ended.
+    fn is_ended(&self) -> bool
+        ensures { result ≡ is_ended self.now }
+    {
+        matches!(self, Polled::Ended(_))
+    }
+
+    /// How many calls have ended, where all have.
+    fn calls(&self) -> u64
+        ensures { result ≡ calls_in self.now }
+    {
+        match self {
+            Polled::Ended(calls) => *calls,
+            _ => 0,
+        }
+    }
+}
+
+/// What a step tells of its lane.
+fn polled_of(event: Stepped) -> Polled
+    ensures { result ≡ polled_of event }
+{
+    match event {
+        Stepped::Nothing => Polled::Waits,
+        Stepped::Submitted => Polled::Moved,
+        Stepped::Ended => Polled::Moved,
+    }
+}
+
+impl Locked {
+    /// How many calls a lane has, where all have ended. Errors as of `step`.
+    fn ended_calls(&self, lane: u32) -> Result<Option<u64>, Error>
+        ensures ended { IfOk result (λ calls. IfSome calls (AllEnded self.now.session.lanes (past_of self.now.session.work) lane)) }
+        ensures refused { IfErr result (λ e. Refuses e self.now.session self.now.session) }
+    {
+        match self.check() {
+            Ok(()) => {}
+            Err(e) => return Err(e),
+        }
+        if !self.session.is_done(lane) {
+            return Ok(None);
+        }
+        // For the contract: the journal is a run, so no more calls have ended than there are.
+        let _ = self.session.journal();
+        Ok(Some(self.session.outcomes(lane).len() as u64))
+    }
+
+    /// One step of a lane, unless all of its calls have ended. Errors as of `step`.
+    pub fn poll(&mut self, lane: u32) -> Result<Polled, Error>
+        ensures rest { self.new ≡ record self.old { session = self.new.session } }
+        ensures polls { IfOk result (λ p. PollsIn lane self.old.session self.new.session p) }
+        ensures refused { IfErr result (λ e. Refuses e self.old.session self.new.session) }
+    {
+        match self.ended_calls(lane) {
+            Ok(None) => {}
+            Ok(Some(calls)) => return Ok(Polled::Ended(calls)),
+            Err(e) => return Err(e),
+        }
+        match self.step(lane) {
+            Ok(event) => Ok(polled_of(event)),
+            Err(e) => Err(e),
+        }
+    }
+}
+
+impl SharedSftp {
+    /// Steps the seat's lane until all of its calls have ended, and answers how many it has; it waits for VERSION and for replies
+    /// meanwhile. 0 where the seat names no lane. `BackgroundTaskFailure` once the session keeps a fault, and `OutOfMemory` for want of
+    /// memory.
+    pub fn poll_wait<R: Wait>(&self, rt: &R, seat: &mut Seat) -> Result<u64, Error>
+        requires own { seat.old.inner.table_id ≡ self.now.shared.table.shared.table_id }
+        ensures own { (seat.new.inner.table_id ≡ seat.old.inner.table_id) × (seat.new.lane ≡ seat.old.lane)
+            × ((claim_of seat.new.inner.me).share ≡ (claim_of seat.old.inner.me).share) }
+        ensures only { Grew (by_step seat.old.lane) (claim_of seat.old.inner.me) (claim_of seat.new.inner.me) }
+        ensures polls { PollsUntil seat.old.lane result seat.old.inner.me seat.new.inner.me }
+        ensures ended { IfOk result (λ calls. SeesEnded seat.old.lane calls (sight_by seat.new.inner.me)) }
+    {
+        for _ in rt.forever() {
+            let seen = self.shared.changes(rt);
+            let polled = match self.poll(rt, seat) {
+                Ok(polled) => polled,
+                Err(e) => return Err(e),
+            };
+            if polled.is_ended() {
+                return Ok(polled.calls());
+            }
+            self.pause(rt, polled, seen);
+        }
+        unreachable!()
+    }
+
+    /// Polls the seat's lane once.
+    fn poll<R: Wait>(&self, rt: &R, seat: &mut Seat) -> Result<Polled, Error>
+        requires own { seat.old.inner.table_id ≡ self.now.shared.table.shared.table_id }
+        ensures own { (seat.new.inner.table_id ≡ seat.old.inner.table_id) × (seat.new.lane ≡ seat.old.lane)
+            × ((claim_of seat.new.inner.me).share ≡ (claim_of seat.old.inner.me).share) }
+        ensures only { Grew (by_step seat.old.lane) (claim_of seat.old.inner.me) (claim_of seat.new.inner.me) }
+        ensures polls { InOneHold (PollsSeat seat.old.lane) result seat.old.inner.me seat.new.inner.me }
+    {
+        let (did, copied) = seat.apply(rt, self.alloc, &self.shared, Poll);
+        settle(did, copied)
+    }
+
+    /// Waits for a change where the poll found nothing to do.
+    fn pause<R: Wait>(&self, rt: &R, polled: Polled, seen: u64) {
+        if let Polled::Waits = polled {
+            self.shared.wait(rt, seen);
+        }
+    }
+}
