@@ -1,0 +1,9 @@
+pub mod Keys
+pub mod ViewOps
+pub mod Plain
+pub mod Blocks
+pub mod Viewed
+pub mod Kept
+pub mod Caches
+pub mod ViewRows
+pub mod OneCall
