@@ -34,6 +34,7 @@ use Rattle.sftp_model.specs.declared.outcome.Outcome.{Outcome}
 use Rattle.plan_model.specs.declared.call.Call.{Call}
 use Rattle.plan_model.specs.Lanes.{is_within, weight}
 use Rattle.machine_model.specs.Components.{components}
+use Rattle.view_model.specs.Calls.{AreFew, is_light}
 use Rattle.view_model.specs.Blocks.{Kept, block_count, dropped, first_block, hit}
 use Rattle.view_model.specs.Keys.{key_of, same_key}
 use Rattle.view_model.specs.Viewed.{
@@ -74,15 +75,6 @@ use Rattle.view_model.specs.declared.answer.Answer.{Answer}
 use Rattle.view_model.specs.declared.answer.Answer.TheVariants as answer
 use Rattle.view_model.specs.declared.op.ViewOp.{ViewOp}
 use Rattle.view_model.specs.declared.op.ViewOp.TheVariants as op
-
--- a call that a lane may be given, and that counts 2
-abbrev pub is_light : Call → Bool
-is_light c = is_within c && (weight c == 2)
-
--- calls that are so, and no more than so many
-pub record AreFew (most : ℕ) (calls : List Call) : Type 0 where
-  pub light : list_all is_light calls ≡ true
-  pub few : length calls ≤ most
 
 -- whatever comes of them, no more calls than so many are made
 pub record Within {T : Type 0} (most : ℕ) (f : Doing T) : Type 0 where

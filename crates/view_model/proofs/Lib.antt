@@ -4,3 +4,4 @@ pub mod CountLaws
 pub mod AddedLaws
 pub mod EndedLaws
 pub mod CacheLaws
+pub mod LengthLaws

@@ -4,10 +4,17 @@
 
 mod answer;
 mod cache;
+pub mod calls;
+mod found;
 mod key;
+mod length;
 mod op;
+mod text;
 
 pub use answer::Answer;
 pub use cache::BlockCache;
+pub use found::found_in;
 pub use key::BlockKey;
+pub use length::passes_length;
 pub use op::ViewOp;
+pub use text::write_view;

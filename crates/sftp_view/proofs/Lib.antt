@@ -1,0 +1,3 @@
+pub mod OneCall
+pub mod RunLaws
+pub mod FewLaws

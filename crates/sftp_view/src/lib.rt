@@ -1,0 +1,2 @@
+//! A view of remote files.
+#![tactic(auto)]
