@@ -26,7 +26,7 @@ later_journal s before (e ∷ past) j (inl same) = subst (λ (w : List Entry). I
 later_journal s before (e ∷ past) j (inr l) = (l.0, later_journal s before past j l.1)
 
 module _ {S : Type 0} where
-  went_once : (c : Call) (a b : At S) → IsIdle a → Went (call_of 0 c) a b → HasEndedOnce 0 c a.seen.stage.past b.seen.stage.past
+  pub went_once : (c : Call) (a b : At S) → IsIdle a → Went (call_of 0 c) a b → HasEndedOnce 0 c a.seen.stage.past b.seen.stage.past
   went_once c a b idle went =
       ended_once a.seen.setting 0 went.whole.rounds c a.seen.stage.past (added_to a.seen.stage 0 c) b.seen.stage refl
       (later_journal a.seen.setting a.seen.stage.past b.seen.stage.past idle.run went.later) idle.run idle.done went.whole.went went.whole.done

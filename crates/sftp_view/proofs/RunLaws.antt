@@ -64,6 +64,15 @@ module _ {S : Type 0} where
   pub runs_self : {T U : Type 0} (f : Doing T) (u : U) (a : At S) → IsIdle a → Runs f (λ (w : U). f) a a (Ok u)
   runs_self f u a here = record { ongoing = idle going_on a.seen a.link tt tt here.ready; idle = here; does = does_self f a.seen.stage.past }
 
+  -- nothing was done, and the journal is as it was
+  pub runs_still : {T : Type 0} (f : Doing T) (a b : At S) → Ongoing going_on a b (Ok tt) → IsIdle b → b.seen.stage.past ≡ a.seen.stage.past
+      → Runs f (λ (u : Unit {0}). f) a b (Ok tt)
+  runs_still f a b part here past = record {
+    ongoing = part;
+    idle = here;
+    does = subst (λ (p : List Entry). Does f f a.seen.stage.past p) (sym past) (does_self f a.seen.stage.past);
+  }
+
   -- one thing, and then another
   pub then_on : {T U V : Type 0} {f : Doing T} {r : U → Doing T} {q : V → Doing T} {a b c : At S} {u : U} {result : Result V Error}
       → Runs f r a b (Ok u) → Runs (r u) q b c result → Runs f q a c result

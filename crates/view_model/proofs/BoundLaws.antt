@@ -67,7 +67,8 @@ use Rattle.view_model.specs.Viewed.{
   was_gathered,
   was_read,
   writing,
-  written_by,
+  put_at,
+  written,
   ◌>>=◌,
 }
 use Rattle.view_model.specs.ViewOps.{passes_length}
@@ -225,10 +226,9 @@ within_get block capacity offset len path kept =
     after : Gathered → Doing Answered
     after g = pure (answered (got_of (offset - first_block block offset * block) len g.found) g.kept)
 
-within_written : (offset : ℕ) (content : List ℕ) (opened : Found) → Within 3 (written_by offset content opened)
-within_written offset content opened =
-    within_unless 3 opened (λ code. answer.Refused code) (makes (seeking offset) >>= λ sought. writes)
-    (within_call 2 (seeking offset) (λ sought. writes) refl (λ sought. within_call 1 (writing content) after refl (λ found. within_closing (put_of found))))
+within_put_at : (offset : ℕ) (content : List ℕ) → Within 3 (put_at offset content)
+within_put_at offset content =
+    within_call 2 (seeking offset) (λ sought. writes) refl (λ sought. within_call 1 (writing content) after refl (λ found. within_closing (put_of found)))
   where
     after : Found → Doing Answer
     after found = makes closing >>= λ closed. pure (put_of found)
@@ -236,10 +236,15 @@ within_written offset content opened =
     writes : Doing Answer
     writes = makes (writing content) >>= after
 
+within_written : (path : List ℕ) (offset : ℕ) (content : List ℕ) → Within 4 (written path offset content)
+within_written path offset content =
+    within_call 3 (opening makes_and_writes path) (λ opened. unless_refused opened (λ code. answer.Refused code) (put_at offset content)) refl
+    (λ opened. within_unless 3 opened (λ code. answer.Refused code) (put_at offset content) (within_put_at offset content))
+
 within_put : (path : List ℕ) (offset : ℕ) (content : List ℕ) (kept : Kept (List ℕ)) → Within 4 (put_by path offset content kept)
 within_put path offset content kept =
-    within_call 3 (opening makes_and_writes path) (λ opened. written_by offset content opened >>= after) refl
-    (λ opened. within_bind 3 0 (written_by offset content opened) after (within_written offset content opened)
+    within_weaker (4 + 0) 4 (put_by path offset content kept) (omega arith)
+    (within_bind 4 0 (written path offset content) after (within_written path offset content)
     (λ a. within_pure 0 (answered a (dropped (components path) kept))))
   where
     after : Answer → Doing Answered

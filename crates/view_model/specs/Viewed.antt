@@ -139,15 +139,20 @@ read_on block (suc most) bytes = do
   found ← makes (reading (block - length bytes))
   was_read block bytes found (λ more. read_on block most more)
 
--- A block is read: until it is full, the file ends or a READ is refused. Each READ but the last brings a byte.
-abbrev pub fetched : ℕ → List ℕ → ℕ → Doing Found
-fetched block path n = do
-  opened ← makes (opening reads_only path)
-  unless_refused opened (λ code. Err code) (do
+-- A block of an open file: it is read until it is full, the file ends or a READ is refused, and the file is closed. Each
+-- READ but the last brings a byte.
+abbrev pub read_at : ℕ → ℕ → Doing Found
+read_at block n = do
     sought ← makes (seeking (n * block))
     found ← read_on block block []
     closed ← makes closing
-    pure found)
+    pure found
+
+-- a block of a file
+abbrev pub fetched : ℕ → List ℕ → ℕ → Doing Found
+fetched block path n = do
+    opened ← makes (opening reads_only path)
+    unless_refused opened (λ code. Err code) (read_at block n)
 
 -- ---- the blocks of a get
 
@@ -207,20 +212,25 @@ abbrev pub put_of : Found → Answer
 put_of (Ok bytes) = answer.Put
 put_of (Err code) = answer.Refused code
 
--- what is written to a file that was opened, unless that was refused
-abbrev pub written_by : ℕ → List ℕ → Found → Doing Answer
-written_by offset content opened = unless_refused opened (λ code. answer.Refused code) (do
-  sought ← makes (seeking offset)
-  written ← makes (writing content)
-  closed ← makes closing
-  pure (put_of written))
+-- bytes are written to an open file, and it is closed
+abbrev pub put_at : ℕ → List ℕ → Doing Answer
+put_at offset content = do
+    sought ← makes (seeking offset)
+    written ← makes (writing content)
+    closed ← makes closing
+    pure (put_of written)
+
+-- bytes are written to a file
+abbrev pub written : List ℕ → ℕ → List ℕ → Doing Answer
+written path offset content = do
+    opened ← makes (opening makes_and_writes path)
+    unless_refused opened (λ code. answer.Refused code) (put_at offset content)
 
 -- the blocks of its name are dropped, whatever came of it
 abbrev pub put_by : List ℕ → ℕ → List ℕ → Kept (List ℕ) → Doing Answered
 put_by path offset content kept = do
-  opened ← makes (opening makes_and_writes path)
-  a ← written_by offset content opened
-  pure (answered a (dropped (components path) kept))
+    a ← written path offset content
+    pure (answered a (dropped (components path) kept))
 
 -- one operation
 abbrev pub op_by : ℕ → ℕ → ViewOp → Kept (List ℕ) → Doing Answered

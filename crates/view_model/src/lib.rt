@@ -5,6 +5,7 @@
 mod answer;
 mod cache;
 pub mod calls;
+mod part;
 mod found;
 mod key;
 mod length;
@@ -13,6 +14,7 @@ mod text;
 
 pub use answer::Answer;
 pub use cache::BlockCache;
+pub use part::cut;
 pub use found::found_in;
 pub use key::BlockKey;
 pub use length::passes_length;
