@@ -70,6 +70,22 @@ module _ {S : Type 0} where
       → Works (get_by old.block old.cache.capacity path offset len old.cache.kept) q 2097152 old link new link_now (Err error.OutOfMemory)
   get_lost old new path offset len link link_now found n work = record { runs = no_room_then work.runs; stays = tt }
 
+  -- the numbers of the blocks, as they are worked out
+  pub got_part : (old new : View) (path : List ℕ) (offset len b w : ℕ) (link link_now : LinkView S) (found : Found) (said : Answer)
+      → b ≡ old.block → w ≡ len
+      → 1 ≤ old.block → old.block ≤ 65536 → len ≤ 1048576
+      → said ≡ got_of (offset - offset / b * b) len found
+      → Works (gathered old.block old.cache.capacity path (offset / b) ((offset + w - 1) / b - offset / b + 1) [] old.cache.kept)
+      (λ f. pure (record { found = f; kept = new.cache.kept })) ((offset + w - 1) / b - offset / b + 1) old link new link_now (Ok found)
+      → Works (get_by old.block old.cache.capacity path offset len old.cache.kept) (λ a. pure (answered a new.cache.kept)) 2097152 old link new link_now (Ok said)
+  got_part old new path offset len b w link link_now found said is wide some short most same work =
+      got_blocks old new path offset len link link_now found said some short most
+      (subst (λ (x : ℕ). said ≡ got_of (offset - offset / x * x) len found) is same)
+      (subst (λ (x : ℕ). Works (gathered old.block old.cache.capacity path (offset / x) ((offset + len - 1) / x - offset / x + 1) [] old.cache.kept)
+      (λ f. pure (record { found = f; kept = new.cache.kept })) ((offset + len - 1) / x - offset / x + 1) old link new link_now (Ok found)) is
+      (subst (λ (y : ℕ). Works (gathered old.block old.cache.capacity path (offset / b) ((offset + y - 1) / b - offset / b + 1) [] old.cache.kept)
+      (λ f. pure (record { found = f; kept = new.cache.kept })) ((offset + y - 1) / b - offset / b + 1) old link new link_now (Ok found)) wide work))
+
 -- ---- put
 
 abbrev pub after_put : List ℕ → Kept (List ℕ) → Answer → Doing Answered

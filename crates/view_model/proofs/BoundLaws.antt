@@ -32,7 +32,6 @@ use Rattle.std.specs.Map.{lookup}
 use Rattle.std.proofs.lemmas.List.{length-append}
 use Rattle.sftp_model.specs.declared.outcome.Outcome.{Outcome}
 use Rattle.plan_model.specs.declared.call.Call.{Call}
-use Rattle.plan_model.specs.Lanes.{is_within, weight}
 use Rattle.machine_model.specs.Components.{components}
 use Rattle.view_model.specs.Calls.{AreFew, is_light}
 use Rattle.view_model.specs.Blocks.{Kept, block_count, dropped, first_block, hit}

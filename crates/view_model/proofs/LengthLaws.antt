@@ -1,6 +1,6 @@
 -- How long the OPEN of a path is.
 use Rattle.std.proofs.Common.{◌≡◌, ◌+◌, ℕ, List, length, arith, ap}
-use Rattle.std.specs.Prelude.{Bool, nat_lt}
+use Rattle.std.specs.Prelude.{nat_lt}
 use Rattle.sftp_model.specs.Frames.{request_body}
 use Rattle.sftp_model.specs.Numbers.{MAX_BODY_LEN}
 use Rattle.sftp_wire.proofs.Lengths.{lengths}
