@@ -1,0 +1,10 @@
+pub mod OneCall
+pub mod RunLaws
+pub mod FewLaws
+pub mod IdleLaws
+pub mod CallLaws
+pub mod BlockLaws
+pub mod WorkLaws
+pub mod GatherLaws
+pub mod PutLaws
+pub mod OpLaws

@@ -1,0 +1,55 @@
+-- What a session of one lane does by calls that are added to it one at a time.
+use Rattle.std.specs.Prelude.{◌≡◌, ◌≤◌, ◌*◌, ◌&&◌, ◌==◌, ℕ, Bool, true, false, List, [], ◌∷◌, ◌++◌, length, None, Result, Ok, Err, IfOk, OnOk}
+use Rattle.std.specs.List.{list_all}
+use Rattle.sftp_model.specs.declared.error.Error.{Error}
+use Rattle.sftp_model.specs.declared.outcome.Outcome.{Outcome}
+use Rattle.plan_model.specs.declared.call.Call.{Call}
+use Rattle.plan_model.specs.declared.call.Lane.{Lane}
+use Rattle.plan_model.specs.Lanes.{is_within, weight}
+use Rattle.session_model.specs.declared.entry.Entry.{Entry}
+use Rattle.session_model.specs.Calls.{added, current}
+use Rattle.session_model.specs.Journals.{IsJournal}
+use Rattle.session_model.specs.Readings.{outcomes_of, was_let_go}
+use Rattle.session_driver.specs.Ongoing.{At, IsReady, Ongoing, Part}
+use Rattle.view_model.specs.Calls.{AreFew, call_limit}
+use Rattle.view_model.specs.Viewed.{ComesTo, Doing}
+
+-- the lane, which has no calls but those that are added
+abbrev pub one_lane : List Lane
+one_lane = record { calls = [] } ∷ []
+
+-- an open session of this lane, which has no call left and was not let go
+pub record IsIdle {Service : Type 0} (x : At Service) : Type 0 where
+  pub ready : IsReady x
+  pub lanes : x.seen.setting.lanes ≡ one_lane
+  pub run : IsJournal x.seen.setting x.seen.stage.past
+  pub done : current x.seen.setting x.seen.stage.past 0 ≡ None
+  pub held : (lane : ℕ) → was_let_go x.seen.stage.past lane ≡ false
+
+-- Whatever comes of the calls that this makes, they and those that were made before are few.
+pub record MayDo {T : Type 0} (whole : Doing T) (past : List Entry) : Type 0 where
+  pub few : (outcomes : List Outcome) → AreFew call_limit (added past 0 ++ (whole outcomes).calls)
+
+-- Calls of this were made since, and this is left to do.
+pub record Does {T : Type 0} (whole rest : Doing T) (before now : List Entry) : Type 0 where
+  pub made : List Call
+  pub came : List Outcome
+  pub comes : ComesTo whole rest made came
+  pub calls : added now 0 ≡ added before 0 ++ made
+  pub outcomes : outcomes_of now 0 ≡ outcomes_of before 0 ++ came
+
+-- any part of a run
+abbrev pub going_on : Part
+going_on = record { whole = λ s before now. Unit {0}; so_far = λ s before past. Unit {0} }
+
+-- how it ended, whatever it gave
+abbrev pub end_of : {T : Type 0} → Result T Error → Result (Unit {0}) Error
+end_of (Ok x) = Ok tt
+end_of (Err e) = Err e
+
+-- By an idle session this was done as far as what is left, and the session is idle again; or it stopped.
+pub record Runs {Service T U : Type 0} (whole : Doing T) (rest : U → Doing T) (before now : At Service)
+    (result : Result U Error) : Type 0 where
+  pub ongoing : Ongoing going_on before now (end_of result)
+  pub idle : OnOk result (IsIdle now)
+  pub does : IfOk result (λ u. Does whole (rest u) before.seen.stage.past now.seen.stage.past)

@@ -1,0 +1,11 @@
+pub mod Keys
+pub mod ViewOps
+pub mod Plain
+pub mod Blocks
+pub mod Calls
+pub mod Viewed
+pub mod Kept
+pub mod Caches
+pub mod AnswerText
+pub mod ViewRows
+pub mod OneCall

@@ -1,0 +1,14 @@
+use sftp_values::ByteText;
+
+/// What an operation is answered.
+#[derive(Debug, Drop, PartialEq, Eq)]
+pub enum Answer {
+    /// The bytes of the file.
+    Got(ByteText),
+    /// All bytes were written.
+    Put,
+    /// A request was refused, with this status.
+    Refused { code: u32 },
+    /// The path is too long for a frame.
+    TooLong,
+}
