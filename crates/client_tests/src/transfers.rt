@@ -1,20 +1,23 @@
 // Calls on a file over a scripted core: what each sends, what each gives for a reply, a refusal and a fault, and where
 // the file stands then (draft-ietf-secsh-filexfer-02, sections 6.3 to 6.5 and 6.8). The file has the handle `h`, whose OPEN
 // has the id 0, so that each request has the id 1.
-ghost use Rattle.std.specs.Prelude.{◌≡◌, false, IsSome};
+ghost use Rattle.std.specs.Prelude.{◌≡◌, false, IfOk, IsSome};
 ghost use Rattle.sftp_core.specs.Info.{info_of};
 ghost use Rattle.call_state.specs.Asked.{IsReady};
 ghost use Rattle.call_state.specs.Calls.{IsUnderWay};
 ghost use Rattle.call_state.specs.Keeping.{Keeps};
 ghost use Rattle.sftp_file.specs.Files.{file_at};
+ghost use Rattle.sftp_file.specs.Settles.{settling};
 
 use crate::buffered::opened;
-use crate::paths::{Seen, error_seen, greeted, may_ask, poll_seen, sends, takes};
+use crate::paths::{Seen, answer, error_seen, greeted, may_ask, poll_seen, sends, takes};
 use bytes::Bytes;
 use call_state::Call;
 use sftp_core::Core;
-use sftp_file::{File, OnFile, Poll, PollFile};
+use sftp_file::{File, OnFile, Poll, PollFile, StatusCall};
+use sftp_meta::{MetaDataBuilder, Permissions};
 use sftp_model::{Error, Fault, FormatKind};
+use std::process::Abort;
 use std::test::Fail;
 
 /// A VERSION that offers `fsync@openssh.com`.
@@ -139,6 +142,73 @@ fn reads_and_writes(rt: HostRuntime) -> Result<(), Fail> {
     assert_eq!(rt; met, ROWS.len());
     Ok(())
 }
+
+/// Starts the call of this number, which a STATUS ends.
+fn start_setting(file: &mut File, core: &mut Core, number: u8) -> Result<StatusCall, Error>
+    requires { IsReady core.old }
+    ensures { IfOk result (IsUnderWay settling core.new) }
+{
+    match number {
+        0 => file.start_set_len(core, 5),
+        1 => file.start_set_permissions(core, Permissions::from(0o644)),
+        2 => file.start_set_metadata(core, MetaDataBuilder::new().len(5).create()),
+        _ => file.start_sync_all(core),
+    }
+}
+
+/// What such a call gives for a reply, where this is its request.
+fn set(rt: &impl Abort, file: &mut File, core: &mut Core, row: (u8, &[u8]), reply: &[u8]) -> Seen {
+    assert!(rt; may_ask(core));
+    match start_setting(file, core, row.0) {
+        Ok(call) => poll_seen(&answer(rt, core, call, row.1, reply)),
+        Err(e) => error_seen(&e),
+    }
+}
+
+/// The number of the first row that is not met, done or refused, or of them all.
+fn first_unset(rt: &impl Abort, file: &mut File, core: &mut Core) -> usize {
+    let mut met = 0;
+    for row in SETTINGS {
+        if set(rt, file, core, row, DONE) != Seen::Given
+            || set(rt, file, core, row, REFUSED) != Seen::Status(4)
+        {
+            return met;
+        }
+        met = met.saturating_add(1);
+    }
+    met
+}
+
+#[test]
+fn settings_of_a_file(rt: HostRuntime) -> Result<(), Fail> {
+    let alloc = rt.alloc();
+    let mut core = greeted(alloc, OFFERS_FSYNC)?;
+    let mut file = opened(alloc, &mut core)?;
+    let met = first_unset(&rt, &mut file, &mut core);
+    file.let_go(core.end());
+    assert_eq!(rt; met, SETTINGS.len());
+    Ok(())
+}
+
+/// The number of each call, and its request.
+const SETTINGS: [(u8, &[u8]); 4] = [
+    (
+        0,
+        b"\0\0\0\x16\x0a\0\0\0\x01\0\0\0\x01h\0\0\0\x01\0\0\0\0\0\0\0\x05",
+    ),
+    (
+        1,
+        b"\0\0\0\x12\x0a\0\0\0\x01\0\0\0\x01h\0\0\0\x04\0\0\x01\xa4",
+    ),
+    (
+        2,
+        b"\0\0\0\x16\x0a\0\0\0\x01\0\0\0\x01h\0\0\0\x01\0\0\0\0\0\0\0\x05",
+    ),
+    (
+        3,
+        b"\0\0\0\x1f\xc8\0\0\0\x01\0\0\0\x11fsync@openssh.com\0\0\0\x01h",
+    ),
+];
 
 const ROWS: [Row; 8] = [
     // the offset moves by what came, and not by what was asked for
