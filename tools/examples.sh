@@ -49,6 +49,10 @@ done
 timeout 60 "$program" list "$room/socket" "$room/files" | sort >"$room/names" || fail "list"
 printf '%s\n' . .. 0 1 1000000 32768 32769 | sort | cmp -s - "$room/names" || fail "the names that were listed differ"
 
+printf '32769\n1000000\n' >"$room/wanted"
+timeout 60 "$program" sizes "$room/socket" "$room/files/32769" "$room/files/1000000" >"$room/to" || fail "sizes"
+cmp -s "$room/wanted" "$room/to" || fail "the sizes that were told differ"
+
 if timeout 60 "$program" get "$room/socket" "$room/none" >"$room/to" 2>"$room/why"; then
     fail "a file that isn't there was got"
 fi

@@ -16,7 +16,7 @@ use Rattle.sftp_file.specs.Files.{FileValue, Starts}
 use Rattle.sftp_file.specs.Reads.{ReadValue, reading}
 use Rattle.sftp_file.specs.Writes.{WriteAllValue, writing_all}
 use Rattle.sftp_client.specs.Sessions.{SftpValue, with_core}
-use Rattle.sftp_client.specs.Waits.{HasFinished, HasFinishedOn}
+use Rattle.sftp_client.specs.Waits.{HasFinishedOn}
 use Rattle.sftp_client.proofs.Waiting.{finish_keeps}
 use Rattle.client_examples.specs.Files.{AreReads, HasFile, IsRead, IsReadToEnd, IsUsable, IsWritten}
 

@@ -1,6 +1,5 @@
 -- Files of a server that a program writes and reads whole, one call after another.
-use Rattle.std.specs.Prelude.{◌≡◌, ◌<◌, ◌-◌, ◌^◌, ℕ, zero, suc, List, [], ◌++◌, Option, None, Some, Result, Ok, Err, IsSome}
-use Rattle.sftp_model.specs.declared.error.Error.{Error}
+use Rattle.std.specs.Prelude.{◌≡◌, ◌<◌, ◌-◌, ◌^◌, ℕ, zero, suc, List, [], ◌++◌, Option, None, Some, Ok, IsSome}
 use Rattle.sftp_model.specs.declared.open_options.OpenOptions.{OpenOptions}
 use Rattle.plan_model.specs.TransferPlans.{read_next, write_all_next}
 use Rattle.sftp_core.specs.Core.{Core, IsGrant}

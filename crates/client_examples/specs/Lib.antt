@@ -1,3 +1,4 @@
 pub mod Files
 pub mod Directories
 pub mod Tasks
+pub mod Sizes

@@ -2,17 +2,26 @@
 //! call after another.
 #![tactic(auto)]
 
+ghost use Rattle.std.specs.Prelude.{IfOk};
+ghost use Rattle.sftp_link.specs.Views.{stream_view};
+ghost use Rattle.client_examples.specs.Files.{IsUsable};
+
 mod directories;
 mod files;
+mod sizes;
 mod tasks;
 
 pub use directories::list;
 pub use files::{get, put};
 use sftp_client::{Sftp, SftpOptions};
-use sftp_link::{Dial, ReadSource, Sink, UnixDial, WriteSink, read_up_to, write_all};
+use sftp_link::{Dial, ReadSource, UnixDial, UnixLink, WriteSink, read_up_to, write_all};
+pub use sizes::sizes;
 use std::env;
 use std::process::ExitCode;
 pub use tasks::{Task, do_task};
+
+/// Why an example wasn't done by its session.
+const REFUSED: &str = "the server refused, or the session failed";
 
 /// The most bytes of a file that is written.
 const MAX_CONTENT: usize = 67_108_864;
@@ -21,10 +30,12 @@ const MAX_CONTENT: usize = 67_108_864;
 const USAGE: &str = "client_examples put|get|list SOCKET PATH\n\
     put: writes standard input to a file of the server that listens at SOCKET\n\
     get: prints a file\n\
-    list: prints the names of a directory, a line each\n";
+    list: prints the names of a directory, a line each\n\
+    client_examples sizes SOCKET PATH PATH\n\
+    sizes: prints the sizes of two files, which are asked for at once\n";
 
-/// `client_examples put SOCKET PATH` writes standard input to a file, `get SOCKET PATH` prints one, and
-/// `list SOCKET PATH` prints the names of a directory.
+/// `client_examples put SOCKET PATH` writes standard input to a file, `get SOCKET PATH` prints one, `list SOCKET PATH`
+/// prints the names of a directory, and `sizes SOCKET PATH PATH` the sizes of two files.
 fn main(rt: HostRuntime) -> ExitCode {
     match run(&rt) {
         Ok(()) => ExitCode::from(0),
@@ -47,6 +58,12 @@ fn run(rt: &HostRuntime) -> Result<(), &'static str> {
         return rt
             .print(USAGE)
             .map_err(|_| "standard output can't be written");
+    }
+    if let [word, socket, a, b] = words.as_slice() {
+        return match word.as_str() {
+            "sizes" => print_sizes(rt, socket, a.as_bytes(), b.as_bytes()),
+            _ => Err("only sizes takes two paths"),
+        };
     }
     let [word, socket, path] = words.as_slice() else {
         return Err("put, get or list, the path of a socket, and a path are needed");
@@ -82,4 +99,28 @@ fn over(rt: &HostRuntime, socket: &str, task: Task, path: &[u8]) -> Result<(), &
     write_all(&mut WriteSink::new(rt.stdout()), &printed).map_err(
         |_| "standard output can't be written",
     )
+}
+
+/// Prints the sizes of two files of the server that listens at a socket.
+fn print_sizes(rt: &HostRuntime, socket: &str, a: &[u8], b: &[u8]) -> Result<(), &'static str> {
+    let mut sftp = session(rt, socket)?;
+    let (x, y) = sizes(rt.alloc(), &mut sftp, a, b).map_err(|_| REFUSED)?;
+    for size in [x, y] {
+        match size {
+            Some(n) => println!(rt; "{n}"),
+            None => println!(rt; "unknown"),
+        }
+        .map_err(|_| "standard output can't be written")?;
+    }
+    Ok(())
+}
+
+/// A session with the server that listens at a socket.
+fn session(rt: &HostRuntime, socket: &str) -> Result<Sftp<UnixLink>, &'static str>
+    ensures { IfOk result (IsUsable stream_view) }
+{
+    let link = UnixDial::new(rt)
+        .dial(socket)
+        .map_err(|_| "nothing answers at the socket")?;
+    Sftp::new(rt.alloc(), link, &SftpOptions::new()).map_err(|_| "the session didn't open")
 }
