@@ -4,3 +4,6 @@ pub mod DirectoryLaws
 pub mod ListingLaws
 pub mod ListingSteps
 pub mod CallSteps
+pub mod PartLaws
+pub mod WriteSteps
+pub mod WriteStarts

@@ -6,3 +6,6 @@ pub mod Listings
 pub mod ListingPlans
 pub mod ListingRows
 pub mod Entries
+pub mod Grants
+pub mod Parts
+pub mod WholeWrites

@@ -1,7 +1,8 @@
 //! How the calls on paths begin: with a request that fits a frame, or a refusal.
-ghost use Rattle.std.specs.Prelude.{◌≡◌, true, List, ℕ, IsSome};
+ghost use Rattle.std.specs.Prelude.{◌≡◌, ◌≤◌, true, List, ℕ, IsSome};
 ghost use Rattle.sftp_model.specs.Answers.{expected_of};
 ghost use Rattle.sftp_model.specs.declared.answers.Expected.TheVariants as expected;
+ghost use Rattle.sftp_model.specs.Numbers.{MAX_TRANSFER_LEN};
 ghost use Rattle.plan_model.specs.Moves.{is_too_long, offers};
 ghost use Rattle.plan_model.specs.PathPlans.{path_done, path_told};
 ghost use Rattle.sftp_core.specs.Core.{is_call};
@@ -16,7 +17,7 @@ use bitflags::Flags;
 use call_state::{Asking, Call, PlanMachine};
 use sftp_core::Core;
 use sftp_file::{AttrsCall, Settling, StatusCall, Telling};
-use sftp_model::{Error, Extensions, IoKind, Request};
+use sftp_model::{Error, Extensions, Facts, IoKind, Request};
 use sftp_wire::request_len;
 
 /// Whether the body of a request passes 1048575 bytes.
@@ -35,6 +36,25 @@ pub(crate) fn offers(core: &Core, extension: Extensions) -> bool
         unreachable!()
     };
     info.extensions.bits() & extension.bits() != 0
+}
+
+/// What a session fixes.
+pub(crate) fn facts(core: &Core) -> Facts
+    requires { IsSome (info_of core.now.phase) }
+    ensures is { result ≡ facts_of core.now }
+    ensures write_range { (1 ≤ result.write_len) × (result.write_len ≤ MAX_TRANSFER_LEN) }
+{
+    let options = core.options();
+    let Some(info) = core.info() else {
+        unreachable!()
+    };
+    Facts {
+        extensions: info.extensions,
+        read_len: info.read_len,
+        write_len: info.write_len,
+        write_limit: (options.get_tokio_compat_file_write_limit() as u64).max(1),
+        read_window: options.get_read_window().max(1).min(64),
+    }
 }
 
 /// Submits the first request of a call on paths. `IOError(PathTooLong)`, exactly where its body would pass 1048575

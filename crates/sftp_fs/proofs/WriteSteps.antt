@@ -1,0 +1,599 @@
+-- How whole writes go on.
+use Rattle.std.proofs.Common.{
+  ◌≡◌,
+  ◌==◌,
+  ◌∙◌,
+  arith,
+  refl,
+  sym,
+  ap,
+  subst,
+  ℕ,
+  true,
+  false,
+  List,
+  [],
+  ◌∷◌,
+  length,
+  Option,
+  Some,
+  None,
+  Result,
+  Ok,
+  Err,
+  inl,
+  inr,
+  IsSome,
+}
+use Rattle.std.proofs.lemmas.Bool.Decides.{nat_tests}
+use Rattle.sftp_model.specs.declared.error.Error.{Error}
+use Rattle.sftp_model.specs.declared.error.Error.TheVariants as error
+use Rattle.sftp_model.specs.declared.error.Fault.{Fault}
+use Rattle.sftp_model.specs.declared.outcome.Outcome.TheVariants as outcome
+use Rattle.sftp_model.specs.declared.reply.Reply.{Reply}
+use Rattle.sftp_model.specs.declared.reply.Reply.TheVariants as reply
+use Rattle.sftp_model.specs.declared.request.Request.{Request}
+use Rattle.sftp_model.specs.declared.request.Request.TheVariants as request
+use Rattle.sftp_model.specs.declared.slot.Facts.{Facts}
+use Rattle.sftp_model.specs.declared.slot.Move.TheVariants.{Ask, Done, Wait}
+use Rattle.sftp_model.specs.declared.slot.Site.{Site}
+use Rattle.plan_model.specs.Moves.{Answers, Own, Plan, handle_of, on_handle, once_answered, overflows}
+use Rattle.plan_model.specs.TransferPlans.{next_part, part_len}
+use Rattle.sftp_core.specs.Core.{Core, at, poll_leaves, reply_in}
+use Rattle.sftp_core.specs.Info.{info_of}
+use Rattle.sftp_core.specs.declared.phase.Phase.{Phase}
+use Rattle.sftp_core.specs.declared.place.Place.{Place}
+use Rattle.sftp_core.specs.declared.place.Place.TheVariants.{Answered, Granted, Waiting}
+use Rattle.call_state.proofs.Keeping.{cancels_by, grants_kept, keeps_unchanged, still_under_way}
+use Rattle.call_state.specs.declared.told.Told.TheVariants as told
+use Rattle.call_state.proofs.Polling.{polls_few}
+use Rattle.call_state.specs.Told.{reply_of}
+use Rattle.sftp_core.specs.Grant.{GrantValue}
+use Rattle.call_state.specs.declared.asking.Asking.{Asking}
+use Rattle.call_state.specs.declared.poll.Poll.{Poll}
+use Rattle.call_state.specs.declared.poll.Poll.TheVariants.{Pending, Ready}
+use Rattle.call_state.specs.declared.stage.Stage.{Stage}
+use Rattle.call_state.specs.declared.stage.Stage.TheVariants as stage
+use Rattle.call_state.specs.Asked.{IsReady, request_of}
+use Rattle.call_state.specs.Keeping.{Keeps, KeepsGrants}
+use Rattle.sftp_file.proofs.Starting.{StartsAny}
+use Rattle.call_state.specs.Calls.{Asks, Begins, CallValue, cancelled, Cancels, is_ended, IsHeldAt, IsLeft, IsLeftAt, IsOver, IsUnderWay, Polled, polled_core, Started, Stepped, Tells, TellsAt}
+use Rattle.call_state.specs.Machines.{GoesBehind}
+use Rattle.sftp_fs.specs.Directories.{WithHandle, granted_left}
+use Rattle.sftp_fs.specs.Grants.{granting}
+use Rattle.sftp_fs.specs.Parts.{IsPart, PartValue, first_part, rest_from, writing_parts}
+use Rattle.sftp_fs.specs.WholeWrites.{AsksPart, Began, Begun, closed, fault_told, IsOverBy, IsOwned, IsUnbegun, IsUnbegunBy, IsWriteHeld, IsWriteLeft, KeepsBesides, KeepsOthers, unended, WriteAnswer, writes_content, Wrote, WroteOn}
+use Rattle.sftp_fs.specs.declared.fs_write.Writing.{Writing}
+use Rattle.sftp_fs.specs.declared.fs_write.Writing.TheVariants as writing
+use Rattle.sftp_fs.specs.declared.granting.Granting.{Granting}
+use Rattle.sftp_fs.proofs.CallSteps.{ended_leaves}
+use Rattle.sftp_fs.proofs.PartLaws.{one_joined, part_length}
+
+-- ---- a grant is closed
+
+pub closes_besides : (old mid new : Core) (grant : GrantValue) → KeepsGrants old mid → new ≡ closed mid grant → KeepsBesides old new grant.id
+closes_besides old mid new grant k close =
+    let cancels : Cancels mid new (stage.Came (told.Granted grant)) =
+    cancels_by mid new (stage.Came (told.Granted grant))
+    (λ ticket e. absurd (let clash : ◌≡◌ {A = Stage} (stage.Came (told.Granted grant)) (stage.Asked ticket) = e in cc)) close in
+    record { grants = λ id handle users own here. cancels.grants id handle users own (k.grants id handle users here) }
+
+pub grants_same : (old new : Core) → new ≡ old → KeepsGrants old new
+grants_same old new same = grants_kept old new (keeps_unchanged old new same)
+
+-- ---- the WRITE of a part
+
+pub asks_part : (m : PartValue) (asking : Asking) (site : Site) (answers : Answers) → IsPart m asking
+    → handle_of (answers 1) ≡ m.handle → rest_from m.done m.rest site m.facts [] answers ≡ Ask (request_of asking)
+asks_part m asking site answers h bears =
+    let some : (length m.rest == 0) ≡ false = grind (arith, nat_tests, h.some) in
+    let len : length (next_part m.facts m.rest) ≡ part_len m.facts m.rest = part_length m.facts m.rest in
+    let below : overflows m.done (length (next_part m.facts m.rest)) ≡ false = grind (arith, nat_tests, h.room, len) in
+    rw (some, below, bears)
+    (ap (λ (bytes : List ℕ). Ask (request.Write m.handle m.done bytes)) (sym (one_joined (next_part m.facts m.rest)))
+    ∙ ap (λ (a : Asking). Ask (request_of a)) (sym h.asks))
+
+pub first_behind : (handle content : List ℕ) (facts : Facts) (m : PartValue) (asking : Asking) (site : Site) (plan : Plan) (answers : Answers)
+    → m ≡ first_part handle facts content → IsPart m asking → handle_of (answers 1) ≡ handle
+    → ((later : Own) → plan later answers ≡ rest_from 0 content site facts later answers)
+    → GoesBehind writing_parts site plan answers asking m
+first_behind handle content facts m asking site plan answers is h bears goes =
+    let known : handle_of (answers 1) ≡ m.handle = bears ∙ ap (λ (x : PartValue). x.handle) (sym is) in
+    let same : (later : Own) → plan later answers ≡ rest_from m.done m.rest site m.facts later answers =
+    λ later. goes later ∙ ap (λ (x : PartValue). rest_from x.done x.rest site x.facts later answers) (sym is) in
+    record {
+      asks = same [] ∙ asks_part m asking site answers h known;
+      rest = λ later. same ((m.place, request_of asking) ∷ later);
+      knows = known;
+    }
+
+-- ---- a part under way
+
+parts_wrote : (facts : Facts) (old new : Core) (grant : GrantValue) (call next : CallValue PartValue) (told : WriteAnswer)
+    (site : Site) (plan : Plan) (answers : Answers) → is_ended next.stage ≡ false → IsOver next.stage told
+    → Polled writing_parts site plan answers old new call next told
+    → Wrote site facts plan answers old new (writing.Parts grant call) (writing.Parts grant next) told
+parts_wrote facts old new grant call next Pending site plan answers on over (inl h) =
+    inl (record {
+      place = call.machine.place;
+      waits = h.waits;
+      unfailed = h.unfailed;
+      core = h.core;
+      same = ap (λ (x : CallValue PartValue). writing.Parts grant x) h.same;
+    })
+parts_wrote facts old new grant call next Pending site plan answers on over (inr h) = inr h
+parts_wrote facts old new grant call next (Ready (Err error.OutOfMemory)) site plan answers on over (inl h) =
+    absurd (let clash : ◌≡◌ {A = WriteAnswer} (Ready (Err error.OutOfMemory)) Pending = h.pending in cc)
+parts_wrote facts old new grant call next (Ready (Err error.OutOfMemory)) site plan answers on over (inr h) = h
+parts_wrote facts old new grant call next (Ready (Ok u)) site plan answers on over h =
+    absurd (let clash : true ≡ false = sym over ∙ on in cc)
+parts_wrote facts old new grant call next (Ready (Err e)) site plan answers on over h =
+    absurd (let clash : true ≡ false = sym over ∙ on in cc)
+
+parts_over : (stage : Stage) (grant : GrantValue) (next : CallValue PartValue) (told : WriteAnswer) → is_ended stage ≡ false → IsOver stage told
+    → IsOverBy (writing.Parts grant next) told
+parts_over stage grant next Pending on over = refl
+parts_over stage grant next (Ready (Err error.OutOfMemory)) on over = refl
+parts_over stage grant next (Ready (Ok u)) on over = absurd (let clash : true ≡ false = sym over ∙ on in cc)
+parts_over stage grant next (Ready (Err e)) on over = absurd (let clash : true ≡ false = sym over ∙ on in cc)
+
+pub parts_on : (facts : Facts) (old new : Core) (grant : GrantValue) (call next : CallValue PartValue) (told : WriteAnswer)
+    → IsOwned old grant → Stepped writing_parts old new call next told → is_ended next.stage ≡ false
+    → WroteOn facts old new (writing.Parts grant call) (writing.Parts grant next) told
+parts_on facts old new grant call next told owned h on =
+    record {
+      polled = λ site plan answers left tells. parts_wrote facts old new grant call next told site plan answers on h.over
+          (h.polled site plan answers left tells);
+      held = (h.grants.grants grant.id grant.handle 1 owned, record { over = on; held = h.held });
+      over = parts_over next.stage grant next told on h.over;
+      grants = h.grants;
+    }
+
+parts_finished : (facts : Facts) (old mid new : Core) (grant : GrantValue) (call next : CallValue PartValue) (told : WriteAnswer)
+    (site : Site) (plan : Plan) (answers : Answers) → is_ended next.stage ≡ true → IsOver next.stage told → new ≡ closed mid grant
+    → Polled writing_parts site plan answers old mid call next told
+    → Wrote site facts plan answers old new (writing.Parts grant call) writing.Ended told
+parts_finished facts old mid new grant call next Pending site plan answers ended over close h =
+    absurd (let clash : true ≡ false = sym ended ∙ over in cc)
+parts_finished facts old mid new grant call next (Ready (Err error.OutOfMemory)) site plan answers ended over close h =
+    absurd (let clash : true ≡ false = sym ended ∙ over in cc)
+parts_finished facts old mid new grant call next (Ready (Err (error.BackgroundTaskFailure fault))) site plan answers ended over close (inl h) =
+    absurd (let clash : ◌≡◌ {A = WriteAnswer} (Ready (Err (error.BackgroundTaskFailure fault))) Pending = h.pending in cc)
+parts_finished facts old mid new grant call next (Ready (Err (error.BackgroundTaskFailure fault))) site plan answers ended over close (inr h) =
+    (h.0, h.2, (mid, close))
+parts_finished facts old mid new grant call next (Ready (Ok u)) site plan answers ended over close (inl h) =
+    absurd (let clash : ◌≡◌ {A = WriteAnswer} (Ready (Ok u)) Pending = h.pending in cc)
+parts_finished facts old mid new grant call next (Ready (Ok u)) site plan answers ended over close (inr h) =
+    (h.0, close ∙ ap (λ (x : Core). closed x grant) h.2)
+parts_finished facts old mid new grant call next (Ready (Err e)) site plan answers ended over close (inl h) =
+    absurd (let clash : ◌≡◌ {A = WriteAnswer} (Ready (Err e)) Pending = h.pending in cc)
+parts_finished facts old mid new grant call next (Ready (Err e)) site plan answers ended over close (inr h) =
+    (h.0, close ∙ ap (λ (x : Core). closed x grant) h.2)
+
+finished_over : (stage : Stage) (told : WriteAnswer) → is_ended stage ≡ true → IsOver stage told → IsOverBy writing.Ended told
+finished_over stage Pending ended over = absurd (let clash : true ≡ false = sym ended ∙ over in cc)
+finished_over stage (Ready (Err error.OutOfMemory)) ended over = absurd (let clash : true ≡ false = sym ended ∙ over in cc)
+finished_over stage (Ready (Ok u)) ended over = refl
+finished_over stage (Ready (Err e)) ended over = refl
+
+pub parts_end : (facts : Facts) (old mid late new : Core) (grant : GrantValue) (call next : CallValue PartValue) (told : WriteAnswer)
+    → Stepped writing_parts old mid call next told → is_ended next.stage ≡ true → late ≡ cancelled mid next.stage → new ≡ closed late grant
+    → WroteOn facts old new (writing.Parts grant call) writing.Ended told
+parts_end facts old mid late new grant call next told h ended left close =
+    let same : new ≡ closed mid grant = close ∙ ap (λ (x : Core). closed x grant) (left ∙ ended_leaves mid next.stage ended) in
+    record {
+      polled = λ site plan answers here tells. parts_finished facts old mid new grant call next told site plan answers ended h.over same
+          (h.polled site plan answers here tells);
+      held = tt;
+      over = finished_over next.stage told ended h.over;
+      grants = closes_besides old mid new grant h.grants same;
+    }
+
+-- ---- the first part
+
+start_asks : (s : Stage) (ticket : ℕ) → s ≡ stage.Asked ticket → s ≡ stage.Ready → ⊥
+start_asks s ticket asked ready = let clash : ◌≡◌ {A = Stage} (stage.Asked ticket) stage.Ready = sym asked ∙ ready in cc
+
+-- it was asked for
+pub begun_asking : (facts : Facts) (old new : Core) (grant : GrantValue) (content : List ℕ) (m : PartValue) (asking : Asking)
+    (call : CallValue PartValue) → m ≡ first_part grant.handle facts content → IsPart m asking → IsOwned old grant
+    → StartsAny writing_parts asking m old new (Ok call) → Begins writing_parts asking m old new call → Keeps old new
+    → Begun facts old new grant content (writing.Parts grant call) Pending
+begun_asking facts old new grant content m asking call is part owned started begins keeps =
+    record {
+      polled = λ site plan answers left. asks_of
+          (started site (λ e. Done (outcome.Refused e) site) plan answers
+          (first_behind grant.handle content facts m asking site plan answers is part left.0 left.1));
+      held = (keeps.grants.grants grant.id grant.handle 1 owned, begins.under_way);
+      over = refl;
+      grants = keeps.grants;
+    }
+  where
+    asks_of : {site : Site} {plan : Plan} {answers : Answers} → Started writing_parts site (λ e. Done (outcome.Refused e) site) plan answers old new (Ok call)
+        → Asks writing_parts site plan answers old new call
+    asks_of (inl h) = h
+    asks_of (inr h) = absurd (start_asks call.stage begins.ticket begins.awaits h.1)
+
+-- there was none
+pub begun_empty : (facts : Facts) (old new : Core) (grant : GrantValue) (content : List ℕ) → content ≡ [] → new ≡ closed old grant
+    → Begun facts old new grant content writing.Ended (Ready (Ok tt))
+begun_empty facts old new grant content empty close =
+    record {
+      polled = λ site plan answers left. (left.1 [] ∙ ap (λ (bytes : List ℕ). rest_from 0 bytes site facts [] answers) empty, close);
+      held = tt;
+      over = refl;
+      grants = closes_besides old old new grant (grants_same old old refl) close;
+    }
+
+-- it was not
+unbegun_by : (facts : Facts) (old new : Core) (grant : GrantValue) (content : List ℕ) (e : Error) (result : WriteAnswer × Writing)
+    (site : Site) (plan : Plan) (answers : Answers) → IsUnbegun old new grant content e result
+    → IsWriteLeft site facts plan answers (writing.Opened grant content)
+    → Started writing_parts site (λ e. Done (outcome.Refused e) site) plan answers old old (Err e)
+    → Began site facts plan answers old new grant result.1 result.0
+unbegun_by facts old new grant content (error.BackgroundTaskFailure fault) result site plan answers h left started =
+    subst (λ (r : WriteAnswer). Began site facts plan answers old new grant result.1 r) (sym h.0) (started.0, started.2, h.2)
+unbegun_by facts old new grant content error.OutOfMemory result site plan answers h left started =
+    subst (λ (r : WriteAnswer). Began site facts plan answers old new grant result.1 r) (sym h.0)
+    (subst (λ (q : Writing). IsWriteLeft site facts plan answers q) (sym h.1) left, h.2)
+unbegun_by facts old new grant content e result site plan answers h left started =
+    subst (λ (r : WriteAnswer). Began site facts plan answers old new grant result.1 r) (sym h.0)
+    (subst (λ (q : Writing). IsWriteLeft site facts plan answers q) (sym h.1) left, h.2)
+
+-- a start that was refused left the core
+refused_same : (site : Site) (plan : Plan) (answers : Answers) (old mid : Core) (e : Error)
+    → Started {V = Unit {0}} writing_parts site (λ e. Done (outcome.Refused e) site) plan answers old mid (Err e) → mid ≡ old
+refused_same site plan answers old mid error.OutOfMemory h = h
+refused_same site plan answers old mid (error.BackgroundTaskFailure fault) h = h.1
+refused_same site plan answers old mid e h = h.1
+
+unbegun_grants : (old new : Core) (grant : GrantValue) (content : List ℕ) (f : Option Fault) (result : WriteAnswer × Writing)
+    → IsUnbegunBy old new grant content f result → KeepsOthers old new (writing.Opened grant content) result.1
+unbegun_grants old new grant content (Some fault) result h =
+    subst (λ (q : Writing). KeepsOthers old new (writing.Opened grant content) q) (sym h.1)
+    (closes_besides old old new grant (grants_same old old refl) h.2)
+unbegun_grants old new grant content None result h =
+    subst (λ (q : Writing). KeepsOthers old new (writing.Opened grant content) q) (sym h.1) (grants_same old new h.2)
+
+unbegun_held : (old new : Core) (grant : GrantValue) (content : List ℕ) (f : Option Fault) (result : WriteAnswer × Writing)
+    → IsOwned old grant → IsUnbegunBy old new grant content f result → IsWriteHeld new result.1 × IsOverBy result.1 result.0
+unbegun_held old new grant content (Some fault) result owned h = (
+  subst (λ (q : Writing). IsWriteHeld new q) (sym h.1) tt,
+  subst (λ (q : Writing). IsOverBy q result.0) (sym h.1) (subst (λ (r : WriteAnswer). IsOverBy writing.Ended r) (sym h.0) refl),
+)
+unbegun_held old new grant content None result owned h = (
+  subst (λ (q : Writing). IsWriteHeld new q) (sym h.1) (subst (λ (x : Core). IsOwned x grant) (sym h.2) owned),
+  subst (λ (q : Writing). IsOverBy q result.0) (sym h.1)
+      (subst (λ (r : WriteAnswer). IsOverBy (writing.Opened grant content) r) (sym h.0) refl),
+)
+
+pub begun_refused : (facts : Facts) (old mid new : Core) (grant : GrantValue) (content : List ℕ) (m : PartValue) (asking : Asking)
+    (e : Error) (result : WriteAnswer × Writing) → m ≡ first_part grant.handle facts content → IsPart m asking → IsOwned old grant
+    → StartsAny writing_parts asking m old mid (Err e) → IsUnbegun mid new grant content e result
+    → Begun facts old new grant content result.1 result.0
+begun_refused facts old mid new grant content m asking e result is part owned started h =
+    let nowhere_left : Site = record { slots = []; directory = [] } in
+    let granted : Answers = λ place. Some (reply.Handle grant.handle) in
+    let same : mid ≡ old = refused_same nowhere_left (rest_from 0 content nowhere_left facts) granted old mid e
+    (started nowhere_left (λ e. Done (outcome.Refused e) nowhere_left) (rest_from 0 content nowhere_left facts) granted
+    (first_behind grant.handle content facts m asking nowhere_left (rest_from 0 content nowhere_left facts) granted is part refl
+    (λ later. refl))) in
+    let here : IsUnbegun old new grant content e result = subst (λ (x : Core). IsUnbegun x new grant content e result) same h in
+    let stands = unbegun_held old new grant content (fault_told e) result owned here in
+    record {
+      polled = λ site plan answers left. unbegun_by facts old new grant content e result site plan answers here left
+          (subst (λ (x : Core). Started {V = Unit {0}} writing_parts site (λ e. Done (outcome.Refused e) site) plan answers old x (Err e)) same
+          (started site (λ e. Done (outcome.Refused e) site) plan answers
+          (first_behind grant.handle content facts m asking site plan answers is part left.0 left.1)));
+      held = stands.0;
+      over = stands.1;
+      grants = unbegun_grants old new grant content (fault_told e) result here;
+    }
+
+-- ---- the OPEN
+
+-- a machine that awaits a HANDLE is what is left of such a plan, whatever is done with the handle
+left_any : (core : Core) (call : CallValue Granting) (w : WithHandle) (answers : Answers) → IsUnderWay granting core call
+    → IsLeft granting w (granted_left w) answers call
+left_any core call w answers h = left_at call.stage h.over h.held
+  where
+    left_at : (s : Stage) → is_ended s ≡ false → IsHeldAt granting core call.machine s → IsLeftAt granting w (granted_left w) answers call.machine s
+    left_at stage.Ended over held = tt
+    left_at stage.Ready over held = absurd held
+    left_at (stage.Unsent asking) over held = absurd (let clash : false ≡ true = held.1 in cc)
+    left_at (stage.Asked ticket) over held = (tt, λ later. refl)
+    left_at (stage.Came told) over held = (tt, λ later. refl)
+
+-- from a plan at some of its own requests
+left_later : (core : Core) (call : CallValue Granting) (w : WithHandle) (plan : Plan) (answers : Answers) (later : Own) → IsUnderWay granting core call
+    → IsLeft granting w plan answers call
+    → IsLeft granting (w.0, λ handle own. w.1 handle later) (λ own a. plan later a) answers call
+left_later core call w plan answers later h left = left_at call.stage h.held left
+  where
+    left_at : (s : Stage) → IsHeldAt granting core call.machine s → IsLeftAt granting w plan answers call.machine s
+        → IsLeftAt granting (w.0, λ handle own. w.1 handle later) (λ own a. plan later a) answers call.machine s
+    left_at stage.Ended held l = tt
+    left_at stage.Ready held l = absurd held
+    left_at (stage.Unsent asking) held l = absurd (let clash : false ≡ true = held.1 in cc)
+    left_at (stage.Asked ticket) held l = (tt, λ own. l.1 later)
+    left_at (stage.Came told) held l = (tt, λ own. l.1 later)
+
+-- what a HANDLE leads to
+granted_goes : (w : WithHandle) (plan : Plan) (answers : Answers) (old mid : Core) (call next : CallValue Granting) (grant : GrantValue)
+    → Polled granting w plan answers old mid call next (Ready (Ok grant)) → plan [] answers ≡ w.1 grant.handle []
+granted_goes w plan answers old mid call next grant (inl h) =
+    absurd (let clash : ◌≡◌ {A = Poll (Result GrantValue Error)} (Ready (Ok grant)) Pending = h.pending in cc)
+granted_goes w plan answers old mid call next grant (inr h) = h.0
+
+granted_same : (w : WithHandle) (plan : Plan) (answers : Answers) (old mid : Core) (call next : CallValue Granting) (grant : GrantValue)
+    → Polled granting w plan answers old mid call next (Ready (Ok grant)) → mid ≡ polled_core old call.stage
+granted_same w plan answers old mid call next grant (inl h) =
+    absurd (let clash : ◌≡◌ {A = Poll (Result GrantValue Error)} (Ready (Ok grant)) Pending = h.pending in cc)
+granted_same w plan answers old mid call next grant (inr h) = h.2
+
+-- the handle is the one that was told
+same_handle : (site : Site) (there : Option Reply) (handle : List ℕ)
+    → once_answered 1 there (λ r. on_handle r site (λ h. Done (outcome.Bytes h) site)) ≡ Done (outcome.Bytes handle) site → handle_of there ≡ handle
+same_handle site None handle e = absurd cc
+same_handle site (Some (reply.Handle h)) handle e = cc
+same_handle site (Some (reply.Version version extensions)) handle e = absurd cc
+same_handle site (Some (reply.Status code message language)) handle e = absurd cc
+same_handle site (Some (reply.Content bytes)) handle e = absurd cc
+same_handle site (Some (reply.Names entries)) handle e = absurd cc
+same_handle site (Some (reply.Attrs attrs)) handle e = absurd cc
+same_handle site (Some (reply.Extended content)) handle e = absurd cc
+
+-- no further request is asked by an OPEN
+never_asks : (site : Site) (there : Option Reply) (r : Request)
+    → once_answered 1 there (λ r. on_handle r site (λ h. Done outcome.Done site)) ≡ Ask r → ⊥
+never_asks site None r e = cc
+never_asks site (Some (reply.Handle h)) r e = cc
+never_asks site (Some (reply.Version version extensions)) r e = cc
+never_asks site (Some (reply.Status code message language)) r e = cc
+never_asks site (Some (reply.Content bytes)) r e = cc
+never_asks site (Some (reply.Names entries)) r e = cc
+never_asks site (Some (reply.Attrs attrs)) r e = cc
+never_asks site (Some (reply.Extended content)) r e = cc
+
+waits_alone : (site : Site) (there : Option Reply) (place : ℕ)
+    → once_answered 1 there (λ r. on_handle r site (λ h. Done outcome.Done site)) ≡ Wait place → there ≡ None
+waits_alone site None place e = refl
+waits_alone site (Some (reply.Handle h)) place e = absurd cc
+waits_alone site (Some (reply.Version version extensions)) place e = absurd cc
+waits_alone site (Some (reply.Status code message language)) place e = absurd cc
+waits_alone site (Some (reply.Content bytes)) place e = absurd cc
+waits_alone site (Some (reply.Names entries)) place e = absurd cc
+waits_alone site (Some (reply.Attrs attrs)) place e = absurd cc
+waits_alone site (Some (reply.Extended content)) place e = absurd cc
+
+-- an OPEN that is under way still has no reply
+record IsStill (old mid : Core) (call next : CallValue Granting) (answers : Answers) : Type 0 where
+  core : mid ≡ old
+  unfailed : old.fault ≡ None
+  same : next ≡ call
+  missing : answers 1 ≡ None
+
+still : (site : Site) (answers : Answers) (old mid : Core) (call next : CallValue Granting) → IsUnderWay granting old call
+    → Tells granting old call answers → Stepped {V = GrantValue} granting old mid call next Pending → IsStill old mid call next answers
+still site answers old mid call next held tells h =
+    waits (h.polled (site, λ handle later. Done outcome.Done site) (granted_left (site, λ handle later. Done outcome.Done site)) answers
+    (left_any old call (site, λ handle later. Done outcome.Done site) answers held) tells)
+  where
+    waits : Polled {V = GrantValue} granting (site, λ handle later. Done outcome.Done site)
+        (granted_left (site, λ handle later. Done outcome.Done site)) answers old mid call next Pending
+        → IsStill old mid call next answers
+    waits (inl w) = record { core = w.core; unfailed = w.unfailed; same = w.same; missing = waits_alone site (answers 1) 1 w.waits }
+    waits (inr w) = absurd (never_asks site (answers 1) (request_of w.asking) w.behind.asks)
+
+left_now : (core : Core) (call : CallValue Granting) (w : WithHandle) (plan : Plan) (answers : Answers) → IsUnderWay granting core call
+    → IsLeft granting w plan answers call → plan [] answers ≡ granted_left w [] answers
+left_now core call w plan answers h left = now_at call.stage h.over h.held left
+  where
+    now_at : (s : Stage) → is_ended s ≡ false → IsHeldAt granting core call.machine s → IsLeftAt granting w plan answers call.machine s
+        → plan [] answers ≡ granted_left w [] answers
+    now_at stage.Ended over held l = absurd (let clash : true ≡ false = over in cc)
+    now_at stage.Ready over held l = absurd held
+    now_at (stage.Unsent asking) over held l = absurd (let clash : false ≡ true = held.1 in cc)
+    now_at (stage.Asked ticket) over held l = l.1 []
+    now_at (stage.Came told) over held l = l.1 []
+
+open_wrote : (facts : Facts) (old new : Core) (call next : CallValue Granting) (content : List ℕ) (told : Poll (Result GrantValue Error))
+    (site : Site) (plan : Plan) (answers : Answers) → IsUnderWay granting old call → Stepped granting old new call next told
+    → is_ended next.stage ≡ false → IsOver next.stage told → IsWriteLeft site facts plan answers (writing.Opening call content)
+    → Tells granting old call answers
+    → Wrote site facts plan answers old new (writing.Opening call content) (writing.Opening next content) (unended told)
+open_wrote facts old new call next content Pending site plan answers held h on over left tells =
+    let s = still site answers old new call next held tells h in
+    inl (record {
+      place = 1;
+      waits = left_now old call (writes_content content site facts answers) plan answers held left
+          ∙ rw s.missing refl;
+      unfailed = s.unfailed;
+      core = s.core;
+      same = ap (λ (x : CallValue Granting). writing.Opening x content) s.same;
+    })
+open_wrote facts old new call next content (Ready (Err error.OutOfMemory)) site plan answers held h on over left tells =
+    went (h.polled (writes_content content site facts answers) plan answers left tells)
+  where
+    went : Polled granting (writes_content content site facts answers) plan answers old new call next (Ready (Err error.OutOfMemory))
+        → Wrote site facts plan answers old new (writing.Opening call content) (writing.Opening next content) (Ready (Err error.OutOfMemory))
+    went (inl w) = absurd (let clash : ◌≡◌ {A = Poll (Result GrantValue Error)} (Ready (Err error.OutOfMemory)) Pending = w.pending in cc)
+    went (inr w) = w
+open_wrote facts old new call next content (Ready (Ok grant)) site plan answers held h on over left tells =
+    absurd (let clash : true ≡ false = sym over ∙ on in cc)
+open_wrote facts old new call next content (Ready (Err e)) site plan answers held h on over left tells =
+    absurd (let clash : true ≡ false = sym over ∙ on in cc)
+
+open_over : (s : Stage) (next : CallValue Granting) (content : List ℕ) (told : Poll (Result GrantValue Error)) → is_ended s ≡ false
+    → IsOver s told → IsOverBy (writing.Opening next content) (unended told)
+open_over s next content Pending on over = refl
+open_over s next content (Ready (Err error.OutOfMemory)) on over = refl
+open_over s next content (Ready (Ok grant)) on over = absurd (let clash : true ≡ false = sym over ∙ on in cc)
+open_over s next content (Ready (Err e)) on over = absurd (let clash : true ≡ false = sym over ∙ on in cc)
+
+pub open_on : (facts : Facts) (old new : Core) (call next : CallValue Granting) (content : List ℕ) (told : Poll (Result GrantValue Error))
+    → IsUnderWay granting old call → Stepped granting old new call next told → is_ended next.stage ≡ false
+    → WroteOn facts old new (writing.Opening call content) (writing.Opening next content) (unended told)
+open_on facts old new call next content told held h on =
+    record {
+      polled = λ site plan answers left tells. open_wrote facts old new call next content told site plan answers held h on h.over left tells;
+      held = record { over = on; held = h.held };
+      over = open_over next.stage next content told on h.over;
+      grants = h.grants;
+    }
+
+-- refused by the server or by a fault
+open_failed : (facts : Facts) (old mid : Core) (call next : CallValue Granting) (content : List ℕ) (e : Error)
+    (site : Site) (plan : Plan) (answers : Answers) → is_ended next.stage ≡ true → IsOver {V = GrantValue} next.stage (Ready (Err e))
+    → Polled {V = GrantValue} granting (writes_content content site facts answers) plan answers old mid call next (Ready (Err e))
+    → Wrote site facts plan answers old mid (writing.Opening call content) writing.Ended (Ready (Err e))
+open_failed facts old mid call next content error.OutOfMemory site plan answers ended over h =
+    absurd (let clash : true ≡ false = sym ended ∙ over in cc)
+open_failed facts old mid call next content (error.BackgroundTaskFailure fault) site plan answers ended over (inl h) =
+    absurd (let clash : ◌≡◌ {A = Poll (Result GrantValue Error)} (Ready (Err (error.BackgroundTaskFailure fault))) Pending = h.pending in cc)
+open_failed facts old mid call next content (error.BackgroundTaskFailure fault) site plan answers ended over (inr h) =
+    (h.0, h.2, (mid, inl refl))
+open_failed facts old mid call next content e site plan answers ended over (inl h) =
+    absurd (let clash : ◌≡◌ {A = Poll (Result GrantValue Error)} (Ready (Err e)) Pending = h.pending in cc)
+open_failed facts old mid call next content e site plan answers ended over (inr h) = (h.0, inl h.2)
+
+failed_over : (s : Stage) (e : Error) → is_ended s ≡ true → IsOver {V = GrantValue} s (Ready (Err e)) → IsOverBy writing.Ended (Ready (Err e))
+failed_over s error.OutOfMemory ended over = absurd (let clash : true ≡ false = sym ended ∙ over in cc)
+failed_over s e ended over = refl
+
+pub open_end : (facts : Facts) (old mid new : Core) (call next : CallValue Granting) (content : List ℕ) (e : Error)
+    → Stepped {V = GrantValue} granting old mid call next (Ready (Err e)) → is_ended next.stage ≡ true → new ≡ cancelled mid next.stage
+    → WroteOn facts old new (writing.Opening call content) writing.Ended (Ready (Err e))
+open_end facts old mid new call next content e h ended left =
+    let same : mid ≡ new = sym (left ∙ ended_leaves mid next.stage ended) in
+    record {
+      polled = λ site plan answers here tells.
+          subst (λ (x : Core). Wrote site facts plan answers old x (writing.Opening call content) writing.Ended (Ready (Err e))) same
+          (open_failed facts old mid call next content e site plan answers ended h.over
+          (h.polled (writes_content content site facts answers) plan answers here tells));
+      held = tt;
+      over = failed_over next.stage e ended h.over;
+      grants = tt;
+    }
+
+-- ---- behind the HANDLE
+
+began_opening : (site : Site) (facts : Facts) (plan : Plan) (answers : Answers) (old late new : Core) (call : CallValue Granting)
+    (content : List ℕ) (grant : GrantValue) (q : Writing) (result : WriteAnswer) → late ≡ polled_core old call.stage
+    → Began site facts plan answers late new grant q result
+    → Wrote site facts plan answers old new (writing.Opening call content) q result
+began_opening site facts plan answers old late new call content grant q Pending is h =
+    inr (subst (λ (x : Core). AsksPart site plan answers x new q) is h)
+began_opening site facts plan answers old late new call content grant q (Ready (Err error.OutOfMemory)) is h = (h.0, h.1 ∙ is)
+began_opening site facts plan answers old late new call content grant q (Ready (Err (error.BackgroundTaskFailure fault))) is h =
+    (subst (λ (x : Core). x.fault ≡ Some fault) is h.0, h.1, (late, inr (grant, h.2)))
+began_opening site facts plan answers old late new call content grant q (Ready (Ok u)) is h =
+    (h.0, inr (grant, h.1 ∙ ap (λ (x : Core). closed x grant) is))
+began_opening site facts plan answers old late new call content grant q (Ready (Err e)) is h =
+    (h.0, inr (grant, h.1 ∙ ap (λ (x : Core). closed x grant) is))
+
+both_kept : (a b c : Core) → KeepsGrants a b → KeepsGrants b c → KeepsGrants a c
+both_kept a b c h k = record { grants = λ id handle users here. k.grants id handle users (h.grants id handle users here) }
+
+others_behind : (old late new : Core) (call : CallValue Granting) (content : List ℕ) (grant : GrantValue) (q : Writing) → KeepsGrants old late
+    → KeepsOthers late new (writing.Opened grant content) q → KeepsOthers old new (writing.Opening call content) q
+others_behind old late new call content grant writing.Ended k h = tt
+others_behind old late new call content grant (writing.Opening other kept) k h = both_kept old late new k h
+others_behind old late new call content grant (writing.Opened other kept) k h = both_kept old late new k h
+others_behind old late new call content grant (writing.Parts other kept) k h = both_kept old late new k h
+
+pub open_begun : (facts : Facts) (old mid late new : Core) (call next : CallValue Granting) (content : List ℕ) (grant : GrantValue)
+    (q : Writing) (result : WriteAnswer) → IsUnderWay granting old call → Stepped granting old mid call next (Ready (Ok grant))
+    → is_ended next.stage ≡ true → late ≡ cancelled mid next.stage → Begun facts late new grant content q result
+    → WroteOn facts old new (writing.Opening call content) q result
+open_begun facts old mid late new call next content grant q result held h ended left begun =
+    record {
+      polled = λ site plan answers here tells.
+          (let w : WithHandle = writes_content content site facts answers in
+          let told : WithHandle = (site, λ handle later. Done (outcome.Bytes handle) site) in
+          let same : late ≡ polled_core old call.stage = left ∙ (ended_leaves mid next.stage ended
+          ∙ granted_same w plan answers old mid call next grant (h.polled w plan answers here tells)) in
+          let bears : handle_of (answers 1) ≡ grant.handle = same_handle site (answers 1) grant.handle
+          (granted_goes told (granted_left told) answers old mid call next grant
+          (h.polled told (granted_left told) answers (left_any old call told answers held) tells)) in
+          let goes : (later : Own) → plan later answers ≡ rest_from 0 content site facts later answers = λ later.
+          granted_goes (site, λ handle own. rest_from 0 content site facts later answers) (λ own a. plan later a) answers old mid call next grant
+          (h.polled (site, λ handle own. rest_from 0 content site facts later answers) (λ own a. plan later a) answers
+          (left_later old call w plan answers later held here) tells) in
+          began_opening site facts plan answers old late new call content grant q result same (begun.polled site plan answers (bears, goes)));
+      held = begun.held;
+      over = begun.over;
+      grants = others_behind old late new call content grant q
+          (both_kept old mid late h.grants (grants_same mid late (left ∙ ended_leaves mid next.stage ended))) begun.grants;
+    }
+
+began_opened : (site : Site) (facts : Facts) (plan : Plan) (answers : Answers) (old new : Core) (grant : GrantValue) (content : List ℕ)
+    (q : Writing) (result : WriteAnswer) → Began site facts plan answers old new grant q result
+    → Wrote site facts plan answers old new (writing.Opened grant content) q result
+began_opened site facts plan answers old new grant content q Pending h = inr h
+began_opened site facts plan answers old new grant content q (Ready (Err error.OutOfMemory)) h = h
+began_opened site facts plan answers old new grant content q (Ready (Err (error.BackgroundTaskFailure fault))) h = (h.0, h.1, (old, h.2))
+began_opened site facts plan answers old new grant content q (Ready (Ok u)) h = h
+began_opened site facts plan answers old new grant content q (Ready (Err e)) h = h
+
+pub opened_on : (facts : Facts) (old new : Core) (grant : GrantValue) (content : List ℕ) (q : Writing) (result : WriteAnswer)
+    → Begun facts old new grant content q result → WroteOn facts old new (writing.Opened grant content) q result
+opened_on facts old new grant content q result h =
+    record {
+      polled = λ site plan answers left tells. began_opened site facts plan answers old new grant content q result (h.polled site plan answers left);
+      held = h.held;
+      over = h.over;
+      grants = h.grants;
+    }
+
+-- ---- a core behind the poll of an OPEN
+
+phase_left : (core : Core) (ticket : ℕ) (fault : Option Fault) (p : Option Place) → (poll_leaves core ticket fault p).phase ≡ core.phase
+phase_left core ticket fault (Some (Answered expected (reply.Handle handle))) = refl
+phase_left core ticket fault (Some (Answered expected (reply.Version version extensions))) = refl
+phase_left core ticket fault (Some (Answered expected (reply.Status code message language))) = refl
+phase_left core ticket fault (Some (Answered expected (reply.Content bytes))) = refl
+phase_left core ticket fault (Some (Answered expected (reply.Names entries))) = refl
+phase_left core ticket fault (Some (Answered expected (reply.Attrs attrs))) = refl
+phase_left core ticket fault (Some (Answered expected (reply.Extended content))) = refl
+phase_left core ticket (Some f) (Some (Waiting expected sent wanted)) = refl
+phase_left core ticket None (Some (Waiting expected sent wanted)) = refl
+phase_left core ticket fault (Some (Granted handle users)) = refl
+phase_left core ticket fault None = refl
+
+ready_polled : (core : Core) (s : Stage) → IsReady core → IsReady (polled_core core s)
+ready_polled core (stage.Asked ticket) h =
+    record {
+      opened = subst (λ (p : Phase). IsSome (info_of p)) (sym (phase_left core ticket core.fault (at core ticket))) h.opened;
+      few = omega (arith, polls_few core ticket, h.few);
+    }
+ready_polled core stage.Ended h = h
+ready_polled core stage.Ready h = h
+ready_polled core (stage.Unsent asking) h = h
+ready_polled core (stage.Came told) h = h
+
+told_at : (core : Core) (m : Granting) (s : Stage) → (answers : Answers) × TellsAt granting core m s answers
+told_at core m (stage.Asked ticket) = (λ place. reply_in (at core ticket), refl)
+told_at core m (stage.Came told) = (λ place. Some (reply_of told), refl)
+told_at core m stage.Ended = (λ place. None, tt)
+told_at core m stage.Ready = (λ place. None, tt)
+told_at core m (stage.Unsent asking) = (λ place. None, tt)
+
+pub ready_behind : (old mid late : Core) (call next : CallValue Granting) (grant : GrantValue) → IsReady old → IsUnderWay granting old call
+    → Stepped granting old mid call next (Ready (Ok grant)) → is_ended next.stage ≡ true → late ≡ cancelled mid next.stage → IsReady late
+ready_behind old mid late call next grant ready held h ended left =
+    let w : WithHandle = (record { slots = []; directory = [] }, λ handle later. Done outcome.Done (record { slots = []; directory = [] })) in
+    let told = told_at old call.machine call.stage in
+    let same : late ≡ polled_core old call.stage = left ∙ (ended_leaves mid next.stage ended
+    ∙ granted_same w (granted_left w) told.0 old mid call next grant
+    (h.polled w (granted_left w) told.0 (left_any old call w told.0 held) told.1)) in
+    subst (λ (x : Core). IsReady x) (sym same) (ready_polled old call.stage ready)
+
+-- ---- others leave a write
+
+pub write_still : (old new : Core) (p : Writing) → Keeps old new → IsWriteHeld old p → IsWriteHeld new p
+write_still old new writing.Ended k h = tt
+write_still old new (writing.Opening call content) k h = still_under_way granting old new call k h
+write_still old new (writing.Opened grant content) k h = k.grants.grants grant.id grant.handle 1 h
+write_still old new (writing.Parts grant call) k h =
+    (k.grants.grants grant.id grant.handle 1 h.0, still_under_way writing_parts old new call k h.1)

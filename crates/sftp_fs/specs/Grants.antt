@@ -1,0 +1,32 @@
+-- An OPEN of a call that no slot holds the file of.
+use Rattle.std.specs.Prelude.{◌≡◌, false, Some, None, refl}
+use Rattle.sftp_model.specs.declared.answers.Expected.TheVariants as expected
+use Rattle.sftp_model.specs.declared.slot.Move.TheVariants.{Wait}
+use Rattle.plan_model.specs.Moves.{Answers, Own}
+use Rattle.sftp_core.specs.Core.{at}
+use Rattle.sftp_core.specs.Grant.{GrantValue}
+use Rattle.sftp_core.specs.declared.place.Place.TheVariants.{Granted}
+use Rattle.call_state.specs.Machines.{Meaning}
+use Rattle.sftp_fs.specs.Directories.{WithHandle, granted_ended, granted_left}
+use Rattle.sftp_fs.specs.declared.granting.Granting.{Granting}
+
+-- in any lane, and whatever is done with the handle; the core counts one user of it
+abbrev pub granting : Meaning WithHandle Granting GrantValue
+granting =
+    record {
+      left = λ w m. granted_left w;
+      place = λ m. 1;
+      expected = λ m. expected.Handle;
+      cut = λ m asking. Unit {0};
+      ended = λ w m. granted_ended w;
+      known = λ m answers. Unit {0};
+      stays = λ m next. Unit {0};
+      ready = λ m. ⊥;
+      first = λ w m. Wait 1;
+      again = false;
+      holds = λ core grant. at core grant.id ≡ Some (Granted grant.handle 1);
+    }
+
+pub grants_wait : (w : WithHandle) (m : Granting) (later : Own) (answers : Answers) → answers 1 ≡ None
+    → granted_left w later answers ≡ Wait 1
+grants_wait w m later answers none = rw none refl

@@ -1,0 +1,249 @@
+-- Whole writes of a path: an OPEN, the content part by part, and the CLOSE.
+use Rattle.std.specs.Prelude.{◌≡◌, ◌⊎◌, ℕ, Bool, true, false, List, [], Option, Some, None, Result, Ok, Err, IfOk}
+use Rattle.sftp_model.specs.declared.error.Error.{Error}
+use Rattle.sftp_model.specs.declared.error.Error.TheVariants as error
+use Rattle.sftp_model.specs.declared.error.Fault.{Fault}
+use Rattle.sftp_model.specs.declared.outcome.Outcome.TheVariants as outcome
+use Rattle.sftp_model.specs.declared.slot.Facts.{Facts}
+use Rattle.sftp_model.specs.declared.slot.Move.TheVariants.{Done, Wait}
+use Rattle.sftp_model.specs.declared.slot.Site.{Site}
+use Rattle.plan_model.specs.Moves.{Answers, Own, Plan, handle_of}
+use Rattle.plan_model.specs.WholePlans.{fs_write_next}
+use Rattle.sftp_core.specs.Core.{Core, abandoned, at, released}
+use Rattle.sftp_core.specs.Grant.{GrantValue}
+use Rattle.sftp_core.specs.declared.place.Place.TheVariants.{Granted}
+use Rattle.call_state.specs.Asked.{IsReady}
+use Rattle.call_state.specs.Calls.{Asks, IsLeft, IsUnderWay, IsUnfinished, Tells, cancelled, polled_core}
+use Rattle.call_state.specs.Keeping.{Keeps, KeepsGrants}
+use Rattle.call_state.specs.declared.poll.Poll.{Poll}
+use Rattle.call_state.specs.declared.poll.Poll.TheVariants.{Pending, Ready}
+use Rattle.sftp_file.specs.Files.{facts_of}
+use Rattle.sftp_file.specs.Outcomes.{done_outcome}
+use Rattle.sftp_fs.specs.Directories.{WithHandle}
+use Rattle.sftp_fs.specs.Grants.{granting}
+use Rattle.sftp_fs.specs.Parts.{rest_from, writing_parts}
+use Rattle.sftp_fs.specs.declared.fs_write.Writing.{Writing}
+use Rattle.sftp_fs.specs.declared.fs_write.Writing.TheVariants as writing
+
+-- what the session fixes, and how far the write has come
+pub record FsWriteValue : Type 0 where
+  pub facts : Facts
+  pub stage : Writing
+
+-- the write has answered
+abbrev pub is_over : Writing → Bool
+is_over writing.Ended = true
+is_over other = false
+
+-- ---- by the plan
+
+-- what is done with the handle: the content is written from its start
+abbrev pub writes_content : List ℕ → Site → Facts → Answers → WithHandle
+writes_content content site facts answers = (site, λ handle later. rest_from 0 content site facts later answers)
+
+-- From here a plan goes on as the write does.
+abbrev pub IsWriteLeft : Site → Facts → Plan → Answers → Writing → Type 0
+IsWriteLeft site facts plan answers writing.Ended = Unit {0}
+IsWriteLeft site facts plan answers (writing.Opening call content) =
+    IsLeft granting (writes_content content site facts answers) plan answers call
+IsWriteLeft site facts plan answers (writing.Opened grant content) = (handle_of (answers 1) ≡ grant.handle)
+    × ((later : Own) → plan later answers ≡ rest_from 0 content site facts later answers)
+IsWriteLeft site facts plan answers (writing.Parts grant call) = IsLeft writing_parts site plan answers call
+
+-- the reply that is awaited is the one that the core has
+abbrev pub WriteTells : Core → Answers → Writing → Type 0
+WriteTells core answers (writing.Opening call content) = Tells granting core call answers
+WriteTells core answers (writing.Parts grant call) = Tells writing_parts core call answers
+WriteTells core answers other = Unit {0}
+
+-- ---- a start
+
+-- the OPEN is under way, and this content is to be written by what the session fixes
+abbrev pub WriteOpens : Site → Plan → Answers → Core → Core → List ℕ → Facts → Writing → Type 0
+WriteOpens site plan answers old new content facts (writing.Opening call kept) =
+    Asks granting (writes_content content site facts answers) plan answers old new call
+    × (kept ≡ content)
+    × (facts ≡ facts_of old)
+WriteOpens site plan answers old new content facts other = ⊥
+
+abbrev pub WriteStarted : Site → Plan → Answers → Core → Core → List ℕ → Result FsWriteValue Error → Type 0
+WriteStarted site plan answers old new content (Ok q) = WriteOpens site plan answers old new content q.facts q.stage
+WriteStarted site plan answers old new content (Err error.OutOfMemory) = new ≡ old
+WriteStarted site plan answers old new content (Err (error.BackgroundTaskFailure fault)) = (old.fault ≡ Some fault)
+    × (new ≡ old)
+    × IsUnfinished (plan [] answers)
+WriteStarted site plan answers old new content (Err e) = (plan [] answers ≡ Done (outcome.Refused e) site)
+    × (new ≡ old)
+
+-- the core counts one user of a grant
+abbrev pub IsOwned : Core → GrantValue → Type 0
+IsOwned core grant = at core grant.id ≡ Some (Granted grant.handle 1)
+
+-- the core counts the grant, and can go on with what is awaited
+abbrev pub IsWriteHeld : Core → Writing → Type 0
+IsWriteHeld core writing.Ended = Unit {0}
+IsWriteHeld core (writing.Opening call content) = IsUnderWay granting core call
+IsWriteHeld core (writing.Opened grant content) = IsOwned core grant
+IsWriteHeld core (writing.Parts grant call) = IsOwned core grant × IsUnderWay writing_parts core call
+
+-- A start did the first move of the plan of a whole write, in each lane with this working directory and whatever the
+-- replies to come; what it answered may be polled or given up, and the core holds what it held.
+pub record WritesFrom (path content cwd : List ℕ) (old new : Core) (result : Result FsWriteValue Error) : Type 0 where
+  pub starts : (site : Site) (answers : Answers) → site.directory ≡ cwd
+      → WriteStarted site (fs_write_next path content site (facts_of old)) answers old new content result
+  pub held : IfOk result (λ q. IsWriteHeld new q.stage)
+  pub keeps : Keeps old new
+
+-- ---- a poll
+
+-- the core once the awaited reply was polled
+abbrev pub heard_core : Core → Writing → Core
+heard_core core (writing.Opening call content) = polled_core core call.stage
+heard_core core (writing.Parts grant call) = polled_core core call.stage
+heard_core core other = core
+
+-- a grant was closed, and nobody awaits its CLOSE
+abbrev pub closed : Core → GrantValue → Core
+closed core grant = abandoned (released core grant) grant.id
+
+-- the grant of the write was closed, where there was one
+abbrev pub Finishes : Core → Core → Writing → Type 0
+Finishes core new (writing.Opening call content) = (new ≡ core) ⊎ ((grant : GrantValue) × (new ≡ closed core grant))
+Finishes core new (writing.Opened grant content) = new ≡ closed core grant
+Finishes core new (writing.Parts grant call) = new ≡ closed core grant
+Finishes core new writing.Ended = ⊥
+
+-- the WRITE of a part was submitted, and its reply is awaited
+abbrev pub AsksPart : Site → Plan → Answers → Core → Core → Writing → Type 0
+AsksPart site plan answers old new (writing.Parts grant call) = Asks writing_parts site plan answers old new call
+AsksPart site plan answers old new other = ⊥
+
+-- what is awaited is missing, and nothing changed
+pub record StillWaits (plan : Plan) (answers : Answers) (old new : Core) (p q : Writing) : Type 0 where
+  pub place : ℕ
+  pub waits : plan [] answers ≡ Wait place
+  pub unfailed : old.fault ≡ None
+  pub core : new ≡ old
+  pub same : q ≡ p
+
+-- what a poll of a whole write answers
+abbrev pub WriteAnswer : Type 0
+WriteAnswer = Poll (Result (Unit {0}) Error)
+
+-- What a poll did is the next move of the plan: it waits, or asks for a part; or it is over, by what the plan gives, by
+-- a kept fault where the plan is not at its end; or there was no memory, and it may be polled again.
+abbrev pub Wrote : Site → Facts → Plan → Answers → Core → Core → Writing → Writing → WriteAnswer → Type 0
+Wrote site facts plan answers old new p q Pending = StillWaits plan answers old new p q
+    ⊎ AsksPart site plan answers (heard_core old p) new q
+Wrote site facts plan answers old new p q (Ready (Err error.OutOfMemory)) = IsWriteLeft site facts plan answers q
+    × (new ≡ heard_core old p)
+Wrote site facts plan answers old new p q (Ready (Err (error.BackgroundTaskFailure fault))) =
+    ((heard_core old p).fault ≡ Some fault)
+    × IsUnfinished (plan [] answers)
+    × ((core : Core) × Finishes core new p)
+Wrote site facts plan answers old new p q (Ready value) = (plan [] answers ≡ Done (done_outcome value) site)
+    × Finishes (heard_core old p) new p
+
+-- each grant stays but this
+pub record KeepsBesides (old new : Core) (own : ℕ) : Type 0 where
+  pub grants : (id : ℕ) (handle : List ℕ) (users : ℕ) → (own ≡ id → ⊥) → at old id ≡ Some (Granted handle users)
+      → at new id ≡ Some (Granted handle users)
+
+-- each grant stays but that of a write whose file is open
+abbrev pub KeepsBut : Core → Core → Writing → Type 0
+KeepsBut old new (writing.Opened grant content) = KeepsBesides old new grant.id
+KeepsBut old new (writing.Parts grant call) = KeepsBesides old new grant.id
+KeepsBut old new other = Unit {0}
+
+-- it is over where it gave a value or an error, but for want of memory
+abbrev pub IsOverBy : Writing → WriteAnswer → Type 0
+IsOverBy stage Pending = is_over stage ≡ false
+IsOverBy stage (Ready (Err error.OutOfMemory)) = is_over stage ≡ false
+IsOverBy stage (Ready value) = is_over stage ≡ true
+
+-- each grant stays; as the write ends, each but its own
+abbrev pub KeepsOthers : Core → Core → Writing → Writing → Type 0
+KeepsOthers old new p writing.Ended = KeepsBut old new p
+KeepsOthers old new p q = KeepsGrants old new
+
+-- A poll did the next move of each plan that the write is what is left of, whatever its replies to come; the write may
+-- be polled on or given up.
+pub record WroteOn (facts : Facts) (old new : Core) (p q : Writing) (result : WriteAnswer) : Type 0 where
+  pub polled : (site : Site) (plan : Plan) (answers : Answers) → IsWriteLeft site facts plan answers p
+      → WriteTells old answers p → Wrote site facts plan answers old new p q result
+  pub held : IsWriteHeld new q
+  pub over : IsOverBy q result
+  pub grants : KeepsOthers old new p q
+
+-- what asking for the first part, or for the close of a file without content, did
+abbrev pub Began : Site → Facts → Plan → Answers → Core → Core → GrantValue → Writing → WriteAnswer → Type 0
+Began site facts plan answers old new grant q Pending = AsksPart site plan answers old new q
+Began site facts plan answers old new grant q (Ready (Err error.OutOfMemory)) = IsWriteLeft site facts plan answers q
+    × (new ≡ old)
+Began site facts plan answers old new grant q (Ready (Err (error.BackgroundTaskFailure fault))) =
+    (old.fault ≡ Some fault)
+    × IsUnfinished (plan [] answers)
+    × (new ≡ closed old grant)
+Began site facts plan answers old new grant q (Ready value) = (plan [] answers ≡ Done (done_outcome value) site)
+    × (new ≡ closed old grant)
+
+pub record Begun (facts : Facts) (old new : Core) (grant : GrantValue) (content : List ℕ) (q : Writing)
+    (result : WriteAnswer) : Type 0 where
+  pub polled : (site : Site) (plan : Plan) (answers : Answers)
+      → IsWriteLeft site facts plan answers (writing.Opened grant content)
+      → Began site facts plan answers old new grant q result
+  pub held : IsWriteHeld new q
+  pub over : IsOverBy q result
+  pub grants : KeepsOthers old new (writing.Opened grant content) q
+
+-- a write has not answered, and may ask for a part
+pub record MayWrite (core : Core) (p : FsWriteValue) : Type 0 where
+  pub over : is_over p.stage ≡ false
+  pub held : IsWriteHeld core p.stage
+  pub ready : IsReady core
+
+-- so did a poll of a write, whose session fixes what it fixed
+pub record Writes (old new : Core) (p q : FsWriteValue) (result : WriteAnswer) : Type 0 where
+  pub wrote : WroteOn p.facts old new p.stage q.stage result
+  pub facts : q.facts ≡ p.facts
+
+-- ---- given up
+
+-- what is under way is dropped, and the grant is closed
+abbrev pub write_dropped : Core → Writing → Core
+write_dropped core writing.Ended = core
+write_dropped core (writing.Opening call content) = cancelled core call.stage
+write_dropped core (writing.Opened grant content) = closed core grant
+write_dropped core (writing.Parts grant call) = closed (cancelled core call.stage) grant
+
+-- ---- facts of parts
+
+-- the kept fault that an error tells
+abbrev pub fault_told : Error → Option Fault
+fault_told (error.BackgroundTaskFailure fault) = Some fault
+fault_told other = None
+
+-- an answer of the OPEN that leaves it under way: none yet, or want of memory
+abbrev pub IsUnended : Poll (Result GrantValue Error) → Type 0
+IsUnended Pending = Unit {0}
+IsUnended (Ready (Err error.OutOfMemory)) = Unit {0}
+IsUnended other = ⊥
+
+-- the same answer of the write
+abbrev pub unended : Poll (Result GrantValue Error) → WriteAnswer
+unended Pending = Pending
+unended (Ready (Ok grant)) = Pending
+unended (Ready (Err e)) = Ready (Err e)
+
+-- where the first part was not asked for, a kept fault ends the write, and else it may be polled again
+abbrev pub IsUnbegunBy : Core → Core → GrantValue → List ℕ → Option Fault → WriteAnswer × Writing → Type 0
+IsUnbegunBy old new grant content (Some fault) result =
+    (result.0 ≡ Ready (Err (error.BackgroundTaskFailure fault)))
+    × (result.1 ≡ writing.Ended)
+    × (new ≡ closed old grant)
+IsUnbegunBy old new grant content None result = (result.0 ≡ Ready (Err error.OutOfMemory))
+    × (result.1 ≡ writing.Opened grant content)
+    × (new ≡ old)
+
+abbrev pub IsUnbegun : Core → Core → GrantValue → List ℕ → Error → WriteAnswer × Writing → Type 0
+IsUnbegun old new grant content e result = IsUnbegunBy old new grant content (fault_told e) result
