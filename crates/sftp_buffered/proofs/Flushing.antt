@@ -1,5 +1,30 @@
 -- What settling the oldest statuses leaves, and the plan of a flush.
-use Rattle.std.proofs.Common.{◌≡◌, ◌-◌, ◌∙◌, refl, sym, ap, subst, ℕ, Bool, true, false, List, [], ◌∷◌, Option, Some, None, Result, Ok, Err, inl, drop, if◌then◌else◌, slice_get}
+use Rattle.std.proofs.Common.{
+  ◌≡◌,
+  ◌-◌,
+  ◌∙◌,
+  refl,
+  sym,
+  ap,
+  subst,
+  ℕ,
+  Bool,
+  true,
+  false,
+  List,
+  [],
+  ◌∷◌,
+  Option,
+  Some,
+  None,
+  Result,
+  Ok,
+  Err,
+  inl,
+  drop,
+  if◌then◌else◌,
+  slice_get,
+}
 use Rattle.std.specs.Prelude.{not}
 use Rattle.sftp_model.specs.declared.error.Error.{Error}
 use Rattle.sftp_model.specs.declared.error.Error.TheVariants as error
@@ -24,11 +49,25 @@ use Rattle.call_state.specs.declared.poll.Poll.TheVariants as poll
 use Rattle.sftp_file.specs.Files.{file_at}
 use Rattle.sftp_buffered.specs.declared.file.DeferredWrite.{DeferredWrite}
 use Rattle.sftp_buffered.specs.declared.file.ReadUnderWay.{ReadUnderWay}
-use Rattle.sftp_buffered.specs.Buffered.{AreApart, AreHeld, AreTold, CompatValue, Defers, IsApart, IsHeldRead, IsSound, IsTold, LeavesOthers, buffer_of, lane_of, writes_of}
+use Rattle.sftp_buffered.specs.Buffered.{
+  AreApart,
+  AreHeld,
+  AreTold,
+  CompatValue,
+  Defers,
+  IsApart,
+  IsHeldRead,
+  IsSound,
+  IsTold,
+  LeavesOthers,
+  buffer_of,
+  lane_of,
+  writes_of,
+}
 use Rattle.sftp_buffered.specs.Flushes.{FlushesTo, IsFlushed, Settles, flush_plan, unsettled, with_writes}
 use Rattle.sftp_buffered.specs.Polls.{AnyCut, Polls, Waits}
 use Rattle.sftp_buffered.specs.Steps.{AreTaken, IsLeft, IsRestOf, LooksAtOldest, WasRefused, oldest_len, oldest_polled, oldest_reply, without_oldest}
-use Rattle.sftp_buffered.proofs.Resting.{others_taken, rest_at, rest_by, rest_same, taken_at, taken_more, taken_none}
+use Rattle.sftp_buffered.proofs.Resting.{others_taken, rest_at, rest_by, rest_same, taken_more, taken_none}
 use Rattle.sftp_buffered.proofs.Holding.{other_kind}
 use Rattle.sftp_buffered.proofs.Others.{others_both, others_left, others_looked, others_oldest, others_same}
 use Rattle.sftp_buffered.proofs.Planning.{bad_ends, good_goes, missing_waits, status_memory}
@@ -254,16 +293,16 @@ plan_here old mid p r answers d ds may s deferred is =
 
 -- ---- the poll
 
-left_flushed : (old mid new : Core) (p r q : CompatValue) (answers : Answers) → Settles old mid p r → IsLeft mid new r q
-    → Defers old p answers → IsFlushed old new p q answers
-left_flushed old mid new p r q answers s l d =
-    record { lane = ap lane_of l.same ∙ s.lane answers d; rest = taken_at old mid new p r q s.rest l.core l.same }
-
 -- what was settled, with the READ as it was
 rest_settled : (old mid : Core) (p r : CompatValue) → Settles old mid p r → IsRestOf old mid p r
 rest_settled old mid p r s =
     rest_by old mid p r s.rest (ap (λ (x : CompatValue). x.reading) s.left) (ap (λ (x : CompatValue). x.place) s.left)
     (ap (λ (x : CompatValue). x.capacity) s.left)
+
+left_flushed : (old mid new : Core) (p r q : CompatValue) (answers : Answers) → Settles old mid p r → IsLeft mid new r q
+    → Defers old p answers → IsFlushed old new p q answers
+left_flushed old mid new p r q answers s l d =
+    record { lane = ap lane_of l.same ∙ s.lane answers d; rest = rest_at old mid new p r q (rest_settled old mid p r s) l.core l.same }
 
 -- and a refusal behind it
 rest_refused : (old mid new : Core) (p r q : CompatValue) (e : Error) → Settles old mid p r → WasRefused mid new r q e → IsRestOf old new p q

@@ -16,15 +16,15 @@ use Rattle.sftp_buffered.specs.Buffered.{
   AreApart,
   AreElsewhere,
   AreHeld,
-  AreNone,
-  AreOthers,
+  AreWritesApart,
+  ShareNoTicket,
   AreRising,
   AreTold,
   CompatValue,
   Defers,
   IsApart,
   IsHeldRead,
-  IsNone,
+  IsReadApart,
   IsOther,
   IsPlaced,
   IsSound,
@@ -111,15 +111,15 @@ cancelled_sound core ticket c apart s =
     (not_read ticket c.reading apart.read) s
 
 -- a request of another file
-each_none : (ds : List DeferredWrite) (other : CompatValue) → AreNone ds other → Each (λ ticket. IsApart ticket other) ds
+each_none : (ds : List DeferredWrite) (other : CompatValue) → AreWritesApart ds other → Each (λ ticket. IsApart ticket other) ds
 each_none [] other none = tt
 each_none (d ∷ ds) other none = (none.0, each_none ds other none.1)
 
-read_none : (r : Option ReadUnderWay) (other : CompatValue) → IsNone r other → EachRead (λ ticket. IsApart ticket other) r
+read_none : (r : Option ReadUnderWay) (other : CompatValue) → IsReadApart r other → EachRead (λ ticket. IsApart ticket other) r
 read_none None other none = tt
 read_none (Some r) other none = none
 
-pub left_sound : (old new : Core) (other c : CompatValue) → LeavesOthers old new other → AreOthers other c → IsSound old c → IsSound new c
+pub left_sound : (old new : Core) (other c : CompatValue) → LeavesOthers old new other → ShareNoTicket other c → IsSound old c → IsSound new c
 left_sound old new other c l o s =
     sound_of (λ ticket. IsApart ticket other) old new c (λ ticket kind own h. l.holds ticket kind own h)
     (each_none c.deferred other o.writes) (read_none c.reading other o.read) s

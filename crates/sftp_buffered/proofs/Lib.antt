@@ -13,3 +13,4 @@ pub mod Seeking
 pub mod Abandoning
 pub mod Pieces
 pub mod Keeping
+pub mod Staying

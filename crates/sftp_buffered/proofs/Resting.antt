@@ -1,10 +1,11 @@
 -- What is left of what is under way.
-use Rattle.std.proofs.Common.{◌≡◌, ◌≤◌, ◌∙◌, refl, sym, ap, subst, arith, ℕ, Bool, true, false, List, [], ◌∷◌, ◌++◌, inl, take, drop}
+use Rattle.std.proofs.Common.{◌≡◌, ◌≤◌, ◌∙◌, refl, sym, ap, subst, arith, ℕ, Bool, true, false, List, [], ◌∷◌, ◌++◌, Option, inl, inr, take, drop}
 use Rattle.std.proofs.lemmas.List.{append_assoc}
 use Rattle.sftp_core.specs.Core.{Core, after_poll}
 use Rattle.sftp_buffered.specs.declared.file.DeferredWrite.{DeferredWrite}
+use Rattle.sftp_buffered.specs.declared.file.ReadUnderWay.{ReadUnderWay}
 use Rattle.sftp_buffered.specs.Buffered.{AreApart, CompatValue, IsApart, IsOther, LeavesOthers}
-use Rattle.sftp_buffered.specs.Steps.{AreTaken, IsRestOf, all_polled, freed, freed_core, oldest_polled, without_oldest}
+use Rattle.sftp_buffered.specs.Steps.{AreTaken, IsReadLeft, IsRestOf, all_polled, freed, freed_core, oldest_polled, without_oldest}
 
 -- ---- the oldest writes
 
@@ -65,7 +66,7 @@ rest_freed false core c = rest_same core c
 
 -- ---- what is left to others
 
-apart_later : (ticket : ℕ) (gone ds : List DeferredWrite) → AreApart ticket (gone ++ ds) → AreApart ticket ds
+pub apart_later : (ticket : ℕ) (gone ds : List DeferredWrite) → AreApart ticket (gone ++ ds) → AreApart ticket ds
 apart_later ticket [] ds apart = apart
 apart_later ticket (d ∷ gone) ds apart = apart_later ticket gone ds apart.1
 
@@ -84,4 +85,17 @@ others_taken old mid new p q t same h =
       grants = h.grants;
       phase = h.phase;
       options = h.options;
+    }
+
+-- ---- a ticket of another stays none of the file's
+
+read_later : (ticket : ℕ) (old new : Core) (r s : Option ReadUnderWay) → IsReadLeft old new r s → IsOther ticket r → IsOther ticket s
+read_later ticket old new r s (inl left) other = subst (IsOther ticket) (sym left.0) other
+read_later ticket old new r s (inr left) other = subst (IsOther ticket) (sym left.0) tt
+
+pub apart_rest : (ticket : ℕ) (old new : Core) (p q : CompatValue) → IsRestOf old new p q → IsApart ticket p → IsApart ticket q
+apart_rest ticket old new p q r apart =
+    record {
+      writes = apart_later ticket r.taken.gone q.deferred (subst (AreApart ticket) r.taken.deferred apart.writes);
+      read = read_later ticket r.between new p.reading q.reading r.reading apart.read;
     }

@@ -152,18 +152,18 @@ pub record IsApart (ticket : ℕ) (c : CompatValue) : Type 0 where
   pub read : IsOther ticket c.reading
 
 -- the tickets of these writes are none of a file's
-abbrev pub AreNone : List DeferredWrite → CompatValue → Type 0
-AreNone [] c = Unit {0}
-AreNone (d ∷ ds) c = IsApart d.ticket c × AreNone ds c
+abbrev pub AreWritesApart : List DeferredWrite → CompatValue → Type 0
+AreWritesApart [] c = Unit {0}
+AreWritesApart (d ∷ ds) c = IsApart d.ticket c × AreWritesApart ds c
 
-abbrev pub IsNone : Option ReadUnderWay → CompatValue → Type 0
-IsNone None c = Unit {0}
-IsNone (Some r) c = IsApart r.ticket c
+abbrev pub IsReadApart : Option ReadUnderWay → CompatValue → Type 0
+IsReadApart None c = Unit {0}
+IsReadApart (Some r) c = IsApart r.ticket c
 
 -- no request of a file has the ticket of one of another's
-pub record AreOthers (other c : CompatValue) : Type 0 where
-  pub writes : AreNone c.deferred other
-  pub read : IsNone c.reading other
+pub record ShareNoTicket (other c : CompatValue) : Type 0 where
+  pub writes : AreWritesApart c.deferred other
+  pub read : IsReadApart c.reading other
 
 -- a core as others see it: each ticket that is none of the file's is held as before, each grant stays, and so does what
 -- was told of the session

@@ -12,7 +12,7 @@ use Rattle.sftp_file.specs.Files.{facts_of}
 use Rattle.sftp_buffered.specs.declared.file.DeferredWrite.{DeferredWrite}
 use Rattle.sftp_buffered.specs.Buffered.{CompatValue, Defers, IsSound, LeavesOthers, lane_of, writes_of}
 use Rattle.sftp_buffered.specs.Polls.{AnyCut, Polls, Waits}
-use Rattle.sftp_buffered.specs.Steps.{AreTaken, oldest_reply}
+use Rattle.sftp_buffered.specs.Steps.{AreTaken, IsRestOf, oldest_reply}
 
 -- the writes from the first on whose STATUS of OK wasn't taken
 abbrev pub unsettled : Core → List DeferredWrite → List DeferredWrite
@@ -43,7 +43,7 @@ flush_plan core c = buf_flush_next 0 (lane_of c) (facts_of core)
 -- what a cancelled flush leaves
 pub record IsFlushed (old new : Core) (p q : CompatValue) (answers : Answers) : Type 0 where
   pub lane : lane_of q ≡ cancelled_buf_flush 0 (lane_of p) (facts_of old) [] answers
-  pub rest : AreTaken old new p q
+  pub rest : IsRestOf old new p q
 
 -- The poll did the next move of the flush, whatever the replies to come, the file may be polled on, and others find the
 -- core as it was. `Pending` and a kept fault leave what a flush leaves that is cancelled there. No memory is

@@ -16,5 +16,5 @@ mod window;
 mod write;
 
 pub use file::{DEFAULT_BUFLEN, TokioCompatFile};
-pub use laws::{others_leave_it_sound, replies_can_be_told};
+pub use laws::{others_leave_it_sound, replies_can_be_told, tickets_stay_apart};
 pub use sftp_file::{File, Poll};

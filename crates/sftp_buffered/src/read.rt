@@ -94,8 +94,8 @@ impl TokioCompatFile {
     }
 
     /// Reads the next bytes of the file, at most as many as there is room for, and stands behind them: what is
-    /// buffered, and where that is nothing what one READ brings, which asks for the buffer's length at least. 0 comes at
-    /// the end of the file, and for no room.
+    /// buffered, and where that is nothing what one READ brings, which asks for the buffer's length at least. 0 comes
+    /// at the end of the file, and for no room.
     ///
     /// `Pending` and the errors are those of `poll_read_into_buffer`. The room stays as it was but for the bytes.
     pub fn poll_read(&mut self, core: &mut Core, room: &mut [u8]) -> Poll<Result<usize, Error>>
