@@ -1,8 +1,8 @@
 #!/usr/bin/env python3
 """Measures the program: how time and memory of the core alone, and of a run, grow with the requests in flight; how long many
 small files take over OpenSSH's server beside `sftp -b`, how long some files of a few kilobytes take up and down, and how long
-one large file takes; and how long OpenSSH's client takes over the server of crates/sftp_serve, beside its own. It prints tables,
-is no part of the gate, and takes half an hour or more.
+one large file takes, by scripts and by sftp_transfer; and how long OpenSSH's client takes over the server of crates/sftp_serve,
+beside its own. It prints tables, is no part of the gate, and takes half an hour or more.
 
     python3 tools/bench.py [FIRST] [LAST]     requests in flight, doubled from FIRST to LAST: from 5000 to 40000
 
@@ -15,6 +15,7 @@ ROOT = os.path.dirname(os.path.dirname(os.path.abspath(__file__)))
 PROGRAM = ROOT + "/crates/sftp_cli/out/sftp_cli"
 LOAD = ROOT + "/crates/core_load/out/core_load"
 OUR_SERVER = ROOT + "/crates/sftp_serve/out/sftp_serve"
+COPIER = ROOT + "/crates/sftp_transfer/out/sftp_transfer"
 SERVER = "/usr/lib/openssh/sftp-server"
 LIMIT = float(os.environ.get("BENCH_LIMIT", "1200"))
 # seconds by which each way to a late server is late
@@ -217,6 +218,17 @@ def table_over_a_server(folder, sizes, names, late):
     theirs(f"{LARGE_UP} bytes up", [f"put {local_large} {sent_large}"])
     ours(f"{LARGE_DOWN} bytes down", large_down(large))
     theirs(f"{LARGE_DOWN} bytes down", [f"get {large} /dev/null"])
+    table_of_copies(folder, path, large)
+
+
+def table_of_copies(folder, path, large):
+    """A large file from one file to another over OpenSSH's server, by sftp_transfer and by `sftp -b`."""
+    copied = os.path.join(folder, "copied")
+    sftp = ["sftp", "-q", "-b", "-", "-D", f"socat - UNIX-CONNECT:{path}"]
+    for words, way in (("down", "get"), ("up", "put")):
+        words = f"{LARGE_DOWN} bytes {words}, file to file"
+        row(words + ", sftp_transfer", best(folder, [COPIER, "unix:" + path, way, large, copied], "", 3))
+        row(words + ", sftp -b", best(folder, sftp, f"{way} {large} {copied}\n", 3))
 
 
 def table_of_servers(folder):
@@ -251,7 +263,7 @@ def main():
     sizes = [first]
     while sizes[-1] * 2 <= last:
         sizes.append(sizes[-1] * 2)
-    for program in (LOAD, PROGRAM, OUR_SERVER):
+    for program in (LOAD, PROGRAM, OUR_SERVER, COPIER):
         if not os.access(program, os.X_OK):
             sys.exit(f"bench: {program} is missing: run 'rt ci' first")
     # each lane holds a handle of the server

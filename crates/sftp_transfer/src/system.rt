@@ -1,0 +1,80 @@
+//! A file of the system as a local file.
+use crate::local::{LocalError, LocalFile};
+use bytes::Bytes;
+use std::alloc::Global;
+use std::fs::{File, Files};
+use std::io::{ErrorKind, Read, Write};
+use std::marker::Model;
+use std::{fs, io};
+
+/// A file that a runtime reaches. It tells nothing of its acts.
+#[derive(Drop)]
+pub struct SystemFile<R: Files> {
+    runtime: R,
+    file: Option<R::File>,
+}
+
+impl<R: Files> SystemFile<R> {
+    /// No file yet.
+    pub fn new(runtime: R) -> SystemFile<R> {
+        SystemFile {
+            runtime,
+            file: None,
+        }
+    }
+}
+
+impl<R: Files> LocalFile for SystemFile<R> {
+    ghost History = { Unit {0} };
+
+    ghost done = { λ act history. history };
+
+    ghost history = { λ file. tt };
+
+    fn open(&mut self, name: &str) -> Result<(), LocalError> {
+        self.file = Some(File::open(&self.runtime, name)?);
+        Ok(())
+    }
+
+    fn create(&mut self, name: &str) -> Result<(), LocalError> {
+        self.file = Some(File::create(&self.runtime, name)?);
+        Ok(())
+    }
+
+    fn read(&mut self, alloc: Global, most: u32) -> Result<Bytes, LocalError> {
+        let Some(file) = &mut self.file else {
+            return Err(LocalError::Failed(ErrorKind::NotFound.into()));
+        };
+        let Ok(mut room) = vec![in alloc; 0u8; most as usize] else {
+            return Err(LocalError::OutOfMemory);
+        };
+        let len = read_some(file, room.as_mut_slice())?;
+        room.truncate(len);
+        match Bytes::from_vec(room) {
+            Ok(bytes) => Ok(bytes),
+            Err(_) => Err(LocalError::OutOfMemory),
+        }
+    }
+
+    fn write(&mut self, bytes: &[u8]) -> Result<(), LocalError> {
+        match &mut self.file {
+            Some(file) => Ok(file.write_all(bytes)?),
+            None => Err(LocalError::Failed(ErrorKind::NotFound.into())),
+        }
+    }
+
+    fn rename(&mut self, from: &str, to: &str) -> Result<(), LocalError> {
+        Ok(fs::rename(&self.runtime, from, to)?)
+    }
+}
+
+/// Reads some bytes into a room, again where a signal came between.
+fn read_some<F: Read>(file: &mut F, room: &mut [u8]) -> io::Result<usize> {
+    for _ in 0..u64::MAX {
+        match file.read(room) {
+            Err(e) if e.kind() == ErrorKind::Interrupted => {}
+            read => return read,
+        }
+    }
+    Ok(0)
+}
