@@ -55,7 +55,7 @@ use Rattle.call_state.specs.declared.told.Told.{Told}
 use Rattle.call_state.specs.declared.told.Told.TheVariants as told
 use Rattle.call_state.specs.Told.{IsCounted}
 use Rattle.call_state.specs.Asked.{Holds, Submitted, queued_by, request_of}
-use Rattle.call_state.specs.Calls.{Cancels, IsGrantOf, IsHeld, IsHeldAt, IsNotOf, IsUnderWay, KeepsOthers, cancelled, is_ended, CallValue}
+use Rattle.call_state.specs.Calls.{Cancels, IsGrantOf, IsHeld, IsHeldAt, IsNotOf, IsUnderWay, KeepsOtherTickets, cancelled, is_ended, CallValue}
 use Rattle.call_state.specs.Machines.{Meaning}
 use Rattle.call_state.specs.Keeping.{IsDropped, Keeps, KeepsGrants, StaysOpen}
 
@@ -339,7 +339,7 @@ grants_polled old mid new ticket counted is h =
     let polled : KeepsGrants old mid = subst (λ (x : Core). KeepsGrants old x) (sym is) (polled_keeps_grants old ticket counted) in
     record { grants = λ id handle users here. h.grants.grants id handle users (polled.grants id handle users here); opened = λ o. h.grants.opened (polled.opened o) }
 
-cancelled_grants : (core : Core) (stage : Stage) → ((ticket : ℕ) → stage ≡ Asked ticket → IsTrue (is_ticket (at core ticket)))
+pub cancelled_grants : (core : Core) (stage : Stage) → ((ticket : ℕ) → stage ≡ Asked ticket → IsTrue (is_ticket (at core ticket)))
     → (id : ℕ) (handle : List ℕ) (users : ℕ) → (IsGrantOf stage id → ⊥) → at core id ≡ Some (Granted handle users)
     → at (cancelled core stage) id ≡ Some (Granted handle users)
 cancelled_grants core (Asked ticket) counted id handle users own here = (cancelled_keeps_grants core ticket (counted ticket refl)).grants id handle users here
@@ -393,7 +393,7 @@ asked_same a b e = ap asked_number e
 
 -- what was submitted is none of others
 pub submitted_others : (old new : Core) (asking : Asking) (ticket : ℕ) (before after : Stage) → Submitted old asking ticket new
-    → after ≡ Asked ticket → KeepsOthers old new before after
+    → after ≡ Asked ticket → KeepsOtherTickets old new before after
 submitted_others old new asking ticket before after h is other kind apart held = (
   (submitted_keeps old new asking ticket h).holds other kind held,
   λ same.
@@ -401,7 +401,7 @@ submitted_others old new asking ticket before after h is other kind apart held =
 )
 
 -- a call that awaits nothing keeps others apart
-pub idle_others : (old new : Core) (before after : Stage) → Keeps old new → ((ticket : ℕ) → IsNotOf after ticket) → KeepsOthers old new before after
+pub idle_others : (old new : Core) (before after : Stage) → Keeps old new → ((ticket : ℕ) → IsNotOf after ticket) → KeepsOtherTickets old new before after
 idle_others old new before after k idle other kind apart held = (k.holds other kind held, idle other)
 
 pub ended_idle : (stage : Stage) → is_ended stage ≡ true → (ticket : ℕ) → IsNotOf stage ticket
@@ -413,7 +413,7 @@ ended_idle (Came t) over ticket same = cc
 
 -- a poll of a ticket, and then what keeps others apart
 pub polled_others : (old mid new : Core) (ticket : ℕ) (before after : Stage) → before ≡ Asked ticket → mid ≡ after_poll old ticket
-    → KeepsOthers mid new Ended after → KeepsOthers old new before after
+    → KeepsOtherTickets mid new Ended after → KeepsOtherTickets old new before after
 polled_others old mid new ticket before after is core k other kind apart held =
     let elsewhere : other ≢ ticket = λ same. apart (is ∙ ap Asked (sym same)) in
     let here : Holds mid other kind = subst (λ (x : Core). Holds x other kind) (sym core) (polled_on old ticket other kind elsewhere held) in

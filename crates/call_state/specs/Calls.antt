@@ -185,8 +185,8 @@ abbrev pub IsNotOf : Stage → ℕ → Type 0
 IsNotOf stage ticket = stage ≡ Asked ticket → ⊥
 
 -- each ticket that others hold stays so, and is none of the call's
-abbrev pub KeepsOthers : Core → Core → Stage → Stage → Type 0
-KeepsOthers old new before after = (ticket : ℕ) (kind : Expected) → IsNotOf before ticket → Holds old ticket kind
+abbrev pub KeepsOtherTickets : Core → Core → Stage → Stage → Type 0
+KeepsOtherTickets old new before after = (ticket : ℕ) (kind : Expected) → IsNotOf before ticket → Holds old ticket kind
     → Holds new ticket kind × IsNotOf after ticket
 
 -- what going on with a machine leaves, whatever the plan
@@ -196,7 +196,7 @@ pub record Leaves {W M V : Type 0} (s : Meaning W M V) (old new : Core) (q : Cal
   pub over : IsOver q.stage result
   pub holds : HoldsReady s new result
   pub keeps : Keeps old new
-  pub others : KeepsOthers old new Ended q.stage
+  pub others : KeepsOtherTickets old new Ended q.stage
 
 -- A poll did the next move of each plan that the call is what is left of, whatever its replies to come. The call may be
 -- polled on or given up, its machine stays what it was, the core holds what belongs to the value, every grant stays,
@@ -209,7 +209,7 @@ pub record Stepped {W M V : Type 0} (s : Meaning W M V) (old new : Core) (p q : 
   pub over : IsOver q.stage result
   pub holds : HoldsReady s new result
   pub grants : KeepsGrants old new
-  pub others : KeepsOthers old new p.stage q.stage
+  pub others : KeepsOtherTickets old new p.stage q.stage
   pub stays : s.stays p.machine q.machine
 
 -- ---- a cancel

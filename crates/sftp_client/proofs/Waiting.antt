@@ -8,7 +8,7 @@ use Rattle.sftp_model.specs.declared.error.Fault.{Fault}
 use Rattle.sftp_core.specs.Core.{Core, failed_with, handed_out}
 use Rattle.sftp_core.specs.Info.{info_of}
 use Rattle.sftp_link.specs.Views.{LinkView}
-use Rattle.call_state.specs.Calls.{CallValue, Cancels, HoldsReady, IsHeld, IsUnderWay, KeepsOthers, Stepped, cancelled, is_ended}
+use Rattle.call_state.specs.Calls.{CallValue, Cancels, HoldsReady, IsHeld, IsUnderWay, KeepsOtherTickets, Stepped, cancelled, is_ended}
 use Rattle.call_state.specs.Keeping.{Keeps, KeepsGrants}
 use Rattle.call_state.specs.Machines.{Meaning}
 use Rattle.call_state.specs.declared.poll.Poll.{Poll}
@@ -126,7 +126,7 @@ pub record WaitsOn {W M V L S : Type 0} (s : Meaning W M V) (state : L → LinkV
   pub rounds : ArePollRounds (WaitsIn s) state count old new p q
   pub may : MayWait s new.core q
   pub grants : KeepsGrants old.core new.core
-  pub others : KeepsOthers old.core new.core p.stage q.stage
+  pub others : KeepsOtherTickets old.core new.core p.stage q.stage
   pub unfaulted : (state new.link).faults ≡ (state old.link).faults
 
 pub waits_first : {W M V L S : Type 0} (s : Meaning W M V) (state : L → LinkView S) (old : SftpValue L) (p : CallValue M)
@@ -140,7 +140,7 @@ pub record PollLeaves {W M V L : Type 0} (s : Meaning W M V) (old new : SftpValu
   pub held : IsHeld s new.core q
   pub holds : HoldsReady s new.core result
   pub grants : KeepsGrants old.core new.core
-  pub others : KeepsOthers old.core new.core p.stage q.stage
+  pub others : KeepsOtherTickets old.core new.core p.stage q.stage
   pub opened : IsSome (info_of new.core.phase)
   pub link : new.link ≡ old.link
 
@@ -164,8 +164,8 @@ poll_leaves s old new p q result may (inr h) =
       held = subst (λ (x : SftpValue _). IsHeld s x.core q) (sym h.1.1.0) (subst (λ x. IsHeld s old.core x) (sym h.1.1.1) may.under_way.held);
       holds = holds_nothing s new.core result h.1.0;
       grants = subst (λ (x : SftpValue _). KeepsGrants old.core x.core) (sym h.1.1.0) (keeps_same old.core).grants;
-      others = subst (λ (x : SftpValue _). KeepsOthers old.core x.core p.stage q.stage) (sym h.1.1.0)
-          (subst (λ x. KeepsOthers old.core old.core p.stage x.stage) (sym h.1.1.1) (λ ticket kind apart here. (here, apart)));
+      others = subst (λ (x : SftpValue _). KeepsOtherTickets old.core x.core p.stage q.stage) (sym h.1.1.0)
+          (subst (λ x. KeepsOtherTickets old.core old.core p.stage x.stage) (sym h.1.1.1) (λ ticket kind apart here. (here, apart)));
       opened = subst (λ (x : SftpValue _). IsSome (info_of x.core.phase)) (sym h.1.1.0) may.opened;
       link = ap (λ (x : SftpValue _). x.link) h.1.1.0;
     }
@@ -176,11 +176,11 @@ pending_on : {W M V L : Type 0} (s : Meaning W M V) (old new : SftpValue L) (p q
 pending_on s old new p q (inl h) = record { over = h.0.over; held = h.0.held }
 pending_on s old new p q (inr h) = absurd cc
 
-others_both : (a b c : Core) (x y z : Stage) → KeepsOthers a b x y → KeepsOthers b c y z → KeepsOthers a c x z
+others_both : (a b c : Core) (x y z : Stage) → KeepsOtherTickets a b x y → KeepsOtherTickets b c y z → KeepsOtherTickets a c x z
 others_both a b c x y z first last ticket kind apart h =
     let mid = first ticket kind apart h in last ticket kind mid.1 mid.0
 
-others_kept : (a b c : Core) (x y : Stage) → KeepsOthers a b x y → Keeps b c → KeepsOthers a c x y
+others_kept : (a b c : Core) (x y : Stage) → KeepsOtherTickets a b x y → Keeps b c → KeepsOtherTickets a c x y
 others_kept a b c x y first k ticket kind apart h =
     let mid = first ticket kind apart h in (k.holds ticket kind mid.0, mid.1)
 

@@ -8,7 +8,7 @@ use Rattle.sftp_core.specs.Core.{Core, kept_of}
 use Rattle.sftp_core.specs.Info.{MAX_IDS, info_of}
 use Rattle.sftp_link.specs.Views.{LinkView}
 use Rattle.call_state.specs.Asked.{Holds, IsReady}
-use Rattle.call_state.specs.Calls.{CallValue, Cancels, HoldsReady, IsHeld, IsNotOf, IsUnderWay, KeepsOthers, Stepped}
+use Rattle.call_state.specs.Calls.{CallValue, Cancels, HoldsReady, IsHeld, IsNotOf, IsUnderWay, KeepsOtherTickets, Stepped}
 use Rattle.call_state.specs.Keeping.{KeepsGrants}
 use Rattle.call_state.specs.Machines.{Meaning}
 use Rattle.call_state.specs.declared.poll.Poll.{Poll}
@@ -96,7 +96,7 @@ pub record HasWaited {W M V L S : Type 0} (s : Meaning W M V) (state : L → Lin
   pub held : IsHeld s new.core q
   pub holds : HoldsReady s new.core (poll.Ready result)
   pub grants : KeepsGrants old.core new.core
-  pub others : KeepsOthers old.core new.core p.stage q.stage
+  pub others : KeepsOtherTickets old.core new.core p.stage q.stage
   pub unfaulted : OnOk result ((state new.link).faults ≡ (state old.link).faults)
 
 -- A call was run to its end and given up there, so that nothing is left of it. Where it gave a value the core holds

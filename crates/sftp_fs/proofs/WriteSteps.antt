@@ -44,7 +44,7 @@ use Rattle.sftp_core.specs.Info.{info_of}
 use Rattle.sftp_core.specs.declared.phase.Phase.{Phase}
 use Rattle.sftp_core.specs.declared.place.Place.{Place}
 use Rattle.sftp_core.specs.declared.place.Place.TheVariants.{Answered, Granted, Waiting}
-use Rattle.call_state.proofs.Keeping.{cancels_by, grants_kept, keeps_unchanged, still_under_way}
+use Rattle.call_state.proofs.Keeping.{cancelled_grants, grants_both, grants_kept, keeps_unchanged, still_under_way}
 use Rattle.call_state.specs.declared.told.Told.TheVariants as told
 use Rattle.call_state.proofs.Polling.{polls_few}
 use Rattle.call_state.specs.Told.{reply_of}
@@ -73,10 +73,11 @@ use Rattle.sftp_fs.proofs.PartLaws.{one_joined, part_length}
 
 pub closes_besides : (old mid new : Core) (grant : GrantValue) → KeepsGrants old mid → new ≡ closed mid grant → KeepsBesides old new grant.id
 closes_besides old mid new grant k close =
-    let cancels : Cancels mid new (stage.Came (told.Granted grant)) =
-    cancels_by mid new (stage.Came (told.Granted grant))
-    (λ ticket e. absurd (let clash : ◌≡◌ {A = Stage} (stage.Came (told.Granted grant)) (stage.Asked ticket) = e in cc)) close in
-    record { grants = λ id handle users own here. cancels.grants id handle users own (k.grants id handle users here) }
+    record {
+      grants = λ id handle users own here. ap (λ (x : Core). at x id) close ∙ cancelled_grants mid (stage.Came (told.Granted grant))
+          (λ ticket e. absurd (let clash : ◌≡◌ {A = Stage} (stage.Came (told.Granted grant)) (stage.Asked ticket) = e in cc))
+          id handle users own (k.grants id handle users here);
+    }
 
 pub grants_same : (old new : Core) → new ≡ old → KeepsGrants old new
 grants_same old new same = grants_kept old new (keeps_unchanged old new same)
@@ -492,15 +493,12 @@ began_opening site facts plan answers old late new call content grant q (Ready (
 began_opening site facts plan answers old late new call content grant q (Ready (Err e)) is h =
     (h.0, inr (grant, h.1 ∙ ap (λ (x : Core). closed x grant) is))
 
-both_kept : (a b c : Core) → KeepsGrants a b → KeepsGrants b c → KeepsGrants a c
-both_kept a b c h k = record { grants = λ id handle users here. k.grants id handle users (h.grants id handle users here) }
-
 others_behind : (old late new : Core) (call : CallValue Granting) (content : List ℕ) (grant : GrantValue) (q : Writing) → KeepsGrants old late
     → KeepsOthers late new (writing.Opened grant content) q → KeepsOthers old new (writing.Opening call content) q
 others_behind old late new call content grant writing.Ended k h = tt
-others_behind old late new call content grant (writing.Opening other kept) k h = both_kept old late new k h
-others_behind old late new call content grant (writing.Opened other kept) k h = both_kept old late new k h
-others_behind old late new call content grant (writing.Parts other kept) k h = both_kept old late new k h
+others_behind old late new call content grant (writing.Opening other kept) k h = grants_both old late new k h
+others_behind old late new call content grant (writing.Opened other kept) k h = grants_both old late new k h
+others_behind old late new call content grant (writing.Parts other kept) k h = grants_both old late new k h
 
 pub open_begun : (facts : Facts) (old mid late new : Core) (call next : CallValue Granting) (content : List ℕ) (grant : GrantValue)
     (q : Writing) (result : WriteAnswer) → IsUnderWay granting old call → Stepped granting old mid call next (Ready (Ok grant))
@@ -524,7 +522,7 @@ open_begun facts old mid late new call next content grant q result held h ended 
       held = begun.held;
       over = begun.over;
       grants = others_behind old late new call content grant q
-          (both_kept old mid late h.grants (grants_same mid late (left ∙ ended_leaves mid next.stage ended))) begun.grants;
+          (grants_both old mid late h.grants (grants_same mid late (left ∙ ended_leaves mid next.stage ended))) begun.grants;
     }
 
 began_opened : (site : Site) (facts : Facts) (plan : Plan) (answers : Answers) (old new : Core) (grant : GrantValue) (content : List ℕ)
