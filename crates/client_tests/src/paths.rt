@@ -8,7 +8,9 @@ ghost use Rattle.call_state.specs.Keeping.{Keeps};
 
 mod listing;
 mod names;
+mod writing;
 
+use bytes::Bytes;
 use call_state::{Alone, Call};
 use sftp_core::Core;
 use sftp_file::Poll;
@@ -63,7 +65,12 @@ fn poll_seen<T>(told: &Poll<Result<T, Error>>) -> Seen {
 
 /// A core whose hello was sent and that took this VERSION.
 fn greeted(alloc: Global, version: &[u8]) -> Result<Core, Fail> {
-    let mut core = Core::new(alloc, &SftpOptions::new())?;
+    greeted_by(alloc, &SftpOptions::new(), version)
+}
+
+/// The same by these options.
+fn greeted_by(alloc: Global, options: &SftpOptions, version: &[u8]) -> Result<Core, Fail> {
+    let mut core = Core::new(alloc, options)?;
     let hello = core.hand_out()?;
     core.give_back(hello);
     if core.fault().is_none() && core.take(version).is_ok() {
@@ -101,12 +108,22 @@ fn sends(core: &mut Core, frame: &[u8]) -> bool
     let Ok(chunk) = core.hand_out() else {
         return false;
     };
-    let went = match chunk.pieces() {
-        [one] => one.as_slice() == frame,
-        _ => false,
-    };
+    let went = is_frame(chunk.pieces(), frame);
     core.give_back(chunk);
     went
+}
+
+/// Whether these pieces, joined, are this frame.
+fn is_frame(pieces: &[Bytes], frame: &[u8]) -> bool {
+    let mut rest = frame;
+    for piece in pieces {
+        let len = piece.len();
+        if rest.len() < len || piece.as_slice() != &rest[..len] {
+            return false;
+        }
+        rest = &rest[len..];
+    }
+    rest.is_empty()
 }
 
 /// Whether this body was taken.
