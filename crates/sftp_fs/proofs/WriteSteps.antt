@@ -57,12 +57,51 @@ use Rattle.call_state.specs.declared.stage.Stage.TheVariants as stage
 use Rattle.call_state.specs.Asked.{IsReady, request_of}
 use Rattle.call_state.specs.Keeping.{Keeps, KeepsGrants}
 use Rattle.sftp_file.proofs.Starting.{StartsAny}
-use Rattle.call_state.specs.Calls.{Asks, Begins, CallValue, cancelled, Cancels, is_ended, IsHeldAt, IsLeft, IsLeftAt, IsOver, IsUnderWay, Polled, polled_core, Started, Stepped, Tells, TellsAt}
+use Rattle.sftp_file.proofs.Steps.{cancelled_keeps}
+use Rattle.call_state.specs.Calls.{
+  Asks,
+  Begins,
+  CallValue,
+  cancelled,
+  Cancels,
+  is_ended,
+  IsHeldAt,
+  IsLeft,
+  IsLeftAt,
+  IsOver,
+  IsUnderWay,
+  Polled,
+  polled_core,
+  Started,
+  Stepped,
+  Tells,
+  TellsAt,
+}
 use Rattle.call_state.specs.Machines.{GoesBehind}
 use Rattle.sftp_fs.specs.Directories.{WithHandle, granted_left}
 use Rattle.sftp_fs.specs.Grants.{granting}
 use Rattle.sftp_fs.specs.Parts.{IsPart, PartValue, first_part, rest_from, writing_parts}
-use Rattle.sftp_fs.specs.WholeWrites.{AsksPart, Began, Begun, closed, fault_told, IsOverBy, IsOwned, IsUnbegun, IsUnbegunBy, IsWriteHeld, IsWriteLeft, KeepsBesides, KeepsOthers, unended, WriteAnswer, writes_content, Wrote, WroteOn}
+use Rattle.sftp_fs.specs.WholeWrites.{
+  AsksPart,
+  Began,
+  Begun,
+  CancelsWrite,
+  closed,
+  fault_told,
+  IsOverBy,
+  IsOwned,
+  IsUnbegun,
+  IsUnbegunBy,
+  IsWriteHeld,
+  IsWriteLeft,
+  KeepsBesides,
+  KeepsOthers,
+  unended,
+  WriteAnswer,
+  writes_content,
+  Wrote,
+  WroteOn,
+}
 use Rattle.sftp_fs.specs.declared.fs_write.Writing.{Writing}
 use Rattle.sftp_fs.specs.declared.fs_write.Writing.TheVariants as writing
 use Rattle.sftp_fs.specs.declared.granting.Granting.{Granting}
@@ -595,3 +634,18 @@ write_still old new (writing.Opening call content) k h = still_under_way grantin
 write_still old new (writing.Opened grant content) k h = k.grants.grants grant.id grant.handle 1 h
 write_still old new (writing.Parts grant call) k h =
     (k.grants.grants grant.id grant.handle 1 h.0, still_under_way writing_parts old new call k h.1)
+
+-- ---- a write is given up
+
+pub drops_opened : (old new : Core) (grant : GrantValue) (content : List ℕ) → new ≡ closed old grant
+    → CancelsWrite old new (writing.Opened grant content)
+drops_opened old new grant content close =
+    record { core = close; grants = (closes_besides old old new grant (grants_same old old refl) close).grants }
+
+pub drops_parts : (old mid new : Core) (grant : GrantValue) (call : CallValue PartValue) → IsUnderWay writing_parts old call
+    → Cancels old mid call.stage → new ≡ closed mid grant → CancelsWrite old new (writing.Parts grant call)
+drops_parts old mid new grant call h cancels close =
+    record {
+      core = close ∙ ap (λ (x : Core). closed x grant) cancels.core;
+      grants = (closes_besides old mid new grant (cancelled_keeps writing_parts old mid call refl h.held cancels) close).grants;
+    }

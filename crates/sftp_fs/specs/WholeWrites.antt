@@ -13,7 +13,7 @@ use Rattle.sftp_core.specs.Core.{Core, abandoned, at, released}
 use Rattle.sftp_core.specs.Grant.{GrantValue}
 use Rattle.sftp_core.specs.declared.place.Place.TheVariants.{Granted}
 use Rattle.call_state.specs.Asked.{IsReady}
-use Rattle.call_state.specs.Calls.{Asks, IsLeft, IsUnderWay, IsUnfinished, Tells, cancelled, polled_core}
+use Rattle.call_state.specs.Calls.{Asks, IsGrantOf, IsLeft, IsUnderWay, IsUnfinished, Tells, cancelled, polled_core}
 use Rattle.call_state.specs.Keeping.{Keeps, KeepsGrants}
 use Rattle.call_state.specs.declared.poll.Poll.{Poll}
 use Rattle.call_state.specs.declared.poll.Poll.TheVariants.{Pending, Ready}
@@ -215,6 +215,19 @@ write_dropped core writing.Ended = core
 write_dropped core (writing.Opening call content) = cancelled core call.stage
 write_dropped core (writing.Opened grant content) = closed core grant
 write_dropped core (writing.Parts grant call) = closed (cancelled core call.stage) grant
+
+-- the grant of a write is this: that of its file, or one that came and was not gone on with
+abbrev pub IsOwnGrant : Writing → ℕ → Type 0
+IsOwnGrant (writing.Opening call content) id = IsGrantOf call.stage id
+IsOwnGrant (writing.Opened grant content) id = grant.id ≡ id
+IsOwnGrant (writing.Parts grant call) id = grant.id ≡ id
+IsOwnGrant writing.Ended id = ⊥
+
+-- what a cancel did; every other grant stays
+pub record CancelsWrite (old new : Core) (p : Writing) : Type 0 where
+  pub core : new ≡ write_dropped old p
+  pub grants : (id : ℕ) (handle : List ℕ) (users : ℕ) → (IsOwnGrant p id → ⊥)
+      → at old id ≡ Some (Granted handle users) → at new id ≡ Some (Granted handle users)
 
 -- ---- facts of parts
 

@@ -10,9 +10,9 @@ ghost use Rattle.call_state.specs.Asked.{IsReady};
 ghost use Rattle.call_state.specs.Calls.{IsUnderWay};
 ghost use Rattle.sftp_fs.specs.Grants.{granting};
 ghost use Rattle.sftp_fs.specs.Parts.{writing_parts};
-ghost use Rattle.sftp_fs.specs.WholeWrites.{Begun, IsOwned, IsUnbegun, IsUnended, IsWriteHeld, MayWrite};
+ghost use Rattle.sftp_fs.specs.WholeWrites.{Begun, CancelsWrite, IsOwned, IsUnbegun, IsUnended, IsWriteHeld, MayWrite};
 ghost use Rattle.sftp_fs.specs.WholeWrites.{WroteOn, Writes, WritesFrom};
-ghost use Rattle.sftp_fs.specs.WholeWrites.{closed, fault_told, is_over, unended, write_dropped};
+ghost use Rattle.sftp_fs.specs.WholeWrites.{closed, fault_told, is_over, unended};
 ghost use Rattle.sftp_fs.specs.declared.fs_write.Writing.TheVariants as writing;
 
 use crate::asks::{ask, facts};
@@ -235,6 +235,22 @@ fn poll_stage(core: &mut Core, facts: Facts, stage: Writing) -> (Poll<Result<(),
     }
 }
 
+/// Gives up what is under way, and closes the file.
+fn cancel(core: &mut Core, stage: Writing)
+    requires { IsWriteHeld core.old stage }
+    ensures { CancelsWrite core.old core.new stage }
+{
+    match stage {
+        Writing::Ended => {}
+        Writing::Opening(call, _content) => call.cancel(core),
+        Writing::Opened(grant, _content) => close(core, grant),
+        Writing::Parts(grant, call) => {
+            call.cancel(core);
+            close(core, grant);
+        }
+    }
+}
+
 impl FsWriteCall {
     /// Polls what the write awaits, and goes on with it: each part is sent after the STATUS of OK to the one before.
     /// The file is closed at the end, whose STATUS isn't awaited. `Pending` exactly where a reply was not taken and no
@@ -261,18 +277,10 @@ impl FsWriteCall {
     /// Gives the write up: its request stays under way, its reply is dropped, and the file is closed.
     pub fn cancel(self, core: &mut Core)
         requires { IsWriteHeld core.old self.stage }
-        ensures { core.new ≡ write_dropped core.old self.stage }
+        ensures { CancelsWrite core.old core.new self.stage }
     {
         let FsWriteCall { facts: _, stage } = self;
-        match stage {
-            Writing::Ended => {}
-            Writing::Opening(call, _content) => call.cancel(core),
-            Writing::Opened(grant, _content) => close(core, grant),
-            Writing::Parts(grant, call) => {
-                call.cancel(core);
-                close(core, grant);
-            }
-        }
+        cancel(core, stage);
     }
 
     /// Lets the write go where its core was given up.
