@@ -1,5 +1,5 @@
 -- What a frame that is taken, or not, leaves.
-use Rattle.std.proofs.Common.{◌≡◌, Option, None, Result, Ok, Err, IsSome, IfOk, IfErr, OnOk}
+use Rattle.std.proofs.Common.{◌≡◌, None, Result, Ok, Err, IsSome, IfOk, IfErr, OnOk}
 use Rattle.sftp_model.specs.declared.frame_error.FrameError.{FrameError}
 use Rattle.sftp_core.specs.declared.errors.TakeError.{TakeError}
 use Rattle.sftp_core.specs.declared.tokens.Taken.{Taken}

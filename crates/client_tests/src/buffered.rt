@@ -5,6 +5,7 @@ ghost use Rattle.call_state.specs.Asked.{IsReady};
 ghost use Rattle.call_state.specs.Keeping.{Keeps};
 ghost use Rattle.sftp_buffered.specs.Buffered.{CompatValue, IsSound};
 
+use bytes::Bytes;
 use sftp_buffered::TokioCompatFile;
 use sftp_core::{Chunk, Core};
 use sftp_file::{Error, File, IoKind, Poll, StartOpen};
@@ -36,6 +37,16 @@ enum Step {
     /// A read into the buffer of at most so many bytes, and what is buffered then.
     Fill(u32, &'static [u8]),
     Consume(usize),
+    /// As `Write`, of two pieces.
+    WritePieces(&'static [u8], &'static [u8]),
+    /// A read into an empty buffer, and what is buffered then.
+    FillBuf(&'static [u8]),
+    /// At most so many buffered bytes, taken out, which are these.
+    TakeOut(usize, &'static [u8]),
+    Reserve(usize),
+    Shrink(usize),
+    /// What is buffered.
+    Holds(&'static [u8]),
     Seek(i64),
     /// The frames that are handed out.
     Sends(&'static [u8]),
@@ -215,6 +226,70 @@ fn consume(core: &mut Core, file: &mut TokioCompatFile, n: usize) -> Seen
     Seen::Done
 }
 
+fn write_pieces(
+    core: &mut Core,
+    file: &mut TokioCompatFile,
+    first: &'static [u8],
+    second: &'static [u8],
+) -> Seen
+    requires { IsSound core.old file.old }
+    ensures { IsSound core.new file.new }
+{
+    if !is_ready(core) {
+        return Seen::Other;
+    }
+    let pieces = [Bytes::from_static(first), Bytes::from_static(second)];
+    match file.poll_write_vectored(core, &pieces) {
+        Poll::Pending => Seen::Pending,
+        Poll::Ready(Ok(n)) => Seen::Count(n),
+        Poll::Ready(Err(e)) => refused(e),
+    }
+}
+
+fn fill_buf(core: &mut Core, file: &mut TokioCompatFile, holds: &[u8]) -> Seen
+    requires { IsSound core.old file.old }
+    ensures { IsSound core.new file.new }
+{
+    if !is_ready(core) {
+        return Seen::Other;
+    }
+    match file.poll_fill_buf(core) {
+        Poll::Pending => Seen::Pending,
+        Poll::Ready(Ok(())) => taken(file.buffer() == holds),
+        Poll::Ready(Err(e)) => refused(e),
+    }
+}
+
+fn take_out(core: &mut Core, file: &mut TokioCompatFile, n: usize, gives: &[u8]) -> Seen
+    requires { IsSound core.old file.old }
+    ensures { IsSound core.new file.new }
+{
+    match file.consume_and_return_buffer(n) {
+        Ok(bytes) => taken(bytes.as_slice() == gives),
+        Err(_) => Seen::Other,
+    }
+}
+
+fn reserve(core: &mut Core, file: &mut TokioCompatFile, n: usize) -> Seen
+    requires { IsSound core.old file.old }
+    ensures { IsSound core.new file.new }
+{
+    match file.reserve(n) {
+        Ok(()) => taken(file.capacity() >= n),
+        Err(_) => Seen::Other,
+    }
+}
+
+fn shrink(core: &mut Core, file: &mut TokioCompatFile, n: usize) -> Seen
+    requires { IsSound core.old file.old }
+    ensures { IsSound core.new file.new }
+{
+    match file.shrink_to(core, n) {
+        Ok(()) => taken(file.capacity() <= n),
+        Err(_) => Seen::Other,
+    }
+}
+
 fn seek(core: &mut Core, file: &mut TokioCompatFile, by: i64) -> Seen
     requires { IsSound core.old file.old }
     ensures { IsSound core.new file.new }
@@ -244,6 +319,12 @@ fn made(
         Step::Read(n, gives) => Ok(read(core, file, n, gives)),
         Step::Fill(n, holds) => Ok(fill(core, file, n, holds)),
         Step::Consume(n) => Ok(consume(core, file, n)),
+        Step::WritePieces(first, second) => Ok(write_pieces(core, file, first, second)),
+        Step::FillBuf(holds) => Ok(fill_buf(core, file, holds)),
+        Step::TakeOut(n, gives) => Ok(take_out(core, file, n, gives)),
+        Step::Reserve(n) => Ok(reserve(core, file, n)),
+        Step::Shrink(n) => Ok(shrink(core, file, n)),
+        Step::Holds(bytes) => Ok(taken(file.buffer() == bytes)),
         Step::Seek(by) => Ok(seek(core, file, by)),
         Step::Sends(bytes) => Ok(taken(sends(core, bytes))),
         Step::Status(id, code) => takes_status(alloc, core, id, code),
@@ -504,6 +585,47 @@ const READS: &[Case] = &[
             (Step::Read(8, b"bc"), Seen::Count(2)),
             (Step::Read(8, b""), Seen::Pending),
             (Step::Flush, Seen::Pending),
+        ],
+    ),
+    (
+        "the buffer taken out, and its capacity",
+        &[
+            (Step::Fill(2, b""), Seen::Pending),
+            (Step::Sends(b""), Seen::Other),
+            (Step::Data(1, b"ab"), Seen::Done),
+            (Step::Fill(9, b"ab"), Seen::Done),
+            (Step::TakeOut(9, b"ab"), Seen::Done),
+            (Step::At(2), Seen::Done),
+            (Step::Reserve(5000), Seen::Done),
+            (Step::Fill(2, b""), Seen::Pending),
+            (Step::Sends(b""), Seen::Other),
+            (Step::Data(1, b"cd"), Seen::Done),
+            (Step::Fill(9, b"cd"), Seen::Done),
+            (Step::Shrink(5000), Seen::Done),
+            (Step::Holds(b"cd"), Seen::Done),
+            (Step::Shrink(4), Seen::Done),
+            (Step::Holds(b""), Seen::Done),
+            (Step::At(2), Seen::Done),
+            (Step::FillBuf(b""), Seen::Pending),
+            (
+                Step::Sends(b"\0\0\0\x16\x05\0\0\0\x01\0\0\0\x01h\0\0\0\0\0\0\0\x02\0\0\0\x03"),
+                Seen::Done,
+            ),
+            (Step::Data(1, b"cde"), Seen::Done),
+            (Step::FillBuf(b"cde"), Seen::Done),
+            (Step::FillBuf(b"cde"), Seen::Done),
+        ],
+    ),
+    (
+        "a write of pieces",
+        &[
+            (Step::WritePieces(b"", b""), Seen::Count(0)),
+            (Step::WritePieces(b"a", b"bcd"), Seen::Count(2)),
+            (Step::At(2), Seen::Done),
+            (
+                Step::Sends(b"\0\0\0\x18\x06\0\0\0\x01\0\0\0\x01h\0\0\0\0\0\0\0\0\0\0\0\x02ab"),
+                Seen::Done,
+            ),
         ],
     ),
 ];

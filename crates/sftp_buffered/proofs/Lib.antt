@@ -5,6 +5,7 @@ pub mod Deferring
 pub mod Sound
 pub mod Others
 pub mod Resting
+pub mod Windows
 pub mod Planning
 pub mod Flushing
 pub mod Filling

@@ -88,6 +88,7 @@ use Rattle.sftp_buffered.specs.Steps.{
 use Rattle.sftp_buffered.proofs.Resting.{rest_at, rest_freed}
 use Rattle.sftp_buffered.specs.Writes.{HasRoom, IsWindow, Sent, Unsent, Writes, write_plan}
 use Rattle.sftp_buffered.proofs.Sound.{sound_left, sound_looked, sound_send}
+use Rattle.sftp_buffered.proofs.Windows.{window_left, window_looked, window_same, window_send}
 use Rattle.sftp_buffered.proofs.Others.{others_left, others_looked, others_same, others_send}
 
 -- ---- the plan before its request
@@ -430,6 +431,7 @@ pending_writes Cut bytes old new p q m s w = record {
   polled = window_waits bytes old new p q m s w;
   sound =
       sound_left old new p q w.1.2 s;
+  window = window_left (facts_of old).write_limit old new p q w.1.2;
   others = others_left old new p w.1.2.core;
 }
 
@@ -457,6 +459,7 @@ refused_writes Cut bytes old new p q e m s w = record {
   polled = refused_polls Cut bytes old new p q e m s w.0 w.1;
   sound =
       sound_looked old new p q e w.1 s;
+  window = window_looked (facts_of old).write_limit old new p q e w.1;
   others = others_looked old new p q e w.1 s;
 }
 
@@ -478,6 +481,7 @@ sent_writes_here Cut bytes old new p q w parts n result m s h ok err =
       polled = λ answers d. polls_result Cut w.is_full (write_plan bytes old p) (facts_of old) bytes answers old new p q parts n result
           (goes_as w.is_full p (facts_of old) bytes answers old m.may m.some s.counted h.room.full d h.room.good) part h.room.good h.cut ok err;
       sound = sound_send w.is_full parts n old new p q result s h.room.good ok err;
+      window = window_send w.is_full (facts_of old) parts (length bytes) n old new p q result part.len h.room.good ok err;
       others = others_send w.is_full parts n old new p q result s h.room.good ok err;
     }
 
@@ -496,7 +500,13 @@ sent_writes Cut bytes old now new p r q w parts n result m s l h ok err =
 -- want of memory behind the window
 pub short_writes : (Cut : Asking → Type 0) (bytes : List ℕ) (old new : Core) (p q : CompatValue) → IsSound old p → IsLeft old new p q
     → Writes Cut bytes old new p q (poll.Ready (Err error.OutOfMemory))
-short_writes Cut bytes old new p q s l = record { polled = λ answers d. l; sound = sound_left old new p q l s; others = others_left old new p l.core }
+short_writes Cut bytes old new p q s l = record {
+  polled = λ answers d. l;
+  sound = sound_left old new p q l s;
+  window =
+      window_left (facts_of old).write_limit old new p q l;
+  others = others_left old new p l.core;
+}
 
 -- ---- before the window
 
@@ -511,6 +521,7 @@ unwritable_writes Cut bytes core c not_so s =
         rest = rest_freed false core c;
       };
       sound = s;
+      window = window_same (facts_of core).write_limit c;
       others = others_same core c;
     }
 
@@ -525,5 +536,6 @@ empty_writes Cut bytes core c may none s =
         rest = rest_freed false core c;
       });
       sound = s;
+      window = window_same (facts_of core).write_limit c;
       others = others_same core c;
     }

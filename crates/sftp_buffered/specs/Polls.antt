@@ -54,11 +54,11 @@ pub record Asks (plan : Plan) (o : Outcome) (Cut : Asking → Type 0) (answers :
 -- answered where the plan is not at its end.
 abbrev pub Polls : {V : Type 0} → Type 0 → Type 0 → (Asking → Type 0) → Plan → (V → Outcome) → Answers → Core → Core
     → CompatValue → CompatValue → Poll (Result V Error) → Type 0
-Polls Pending Left Cut plan o answers old new p q poll.Pending = Pending
-Polls Pending Left Cut plan o answers old new p q (poll.Ready (Err error.OutOfMemory)) = Left
-Polls Pending Left Cut plan o answers old new p q (poll.Ready (Err (error.BackgroundTaskFailure fault))) =
+Polls Due Left Cut plan o answers old new p q poll.Pending = Due
+Polls Due Left Cut plan o answers old new p q (poll.Ready (Err error.OutOfMemory)) = Left
+Polls Due Left Cut plan o answers old new p q (poll.Ready (Err (error.BackgroundTaskFailure fault))) =
     (old.fault ≡ Some fault) × IsUnfinished (plan [] answers) × Left
-Polls Pending Left Cut plan o answers old new p q (poll.Ready (Ok value)) = Ends plan (o value) answers old new p q
+Polls Due Left Cut plan o answers old new p q (poll.Ready (Ok value)) = Ends plan (o value) answers old new p q
     ⊎ Asks plan (o value) Cut answers old new p q
-Polls Pending Left Cut plan o answers old new p q (poll.Ready (Err e)) =
+Polls Due Left Cut plan o answers old new p q (poll.Ready (Err e)) =
     Ends plan (outcome.Refused e) answers old new p q

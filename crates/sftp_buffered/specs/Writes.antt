@@ -1,5 +1,5 @@
 -- Writes whose statuses are left for later.
-use Rattle.std.specs.Prelude.{◌≡◌, ◌≤◌, ◌<◌, ◌+◌, ◌^◌, ℕ, Bool, true, List, Some, Result, Ok, Err}
+use Rattle.std.specs.Prelude.{◌≡◌, ◌≤◌, ◌<◌, ◌+◌, ◌^◌, ℕ, Bool, true, List, Some, Result, Ok, Err, max}
 use Rattle.sftp_model.specs.Numbers.{MAX_TRANSFER_LEN}
 use Rattle.sftp_model.specs.declared.error.Error.{Error}
 use Rattle.sftp_model.specs.declared.error.Error.TheVariants as error
@@ -91,5 +91,6 @@ pub record Writes (Cut : Asking → Type 0) (bytes : List ℕ) (old new : Core) 
   pub polled : (answers : Answers) → Defers old p answers
       → Polls (Waits (write_plan bytes old p) answers old (IsLeft old new p q)) (IsLeft old new p q) Cut
       (write_plan bytes old p) (λ n. outcome.Count n) answers old new p q result
+  pub window : q.pending ≤ max p.pending (facts_of old).write_limit
   pub sound : IsSound new q
   pub others : LeavesOthers old new p

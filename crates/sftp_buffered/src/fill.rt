@@ -42,6 +42,7 @@ impl TokioCompatFile {
         ensures left { OnErr result (core.new ≡ core.old) }
     {
         let handle = self.file.grant().handle();
+        // for the contract: a handle has at most 256 bytes
         let _short = handle.as_bytes();
         let request = Request::Read {
             handle: handle.copied(),

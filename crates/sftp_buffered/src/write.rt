@@ -28,6 +28,7 @@ impl TokioCompatFile {
         ensures left { OnErr result (core.new ≡ core.old) }
     {
         let handle = self.file.grant().handle();
+        // for the contract: a handle has at most 256 bytes
         let _short = handle.as_bytes();
         match core.submit_parts(handle, self.file.offset(), parts) {
             Ok(ticket) => Ok(ticket),

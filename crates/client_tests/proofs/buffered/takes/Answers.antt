@@ -1,4 +1,4 @@
-use Rattle.std.proofs.Common.{rules, ◌≡◌, IsSome}
+use Rattle.std.proofs.Common.{rules, IsSome}
 use Rattle.sftp_core.specs.Info.{info_of}
 use Rattle.call_state.specs.Keeping.{Keeps}
 use Rattle.sftp_buffered.proofs.Keeping.{kept_sound}
