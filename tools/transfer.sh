@@ -81,6 +81,15 @@ for size in 0 1 32768 100001 8000000; do
     rm -f "$room/near/file" "$room/near/other"
 done
 
+# ---- standard input and output as the connection
+
+head -c 100001 /dev/urandom >"$room/far/file"
+status=0
+timeout 60 socat "EXEC:$server" "EXEC:$program stdio get $room/far/file $room/near/file" 2>"$room/err"
+cmp "$room/far/file" "$room/near/file" && ! [ -s "$room/err" ]
+tell 'a file down over standard input and output' $?
+rm -f "$room/near/file"
+
 # ---- what is refused, with the cause and the file on one line
 
 run socket get "$room/far/missing" "$room/near/file"

@@ -6,3 +6,4 @@ pub mod SendLaws
 pub mod AskLaws
 pub mod PutEnds
 pub mod CopyLaws
+pub mod DiskLaws

@@ -1,5 +1,5 @@
 -- A local file is put, by its name.
-use Rattle.std.proofs.Common.{◌≡◌, ℕ, List, [], ◌∷◌, ◌++◌, refl, subst}
+use Rattle.std.proofs.Common.{inl, inr, ◌≡◌, ℕ, List, [], ◌∷◌, ◌++◌, refl, subst}
 use Rattle.std.specs.Prelude.{Result, Ok, Err}
 use Rattle.sftp_link.specs.Views.{LinkView}
 use Rattle.sftp_client.specs.Sessions.{SftpValue}
@@ -41,6 +41,7 @@ put_all {F = F} state done job old made closed new file before read after len op
         closes = closes;
         renames = renamed.renames;
       };
+      let_go = inl (closed, (file, s.mid, s.closed, s.closes));
     }
 
 pub not_renamed : {L S H F : Type 0} (state : L → LinkView S) (done : LocalAct → H → H) (job : PutJob)
@@ -56,6 +57,7 @@ not_renamed state done job old made closed new file before read after r e x open
         done_join done (Opened job.name ∷ []) acts.0 before read after opened acts.1,
         (tt, acts.2),
       );
+      let_go = inl (closed, (file, s.mid, s.closed, s.closes));
     }
 
 pub not_sent : {L S H F : Type 0} (state : L → LinkView S) (done : LocalAct → H → H) (job : PutJob)
@@ -71,14 +73,23 @@ not_sent state done job old made new file before read after e x opened s =
         done_join done (Opened job.name ∷ []) acts.0 before read after opened acts.1,
         (tt, acts.2),
       );
+      let_go = inl (new, (file, s.mid, s.closed, s.closes));
     }
 
 pub not_made : {L S H F : Type 0} (state : L → LinkView S) (done : LocalAct → H → H) (job : PutJob)
     (old new : SftpValue L) (before after : H) (x : F) → IsGoing state new
     → HasDone done (Opened job.name ∷ []) before after → Puts {E = F} state done job old new before after (Err x)
-not_made state done job old new before after x going opened = record { going = going; did = (Opened job.name ∷ [], opened, (tt, tt)) }
+not_made state done job old new before after x going opened = record {
+  going = going;
+  did = (Opened job.name ∷ [], opened, (tt, tt));
+  let_go = inr (Opened job.name, opened);
+}
 
 pub not_there : {L S H F : Type 0} (state : L → LinkView S) (done : LocalAct → H → H) (job : PutJob) (now : SftpValue L)
     (before after : H) (x : F) → IsGoing state now
     → HasDone done (Failed (Opened job.name) ∷ []) before after → Puts {E = F} state done job now now before after (Err x)
-not_there state done job now before after x going failed = record { going = going; did = (Failed (Opened job.name) ∷ [], failed, (tt, tt)) }
+not_there state done job now before after x going failed = record {
+  going = going;
+  did = (Failed (Opened job.name) ∷ [], failed, (tt, tt));
+  let_go = inr (Failed (Opened job.name), failed);
+}

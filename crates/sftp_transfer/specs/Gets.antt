@@ -183,11 +183,14 @@ abbrev pub GetDid : {L S H E : Type 0} → (L → LinkView S) → (LocalAct → 
 GetDid {E = E} state done job old new before after (Ok len) = GetsAll E state done job old new before after len
 GetDid state done job old new before after (Err e) = GetFailed done job before after
 
+-- a file was let go, which left this session
+abbrev pub WasLetGo : {L S : Type 0} → (E : Type 0) → (L → LinkView S) → SftpValue L → Type 0
+WasLetGo {L = L} E state new = (file : FileValue) × (mid : SftpValue L) × (closed : Result (Unit {0}) E)
+    × Closed state file mid new closed
+
 -- the file that was opened was let go, or none was opened and nothing was done
 abbrev pub LetsGo : {L S H : Type 0} → (E : Type 0) → (L → LinkView S) → SftpValue L → H → H → Type 0
-LetsGo {L = L} E state new before after = ((file : FileValue) × (mid : SftpValue L) × (closed : Result (Unit {0}) E)
-    × Closed state file mid new closed)
-    ⊎ (after ≡ before)
+LetsGo E state new before after = WasLetGo E state new ⊎ (after ≡ before)
 
 pub record Gets {L S H E : Type 0} (state : L → LinkView S) (done : LocalAct → H → H) (job : GetJob)
     (old new : SftpValue L) (before after : H) (result : Result ℕ E) : Type 0 where

@@ -5,3 +5,4 @@ pub mod Asks
 pub mod Gets
 pub mod Puts
 pub mod Copies
+pub mod Disks

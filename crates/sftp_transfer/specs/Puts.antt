@@ -38,7 +38,7 @@ use Rattle.sftp_streams.specs.Parts.{AreAwaited, without_parts}
 use Rattle.sftp_streams.specs.Uploads.{AsksWrite, MayWrite, UploadValue, Writes, starting, status_kind}
 use Rattle.sftp_transfer.specs.Awaits.{Closed, OpensAs}
 use Rattle.sftp_transfer.specs.Asks.{Renames}
-use Rattle.sftp_transfer.specs.Gets.{AreBoth}
+use Rattle.sftp_transfer.specs.Gets.{AreBoth, WasLetGo}
 use Rattle.sftp_transfer.specs.Local.{AreGot, Got, HasDone, LocalAct, Opened}
 use Rattle.sftp_transfer.specs.Sessions.{IsGoing, Turns}
 
@@ -236,7 +236,13 @@ PutDid {E = E} state done job old new before after (Ok len) = PutsAll E state do
 PutDid state done job old new before after (Err e) = (acts : List LocalAct) × HasDone done acts before after
     × AreGot acts
 
+-- the file that was opened was let go, or none was opened and nothing was read
+abbrev pub PutLetsGo : {L S H : Type 0} → (E : Type 0) → (L → LinkView S) → (LocalAct → H → H) → H → H → Type 0
+PutLetsGo {L = L} E state done before after = ((new : SftpValue L) × WasLetGo E state new)
+    ⊎ ((act : LocalAct) × HasDone done (act ∷ []) before after)
+
 pub record Puts {L S H E : Type 0} (state : L → LinkView S) (done : LocalAct → H → H) (job : PutJob)
     (old new : SftpValue L) (before after : H) (result : Result ℕ E) : Type 0 where
   pub going : IsGoing state new
   pub did : PutDid state done job old new before after result
+  pub let_go : PutLetsGo E state done before after

@@ -1,10 +1,13 @@
 //! Copies files from and to an SFTP server.
 #![tactic(auto)]
 
+ghost use Rattle.std.specs.Prelude.{◌<◌, ◌-◌, ◌^◌};
+
 mod asking;
 mod awaiting;
 mod failure;
 mod get;
+mod laws;
 mod local;
 mod names;
 mod put;
@@ -14,16 +17,17 @@ mod words;
 
 pub use failure::Failure;
 pub use get::get;
+pub use laws::one_name_is_changed;
 pub use local::{LocalError, LocalFile};
 pub use put::put;
-use sftp_link::{Dial, UnixDial};
+use sftp_link::{Dial, Duplex, Link, ReadSource, UnixDial, WriteSink};
 use sftp_model::{Error, SftpOptions};
 use std::env;
 use std::io::ErrorKind;
 use std::process::ExitCode;
 pub use system::SystemFile;
 pub use transfer::transfer;
-use words::{Job, Way};
+use words::{Job, Line, Way};
 
 /// The status where the server refused, or the connection failed.
 const REFUSED: u8 = 1;
@@ -81,16 +85,10 @@ fn tell(rt: &HostRuntime, job: Job<'_>, failure: &Failure) -> u8 {
     }
 }
 
-/// Copies a file, and answers the status.
-fn run(rt: &HostRuntime, job: Job<'_>) -> u8 {
-    let mut dial = UnixDial::new(rt);
-    let link = match dial.dial(job.socket) {
-        Ok(link) => link,
-        Err(_) => {
-            let _ = eprintln!(rt; "sftp_transfer: {}: nothing answers", job.socket);
-            return NO_LINK;
-        }
-    };
+/// Copies a file over a link, and answers the status.
+fn copy_over<L: Link + Drop>(rt: &HostRuntime, link: L, job: Job<'_>) -> u8
+    requires { (L.LinkState.state link).faults < 2 ^ 64 - 1 }
+{
     let mut local = SystemFile::new(rt);
     let copied = transfer(
         rt.alloc(),
@@ -104,6 +102,23 @@ fn run(rt: &HostRuntime, job: Job<'_>) -> u8 {
     match copied {
         Ok(_) => 0,
         Err(failure) => tell(rt, job, &failure),
+    }
+}
+
+/// Copies a file, and answers the status.
+fn run(rt: &HostRuntime, job: Job<'_>) -> u8 {
+    match job.line {
+        Line::Unix(path) => match UnixDial::new(rt).dial(path) {
+            Ok(link) => copy_over(rt, link, job),
+            Err(_) => {
+                let _ = eprintln!(rt; "sftp_transfer: {path}: nothing answers");
+                NO_LINK
+            }
+        },
+        Line::Stdio => {
+            let link = Duplex::new(ReadSource::new(rt.stdin()), WriteSink::new(rt.stdout()));
+            copy_over(rt, link, job)
+        }
     }
 }
 

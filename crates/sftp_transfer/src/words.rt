@@ -18,7 +18,8 @@ Usage: sftp_transfer LINK get REMOTE LOCAL
 
 Copies a file from or to an SFTP server, with many requests under way at once.
 
-LINK is unix:PATH, a Unix socket on which the server listens. With ssh:
+LINK is unix:PATH, a Unix socket on which the server listens, or stdio, where standard input
+and output are the connection. With ssh:
 
   socat UNIX-LISTEN:sftp.socket,fork EXEC:'ssh -s HOST sftp' &
   sftp_transfer unix:sftp.socket get /etc/hosts hosts
@@ -53,14 +54,32 @@ pub(crate) fn text_for(words: &[String]) -> Option<&'static str> {
     }
 }
 
+/// Where the server is.
+#[derive(Clone, Copy)]
+pub(crate) enum Line<'a> {
+    /// It listens on the socket at this path.
+    Unix(&'a str),
+    /// Standard input comes from it, and standard output goes to it.
+    Stdio,
+}
+
 /// A file to copy.
 #[derive(Clone, Copy)]
 pub(crate) struct Job<'a> {
-    /// The path of the server's socket.
-    pub(crate) socket: &'a str,
+    pub(crate) line: Line<'a>,
     pub(crate) way: Way,
     pub(crate) from: &'a str,
     pub(crate) to: &'a str,
+}
+
+fn line_of(word: &str) -> Option<Line<'_>> {
+    if word == "stdio" {
+        return Some(Line::Stdio);
+    }
+    match word.strip_prefix("unix:") {
+        Some(path) => Some(Line::Unix(path)),
+        None => None,
+    }
 }
 
 fn way_of(word: &str) -> Option<Way> {
@@ -77,7 +96,7 @@ fn way_of(word: &str) -> Option<Way> {
 pub(crate) fn job_of(words: &[String]) -> Option<Job<'_>> {
     match words {
         [link, way, from, to] => Some(Job {
-            socket: link.as_str().strip_prefix("unix:")?,
+            line: line_of(link.as_str())?,
             way: way_of(way.as_str())?,
             from: from.as_str(),
             to: to.as_str(),

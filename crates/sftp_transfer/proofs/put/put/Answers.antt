@@ -1,9 +1,9 @@
 use Rattle.std.proofs.Common.{rules, subst, [], ◌∷◌, Ok, Err}
 use Rattle.sftp_model.specs.declared.flags.OpenFlags.{OpenFlags}
 use Rattle.sftp_transfer.specs.Awaits.{OpensAs}
-use Rattle.sftp_transfer.specs.Local.{HasDone, Opened}
+use Rattle.sftp_transfer.specs.Local.{Failed, HasDone, Opened}
 use Rattle.sftp_transfer.specs.Puts.{PutJob}
-use Rattle.sftp_transfer.proofs.PutEnds.{not_renamed, not_sent, put_all}
+use Rattle.sftp_transfer.proofs.PutEnds.{not_made, not_renamed, not_sent, not_there, put_all}
 use Rattle.sftp_transfer.proofs.put.put.Goals as goal
 
 pub returns-in-Ok-rename_remote : goal.returns-in-Ok-rename_remote
@@ -34,3 +34,15 @@ returns-in-Err-send_closed g c =
     not_sent g.L.LinkState.state g.F.LocalFile.done job c.args.sftp.now c.open_remote.new.sftp c.send_closed.new.sftp
     c.in-Ok.file _ (g.F.LocalFile.history c.open.new.self) _
     c.in-Err-send_closed.e _ opened c.in-Err-send_closed.ensures
+
+pub returns-in-Err : goal.returns-in-Err
+returns-in-Err g c =
+    let job : PutJob = record { name = c.args.name.now; part = c.args.part.now; remote = c.args.remote.now; window = c.args.window } in
+    let failed : HasDone g.F.LocalFile.done (Failed (Opened c.args.name.now) ∷ []) (g.F.LocalFile.history c.args.local.now) (g.F.LocalFile.history c.open.new.self) = search rules in
+    not_there g.L.LinkState.state g.F.LocalFile.done job c.args.sftp.now _ _ _ c.requires.going failed
+
+pub returns-in-Err-open_remote : goal.returns-in-Err-open_remote
+returns-in-Err-open_remote g c =
+    let job : PutJob = record { name = c.args.name.now; part = c.args.part.now; remote = c.args.remote.now; window = c.args.window } in
+    let opened : HasDone g.F.LocalFile.done (Opened c.args.name.now ∷ []) (g.F.LocalFile.history c.args.local.now) (g.F.LocalFile.history c.open.new.self) = search rules in
+    not_made g.L.LinkState.state g.F.LocalFile.done job c.args.sftp.now c.open_remote.new.sftp _ _ _ c.open_remote.ensures.going opened
