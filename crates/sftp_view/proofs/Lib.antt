@@ -8,3 +8,5 @@ pub mod WorkLaws
 pub mod GatherLaws
 pub mod PutLaws
 pub mod OpLaws
+pub mod AllLaws
+pub mod DrainLaws

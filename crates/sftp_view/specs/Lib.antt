@@ -1,3 +1,4 @@
 pub mod Doings
 pub mod IdleSteps
 pub mod Working
+pub mod Operations

@@ -1,10 +1,10 @@
-//! A view of remote files through a cache of their blocks.
+//! What a view of remote files does by a session of one lane, through a cache of their blocks.
 #![tactic(auto)]
 
+mod all;
 mod blocks;
 mod call;
 mod ops;
 mod puts;
 
 pub use ops::View;
-pub use puts::write_file;
