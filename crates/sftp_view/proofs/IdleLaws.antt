@@ -43,6 +43,7 @@ steps_idly old new event opened none steps =
       count = g.did.working.stands.lanes ∙ ap length (sym lanes);
       each = λ lane. g.did.working.stands.calls lane
           ∙ ap (λ (l : List Lane). calls_of (slice_get l lane) ++ added (past_of new.work) lane) (sym lanes);
+      settled = g.did.working.rest.settled;
     }
 
 -- the session is idle still

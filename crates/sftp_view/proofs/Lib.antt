@@ -10,3 +10,5 @@ pub mod PutLaws
 pub mod OpLaws
 pub mod AllLaws
 pub mod DrainLaws
+pub mod ClosingLaws
+pub mod ViewLaws

@@ -4,7 +4,9 @@
 mod all;
 mod blocks;
 mod call;
+mod close;
 mod ops;
 mod puts;
+mod view;
 
-pub use ops::View;
+pub use view::{ViewReport, run_view};
