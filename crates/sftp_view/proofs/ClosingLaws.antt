@@ -1,12 +1,10 @@
 -- An idle session is ended.
-use Rattle.std.proofs.Common.{◌≡◌, ◌<◌, ℕ, zero, suc, List, [], ◌∷◌, length, None, true, refl, ap, sym, ◌∙◌, subst, arith}
+use Rattle.std.proofs.Common.{◌≡◌, ◌<◌, ℕ, zero, suc, List, length, None, true, ap, sym, ◌∙◌, subst, arith}
 use Rattle.std.specs.Prelude.{Result, Ok, Err}
 use Rattle.sftp_model.specs.declared.error.Error.{Error}
 use Rattle.sftp_model.specs.declared.error.Error.TheVariants as error
 use Rattle.sftp_link.specs.Views.{LinkView}
-use Rattle.plan_model.specs.declared.call.Lane.{Lane}
 use Rattle.session_model.specs.declared.entry.Entry.{Entry}
-use Rattle.session_model.specs.declared.entry.Entry.TheVariants as entry
 use Rattle.session_model.specs.Calls.{Setting, added, current}
 use Rattle.session_model.specs.Grants.{orphan}
 use Rattle.session_model.specs.Journals.{IsJournal}
@@ -14,14 +12,13 @@ use Rattle.session_model.specs.Readings.{outcomes_of, unanswered, was_let_go}
 use Rattle.session_model.specs.Runs.{LetsGoTo}
 use Rattle.session_model.specs.Turns.{Stage}
 use Rattle.session_driver.specs.Logs.{Keeps as LogKeeps}
-use Rattle.session_driver.specs.Ongoing.{At, Drained, Ongoing, Went, at, draining, lanes_go}
+use Rattle.session_driver.specs.Ongoing.{At, Ongoing, at, draining, lanes_go}
 use Rattle.session_driver.specs.Session.{IsLater, IsUnmoved}
-use Rattle.session_driver.specs.declared.session.Phase.TheVariants.{Open}
 use Rattle.session_driver.proofs.Joining.{as_part, join, no_memory, quiet, setting_stays}
 use Rattle.session_driver.proofs.Journals.{later_self}
 use Rattle.sftp_lanes.specs.Seen.{SessionValue, seen_of}
-use Rattle.sftp_view.specs.Closing.{Closes, IsClosed}
-use Rattle.sftp_view.specs.Doings.{IsIdle, going_on, one_lane}
+use Rattle.sftp_view.specs.Closing.{Closes}
+use Rattle.sftp_view.specs.Doings.{IsIdle, going_on}
 use Rattle.sftp_view.specs.IdleSteps.{StepsIdly}
 use Rattle.sftp_view.proofs.DrainLaws.{Keeps, drains_keep, let_go_keeps}
 use Rattle.sftp_view.proofs.OneCall.{later_journal}

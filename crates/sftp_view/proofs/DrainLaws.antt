@@ -1,5 +1,5 @@
 -- Letting a lane go and draining add no call, and end none.
-use Rattle.std.proofs.Common.{◌≡◌, ℕ, zero, suc, Bool, true, false, List, [], ◌∷◌, None, refl, ap, sym, ◌∙◌, subst, inl, inr}
+use Rattle.std.proofs.Common.{◌≡◌, ℕ, zero, suc, Bool, true, false, List, [], ◌∷◌, None, refl, sym, ◌∙◌, subst, inl, inr}
 use Rattle.std.specs.Prelude.{MatchBool, nat_lt}
 use Rattle.sftp_model.specs.declared.reply.Reply.{Reply}
 use Rattle.session_model.specs.declared.entry.Entry.{Entry}

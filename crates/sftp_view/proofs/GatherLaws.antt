@@ -1,6 +1,6 @@
 -- The blocks of a get, one after another.
-use Rattle.std.proofs.Common.{◌≡◌, ◌≤◌, ◌<◌, ◌+◌, ◌-◌, ◌*◌, ◌^◌, ℕ, zero, suc, Bool, true, false, List, [], ◌∷◌, ◌++◌, length, if◌then◌else◌, refl, ap, sym, ◌∙◌, subst, arith}
-use Rattle.std.specs.Prelude.{Option, Some, None, Result, Ok, Err, nat_lt}
+use Rattle.std.proofs.Common.{◌≡◌, ◌≤◌, ◌<◌, ◌+◌, ◌-◌, ◌*◌, ◌^◌, ℕ, suc, true, false, List, [], ◌++◌, length, if◌then◌else◌, refl, ap, sym, ◌∙◌, subst, arith}
+use Rattle.std.specs.Prelude.{Result, Ok, Err, nat_lt}
 use Rattle.std.specs.Map.{lookup}
 use Rattle.std.proofs.Math.Nat.{le-mul_of_pos_right, mul-le-mul_right}
 use Rattle.std.proofs.lemmas.Bool.Decides.{nat_tests}
@@ -8,20 +8,17 @@ use Rattle.sftp_model.specs.declared.error.Error.{Error}
 use Rattle.sftp_model.specs.declared.error.Error.TheVariants as error
 use Rattle.sftp_link.specs.Views.{LinkView}
 use Rattle.machine_model.specs.Components.{components}
-use Rattle.session_model.specs.declared.entry.Entry.{Entry}
 use Rattle.session_driver.specs.Ongoing.{At, at}
-use Rattle.sftp_lanes.specs.Seen.{SessionValue, seen_of}
-use Rattle.view_model.specs.Blocks.{Kept}
-use Rattle.view_model.specs.Caches.{CacheValue}
+use Rattle.sftp_lanes.specs.Seen.{seen_of}
 use Rattle.view_model.specs.Keys.{key_of, same_key}
 use Rattle.view_model.specs.Viewed.{Doing, Found, Gathered, block_by, gathered, pure, was_gathered, ◌>>=◌}
 use Rattle.view_model.specs.declared.key.BlockKey.{BlockKey}
 use Rattle.sftp_view.specs.declared.ops.View.{View}
 use Rattle.sftp_view.specs.Doings.{IsIdle, MayDo, Runs}
-use Rattle.sftp_view.specs.Working.{StaysView, Works, wanted}
+use Rattle.sftp_view.specs.Working.{StaysView, Works}
 use Rattle.sftp_view.proofs.FewLaws.{may_first}
-use Rattle.sftp_view.proofs.RunLaws.{bound, gives, may_on, no_room, no_room_then, runs_self, stopped, then_on}
-use Rattle.sftp_view.proofs.WorkLaws.{block_of, view_of}
+use Rattle.sftp_view.proofs.RunLaws.{bound, gives, may_on, no_room_then, runs_self, stopped, then_on}
+use Rattle.sftp_view.proofs.WorkLaws.{block_of}
 
 -- what is left of the blocks of a view after k of them
 abbrev pub left_of : View → List ℕ → ℕ → ℕ → ℕ → List ℕ → View → Doing Gathered

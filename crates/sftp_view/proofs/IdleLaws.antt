@@ -1,6 +1,6 @@
 -- A step of an idle lane does nothing.
-use Rattle.std.proofs.Common.{◌≡◌, ◌++◌, ◌∙◌, ℕ, List, None, refl, ap, sym, subst}
-use Rattle.std.specs.Prelude.{Option, Some, Result, Ok, Err, length, slice_get}
+use Rattle.std.proofs.Common.{◌≡◌, ◌++◌, ◌∙◌, List, None, ap, sym, subst}
+use Rattle.std.specs.Prelude.{Option, length, slice_get}
 use Rattle.sftp_model.specs.declared.slot.Move.{Move}
 use Rattle.sftp_link.specs.Views.{LinkView}
 use Rattle.plan_model.specs.declared.call.Call.{Call}
@@ -13,15 +13,14 @@ use Rattle.session_model.specs.Turns.{Stage}
 use Rattle.session_driver.specs.declared.session.Phase.{Phase}
 use Rattle.session_driver.specs.declared.session.Phase.TheVariants.{Open}
 use Rattle.session_driver.specs.declared.session.Stepped.{Stepped}
-use Rattle.session_driver.specs.Ongoing.{At, at}
-use Rattle.session_driver.specs.Session.{IsLater, Seen, StepsTo}
-use Rattle.session_driver.proofs.Joining.{phase_stays, quiet, setting_stays}
+use Rattle.session_driver.specs.Ongoing.{at}
+use Rattle.session_driver.specs.Session.{StepsTo}
+use Rattle.session_driver.proofs.Joining.{phase_stays, setting_stays}
 use Rattle.session_work.specs.Working.{Steps, past_of, stage_of}
 use Rattle.sftp_lanes.specs.Events.{GoesOn, StepsIn}
 use Rattle.sftp_lanes.specs.Seen.{SessionValue, seen_of, setting_at}
 use Rattle.sftp_lanes.proofs.Shown.{stays}
-use Rattle.view_model.specs.Viewed.{Doing}
-use Rattle.sftp_view.specs.Doings.{Does, IsIdle, Runs, going_on, one_lane}
+use Rattle.sftp_view.specs.Doings.{IsIdle}
 use Rattle.sftp_view.specs.IdleSteps.{StepsIdly}
 
 no_move : (s : Setting) (past : List Entry) → current s past 0 ≡ None → move_of s past 0 ≡ None

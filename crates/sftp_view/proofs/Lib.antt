@@ -12,3 +12,4 @@ pub mod AllLaws
 pub mod DrainLaws
 pub mod ClosingLaws
 pub mod ViewLaws
+pub mod MemoryLaws

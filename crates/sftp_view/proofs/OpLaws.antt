@@ -1,6 +1,6 @@
 -- What a view does operation by operation.
-use Rattle.std.proofs.Common.{◌≡◌, ◌≤◌, ◌<◌, ◌+◌, ◌-◌, ◌*◌, ◌/◌, ◌==◌, ◌^◌, ℕ, Bool, true, false, List, [], ◌∷◌, ◌++◌, length, if◌then◌else◌, refl, ap, sym, ◌∙◌, subst, arith}
-use Rattle.std.specs.Prelude.{Result, Ok, Err, take, drop}
+use Rattle.std.proofs.Common.{◌≡◌, ◌≤◌, ◌+◌, ◌-◌, ◌*◌, ◌/◌, ◌==◌, ℕ, true, false, List, [], if◌then◌else◌, refl, ap, sym, ◌∙◌, subst, arith}
+use Rattle.std.specs.Prelude.{Result, Ok, Err}
 use Rattle.sftp_model.specs.declared.error.Error.{Error}
 use Rattle.sftp_model.specs.declared.error.Error.TheVariants as error
 use Rattle.sftp_link.specs.Views.{LinkView}
@@ -10,18 +10,18 @@ use Rattle.session_driver.specs.Ongoing.{At, at}
 use Rattle.sftp_lanes.specs.Seen.{SessionValue, seen_of}
 use Rattle.view_model.specs.Blocks.{Kept, block_count, dropped, first_block}
 use Rattle.view_model.specs.Caches.{CacheValue, cached}
-use Rattle.view_model.specs.Viewed.{Answered, Doing, Found, Gathered, answered, gathered, get_by, got_of, op_by, pure, put_by, written, ◌>>=◌}
+use Rattle.view_model.specs.Viewed.{Answered, Doing, Found, Gathered, answered, gathered, get_by, got_of, op_by, pure, put_by, written}
 use Rattle.view_model.specs.ViewOps.{passes_length}
 use Rattle.view_model.specs.declared.answer.Answer.{Answer}
 use Rattle.view_model.specs.declared.answer.Answer.TheVariants as answer
 use Rattle.view_model.specs.declared.op.ViewOp.{ViewOp}
 use Rattle.view_model.specs.declared.op.ViewOp.TheVariants as op
-use Rattle.view_model.proofs.CountLaws.{blocks_few, blocks_fit}
+use Rattle.view_model.proofs.CountLaws.{blocks_few}
 use Rattle.sftp_view.specs.declared.ops.View.{View}
 use Rattle.sftp_view.specs.Doings.{IsIdle, MayDo, Runs}
 use Rattle.sftp_view.specs.Working.{MayWork, StaysView, Works, wanted}
 use Rattle.sftp_view.proofs.FewLaws.{may_first}
-use Rattle.sftp_view.proofs.RunLaws.{bound, gives, no_room, no_room_then, runs_self, stopped, then_on}
+use Rattle.sftp_view.proofs.RunLaws.{bound, gives, no_room_then, runs_self, stopped}
 use Rattle.sftp_view.proofs.WorkLaws.{view_of}
 
 -- ---- get

@@ -1,5 +1,5 @@
 -- Bytes that are written call by call.
-use Rattle.std.proofs.Common.{◌≡◌, ℕ, List, [], refl, ap, sym, subst}
+use Rattle.std.proofs.Common.{◌≡◌, ℕ, List, ap, sym, subst}
 use Rattle.std.specs.Prelude.{Result, Ok, Err}
 use Rattle.sftp_model.specs.declared.error.Error.{Error}
 use Rattle.plan_model.specs.declared.call.Call.{Call}
@@ -8,7 +8,7 @@ use Rattle.session_driver.specs.Ongoing.{At}
 use Rattle.view_model.specs.Viewed.{Doing, Found, closing, makes, makes_and_writes, opening, pure, put_at, put_of, seeking, unless_refused, writing, written, ◌>>=◌}
 use Rattle.view_model.specs.declared.answer.Answer.{Answer}
 use Rattle.view_model.specs.declared.answer.Answer.TheVariants as answer
-use Rattle.sftp_view.specs.Doings.{IsIdle, MayDo, Runs}
+use Rattle.sftp_view.specs.Doings.{MayDo, Runs}
 use Rattle.sftp_view.proofs.FewLaws.{may_first}
 use Rattle.sftp_view.proofs.RunLaws.{bound, gives, may_on, stopped, then_on}
 

@@ -1,6 +1,6 @@
 -- A view over a link.
 use Rattle.std.proofs.Common.{◌≡◌, ◌≤◌, ◌<◌, ◌+◌, ◌*◌, ◌-◌, ◌^◌, ℕ, Bool, true, false, List, [], ◌∷◌, ◌++◌, length, None, refl, ap, sym, ◌∙◌, subst, arith, inl, inr}
-use Rattle.std.specs.Prelude.{Option, Some, Result, Ok, Err, ◌&&◌, nat_le}
+use Rattle.std.specs.Prelude.{Option, Ok, Err, ◌&&◌, nat_le}
 use Rattle.std.specs.List.{list_all, sum_by}
 use Rattle.std.proofs.lemmas.Bool.Decides.{nat_tests}
 use Rattle.std.proofs.lemmas.List.{append-nil}
@@ -11,8 +11,7 @@ use Rattle.sftp_model.specs.declared.outcome.Outcome.{Outcome}
 use Rattle.sftp_model.specs.declared.options.SftpOptions.{SftpOptions}
 use Rattle.sftp_link.specs.Told.{Told}
 use Rattle.sftp_link.specs.Views.{LinkView}
-use Rattle.sftp_link.specs.declared.piece.Piece.{Piece}
-use Rattle.sftp_link.proofs.Telling.{told_as, told_self}
+use Rattle.sftp_link.proofs.Telling.{told_as}
 use Rattle.plan_model.specs.declared.call.Call.{Call}
 use Rattle.plan_model.specs.declared.call.Lane.{Lane}
 use Rattle.session_model.specs.declared.entry.Entry.{Entry}
@@ -20,31 +19,31 @@ use Rattle.session_model.specs.Calls.{Setting, added, current}
 use Rattle.session_model.specs.Journals.{IsJournal}
 use Rattle.session_model.specs.Readings.{outcomes_of}
 use Rattle.session_model.specs.Runs.{Opens}
-use Rattle.session_driver.specs.Logs.{EndsAs, HelloStops, Showing, even}
-use Rattle.session_driver.specs.Ongoing.{At, HasStopped, IsReady, Ongoing, StoppedOpen, StopsShown, Went, at}
+use Rattle.session_driver.specs.Logs.{EndsAs, Showing, even}
+use Rattle.session_driver.specs.Ongoing.{At, HasStopped, Ongoing, StoppedOpen, at}
 use Rattle.session_driver.specs.RunsSoFar.{OpensSoFar}
 use Rattle.session_driver.specs.Session.{Given, IsFixed, IsLater, IsOpened, IsSoFar, Seen}
 use Rattle.session_driver.proofs.Joining.{join, setting_stays}
 use Rattle.session_driver.proofs.Journals.{later_on}
 use Rattle.session_driver.proofs.Rounds.{opened_holds}
 use Rattle.session_driver.proofs.Settled.{still_fixed}
-use Rattle.session_driver.proofs.Stopping.{ends_by, hello_unbegun, shown_stop, shows_on}
+use Rattle.session_driver.proofs.Stopping.{ends_by, shown_stop, shows_on}
 use Rattle.session_driver.proofs.Whole.{is_ready}
 use Rattle.session_exchange.specs.Causes.{Caused}
 use Rattle.session_exchange.proofs.Joining.{caused_on, same_caused}
 use Rattle.view_model.specs.Blocks.{Kept, nothing_kept}
 use Rattle.view_model.specs.Calls.{AreFew, call_limit}
 use Rattle.view_model.specs.Viewed.{Doing, Made, Viewed, after_calls, pure, viewed, viewed_from}
-use Rattle.view_model.specs.ViewOps.{are_ok, count, count_limit, is_within}
+use Rattle.view_model.specs.ViewOps.{count, count_limit, is_within}
 use Rattle.view_model.specs.declared.answer.Answer.{Answer}
 use Rattle.view_model.specs.declared.op.ViewOp.{ViewOp}
 use Rattle.view_model.specs.declared.op.ViewOp.TheVariants as op
-use Rattle.view_model.proofs.BoundLaws.{all_calls, within_viewed}
+use Rattle.view_model.proofs.BoundLaws.{within_viewed}
 use Rattle.view_model.proofs.CountLaws.{all_counted}
 use Rattle.sftp_view.specs.declared.ops.View.{View}
 use Rattle.sftp_lanes.specs.Seen.{seen_of}
 use Rattle.sftp_view.specs.Closing.{Closes}
-use Rattle.sftp_view.specs.Doings.{Does, IsIdle, MayDo, Runs, going_on, one_lane}
+use Rattle.sftp_view.specs.Doings.{Does, IsIdle, MayDo, going_on, one_lane}
 use Rattle.sftp_view.specs.Operations.{MayRunAll, done_by, left_by, most}
 use Rattle.view_model.specs.Caches.{CacheValue}
 use Rattle.sftp_view.specs.Views.{IsDone, IsNewView, MayView, Views, done_in}

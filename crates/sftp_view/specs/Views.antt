@@ -6,14 +6,14 @@ use Rattle.sftp_model.specs.declared.options.SftpOptions.{SftpOptions}
 use Rattle.sftp_link.specs.declared.piece.Piece.{Piece}
 use Rattle.sftp_link.specs.Told.{Told}
 use Rattle.session_model.specs.declared.entry.Entry.{Entry}
-use Rattle.session_model.specs.Calls.{Setting, added}
+use Rattle.session_model.specs.Calls.{added}
 use Rattle.session_model.specs.Journals.{IsJournal, IsOver}
 use Rattle.session_model.specs.Readings.{outcomes_of, trace_of}
 use Rattle.session_model.specs.Settings.{greeting, setting_of}
 use Rattle.session_model.specs.Shown.{Shows}
 use Rattle.session_driver.specs.Logs.{Showing}
 use Rattle.session_driver.specs.Ongoing.{At, HasStopped}
-use Rattle.session_driver.specs.Session.{Given, IsFixed, IsLater}
+use Rattle.session_driver.specs.Session.{IsFixed, IsLater}
 use Rattle.session_exchange.specs.Causes.{Caused}
 use Rattle.sftp_lanes.specs.Seen.{IsNew}
 use Rattle.view_model.specs.Blocks.{Kept, nothing_kept}

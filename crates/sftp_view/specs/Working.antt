@@ -4,7 +4,6 @@ use Rattle.sftp_model.specs.declared.error.Error.{Error}
 use Rattle.sftp_link.specs.Views.{LinkView}
 use Rattle.session_driver.specs.Ongoing.{at}
 use Rattle.sftp_lanes.specs.Seen.{seen_of}
-use Rattle.view_model.specs.Blocks.{Kept}
 use Rattle.view_model.specs.Caches.{CacheValue}
 use Rattle.view_model.specs.Viewed.{Doing}
 use Rattle.sftp_view.specs.Doings.{IsIdle, MayDo, Runs}

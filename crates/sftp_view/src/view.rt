@@ -6,6 +6,7 @@ ghost use Rattle.session_driver.specs.Ongoing.{at};
 ghost use Rattle.session_driver.specs.Session.{IsFresh};
 ghost use Rattle.session_exchange.specs.Causes.{Caused};
 ghost use Rattle.session_model.specs.Journals.{IsJournal};
+ghost use Rattle.sftp_lanes.specs.Complete.{StopsForMemory};
 ghost use Rattle.sftp_lanes.specs.Seen.{IsNew, given, given_of, seen_of};
 ghost use Rattle.view_model.specs.Blocks.{nothing_kept};
 ghost use Rattle.sftp_view.specs.Doings.{one_lane};
@@ -92,7 +93,8 @@ fn new_view(alloc: Global, block: u32, capacity: u32, options: &SftpOptions) -> 
 /// `LinkFault` comes only where the link's count of faults rose, `LinkEnded` only where its last call found the end, and
 /// each other error but `OutOfMemory` is the first thing that is wrong with the frame that came last. After an error the
 /// log shows VERSION and a journal that is a run so far, or the hello, and then nothing, a prefix of the next frames to be
-/// sent, or bytes of one frame that wasn't taken, and none past it.
+/// sent, or bytes of one frame that wasn't taken, and none past it. Over a new link that gives VERSION 3, and to each request
+/// that was sent a reply that may be taken, and that has no fault, the error is `OutOfMemory`.
 pub fn run_view<L: Link>(
     alloc: Global,
     link: &mut L,
@@ -106,6 +108,7 @@ pub fn run_view<L: Link>(
     ensures run { IfOk result (λ r. IsViewReport block capacity ops.now options.now (L.LinkState.state link.old).log (L.LinkState.state link.new).log r) }
     ensures stops { IfErr result (λ e. Told (EndsAs (given one_lane options.now) IsJournal (L.LinkState.state link.new).ended e) (L.LinkState.state link.old).log (L.LinkState.state link.new).log) }
     ensures caused { Caused (L.LinkState.state link.old) (L.LinkState.state link.new) result }
+    ensures complete { IfErr result (StopsForMemory (given one_lane options.now) (L.LinkState.state link.old) (L.LinkState.state link.new)) }
 {
     let mut view = match new_view(alloc, block, capacity, options) {
         Ok(view) => view,

@@ -54,7 +54,7 @@ pub blocks_few : (block offset len : ℕ) → 1 ≤ block → block ≤ 65536 �
 blocks_few block offset len some short most =
     let all = blocks_counted block offset len some in
     let wide : block_count block offset len * 4 ≤ block_count block offset len * block_calls block =
-        mul-le-mul_left (block_count block offset len) (let e : 4 ≤ block + 3 = omega (arith, some) in e) in
+    mul-le-mul_left (block_count block offset len) (let e : 4 ≤ block + 3 = omega (arith, some) in e) in
     omega (arith, all, wide, short, most)
 
 -- and each is within the greatest offset

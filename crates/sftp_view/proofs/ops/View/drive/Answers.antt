@@ -1,4 +1,4 @@
-use Rattle.std.proofs.Common.{rules, refl}
+use Rattle.std.proofs.Common.{refl}
 use Rattle.session_driver.specs.Ongoing.{at}
 use Rattle.sftp_lanes.specs.Seen.{seen_of}
 use Rattle.session_exchange.proofs.Joining.{escaped}

@@ -1,7 +1,7 @@
-use Rattle.std.proofs.Common.{◌≡◌, ◌+◌, ◌≤◌, Ok, Err, ap, rules, arith}
+use Rattle.std.proofs.Common.{◌≡◌, Ok, ap, rules, arith}
 use Rattle.session_exchange.proofs.Joining.{escaped}
 use Rattle.view_model.specs.declared.key.BlockKey.{BlockKey}
-use Rattle.sftp_view.proofs.GatherLaws.{block_fits, gather_all, gather_lost, gather_more, gather_refused, gather_short, gather_stopped, gathers_first, may_block, number_fits}
+use Rattle.sftp_view.proofs.GatherLaws.{block_fits, gather_lost, gather_more, gather_refused, gather_short, gather_stopped, gathers_first, may_block, number_fits}
 use Rattle.sftp_view.proofs.WorkLaws.{work_starved}
 use Rattle.sftp_view.proofs.ops.View.gather.Goals as goal
 

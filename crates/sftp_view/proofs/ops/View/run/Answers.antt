@@ -1,4 +1,4 @@
-use Rattle.std.proofs.Common.{◌≡◌, ap, rules}
+use Rattle.std.proofs.Common.{rules}
 use Rattle.sftp_view.proofs.OpLaws.{get_too_long, got_nothing, may_put, put_too_long}
 use Rattle.sftp_view.proofs.ops.View.run.Goals as goal
 

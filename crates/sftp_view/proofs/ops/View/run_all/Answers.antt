@@ -1,4 +1,4 @@
-use Rattle.std.proofs.Common.{◌≡◌, ◌+◌, rules}
+use Rattle.std.proofs.Common.{◌+◌, rules}
 use Rattle.std.specs.Prelude.{drop}
 use Rattle.session_exchange.proofs.Joining.{escaped}
 use Rattle.sftp_view.proofs.AllLaws.{does_first, item_first, does_lost, does_more, does_stopped, may_next, within_next}
