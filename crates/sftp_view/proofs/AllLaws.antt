@@ -51,7 +51,8 @@ next_is o rest later answers old now is same_block same_capacity =
 module _ {S : Type 0} where
   -- so far these answers were given, and the rest is left
   pub record DoesSoFar (ops rest : List ViewOp) (answers : List Answer) (old : View) (link : LinkView S) (now : View) (link_now : LinkView S) : Type 0 where
-    pub runs : Runs (done_by ops old) (λ (u : Unit {0}). later_by old rest answers now) (at (seen_of old.session) link) (at (seen_of now.session) link_now) (Ok tt)
+    pub runs : Runs (done_by ops old) (λ (u : Unit {0}). later_by old rest answers now) (at (seen_of old.session) link)
+        (at (seen_of now.session) link_now) (Ok tt)
     pub idle : IsIdle (at (seen_of now.session) link_now)
     pub within : list_all is_within rest ≡ true
     pub block : now.block ≡ old.block
@@ -110,7 +111,8 @@ module _ {S : Type 0} where
       gives tt so_far.runs (next_is o rest later answers old now is so_far.block so_far.capacity) in
       then_on before (bound {k = after_op old later answers} gave)
 
-  pub does_more : (ops rest later : List ViewOp) (o : ViewOp) (answers all : List Answer) (said : Answer) (old now next : View) (link link_now link_next : LinkView S)
+  pub does_more : (ops rest later : List ViewOp) (o : ViewOp) (answers all : List Answer) (said : Answer)
+      (old now next : View) (link link_now link_next : LinkView S)
       → rest ≡ o ∷ later → all ≡ answers ++ said ∷ [] → DoesSoFar ops rest answers old link now link_now → One now o link_now next link_next (Ok said)
       → DoesSoFar ops later all old link next link_next
   does_more ops rest later o answers all said old now next link link_now link_next is are so_far one =

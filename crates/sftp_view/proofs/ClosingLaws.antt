@@ -114,10 +114,10 @@ module _ {S : Type 0} where
           run = subst (λ (x : Setting). IsJournal x d.seen.stage.past) (sym (stays ∙ same))
               (later_journal a.seen.setting a.seen.stage.past d.seen.stage.past idle.run all.went.later);
           over = (
-              only_lane d.seen.setting d.seen.stage.past (ap (λ (x : Setting). length x.lanes) (stays ∙ same) ∙ ap length idle.lanes)
-              (ap (λ (p : List Entry). was_let_go p 0) past ∙ g.let_go),
-              ap (λ (x : Setting). orphan x d.seen.stage.past) stays ∙ s.settled,
-            ap unanswered past ∙ second.went.whole.answered
+            only_lane d.seen.setting d.seen.stage.past (ap (λ (x : Setting). length x.lanes) (stays ∙ same) ∙ ap length idle.lanes)
+                (ap (λ (p : List Entry). was_let_go p 0) past ∙ g.let_go),
+            ap (λ (x : Setting). orphan x d.seen.stage.past) stays ∙ s.settled,
+            ap unanswered past ∙ second.went.whole.answered,
           );
           adds = ap (λ (p : List Entry). added p 0) past ∙ g.adds;
           ends = ap (λ (p : List Entry). outcomes_of p 0) past ∙ g.ends;

@@ -66,7 +66,8 @@ next_is path first count k bytes key old now lt name same_block same_capacity =
 
 module _ {S : Type 0} where
   -- after k blocks
-  pub record GathersSoFar (path : List ℕ) (first count k : ℕ) (bytes : List ℕ) (key : BlockKey) (old : View) (link : LinkView S) (now : View) (link_now : LinkView S) : Type 0 where
+  pub record GathersSoFar (path : List ℕ) (first count k : ℕ) (bytes : List ℕ) (key : BlockKey) (old : View)
+      (link : LinkView S) (now : View) (link_now : LinkView S) : Type 0 where
     pub runs : Runs (gathered old.block old.cache.capacity path first count [] old.cache.kept) (λ (u : Unit {0}). left_of old path first count k bytes now)
         (at (seen_of old.session) link) (at (seen_of now.session) link_now) (Ok tt)
     pub idle : IsIdle (at (seen_of now.session) link_now)
@@ -88,8 +89,6 @@ module _ {S : Type 0} where
         name = name ∙ ap (key_of (components path)) (sym from);
       }
 
-
-
   -- what the next block gives
   abbrev pub One : View → List ℕ → BlockKey → LinkView S → View → LinkView S → Result Found Error → Type 0
   One now path key link_now next link_next result =
@@ -103,7 +102,8 @@ module _ {S : Type 0} where
       (subst (λ (f : Doing Gathered). MayDo f (seen_of now.session).stage.past)
       (next_is path first count k bytes key old now lt so_far.name so_far.stays.block so_far.stays.capacity) (may_on may so_far.runs))
 
-  one_more : (path : List ℕ) (first count k : ℕ) (bytes : List ℕ) (key : BlockKey) (old now next : View) (link link_now link_next : LinkView S) (found : Found) → k < count
+  one_more : (path : List ℕ) (first count k : ℕ) (bytes : List ℕ) (key : BlockKey) (old now next : View)
+      (link link_now link_next : LinkView S) (found : Found) → k < count
       → GathersSoFar path first count k bytes key old link now link_now → One now path key link_now next link_next (Ok found)
       → Runs (gathered old.block old.cache.capacity path first count [] old.cache.kept)
       (after_block old path first count k bytes) (at (seen_of old.session) link) (at (seen_of next.session) link_next)
@@ -119,7 +119,8 @@ module _ {S : Type 0} where
       gives tt so_far.runs (next_is path first count k bytes key old now lt so_far.name so_far.stays.block so_far.stays.capacity) in
       then_on before (bound {k = after_block old path first count k bytes} gave)
 
-  pub gather_refused : (path : List ℕ) (first count k : ℕ) (bytes : List ℕ) (key : BlockKey) (old now next : View) (link link_now link_next : LinkView S) (found : Found) (code : ℕ)
+  pub gather_refused : (path : List ℕ) (first count k : ℕ) (bytes : List ℕ) (key : BlockKey) (old now next : View)
+      (link link_now link_next : LinkView S) (found : Found) (code : ℕ)
       → k < count → GathersSoFar path first count k bytes key old link now link_now → found ≡ Err code → One now path key link_now next link_next (Ok found)
       → Works (gathered old.block old.cache.capacity path first count [] old.cache.kept) (λ f. pure (record { found = f; kept = next.cache.kept })) count
       old link next link_next (Ok (Err code))
@@ -129,7 +130,8 @@ module _ {S : Type 0} where
     stays = at_most k count old next lt (stays_on k 1 old now next so_far.stays one.stays);
   }
 
-  pub gather_short : (path : List ℕ) (first count k : ℕ) (bytes more : List ℕ) (key : BlockKey) (old now next : View) (link link_now link_next : LinkView S) (found : Found)
+  pub gather_short : (path : List ℕ) (first count k : ℕ) (bytes more : List ℕ) (key : BlockKey) (old now next : View)
+      (link link_now link_next : LinkView S) (found : Found)
       → k < count → GathersSoFar path first count k bytes key old link now link_now → found ≡ Ok more → One now path key link_now next link_next (Ok found)
       → length more < next.block → (all : List ℕ) → all ≡ bytes ++ more
       → Works (gathered old.block old.cache.capacity path first count [] old.cache.kept) (λ f. pure (record { found = f; kept = next.cache.kept })) count
@@ -145,7 +147,8 @@ module _ {S : Type 0} where
         stays = at_most k count old next lt stays;
       }
 
-  pub gather_more : (path : List ℕ) (first count k : ℕ) (bytes more : List ℕ) (key further : BlockKey) (old now next : View) (link link_now link_next : LinkView S) (found : Found)
+  pub gather_more : (path : List ℕ) (first count k : ℕ) (bytes more : List ℕ) (key further : BlockKey)
+      (old now next : View) (link link_now link_next : LinkView S) (found : Found)
       → k < count → GathersSoFar path first count k bytes key old link now link_now → found ≡ Ok more → One now path key link_now next link_next (Ok found)
       → next.block ≤ length more → (all : List ℕ) → all ≡ bytes ++ more → further ≡ record key { block = key.block + 1 }
       → GathersSoFar path first count (k + 1) all further old link next link_next
@@ -179,15 +182,19 @@ module _ {S : Type 0} where
         };
       }
 
-  pub gather_stopped : (path : List ℕ) (first count k : ℕ) (bytes : List ℕ) (key : BlockKey) (old now next : View) (link link_now link_next : LinkView S) (e : Error)
+  pub gather_stopped : (path : List ℕ) (first count k : ℕ) (bytes : List ℕ) (key : BlockKey) (old now next : View)
+      (link link_now link_next : LinkView S) (e : Error)
       {r : Found → Doing Gathered} → GathersSoFar path first count k bytes key old link now link_now → One now path key link_now next link_next (Err e)
       → Works (gathered old.block old.cache.capacity path first count [] old.cache.kept) r count old link next link_next (Err e)
-  gather_stopped path first count k bytes key old now next link link_now link_next e so_far one = record { runs = then_on so_far.runs (stopped one.runs); stays = tt }
+  gather_stopped path first count k bytes key old now next link link_now link_next e so_far one =
+      record { runs = then_on so_far.runs (stopped one.runs); stays = tt }
 
-  pub gather_lost : (path : List ℕ) (first count k : ℕ) (bytes : List ℕ) (key : BlockKey) (old now next : View) (link link_now link_next : LinkView S) (found : Found)
+  pub gather_lost : (path : List ℕ) (first count k : ℕ) (bytes : List ℕ) (key : BlockKey) (old now next : View)
+      (link link_now link_next : LinkView S) (found : Found)
       {r : Found → Doing Gathered} → GathersSoFar path first count k bytes key old link now link_now → One now path key link_now next link_next (Ok found)
       → Works (gathered old.block old.cache.capacity path first count [] old.cache.kept) r count old link next link_next (Err error.OutOfMemory)
-  gather_lost path first count k bytes key old now next link link_now link_next found so_far one = record { runs = then_on so_far.runs (no_room_then one.runs); stays = tt }
+  gather_lost path first count k bytes key old now next link link_now link_next found so_far one =
+      record { runs = then_on so_far.runs (no_room_then one.runs); stays = tt }
 
 -- a block is within the greatest offset
 pub block_fits : (first count k n block : ℕ) → n ≡ first + k → k < count → (first + count) * block < 2 ^ 64 → n * block < 2 ^ 64

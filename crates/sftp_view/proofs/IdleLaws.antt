@@ -56,6 +56,7 @@ module _ {S : Type 0} where
         lanes = ap (λ (x : Setting). x.lanes) setting ∙ idle.lanes;
         run = subst (λ (x : Setting). IsJournal x (seen_of new).stage.past) (sym setting)
             (subst (λ (p : List Entry). IsJournal (seen_of old).setting p) (sym past) idle.run);
-        done = ap (λ (x : Setting). current x (seen_of new).stage.past 0) setting ∙ (ap (λ (p : List Entry). current (seen_of old).setting p 0) past ∙ idle.done);
+        done = ap (λ (x : Setting). current x (seen_of new).stage.past 0) setting
+            ∙ (ap (λ (p : List Entry). current (seen_of old).setting p 0) past ∙ idle.done);
         held = λ lane. ap (λ (p : List Entry). was_let_go p lane) past ∙ idle.held lane;
       }

@@ -1,32 +1,6 @@
 -- A view over a link that serves stops only for want of memory.
 -- What a link gives that serves is said here as in the laws of the driver, whose own are of a schedule's runs.
-use Rattle.std.proofs.Common.{
-  ◌≡◌,
-  ◌<◌,
-  ◌≤◌,
-  ℕ,
-  Bool,
-  true,
-  List,
-  [],
-  ◌∷◌,
-  ◌++◌,
-  length,
-  Option,
-  Some,
-  None,
-  Result,
-  Ok,
-  Err,
-  refl,
-  ap,
-  sym,
-  ◌∙◌,
-  subst,
-  arith,
-  inl,
-  inr,
-}
+use Rattle.std.proofs.Common.{◌≡◌, ◌<◌, ℕ, Bool, true, List, [], ◌++◌, Option, Some, None, Result, Ok, Err, refl, ap, sym, ◌∙◌, subst, arith, inl, inr}
 use Rattle.std.specs.Prelude.{nat_lt}
 use Rattle.std.proofs.lemmas.Bool.Decides.{nat_tests}
 use Rattle.std.proofs.lemmas.List.{append-nil}
@@ -41,7 +15,6 @@ use Rattle.sftp_model.specs.declared.frame_error.FrameError.{FrameError}
 use Rattle.sftp_model.specs.declared.reply.Reply.{Reply}
 use Rattle.sftp_model.specs.declared.reply.Reply.TheVariants as reply
 use Rattle.sftp_model.specs.Answers.{expected_of}
-use Rattle.sftp_model.specs.Numbers.{MAX_BODY_LEN}
 use Rattle.sftp_model.specs.ReplyReadings.{limits_at, reply_at}
 use Rattle.sftp_core.specs.Take.{wrong_content}
 use Rattle.sftp_core.specs.declared.errors.TakeError.{TakeError}

@@ -1,5 +1,31 @@
 -- A view over a link.
-use Rattle.std.proofs.Common.{◌≡◌, ◌≤◌, ◌<◌, ◌+◌, ◌*◌, ◌-◌, ◌^◌, ℕ, Bool, true, false, List, [], ◌∷◌, ◌++◌, length, None, refl, ap, sym, ◌∙◌, subst, arith, inl, inr}
+use Rattle.std.proofs.Common.{
+  ◌≡◌,
+  ◌≤◌,
+  ◌<◌,
+  ◌+◌,
+  ◌*◌,
+  ◌-◌,
+  ◌^◌,
+  ℕ,
+  Bool,
+  true,
+  false,
+  List,
+  [],
+  ◌∷◌,
+  ◌++◌,
+  length,
+  None,
+  refl,
+  ap,
+  sym,
+  ◌∙◌,
+  subst,
+  arith,
+  inl,
+  inr,
+}
 use Rattle.std.specs.Prelude.{Option, Ok, Err, ◌&&◌, nat_le}
 use Rattle.std.specs.List.{list_all, sum_by}
 use Rattle.std.proofs.lemmas.Bool.Decides.{nat_tests}
@@ -71,7 +97,13 @@ no_calls s past false lanes is = subst (Begins s) (sym is) (record { done = ap f
   where
     first_of : List Lane → Option Call
     first_of ws = current (record s { lanes = ws }) [] 0
-no_calls s past true lanes to = subst (Begins s) (sym to.1.1.2) (record { done = ap (λ (ws : List Lane). current (record s { lanes = ws }) [] 0) lanes; none = refl; before = refl })
+no_calls s past true lanes to = subst (Begins s) (sym to.1.1.2)
+    (record {
+      done = ap (λ (ws : List Lane). current (record s { lanes = ws }) [] 0) lanes;
+      none = refl;
+      before =
+          refl;
+    })
 
 lanes_are : (given : Given) (now : Seen) → IsOpened given now → given.lanes ≡ one_lane → now.setting.lanes ≡ one_lane
 lanes_are given now opened one = ap (λ (s : Setting). s.lanes) opened.fixed.1.1 ∙ one
@@ -258,7 +290,8 @@ module _ {S : Type 0} where
   stops_as_given before now e given is left =
       subst (λ (g : Given). Told (EndsAs g IsJournal now.link.ended e) before.link.log now.link.log) is (ends_by IsJournal before now e left)
 
-pub may_new : (block capacity : ℕ) (ops : List ViewOp) (options : SftpOptions) (view : View) → IsNewView block capacity options view → MayView block capacity ops
+pub may_new : (block capacity : ℕ) (ops : List ViewOp) (options : SftpOptions) (view : View)
+    → IsNewView block capacity options view → MayView block capacity ops
     → MayView view.block view.cache.capacity ops
 may_new block capacity ops options view new may =
     subst (λ (n : ℕ). MayView n view.cache.capacity ops) (sym new.block_is)

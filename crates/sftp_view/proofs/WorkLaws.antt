@@ -95,12 +95,14 @@ module _ {S : Type 0} where
       → key ≡ key_of (components path) key.block → Finds key None cache mid → Runs (fetched block path key.block) pure a b (Ok found)
       → Runs (block_of block cache path key) (λ (f : Found). pure (missed_by cache.capacity key cache.kept f)) a b (Ok found)
   fetched_block block cache mid path key {a = a} {b = b} {found = found} of finds run =
-      subst (λ (o : Option (List ℕ)). Runs (block_by block cache.capacity path key.block cache.kept o) (λ (f : Found). pure (missed_by cache.capacity key cache.kept f)) a b (Ok found))
+      subst (λ (o : Option (List ℕ)). Runs (block_by block cache.capacity path key.block cache.kept o)
+      (λ (f : Found). pure (missed_by cache.capacity key cache.kept f)) a b (Ok found))
       finds.value
       (gives found (bound {k = λ (f : Found). pure (missed_by cache.capacity (key_of (components path) key.block) cache.kept f)} run)
       (ap (λ (k : BlockKey). pure (missed_by cache.capacity k cache.kept found)) (sym of)))
 
-  pub block_read : (block : ℕ) (old now : SessionValue) (cache mid new : CacheValue) (path : List ℕ) (key : BlockKey) (link link_now : LinkView S) (found : Found)
+  pub block_read : (block : ℕ) (old now : SessionValue) (cache mid new : CacheValue) (path : List ℕ) (key : BlockKey)
+      (link link_now : LinkView S) (found : Found)
       → key ≡ key_of (components path) key.block → Finds key None cache mid
       → Runs (fetched block path key.block) pure (at (seen_of old) link) (at (seen_of now) link_now) (Ok found)
       → new ≡ cached mid.capacity (missed_by mid.capacity key mid.kept found).kept

@@ -72,7 +72,12 @@ fn new_session(alloc: Global, options: &SftpOptions) -> Result<Session, OutOfMem
 }
 
 /// A new view whose blocks have this length, and that keeps so many of them.
-fn new_view(alloc: Global, block: u32, capacity: u32, options: &SftpOptions) -> Result<View, OutOfMemory>
+fn new_view(
+    alloc: Global,
+    block: u32,
+    capacity: u32,
+    options: &SftpOptions,
+) -> Result<View, OutOfMemory>
     requires { 1 ≤ capacity }
     ensures { IfOk result (λ view. IsNewView block capacity options.now view) }
 {

@@ -9,7 +9,8 @@ pub returns-in_err-let_go_lanes : goal.returns-in_err-let_go_lanes
 returns-in_err-let_go_lanes g c =
     rw (escaped c.from_residual.result c.in_err-let_go_lanes.field-0.0 c.from_residual.ensures.1)
     (go_stopped (at (seen_of c.args.session.now) (g.L.LinkState.state c.args.link.now))
-    (at (seen_of c.let_go_lanes.new.session) (g.L.LinkState.state c.let_go_lanes.new.link)) c.in_err-let_go_lanes.field-0.0 c.in_err-let_go_lanes.ensures.ongoing)
+    (at (seen_of c.let_go_lanes.new.session) (g.L.LinkState.state c.let_go_lanes.new.link))
+    c.in_err-let_go_lanes.field-0.0 c.in_err-let_go_lanes.ensures.ongoing)
 
 pub returns-in_err-drain : goal.returns-in_err-drain
 returns-in_err-drain g c =

@@ -13,12 +13,14 @@ drive-requires-clause-may g c =
 pub returns-in_err-answers-clause-stops : goal.returns-in_err-answers-clause-stops
 returns-in_err-answers-clause-stops g c =
     rw (escaped c.from_residual.result c.in_err-answers.field-0.0 c.from_residual.ensures.1)
-    (stops_as_given (at (seen_of c.in-Ok.view.session) (g.L.LinkState.state c.args.link.now)) (at (seen_of c.drive.new.self.session) (g.L.LinkState.state c.drive.new.link))
+    (stops_as_given (at (seen_of c.in-Ok.view.session) (g.L.LinkState.state c.args.link.now))
+    (at (seen_of c.drive.new.self.session) (g.L.LinkState.state c.drive.new.link))
     c.in_err-answers.field-0.0 (given one_lane c.args.options.now) c.in-Ok.ensures.session.made_of c.in_err-answers.ensures.left)
 
 pub returns-clause-stops : goal.returns-clause-stops
 returns-clause-stops g c =
-    starved_stops (at (seen_of c.in-Ok.view.session) (g.L.LinkState.state c.args.link.now)) (at (seen_of c.drive.new.self.session) (g.L.LinkState.state c.drive.new.link))
+    starved_stops (at (seen_of c.in-Ok.view.session) (g.L.LinkState.state c.args.link.now))
+    (at (seen_of c.drive.new.self.session) (g.L.LinkState.state c.drive.new.link))
     (given one_lane c.args.options.now) c.in-Ok.ensures.session.made_of c.in_ok-answers.ensures.done
 
 pub returns-in_err-answers-clause-complete : goal.returns-in_err-answers-clause-complete
@@ -26,6 +28,7 @@ returns-in_err-answers-clause-complete g c =
     rw (escaped c.from_residual.result c.in_err-answers.field-0.0 c.from_residual.ensures.1)
     (stops_for_memory (given one_lane c.args.options.now) (g.L.LinkState.state c.args.link.now) (g.L.LinkState.state c.drive.new.link)
     c.in_err-answers.field-0.0
-    (stops_as_given (at (seen_of c.in-Ok.view.session) (g.L.LinkState.state c.args.link.now)) (at (seen_of c.drive.new.self.session) (g.L.LinkState.state c.drive.new.link))
+    (stops_as_given (at (seen_of c.in-Ok.view.session) (g.L.LinkState.state c.args.link.now))
+    (at (seen_of c.drive.new.self.session) (g.L.LinkState.state c.drive.new.link))
     c.in_err-answers.field-0.0 (given one_lane c.args.options.now) c.in-Ok.ensures.session.made_of c.in_err-answers.ensures.left)
     c.in_err-answers.ensures.caused)

@@ -20,7 +20,8 @@ run_all-requires g c =
 pub returns-in_err-answers : goal.returns-in_err-answers
 returns-in_err-answers g c =
     rw (escaped c.from_residual-in_err-answers.result c.in_err-answers.field-0.0 c.from_residual-in_err-answers.ensures.1)
-    (view_stopped c.args.self.now.block c.args.self.now.cache.capacity c.args.ops.now (at (seen_of c.args.self.now.session) (g.L.LinkState.state c.args.link.now))
+    (view_stopped c.args.self.now.block c.args.self.now.cache.capacity c.args.ops.now
+    (at (seen_of c.args.self.now.session) (g.L.LinkState.state c.args.link.now))
     (at (seen_of c.open.new.session) (g.L.LinkState.state c.open.new.link)) (at (seen_of c.run_all.new.self.session) (g.L.LinkState.state c.run_all.new.link))
     c.run_all.new.self.cache.kept c.in_err-answers.field-0.0 c.in_ok-open.ensures.opened c.in_ok-open.ensures.log c.in_ok-open.ensures.caused
     c.in_err-answers.ensures.runs.ongoing)
@@ -28,7 +29,8 @@ returns-in_err-answers g c =
 pub returns-in_err-close_session : goal.returns-in_err-close_session
 returns-in_err-close_session g c =
     rw (escaped c.from_residual-in_err-close_session.result c.in_err-close_session.field-0.0 c.from_residual-in_err-close_session.ensures.1)
-    (close_stopped c.args.self.now.block c.args.self.now.cache.capacity c.args.ops.now (at (seen_of c.args.self.now.session) (g.L.LinkState.state c.args.link.now))
+    (close_stopped c.args.self.now.block c.args.self.now.cache.capacity c.args.ops.now
+    (at (seen_of c.args.self.now.session) (g.L.LinkState.state c.args.link.now))
     (at (seen_of c.open.new.session) (g.L.LinkState.state c.open.new.link)) (at (seen_of c.run_all.new.self.session) (g.L.LinkState.state c.run_all.new.link))
     (at (seen_of c.close_session.new.session) (g.L.LinkState.state c.close_session.new.link)) c.run_all.new.self.cache.kept c.in_err-close_session.field-0.0
     c.in_ok-open.ensures.opened c.in_ok-open.ensures.log c.in_ok-open.ensures.caused c.in_ok-answers.ensures.runs.ongoing c.in_err-close_session.ensures)

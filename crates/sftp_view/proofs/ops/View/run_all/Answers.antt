@@ -29,7 +29,8 @@ returns-in_err-answer g c =
 
 pub returns-then-is_err : goal.returns-then-is_err
 returns-then-is_err g c =
-    does_lost c.args.ops.now (drop c.loop-op.op-index c.args.ops.now) c.op-item.result c.loop-op.answers.items c.in_ok-answer.answer c.args.self.now c.loop-op.self
+    does_lost c.args.ops.now (drop c.loop-op.op-index c.args.ops.now) c.op-item.result c.loop-op.answers.items
+    c.in_ok-answer.answer c.args.self.now c.loop-op.self
     c.run.new.self (g.L.LinkState.state c.args.link.now) (g.L.LinkState.state c.loop-op.link) (g.L.LinkState.state c.run.new.link) c.loop-op.invariant
     c.in_ok-answer.ensures
 
@@ -37,5 +38,6 @@ pub loop-op-preserved : goal.loop-op-preserved
 loop-op-preserved g c =
     does_more c.args.ops.now (drop c.loop-op.op-index c.args.ops.now) (drop (c.loop-op.op-index + 1) c.args.ops.now) c.op-item.result c.loop-op.answers.items
     c.push.new.self.items c.in_ok-answer.answer c.args.self.now c.loop-op.self c.run.new.self (g.L.LinkState.state c.args.link.now)
-    (g.L.LinkState.state c.loop-op.link) (g.L.LinkState.state c.run.new.link) (item_first c.args.ops.now c.loop-op.op-index c.op-item.result c.op-item.is c.loop-op-test.true)
+    (g.L.LinkState.state c.loop-op.link) (g.L.LinkState.state c.run.new.link)
+    (item_first c.args.ops.now c.loop-op.op-index c.op-item.result c.op-item.is c.loop-op-test.true)
     (search rules) c.loop-op.invariant c.in_ok-answer.ensures
