@@ -1,5 +1,30 @@
 -- A block that is read call by call.
-use Rattle.std.proofs.Common.{◌≡◌, ◌≢◌, ◌≤◌, ◌<◌, ◌+◌, ◌-◌, ◌*◌, ◌==◌, ◌||◌, ℕ, zero, suc, Bool, true, false, List, [], ◌∷◌, ◌++◌, length, if◌then◌else◌, refl, ap, sym, ◌∙◌, subst, arith}
+use Rattle.std.proofs.Common.{
+  ◌≡◌,
+  ◌≢◌,
+  ◌≤◌,
+  ◌<◌,
+  ◌+◌,
+  ◌-◌,
+  ◌*◌,
+  ◌==◌,
+  ◌||◌,
+  ℕ,
+  suc,
+  true,
+  false,
+  List,
+  [],
+  ◌++◌,
+  length,
+  if◌then◌else◌,
+  refl,
+  ap,
+  sym,
+  ◌∙◌,
+  subst,
+  arith,
+}
 use Rattle.std.specs.Prelude.{Result, Ok, Err, nat_le}
 use Rattle.std.proofs.lemmas.Bool.Decides.{nat_tests}
 use Rattle.sftp_model.specs.declared.error.Error.{Error}
@@ -7,7 +32,23 @@ use Rattle.sftp_model.specs.declared.error.Error.TheVariants as error
 use Rattle.plan_model.specs.declared.call.Call.{Call}
 use Rattle.session_model.specs.declared.entry.Entry.{Entry}
 use Rattle.session_driver.specs.Ongoing.{At}
-use Rattle.view_model.specs.Viewed.{Doing, Found, closing, fetched, makes, opening, pure, read_at, read_on, reading, reads_only, seeking, unless_refused, was_read, ◌>>=◌}
+use Rattle.view_model.specs.Viewed.{
+  Doing,
+  Found,
+  closing,
+  fetched,
+  makes,
+  opening,
+  pure,
+  read_at,
+  read_on,
+  reading,
+  reads_only,
+  seeking,
+  unless_refused,
+  was_read,
+  ◌>>=◌,
+}
 use Rattle.sftp_view.specs.Doings.{IsIdle, MayDo, Runs}
 use Rattle.sftp_view.proofs.FewLaws.{may_first}
 use Rattle.sftp_view.proofs.RunLaws.{bound, gives, may_on, no_room_then, runs_self, stopped, then_on}
@@ -48,7 +89,6 @@ module _ {S : Type 0} where
 
   pub reads_first : (block : ℕ) (bytes : List ℕ) (a : At S) → bytes ≡ [] → IsIdle a → ReadsSoFar block 0 bytes a a
   reads_first block bytes a none idle = subst (λ (w : List ℕ). ReadsSoFar block 0 w a a) (sym none) (begins block a idle)
-
 
   pub may_read : (block k : ℕ) (bytes : List ℕ) (call : Call) {a now : At S} → call ≡ reading (block - length bytes) → k < block
       → MayDo (read_on block block []) a.seen.stage.past → ReadsSoFar block k bytes a now → MayDo (makes call) now.seen.stage.past
@@ -120,7 +160,8 @@ module _ {S : Type 0} where
       }
 
   -- there were as many READs as there may be
-  pub read_all : (block k : ℕ) (bytes : List ℕ) {a now : At S} → block ≤ k → ReadsSoFar block k bytes a now → Runs (read_on block block []) pure a now (Ok (Ok bytes))
+  pub read_all : (block k : ℕ) (bytes : List ℕ) {a now : At S} → block ≤ k → ReadsSoFar block k bytes a now
+      → Runs (read_on block block []) pure a now (Ok (Ok bytes))
   read_all block k bytes {a = a} {now = now} le so_far =
       gives (Ok bytes) (subst (λ (n : ℕ). Runs (read_on block block []) (λ (u : Unit {0}). read_on block n bytes) a now (Ok tt))
       (let e : block - k ≡ 0 = omega (arith, le) in e) so_far.runs) refl
@@ -156,7 +197,8 @@ module _ {S : Type 0} where
     pub runs : Runs (read_at block n) (after_seek block) a now (Ok (Ok []))
     pub idle : IsIdle now
 
-  pub sought : (block n : ℕ) (call : Call) {a b : At S} {found : Found} → call ≡ seeking (n * block) → Runs (makes call) pure a b (Ok found) → IsSought block n a b
+  pub sought : (block n : ℕ) (call : Call) {a b : At S} {found : Found} → call ≡ seeking (n * block)
+      → Runs (makes call) pure a b (Ok found) → IsSought block n a b
   sought block n call is run = record {
     runs = gives (Ok []) (bound {k = after_seek block} (made (seeking (n * block)) call is run)) refl;
     idle = run.idle;
@@ -181,7 +223,8 @@ module _ {S : Type 0} where
 
   pub may_close : (block n : ℕ) (call : Call) {a b : At S} {found : Found} → call ≡ closing → MayDo (read_at block n) a.seen.stage.past
       → IsFound block n found a b → MayDo (makes call) b.seen.stage.past
-  may_close block n call {b = b} {found = found} is may f = may_make (read_at block n) closing call (λ closed. pure found) b.seen.stage.past is (may_on may f.runs)
+  may_close block n call {b = b} {found = found} is may f = may_make (read_at block n) closing call
+      (λ closed. pure found) b.seen.stage.past is (may_on may f.runs)
 
   pub closed_stopped : (block n : ℕ) (call : Call) {a b c : At S} {found : Found} {e : Error} → IsFound block n found a b → Runs (makes call) pure b c (Err e)
       → Runs (read_at block n) pure a c (Err e)
@@ -207,6 +250,7 @@ module _ {S : Type 0} where
       → MayDo (fetched block path n) a.seen.stage.past → Runs (makes call) pure a b (Ok found) → MayDo (read_at block n) b.seen.stage.past
   may_read_at block n path bytes call is granted may run = may_on may (open_granted block n path bytes call is granted run)
 
-  pub open_read : (block n : ℕ) (path bytes : List ℕ) (call : Call) {a b c : At S} {found : Found} {result : Result Found Error} → call ≡ opening reads_only path
+  pub open_read : (block n : ℕ) (path bytes : List ℕ) (call : Call) {a b c : At S} {found : Found}
+      {result : Result Found Error} → call ≡ opening reads_only path
       → found ≡ Ok bytes → Runs (makes call) pure a b (Ok found) → Runs (read_at block n) pure b c result → Runs (fetched block path n) pure a c result
   open_read block n path bytes call is granted run rest = then_on (open_granted block n path bytes call is granted run) rest

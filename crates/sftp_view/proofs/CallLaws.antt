@@ -1,24 +1,23 @@
 -- One call of an idle session, at each exit.
-use Rattle.std.proofs.Common.{◌≡◌, ◌+◌, ◌-◌, ℕ, zero, suc, true, List, [], ◌∷◌, ◌++◌, length, None, refl, ap, sym, ◌∙◌, subst, arith, inl}
-use Rattle.std.specs.Prelude.{Option, Some, Result, Ok, Err, slice_get}
+use Rattle.std.proofs.Common.{◌≡◌, ◌+◌, ◌-◌, true, List, [], ◌∷◌, ◌++◌, length, None, refl, ap, sym, ◌∙◌, subst, arith}
+use Rattle.std.specs.Prelude.{Some, Ok, Err, slice_get}
 use Rattle.std.proofs.lemmas.List.{length-append}
 use Rattle.sftp_model.specs.declared.error.Error.{Error}
 use Rattle.sftp_model.specs.declared.error.Error.TheVariants as error
 use Rattle.sftp_model.specs.declared.outcome.Outcome.{Outcome}
-use Rattle.sftp_link.specs.declared.piece.Piece.{Piece}
 use Rattle.sftp_link.specs.Views.{LinkView}
 use Rattle.plan_model.specs.Lanes.{are_ok}
 use Rattle.plan_model.specs.declared.call.Call.{Call}
 use Rattle.plan_model.specs.declared.call.Lane.{Lane}
 use Rattle.session_model.specs.declared.entry.Entry.{Entry}
-use Rattle.session_model.specs.Calls.{Setting, added, calls_of}
+use Rattle.session_model.specs.Calls.{added, calls_of}
 use Rattle.session_model.specs.Readings.{outcomes_of}
 use Rattle.session_model.specs.Turns.{Stage}
 use Rattle.session_driver.specs.Adding.{call_of, with_call}
 use Rattle.session_driver.specs.Logs.{Keeps}
 use Rattle.session_driver.specs.Ongoing.{At, Ongoing, at}
 use Rattle.session_driver.specs.Session.{IsLater, IsUnmoved}
-use Rattle.session_driver.proofs.Joining.{join, no_memory, quiet}
+use Rattle.session_driver.proofs.Joining.{no_memory, quiet}
 use Rattle.session_driver.proofs.Journals.{later_self}
 use Rattle.session_work.specs.Working.{past_of}
 use Rattle.sftp_lanes.specs.Seen.{SessionValue, seen_of}

@@ -1,6 +1,6 @@
 -- The blocks of a get, one after another.
-use Rattle.std.proofs.Common.{◌≡◌, ◌≤◌, ◌<◌, ◌+◌, ◌-◌, ◌*◌, ◌^◌, ℕ, zero, suc, Bool, true, false, List, [], ◌∷◌, ◌++◌, length, if◌then◌else◌, refl, ap, sym, ◌∙◌, subst, arith}
-use Rattle.std.specs.Prelude.{Option, Some, None, Result, Ok, Err, nat_lt}
+use Rattle.std.proofs.Common.{◌≡◌, ◌≤◌, ◌<◌, ◌+◌, ◌-◌, ◌*◌, ◌^◌, ℕ, suc, true, false, List, [], ◌++◌, length, if◌then◌else◌, refl, ap, sym, ◌∙◌, subst, arith}
+use Rattle.std.specs.Prelude.{Result, Ok, Err, nat_lt}
 use Rattle.std.specs.Map.{lookup}
 use Rattle.std.proofs.Math.Nat.{le-mul_of_pos_right, mul-le-mul_right}
 use Rattle.std.proofs.lemmas.Bool.Decides.{nat_tests}
@@ -8,20 +8,17 @@ use Rattle.sftp_model.specs.declared.error.Error.{Error}
 use Rattle.sftp_model.specs.declared.error.Error.TheVariants as error
 use Rattle.sftp_link.specs.Views.{LinkView}
 use Rattle.machine_model.specs.Components.{components}
-use Rattle.session_model.specs.declared.entry.Entry.{Entry}
 use Rattle.session_driver.specs.Ongoing.{At, at}
-use Rattle.sftp_lanes.specs.Seen.{SessionValue, seen_of}
-use Rattle.view_model.specs.Blocks.{Kept}
-use Rattle.view_model.specs.Caches.{CacheValue}
+use Rattle.sftp_lanes.specs.Seen.{seen_of}
 use Rattle.view_model.specs.Keys.{key_of, same_key}
 use Rattle.view_model.specs.Viewed.{Doing, Found, Gathered, block_by, gathered, pure, was_gathered, ◌>>=◌}
 use Rattle.view_model.specs.declared.key.BlockKey.{BlockKey}
 use Rattle.sftp_view.specs.declared.ops.View.{View}
 use Rattle.sftp_view.specs.Doings.{IsIdle, MayDo, Runs}
-use Rattle.sftp_view.specs.Working.{StaysView, Works, wanted}
+use Rattle.sftp_view.specs.Working.{StaysView, Works}
 use Rattle.sftp_view.proofs.FewLaws.{may_first}
-use Rattle.sftp_view.proofs.RunLaws.{bound, gives, may_on, no_room, no_room_then, runs_self, stopped, then_on}
-use Rattle.sftp_view.proofs.WorkLaws.{block_of, view_of}
+use Rattle.sftp_view.proofs.RunLaws.{bound, gives, may_on, no_room_then, runs_self, stopped, then_on}
+use Rattle.sftp_view.proofs.WorkLaws.{block_of}
 
 -- what is left of the blocks of a view after k of them
 abbrev pub left_of : View → List ℕ → ℕ → ℕ → ℕ → List ℕ → View → Doing Gathered
@@ -69,7 +66,8 @@ next_is path first count k bytes key old now lt name same_block same_capacity =
 
 module _ {S : Type 0} where
   -- after k blocks
-  pub record GathersSoFar (path : List ℕ) (first count k : ℕ) (bytes : List ℕ) (key : BlockKey) (old : View) (link : LinkView S) (now : View) (link_now : LinkView S) : Type 0 where
+  pub record GathersSoFar (path : List ℕ) (first count k : ℕ) (bytes : List ℕ) (key : BlockKey) (old : View)
+      (link : LinkView S) (now : View) (link_now : LinkView S) : Type 0 where
     pub runs : Runs (gathered old.block old.cache.capacity path first count [] old.cache.kept) (λ (u : Unit {0}). left_of old path first count k bytes now)
         (at (seen_of old.session) link) (at (seen_of now.session) link_now) (Ok tt)
     pub idle : IsIdle (at (seen_of now.session) link_now)
@@ -91,8 +89,6 @@ module _ {S : Type 0} where
         name = name ∙ ap (key_of (components path)) (sym from);
       }
 
-
-
   -- what the next block gives
   abbrev pub One : View → List ℕ → BlockKey → LinkView S → View → LinkView S → Result Found Error → Type 0
   One now path key link_now next link_next result =
@@ -106,7 +102,8 @@ module _ {S : Type 0} where
       (subst (λ (f : Doing Gathered). MayDo f (seen_of now.session).stage.past)
       (next_is path first count k bytes key old now lt so_far.name so_far.stays.block so_far.stays.capacity) (may_on may so_far.runs))
 
-  one_more : (path : List ℕ) (first count k : ℕ) (bytes : List ℕ) (key : BlockKey) (old now next : View) (link link_now link_next : LinkView S) (found : Found) → k < count
+  one_more : (path : List ℕ) (first count k : ℕ) (bytes : List ℕ) (key : BlockKey) (old now next : View)
+      (link link_now link_next : LinkView S) (found : Found) → k < count
       → GathersSoFar path first count k bytes key old link now link_now → One now path key link_now next link_next (Ok found)
       → Runs (gathered old.block old.cache.capacity path first count [] old.cache.kept)
       (after_block old path first count k bytes) (at (seen_of old.session) link) (at (seen_of next.session) link_next)
@@ -122,7 +119,8 @@ module _ {S : Type 0} where
       gives tt so_far.runs (next_is path first count k bytes key old now lt so_far.name so_far.stays.block so_far.stays.capacity) in
       then_on before (bound {k = after_block old path first count k bytes} gave)
 
-  pub gather_refused : (path : List ℕ) (first count k : ℕ) (bytes : List ℕ) (key : BlockKey) (old now next : View) (link link_now link_next : LinkView S) (found : Found) (code : ℕ)
+  pub gather_refused : (path : List ℕ) (first count k : ℕ) (bytes : List ℕ) (key : BlockKey) (old now next : View)
+      (link link_now link_next : LinkView S) (found : Found) (code : ℕ)
       → k < count → GathersSoFar path first count k bytes key old link now link_now → found ≡ Err code → One now path key link_now next link_next (Ok found)
       → Works (gathered old.block old.cache.capacity path first count [] old.cache.kept) (λ f. pure (record { found = f; kept = next.cache.kept })) count
       old link next link_next (Ok (Err code))
@@ -132,7 +130,8 @@ module _ {S : Type 0} where
     stays = at_most k count old next lt (stays_on k 1 old now next so_far.stays one.stays);
   }
 
-  pub gather_short : (path : List ℕ) (first count k : ℕ) (bytes more : List ℕ) (key : BlockKey) (old now next : View) (link link_now link_next : LinkView S) (found : Found)
+  pub gather_short : (path : List ℕ) (first count k : ℕ) (bytes more : List ℕ) (key : BlockKey) (old now next : View)
+      (link link_now link_next : LinkView S) (found : Found)
       → k < count → GathersSoFar path first count k bytes key old link now link_now → found ≡ Ok more → One now path key link_now next link_next (Ok found)
       → length more < next.block → (all : List ℕ) → all ≡ bytes ++ more
       → Works (gathered old.block old.cache.capacity path first count [] old.cache.kept) (λ f. pure (record { found = f; kept = next.cache.kept })) count
@@ -148,7 +147,8 @@ module _ {S : Type 0} where
         stays = at_most k count old next lt stays;
       }
 
-  pub gather_more : (path : List ℕ) (first count k : ℕ) (bytes more : List ℕ) (key further : BlockKey) (old now next : View) (link link_now link_next : LinkView S) (found : Found)
+  pub gather_more : (path : List ℕ) (first count k : ℕ) (bytes more : List ℕ) (key further : BlockKey)
+      (old now next : View) (link link_now link_next : LinkView S) (found : Found)
       → k < count → GathersSoFar path first count k bytes key old link now link_now → found ≡ Ok more → One now path key link_now next link_next (Ok found)
       → next.block ≤ length more → (all : List ℕ) → all ≡ bytes ++ more → further ≡ record key { block = key.block + 1 }
       → GathersSoFar path first count (k + 1) all further old link next link_next
@@ -182,15 +182,19 @@ module _ {S : Type 0} where
         };
       }
 
-  pub gather_stopped : (path : List ℕ) (first count k : ℕ) (bytes : List ℕ) (key : BlockKey) (old now next : View) (link link_now link_next : LinkView S) (e : Error)
+  pub gather_stopped : (path : List ℕ) (first count k : ℕ) (bytes : List ℕ) (key : BlockKey) (old now next : View)
+      (link link_now link_next : LinkView S) (e : Error)
       {r : Found → Doing Gathered} → GathersSoFar path first count k bytes key old link now link_now → One now path key link_now next link_next (Err e)
       → Works (gathered old.block old.cache.capacity path first count [] old.cache.kept) r count old link next link_next (Err e)
-  gather_stopped path first count k bytes key old now next link link_now link_next e so_far one = record { runs = then_on so_far.runs (stopped one.runs); stays = tt }
+  gather_stopped path first count k bytes key old now next link link_now link_next e so_far one =
+      record { runs = then_on so_far.runs (stopped one.runs); stays = tt }
 
-  pub gather_lost : (path : List ℕ) (first count k : ℕ) (bytes : List ℕ) (key : BlockKey) (old now next : View) (link link_now link_next : LinkView S) (found : Found)
+  pub gather_lost : (path : List ℕ) (first count k : ℕ) (bytes : List ℕ) (key : BlockKey) (old now next : View)
+      (link link_now link_next : LinkView S) (found : Found)
       {r : Found → Doing Gathered} → GathersSoFar path first count k bytes key old link now link_now → One now path key link_now next link_next (Ok found)
       → Works (gathered old.block old.cache.capacity path first count [] old.cache.kept) r count old link next link_next (Err error.OutOfMemory)
-  gather_lost path first count k bytes key old now next link link_now link_next found so_far one = record { runs = then_on so_far.runs (no_room_then one.runs); stays = tt }
+  gather_lost path first count k bytes key old now next link link_now link_next found so_far one =
+      record { runs = then_on so_far.runs (no_room_then one.runs); stays = tt }
 
 -- a block is within the greatest offset
 pub block_fits : (first count k n block : ℕ) → n ≡ first + k → k < count → (first + count) * block < 2 ^ 64 → n * block < 2 ^ 64

@@ -1,6 +1,6 @@
 -- A step of an idle lane does nothing.
-use Rattle.std.proofs.Common.{◌≡◌, ◌++◌, ◌∙◌, ℕ, List, None, refl, ap, sym, subst}
-use Rattle.std.specs.Prelude.{Option, Some, Result, Ok, Err, length, slice_get}
+use Rattle.std.proofs.Common.{◌≡◌, ◌++◌, ◌∙◌, List, None, ap, sym, subst}
+use Rattle.std.specs.Prelude.{Option, length, slice_get}
 use Rattle.sftp_model.specs.declared.slot.Move.{Move}
 use Rattle.sftp_link.specs.Views.{LinkView}
 use Rattle.plan_model.specs.declared.call.Call.{Call}
@@ -13,15 +13,14 @@ use Rattle.session_model.specs.Turns.{Stage}
 use Rattle.session_driver.specs.declared.session.Phase.{Phase}
 use Rattle.session_driver.specs.declared.session.Phase.TheVariants.{Open}
 use Rattle.session_driver.specs.declared.session.Stepped.{Stepped}
-use Rattle.session_driver.specs.Ongoing.{At, at}
-use Rattle.session_driver.specs.Session.{IsLater, Seen, StepsTo}
-use Rattle.session_driver.proofs.Joining.{phase_stays, quiet, setting_stays}
+use Rattle.session_driver.specs.Ongoing.{at}
+use Rattle.session_driver.specs.Session.{StepsTo}
+use Rattle.session_driver.proofs.Joining.{phase_stays, setting_stays}
 use Rattle.session_work.specs.Working.{Steps, past_of, stage_of}
 use Rattle.sftp_lanes.specs.Events.{GoesOn, StepsIn}
 use Rattle.sftp_lanes.specs.Seen.{SessionValue, seen_of, setting_at}
 use Rattle.sftp_lanes.proofs.Shown.{stays}
-use Rattle.view_model.specs.Viewed.{Doing}
-use Rattle.sftp_view.specs.Doings.{Does, IsIdle, Runs, going_on, one_lane}
+use Rattle.sftp_view.specs.Doings.{IsIdle}
 use Rattle.sftp_view.specs.IdleSteps.{StepsIdly}
 
 no_move : (s : Setting) (past : List Entry) → current s past 0 ≡ None → move_of s past 0 ≡ None
@@ -43,6 +42,7 @@ steps_idly old new event opened none steps =
       count = g.did.working.stands.lanes ∙ ap length (sym lanes);
       each = λ lane. g.did.working.stands.calls lane
           ∙ ap (λ (l : List Lane). calls_of (slice_get l lane) ++ added (past_of new.work) lane) (sym lanes);
+      settled = g.did.working.rest.settled;
     }
 
 -- the session is idle still
@@ -56,6 +56,7 @@ module _ {S : Type 0} where
         lanes = ap (λ (x : Setting). x.lanes) setting ∙ idle.lanes;
         run = subst (λ (x : Setting). IsJournal x (seen_of new).stage.past) (sym setting)
             (subst (λ (p : List Entry). IsJournal (seen_of old).setting p) (sym past) idle.run);
-        done = ap (λ (x : Setting). current x (seen_of new).stage.past 0) setting ∙ (ap (λ (p : List Entry). current (seen_of old).setting p 0) past ∙ idle.done);
+        done = ap (λ (x : Setting). current x (seen_of new).stage.past 0) setting
+            ∙ (ap (λ (p : List Entry). current (seen_of old).setting p 0) past ∙ idle.done);
         held = λ lane. ap (λ (p : List Entry). was_let_go p lane) past ∙ idle.held lane;
       }

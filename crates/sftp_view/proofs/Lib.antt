@@ -8,3 +8,8 @@ pub mod WorkLaws
 pub mod GatherLaws
 pub mod PutLaws
 pub mod OpLaws
+pub mod AllLaws
+pub mod DrainLaws
+pub mod ClosingLaws
+pub mod ViewLaws
+pub mod MemoryLaws

@@ -1,14 +1,12 @@
 -- A call that an idle session adds and runs ends once, and the session is idle again.
-use Rattle.std.proofs.Common.{◌≡◌, ℕ, List, [], ◌∷◌, ◌++◌, None, refl, ap, sym, ◌∙◌, subst, inl, inr}
-use Rattle.std.specs.Prelude.{Result, Ok, Err}
-use Rattle.sftp_model.specs.declared.error.Error.{Error}
+use Rattle.std.proofs.Common.{◌≡◌, List, [], ◌∷◌, ◌++◌, None, refl, ap, sym, ◌∙◌, subst, inl, inr}
+use Rattle.std.specs.Prelude.{Ok}
 use Rattle.sftp_model.specs.declared.outcome.Outcome.{Outcome}
 use Rattle.plan_model.specs.declared.call.Call.{Call}
 use Rattle.session_model.specs.declared.entry.Entry.{Entry}
 use Rattle.session_model.specs.Calls.{Setting, current}
 use Rattle.session_model.specs.Journals.{IsJournal}
 use Rattle.session_model.specs.Readings.{outcomes_of}
-use Rattle.session_model.specs.Turns.{Stage}
 use Rattle.session_driver.specs.Adding.{added_to, call_of}
 use Rattle.session_driver.specs.Ongoing.{At, Ongoing, Went}
 use Rattle.session_driver.specs.Session.{IsLater}
@@ -17,7 +15,7 @@ use Rattle.view_model.specs.OneCall.{HasEndedOnce}
 use Rattle.view_model.specs.Viewed.{ComesTo, Found, found_in, makes, pure}
 use Rattle.view_model.proofs.DoingLaws.{comes_call}
 use Rattle.view_model.proofs.EndedLaws.{ended_once}
-use Rattle.sftp_view.specs.Doings.{Does, IsIdle, Runs, going_on}
+use Rattle.sftp_view.specs.Doings.{IsIdle, Runs}
 
 -- what goes on from a journal is one
 pub later_journal : (s : Setting) (before past : List Entry) → IsJournal s before → IsLater s before past → IsJournal s past

@@ -1,6 +1,6 @@
 -- What a view does operation by operation.
-use Rattle.std.proofs.Common.{◌≡◌, ◌≤◌, ◌<◌, ◌+◌, ◌-◌, ◌*◌, ◌/◌, ◌==◌, ◌^◌, ℕ, Bool, true, false, List, [], ◌∷◌, ◌++◌, length, if◌then◌else◌, refl, ap, sym, ◌∙◌, subst, arith}
-use Rattle.std.specs.Prelude.{Result, Ok, Err, take, drop}
+use Rattle.std.proofs.Common.{◌≡◌, ◌≤◌, ◌+◌, ◌-◌, ◌*◌, ◌/◌, ◌==◌, ℕ, true, false, List, [], if◌then◌else◌, refl, ap, sym, ◌∙◌, subst, arith}
+use Rattle.std.specs.Prelude.{Result, Ok, Err}
 use Rattle.sftp_model.specs.declared.error.Error.{Error}
 use Rattle.sftp_model.specs.declared.error.Error.TheVariants as error
 use Rattle.sftp_link.specs.Views.{LinkView}
@@ -10,18 +10,18 @@ use Rattle.session_driver.specs.Ongoing.{At, at}
 use Rattle.sftp_lanes.specs.Seen.{SessionValue, seen_of}
 use Rattle.view_model.specs.Blocks.{Kept, block_count, dropped, first_block}
 use Rattle.view_model.specs.Caches.{CacheValue, cached}
-use Rattle.view_model.specs.Viewed.{Answered, Doing, Found, Gathered, answered, gathered, get_by, got_of, op_by, pure, put_by, written, ◌>>=◌}
+use Rattle.view_model.specs.Viewed.{Answered, Doing, Found, Gathered, answered, gathered, get_by, got_of, op_by, pure, put_by, written}
 use Rattle.view_model.specs.ViewOps.{passes_length}
 use Rattle.view_model.specs.declared.answer.Answer.{Answer}
 use Rattle.view_model.specs.declared.answer.Answer.TheVariants as answer
 use Rattle.view_model.specs.declared.op.ViewOp.{ViewOp}
 use Rattle.view_model.specs.declared.op.ViewOp.TheVariants as op
-use Rattle.view_model.proofs.CountLaws.{blocks_few, blocks_fit}
+use Rattle.view_model.proofs.CountLaws.{blocks_few}
 use Rattle.sftp_view.specs.declared.ops.View.{View}
 use Rattle.sftp_view.specs.Doings.{IsIdle, MayDo, Runs}
 use Rattle.sftp_view.specs.Working.{MayWork, StaysView, Works, wanted}
 use Rattle.sftp_view.proofs.FewLaws.{may_first}
-use Rattle.sftp_view.proofs.RunLaws.{bound, gives, no_room, no_room_then, runs_self, stopped, then_on}
+use Rattle.sftp_view.proofs.RunLaws.{bound, gives, no_room_then, runs_self, stopped}
 use Rattle.sftp_view.proofs.WorkLaws.{view_of}
 
 -- ---- get
@@ -33,7 +33,8 @@ after_blocks old offset len g = pure (answered (got_of (offset - first_block old
 abbrev pub blocks_of : View → List ℕ → ℕ → ℕ → Doing Gathered
 blocks_of old path offset len = gathered old.block old.cache.capacity path (first_block old.block offset) (block_count old.block offset len) [] old.cache.kept
 
-pub may_gather : (old : View) (path : List ℕ) (offset len : ℕ) {past : List Entry} → MayDo (get_by old.block old.cache.capacity path offset len old.cache.kept) past
+pub may_gather : (old : View) (path : List ℕ) (offset len : ℕ) {past : List Entry}
+    → MayDo (get_by old.block old.cache.capacity path offset len old.cache.kept) past
     → MayDo (blocks_of old path offset len) past
 may_gather old path offset len may = may_first (blocks_of old path offset len) (after_blocks old offset len) may
 
@@ -48,8 +49,10 @@ module _ {S : Type 0} where
   pub got_blocks : (old new : View) (path : List ℕ) (offset len : ℕ) (link link_now : LinkView S) (found : Found) (said : Answer)
       → 1 ≤ old.block → old.block ≤ 65536 → len ≤ 1048576
       → said ≡ got_of (offset - first_block old.block offset * old.block) len found
-      → Works (blocks_of old path offset len) (λ f. pure (record { found = f; kept = new.cache.kept })) (block_count old.block offset len) old link new link_now (Ok found)
-      → Works (get_by old.block old.cache.capacity path offset len old.cache.kept) (λ a. pure (answered a new.cache.kept)) 2097152 old link new link_now (Ok said)
+      → Works (blocks_of old path offset len) (λ f. pure (record { found = f; kept = new.cache.kept }))
+      (block_count old.block offset len) old link new link_now (Ok found)
+      → Works (get_by old.block old.cache.capacity path offset len old.cache.kept)
+      (λ a. pure (answered a new.cache.kept)) 2097152 old link new link_now (Ok said)
   got_blocks old new path offset len link link_now found said some short most same work =
       let a : At S = at (seen_of old.session) link in
       let b : At S = at (seen_of new.session) link_now in
@@ -60,12 +63,14 @@ module _ {S : Type 0} where
         stays = few_as (block_count old.block offset len) 2097152 old new (blocks_few old.block offset len some short most) work.stays;
       }
 
-  pub get_stopped : (old new : View) (path : List ℕ) (offset len : ℕ) (link link_now : LinkView S) (e : Error) {r : Found → Doing Gathered} {q : Answer → Doing Answered} (n : ℕ)
+  pub get_stopped : (old new : View) (path : List ℕ) (offset len : ℕ) (link link_now : LinkView S) (e : Error)
+      {r : Found → Doing Gathered} {q : Answer → Doing Answered} (n : ℕ)
       → Works (blocks_of old path offset len) r n old link new link_now (Err e)
       → Works (get_by old.block old.cache.capacity path offset len old.cache.kept) q 2097152 old link new link_now (Err e)
   get_stopped old new path offset len link link_now e n work = record { runs = stopped work.runs; stays = tt }
 
-  pub get_lost : (old new : View) (path : List ℕ) (offset len : ℕ) (link link_now : LinkView S) (found : Found) {r : Found → Doing Gathered} {q : Answer → Doing Answered} (n : ℕ)
+  pub get_lost : (old new : View) (path : List ℕ) (offset len : ℕ) (link link_now : LinkView S) (found : Found)
+      {r : Found → Doing Gathered} {q : Answer → Doing Answered} (n : ℕ)
       → Works (blocks_of old path offset len) r n old link new link_now (Ok found)
       → Works (get_by old.block old.cache.capacity path offset len old.cache.kept) q 2097152 old link new link_now (Err error.OutOfMemory)
   get_lost old new path offset len link link_now found n work = record { runs = no_room_then work.runs; stays = tt }
@@ -77,7 +82,8 @@ module _ {S : Type 0} where
       → said ≡ got_of (offset - offset / b * b) len found
       → Works (gathered old.block old.cache.capacity path (offset / b) ((offset + w - 1) / b - offset / b + 1) [] old.cache.kept)
       (λ f. pure (record { found = f; kept = new.cache.kept })) ((offset + w - 1) / b - offset / b + 1) old link new link_now (Ok found)
-      → Works (get_by old.block old.cache.capacity path offset len old.cache.kept) (λ a. pure (answered a new.cache.kept)) 2097152 old link new link_now (Ok said)
+      → Works (get_by old.block old.cache.capacity path offset len old.cache.kept)
+      (λ a. pure (answered a new.cache.kept)) 2097152 old link new link_now (Ok said)
   got_part old new path offset len b w link link_now found said is wide some short most same work =
       got_blocks old new path offset len link link_now found said some short most
       (subst (λ (x : ℕ). said ≡ got_of (offset - offset / x * x) len found) is same)
@@ -96,10 +102,12 @@ pub may_write_file : (path : List ℕ) (offset : ℕ) (content : List ℕ) (kept
 may_write_file path offset content kept may = may_first (written path offset content) (after_put path kept) may
 
 module _ {S : Type 0} where
-  pub put_done : (session now : SessionValue) (cache new : CacheValue) (block : ℕ) (path : List ℕ) (offset : ℕ) (content : List ℕ) (link link_now : LinkView S) (said : Answer)
+  pub put_done : (session now : SessionValue) (cache new : CacheValue) (block : ℕ) (path : List ℕ) (offset : ℕ)
+      (content : List ℕ) (link link_now : LinkView S) (said : Answer)
       (name : List (List ℕ)) → name ≡ components path → new ≡ cached cache.capacity (dropped name cache.kept)
       → Runs (written path offset content) pure (at (seen_of session) link) (at (seen_of now) link_now) (Ok said)
-      → Works (put_by path offset content cache.kept) (λ a. pure (answered a new.kept)) 2097152 (view_of session cache block) link (view_of now new block) link_now (Ok said)
+      → Works (put_by path offset content cache.kept) (λ a. pure (answered a new.kept)) 2097152
+      (view_of session cache block) link (view_of now new block) link_now (Ok said)
   put_done session now cache new block path offset content link link_now said name is left run =
       let kept : new.kept ≡ dropped (components path) cache.kept = ap (λ (c : CacheValue). c.kept) left ∙ ap (λ (n : List (List ℕ)). dropped n cache.kept) is in
       let same : wanted new ≡ wanted cache = ap wanted left in
@@ -112,12 +120,14 @@ module _ {S : Type 0} where
         };
       }
 
-  pub put_stopped : (session now : SessionValue) (cache new : CacheValue) (block : ℕ) (path : List ℕ) (offset : ℕ) (content : List ℕ) (link link_now : LinkView S) (e : Error)
+  pub put_stopped : (session now : SessionValue) (cache new : CacheValue) (block : ℕ) (path : List ℕ) (offset : ℕ)
+      (content : List ℕ) (link link_now : LinkView S) (e : Error)
       {q : Answer → Doing Answered} → Runs (written path offset content) pure (at (seen_of session) link) (at (seen_of now) link_now) (Err e)
       → Works (put_by path offset content cache.kept) q 2097152 (view_of session cache block) link (view_of now new block) link_now (Err e)
   put_stopped session now cache new block path offset content link link_now e run = record { runs = stopped run; stays = tt }
 
-  pub put_lost : (session now : SessionValue) (cache new : CacheValue) (block : ℕ) (path : List ℕ) (offset : ℕ) (content : List ℕ) (link link_now : LinkView S) {said : Answer}
+  pub put_lost : (session now : SessionValue) (cache new : CacheValue) (block : ℕ) (path : List ℕ) (offset : ℕ)
+      (content : List ℕ) (link link_now : LinkView S) {said : Answer}
       {q : Answer → Doing Answered} → Runs (written path offset content) pure (at (seen_of session) link) (at (seen_of now) link_now) (Ok said)
       → Works (put_by path offset content cache.kept) q 2097152 (view_of session cache block) link (view_of now new block) link_now (Err error.OutOfMemory)
   put_lost session now cache new block path offset content link link_now run = record { runs = no_room_then run; stays = tt }
@@ -145,14 +155,16 @@ module _ {S : Type 0} where
     counts = may.counts;
   }
 
-  pub may_get : (view : View) (o : ViewOp) (path : List ℕ) (offset len : ℕ) (link : LinkView S) → o ≡ op.Get path offset len → (len == 0) ≡ false → passes_length path ≡ false
+  pub may_get : (view : View) (o : ViewOp) (path : List ℕ) (offset len : ℕ) (link : LinkView S) → o
+      ≡ op.Get path offset len → (len == 0) ≡ false → passes_length path ≡ false
       → MayWork (op_by view.block view.cache.capacity o view.cache.kept) view link
       → MayWork (get_by view.block view.cache.capacity path offset len view.cache.kept) view link
   may_get view o path offset len link is some fits may =
       may_as _ _ view link (ap (λ (x : ViewOp). op_by view.block view.cache.capacity x view.cache.kept) is
       ∙ get_plain view.block view.cache.capacity path offset len view.cache.kept some fits) may
 
-  pub may_put : (view : View) (o : ViewOp) (path : List ℕ) (offset : ℕ) (content : List ℕ) (link : LinkView S) → o ≡ op.Put path offset content → passes_length path ≡ false
+  pub may_put : (view : View) (o : ViewOp) (path : List ℕ) (offset : ℕ) (content : List ℕ) (link : LinkView S) → o
+      ≡ op.Put path offset content → passes_length path ≡ false
       → MayWork (op_by view.block view.cache.capacity o view.cache.kept) view link
       → MayWork (put_by path offset content view.cache.kept) view link
   may_put view o path offset content link is fits may =
@@ -163,7 +175,8 @@ module _ {S : Type 0} where
       → Works g r n old link new link_now result → Works f r n old link new link_now result
   works_as f g r n old new link link_now result same work = subst (λ (h : Doing _). Works h r n old link new link_now result) (sym same) work
 
-  pub did_get : (old new : View) (o : ViewOp) (path : List ℕ) (offset len : ℕ) (link link_now : LinkView S) (result : Result Answer Error) → o ≡ op.Get path offset len
+  pub did_get : (old new : View) (o : ViewOp) (path : List ℕ) (offset len : ℕ) (link link_now : LinkView S)
+      (result : Result Answer Error) → o ≡ op.Get path offset len
       → (len == 0) ≡ false → passes_length path ≡ false
       → Works (get_by old.block old.cache.capacity path offset len old.cache.kept) (λ a. pure (answered a new.cache.kept)) 2097152 old link new link_now result
       → Works (op_by old.block old.cache.capacity o old.cache.kept) (λ a. pure (answered a new.cache.kept)) 2097152 old link new link_now result
@@ -171,7 +184,8 @@ module _ {S : Type 0} where
       works_as _ _ _ 2097152 old new link link_now result (ap (λ (x : ViewOp). op_by old.block old.cache.capacity x old.cache.kept) is
       ∙ get_plain old.block old.cache.capacity path offset len old.cache.kept some fits) work
 
-  pub did_put : (old new : View) (o : ViewOp) (path : List ℕ) (offset : ℕ) (content : List ℕ) (link link_now : LinkView S) (result : Result Answer Error) → o ≡ op.Put path offset content
+  pub did_put : (old new : View) (o : ViewOp) (path : List ℕ) (offset : ℕ) (content : List ℕ)
+      (link link_now : LinkView S) (result : Result Answer Error) → o ≡ op.Put path offset content
       → passes_length path ≡ false
       → Works (put_by path offset content old.cache.kept) (λ a. pure (answered a new.cache.kept)) 2097152 old link new link_now result
       → Works (op_by old.block old.cache.capacity o old.cache.kept) (λ a. pure (answered a new.cache.kept)) 2097152 old link new link_now result
@@ -180,16 +194,19 @@ module _ {S : Type 0} where
       ∙ put_plain old.block old.cache.capacity path offset content old.cache.kept fits) work
 
   -- without a call
-  at_once : (view : View) (f : Doing Answered) (said : Answer) (link : LinkView S) → IsIdle (at (seen_of view.session) link) → f ≡ pure (answered said view.cache.kept)
+  at_once : (view : View) (f : Doing Answered) (said : Answer) (link : LinkView S)
+      → IsIdle (at (seen_of view.session) link) → f ≡ pure (answered said view.cache.kept)
       → Works f (λ a. pure (answered a view.cache.kept)) 2097152 view link view link (Ok said)
   at_once view f said link idle is =
       let here : At S = at (seen_of view.session) link in
       let self : Runs f (λ (u : Unit {0}). f) here here (Ok tt) = runs_self f tt here idle in
       record { runs = gives said self is; stays = record { block = refl; capacity = refl; few = omega arith } }
 
-  pub got_nothing : (view : View) (o : ViewOp) (path bytes : List ℕ) (offset len : ℕ) (link : LinkView S) → o ≡ op.Get path offset len → (len == 0) ≡ true → bytes ≡ []
+  pub got_nothing : (view : View) (o : ViewOp) (path bytes : List ℕ) (offset len : ℕ) (link : LinkView S) → o
+      ≡ op.Get path offset len → (len == 0) ≡ true → bytes ≡ []
       → IsIdle (at (seen_of view.session) link)
-      → Works (op_by view.block view.cache.capacity o view.cache.kept) (λ a. pure (answered a view.cache.kept)) 2097152 view link view link (Ok (answer.Got bytes))
+      → Works (op_by view.block view.cache.capacity o view.cache.kept) (λ a. pure (answered a view.cache.kept)) 2097152
+      view link view link (Ok (answer.Got bytes))
   got_nothing view o path bytes offset len link is none empty idle =
       at_once view (op_by view.block view.cache.capacity o view.cache.kept) (answer.Got bytes) link idle
       (ap (λ (x : ViewOp). op_by view.block view.cache.capacity x view.cache.kept) is
@@ -197,7 +214,8 @@ module _ {S : Type 0} where
       else if passes_length path then pure (answered answer.TooLong view.cache.kept) else get_by view.block view.cache.capacity path offset len view.cache.kept)
       ∙ ap (λ (b : List ℕ). pure (answered (answer.Got b) view.cache.kept)) (sym empty)))
 
-  pub get_too_long : (view : View) (o : ViewOp) (path : List ℕ) (offset len : ℕ) (link : LinkView S) → o ≡ op.Get path offset len → (len == 0) ≡ false → passes_length path ≡ true
+  pub get_too_long : (view : View) (o : ViewOp) (path : List ℕ) (offset len : ℕ) (link : LinkView S) → o
+      ≡ op.Get path offset len → (len == 0) ≡ false → passes_length path ≡ true
       → IsIdle (at (seen_of view.session) link)
       → Works (op_by view.block view.cache.capacity o view.cache.kept) (λ a. pure (answered a view.cache.kept)) 2097152 view link view link (Ok answer.TooLong)
   get_too_long view o path offset len link is some long idle =
@@ -206,7 +224,8 @@ module _ {S : Type 0} where
       ∙ (λ i. if some i then pure (answered (answer.Got []) view.cache.kept)
       else if long i then pure (answered answer.TooLong view.cache.kept) else get_by view.block view.cache.capacity path offset len view.cache.kept))
 
-  pub put_too_long : (view : View) (o : ViewOp) (path : List ℕ) (offset : ℕ) (content : List ℕ) (link : LinkView S) → o ≡ op.Put path offset content → passes_length path ≡ true
+  pub put_too_long : (view : View) (o : ViewOp) (path : List ℕ) (offset : ℕ) (content : List ℕ) (link : LinkView S) → o
+      ≡ op.Put path offset content → passes_length path ≡ true
       → IsIdle (at (seen_of view.session) link)
       → Works (op_by view.block view.cache.capacity o view.cache.kept) (λ a. pure (answered a view.cache.kept)) 2097152 view link view link (Ok answer.TooLong)
   put_too_long view o path offset content link is long idle =

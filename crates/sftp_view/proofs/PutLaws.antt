@@ -1,14 +1,29 @@
 -- Bytes that are written call by call.
-use Rattle.std.proofs.Common.{◌≡◌, ℕ, List, [], refl, ap, sym, subst}
+use Rattle.std.proofs.Common.{◌≡◌, ℕ, List, ap, sym, subst}
 use Rattle.std.specs.Prelude.{Result, Ok, Err}
 use Rattle.sftp_model.specs.declared.error.Error.{Error}
 use Rattle.plan_model.specs.declared.call.Call.{Call}
 use Rattle.session_model.specs.declared.entry.Entry.{Entry}
 use Rattle.session_driver.specs.Ongoing.{At}
-use Rattle.view_model.specs.Viewed.{Doing, Found, closing, makes, makes_and_writes, opening, pure, put_at, put_of, seeking, unless_refused, writing, written, ◌>>=◌}
+use Rattle.view_model.specs.Viewed.{
+  Doing,
+  Found,
+  closing,
+  makes,
+  makes_and_writes,
+  opening,
+  pure,
+  put_at,
+  put_of,
+  seeking,
+  unless_refused,
+  writing,
+  written,
+  ◌>>=◌,
+}
 use Rattle.view_model.specs.declared.answer.Answer.{Answer}
 use Rattle.view_model.specs.declared.answer.Answer.TheVariants as answer
-use Rattle.sftp_view.specs.Doings.{IsIdle, MayDo, Runs}
+use Rattle.sftp_view.specs.Doings.{MayDo, Runs}
 use Rattle.sftp_view.proofs.FewLaws.{may_first}
 use Rattle.sftp_view.proofs.RunLaws.{bound, gives, may_on, stopped, then_on}
 
@@ -25,7 +40,8 @@ after_open offset content opened = unless_refused opened (λ code. answer.Refuse
 may_make : (c call : Call) (k : Found → Doing Answer) (past : List Entry) → call ≡ c → MayDo (makes c >>= k) past → MayDo (makes call) past
 may_make c call k past is may = subst (λ (x : Call). MayDo (makes x) past) (sym is) (may_first (makes c) k may)
 
-pub may_seek : (offset : ℕ) (content : List ℕ) (call : Call) {past : List Entry} → call ≡ seeking offset → MayDo (put_at offset content) past → MayDo (makes call) past
+pub may_seek : (offset : ℕ) (content : List ℕ) (call : Call) {past : List Entry} → call ≡ seeking offset
+    → MayDo (put_at offset content) past → MayDo (makes call) past
 may_seek offset content call {past = past} is may = may_make (seeking offset) call (after_seek content) past is may
 
 pub may_open : (path : List ℕ) (offset : ℕ) (content : List ℕ) (call : Call) {past : List Entry} → call ≡ opening makes_and_writes path
@@ -40,7 +56,8 @@ module _ {S : Type 0} where
       → Runs (put_at offset content) (after_seek content) a b (Ok found)
   sought offset content call is run = bound {k = after_seek content} (made (seeking offset) call is run)
 
-  pub may_write : (offset : ℕ) (content : List ℕ) (call : Call) {a b : At S} {found : Found} → call ≡ writing content → MayDo (put_at offset content) a.seen.stage.past
+  pub may_write : (offset : ℕ) (content : List ℕ) (call : Call) {a b : At S} {found : Found} → call ≡ writing content
+      → MayDo (put_at offset content) a.seen.stage.past
       → Runs (put_at offset content) (after_seek content) a b (Ok found) → MayDo (makes call) b.seen.stage.past
   may_write offset content call {b = b} is may run = may_make (writing content) call after_write b.seen.stage.past is (may_on may run)
 
@@ -68,10 +85,12 @@ module _ {S : Type 0} where
 
   -- ---- the file is open, or that was refused
 
-  pub open_refused : (path : List ℕ) (offset : ℕ) (content : List ℕ) (call : Call) {a b : At S} {found : Found} (code : ℕ) → call ≡ opening makes_and_writes path
+  pub open_refused : (path : List ℕ) (offset : ℕ) (content : List ℕ) (call : Call) {a b : At S} {found : Found}
+      (code : ℕ) → call ≡ opening makes_and_writes path
       → found ≡ Err code → Runs (makes call) pure a b (Ok found) → Runs (written path offset content) pure a b (Ok (answer.Refused code))
   open_refused path offset content call code is refused run =
-      gives (answer.Refused code) (bound {k = after_open offset content} (made (opening makes_and_writes path) call is run)) (ap (after_open offset content) refused)
+      gives (answer.Refused code) (bound {k = after_open offset content}
+      (made (opening makes_and_writes path) call is run)) (ap (after_open offset content) refused)
 
   open_granted : (path : List ℕ) (offset : ℕ) (content bytes : List ℕ) (call : Call) {a b : At S} {found : Found} → call ≡ opening makes_and_writes path
       → found ≡ Ok bytes → Runs (makes call) pure a b (Ok found) → Runs (written path offset content) (λ (u : Unit {0}). put_at offset content) a b (Ok tt)
@@ -79,7 +98,8 @@ module _ {S : Type 0} where
       gives tt (bound {k = after_open offset content} (made (opening makes_and_writes path) call is run)) (ap (after_open offset content) granted)
 
   pub may_put_at : (path : List ℕ) (offset : ℕ) (content bytes : List ℕ) (call : Call) {a b : At S} {found : Found} → call ≡ opening makes_and_writes path
-      → found ≡ Ok bytes → MayDo (written path offset content) a.seen.stage.past → Runs (makes call) pure a b (Ok found) → MayDo (put_at offset content) b.seen.stage.past
+      → found ≡ Ok bytes → MayDo (written path offset content) a.seen.stage.past → Runs (makes call) pure a b (Ok found)
+      → MayDo (put_at offset content) b.seen.stage.past
   may_put_at path offset content bytes call is granted may run = may_on may (open_granted path offset content bytes call is granted run)
 
   pub open_put : (path : List ℕ) (offset : ℕ) (content bytes : List ℕ) (call : Call) {a b c : At S} {found : Found} {result : Result Answer Error}

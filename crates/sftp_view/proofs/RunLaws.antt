@@ -1,23 +1,21 @@
 -- Things that are done one after another.
-use Rattle.std.proofs.Common.{◌≡◌, ℕ, List, [], ◌∷◌, ◌++◌, refl, ap, sym, ◌∙◌, subst, inl, inr}
-use Rattle.std.specs.Prelude.{Result, Ok, Err, IfOk, OnOk}
+use Rattle.std.proofs.Common.{◌≡◌, List, [], ◌++◌, refl, ap, sym, ◌∙◌, subst}
+use Rattle.std.specs.Prelude.{Result, Ok, Err}
 use Rattle.std.proofs.lemmas.List.{append-nil, append_assoc}
 use Rattle.sftp_model.specs.declared.error.Error.{Error}
 use Rattle.sftp_model.specs.declared.error.Error.TheVariants as error
 use Rattle.sftp_model.specs.declared.outcome.Outcome.{Outcome}
-use Rattle.sftp_link.specs.Views.{LinkView}
 use Rattle.plan_model.specs.declared.call.Call.{Call}
 use Rattle.session_model.specs.declared.entry.Entry.{Entry}
 use Rattle.session_model.specs.Calls.{added}
 use Rattle.session_model.specs.Readings.{outcomes_of}
-use Rattle.session_driver.specs.Adding.{call_of}
-use Rattle.session_driver.specs.Ongoing.{At, Ongoing, Part, at}
+use Rattle.session_driver.specs.Ongoing.{At, Ongoing, Part}
 use Rattle.session_driver.specs.Session.{IsUnmoved, Seen}
 use Rattle.session_driver.proofs.Joining.{as_part, idle, join, no_memory}
 use Rattle.view_model.specs.Calls.{AreFew, call_limit}
-use Rattle.view_model.specs.Viewed.{ComesTo, Doing, Made, after_calls, pure, ◌>>=◌}
+use Rattle.view_model.specs.Viewed.{Doing, Made, pure, ◌>>=◌}
 use Rattle.view_model.proofs.DoingLaws.{comes_bind, comes_on, comes_self}
-use Rattle.sftp_view.specs.Doings.{Does, IsIdle, MayDo, Runs, end_of, going_on}
+use Rattle.sftp_view.specs.Doings.{Does, IsIdle, MayDo, Runs, going_on}
 
 -- ---- what is done
 

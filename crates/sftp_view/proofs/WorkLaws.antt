@@ -1,6 +1,6 @@
 -- What a view does block by block.
-use Rattle.std.proofs.Common.{◌≡◌, ◌≤◌, ◌<◌, ◌+◌, ℕ, List, [], ◌∷◌, ◌++◌, length, refl, ap, sym, ◌∙◌, subst, arith}
-use Rattle.std.specs.Prelude.{Option, Some, None, Result, Ok, Err}
+use Rattle.std.proofs.Common.{◌≡◌, ◌≤◌, ◌+◌, ℕ, List, refl, ap, sym, ◌∙◌, subst, arith}
+use Rattle.std.specs.Prelude.{Option, Some, None, Ok, Err}
 use Rattle.std.specs.Map.{lookup}
 use Rattle.sftp_model.specs.declared.error.Error.{Error}
 use Rattle.sftp_model.specs.declared.error.Error.TheVariants as error
@@ -16,9 +16,9 @@ use Rattle.view_model.specs.Viewed.{Doing, Found, Gathered, block_by, fetched, m
 use Rattle.view_model.specs.declared.key.BlockKey.{BlockKey}
 use Rattle.sftp_view.specs.declared.ops.View.{View}
 use Rattle.sftp_view.specs.Doings.{IsIdle, MayDo, Runs}
-use Rattle.sftp_view.specs.Working.{StaysView, Works, wanted}
+use Rattle.sftp_view.specs.Working.{Works, wanted}
 use Rattle.sftp_view.proofs.FewLaws.{may_first}
-use Rattle.sftp_view.proofs.RunLaws.{bound, gives, no_room, no_room_then, runs_self, stopped, then_on}
+use Rattle.sftp_view.proofs.RunLaws.{bound, gives, no_room, no_room_then, runs_self, stopped}
 
 -- what a block gives
 gathered_as : Found → Kept (List ℕ) → Gathered
@@ -95,12 +95,14 @@ module _ {S : Type 0} where
       → key ≡ key_of (components path) key.block → Finds key None cache mid → Runs (fetched block path key.block) pure a b (Ok found)
       → Runs (block_of block cache path key) (λ (f : Found). pure (missed_by cache.capacity key cache.kept f)) a b (Ok found)
   fetched_block block cache mid path key {a = a} {b = b} {found = found} of finds run =
-      subst (λ (o : Option (List ℕ)). Runs (block_by block cache.capacity path key.block cache.kept o) (λ (f : Found). pure (missed_by cache.capacity key cache.kept f)) a b (Ok found))
+      subst (λ (o : Option (List ℕ)). Runs (block_by block cache.capacity path key.block cache.kept o)
+      (λ (f : Found). pure (missed_by cache.capacity key cache.kept f)) a b (Ok found))
       finds.value
       (gives found (bound {k = λ (f : Found). pure (missed_by cache.capacity (key_of (components path) key.block) cache.kept f)} run)
       (ap (λ (k : BlockKey). pure (missed_by cache.capacity k cache.kept found)) (sym of)))
 
-  pub block_read : (block : ℕ) (old now : SessionValue) (cache mid new : CacheValue) (path : List ℕ) (key : BlockKey) (link link_now : LinkView S) (found : Found)
+  pub block_read : (block : ℕ) (old now : SessionValue) (cache mid new : CacheValue) (path : List ℕ) (key : BlockKey)
+      (link link_now : LinkView S) (found : Found)
       → key ≡ key_of (components path) key.block → Finds key None cache mid
       → Runs (fetched block path key.block) pure (at (seen_of old) link) (at (seen_of now) link_now) (Ok found)
       → new ≡ cached mid.capacity (missed_by mid.capacity key mid.kept found).kept

@@ -4,7 +4,6 @@ use Rattle.sftp_model.specs.declared.error.Error.{Error}
 use Rattle.sftp_link.specs.Views.{LinkView}
 use Rattle.session_driver.specs.Ongoing.{at}
 use Rattle.sftp_lanes.specs.Seen.{seen_of}
-use Rattle.view_model.specs.Blocks.{Kept}
 use Rattle.view_model.specs.Caches.{CacheValue}
 use Rattle.view_model.specs.Viewed.{Doing}
 use Rattle.sftp_view.specs.Doings.{IsIdle, MayDo, Runs}
@@ -21,7 +20,8 @@ pub record StaysView (most : ℕ) (old new : View) : Type 0 where
   pub few : wanted new.cache ≤ wanted old.cache + most
 
 -- By a view this was done as far as what is left, or it stopped.
-pub record Works {Service T U : Type 0} (whole : Doing T) (rest : U → Doing T) (most : ℕ) (old : View) (link : LinkView Service)
+pub record Works {Service T U : Type 0} (whole : Doing T) (rest : U → Doing T) (most : ℕ) (old : View)
+    (link : LinkView Service)
     (new : View) (link_now : LinkView Service) (result : Result U Error) : Type 0 where
   pub runs : Runs whole rest (at (seen_of old.session) link) (at (seen_of new.session) link_now) result
   pub stays : OnOk result (StaysView most old new)

@@ -24,8 +24,9 @@ use view_model::found_in;
 pub type Found = Result<ByteText, u32>;
 
 /// Steps an idle lane, which does nothing.
-// for the contract: of all that a session answers only this says that a lane's calls are those that its journal tells
-fn step_idly(session: &mut Session) -> Result<(), OutOfMemory>
+// for the contract: of all that a session answers only this says that a lane's calls are those that its journal tells, and
+// that no grant is to be closed
+pub(crate) fn step_idly(session: &mut Session) -> Result<(), OutOfMemory>
     requires open { session.old.phase ≡ Open }
     requires done { current (setting_at session.old) (past_of session.old.work) 0 ≡ None }
     ensures steps { OnOk result (StepsIdly session.old session.new) }

@@ -1,10 +1,12 @@
-//! A view of remote files through a cache of their blocks.
+//! What a view of remote files does by a session of one lane, through a cache of their blocks.
 #![tactic(auto)]
 
+mod all;
 mod blocks;
 mod call;
+mod close;
 mod ops;
 mod puts;
+mod view;
 
-pub use ops::View;
-pub use puts::write_file;
+pub use view::{ViewReport, run_view};

@@ -53,7 +53,8 @@ first_before_last block offset len some long =
 pub blocks_few : (block offset len : ℕ) → 1 ≤ block → block ≤ 65536 → len ≤ 1048576 → block_count block offset len ≤ 2097152
 blocks_few block offset len some short most =
     let all = blocks_counted block offset len some in
-    let wide : block_count block offset len * 4 ≤ block_count block offset len * block_calls block = mul-le-mul_left (block_count block offset len) (let e : 4 ≤ block + 3 = omega (arith, some) in e) in
+    let wide : block_count block offset len * 4 ≤ block_count block offset len * block_calls block =
+    mul-le-mul_left (block_count block offset len) (let e : 4 ≤ block + 3 = omega (arith, some) in e) in
     omega (arith, all, wide, short, most)
 
 -- and each is within the greatest offset

@@ -139,20 +139,20 @@ read_on block (suc most) bytes = do
   found ← makes (reading (block - length bytes))
   was_read block bytes found (λ more. read_on block most more)
 
--- A block of an open file: it is read until it is full, the file ends or a READ is refused, and the file is closed. Each
--- READ but the last brings a byte.
+-- A block of an open file: it is read until it is full, the file ends or a READ is refused, and the file is closed.
+-- Each READ but the last brings a byte.
 abbrev pub read_at : ℕ → ℕ → Doing Found
 read_at block n = do
-    sought ← makes (seeking (n * block))
-    found ← read_on block block []
-    closed ← makes closing
-    pure found
+  sought ← makes (seeking (n * block))
+  found ← read_on block block []
+  closed ← makes closing
+  pure found
 
 -- a block of a file
 abbrev pub fetched : ℕ → List ℕ → ℕ → Doing Found
 fetched block path n = do
-    opened ← makes (opening reads_only path)
-    unless_refused opened (λ code. Err code) (read_at block n)
+  opened ← makes (opening reads_only path)
+  unless_refused opened (λ code. Err code) (read_at block n)
 
 -- ---- the blocks of a get
 
@@ -215,22 +215,22 @@ put_of (Err code) = answer.Refused code
 -- bytes are written to an open file, and it is closed
 abbrev pub put_at : ℕ → List ℕ → Doing Answer
 put_at offset content = do
-    sought ← makes (seeking offset)
-    written ← makes (writing content)
-    closed ← makes closing
-    pure (put_of written)
+  sought ← makes (seeking offset)
+  written ← makes (writing content)
+  closed ← makes closing
+  pure (put_of written)
 
 -- bytes are written to a file
 abbrev pub written : List ℕ → ℕ → List ℕ → Doing Answer
 written path offset content = do
-    opened ← makes (opening makes_and_writes path)
-    unless_refused opened (λ code. answer.Refused code) (put_at offset content)
+  opened ← makes (opening makes_and_writes path)
+  unless_refused opened (λ code. answer.Refused code) (put_at offset content)
 
 -- the blocks of its name are dropped, whatever came of it
 abbrev pub put_by : List ℕ → ℕ → List ℕ → Kept (List ℕ) → Doing Answered
 put_by path offset content kept = do
-    a ← written path offset content
-    pure (answered a (dropped (components path) kept))
+  a ← written path offset content
+  pure (answered a (dropped (components path) kept))
 
 -- one operation
 abbrev pub op_by : ℕ → ℕ → ViewOp → Kept (List ℕ) → Doing Answered

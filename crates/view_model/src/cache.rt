@@ -77,8 +77,8 @@ impl BlockCache {
         }
     }
 
-    /// Counts a miss, and puts a block that was read to the front; the last one goes where the cache is full. One that was
-    /// refused isn't kept. Refused only for want of memory.
+    /// Counts a miss, and puts a block that was read to the front; the last one goes where the cache is full. One that
+    /// was refused isn't kept. Refused only for want of memory.
     pub fn keep(
         &mut self,
         alloc: Global,

@@ -9,8 +9,8 @@ ghost use Rattle.view_model.specs.Keys.{same_key, same_key_equiv};
 use sftp_values::{ByteText, Items};
 use std::hash::{Hash, Hasher};
 
-/// A block of a file: the components of the file's name, and the number of the block, of which the first is 0. Two paths
-/// that denote one file have the same keys.
+/// A block of a file: the components of the file's name, and the number of the block, of which the first is 0. Two
+/// paths that denote one file have the same keys.
 #[derive(Debug, Drop)]
 pub struct BlockKey {
     pub name: Items<ByteText>,
@@ -34,7 +34,8 @@ impl Eq for BlockKey {
 impl Hash for BlockKey {
     ghost hash_input = { λ k. fed.slice (fed.slice fed.u8) k.name ++ fed.u64 k.block };
 
-    ghost respects_eq = { (and-Alike (on_Alike (λ k. k.name) (items_Alike (items_Alike (same_Alike fed.u8 Decides-eqb)))) (on_Alike (λ k. k.block) (same_Alike fed.u64 Decides-eqb))).fed };
+    ghost respects_eq = { (and-Alike (on_Alike (λ k. k.name) (items_Alike (items_Alike (same_Alike fed.u8 Decides-eqb))))
+        (on_Alike (λ k. k.block) (same_Alike fed.u64 Decides-eqb))).fed };
 
     fn hash<H: Hasher>(&self, state: &mut H) {
         state.write_usize(self.name.as_slice().len());

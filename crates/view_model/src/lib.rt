@@ -5,18 +5,18 @@
 mod answer;
 mod cache;
 pub mod calls;
-mod part;
 mod found;
 mod key;
 mod length;
 mod op;
+mod part;
 mod text;
 
 pub use answer::Answer;
 pub use cache::BlockCache;
-pub use part::cut;
 pub use found::found_in;
 pub use key::BlockKey;
 pub use length::passes_length;
 pub use op::ViewOp;
+pub use part::cut;
 pub use text::write_view;

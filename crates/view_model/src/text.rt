@@ -85,8 +85,8 @@ fn put_view(
     put_count("misses ", misses, out)
 }
 
-/// Appends a line for each answer: `got` with the bytes, `put`, `refused` with the status, or `toolong`; and then a line
-/// for the hits and one for the misses. Refused only for want of memory; `out` is unchanged then.
+/// Appends a line for each answer: `got` with the bytes, `put`, `refused` with the status, or `toolong`; and then a
+/// line for the hits and one for the misses. Refused only for want of memory; `out` is unchanged then.
 pub fn write_view(
     alloc: Global,
     answers: &[Answer],

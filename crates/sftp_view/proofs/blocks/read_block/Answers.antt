@@ -1,4 +1,4 @@
-use Rattle.std.proofs.Common.{◌≡◌, ◌<◌, ◌-◌, ◌++◌, Ok, length, rules, sym, arith}
+use Rattle.std.proofs.Common.{◌≡◌, ◌-◌, Ok, length, rules}
 use Rattle.session_exchange.proofs.Joining.{escaped}
 use Rattle.view_model.specs.Viewed.{reading}
 use Rattle.sftp_view.proofs.BlockLaws.{may_read, read_all, read_ended, read_full, read_lost, read_more, read_refused, read_stopped, reads_first}

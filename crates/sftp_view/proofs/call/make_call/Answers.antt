@@ -1,6 +1,6 @@
-use Rattle.std.proofs.Common.{rules, sym, ap, ◌∙◌, Ok, Err}
+use Rattle.std.proofs.Common.{rules}
 use Rattle.session_exchange.proofs.Joining.{escaped}
-use Rattle.sftp_view.proofs.CallLaws.{call_done, call_ended, call_lost, call_ok, call_stopped, starved}
+use Rattle.sftp_view.proofs.CallLaws.{call_done, call_ended, call_ok, call_stopped, starved}
 use Rattle.sftp_view.proofs.call.make_call.Goals as goal
 
 pub returns-then-is_err : goal.returns-then-is_err

@@ -1,6 +1,6 @@
 use Rattle.std.proofs.Common.{ap}
 use Rattle.session_exchange.proofs.Joining.{escaped}
-use Rattle.view_model.specs.Viewed.{Found, put_of}
+use Rattle.view_model.specs.Viewed.{put_of}
 use Rattle.view_model.specs.declared.answer.Answer.TheVariants as answer
 use Rattle.std.proofs.Common.{sym}
 use Rattle.sftp_view.proofs.PutLaws.{closed, may_close, may_write, sought, sought_stopped, wrote_all, wrote_stopped}

@@ -1,7 +1,17 @@
-use Rattle.std.proofs.Common.{◌≡◌, ◌+◌, ◌≤◌, Ok, Err, ap, rules, arith}
+use Rattle.std.proofs.Common.{◌≡◌, Ok, ap, rules, arith}
 use Rattle.session_exchange.proofs.Joining.{escaped}
 use Rattle.view_model.specs.declared.key.BlockKey.{BlockKey}
-use Rattle.sftp_view.proofs.GatherLaws.{block_fits, gather_all, gather_lost, gather_more, gather_refused, gather_short, gather_stopped, gathers_first, may_block, number_fits}
+use Rattle.sftp_view.proofs.GatherLaws.{
+  block_fits,
+  gather_lost,
+  gather_more,
+  gather_refused,
+  gather_short,
+  gather_stopped,
+  gathers_first,
+  may_block,
+  number_fits,
+}
 use Rattle.sftp_view.proofs.WorkLaws.{work_starved}
 use Rattle.sftp_view.proofs.ops.View.gather.Goals as goal
 
@@ -47,8 +57,10 @@ returns-then-is_err g c =
 pub returns-then-more-self : goal.returns-then-more-self
 returns-then-more-self g c =
     let brought : c.in_ok-code.field-0 ≡ Ok c.as_slice-more.result.now = search rules in
-    gather_short c.args.path.now c.args.first c.args.count c.loop-block._block c.loop-block.bytes.items c.as_slice-more.result.now c.loop-block.key c.args.self.now
-    c.loop-block.self c.get_block.new.self (g.L.LinkState.state c.args.link.now) (g.L.LinkState.state c.loop-block.link) (g.L.LinkState.state c.get_block.new.link)
+    gather_short c.args.path.now c.args.first c.args.count c.loop-block._block c.loop-block.bytes.items
+    c.as_slice-more.result.now c.loop-block.key c.args.self.now
+    c.loop-block.self c.get_block.new.self (g.L.LinkState.state c.args.link.now) (g.L.LinkState.state c.loop-block.link)
+    (g.L.LinkState.state c.get_block.new.link)
     c.in_ok-code.field-0 (search rules) c.loop-block.invariant brought c.in_ok-code.ensures (search rules) c.new.result (search rules)
 
 pub overflow_add-key : goal.overflow_add-key
@@ -60,6 +72,9 @@ overflow_add-key g c =
 pub loop-block-preserved : goal.loop-block-preserved
 loop-block-preserved g c =
     let brought : c.in_ok-code.field-0 ≡ Ok c.as_slice-more.result.now = search rules in
-    gather_more c.args.path.now c.args.first c.args.count c.loop-block._block c.loop-block.bytes.items c.as_slice-more.result.now c.loop-block.key _ c.args.self.now
-    c.loop-block.self c.get_block.new.self (g.L.LinkState.state c.args.link.now) (g.L.LinkState.state c.loop-block.link) (g.L.LinkState.state c.get_block.new.link)
-    c.in_ok-code.field-0 (search rules) c.loop-block.invariant brought c.in_ok-code.ensures (search rules) c.extend_from_slice.new.self.items (search rules) (search rules)
+    gather_more c.args.path.now c.args.first c.args.count c.loop-block._block c.loop-block.bytes.items
+    c.as_slice-more.result.now c.loop-block.key _ c.args.self.now
+    c.loop-block.self c.get_block.new.self (g.L.LinkState.state c.args.link.now) (g.L.LinkState.state c.loop-block.link)
+    (g.L.LinkState.state c.get_block.new.link)
+    c.in_ok-code.field-0 (search rules) c.loop-block.invariant brought c.in_ok-code.ensures (search rules)
+    c.extend_from_slice.new.self.items (search rules) (search rules)

@@ -1,4 +1,4 @@
-use Rattle.std.proofs.Common.{◌≡◌, ◌≤◌, ◌<◌, ◌+◌, ◌-◌, ap, rules, arith}
+use Rattle.std.proofs.Common.{rules, arith}
 use Rattle.view_model.specs.declared.answer.Answer.TheVariants as answer
 use Rattle.view_model.proofs.CountLaws.{blocks_few}
 use Rattle.sftp_view.proofs.OpLaws.{got_part}

@@ -1,4 +1,4 @@
-use Rattle.std.proofs.Common.{◌≡◌, rules}
+use Rattle.std.proofs.Common.{rules}
 use Rattle.sftp_view.proofs.OpLaws.{put_done}
 use Rattle.sftp_view.proofs.ops.View.put.Goals as goal
 

@@ -1,4 +1,4 @@
-use Rattle.std.proofs.Common.{◌≡◌, ap, rules}
+use Rattle.std.proofs.Common.{rules}
 use Rattle.sftp_view.proofs.OpLaws.{get_too_long, got_nothing, may_put, put_too_long}
 use Rattle.sftp_view.proofs.ops.View.run.Goals as goal
 
@@ -19,4 +19,5 @@ returns-then-passes_length-2 g c =
 
 pub put-requires : goal.put-requires
 put-requires g c =
-    may_put c.args.self.now c.args.op.now c.in-Put.name c.in-Put.offset c.in-Put.content (g.L.LinkState.state c.args.link.now) c.in-Put.is (search rules) c.requires.may
+    may_put c.args.self.now c.args.op.now c.in-Put.name c.in-Put.offset c.in-Put.content
+    (g.L.LinkState.state c.args.link.now) c.in-Put.is (search rules) c.requires.may

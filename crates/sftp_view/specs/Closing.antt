@@ -1,0 +1,20 @@
+-- The end of a session of one lane.
+use Rattle.std.specs.Prelude.{◌≡◌, Result, OnOk}
+use Rattle.sftp_model.specs.declared.error.Error.{Error}
+use Rattle.session_model.specs.Calls.{added}
+use Rattle.session_model.specs.Journals.{IsJournal, IsOver}
+use Rattle.session_model.specs.Readings.{outcomes_of}
+use Rattle.session_driver.specs.Ongoing.{At, Ongoing}
+use Rattle.sftp_view.specs.Doings.{going_on}
+
+-- The session is over. No call was added since, and none has ended.
+pub record IsClosed {Service : Type 0} (before now : At Service) : Type 0 where
+  pub run : IsJournal now.seen.setting now.seen.stage.past
+  pub over : IsOver now.seen.setting now.seen.stage.past
+  pub adds : added now.seen.stage.past 0 ≡ added before.seen.stage.past 0
+  pub ends : outcomes_of now.seen.stage.past 0 ≡ outcomes_of before.seen.stage.past 0
+
+-- a session was ended, or it stopped
+pub record Closes {Service : Type 0} (before now : At Service) (result : Result (Unit {0}) Error) : Type 0 where
+  pub ongoing : Ongoing going_on before now result
+  pub closed : OnOk result (IsClosed before now)
