@@ -88,7 +88,7 @@ fn sends(core: &mut Core, bytes: &[u8]) -> bool
 }
 
 /// Whether the pieces are these bytes, joined.
-pub(crate) fn is_chunk(chunk: &Chunk, bytes: &[u8]) -> bool {
+fn is_chunk(chunk: &Chunk, bytes: &[u8]) -> bool {
     let mut rest = bytes;
     for piece in chunk.pieces() {
         if rest.len() < piece.len() {

@@ -10,11 +10,7 @@ mod listing;
 mod names;
 mod writing;
 
-<<<<<<< HEAD
-use crate::buffered::is_chunk;
-=======
 use bytes::Bytes;
->>>>>>> b1be373c62201a97689f5e35f52e42dac61f2d14
 use call_state::{Alone, Call};
 use sftp_core::Core;
 use sftp_file::Poll;
@@ -71,18 +67,13 @@ pub(crate) fn poll_seen<T>(told: &Poll<Result<T, Error>>) -> Seen {
 }
 
 /// A core whose hello was sent and that took this VERSION.
-<<<<<<< HEAD
 pub(crate) fn greeted(alloc: Global, version: &[u8]) -> Result<Core, Fail> {
-    let mut core = Core::new(alloc, &SftpOptions::new())?;
-=======
-fn greeted(alloc: Global, version: &[u8]) -> Result<Core, Fail> {
     greeted_by(alloc, &SftpOptions::new(), version)
 }
 
 /// The same by these options.
 fn greeted_by(alloc: Global, options: &SftpOptions, version: &[u8]) -> Result<Core, Fail> {
     let mut core = Core::new(alloc, options)?;
->>>>>>> b1be373c62201a97689f5e35f52e42dac61f2d14
     let hello = core.hand_out()?;
     core.give_back(hello);
     if core.fault().is_none() && core.take(version).is_ok() {
@@ -120,11 +111,7 @@ pub(crate) fn sends(core: &mut Core, frame: &[u8]) -> bool
     let Ok(chunk) = core.hand_out() else {
         return false;
     };
-<<<<<<< HEAD
-    let went = is_chunk(&chunk, frame);
-=======
     let went = is_frame(chunk.pieces(), frame);
->>>>>>> b1be373c62201a97689f5e35f52e42dac61f2d14
     core.give_back(chunk);
     went
 }
