@@ -1,0 +1,8 @@
+//! A whole run of lanes in threads: one for each lane, one that sends, and one that reads, each with a seat at one session.
+#![tactic(auto)]
+
+mod running;
+mod seats;
+
+pub use running::run_shared;
+pub use sftp_tasks::SharedReport;

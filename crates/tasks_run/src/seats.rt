@@ -1,0 +1,173 @@
+// The seats of a run, and what the thread of each does.
+ghost use Rattle.std.specs.Prelude.{◌≡◌, ◌<◌, ◌-◌, ◌^◌, [], true, IfOk};
+ghost use Rattle.plan_model.specs.Lanes.{are_ok};
+ghost use Rattle.session_seats.specs.Closes.{claim_by, claims_of};
+ghost use Rattle.session_seats.specs.Covers.{HomeGave};
+ghost use Rattle.session_seats.specs.Holds.{sight_by};
+ghost use Rattle.sftp_tasks.specs.Workers.{FlushWorks, ReadWorks};
+ghost use Rattle.tasks_run.specs.Running.{AllReady, HasGiven, HasRun, IsReady, Worked};
+ghost use Rattle.tasks_run.specs.Crews.{IsCrew};
+ghost use Rattle.tasks_run.specs.Running.{IsOf};
+
+use sftp_link::{LinkIn, LinkOut};
+use sftp_tasks::{
+    Error, Lane, OutOfMemory, Seat, SftpOptions, SharedSftp, flush_worker, read_worker,
+};
+use std::alloc::Global;
+use std::sync::Wait;
+use std::time::Clock;
+
+/// The seats of a run, all of one session. The home seat gave the others.
+#[derive(Drop)]
+pub struct Crew {
+    pub(crate) home: Seat,
+    /// Those of the lanes, in lane order.
+    pub(crate) lanes: Vec<Seat>,
+    /// That of the worker that sends.
+    pub(crate) sender: Seat,
+    /// That of the worker that reads.
+    pub(crate) reader: Seat,
+}
+
+/// What the thread of a worker leaves: its seat, and what the worker answered.
+#[derive(Drop)]
+pub struct Told {
+    pub(crate) seat: Seat,
+    pub(crate) did: Result<(), Error>,
+}
+
+/// A session of these lanes, and the seats of its run. Refused for want of memory.
+pub(crate) fn start<R: Wait>(
+    rt: &R,
+    alloc: Global,
+    lanes: &[Lane],
+    options: &SftpOptions,
+) -> Result<(SharedSftp, Crew), OutOfMemory>
+    requires { are_ok lanes.now ≡ true }
+    ensures { IfOk result (λ r. IsCrew r.0.shared.table.shared.table_id r.1 × IsOf lanes.now options.now (sight_by r.1.home.inner.me)) }
+{
+    let (shared, mut home) = SharedSftp::new(alloc, lanes, options)?;
+    let seats = lane_seats(rt, alloc, &shared, &mut home, lanes.len())?;
+    let sender = shared.worker_seat(rt, &mut home);
+    let reader = shared.worker_seat(rt, &mut home);
+    Ok((
+        shared,
+        Crew {
+            home,
+            lanes: seats,
+            sender,
+            reader,
+        },
+    ))
+}
+
+/// The seats of so many lanes, in lane order; fewer where there are fewer lanes. Refused for want of memory.
+fn lane_seats<R: Wait>(
+    rt: &R,
+    alloc: Global,
+    shared: &SharedSftp,
+    home: &mut Seat,
+    count: usize,
+) -> Result<Vec<Seat>, OutOfMemory>
+    requires home { IsReady shared.now.shared.table.shared.table_id home.old }
+    requires first { HomeGave (claim_by home.old) [] }
+    ensures home { HasGiven shared.now.shared.table.shared.table_id home.old home.new }
+    ensures seats { IfOk result (λ seats. AllReady shared.now.shared.table.shared.table_id seats.items
+        × HomeGave (claim_by home.new) (claims_of seats.items)) }
+{
+    let mut seats = Vec::new(alloc);
+    for _ in 0..count {
+        if seats.reserve(1).is_err() {
+            return Err(OutOfMemory);
+        }
+        match shared.seat(rt, home) {
+            Some(seat) => seats.push_reserved(seat),
+            None => return Ok(seats),
+        }
+    }
+    Ok(seats)
+}
+
+/// Gives the session up, so that no other thread waits for this one.
+pub(crate) fn stop<R: Wait>(rt: &R, shared: &SharedSftp, seat: &mut Seat)
+    requires { seat.old.inner.table_id ≡ shared.now.shared.table.shared.table_id }
+    ensures { HasRun shared.now.shared.table.shared.table_id seat.old seat.new }
+{
+    shared.give_up(rt, seat);
+}
+
+/// Polls a lane to its end, and releases its seat.
+fn finish_lane<R: Wait>(rt: &R, shared: &SharedSftp, seat: &mut Seat) -> Result<(), Error>
+    requires { IsReady shared.now.shared.table.shared.table_id seat.old }
+    ensures { HasRun shared.now.shared.table.shared.table_id seat.old seat.new }
+{
+    match shared.poll_wait(rt, seat) {
+        Ok(_calls) => {}
+        Err(e) => return Err(e),
+    }
+    match shared.release(rt, seat) {
+        Ok(true) => Ok(()),
+        Ok(false) => Err(Error::OutOfMemory),
+        Err(e) => Err(e),
+    }
+}
+
+/// The thread of a lane, or of the home seat. Where it can't be finished the session is given up.
+pub(crate) fn run_lane<R: Wait>(rt: &R, shared: &SharedSftp, seat: Seat) -> Seat
+    requires { IsReady shared.now.shared.table.shared.table_id seat }
+    ensures { HasRun shared.now.shared.table.shared.table_id seat result }
+{
+    let mut seat = seat;
+    match finish_lane(rt, shared, &mut seat) {
+        Ok(()) => return seat,
+        Err(_) => {}
+    }
+    stop(rt, shared, &mut seat);
+    seat
+}
+
+/// The thread that sends. Where it can't go on the session is given up.
+pub(crate) fn run_sender<O: LinkOut, R: Wait + Clock>(
+    rt: &R,
+    shared: &SharedSftp,
+    seat: Seat,
+    out: O,
+) -> (Told, O)
+    requires own { seat.inner.table_id ≡ shared.now.shared.table.shared.table_id }
+    requires count { (O.LinkState.state out).faults < 2 ^ 64 - 1 }
+    ensures ran { HasRun shared.now.shared.table.shared.table_id seat result.0.seat }
+    ensures works { Worked FlushWorks seat.inner.me (O.LinkState.state out) (O.LinkState.state result.1) result.0.did }
+{
+    let mut seat = seat;
+    let mut out = out;
+    match flush_worker(rt, shared, &mut seat, &mut out) {
+        Ok(()) => (Told { seat, did: Ok(()) }, out),
+        Err(e) => {
+            stop(rt, shared, &mut seat);
+            (Told { seat, did: Err(e) }, out)
+        }
+    }
+}
+
+/// The thread that reads. Where it can't go on the session is given up.
+pub(crate) fn run_reader<I: LinkIn, R: Wait>(
+    rt: &R,
+    shared: &SharedSftp,
+    seat: Seat,
+    input: I,
+) -> (Told, I)
+    requires own { seat.inner.table_id ≡ shared.now.shared.table.shared.table_id }
+    requires count { (I.LinkState.state input).faults < 2 ^ 64 - 1 }
+    ensures ran { HasRun shared.now.shared.table.shared.table_id seat result.0.seat }
+    ensures works { Worked ReadWorks seat.inner.me (I.LinkState.state input) (I.LinkState.state result.1) result.0.did }
+{
+    let mut seat = seat;
+    let mut input = input;
+    match read_worker(rt, shared, &mut seat, &mut input) {
+        Ok(()) => (Told { seat, did: Ok(()) }, input),
+        Err(e) => {
+            stop(rt, shared, &mut seat);
+            (Told { seat, did: Err(e) }, input)
+        }
+    }
+}
