@@ -1,0 +1,3 @@
+pub mod CacheSizes
+pub mod CanView
+pub mod Lists
