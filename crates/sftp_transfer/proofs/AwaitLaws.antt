@@ -79,6 +79,7 @@ use Rattle.sftp_file.specs.Opens.{OpenStarts, opening}
 use Rattle.sftp_file.specs.Settles.{settling}
 use Rattle.sftp_file.specs.declared.opening.Opening.{Opening}
 use Rattle.sftp_file.specs.declared.settling.Settling.{Settling}
+use Rattle.sftp_transfer.proofs.Starts.{opened_at_start}
 use Rattle.sftp_transfer.specs.Awaits.{Answered, Awaited, Calling, Closed, IsPlain, IsSettled, MayAwait, Opened, PollsCall, Waits}
 use Rattle.sftp_transfer.specs.Sessions.{IsGoing, Turned}
 
@@ -371,7 +372,15 @@ pub opened : {L S E : Type 0} (state : L → LinkView S) (flags : OpenFlags) (pa
 opened state flags path old mid new call (Ok file) starts rest a = record {
   going = a.going;
   granted = grant_at new.core file.grant 1 a.holds (omega arith);
-  opens = (record { session = mid; call = call }, a.answers.0, starts, rest, a.answers.1, a.answers.2);
+  opens = (
+    record { session = mid; call = call },
+    a.answers.0,
+    starts,
+    rest,
+    a.answers.1,
+    a.answers.2,
+    opened_at_start _ _ _ _ file a.answers.1.3.stepped,
+  );
 }
 opened state flags path old mid new call (Err e) starts rest a = record { going = a.going; granted = tt; opens = tt }
 

@@ -11,7 +11,8 @@ use Rattle.sftp_transfer.specs.Local.{Created, LocalAct, Renamed, Wrote, all_don
 here : (files : List ℕ → Option (List ℕ)) (name : List ℕ) (bytes : Option (List ℕ)) → with_file files name bytes name ≡ bytes
 here files name bytes = ap (λ (b : Bool). if b then bytes else files name) ((bytes_eq-Decides name name).1 refl)
 
-elsewhere : (files : List ℕ → Option (List ℕ)) (name : List ℕ) (bytes : Option (List ℕ)) (other : List ℕ) → other ≢ name → with_file files name bytes other ≡ files other
+elsewhere : (files : List ℕ → Option (List ℕ)) (name : List ℕ) (bytes : Option (List ℕ)) (other : List ℕ) → other ≢ name
+    → with_file files name bytes other ≡ files other
 elsewhere files name bytes other ne = ap (λ (b : Bool). if b then bytes else files other) (by_test (bytes_eq other name) refl)
   where
     by_test : (b : Bool) → bytes_eq other name ≡ b → bytes_eq other name ≡ false
@@ -24,7 +25,8 @@ record AreWritten (pieces : List (List ℕ)) (bytes : List ℕ) (d e : Disk) : T
   whole : e.files d.made ≡ Some (bytes ++ joined pieces)
   others : (other : List ℕ) → other ≢ d.made → e.files other ≡ d.files other
 
-written : (pieces : List (List ℕ)) (bytes : List ℕ) (d : Disk) → d.files d.made ≡ Some bytes → AreWritten pieces bytes d (all_done after_act (writes_of pieces) d)
+written : (pieces : List (List ℕ)) (bytes : List ℕ) (d : Disk) → d.files d.made ≡ Some bytes
+    → AreWritten pieces bytes d (all_done after_act (writes_of pieces) d)
 written [] bytes d h = record { made = refl; whole = h ∙ ap (λ (x : List ℕ). Some x) (sym (append-nil bytes)); others = λ other ne. refl }
 written (piece ∷ pieces) bytes d h =
     let first : with_file d.files d.made (Some (unwrap_or (d.files d.made) [] ++ piece)) d.made ≡ Some (bytes ++ piece) =
@@ -36,7 +38,8 @@ written (piece ∷ pieces) bytes d h =
       others = λ other ne. below.others other ne ∙ elsewhere d.files d.made (Some (unwrap_or (d.files d.made) [] ++ piece)) other ne;
     }
 
-pub one_name : (part name : List ℕ) (pieces : List (List ℕ)) (d written_disk : Disk) → part ≢ name → written_disk ≡ all_done after_act (Created part ∷ writes_of pieces) d
+pub one_name : (part name : List ℕ) (pieces : List (List ℕ)) (d written_disk : Disk) → part ≢ name → written_disk
+    ≡ all_done after_act (Created part ∷ writes_of pieces) d
     → IsCopied part name (joined pieces) d (after_act (Renamed part name) written_disk)
 one_name part name pieces d e apart is =
     let w = written pieces [] (after_act (Created part) d) (here d.files part (Some [])) in

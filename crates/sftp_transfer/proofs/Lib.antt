@@ -1,4 +1,5 @@
 pub mod GoingLaws
+pub mod Starts
 pub mod AwaitLaws
 pub mod FetchLaws
 pub mod FetchEnds

@@ -82,7 +82,7 @@ pub record Awaited {L S W M V E : Type 0} (state : L → LinkView S) (s : Meanin
 
 -- ---- a file of the server
 
--- the OPEN of this path was asked for, and gave the file
+-- the OPEN of this path was asked for, and gave the file at its start
 abbrev pub OpensAs : {L S : Type 0} → (L → LinkView S) → OpenFlags → List ℕ → SftpValue L → SftpValue L → FileValue
     → Type 0
 OpensAs {L = L} state flags path old new file = (first : Calling L Opening) × (last : Calling L Opening)
@@ -90,6 +90,7 @@ OpensAs {L = L} state flags path old new file = (first : Calling L Opening) × (
     × (first.session ≡ with_core old first.session.core)
     × Answers state opening first last file
     × (new ≡ last.session)
+    × (file.offset ≡ 0)
 
 pub record Opened {L S E : Type 0} (state : L → LinkView S) (flags : OpenFlags) (path : List ℕ) (old new : SftpValue L)
     (result : Result FileValue E) : Type 0 where

@@ -38,11 +38,13 @@ returns-in-Err-send_closed g c =
 pub returns-in-Err : goal.returns-in-Err
 returns-in-Err g c =
     let job : PutJob = record { name = c.args.name.now; part = c.args.part.now; remote = c.args.remote.now; window = c.args.window } in
-    let failed : HasDone g.F.LocalFile.done (Failed (Opened c.args.name.now) ∷ []) (g.F.LocalFile.history c.args.local.now) (g.F.LocalFile.history c.open.new.self) = search rules in
+    let failed : HasDone g.F.LocalFile.done (Failed (Opened c.args.name.now) ∷ [])
+    (g.F.LocalFile.history c.args.local.now) (g.F.LocalFile.history c.open.new.self) = search rules in
     not_there g.L.LinkState.state g.F.LocalFile.done job c.args.sftp.now _ _ _ c.requires.going failed
 
 pub returns-in-Err-open_remote : goal.returns-in-Err-open_remote
 returns-in-Err-open_remote g c =
     let job : PutJob = record { name = c.args.name.now; part = c.args.part.now; remote = c.args.remote.now; window = c.args.window } in
-    let opened : HasDone g.F.LocalFile.done (Opened c.args.name.now ∷ []) (g.F.LocalFile.history c.args.local.now) (g.F.LocalFile.history c.open.new.self) = search rules in
+    let opened : HasDone g.F.LocalFile.done (Opened c.args.name.now ∷ []) (g.F.LocalFile.history c.args.local.now)
+    (g.F.LocalFile.history c.open.new.self) = search rules in
     not_made g.L.LinkState.state g.F.LocalFile.done job c.args.sftp.now c.open_remote.new.sftp _ _ _ c.open_remote.ensures.going opened
