@@ -12,7 +12,7 @@ pub use sftp_file::{
     AttrsCall, CloseCall, CopyCall, File, OpenCall, PollCopy, PollFile, ReadCall, StartOpen,
     StatusCall, WriteAllCall, WriteCall, take_bytes, take_io_slices,
 };
-pub use sftp_fs::{Dir, DirBuilder, DirCall, DirEntry, Fs, PathCall, ReadDir};
+pub use sftp_fs::{Dir, DirBuilder, DirCall, DirEntry, Fs, FsWriteCall, PathCall, ReadDir};
 pub use sftp_link::Link;
 pub use sftp_meta::{FileType, MetaData, MetaDataBuilder, Permissions, UnixTimeStamp};
 pub use sftp_model::{Error, Extensions, Fault, IoKind, OpenOptions, SftpOptions};
