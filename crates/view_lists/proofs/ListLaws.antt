@@ -15,8 +15,22 @@ use Rattle.sftp_script.specs.declared.error.ScriptError.TheVariants as script
 use Rattle.sftp_script.specs.declared.reason.Reason.{Reason}
 use Rattle.sftp_script.specs.declared.reason.Reason.TheVariants as reason
 use Rattle.sftp_script.specs.CanRun.{CanBegin}
-use Rattle.sftp_script.specs.Lines.{bytes_in, go_on, is_comment, line_of, lines_of, number_in, number_of, or_read,
-    read_by, read_line, three_words, two_words, within, words_of}
+use Rattle.sftp_script.specs.Lines.{
+  bytes_in,
+  go_on,
+  is_comment,
+  line_of,
+  lines_of,
+  number_in,
+  number_of,
+  or_read,
+  read_by,
+  read_line,
+  three_words,
+  two_words,
+  within,
+  words_of,
+}
 use Rattle.sftp_script.specs.Refusals.{Refuses, RefusesIn, RefusesScript}
 use Rattle.sftp_script.specs.Scripts.{MAX_SCRIPT_LEN}
 use Rattle.sftp_script.specs.Setup.{Draft, setup_line}
@@ -125,7 +139,7 @@ get_kept long d next a b c h e =
 put_kept : (long : ℕ) (d next : ViewDraft) (a b c : List ℕ) → IsGood long d → put_line d a b c ≡ Ok next → IsGood long next
 put_kept long d next a b c h e =
     let p = bound (bytes_in a) (λ path. number_in 0 16777216 b >>= λ offset. content_in offset c >>= λ content. with_op
-        d (op.Put path offset content)) next e in
+    d (op.Put path offset content)) next e in
     let q = bound (number_in 0 16777216 b) (λ offset. content_in offset c >>= λ content. with_op d (op.Put p.0 offset content)) next p.2 in
     let r = bound (content_in q.0 c) (λ content. with_op d (op.Put p.0 q.0 content)) next q.2 in
     let s = bound (bytes_in c) (λ content. if nat_le (q.0 + length content) 16777216 then Ok content else Err reason.Range) r.0 r.1 in

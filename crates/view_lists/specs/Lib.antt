@@ -1,3 +1,4 @@
 pub mod CacheSizes
 pub mod CanView
 pub mod Lists
+pub mod ListRows

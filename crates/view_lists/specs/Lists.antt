@@ -1,7 +1,24 @@
 -- The lines of a list of operations: which bytes read as one, and which line of the others is the first that does not,
 -- and why.
-use Rattle.std.specs.Prelude.{ℕ, ◌+◌, List, [], ◌∷◌, ◌++◌, length, codes, Option, Some, None, Result, Ok, Err, nat_le,
-    nat_lt, if◌then◌else◌}
+use Rattle.std.specs.Prelude.{
+  ℕ,
+  ◌+◌,
+  List,
+  [],
+  ◌∷◌,
+  ◌++◌,
+  length,
+  codes,
+  Option,
+  Some,
+  None,
+  Result,
+  Ok,
+  Err,
+  nat_le,
+  nat_lt,
+  if◌then◌else◌,
+}
 use Rattle.std.specs.List.{sum_by}
 use Rattle.std.specs.Str.{bytes_eq}
 use Rattle.ssh_encoding.specs.Reading.{◌>>=◌}

@@ -1,0 +1,46 @@
+-- Lines of lists, worked; `-` stands for no bytes.
+use Rattle.std.specs.Prelude.{◌≡◌, [], ◌∷◌, Ok, Err, Some, None, codes, refl}
+use Rattle.sftp_script.specs.declared.reason.Reason.TheVariants as reason
+use Rattle.view_model.specs.declared.op.ViewOp.TheVariants as op
+use Rattle.view_lists.specs.CacheSizes.{view_of}
+use Rattle.view_lists.specs.Lists.{line_by, list_of, nothing_read}
+
+-- bytes to read
+get_is_read : line_by (nothing_read 4) (codes "get") (codes "-" ∷ codes "1" ∷ codes "9" ∷ [])
+    ≡ Ok (record (nothing_read 4) { ops = op.Get [] 1 9 ∷ [] })
+get_is_read = refl
+
+-- more than may be read at once
+get_is_too_long : line_by (nothing_read 4) (codes "get") (codes "-" ∷ codes "0" ∷ codes "1048577" ∷ [])
+    ≡ Err reason.Range
+get_is_too_long = refl
+
+-- bytes to write
+put_is_read : line_by (nothing_read 4) (codes "put") (codes "-" ∷ codes "2" ∷ codes "-" ∷ [])
+    ≡ Ok (record (nothing_read 4) { ops = op.Put [] 2 [] ∷ [] })
+put_is_read = refl
+
+-- bytes that end too far
+put_ends_too_far : line_by (nothing_read 4) (codes "put") (codes "-" ∷ codes "16777217" ∷ codes "-" ∷ [])
+    ≡ Err reason.Range
+put_ends_too_far = refl
+
+-- a choice that refuses
+choice_refuses : line_by (nothing_read 4) (codes "choice") (codes "4" ∷ codes "0" ∷ []) ≡ Err reason.Range
+choice_refuses = refl
+
+-- no line of a list
+lane_is_no_line : line_by (nothing_read 4) (codes "lane") [] ≡ Err reason.Word
+lane_is_no_line = refl
+
+-- how much is kept
+size_is_read : view_of (codes "view" ∷ codes "4" ∷ codes "2" ∷ []) ≡ Some (record { block = 4; capacity = 2 })
+size_is_read = refl
+
+-- none may be kept
+nothing_is_kept : view_of (codes "view" ∷ codes "4" ∷ codes "0" ∷ []) ≡ None
+nothing_is_kept = refl
+
+-- the second line is none
+second_is_refused : list_of 4 (codes "get - 1 9\nlane\n") ≡ Err (2, reason.Word)
+second_is_refused = refl
