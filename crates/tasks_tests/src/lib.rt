@@ -3,3 +3,5 @@
 
 #[cfg(test)]
 mod one_thread;
+#[cfg(test)]
+mod threads;
