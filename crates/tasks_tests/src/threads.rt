@@ -20,19 +20,22 @@ const PLAIN: ServerConfig = ServerConfig {
     cut: 0,
 };
 
-/// The calls of a lane: it makes a directory of its own name, asks for it, and writes a file in it.
+/// The calls of a lane: it makes a directory of its own name, and then asks for it and writes a file in it, a hundred
+/// times.
 fn calls(alloc: Global, name: u8) -> Result<Vec<Call>, AllocError> {
     let mut calls = Vec::new(alloc);
     calls.push(Call::Mkdir {
         path: ByteText::new(Vec::from_slice(alloc, &[name])?),
     })?;
-    calls.push(Call::Stat {
-        path: ByteText::new(Vec::from_slice(alloc, &[name])?),
-    })?;
-    calls.push(Call::FsWrite {
-        path: ByteText::new(Vec::from_slice(alloc, &[name, b'/', b'f'])?),
-        bytes: ByteText::new(Vec::from_slice(alloc, b"hi")?),
-    })?;
+    for _ in 0..100u32 {
+        calls.push(Call::Stat {
+            path: ByteText::new(Vec::from_slice(alloc, &[name])?),
+        })?;
+        calls.push(Call::FsWrite {
+            path: ByteText::new(Vec::from_slice(alloc, &[name, b'/', b'f'])?),
+            bytes: ByteText::new(Vec::from_slice(alloc, b"hi")?),
+        })?;
+    }
     Ok(calls)
 }
 
@@ -99,18 +102,17 @@ fn run<P: Pair<R>, R: Threads + Wait + Clock + Sync>(
     }
 }
 
-/// Three calls of eight lanes: 6 requests each, sent and answered, each lane's ends and its letting go; a receipt for each entry.
+/// 201 calls of eight lanes, each in a thread of its own: all have ended, and there is a receipt for each entry.
 #[test]
 fn eight_lanes_in_threads(rt: HostRuntime) -> Result<(), Fail> {
     let lanes = eight_lanes(rt.alloc())?;
-    if lanes_ok(lanes.as_slice()) {
-        let (outcomes, entries, receipts) = run(
-            &rt,
-            rt.alloc(),
-            &mut MapPair::new(),
-            lanes.as_slice(),
-        )?;
-        assert!(rt; outcomes == 24 && entries == receipts);
-    }
+    assert!(rt; lanes_ok(lanes.as_slice()));
+    let (outcomes, entries, receipts) = run(
+        &rt,
+        rt.alloc(),
+        &mut MapPair::new(),
+        lanes.as_slice(),
+    )?;
+    assert!(rt; outcomes == 1608 && entries == receipts);
     Ok(())
 }
