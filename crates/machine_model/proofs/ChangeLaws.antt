@@ -60,6 +60,7 @@ use Rattle.machine_model.specs.Changes.{
   MayMove,
   MayStand,
   Moves,
+  OpensAsked,
   Reaches,
   RemovedDirectory,
   RemovedFile,
@@ -178,10 +179,10 @@ within_limit tree file size e = ltb-false MAX_FILE_LEN size (or_parts (nat_lt MA
     (nat_lt MAX_TOTAL_LEN (all_bytes tree - size_of tree file + size)) e).0
 
 open_leaves : (tree : FileTree) (r : Request) (handle : List ℕ) (flags : ℕ) (name : Name) (n : Option Node)
-    → Asks r name → (makes_or_empties flags ≡ true → Denotes r name) → node_at tree name ≡ n
-    → Leaves tree r handle (after_open tree handle flags name n)
-open_leaves tree r handle flags name (Some node.Directory) a d e = same tree r handle refl
-open_leaves tree r handle flags name (Some (node.File file)) a d e =
+    → Asks r name → ((file : ℕ) → OpensAsked r (held_by flags file)) → (makes_or_empties flags ≡ true → Denotes r name)
+    → node_at tree name ≡ n → Leaves tree r handle (after_open tree handle flags name n)
+open_leaves tree r handle flags name (Some node.Directory) a h d e = same tree r handle refl
+open_leaves tree r handle flags name (Some (node.File file)) a h d e =
     either tree r handle (creates flags && is_exclusive flags) (refuses tree SSH_FX_FAILURE)
     (if truncates flags then grants (with_bytes tree file []) handle (held_by flags file) else
     grants tree handle (held_by flags file)) (same tree r handle refl)
@@ -189,15 +190,15 @@ open_leaves tree r handle flags name (Some (node.File file)) a d e =
     (λ t. record {
       change = Truncated file (held_by flags file);
       may =
-          (inr (name, (d (or_right (creates flags) (truncates flags) t), e)), refl, (name, (a, e)));
+          (inr (name, (d (or_right (creates flags) (truncates flags) t), e)), refl, (name, (a, e)), h file);
       checked = tt;
       is =
           refl;
       said = refl;
       named = λ t. refl;
     })
-    (λ t. record { change = Granted (held_by flags file); may = (name, (a, e)); checked = tt; is = refl; said = refl; named = λ t. refl }))
-open_leaves tree r handle flags name None a d e =
+    (λ t. record { change = Granted (held_by flags file); may = ((name, (a, e)), h file); checked = tt; is = refl; said = refl; named = λ t. refl }))
+open_leaves tree r handle flags name None a h d e =
     either_by tree r handle (not (creates flags)) (refuses tree SSH_FX_NO_SUCH_FILE)
     (where_new tree name (grants (with_file tree name) handle (held_by flags (length tree.files))))
     (λ t. same tree r handle refl)
@@ -205,7 +206,7 @@ open_leaves tree r handle flags name None a d e =
     (λ u. record {
       change = Created name (held_by flags (length tree.files));
       may =
-          (d (or_left (creates flags) (truncates flags) (not-false (creates flags) t)), e, refl);
+          (d (or_left (creates flags) (truncates flags) (not-false (creates flags) t)), e, refl, h (length tree.files));
       checked = (u, tt);
       is =
           refl;
@@ -344,7 +345,7 @@ opendir_leaves tree r handle name None = same tree r handle refl
 opendir_leaves tree r handle name (Some (node.File file)) = same tree r handle refl
 opendir_leaves tree r handle name (Some node.Directory) = record {
   change = Granted (opened.Directory (entries_at tree name));
-  may = tt;
+  may = (tt, tt);
   checked = (name, refl);
   is = refl;
   said =
@@ -412,7 +413,7 @@ offered tree config r handle bit x h = either tree r handle (has_bit config.exte
 
 answered_leaves : (tree : FileTree) (config : ServerConfig) (r : Request) (cap : ℕ) (handle : List ℕ) → Leaves tree r handle (answered tree config r cap handle)
 answered_leaves tree config (request.OpenFile path flags attrs) cap handle =
-    open_leaves tree _ handle flags.0 (components path) (node_at tree (components path)) refl (λ t. (t, refl)) refl
+    open_leaves tree _ handle flags.0 (components path) (node_at tree (components path)) refl (λ file. refl) (λ t. (t, refl)) refl
 answered_leaves tree config (request.Close h) cap handle = close_leaves tree _ handle h (opened_at tree h) refl
 answered_leaves tree config (request.Read h offset len) cap handle = read_leaves tree _ handle cap offset len (file_of (opened_at tree h))
 answered_leaves tree config (request.Write h offset content) cap handle =

@@ -72,7 +72,7 @@ opens_by : (tree : FileTree) (r : Request) (handle : List ℕ) (name : Name) (fi
 opens_by tree r handle name file Unchanged h sound avoids e may o = o
 opens_by tree r handle name file (Rewritten other bytes) h sound avoids e may o = o
 opens_by tree r handle name file (Granted new) h sound avoids e may o =
-    pushed tree handle new h file (named_not tree r name file new sound avoids e may) o.0 o.1.0 o.1.1
+    pushed tree handle new h file (named_not tree r name file new sound avoids e may.0) o.0 o.1.0 o.1.1
 opens_by tree r handle name file (Truncated other new) h sound avoids e may o =
     pushed tree handle new h file (named_not tree r name file new sound avoids e may.2) o.0 o.1.0 o.1.1
 opens_by tree r handle name file (Created other new) h sound avoids e may o =

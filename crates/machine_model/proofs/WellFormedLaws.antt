@@ -155,7 +155,7 @@ file_number d (node.File file) = file
 change_sound : (tree : FileTree) (r : Request) (handle : List ℕ) (c : Change) → IsWellFormed tree → MayLead tree r c → IsWellFormed (changed tree handle c)
 change_sound tree r handle Unchanged s may = s
 change_sound tree r handle (Rewritten file bytes) s may = bytes_sound tree file bytes s
-change_sound tree r handle (Granted o) s may = handle_sound tree handle o s (opens_within tree r o s may)
+change_sound tree r handle (Granted o) s may = handle_sound tree handle o s (opens_within tree r o s may.0)
 change_sound tree r handle (Truncated file o) s may = handle_sound (with_bytes tree file []) handle o
     (bytes_sound tree file [] s) (emptied_within tree file o (opens_within tree r o s may.2))
 change_sound tree r handle (Created name o) s may =

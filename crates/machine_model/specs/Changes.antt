@@ -24,7 +24,7 @@ use Rattle.machine_model.specs.FileTree.{
   without_handle,
   without_name,
 }
-use Rattle.machine_model.specs.HandleRequests.{Answer, creates, truncates}
+use Rattle.machine_model.specs.HandleRequests.{Answer, creates, held_by, truncates}
 use Rattle.machine_model.specs.Limits.{MAX_FILE_LEN}
 use Rattle.machine_model.specs.NameRequests.{entries_at, has_child, with_entries}
 use Rattle.machine_model.specs.Pairs.{Has}
@@ -136,6 +136,16 @@ abbrev pub OpensNamed : FileTree → Request → Opened → Type 0
 OpensNamed tree r (opened.File held) = (name : Name) × (Asks r name × (node_at tree name ≡ Some (node.File held.file)))
 OpensNamed tree r (opened.Directory entries) = Unit {0}
 
+-- an OPEN has the file open as its flags say
+abbrev pub OpensAs : Request → Held → Type 0
+OpensAs (request.OpenFile path flags attrs) held = opened.File held ≡ held_by flags.0 held.file
+OpensAs other held = ⊥
+
+-- what is opened is a directory, or a file that is open as the request's flags say
+abbrev pub OpensAsked : Request → Opened → Type 0
+OpensAsked r (opened.File held) = OpensAs r held
+OpensAsked r (opened.Directory entries) = Unit {0}
+
 -- the file is one that the request writes to, or that a name has which it denotes
 abbrev pub Reaches : FileTree → Request → ℕ → Type 0
 Reaches tree r file = WritesTo tree r file ⊎ ((name : Name) ×
@@ -145,9 +155,10 @@ Reaches tree r file = WritesTo tree r file ⊎ ((name : Name) ×
 abbrev pub MayLead : FileTree → Request → Change → Type 0
 MayLead tree r Unchanged = Unit {0}
 MayLead tree r (Rewritten file bytes) = Reaches tree r file
-MayLead tree r (Granted o) = OpensNamed tree r o
-MayLead tree r (Truncated file o) = Reaches tree r file × OpensFile file o × OpensNamed tree r o
+MayLead tree r (Granted o) = OpensNamed tree r o × OpensAsked r o
+MayLead tree r (Truncated file o) = Reaches tree r file × OpensFile file o × OpensNamed tree r o × OpensAsked r o
 MayLead tree r (Created name o) = Denotes r name × (node_at tree name ≡ None) × OpensFile (length tree.files) o
+    × OpensAsked r o
 MayLead tree r (ClosedDirectory h) = Closes r h
 MayLead tree r (ClosedFile h file) = Closes r h
 MayLead tree r (Listed h entries) = (old : List NameEntry) × (entries_of (opened_at tree h) ≡ Some old) × Lists r h
