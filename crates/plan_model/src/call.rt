@@ -326,7 +326,7 @@ fn weight_of_bytes(bytes: &[u8]) -> u32
 
 impl Call {
     /// Whether it names slots that are there, and no bound or length of 0.
-    pub(crate) fn is_within(&self) -> bool
+    pub fn is_within(&self) -> bool
         ensures { result ≡ is_within self.now }
     {
         match self {
@@ -358,8 +358,9 @@ impl Call {
         }
     }
 
-    /// What it counts among the calls of a session, or 2147483648 where it is more.
-    pub(crate) fn weight(&self) -> u32
+    /// What it counts among the calls of a session, or 2147483648 where it is more: 65 for an `FsRead`, 2 and its bytes
+    /// for a `BufWrite` and a `BufWriteAll`, and 2 for each other call.
+    pub fn weight(&self) -> u32
         ensures { result ≡ min (weight self.now) (2 ^ 31) }
     {
         match self {

@@ -46,8 +46,8 @@ fn weight_of_lane(lane: &Lane) -> u32
     total
 }
 
-/// What lanes count, or 2147483648 where it is more.
-fn weight_of_lanes(lanes: &[Lane]) -> u32
+/// What lanes count, or 2147483648 where it is more: each lane 1, and what each of its calls counts.
+pub fn weight_of_lanes(lanes: &[Lane]) -> u32
     ensures { result ≡ min (sum_by lane_weight lanes.now) (2 ^ 31) }
 {
     let mut total = 0;

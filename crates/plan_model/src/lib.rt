@@ -9,7 +9,7 @@ mod rows;
 mod same;
 
 pub use call::{Call, Lane};
-pub use lanes::lanes_ok;
+pub use lanes::{lanes_ok, weight_of_lanes};
 pub use laws::{
     buffers_keep_their_limit, calls_make_so_many_requests, cancelled_calls_leave_held_grants,
     ends_leave_held_grants, moves_are_good, plans_wait_for_missing_replies,
