@@ -23,7 +23,7 @@ use Rattle.sftp_core.specs.declared.place.Place.TheVariants.{Answered, Granted, 
 use Rattle.sftp_core.proofs.Tables.{count-remove}
 use Rattle.sftp_client.proofs.Lowering.{all_awaited}
 use Rattle.sftp_file.proofs.Steps.{cancelled_keeps}
-use Rattle.sftp_file.specs.Files.{FileValue, IsMoved, file_at}
+use Rattle.sftp_file.specs.Files.{FileValue, IsMoved, file_at, file_in}
 use Rattle.sftp_client.specs.Sessions.{
   Flushes,
   FlushesUnfailed,
@@ -439,19 +439,25 @@ stops_move : {W M V L S : Type 0} (s : Meaning W M V) (at : M → FileAt) → Ke
 stops_move s at keeps state count old new p q result (inl h) = ends_move s at keeps state old new p q result h
 stops_move s at keeps state count old new p q result (inr h) = subst (λ x. MovesOnly (at p.machine) (at x.machine)) (sym h.1.1.1) refl
 
--- where the file stands after the call was run
+-- where the file of a place stands after the call was run
+pub moved_at : {W M V L S : Type 0} (s : Meaning W M V) (at : M → FileAt) → KeepsFile s at → (place : ℕ) (state : L → LinkView S)
+    (old new : SftpValue L) (p q : CallValue M) (before after : FileValue) (result : Result V Error)
+    → at p.machine ≡ file_in place before → after ≡ record before { offset = (at q.machine).offset }
+    → HasWaited s state old new p q result → (at q.machine ≡ file_in place after) × (after ≡ record before { offset = after.offset })
+moved_at s at keeps place state old new p q before after result stands is w =
+    let only = moves_both (at p.machine) (at w.call.machine) (at q.machine) (rounds_move s at keeps state w.count old w.mid p w.call w.rounds)
+    (stops_move s at keeps state w.count w.mid new w.call q result w.ends)
+    in (
+      only ∙ ((λ i. record (stands i) { offset = (at q.machine).offset }) ∙ sym (ap (file_in place) is)),
+      is ∙ (λ i. record before { offset = (sym (ap (λ (f : FileValue). f.offset) is)) i }),
+    )
+
 pub moved_by : {W M V L S : Type 0} (s : Meaning W M V) (at : M → FileAt) → KeepsFile s at → (state : L → LinkView S)
     (old new : SftpValue L) (p q : CallValue M) (before after : FileValue) (result : Result V Error)
     → at p.machine ≡ file_at before → after ≡ record before { offset = (at q.machine).offset }
     → HasWaited s state old new p q result → IsMoved before after (at q.machine)
 moved_by s at keeps state old new p q before after result stands is w =
-    let only = moves_both (at p.machine) (at w.call.machine) (at q.machine) (rounds_move s at keeps state w.count old w.mid p w.call w.rounds)
-    (stops_move s at keeps state w.count w.mid new w.call q result w.ends)
-    in
-    record {
-      stands = only ∙ ((λ i. record (stands i) { offset = (at q.machine).offset }) ∙ sym (ap file_at is));
-      rest = is ∙ (λ i. record before { offset = (sym (ap (λ (f : FileValue). f.offset) is)) i });
-    }
+    let moved = moved_at s at keeps 0 state old new p q before after result stands is w in record { stands = moved.0; rest = moved.1 }
 
 -- where it stands once the call was given up, too
 pub finished_on : {W M V L S : Type 0} (s : Meaning W M V) (at : M → FileAt) (state : L → LinkView S)

@@ -11,9 +11,13 @@ use Rattle.plan_model.specs.Moves.{Answers, handle_of}
 use Rattle.plan_model.specs.TransferPlans.{read_all_next}
 use Rattle.call_state.specs.declared.asking.Asking.{Asking}
 use Rattle.call_state.specs.Asked.{request_of}
+use Rattle.sftp_core.specs.Core.{Core}
+use Rattle.call_state.specs.declared.stage.Stage.{Stage}
+use Rattle.call_state.specs.declared.stage.Stage.TheVariants.{Asked, Came, Ended, Ready, Unsent}
+use Rattle.call_state.specs.Calls.{IsHeldAt}
 use Rattle.call_state.specs.Machines.{GoesBehind}
 use Rattle.sftp_file.specs.Files.{Brought, FileValue, alone, one_slot}
-use Rattle.sftp_file.specs.Gathers.{IsNextRead, ReadAllValue, first_read, gathered, missing_from, next_len, next_read, read_all_left, reading_all}
+use Rattle.sftp_file.specs.Gathers.{IsNextRead, ReadAllValue, first_read, gathered, missing_from, next_len, next_read, read_all_left, reading_all, with_buffer}
 
 -- the move of the plan where the machine stands
 abbrev pub MovesAs : ReadAllValue → Answers → Move → Type 0
@@ -68,3 +72,13 @@ first_read_refused f facts n m why answers is goes brought =
     let moves : MovesAs (first_read f facts n) answers (next_read (first_read f facts n) (Err why)) =
     subst (λ (x : ReadAllValue). MovesAs x answers (next_read x (Err why))) is goes in
     moves brought
+
+-- other bytes make no difference to what a core needs of it
+pub held_with : (core : Core) (m : ReadAllValue) (bytes : List ℕ) (stage : Stage) → IsHeldAt reading_all core m stage
+    → IsHeldAt reading_all core (with_buffer m bytes) stage
+held_with core m bytes Ended h = tt
+held_with core m bytes Ready h = tt
+held_with core m bytes (Unsent asking) h =
+    (record { call = h.0.call; short = h.0.short; expects = h.0.expects; cut = tt }, refl)
+held_with core m bytes (Asked ticket) h = h
+held_with core m bytes (Came told) h = record { allowed = h.allowed; formed = h.formed; counted = h.counted }

@@ -6,6 +6,7 @@ ghost use Rattle.call_state.specs.declared.poll.Poll.{Poll as PollValue};
 ghost use Rattle.sftp_file.specs.declared.gathering.ReadAllError.{ReadAllError as ErrorWithBytes};
 ghost use Rattle.plan_model.specs.Moves.{Answers, handle_of};
 ghost use Rattle.call_state.specs.Asked.{IsReady};
+ghost use Rattle.call_state.specs.Calls.{Cancels, IsHeld};
 ghost use Rattle.sftp_file.specs.Files.{FileValue, facts_of};
 ghost use Rattle.sftp_file.specs.Gathers.{GivesBytes, IsNextRead, MayReadAll, ReadAllValue, ReadsAll, StartsReadAll};
 ghost use Rattle.sftp_file.specs.Gathers.{bytes_out, first_read, gathered, gathers_wait, missing_error, missing_from, next_read, reading_all, with_buffer, without_bytes};
@@ -218,6 +219,21 @@ pub fn read_all_answer(
         Ok(()) => Ok(bytes),
         Err(error) => Err(ReadAllError { error, got: bytes }),
     }
+}
+
+/// Gives a call up, as `Call::cancel` does, and hands its bytes out: those that were handed in, and behind them those
+/// that came.
+pub fn cancel_read_all(call: ReadAllCall, core: &mut Core) -> BytesMut
+    requires { IsHeld reading_all core.old call }
+    ensures bytes { result.items ≡ call.machine.before ++ call.machine.got }
+    ensures cancels { Cancels core.old core.new call.stage }
+{
+    let mut call = call;
+    let empty = BytesMut::new(call.machine().alloc);
+    let machine = call.machine().with_buffer(empty);
+    let bytes = call.replace_machine(machine).into_bytes();
+    call.cancel(core);
+    bytes
 }
 
 /// Takes the bytes out of a call that has ended; none out of any other.

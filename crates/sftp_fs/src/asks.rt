@@ -61,11 +61,7 @@ pub fn facts(core: &Core) -> Facts
 
 /// Submits the first request of a call on paths. `IOError(PathTooLong)`, exactly where its body would pass 1048575
 /// bytes; then as `Call::ask`.
-pub fn ask<M: PlanMachine>(
-    core: &mut Core,
-    request: Request,
-    machine: M,
-) -> Result<Call<M>, Error>
+pub fn ask<M: PlanMachine>(core: &mut Core, request: Request, machine: M) -> Result<Call<M>, Error>
     requires ready { IsReady core.old }
     requires asks { MayAskFirst M.meaning request machine }
     ensures { AsksFirst M.meaning request machine core.old core.new result }
