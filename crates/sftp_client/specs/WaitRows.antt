@@ -1,0 +1,26 @@
+-- Worked rounds of a wait, and beside each what nearly is one.
+use Rattle.std.specs.Prelude.{◌≡◌, Bool, true, false, refl}
+use Rattle.sftp_link.specs.Views.{LinkView}
+use Rattle.sftp_client.specs.Sessions.{SftpValue}
+use Rattle.sftp_client.specs.Waits.{ArePollRounds, IsPollRound, SendsAndTakes}
+
+-- no round left the session and what is polled as they were
+pub no_round : {C L S : Type 0} (Waits : SftpValue L → SftpValue L → C → C → Type 0) (state : L → LinkView S)
+    (old : SftpValue L) (p : C) → ArePollRounds Waits state 0 old old p p
+no_round Waits state old p = (refl, refl)
+
+-- one round is a poll without an answer, and then what was queued was sent and a frame taken
+pub one_round : {C L S : Type 0} (Waits : SftpValue L → SftpValue L → C → C → Type 0) (state : L → LinkView S)
+    (old mid new : SftpValue L) (p q : C) → Waits old mid p q → (round : SendsAndTakes state mid new) → round.took ≡ true
+    → ArePollRounds Waits state 1 old new p q
+one_round Waits state old mid new p q waits round took =
+    (old, (p, ((refl, refl), record { mid = mid; waits = waits; round = round; took = took })))
+
+-- and no round is one in which no frame was taken
+pub none_taken : {C L S : Type 0} (Waits : SftpValue L → SftpValue L → C → C → Type 0) (state : L → LinkView S)
+    (old new : SftpValue L) (p q : C) (h : IsPollRound Waits state old new p q) → h.round.took ≡ false → ⊥
+none_taken Waits state old new p q h none = clash h.round.took h.took none
+  where
+    clash : (b : Bool) → b ≡ true → b ≡ false → ⊥
+    clash true yes no = cc
+    clash false yes no = cc
