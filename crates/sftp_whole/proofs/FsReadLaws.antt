@@ -90,7 +90,8 @@ use Rattle.sftp_whole.specs.WholeReads.{
 }
 use Rattle.sftp_whole.specs.declared.fs_read.Whole.{Whole}
 use Rattle.sftp_whole.specs.declared.fs_read.Whole.TheVariants as whole
-use Rattle.sftp_whole.proofs.ReadsLaws.{moves_now, waits_none}
+use Rattle.sftp_whole.proofs.MoveLaws.{waits_none}
+use Rattle.sftp_whole.proofs.ReadsLaws.{moves_now}
 use Rattle.sftp_whole.proofs.TicketLaws.{keeps_reads, polled_last, read_more, read_tickets, without_keeps}
 
 abbrev Deque : Type 0
