@@ -1,5 +1,5 @@
 -- Worked rounds of a wait, and beside each what nearly is one.
-use Rattle.std.specs.Prelude.{◌≡◌, Bool, true, false, refl}
+use Rattle.std.specs.Prelude.{◌≡◌, true, refl}
 use Rattle.sftp_link.specs.Views.{LinkView}
 use Rattle.sftp_client.specs.Sessions.{SftpValue}
 use Rattle.sftp_client.specs.Waits.{ArePollRounds, IsPollRound, SendsAndTakes}
@@ -16,11 +16,7 @@ pub one_round : {C L S : Type 0} (Waits : SftpValue L → SftpValue L → C → 
 one_round Waits state old mid new p q waits round took =
     (old, (p, ((refl, refl), record { mid = mid; waits = waits; round = round; took = took })))
 
--- and no round is one in which no frame was taken
-pub none_taken : {C L S : Type 0} (Waits : SftpValue L → SftpValue L → C → C → Type 0) (state : L → LinkView S)
-    (old new : SftpValue L) (p q : C) (h : IsPollRound Waits state old new p q) → h.round.took ≡ false → ⊥
-none_taken Waits state old new p q h none = clash h.round.took h.took none
-  where
-    clash : (b : Bool) → b ≡ true → b ≡ false → ⊥
-    clash true yes no = cc
-    clash false yes no = cc
+-- in each a frame was taken
+pub frame_taken : {C L S : Type 0} (Waits : SftpValue L → SftpValue L → C → C → Type 0) (state : L → LinkView S)
+    (old new : SftpValue L) (p q : C) (h : IsPollRound Waits state old new p q) → h.round.took ≡ true
+frame_taken Waits state old new p q h = h.took
