@@ -30,6 +30,16 @@ no_reads_row state old file = (refl, (refl, refl))
 pub two_reads_row : {L S : Type 0} (state : L → LinkView S) (old mid new : SftpValue L) (before file after : FileValue)
     → IsRead 4 state old mid before file (Some (codes "abc")) → IsRead 4 state mid new file after (Some (codes "d"))
     → AreReads 4 state 2 old new before after (codes "abcd")
-two_reads_row state old mid new before file after first second =
-    (mid, (file, (codes "abc", (codes "d",
-    ((old, (before, ([], (codes "abc", ((refl, (refl, refl)), (first, refl)))))), (second, refl))))))
+two_reads_row state old mid new before file after first second = (
+  mid,
+  (
+    file,
+    (
+      codes "abc",
+      (
+        codes "d",
+        ((old, (before, ([], (codes "abc", ((refl, (refl, refl)), (first, refl)))))), (second, refl)),
+      ),
+    ),
+  ),
+)
