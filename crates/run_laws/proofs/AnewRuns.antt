@@ -198,48 +198,47 @@ bear_all past n lane writer h (r ∷ requests) known mine bears =
     )
 
 -- the requests of the call that writes use the grant of the OPEN, the others what they used
-abbrev with_call : List Entry → ℕ → ℕ → ℕ → (ℕ → Option ℕ) → ℕ → Option ℕ
+abbrev pub with_call : List Entry → ℕ → ℕ → ℕ → (ℕ → Option ℕ) → ℕ → Option ℕ
 with_call past lane n grant grant_of place = if is_asked_by (asked_at past place) lane n then Some grant else grant_of place
 
 -- a request that writes by a handle is no CLOSE
 writes_close_none : (r : Request) (h k : List ℕ) → WritesBy r h → r ≡ request.Close k → ⊥
 writes_close_none r h k w e = subst (λ (q : Request). WritesBy q h) e w
 
-with_call_well : (s : Setting) (past : List Entry) (name : Name) (lane opener writer : ℕ) (w : ℕ × Request)
-    (written : Own) → IsJournal s past → (t : LaneOpened s past name lane opener writer w written)
+pub with_call_well : (s : Setting) (past : List Entry) (lane opener writer grant : ℕ) (handle : List ℕ)
+    → IsJournal s past → is_asked_by (asked_at past grant) lane opener ≡ true → answer past grant
+    ≡ Some (reply.Handle handle)
     → ((place : ℕ) (a : Asked) → is_of_call past (lane, writer) place ≡ true → asked_at past place ≡ Some a
-    → WritesBy a.request t.handle) → ((place : ℕ) → is_of_call past (lane, writer) place ≡ true
-    → is_one_of (closed_before s past place) w.0 ≡ false)
-    → UseWell s past (with_call past lane writer w.0 (grant_at s past))
-with_call_well s past name lane opener writer w written j t bears unclosed = record { may = may; closes = closes }
+    → WritesBy a.request handle) → ((place : ℕ) → is_of_call past (lane, writer) place ≡ true → grant < place)
+    → ((place : ℕ) → is_of_call past (lane, writer) place ≡ true
+    → is_one_of (closed_before s past place) grant ≡ false)
+    → UseWell s past (with_call past lane writer grant (grant_at s past))
+with_call_well s past lane opener writer grant handle j asker came bears before unclosed = record { may = may; closes = closes }
   where
-    opener_asked : is_asked_by (asked_at past w.0) lane opener ≡ true
-    opener_asked = has_call past lane opener w.0 (w ∷ []) t.opens (inl refl)
-
-    may : (place g : ℕ) → place < asked past → with_call past lane writer w.0 (grant_at s past) place ≡ Some g → MayBeUsed s past place g
+    may : (place g : ℕ) → place < asked past → with_call past lane writer grant (grant_at s past) place ≡ Some g → MayBeUsed s past place g
     may place g lt e = by_test (is_asked_by (asked_at past place) lane writer) refl e
       where
         by_test : (b : Bool) → is_asked_by (asked_at past place) lane writer ≡ b
-            → (if b then Some w.0 else grant_at s past place) ≡ Some g → MayBeUsed s past place g
+            → (if b then Some grant else grant_at s past place) ≡ Some g → MayBeUsed s past place g
         by_test true mine e =
-            subst (MayBeUsed s past place) (some_is w.0 g e)
+            subst (MayBeUsed s past place) (some_is grant g e)
             (record {
-              before = in_turn s past lane opener writer w.0 place j t.in_turn opener_asked mine;
+              before = before place mine;
               lane = lane;
               call = opener;
-              asker = opener_asked;
-              handle = t.handle;
-              came = t.came;
+              asker = asker;
+              handle = handle;
+              came = came;
               unclosed = unclosed place mine;
             })
         by_test false out e = UseWell.may (used_well s past j) place g lt e
 
     closes : (place : ℕ) (a : Asked) (h : List ℕ) → asked_at past place ≡ Some a → a.request ≡ request.Close h
-        → with_call past lane writer w.0 (grant_at s past) place ≡ used s past place h
+        → with_call past lane writer grant (grant_at s past) place ≡ used s past place h
     closes place a h at close = by_test (is_asked_by (asked_at past place) lane writer) refl
       where
-        by_test : (b : Bool) → is_asked_by (asked_at past place) lane writer ≡ b → (if b then Some w.0 else grant_at s past place) ≡ used s past place h
-        by_test true mine = absurd (writes_close_none a.request t.handle h (bears place a mine at) close)
+        by_test : (b : Bool) → is_asked_by (asked_at past place) lane writer ≡ b → (if b then Some grant else grant_at s past place) ≡ used s past place h
+        by_test true mine = absurd (writes_close_none a.request handle h (bears place a mine at) close)
         by_test false out = UseWell.closes (used_well s past j) place a h at close
 
 -- A lane to whom a name is opened it to be written anew, and by a later call wrote bytes to what was opened, which it had buffered and
@@ -263,11 +262,13 @@ opened_left s config choices first now turns past name lane opener writer slot w
     let by_handle : WriteBy t.handle written = bear_all past (asked past) lane writer t.handle written known
     (λ place has. has_call past lane writer place written t.asks has) bears in
     let f = flushed_asks (answer past) slot file buffer bytes site flush_site facts flush_facts written flush_own t.handle by_handle stands wrote same flush in
+    let asker : is_asked_by (asked_at past w.0) lane opener ≡ true = has_call past lane opener w.0 (w ∷ []) t.opens (inl refl) in
     subst (λ (b : List ℕ). HasBytes now name b) f.all
     (anew_left s config choices first now turns past name lane opener writer w written
     (with_call past lane writer w.0 (grant_at s past)) run serves well_formed t
     (subst (λ (n : ℕ). AreWrites t.handle n written) start f.asks) f.said
-    (with_call_well s past name lane opener writer w written j t bears unclosed)
+    (with_call_well s past lane opener writer w.0 t.handle j asker t.came bears
+    (λ place mine. in_turn s past lane opener writer w.0 place j t.in_turn asker mine) unclosed)
     (λ place has. rw (has_call past lane writer place written t.asks has) refl) (λ place out. rw out refl))
 
 -- A lane to whom a name is opened it to be written anew, and by a later call wrote bytes to what was opened, which it had buffered, and flushed

@@ -7,9 +7,11 @@ pub mod AskedInOrder
 pub mod Back
 pub mod BackLaws
 pub mod BearingLaws
+pub mod BetweenLaws
 pub mod BufferLaws
 pub mod BufferStays
 pub mod BufferedMoves
+pub mod BufferedBears
 pub mod CallEnds
 pub mod PartMoves
 pub mod CallMoves
@@ -41,6 +43,7 @@ pub mod NodeLaws
 pub mod OffRequests
 pub mod OneText
 pub mod OpenLaws
+pub mod OpenedLaws
 pub mod OwnLaws
 pub mod Parts
 pub mod PassingLaws
@@ -48,6 +51,7 @@ pub mod PathLaws
 pub mod PieceLaws
 pub mod Placed
 pub mod PlainRuns
+pub mod PutLaws
 pub mod ReadLaws
 pub mod ReadsBackLaws
 pub mod RoundTripLaws

@@ -89,6 +89,13 @@ got_dropped (y ∷ xs) (suc n) (suc k) x le e =
     let same : suc k - suc n ≡ k - n = omega arith in subst (λ (i : ℕ). slice_get (drop n xs) i ≡ Some x) (sym same)
     (got_dropped xs n k x (omega (arith, le)) e)
 
+-- the calls between two numbers of those for which a test holds
+pub test_between : (test : Call → Bool) (calls : List Call) (k m n : ℕ) (c : Call)
+    → list_all test (drop (suc k) (take m calls)) ≡ true → k + 1 ≤ n → n < m → slice_get calls n ≡ Some c → test c ≡ true
+test_between test calls k m n c all above below is =
+    each_is test (drop (suc k) (take m calls)) (n - suc k) c all
+    (got_dropped (take m calls) (suc k) n c (omega (arith, above)) (got_taken calls m n c below is))
+
 -- ---- outcomes
 
 lanes_counted : (past : List Entry) (n : ℕ) → length (outcomes_below past n) ≡ n

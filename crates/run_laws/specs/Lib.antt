@@ -25,6 +25,7 @@ pub mod RoundTripRun
 pub mod NoFileRows
 pub mod RoundTripRows
 pub mod RoundTrips
+pub mod SlotCalls
 pub mod Sparing
 pub mod Steps
 pub mod WholeCalls

@@ -1,5 +1,5 @@
 -- A run that reads where there is no file, and runs of which the laws do not speak.
-use Rattle.std.specs.Prelude.{◌≡◌, ◌≢◌, ◌-◌, ℕ, zero, suc, ◌==◌, Bool, true, not, ◌||◌, ◌&&◌, List, [], ◌∷◌, codes, drop, None, refl}
+use Rattle.std.specs.Prelude.{◌≡◌, ◌≢◌, ◌-◌, ℕ, zero, suc, ◌==◌, Bool, List, [], ◌∷◌, codes, drop, None, refl}
 use Rattle.std.proofs.Common.{sym, arith, inl}
 use Rattle.std.proofs.lemmas.Bool.{and_parts, eqb-true}
 use Rattle.ssh_encoding.specs.Writing.{string, uint32}

@@ -1,6 +1,6 @@
 -- Worked whole runs in which a lane writes a file as a whole and reads it, and in which one reads where there is none;
 -- and beside them what the laws don't speak of.
-use Rattle.std.specs.Prelude.{◌≡◌, ◌≢◌, ◌-◌, ℕ, zero, suc, ◌==◌, true, false, ◌||◌, ◌&&◌, [], ◌∷◌, codes, Option, Some, None, refl}
+use Rattle.std.specs.Prelude.{◌≡◌, ◌≢◌, ℕ, zero, suc, ◌==◌, true, false, [], ◌∷◌, codes, Option, Some, None, refl}
 use Rattle.std.proofs.Common.{sym, arith, inl, subst}
 use Rattle.std.proofs.lemmas.Bool.{and_parts, eqb-true}
 use Rattle.ssh_encoding.specs.Writing.{string, uint32}
