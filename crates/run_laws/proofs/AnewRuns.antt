@@ -40,7 +40,7 @@ use Rattle.run_laws.specs.InJournals.{AreBelow, IsOfLane, PassesAt, is_elsewhere
 use Rattle.run_laws.specs.Steps.{HasBytes, IsAnyChoice, RunOf, Step, after, asked_in}
 use Rattle.run_laws.proofs.AmongLaws.{among_by, low_known}
 use Rattle.run_laws.proofs.AnewLaws.{anew_stays}
-use Rattle.run_laws.proofs.BufferLaws.{WriteBy, flushed_asks}
+use Rattle.run_laws.proofs.BufferLaws.{AreFlushed, WriteBy, flushed_asks}
 use Rattle.run_laws.proofs.CutLaws.{has_parts, known_has, known_parts, rising_parts}
 use Rattle.run_laws.proofs.GrantAtLaws.{used_well}
 use Rattle.run_laws.proofs.LaidLaws.{IsFront, IsLaid, below_has, front_as, lay_call}
@@ -66,20 +66,26 @@ pub record LaneOpened (s : Setting) (past : List Entry) (name : Name) (lane open
   pub came : answer past w.0 ≡ Some (reply.Handle handle)
   pub in_turn : opener < writer
   pub asks : own past lane writer ≡ written
-  pub others : (place call : ℕ) → opener < call → call ≢ writer → is_of_call past (lane, call) place ≡ true → PassesAt s past name place
 
 -- ---- what is left
+
+-- what calls of the lane ask behind the OPEN passes the name by, but for the call that writes
+abbrev pub OthersPass : Setting → List Entry → Name → ℕ → ℕ → ℕ → Type 0
+OthersPass s past name lane opener writer =
+    (place call : ℕ) → opener < call → call ≢ writer → is_of_call past (lane, call) place ≡ true → PassesAt s past name place
 
 anew_left : (s : Setting) (config : ServerConfig) (choices : List Choice) (first now : FileTree) (turns : List Turn)
     (past : List Entry) (name : Name) (lane opener writer : ℕ) (w : ℕ × Request) (written : Own)
     (grant_of : ℕ → Option ℕ)
     → IsRun s turns past → Serves config choices first past now → IsWellFormed first
-    → (t : LaneOpened s past name lane opener writer w written) → AreWrites t.handle 0 written
+    → (t : LaneOpened s past name lane opener writer w written)
+    → OthersPass s past name lane opener writer → AreWrites t.handle 0 written
     → AreWritten (answer past) (places written)
     → UseWell s past grant_of → ((place : ℕ) → HasRequest written place → grant_of place ≡ Some w.0)
     → ((place : ℕ) → is_asked_by (asked_at past place) lane writer ≡ false → grant_of place ≡ grant_at s past place)
     → HasBytes now name (carried written)
-anew_left s config choices first now turns past name lane opener writer w written grant_of run serves well_formed t writes said well own_uses others_use =
+anew_left s config choices first now turns past name lane opener writer w written grant_of run serves well_formed t others
+    writes said well own_uses others_use =
     by_laid (lay_call IsAnyChoice config past (sent past) lane opener first w [] r.steps f t.opens until.0)
   where
     j : IsJournal s past
@@ -122,7 +128,7 @@ anew_left s config choices first now turns past name lane opener writer w writte
                 (subst (λ (k : ℕ). is_asked_by (asked_at past place) lane k ≡ true) v.1 mine)))
             | inr v ↦ elim (cases_lt c opener) [
               | inl low ↦ absurd (let early : place < w.0 = in_turn s past lane c opener place w.0 j low mine opener_asked in omega (arith, early, high))
-              | inr from ↦ t.others place c (let ne : c ≢ opener = u.1 in omega (arith, ne, from)) v.1 mine
+              | inr from ↦ others place c (let ne : c ≢ opener = u.1 in omega (arith, ne, from)) v.1 mine
             ]
           ]
         ]
@@ -244,29 +250,20 @@ with_call_well s past lane opener writer grant handle j asker came bears before 
 -- A lane to whom a name is opened it to be written anew, and by a later call wrote bytes to what was opened, which it had buffered and
 -- which wasn't closed then, and flushed it: the bytes are left.
 pub opened_left : (s : Setting) (config : ServerConfig) (choices : List Choice) (first now : FileTree)
-    (turns : List Turn) (past : List Entry) (name : Name) (lane opener writer slot : ℕ) (w : ℕ × Request)
-    (written flush_own : Own)
-    (file : FileAt) (buffer : Buffer) (bytes : List ℕ) (site flush_site : Site) (facts flush_facts : Facts)
-    → IsRun s turns past → Serves config choices first past now → IsWellFormed first → (t : LaneOpened s past name lane opener writer w written)
+    (turns : List Turn) (past : List Entry) (name : Name) (lane opener writer : ℕ) (w : ℕ × Request) (written : Own)
+    (bytes : List ℕ) → IsRun s turns past → Serves config choices first past now → IsWellFormed first
+    → (t : LaneOpened s past name lane opener writer w written) → OthersPass s past name lane opener writer
     → ((place : ℕ) (a : Asked) → is_of_call past (lane, writer) place ≡ true → asked_at past place ≡ Some a
     → WritesBy a.request t.handle) → ((place : ℕ) → is_of_call past (lane, writer) place ≡ true
     → is_one_of (closed_before s past place) w.0 ≡ false)
-    → slot_at site slot ≡ Buffered file buffer → file.offset ≡ 0
-    → (wrote : HasEnded (call.BufWriteAll slot bytes) site facts written (answer past) outcome.Done)
-    → slot_at flush_site slot ≡ slot_at wrote.left slot
-    → HasEnded (call.BufFlush slot) flush_site flush_facts flush_own (answer past) outcome.Done → HasBytes now name bytes
-opened_left s config choices first now turns past name lane opener writer slot w written flush_own file buffer bytes
-    site flush_site facts flush_facts run serves well_formed t bears unclosed stands start wrote same flush =
+    → AreFlushed t.handle 0 bytes (answer past) written → HasBytes now name bytes
+opened_left s config choices first now turns past name lane opener writer w written bytes run serves well_formed t others
+    bears unclosed f =
     let j : IsJournal s past = runs_are_journals s turns past run in
-    let known : AreKnown past (asked past) written = subst (AreKnown past (asked past)) t.asks (own_listed past lane writer).1 in
-    let by_handle : WriteBy t.handle written = bear_all past (asked past) lane writer t.handle written known
-    (λ place has. has_call past lane writer place written t.asks has) bears in
-    let f = flushed_asks (answer past) slot file buffer bytes site flush_site facts flush_facts written flush_own t.handle by_handle stands wrote same flush in
     let asker : is_asked_by (asked_at past w.0) lane opener ≡ true = has_call past lane opener w.0 (w ∷ []) t.opens (inl refl) in
     subst (λ (b : List ℕ). HasBytes now name b) f.all
     (anew_left s config choices first now turns past name lane opener writer w written
-    (with_call past lane writer w.0 (grant_at s past)) run serves well_formed t
-    (subst (λ (n : ℕ). AreWrites t.handle n written) start f.asks) f.said
+    (with_call past lane writer w.0 (grant_at s past)) run serves well_formed t others f.asks f.said
     (with_call_well s past lane opener writer w.0 t.handle j asker t.came bears
     (λ place mine. in_turn s past lane opener writer w.0 place j t.in_turn asker mine) unclosed)
     (λ place has. rw (has_call past lane writer place written t.asks has) refl) (λ place out. rw out refl))
@@ -291,7 +288,7 @@ flushed_left s config choices first now turns past name lane opener writer slot 
     let f = flushed_asks (answer past) slot file buffer bytes site flush_site facts flush_facts written flush_own t.handle bears stands wrote same flush in
     subst (λ (b : List ℕ). HasBytes now name b) f.all
     (anew_left s config choices first now turns past name lane opener writer w written (grant_at s past) run serves
-    well_formed opened (subst (λ (n : ℕ). AreWrites t.handle n written) start f.asks) f.said
+    well_formed opened t.others (subst (λ (n : ℕ). AreWrites t.handle n written) start f.asks) f.said
     (used_well s past (runs_are_journals s turns past run)) (λ place has. t.uses place
     (has_call past lane writer place written t.asks has)) (λ place out. refl))
   where
@@ -307,5 +304,4 @@ flushed_left s config choices first now turns past name lane opener writer slot 
       came = t.came;
       in_turn = t.in_turn;
       asks = t.asks;
-      others = t.others;
     }

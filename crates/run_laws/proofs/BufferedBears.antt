@@ -1,6 +1,6 @@
 -- What calls on slots ask, in the journals of their requests: an `open` its OPEN, and a call that writes to a buffered file by
 -- the handle of the file's grant, which has no CLOSE then.
-use Rattle.std.proofs.Common.{append_assoc, ◌≡◌, ◌<◌, ◌≤◌, ◌+◌, ◌==◌, ℕ, true, false, List, [], ◌∷◌, ◌++◌, Option, Some, refl, ap, sym, ◌∙◌, subst, arith}
+use Rattle.std.proofs.Common.{append_assoc, ◌≡◌, ◌<◌, ◌≤◌, ◌+◌, ◌==◌, ℕ, true, false, List, [], ◌∷◌, ◌++◌, Option, Some, None, refl, ap, sym, ◌∙◌, subst, arith}
 use Rattle.std.proofs.lemmas.Bool.{and_parts, eq-eqb, eqb-true, ne_eqb, or_left}
 use Rattle.sftp_model.specs.OpenOptions.{flags_of}
 use Rattle.sftp_model.specs.Slots.{grant_of, has_grant, slot_at}
@@ -110,7 +110,8 @@ open_asked s past lane k slot options path place a j p given mine is =
     let t = asks_at s past lane k place a (call.OpenFile slot options path) j p given mine is in
     by_own t.before (own t.before lane (ended t.before lane)) t.asks
   where
-    by_own : (before : List Entry) (requests : Own) → next (call.OpenFile slot options path) (site_of s before lane) s.facts requests (answer before) ≡ Ask a.request
+    by_own : (before : List Entry) (requests : Own) → next (call.OpenFile slot options path) (site_of s before lane)
+        s.facts requests (answer before) ≡ Ask a.request
         → a.request ≡ open_request (flags_of options) path
     by_own before [] e = open_is (flags_of options) path (site_of s before lane) a.request e
     by_own before (first ∷ later) e = absurd (open_asks_once slot options path (site_of s before lane) s.facts first later (answer before) a.request e)
@@ -170,7 +171,8 @@ buffered_bears s past lane k slot bytes handle file buffer j p given stood came 
         in
         let has : has_grant (held_site s before lane) file.grant ≡ true =
         ap (λ (c : Option Call). has_grant (held_by c (own before lane (ended before lane)) site) file.grant) t.now ∙ in_slots in
-        let held : holds s before file.grant lane ≡ true = or_left (has_grant (held_site s before lane) file.grant) (is_unended_asker before lane file.grant) has in
+        let held : holds s before file.grant lane ≡ true = or_left (has_grant (held_site s before lane) file.grant)
+        (is_unended_asker before lane file.grant) has in
         let free : is_one_of (closed s before) file.grant ≡ false =
         unclosed_held s before file.grant lane t.journal.1 (asker_there s before lane k t.id a.request t.journal) held in
         let before_it : closed_before s past (asked before) ≡ closed s before =
@@ -181,3 +183,16 @@ buffered_bears s past lane k slot bytes handle file buffer j p given stood came 
           granted_below before file.grant granted,
           ap (λ l. is_one_of l file.grant) before_it ∙ free,
         )
+
+-- so of each place at which the call asks
+pub bears_there : (s : Setting) (past : List Entry) (lane k grant : ℕ) (handle : List ℕ)
+    → ((place : ℕ) (a : Asked) → is_of_call past (lane, k) place ≡ true → asked_at past place ≡ Some a
+    → BearsOpen s past grant handle place a.request)
+    → (place : ℕ) → is_of_call past (lane, k) place ≡ true
+    → (grant < place) × (is_one_of (closed_before s past place) grant ≡ false)
+bears_there s past lane k grant handle bears place mine = by_asked (asked_at past place) refl mine
+  where
+    by_asked : (x : Option Asked) → asked_at past place ≡ x → is_asked_by x lane k ≡ true
+        → (grant < place) × (is_one_of (closed_before s past place) grant ≡ false)
+    by_asked None none own_it = absurd cc
+    by_asked (Some a) is own_it = let b = bears place a mine is in (b.1, b.2)

@@ -28,7 +28,36 @@ use Rattle.plan_model.proofs.MoveLaws.{either}
 use Rattle.plan_model.specs.declared.call.Call.{Call}
 use Rattle.plan_model.specs.CallPlans.{cancelled, next}
 use Rattle.run_laws.specs.SlotCalls.{leaves_slot}
-use Rattle.run_laws.proofs.PartMoves.{HoldsByHandle, GoesSo, IsKeptAt, path_goes, path_done_goes, link_goes, path_told_goes, path_named_goes, file_goes, open_goes, close_goes, set_goes, meta_goes, sync_goes, copy_goes, seek_goes, was_read_goes, missing_goes, was_written_goes, parts_go, opened_goes, entries_go, window_goes, buffered_goes, buf_read_goes, buf_write_goes, rest_goes, flush_goes}
+use Rattle.run_laws.proofs.PartMoves.{
+  HoldsByHandle,
+  GoesSo,
+  IsKeptAt,
+  path_goes,
+  path_done_goes,
+  link_goes,
+  path_told_goes,
+  path_named_goes,
+  file_goes,
+  open_goes,
+  close_goes,
+  set_goes,
+  meta_goes,
+  sync_goes,
+  copy_goes,
+  seek_goes,
+  was_read_goes,
+  missing_goes,
+  was_written_goes,
+  parts_go,
+  opened_goes,
+  entries_go,
+  window_goes,
+  buffered_goes,
+  buf_read_goes,
+  buf_write_goes,
+  rest_goes,
+  flush_goes,
+}
 
 -- ---- calls on paths, but for whole files
 

@@ -141,7 +141,7 @@ may_hold name c = is_buffered c || may_own name c
 pub own_held : (name : Name) (c : Call) → may_own name c ≡ true → may_hold name c ≡ true
 own_held name c e = or_right (is_buffered c) (may_own name c) e
 
-held_still : (name : Name) (c : Call) → may_hold name c ≡ true → is_still c ≡ true
+pub held_still : (name : Name) (c : Call) → may_hold name c ≡ true → is_still c ≡ true
 held_still name (call.Cwd path) e = absurd cc
 held_still name other e = refl
 

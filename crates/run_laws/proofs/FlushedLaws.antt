@@ -1,5 +1,5 @@
 -- A lane that opened a file anew, buffered it, wrote to it and flushed it leaves the bytes, in a run over a file machine.
-use Rattle.std.proofs.Common.{append_assoc, ◌≡◌, ◌≢◌, ◌<◌, ◌+◌, ℕ, true, false, List, [], ◌∷◌, ◌++◌, Option, Some, None, refl, ap, sym, ◌∙◌, subst, arith}
+use Rattle.std.proofs.Common.{append_assoc, ◌≡◌, ◌≢◌, ◌<◌, ◌+◌, ℕ, true, List, [], ◌∷◌, ◌++◌, Option, Some, None, refl, ap, sym, ◌∙◌, subst, arith}
 use Rattle.std.specs.List.{list_all}
 use Rattle.sftp_model.specs.Slots.{slot_at}
 use Rattle.sftp_model.specs.declared.config.Choice.{Choice}
@@ -7,6 +7,7 @@ use Rattle.sftp_model.specs.declared.config.ServerConfig.{ServerConfig}
 use Rattle.sftp_model.specs.declared.outcome.Outcome.{Outcome}
 use Rattle.sftp_model.specs.declared.outcome.Outcome.TheVariants as outcome
 use Rattle.sftp_model.specs.declared.reply.Reply.TheVariants as reply
+use Rattle.sftp_model.specs.declared.request.Request.{Request}
 use Rattle.sftp_model.specs.declared.slot.Move.TheVariants.{Done}
 use Rattle.sftp_model.specs.declared.slot.Site.{Site}
 use Rattle.machine_model.specs.Changes.{IsWellFormed}
@@ -24,9 +25,8 @@ use Rattle.session_model.specs.declared.entry.Entry.TheVariants as entry
 use Rattle.session_model.specs.declared.event.Event.TheVariants.{End}
 use Rattle.session_model.specs.declared.turn.Turn.{Turn}
 use Rattle.session_model.specs.Calls.{GoesByPlan, Setting, call_at, lane_calls, site_of}
-use Rattle.session_model.specs.Grants.{is_asked_by, is_one_of}
 use Rattle.session_model.specs.Journals.{IsJournal}
-use Rattle.session_model.specs.Readings.{Asked, answer, asked_at, ended, own}
+use Rattle.session_model.specs.Readings.{Asked, answer, asked, asked_at, ended, own}
 use Rattle.session_model.specs.Runs.{IsRun}
 use Rattle.session_model.specs.Served.{Serves}
 use Rattle.session_model.proofs.CallLaws.{end_site, ended_end}
@@ -35,13 +35,14 @@ use Rattle.session_model.proofs.OverLaws.{runs_are_journals}
 use Rattle.run_laws.specs.CallsAmong.{HasEnded}
 use Rattle.run_laws.specs.InJournals.{IsOfLane, KeepsOff, PassesAt, is_of_call}
 use Rattle.run_laws.specs.Steps.{HasBytes}
-use Rattle.run_laws.proofs.AnewRuns.{LaneOpened, opened_left}
+use Rattle.run_laws.proofs.AnewRuns.{LaneOpened, bear_all, opened_left}
+use Rattle.run_laws.proofs.BufferLaws.{AreFlushed, flushed_asks}
+use Rattle.run_laws.proofs.OwnLaws.{has_call, own_listed}
 use Rattle.run_laws.proofs.BetweenLaws.{LeaveSlot, slot_stays}
-use Rattle.run_laws.proofs.BufferedBears.{BearsOpen, buffered_bears}
+use Rattle.run_laws.proofs.BufferedBears.{BearsOpen, bears_there, buffered_bears}
 use Rattle.run_laws.proofs.JournalCalls.{site_began}
 use Rattle.run_laws.specs.Listings.{site_at}
 use Rattle.run_laws.proofs.PlainRuns.{IsPlain, run_plain}
-use Rattle.run_laws.proofs.UsedLaws.{closed_before}
 use Rattle.run_laws.specs.RoundTrips.{outcome_at}
 use Rattle.run_laws.proofs.CallEnds.{EndsAt, ends_at}
 use Rattle.run_laws.proofs.CallRequests.{IsAsked, MayWrite, asked_own, avoids_plain, may_hold, passes_so}
@@ -176,29 +177,37 @@ first_began s past lane n m slot bytes t =
     whole : (t.second.more ++ last ∷ t.first.more) ++ end ∷ before ≡ past
     whole = append_assoc t.second.more (last ∷ t.first.more) (end ∷ before) ∙ (ap (λ (l : List Entry). t.second.more ++ last ∷ l) t.first.is ∙ t.second.is)
 
--- ---- the law
+-- ---- what was opened, written and flushed
 
-pub flush_left : (s : Setting) (turns : List Turn) (past : List Entry) (config : ServerConfig) (choices : List Choice)
-    (tree left : FileTree) (name : Name) (lane k : ℕ) (bytes : List ℕ) → IsRun s turns past → IsWellFormed tree
-    → Serves config choices tree past left
-    → list_all (may_hold name) (lane_calls s past lane) ≡ true → ((other : ℕ) → other ≢ lane → KeepsOff past name other)
-    → ((n : ℕ) (c : Call) → k < n → n ≢ k + 2 → call_at s past lane n ≡ Some c → MayWrite name c → ⊥)
-    → FlushedCalls s past name lane k bytes → HasBytes left name bytes
-flush_left s turns past config choices tree left name lane k bytes run well served own_calls others spares f =
-    opened_left s config choices tree left turns past name lane k (k + 2) f.slot ba.w (own past lane (k + 2))
-    (own past lane (k + 3)) ba.file ba.buffer bytes (site_of s t2.before lane)
-    (site_of s t3.before lane) s.facts s.facts run served well opened (λ place a mine is. (bears place a mine is).0)
-    unclosed ba.there ba.start two.wrote two.same
-    two.flush
+-- The call's OPEN of the name, the requests of the call that writes, which bear its grant, and what the flush says of them.
+pub record IsFlushed (s : Setting) (past : List Entry) (name : Name) (lane k : ℕ) (bytes : List ℕ) : Type 0 where
+  pub w : ℕ × Request
+  pub opened : LaneOpened s past name lane k (k + 2) w (own past lane (k + 2))
+  pub bears : (place : ℕ) (a : Asked) → is_of_call past (lane, k + 2) place ≡ true → asked_at past place ≡ Some a
+      → BearsOpen s past w.0 opened.handle place a.request
+  pub asked : AreFlushed opened.handle 0 bytes (answer past) (own past lane (k + 2))
+
+pub is_flushed : (s : Setting) (past : List Entry) (name : Name) (lane k : ℕ) (bytes : List ℕ) → IsJournal s past
+    → IsPlain past → list_all (may_hold name) (lane_calls s past lane) ≡ true
+    → ((other : ℕ) → other ≢ lane → KeepsOff past name other) → FlushedCalls s past name lane k bytes
+    → IsFlushed s past name lane k bytes
+is_flushed s past name lane k bytes j p own_calls others f =
+    record {
+      w = ba.w;
+      opened = opened;
+      bears = λ place a mine is. bears place a mine is;
+      asked =
+          subst (λ (n : ℕ). AreFlushed ba.handle n bytes (answer past) (own past lane (k + 2))) ba.start
+          (flushed_asks (answer past) f.slot ba.file ba.buffer bytes (site_of s t2.before lane) (site_of s t3.before lane) s.facts s.facts
+          (own past lane (k + 2)) (own past lane (k + 3)) ba.handle
+          (bear_all past (asked past) lane (k + 2) ba.handle (own past lane (k + 2)) (own_listed past lane (k + 2)).1
+          (λ place has. has_call past lane (k + 2) place (own past lane (k + 2)) refl has)
+          (λ place a mine is. (bears place a mine is).0))
+          ba.there two.wrote two.same two.flush);
+    }
   where
     c2 : Call
     c2 = call.BufWriteAll f.slot bytes
-
-    j : IsJournal s past
-    j = runs_are_journals s turns past run
-
-    p : IsPlain past
-    p = run_plain s turns past run
 
     two : WrittenThenFlushed s past lane (k + 2) (k + 3) f.slot bytes
     two = written_then_flushed s past lane (k + 2) (k + 3) f.slot bytes j p (omega arith) f.writes f.flushes f.written f.flushed
@@ -243,20 +252,6 @@ flush_left s turns past config choices tree left name lane k bytes run well serv
               avoids_plain s past name place x.c a.request x.asks plain);
         }
 
-    own_passes : (place n : ℕ) → k < n → n ≢ k + 2 → is_of_call past (lane, n) place ≡ true → PassesAt s past name place
-    own_passes place n above ne mine = by_asked (asked_at past place) refl
-      where
-        by_asked : (x : Option Asked) → asked_at past place ≡ x → PassesAt s past name place
-        by_asked None nothing =
-            record {
-              avoids = λ b at. absurd (let both : None ≡ Some b = sym nothing ∙ at in cc);
-              writes =
-                  λ b h grant at w uses. absurd (let both : None ≡ Some b = sym nothing ∙ at in cc);
-            }
-        by_asked (Some a) is =
-            let x : IsAsked name s past lane n place a.request = asked_own name s past lane n place a j own_calls is
-            mine in passes_so s past name lane n place a is x (λ w. spares n x.c above ne x.is w)
-
     opened : LaneOpened s past name lane k (k + 2) ba.w (own past lane (k + 2))
     opened =
         record {
@@ -269,7 +264,6 @@ flush_left s turns past config choices tree left name lane k bytes run well serv
           came = came;
           in_turn = omega arith;
           asks = refl;
-          others = λ place n above ne mine. own_passes place n above ne mine;
         }
 
     -- a request of the call that writes
@@ -281,9 +275,38 @@ flush_left s turns past config choices tree left name lane k bytes run well serv
         (ap (λ (x : Site). slot_at x f.slot) (first_began s past lane (k + 2) (k + 3) f.slot bytes two) ∙ ba.there)
         (ap (answer past) ba.grant ∙ came) place a mine is)
 
-    unclosed : (place : ℕ) → is_of_call past (lane, k + 2) place ≡ true → is_one_of (closed_before s past place) ba.w.0 ≡ false
-    unclosed place mine = by_asked (asked_at past place) refl mine
-      where
-        by_asked : (x : Option Asked) → asked_at past place ≡ x → is_asked_by x lane (k + 2) ≡ true → is_one_of (closed_before s past place) ba.w.0 ≡ false
-        by_asked None nothing at = absurd cc
-        by_asked (Some a) is at = (bears place a mine is).2
+-- what a lane's calls ask that may not write the name passes it by
+pub held_passes : (s : Setting) (past : List Entry) (name : Name) (lane n place : ℕ) → IsJournal s past
+    → list_all (may_hold name) (lane_calls s past lane) ≡ true → is_of_call past (lane, n) place ≡ true
+    → ((c : Call) → call_at s past lane n ≡ Some c → MayWrite name c → ⊥) → PassesAt s past name place
+held_passes s past name lane n place j own_calls mine spares = by_asked (asked_at past place) refl
+  where
+    by_asked : (x : Option Asked) → asked_at past place ≡ x → PassesAt s past name place
+    by_asked None nothing =
+        record {
+          avoids = λ b at. absurd (let both : None ≡ Some b = sym nothing ∙ at in cc);
+          writes = λ b h grant at w uses. absurd (let both : None ≡ Some b = sym nothing ∙ at in cc);
+        }
+    by_asked (Some a) is =
+        let x : IsAsked name s past lane n place a.request = asked_own name s past lane n place a j own_calls is mine in
+        passes_so s past name lane n place a is x (λ w. spares x.c x.is w)
+
+-- ---- what is left
+
+pub flush_left : (s : Setting) (turns : List Turn) (past : List Entry) (config : ServerConfig) (choices : List Choice)
+    (tree left : FileTree) (name : Name) (lane k : ℕ) (bytes : List ℕ) → IsRun s turns past → IsWellFormed tree
+    → Serves config choices tree past left
+    → list_all (may_hold name) (lane_calls s past lane) ≡ true → ((other : ℕ) → other ≢ lane → KeepsOff past name other)
+    → ((n : ℕ) (c : Call) → k < n → n ≢ k + 2 → call_at s past lane n ≡ Some c → MayWrite name c → ⊥)
+    → FlushedCalls s past name lane k bytes → HasBytes left name bytes
+flush_left s turns past config choices tree left name lane k bytes run well served own_calls others spares f =
+    opened_left s config choices tree left turns past name lane k (k + 2) b.w (own past lane (k + 2)) bytes run served well b.opened
+    (λ place n above ne mine. held_passes s past name lane n place j own_calls mine (λ c is. spares n c above ne is))
+    (λ place a mine is. (b.bears place a mine is).0)
+    (λ place mine. (bears_there s past lane (k + 2) b.w.0 b.opened.handle b.bears place mine).1) b.asked
+  where
+    j : IsJournal s past
+    j = runs_are_journals s turns past run
+
+    b : IsFlushed s past name lane k bytes
+    b = is_flushed s past name lane k bytes j (run_plain s turns past run) own_calls others f

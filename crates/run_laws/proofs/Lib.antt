@@ -1,6 +1,7 @@
 pub mod Alike
 pub mod AloneLaws
 pub mod AmongLaws
+pub mod AnewBack
 pub mod AnewLaws
 pub mod AnewRuns
 pub mod AskedInOrder
@@ -22,6 +23,7 @@ pub mod DeferredLaws
 pub mod FirstLaws
 pub mod Fixing
 pub mod FlushedLaws
+pub mod FlushedReads
 pub mod GrantAtLaws
 pub mod GrantLaws
 pub mod HandleLaws

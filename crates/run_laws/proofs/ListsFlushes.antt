@@ -1,5 +1,5 @@
 -- What whole runs of lanes give of directories that they list, and of writes that they flush.
-use Rattle.std.proofs.Common.{◌≡◌, ◌<◌, ℕ, true, false, List, length, Option, Some, None, refl, ap, sym, ◌∙◌, subst}
+use Rattle.std.proofs.Common.{◌≡◌, ℕ, true, List, length, Some, ap, sym, ◌∙◌, subst}
 use Rattle.sftp_model.specs.declared.options.SftpOptions.{SftpOptions}
 use Rattle.sftp_model.specs.Slots.{slot_at}
 use Rattle.sftp_model.specs.declared.config.Choice.{Choice}
@@ -15,7 +15,6 @@ use Rattle.plan_model.specs.declared.call.Lane.{Lane}
 use Rattle.session_model.specs.declared.entry.Entry.{Entry}
 use Rattle.session_model.specs.declared.turn.Turn.{Turn}
 use Rattle.session_model.specs.Calls.{Setting, site_of}
-use Rattle.session_model.specs.Grants.{is_asked_by, is_one_of}
 use Rattle.session_model.specs.Journals.{IsJournal}
 use Rattle.session_model.specs.Readings.{Asked, answer, asked_at, outcomes_below, own}
 use Rattle.session_model.specs.Runs.{IsRun}
@@ -28,7 +27,7 @@ use Rattle.run_laws.specs.InJournals.{is_of_call}
 use Rattle.run_laws.specs.ListsDirectories.{ListsDirectories}
 use Rattle.run_laws.specs.ReadsBack.{calls_in}
 use Rattle.run_laws.specs.SlotCalls.{leaves_slot}
-use Rattle.run_laws.proofs.BufferedBears.{BearsOpen, buffered_bears, open_asked}
+use Rattle.run_laws.proofs.BufferedBears.{BearsOpen, bears_there, buffered_bears, open_asked}
 use Rattle.run_laws.proofs.CallEnds.{EndedByPlan, call_ended}
 use Rattle.run_laws.proofs.FlushedLaws.{WrittenThenFlushed, first_began, written_then_flushed}
 use Rattle.run_laws.proofs.ListedLaws.{run_lists}
@@ -36,7 +35,6 @@ use Rattle.run_laws.proofs.OpenedLaws.{WritesByGrant, opens_plain}
 use Rattle.run_laws.proofs.PlainRuns.{IsPlain, run_plain}
 use Rattle.run_laws.proofs.PutLaws.{run_puts}
 use Rattle.run_laws.proofs.ReadsBackLaws.{call_is, handed_in, outcome_is, test_between}
-use Rattle.run_laws.proofs.UsedLaws.{closed_before}
 
 pub run_lists_directories : (lanes : List Lane) (options : SftpOptions) (extensions : Extensions) (turns : List Turn)
     (past : List Entry) (config : ServerConfig) (choices : List Choice) (tree left : FileTree)
@@ -64,8 +62,8 @@ writes_by_grant lanes options extensions past lane k bytes j p f =
       asked_for = f.asked_by;
       came = f.came;
       bears = λ place a mine is. (bears place a mine is).0;
-      before = λ place mine. (by_asked place (asked_at past place) refl mine).0;
-      unclosed = λ place mine. (by_asked place (asked_at past place) refl mine).1;
+      before = λ place mine. (bears_there s past lane k f.file.grant f.handle bears place mine).0;
+      unclosed = λ place mine. (bears_there s past lane k f.file.grant f.handle bears place mine).1;
       plain = λ a held is opens. opens_plain f.options f.path held f.plain
           (subst (λ (r : Request). OpensAs r held) (open_asked s past lane f.opener f.into f.options f.path f.file.grant a j p f.opens
           f.asked_by is) opens);
@@ -78,11 +76,6 @@ writes_by_grant lanes options extensions past lane k bytes j p f =
         → BearsOpen s past f.file.grant f.handle place a.request
     bears place a mine is =
         buffered_bears s past lane k f.slot bytes f.handle f.file f.buffer j p f.writes f.there f.came place a mine is
-
-    by_asked : (place : ℕ) (x : Option Asked) → asked_at past place ≡ x → is_asked_by x lane k ≡ true
-        → (f.file.grant < place) × (is_one_of (closed_before s past place) f.file.grant ≡ false)
-    by_asked place None none mine = absurd cc
-    by_asked place (Some a) is mine = let b = bears place a (ap (λ (x : Option Asked). is_asked_by x lane k) is ∙ mine) is in (b.1, b.2)
 
 pub run_flushes_writes : (lanes : List Lane) (options : SftpOptions) (extensions : Extensions) (turns : List Turn)
     (past : List Entry) (config : ServerConfig) (choices : List Choice) (tree left : FileTree)

@@ -23,14 +23,78 @@ use Rattle.sftp_model.specs.declared.slot.Move.TheVariants.{Ask, Wait, Done}
 use Rattle.sftp_model.specs.declared.slot.Site.{Site}
 use Rattle.sftp_model.specs.declared.slot.Slot.{Slot}
 use Rattle.sftp_model.specs.declared.slot.Slot.TheVariants.{Empty, File, Buffered}
-use Rattle.plan_model.specs.BufferPlans.{after_write, buf_read_file_next, buffered_rest, deferrable_len, fill_next, flush_next, from_buffer, is_full, send_next, taken_out, was_filled, with_capacity, with_deferred, without_reading, written_slot}
+use Rattle.plan_model.specs.BufferPlans.{
+  after_write,
+  buf_read_file_next,
+  buffered_rest,
+  deferrable_len,
+  fill_next,
+  flush_next,
+  from_buffer,
+  is_full,
+  send_next,
+  taken_out,
+  was_filled,
+  with_capacity,
+  with_deferred,
+  without_reading,
+  written_slot,
+}
 use Rattle.plan_model.specs.declared.call.Call.TheVariants as call
-use Rattle.plan_model.specs.FilePlans.{ask_copy, ask_meta, ask_set, ask_sync, close_grant_next, close_slot_next, copied, copy_files_next, first_place, on_seek, open_request, opened, opened_file, set_next}
-use Rattle.plan_model.specs.Moves.{Answers, Own, Plan, ask_path, ask_read, ask_write, by_reply, done_by, further, handle_of, offers, on_buffered, on_file, on_status, overflows, refuses, refuses_extension, told_by, is_too_long}
+use Rattle.plan_model.specs.FilePlans.{
+  ask_copy,
+  ask_meta,
+  ask_set,
+  ask_sync,
+  close_grant_next,
+  close_slot_next,
+  copied,
+  copy_files_next,
+  first_place,
+  on_seek,
+  open_request,
+  opened,
+  opened_file,
+  set_next,
+}
+use Rattle.plan_model.specs.Moves.{
+  Answers,
+  Own,
+  Plan,
+  ask_path,
+  ask_read,
+  ask_write,
+  by_reply,
+  done_by,
+  further,
+  handle_of,
+  offers,
+  on_buffered,
+  on_file,
+  on_status,
+  overflows,
+  refuses,
+  refuses_extension,
+  told_by,
+  is_too_long,
+}
 use Rattle.plan_model.specs.PathPlans.{named_by, path_done, path_named, path_told}
 use Rattle.plan_model.specs.TransferPlans.{Keeping, missing_next, next_part, part_len, read_first, rest_next, was_read, was_written, write_first}
 use Rattle.plan_model.specs.WholePlans.{entries_next, once_opened}
-use Rattle.plan_model.specs.WindowPlans.{ask_more, await_first, contents, ends_or, first_refusal, gaps, go_on, least, least_end, reaches, unless_refused, window_next}
+use Rattle.plan_model.specs.WindowPlans.{
+  ask_more,
+  await_first,
+  contents,
+  ends_or,
+  first_refusal,
+  gaps,
+  go_on,
+  least,
+  least_end,
+  reaches,
+  unless_refused,
+  window_next,
+}
 use Rattle.plan_model.proofs.CountLaws.{answered_in, on_entries, on_granted}
 use Rattle.plan_model.proofs.MoveLaws.{at_buffered, at_file, by_attrs, by_content, by_refusal, by_status, either}
 use Rattle.plan_model.specs.CallPlans.{next}
@@ -326,7 +390,8 @@ filled_goes : (P : Request → Type 0) (E : Site → Type 0) (slot n : ℕ) (fil
     (r : Reply) → IsKeptAt E slot → E site → GoesSo P E (was_filled slot n file buffer site r)
 filled_goes P E slot n file buffer site r k b =
     let left : E (without_reading slot file buffer site) = k site (Buffered file (record buffer { reading = None })) b in
-    by_content (GoesSo P E) r (without_reading slot file buffer site) (Done outcome.End (without_reading slot file buffer site)) _ (λ o. left) left (λ bytes. k site _ b)
+    by_content (GoesSo P E) r (without_reading slot file buffer site)
+    (Done outcome.End (without_reading slot file buffer site)) _ (λ o. left) left (λ bytes. k site _ b)
 
 fill_goes : (P : Request → Type 0) (E : Site → Type 0) (facts : Facts) (slot n : ℕ) (file : FileAt) (buffer : Buffer)
     (site : Site) (reading : Option ℕ) (own : Own) (answers : Answers) → HoldsByHandle P → IsKeptAt E slot → E site

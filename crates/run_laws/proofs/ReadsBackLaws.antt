@@ -39,6 +39,7 @@ use Rattle.sftp_model.specs.declared.config.Choice.{Choice}
 use Rattle.sftp_model.specs.declared.config.ServerConfig.{ServerConfig}
 use Rattle.sftp_model.specs.declared.flags.Extensions.{Extensions}
 use Rattle.sftp_model.specs.declared.outcome.Outcome.{Outcome}
+use Rattle.sftp_model.specs.declared.outcome.Outcome.TheVariants as outcome
 use Rattle.machine_model.specs.Changes.{IsWellFormed}
 use Rattle.machine_model.specs.Components.{Name}
 use Rattle.machine_model.specs.FileTree.{FileTree}
@@ -55,15 +56,23 @@ use Rattle.session_model.specs.Settings.{setting_of}
 use Rattle.run_laws.specs.FilesLeft.{IsUntouched}
 use Rattle.run_laws.proofs.PlainRuns.{plain_calls, run_plain}
 use Rattle.run_laws.proofs.UsedLaws.{some_is}
-use Rattle.run_laws.specs.Flushes.{Flushes, IsAloneBut}
+use Rattle.run_laws.specs.Flushes.{FlushesLast, IsAloneBut}
 use Rattle.run_laws.specs.LeavesFiles.{LeavesFiles}
 use Rattle.run_laws.specs.NameCalls.{all_keep_off, may_own, none_writes, writes}
 use Rattle.run_laws.specs.ReadsBack.{GotBytes, IsAlone, Reads, ReadsBack, WritesLast, calls_in, outcome_in}
 use Rattle.run_laws.specs.RoundTrips.{HasGot, HasRead, HasWritten, IsOneLanes, NoneWrites, WritesWhole, outcome_at}
-use Rattle.run_laws.proofs.CallRequests.{MayWrite, may_hold, own_held, own_writes}
+use Rattle.run_laws.proofs.CallRequests.{MayWrite, held_still, may_hold, own_held, own_writes}
 use Rattle.run_laws.proofs.FlushedLaws.{FlushedCalls, flush_left}
-use Rattle.run_laws.proofs.LaneCalls.{each_is}
-use Rattle.run_laws.proofs.OffRequests.{told_apart}
+use Rattle.run_laws.proofs.LaneCalls.{all_more, each_is}
+use Rattle.run_laws.proofs.OffRequests.{is_still, told_apart}
+use Rattle.session_model.specs.Journals.{IsJournal}
+use Rattle.session_model.proofs.OverLaws.{runs_are_journals}
+use Rattle.run_laws.specs.CallsAmong.{GivesUnless}
+use Rattle.run_laws.specs.ReadsFlushed.{ReadsFlushed}
+use Rattle.run_laws.specs.Steps.{AreAllowed, FeignsNoEnd, RefusesNone}
+use Rattle.run_laws.proofs.BackLaws.{gives_all, unrefused_feigns}
+use Rattle.run_laws.proofs.FlushedReads.{flushed_reads}
+use Rattle.run_laws.proofs.ServedSteps.{none_feigned, none_refused}
 use Rattle.run_laws.proofs.RoundTripLaws as laws
 
 -- ---- lists
@@ -242,10 +251,10 @@ where_is k n =
       ]
     ]
 
-may_hold_all : (lanes : List Lane) (outcomes : List (List Outcome)) (name : Name) (lane k : ℕ) (bytes : List ℕ)
-    → IsAloneBut lanes name lane k → Flushes lanes outcomes name lane k bytes
+may_hold_all : (lanes : List Lane) (outcomes : List (List Outcome)) (name : Name) (lane k reader : ℕ) (bytes : List ℕ)
+    → IsAloneBut lanes name lane k → FlushesLast lanes outcomes name lane k reader bytes
     → list_all (may_hold name) (calls_in lanes lane) ≡ true
-may_hold_all lanes outcomes name lane k bytes alone f = all_indexed (may_hold name) (calls_in lanes lane) (λ n c e. by_place n c e (where_is k n))
+may_hold_all lanes outcomes name lane k reader bytes alone f = all_indexed (may_hold name) (calls_in lanes lane) (λ n c e. by_place n c e (where_is k n))
   where
     by_place : (n : ℕ) (c : Call) → slice_get (calls_in lanes lane) n ≡ Some c → Where k n → may_hold name c ≡ true
     by_place n c e (Before lt) = own_held name c (each_is (may_own name) (take k (calls_in lanes lane)) n c alone.before
@@ -257,10 +266,11 @@ may_hold_all lanes outcomes name lane k bytes alone f = all_indexed (may_hold na
     by_place n c e (After le) = own_held name c (each_is (may_own name) (drop (k + 4) (calls_in lanes lane))
         (n - (k + 4)) c alone.after (got_dropped (calls_in lanes lane) (k + 4) n c le e))
 
-others_write_none : (lanes : List Lane) (outcomes : List (List Outcome)) (name : Name) (lane k : ℕ) (bytes : List ℕ)
-    → IsAloneBut lanes name lane k → Flushes lanes outcomes name lane k bytes → (n : ℕ) (c : Call) → k < n → n ≢ k + 2
-    → slice_get (calls_in lanes lane) n ≡ Some c → MayWrite name c → ⊥
-others_write_none lanes outcomes name lane k bytes alone f n c above ne e = by_place (where_is k n)
+-- no other call of the lane behind the first of them, and before the later one, may write the name
+others_write_none : (lanes : List Lane) (outcomes : List (List Outcome)) (name : Name) (lane k reader : ℕ)
+    (bytes : List ℕ) → IsAloneBut lanes name lane k → FlushesLast lanes outcomes name lane k reader bytes → (n : ℕ)
+    (c : Call) → k < n → n < reader → n ≢ k + 2 → slice_get (calls_in lanes lane) n ≡ Some c → MayWrite name c → ⊥
+others_write_none lanes outcomes name lane k reader bytes alone f n c above below ne e = by_place (where_is k n)
   where
     by_place : Where k n → MayWrite name c → ⊥
     by_place (Before lt) = λ w. omega (arith, lt, above)
@@ -269,10 +279,35 @@ others_write_none lanes outcomes name lane k bytes alone f n c above ne e = by_p
     by_place (Third at) = λ w. ne at
     by_place (Fourth at) = handed_at (λ d. MayWrite name d → ⊥) (calls_in lanes lane) n (k + 3) c (call.BufFlush f.slot) e at f.flushes (λ w. w)
     by_place (After le) =
-        λ w. writes_none name c (each_is (λ (d : Call). not (writes name d)) (drop (k + 4) (calls_in lanes lane))
-        (n - (k + 4)) c alone.last (got_dropped (calls_in lanes lane) (k + 4) n c le e))
+        λ w. writes_none name c (each_is (λ (d : Call). not (writes name d)) (drop (k + 4) (take reader (calls_in lanes lane)))
+        (n - (k + 4)) c f.last (got_dropped (take reader (calls_in lanes lane)) (k + 4) n c le
+        (got_taken (calls_in lanes lane) reader n c below e)))
         (own_writes name c (each_is (may_own name) (drop (k + 4) (calls_in lanes lane)) (n - (k + 4)) c alone.after
         (got_dropped (calls_in lanes lane) (k + 4) n c le e)) w)
+
+flushed_calls : (lanes : List Lane) (s : Setting) (past : List Entry) (name : Name) (lane k reader : ℕ) (bytes : List ℕ)
+    → s.lanes ≡ lanes → FlushesLast lanes (outcomes_below past (length lanes)) name lane k reader bytes
+    → FlushedCalls s past name lane k bytes
+flushed_calls lanes s past name lane k reader bytes same f =
+    record {
+      slot = f.slot;
+      len = f.len;
+      options = f.options;
+      path = f.path;
+      anew = f.anew;
+      denotes = f.denotes;
+      opens = handed _ _ same f.opens;
+      buffers = handed _ _ same f.buffers;
+      writes = handed _ _ same f.writes;
+      flushes = handed _ _ same f.flushes;
+      opened = outcome_is past (length lanes) lane k _ f.opened;
+      buffered = outcome_is past (length lanes) lane (k + 1) _ f.buffered;
+      written = outcome_is past (length lanes) lane (k + 2) _ f.written;
+      flushed = outcome_is past (length lanes) lane (k + 3) _ f.flushed;
+    }
+  where
+    handed : (n : ℕ) (c : Call) → s.lanes ≡ lanes → slice_get (calls_in lanes lane) n ≡ Some c → slice_get (calls_in s.lanes lane) n ≡ Some c
+    handed n c same e = subst (λ (l : List Lane). slice_get (calls_in l lane) n ≡ Some c) (sym same) e
 
 -- ---- runs
 
@@ -332,12 +367,14 @@ run_leaves_files lanes options extensions turns past config choices tree left ru
       as_begun = λ name lane alone never. (untouched name lane alone never).node;
       flushed = λ name lane k bytes alone f. flush_left s turns past config choices tree left name lane k bytes run well served
           (subst (λ (calls : List Call). list_all (may_hold name) calls ≡ true) (sym (are lane))
-          (may_hold_all lanes (outcomes_below past (length lanes)) name lane k bytes alone f))
+          (may_hold_all lanes (outcomes_below past (length lanes)) name lane k (length (calls_in lanes lane)) bytes alone f))
           (λ other ne. laws.lane_keeps_off s turns past name other run
           (subst (λ (calls : List Call). all_keep_off name [] calls ≡ true) (sym (are other))
           (alone.others other ne)))
-          (λ n c above ne is. others_write_none lanes (outcomes_below past (length lanes)) name lane k bytes alone f n c
-          above ne (call_was lanes s past lane n (Some c) are is)) (flushed_calls name lane k bytes f);
+          (λ n c above ne is. let was : slice_get (calls_in lanes lane) n ≡ Some c = call_was lanes s past lane n (Some c) are is in
+          others_write_none lanes (outcomes_below past (length lanes)) name lane k (length (calls_in lanes lane)) bytes alone f n c
+          above (laws.got_below (calls_in lanes lane) n c was) ne was)
+          (flushed_calls lanes s past name lane k (length (calls_in lanes lane)) bytes refl f);
     }
   where
     s : Setting
@@ -361,22 +398,55 @@ run_leaves_files lanes options extensions turns past config choices tree left ru
         laws.left_untouched s turns past config choices tree left name lane run well served
         (one_lanes lanes s turns past name lane are run alone) (none_before name lane never)
 
-    flushed_calls : (name : Name) (lane k : ℕ) (bytes : List ℕ)
-        → Flushes lanes (outcomes_below past (length lanes)) name lane k bytes → FlushedCalls s past name lane k bytes
-    flushed_calls name lane k bytes f =
-        record {
-          slot = f.slot;
-          len = f.len;
-          options = f.options;
-          path = f.path;
-          anew = f.anew;
-          denotes = f.denotes;
-          opens = f.opens;
-          buffers = f.buffers;
-          writes = f.writes;
-          flushes = f.flushes;
-          opened = outcome_is past (length lanes) lane k _ f.opened;
-          buffered = outcome_is past (length lanes) lane (k + 1) _ f.buffered;
-          written = outcome_is past (length lanes) lane (k + 2) _ f.written;
-          flushed = outcome_is past (length lanes) lane (k + 3) _ f.flushed;
-        }
+-- what a lane reads behind writes that it flushed
+pub run_reads_flushed : (lanes : List Lane) (options : SftpOptions) (extensions : Extensions) (turns : List Turn)
+    (past : List Entry) (config : ServerConfig) (choices : List Choice) (tree left : FileTree)
+    → IsRun (setting_of lanes options extensions past) turns past
+    → IsWellFormed tree → Serves config choices tree past left → ReadsFlushed lanes choices (outcomes_below past (length lanes))
+run_reads_flushed lanes options extensions turns past config choices tree left run well served =
+    record {
+      flushed = λ name lane k reader bytes ended none alone f r. (let q = has_read lanes s past name lane reader ended are r in
+          gives_all ended bytes
+          (reads RefusesNone name lane k reader bytes q.path q.bound ended unrefused_feigns (none_refused choices none) alone f
+          (laws.read_did s past name lane reader ended j (still name lane k reader bytes alone f) q)));
+      got_flushed = λ name lane k reader bytes got honest alone f r. (let q = has_got lanes s past name lane reader got are r in
+          laws.no_other got bytes
+          (reads FeignsNoEnd name lane k reader bytes q.path q.bound (outcome.Bytes got) (λ c h. h) (none_feigned choices honest) alone f
+          (laws.got_did s past name lane reader got j (still name lane k reader bytes alone f) q)));
+    }
+  where
+    s : Setting
+    s = setting_of lanes options extensions past
+
+    outcomes : List (List Outcome)
+    outcomes = outcomes_below past (length lanes)
+
+    j : IsJournal s past
+    j = runs_are_journals s turns past run
+
+    are : AreHandedIn lanes s past
+    are = handed_in lanes options extensions turns past run
+
+    holds : (name : Name) (lane k reader : ℕ) (bytes : List ℕ) → IsAloneBut lanes name lane k
+        → FlushesLast lanes outcomes name lane k reader bytes → list_all (may_hold name) (lane_calls s past lane) ≡ true
+    holds name lane k reader bytes alone f =
+        subst (λ (calls : List Call). list_all (may_hold name) calls ≡ true) (sym (are lane))
+        (may_hold_all lanes outcomes name lane k reader bytes alone f)
+
+    still : (name : Name) (lane k reader : ℕ) (bytes : List ℕ) → IsAloneBut lanes name lane k
+        → FlushesLast lanes outcomes name lane k reader bytes → list_all is_still (lane_calls s past lane) ≡ true
+    still name lane k reader bytes alone f =
+        all_more (may_hold name) is_still (lane_calls s past lane) (held_still name) (holds name lane k reader bytes alone f)
+
+    reads : (allowed : Choice → Type 0) (name : Name) (lane k reader : ℕ) (bytes path : List ℕ) (bound : ℕ) (ended : Outcome)
+        → ((c : Choice) → allowed c → FeignsNoEnd c) → AreAllowed allowed choices → IsAloneBut lanes name lane k
+        → FlushesLast lanes outcomes name lane k reader bytes
+        → laws.Did (call.FsRead path bound) s past name lane reader path ended → GivesUnless allowed ended bytes
+    reads allowed name lane k reader bytes path bound ended honest among alone f did =
+        flushed_reads allowed s turns past config choices tree left name lane k reader bytes path bound ended honest run
+        (some_len options.max_read_len _) well served among (holds name lane k reader bytes alone f)
+        (λ other ne. laws.lane_keeps_off s turns past name other run
+        (subst (λ (calls : List Call). all_keep_off name [] calls ≡ true) (sym (are other)) (alone.others other ne)))
+        (λ n c above below ne is. others_write_none lanes outcomes name lane k reader bytes alone f n c above below ne
+        (call_was lanes s past lane n (Some c) are is))
+        f.earlier (flushed_calls lanes s past name lane k reader bytes refl f) did

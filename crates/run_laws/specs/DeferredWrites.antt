@@ -98,7 +98,8 @@ abbrev pub AllWriteBy : List Entry → ℕ → ℕ → List ℕ → Type 0
 AllWriteBy past lane k handle = (place : ℕ) (a : Asked) → is_of_call past (lane, k) place ≡ true → asked_at past place
     ≡ Some a → WritesBy a.request handle
 
--- From the first of these requests of a call up to the last of them each request of others leaves the bytes of the file.
+-- From the first of these requests of a call up to the last of them each request of others leaves the bytes of the
+-- file.
 abbrev pub OthersLeave : ServerConfig → FileTree → List Entry → List Step → ℕ × ℕ → ℕ × Request → Own → ℕ → Type 0
 OthersLeave config first past steps c w written file =
     (place : ℕ) → w.0 < place → place < behind w written → is_of_call past c place ≡ false

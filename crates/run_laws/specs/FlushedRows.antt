@@ -1,5 +1,25 @@
 -- A worked whole run in which a lane writes to a buffered file, changes its directory, and flushes the file.
-use Rattle.std.specs.Prelude.{◌≡◌, ◌-◌, ℕ, zero, suc, ◌==◌, Bool, true, false, not, ◌&&◌, List, [], ◌∷◌, codes, drop, None, Some, refl}
+use Rattle.std.specs.Prelude.{
+  ◌≡◌,
+  ◌-◌,
+  ℕ,
+  zero,
+  suc,
+  ◌==◌,
+  Bool,
+  true,
+  false,
+  not,
+  ◌&&◌,
+  List,
+  [],
+  ◌∷◌,
+  codes,
+  drop,
+  None,
+  Some,
+  refl,
+}
 use Rattle.std.proofs.Common.{ap, ◌∙◌, arith, inl, inr}
 use Rattle.ssh_encoding.specs.Writing.{string, uint32}
 use Rattle.sftp_model.specs.Frames.{attributes, request_body}
@@ -250,7 +270,16 @@ flushed_is_run = (
                                           round_5,
                                           (
                                             (λ e. absurd cc),
-                                            (at 10 none_begun, (round_6, ((λ e. absurd cc), (at 11 none_begun, (round_7, refl))))),
+                                            (
+                                              at 10 none_begun,
+                                              (
+                                                round_6,
+                                                (
+                                                  (λ e. absurd cc),
+                                                  (at 11 none_begun, (round_7, refl)),
+                                                ),
+                                              ),
+                                            ),
                                           ),
                                         ),
                                       ),
@@ -387,7 +416,8 @@ flushed_calls =
     }
 
 -- where no other request comes between
-pub none_between : OthersLeave (config 0) hello flushed_run flushed_steps (0, 2) (1, request.Write (handle 9) 0 (codes "hu")) [] 0
+pub none_between : OthersLeave (config 0) hello flushed_run flushed_steps (0, 2)
+    (1, request.Write (handle 9) 0 (codes "hu")) [] 0
 none_between = λ place above below out. absurd (omega (arith, above, below))
 
 pub flushed_alone : WritesAlone (config 0) hello flushed_run flushed_steps 0 2 (handle 9)
@@ -432,7 +462,8 @@ to_append = record {
 pub appends_none : WritesAndFlushes to_append writes_flushed flushed_run flushed_reported 0 2 (codes "hu") → ⊥
 appends_none f = by_opener f.opener f.opens f.plain
   where
-    by_opener : (opener : ℕ) → call_in to_append 0 opener ≡ Some (call.OpenFile f.into f.options f.path) → f.options.append ≡ false → ⊥
+    by_opener : (opener : ℕ) → call_in to_append 0 opener ≡ Some (call.OpenFile f.into f.options f.path)
+        → f.options.append ≡ false → ⊥
     by_opener zero opens plain =
         (let same : record to_write { append = true } ≡ f.options = cc in
         let both : true ≡ false = ap (λ (o : OpenOptions). o.append) same ∙ plain in cc)

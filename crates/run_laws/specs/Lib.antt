@@ -21,6 +21,7 @@ pub mod OtherRows
 pub mod ReadBackRows
 pub mod ReadsBack
 pub mod ReadsBackRows
+pub mod ReadsFlushed
 pub mod RoundTripRun
 pub mod NoFileRows
 pub mod RoundTripRows

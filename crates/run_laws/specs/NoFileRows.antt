@@ -22,7 +22,14 @@ use Rattle.run_laws.specs.CallsAmong.{HasNoFile}
 use Rattle.run_laws.specs.InJournals.{KeepsOff}
 use Rattle.run_laws.specs.ReadBackRows.{empty, name}
 use Rattle.run_laws.specs.RoundTrips.{HasRead, HasWritten, IsOneLanes, NoneWrites}
-use Rattle.run_laws.specs.RoundTripRun.{writes_then_reads, first_handle, no_such_file, written_then_read, only, only_ended}
+use Rattle.run_laws.specs.RoundTripRun.{
+  writes_then_reads,
+  first_handle,
+  no_such_file,
+  written_then_read,
+  only,
+  only_ended,
+}
 
 -- ---- a read where there is no file
 

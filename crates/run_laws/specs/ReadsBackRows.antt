@@ -1,6 +1,6 @@
 -- Worked lanes and outcomes: names that are one lane's alone, what was written and read under one, and names that are
 -- no lane's alone.
-use Rattle.std.specs.Prelude.{◌≡◌, ◌≢◌, ℕ, zero, suc, true, List, [], ◌∷◌, codes, length, refl}
+use Rattle.std.specs.Prelude.{◌≡◌, ◌≢◌, ◌<◌, ◌+◌, ℕ, zero, suc, true, List, [], ◌∷◌, codes, drop, length, refl, take}
 use Rattle.std.proofs.Common.{arith}
 use Rattle.ssh_encoding.specs.Writing.{string, uint32}
 use Rattle.sftp_model.specs.Frames.{attributes, no_attributes, request_body}
@@ -15,9 +15,9 @@ use Rattle.session_model.specs.Readings.{outcomes_below}
 use Rattle.session_model.specs.RowWords.{to_read}
 use Rattle.run_laws.specs.ReadBackRows.{name}
 use Rattle.run_laws.specs.Steps.{HasBytes, RefuseNone}
-use Rattle.run_laws.specs.Flushes.{Flushes, IsAloneBut}
-use Rattle.run_laws.specs.NameCalls.{all_keep_off}
-use Rattle.run_laws.specs.ReadsBack.{IsAlone, Reads, WritesLast, calls_in}
+use Rattle.run_laws.specs.Flushes.{FlushesLast, IsAloneBut}
+use Rattle.run_laws.specs.NameCalls.{all_keep_off, none_writes}
+use Rattle.run_laws.specs.ReadsBack.{GotBytes, IsAlone, Reads, WritesLast, calls_in}
 use Rattle.run_laws.specs.RoundTripRows.{left_there}
 use Rattle.run_laws.specs.RoundTripRun.{no_such_file, writes_then_reads, written_then_read}
 
@@ -112,7 +112,7 @@ many_alone = record { own = refl; others = others }
 
 -- ---- a lane that flushes
 
--- it opens a to be written anew, buffers it, writes and flushes it, and reads it
+-- it opens a to be written anew, buffers it, writes and flushes it, asks for its attributes and reads it
 abbrev pub flushing : List Lane
 flushing =
     record {
@@ -121,24 +121,35 @@ flushing =
           ∷ call.BufWriteAll 0 (codes "hi")
           ∷ call.BufFlush 0
           ∷ call.Stat (codes "a")
+          ∷ call.FsRead (codes "/a") 4
           ∷ [];
     }
     ∷ []
 
 abbrev pub flushed_outcomes : List (List Outcome)
-flushed_outcomes = (outcome.Opened ∷ outcome.Done ∷ outcome.Done ∷ outcome.Done ∷ outcome.Meta no_attributes ∷ []) ∷ []
+flushed_outcomes =
+    (outcome.Opened
+    ∷ outcome.Done
+    ∷ outcome.Done
+    ∷ outcome.Done
+    ∷ outcome.Meta no_attributes
+    ∷ outcome.Bytes (codes "hi")
+    ∷ [])
+    ∷ []
 
 pub flushing_alone : IsAloneBut flushing name 0 0
 unfolding components
-flushing_alone = record { before = refl; after = refl; last = refl; others = others }
+flushing_alone = record { before = refl; after = refl; others = others }
   where
     others : (other : ℕ) → other ≢ 0 → all_keep_off name [] (calls_in flushing other) ≡ true
     others zero ne = absurd (ne refl)
     others (suc other) ne = refl
 
-pub flushes : Flushes flushing flushed_outcomes name 0 0 (codes "hi")
+-- before its read, and to the end
+pub flushes : (reader : ℕ) → 3 < reader → none_writes name (drop 4 (take reader (calls_in flushing 0))) ≡ true
+    → FlushesLast flushing flushed_outcomes name 0 0 reader (codes "hi")
 unfolding components
-flushes =
+flushes reader later none =
     record {
       slot = 0;
       len = 8;
@@ -154,7 +165,44 @@ flushes =
       buffered = refl;
       written = refl;
       flushed = refl;
+      earlier = later;
+      last = none;
     }
+
+pub flushes_before : FlushesLast flushing flushed_outcomes name 0 0 5 (codes "hi")
+unfolding components
+flushes_before = flushes 5 (omega arith) refl
+
+pub flushes_last : FlushesLast flushing flushed_outcomes name 0 0 6 (codes "hi")
+unfolding components
+flushes_last = flushes 6 (omega arith) refl
+
+pub reads_flushed : GotBytes flushing flushed_outcomes name 0 5 (codes "hi")
+unfolding components
+reads_flushed = record { path = codes "/a"; bound = 4; is = refl; denotes = refl; ends = refl }
+
+-- a read before the flush is none behind it
+pub read_before_is_none : FlushesLast flushing flushed_outcomes name 0 0 2 (codes "hi") → ⊥
+read_before_is_none f = (let early : 0 + 3 < 2 = f.earlier in omega (arith, early))
+
+-- nor is one behind a further whole write
+abbrev pub flushes_and_writes : List Lane
+flushes_and_writes =
+    record {
+      calls = call.OpenFile 0 (record nothing_chosen { write = true; create = true; truncate = true }) (codes "a")
+          ∷ call.Buffer 0 8
+          ∷ call.BufWriteAll 0 (codes "hi")
+          ∷ call.BufFlush 0
+          ∷ call.FsWrite (codes "/a") (codes "ho")
+          ∷ call.FsRead (codes "a") 4
+          ∷ [];
+    }
+    ∷ []
+
+pub written_since_is_none : (outcomes : List (List Outcome))
+    → FlushesLast flushes_and_writes outcomes name 0 0 5 (codes "hi") → ⊥
+unfolding components
+written_since_is_none outcomes f = (let again = f.last in cc)
 
 -- ---- what the record doesn't speak of
 
