@@ -31,6 +31,8 @@ use Rattle.std.specs.Prelude.{slice_get}
 use Rattle.std.proofs.lemmas.Bool.{both_ways}
 use Rattle.std.proofs.lemmas.Bool.Decides.{eqb_tells}
 use Rattle.std.proofs.lemmas.List.{get_or-set_other}
+use Rattle.sftp_model.specs.declared.outcome.Outcome.{Outcome}
+use Rattle.run_laws.proofs.CallEnds.{EndsAt}
 use Rattle.sftp_model.specs.Slots.{slot_at}
 use Rattle.sftp_model.specs.declared.slot.Facts.{Facts}
 use Rattle.sftp_model.specs.declared.slot.Site.{Site}
@@ -44,7 +46,7 @@ use Rattle.session_model.specs.declared.event.Event.TheVariants.{End}
 use Rattle.session_model.specs.Calls.{Setting, call_at, calls_of, current, site_left, site_of}
 use Rattle.session_model.specs.Journals.{IsJournal, MayCome}
 use Rattle.session_model.specs.Readings.{answer, ended, last_cancel, own}
-use Rattle.session_model.proofs.CallLaws.{site_end}
+use Rattle.session_model.proofs.CallLaws.{end_site, ended_end, site_end}
 use Rattle.session_model.proofs.HolderLaws.{IsEnding, ending, may_of}
 use Rattle.run_laws.specs.SlotCalls.{leaves_slot}
 use Rattle.run_laws.proofs.CallMoves.{IsKeptBy}
@@ -150,3 +152,18 @@ slot_stays s (entry.LetGo l ∷ more) before lane slot m c j p le is leaves =
         let both : None ≡ Some d.0 = sym none ∙ plain_call s past lane (ended past lane) d.0 p d.1 in cc
 slot_stays s (entry.Added l d ∷ more) before lane slot m c j p le is leaves = absurd p
 slot_stays s (_ ∷ more) before lane slot m c j p le is leaves = slot_stays s more before lane slot m c j.1 p le is leaves
+
+-- what a call left in the slot stands there as a later call begins
+pub slot_since : (s : Setting) (past : List Entry) (lane slot n m : ℕ) (o : Outcome) (c : Call) (t : EndsAt s past lane n o)
+    → IsJournal s past → IsPlain past → ended past lane ≡ m → given_call s lane m ≡ Some c
+    → LeaveSlot s lane slot (n + 1) m → slot_at (site_of s past lane) slot ≡ slot_at t.site slot
+slot_since s past lane slot n m o c t j p at is leave =
+    let end : Entry = entry.Event (End lane (ended t.before lane) o) in
+    let count : ended (t.more ++ end ∷ t.before) lane ≡ m = ap (λ (l : List Entry). ended l lane) t.is ∙ at in
+    let one : ended (end ∷ t.before) lane ≡ ended t.before lane + 1 = ended_end t.before lane (ended t.before lane) o in
+    let here : ended t.before lane ≡ n = t.at in
+    ap (λ (l : List Entry). slot_at (site_of s l lane) slot) (sym t.is)
+    ∙ (slot_stays s t.more (end ∷ t.before) lane slot m c (subst (IsJournal s) (sym t.is) j)
+    (subst IsPlain (sym t.is) p) (omega (arith, count)) is
+    (λ i d above below call_is. leave i d (omega (arith, above, one, here)) below call_is)
+    ∙ ap (λ (x : Site). slot_at x slot) (end_site s t.before lane o t.site t.calm t.moves))

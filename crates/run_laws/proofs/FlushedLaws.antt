@@ -29,7 +29,6 @@ use Rattle.session_model.specs.Journals.{IsJournal}
 use Rattle.session_model.specs.Readings.{Asked, answer, asked, asked_at, ended, own}
 use Rattle.session_model.specs.Runs.{IsRun}
 use Rattle.session_model.specs.Served.{Serves}
-use Rattle.session_model.proofs.CallLaws.{end_site, ended_end}
 use Rattle.session_model.proofs.CallsSoFar.{calls_so_far}
 use Rattle.session_model.proofs.OverLaws.{runs_are_journals}
 use Rattle.run_laws.specs.CallsAmong.{HasEnded}
@@ -38,7 +37,9 @@ use Rattle.run_laws.specs.Steps.{HasBytes}
 use Rattle.run_laws.proofs.AnewRuns.{LaneOpened, bear_all, opened_left}
 use Rattle.run_laws.proofs.BufferLaws.{AreFlushed, flushed_asks}
 use Rattle.run_laws.proofs.OwnLaws.{has_call, own_listed}
-use Rattle.run_laws.proofs.BetweenLaws.{LeaveSlot, slot_stays}
+use Rattle.run_laws.specs.Flushes.{AreInOrder, FlushNumbers}
+use Rattle.run_laws.proofs.BetweenLaws.{LeaveSlot, slot_since}
+use Rattle.run_laws.proofs.BufferedSites.{BufferedAt, buffered_at}
 use Rattle.run_laws.proofs.BufferedBears.{BearsOpen, bears_there, buffered_bears}
 use Rattle.run_laws.proofs.JournalCalls.{site_began}
 use Rattle.run_laws.specs.Listings.{site_at}
@@ -46,25 +47,30 @@ use Rattle.run_laws.proofs.PlainRuns.{IsPlain, run_plain}
 use Rattle.run_laws.specs.RoundTrips.{outcome_at}
 use Rattle.run_laws.proofs.CallEnds.{EndsAt, ends_at}
 use Rattle.run_laws.proofs.CallRequests.{IsAsked, MayWrite, asked_own, avoids_plain, may_hold, passes_so}
-use Rattle.run_laws.proofs.CallSites.{BufferedAt, answer_since, buffered_at, given_call, journal_at, outcome_at_end, own_since, plain_at, plan_done}
+use Rattle.run_laws.proofs.CallSites.{answer_since, given_call, journal_at, outcome_at_end, own_since, plain_at, plan_done}
 use Rattle.plan_model.specs.CallPlans.{next}
 
--- A lane's call opens the name's file in a slot to be written anew, and the next three buffer it, write bytes to it and flush it. All ended well.
-pub record FlushedCalls (s : Setting) (past : List Entry) (name : Name) (lane k : ℕ) (bytes : List ℕ) : Type 0 where
+-- Calls of a lane with these numbers open the name's file in a slot to be written anew, buffer it, write bytes to it and
+-- flush it. All ended well, and the calls between leave the slot.
+pub record FlushedCalls (s : Setting) (past : List Entry) (name : Name) (lane : ℕ) (n : FlushNumbers) (bytes : List ℕ) : Type 0 where
   pub slot : ℕ
   pub len : ℕ
   pub options : OpenOptions
   pub path : List ℕ
   pub anew : flags_of options ≡ to_replace
   pub denotes : components path ≡ name
-  pub opens : given_call s lane k ≡ Some (call.OpenFile slot options path)
-  pub buffers : given_call s lane (k + 1) ≡ Some (call.Buffer slot len)
-  pub writes : given_call s lane (k + 2) ≡ Some (call.BufWriteAll slot bytes)
-  pub flushes : given_call s lane (k + 3) ≡ Some (call.BufFlush slot)
-  pub opened : outcome_at past lane k ≡ Some outcome.Opened
-  pub buffered : outcome_at past lane (k + 1) ≡ Some outcome.Done
-  pub written : outcome_at past lane (k + 2) ≡ Some outcome.Done
-  pub flushed : outcome_at past lane (k + 3) ≡ Some outcome.Done
+  pub opens : given_call s lane n.opener ≡ Some (call.OpenFile slot options path)
+  pub buffers : given_call s lane n.bufferer ≡ Some (call.Buffer slot len)
+  pub writes : given_call s lane n.writer ≡ Some (call.BufWriteAll slot bytes)
+  pub flushes : given_call s lane n.flusher ≡ Some (call.BufFlush slot)
+  pub opened : outcome_at past lane n.opener ≡ Some outcome.Opened
+  pub buffered : outcome_at past lane n.bufferer ≡ Some outcome.Done
+  pub written : outcome_at past lane n.writer ≡ Some outcome.Done
+  pub flushed : outcome_at past lane n.flusher ≡ Some outcome.Done
+  pub order : AreInOrder n
+  pub leave_open : LeaveSlot s lane slot (n.opener + 1) n.bufferer
+  pub leave_buffer : LeaveSlot s lane slot (n.bufferer + 1) n.writer
+  pub leave_written : LeaveSlot s lane slot (n.writer + 1) n.flusher
 
 -- ---- a call that ended, with what it left
 
@@ -146,15 +152,8 @@ written_then_flushed s past lane n m slot bytes j p later writes flushes written
 
     same : slot_at (site_of s second.before lane) slot ≡ slot_at wrote.left slot
     same =
-        let end : Entry = entry.Event (End lane (ended first.before lane) outcome.Done) in
-        let at : ended (first.more ++ end ∷ first.before) lane ≡ m = ap (λ (l : List Entry). ended l lane) first.is ∙ second.at in
-        let one : ended (end ∷ first.before) lane ≡ ended first.before lane + 1 = ended_end first.before lane (ended first.before lane) outcome.Done in
-        let here : ended first.before lane ≡ n = first.at in
-        ap (λ (l : List Entry). slot_at (site_of s l lane) slot) (sym first.is)
-        ∙ (slot_stays s first.more (end ∷ first.before) lane slot m (call.BufFlush slot) (subst (IsJournal s) (sym first.is) j2)
-        (subst IsPlain (sym first.is) p2) (omega (arith, at)) flushes
-        (λ i d above below is. leave i d (omega (arith, above, one, here)) below is)
-        ∙ ap (λ (x : Site). slot_at x slot) (end_site s first.before lane outcome.Done first.site first.calm first.moves ∙ sym wrote_so.1))
+        slot_since s second.before lane slot n m outcome.Done (call.BufFlush slot) first j2 p2 second.at flushes leave
+        ∙ ap (λ (x : Site). slot_at x slot) (sym wrote_so.1)
 
 -- what the lane held as the first of two calls began
 pub first_began : (s : Setting) (past : List Entry) (lane n m slot : ℕ) (bytes : List ℕ)
@@ -180,28 +179,28 @@ first_began s past lane n m slot bytes t =
 -- ---- what was opened, written and flushed
 
 -- The call's OPEN of the name, the requests of the call that writes, which bear its grant, and what the flush says of them.
-pub record IsFlushed (s : Setting) (past : List Entry) (name : Name) (lane k : ℕ) (bytes : List ℕ) : Type 0 where
+pub record IsFlushed (s : Setting) (past : List Entry) (name : Name) (lane : ℕ) (n : FlushNumbers) (bytes : List ℕ) : Type 0 where
   pub w : ℕ × Request
-  pub opened : LaneOpened s past name lane k (k + 2) w (own past lane (k + 2))
-  pub bears : (place : ℕ) (a : Asked) → is_of_call past (lane, k + 2) place ≡ true → asked_at past place ≡ Some a
+  pub opened : LaneOpened s past name lane n.opener n.writer w (own past lane n.writer)
+  pub bears : (place : ℕ) (a : Asked) → is_of_call past (lane, n.writer) place ≡ true → asked_at past place ≡ Some a
       → BearsOpen s past w.0 opened.handle place a.request
-  pub asked : AreFlushed opened.handle 0 bytes (answer past) (own past lane (k + 2))
+  pub asked : AreFlushed opened.handle 0 bytes (answer past) (own past lane n.writer)
 
-pub is_flushed : (s : Setting) (past : List Entry) (name : Name) (lane k : ℕ) (bytes : List ℕ) → IsJournal s past
+pub is_flushed : (s : Setting) (past : List Entry) (name : Name) (lane : ℕ) (n : FlushNumbers) (bytes : List ℕ) → IsJournal s past
     → IsPlain past → list_all (may_hold name) (lane_calls s past lane) ≡ true
-    → ((other : ℕ) → other ≢ lane → KeepsOff past name other) → FlushedCalls s past name lane k bytes
-    → IsFlushed s past name lane k bytes
-is_flushed s past name lane k bytes j p own_calls others f =
+    → ((other : ℕ) → other ≢ lane → KeepsOff past name other) → FlushedCalls s past name lane n bytes
+    → IsFlushed s past name lane n bytes
+is_flushed s past name lane n bytes j p own_calls others f =
     record {
       w = ba.w;
       opened = opened;
       bears = λ place a mine is. bears place a mine is;
       asked =
-          subst (λ (n : ℕ). AreFlushed ba.handle n bytes (answer past) (own past lane (k + 2))) ba.start
+          subst (λ (at : ℕ). AreFlushed ba.handle at bytes (answer past) (own past lane n.writer)) ba.start
           (flushed_asks (answer past) f.slot ba.file ba.buffer bytes (site_of s t2.before lane) (site_of s t3.before lane) s.facts s.facts
-          (own past lane (k + 2)) (own past lane (k + 3)) ba.handle
-          (bear_all past (asked past) lane (k + 2) ba.handle (own past lane (k + 2)) (own_listed past lane (k + 2)).1
-          (λ place has. has_call past lane (k + 2) place (own past lane (k + 2)) refl has)
+          (own past lane n.writer) (own past lane n.flusher) ba.handle
+          (bear_all past (asked past) lane n.writer ba.handle (own past lane n.writer) (own_listed past lane n.writer).1
+          (λ place has. has_call past lane n.writer place (own past lane n.writer) refl has)
           (λ place a mine is. (bears place a mine is).0))
           ba.there two.wrote two.same two.flush);
     }
@@ -209,50 +208,60 @@ is_flushed s past name lane k bytes j p own_calls others f =
     c2 : Call
     c2 = call.BufWriteAll f.slot bytes
 
-    two : WrittenThenFlushed s past lane (k + 2) (k + 3) f.slot bytes
-    two = written_then_flushed s past lane (k + 2) (k + 3) f.slot bytes j p (omega arith) f.writes f.flushes f.written f.flushed
-        (λ i d above below is. absurd (omega (arith, above, below)))
+    to_writer : n.opener < n.writer
+    to_writer = let a : n.opener < n.bufferer = f.order.0 in let b : n.bufferer < n.writer = f.order.1 in omega (arith, a, b)
 
-    t3 : EndsAt s past lane (k + 3) outcome.Done
+    to_flusher : n.opener < n.flusher
+    to_flusher = let a : n.opener < n.writer = to_writer in let b : n.writer < n.flusher = f.order.2 in omega (arith, a, b)
+
+    buffered_first : n.bufferer < n.flusher
+    buffered_first = let a : n.bufferer < n.writer = f.order.1 in let b : n.writer < n.flusher = f.order.2 in omega (arith, a, b)
+
+    two : WrittenThenFlushed s past lane n.writer n.flusher f.slot bytes
+    two = written_then_flushed s past lane n.writer n.flusher f.slot bytes j p f.order.2 f.writes f.flushes f.written f.flushed
+        f.leave_written
+
+    t3 : EndsAt s past lane n.flusher outcome.Done
     t3 = two.second
 
     j3 : IsJournal s t3.before
-    j3 = journal_at s past lane (k + 3) outcome.Done t3 j
+    j3 = journal_at s past lane n.flusher outcome.Done t3 j
 
     p3 : IsPlain t3.before
-    p3 = plain_at s past lane (k + 3) outcome.Done t3 p
+    p3 = plain_at s past lane n.flusher outcome.Done t3 p
 
-    t2 : EndsAt s t3.before lane (k + 2) outcome.Done
+    t2 : EndsAt s t3.before lane n.writer outcome.Done
     t2 = two.first
 
-    ba : BufferedAt s t2.before lane k f.slot (flags_of f.options) f.path
+    ba : BufferedAt s t2.before lane n.opener f.slot (flags_of f.options) f.path
     ba =
-        buffered_at s t2.before lane k f.slot f.options f.path f.len c2
-        (journal_at s t3.before lane (k + 2) outcome.Done t2 j3)
-        (plain_at s t3.before lane (k + 2) outcome.Done t2 p3) t2.at f.opens f.buffers f.writes
-        (outcome_at_end s t3.before lane (k + 2) k outcome.Done outcome.Opened t2 (omega arith)
-        (outcome_at_end s past lane (k + 3) k outcome.Done outcome.Opened t3 (omega arith) f.opened))
-        (outcome_at_end s t3.before lane (k + 2) (k + 1) outcome.Done outcome.Done t2 (omega arith)
-        (outcome_at_end s past lane (k + 3) (k + 1) outcome.Done outcome.Done t3 (omega arith) f.buffered))
+        buffered_at s t2.before lane n.opener n.bufferer n.writer f.slot f.options f.path f.len c2
+        (journal_at s t3.before lane n.writer outcome.Done t2 j3)
+        (plain_at s t3.before lane n.writer outcome.Done t2 p3) t2.at f.order.0 f.order.1 f.opens f.buffers f.writes
+        (outcome_at_end s t3.before lane n.writer n.opener outcome.Done outcome.Opened t2 to_writer
+        (outcome_at_end s past lane n.flusher n.opener outcome.Done outcome.Opened t3 to_flusher f.opened))
+        (outcome_at_end s t3.before lane n.writer n.bufferer outcome.Done outcome.Done t2 f.order.1
+        (outcome_at_end s past lane n.flusher n.bufferer outcome.Done outcome.Done t3 buffered_first f.buffered))
+        f.leave_open f.leave_buffer
 
-    asked_open : own past lane k ≡ ba.w ∷ []
-    asked_open = own_since s past lane (k + 3) k outcome.Done t3 j (omega arith)
-        ∙ (own_since s t3.before lane (k + 2) k outcome.Done t2 j3 (omega arith) ∙ ba.opens)
+    asked_open : own past lane n.opener ≡ ba.w ∷ []
+    asked_open = own_since s past lane n.flusher n.opener outcome.Done t3 j (omega (arith, to_flusher))
+        ∙ (own_since s t3.before lane n.writer n.opener outcome.Done t2 j3 (omega (arith, to_writer)) ∙ ba.opens)
 
     came : answer past ba.w.0 ≡ Some (reply.Handle ba.handle)
-    came = answer_since s past lane (k + 3) outcome.Done t3 j ba.w.0 (reply.Handle ba.handle)
-        (answer_since s t3.before lane (k + 2) outcome.Done t2 j3 ba.w.0 (reply.Handle ba.handle) ba.came)
+    came = answer_since s past lane n.flusher outcome.Done t3 j ba.w.0 (reply.Handle ba.handle)
+        (answer_since s t3.before lane n.writer outcome.Done t2 j3 ba.w.0 (reply.Handle ba.handle) ba.came)
 
     lanes : IsOfLane past name lane
     lanes =
         record {
           others = others;
-          by_opens = λ place n a is mine plain. (let x : IsAsked name s past lane n place a.request =
-              asked_own name s past lane n place a j own_calls is mine in
+          by_opens = λ place i a is mine plain. (let x : IsAsked name s past lane i place a.request =
+              asked_own name s past lane i place a j own_calls is mine in
               avoids_plain s past name place x.c a.request x.asks plain);
         }
 
-    opened : LaneOpened s past name lane k (k + 2) ba.w (own past lane (k + 2))
+    opened : LaneOpened s past name lane n.opener n.writer ba.w (own past lane n.writer)
     opened =
         record {
           lanes = lanes;
@@ -262,17 +271,17 @@ is_flushed s past name lane k bytes j p own_calls others f =
           denotes = f.denotes;
           handle = ba.handle;
           came = came;
-          in_turn = omega arith;
+          in_turn = to_writer;
           asks = refl;
         }
 
     -- a request of the call that writes
-    bears : (place : ℕ) (a : Asked) → is_of_call past (lane, k + 2) place ≡ true → asked_at past place ≡ Some a
+    bears : (place : ℕ) (a : Asked) → is_of_call past (lane, n.writer) place ≡ true → asked_at past place ≡ Some a
         → BearsOpen s past ba.w.0 ba.handle place a.request
     bears place a mine is =
         subst (λ (g : ℕ). BearsOpen s past g ba.handle place a.request) ba.grant
-        (buffered_bears s past lane (k + 2) f.slot bytes ba.handle ba.file ba.buffer j p f.writes
-        (ap (λ (x : Site). slot_at x f.slot) (first_began s past lane (k + 2) (k + 3) f.slot bytes two) ∙ ba.there)
+        (buffered_bears s past lane n.writer f.slot bytes ba.handle ba.file ba.buffer j p f.writes
+        (ap (λ (x : Site). slot_at x f.slot) (first_began s past lane n.writer n.flusher f.slot bytes two) ∙ ba.there)
         (ap (answer past) ba.grant ∙ came) place a mine is)
 
 -- what a lane's calls ask that may not write the name passes it by
@@ -294,19 +303,19 @@ held_passes s past name lane n place j own_calls mine spares = by_asked (asked_a
 -- ---- what is left
 
 pub flush_left : (s : Setting) (turns : List Turn) (past : List Entry) (config : ServerConfig) (choices : List Choice)
-    (tree left : FileTree) (name : Name) (lane k : ℕ) (bytes : List ℕ) → IsRun s turns past → IsWellFormed tree
+    (tree left : FileTree) (name : Name) (lane : ℕ) (n : FlushNumbers) (bytes : List ℕ) → IsRun s turns past → IsWellFormed tree
     → Serves config choices tree past left
     → list_all (may_hold name) (lane_calls s past lane) ≡ true → ((other : ℕ) → other ≢ lane → KeepsOff past name other)
-    → ((n : ℕ) (c : Call) → k < n → n ≢ k + 2 → call_at s past lane n ≡ Some c → MayWrite name c → ⊥)
-    → FlushedCalls s past name lane k bytes → HasBytes left name bytes
-flush_left s turns past config choices tree left name lane k bytes run well served own_calls others spares f =
-    opened_left s config choices tree left turns past name lane k (k + 2) b.w (own past lane (k + 2)) bytes run served well b.opened
-    (λ place n above ne mine. held_passes s past name lane n place j own_calls mine (λ c is. spares n c above ne is))
+    → ((i : ℕ) (c : Call) → n.opener < i → i ≢ n.writer → call_at s past lane i ≡ Some c → MayWrite name c → ⊥)
+    → FlushedCalls s past name lane n bytes → HasBytes left name bytes
+flush_left s turns past config choices tree left name lane n bytes run well served own_calls others spares f =
+    opened_left s config choices tree left turns past name lane n.opener n.writer b.w (own past lane n.writer) bytes run served well b.opened
+    (λ place i above ne mine. held_passes s past name lane i place j own_calls mine (λ c is. spares i c above ne is))
     (λ place a mine is. (b.bears place a mine is).0)
-    (λ place mine. (bears_there s past lane (k + 2) b.w.0 b.opened.handle b.bears place mine).1) b.asked
+    (λ place mine. (bears_there s past lane n.writer b.w.0 b.opened.handle b.bears place mine).1) b.asked
   where
     j : IsJournal s past
     j = runs_are_journals s turns past run
 
-    b : IsFlushed s past name lane k bytes
-    b = is_flushed s past name lane k bytes j (run_plain s turns past run) own_calls others f
+    b : IsFlushed s past name lane n bytes
+    b = is_flushed s past name lane n bytes j (run_plain s turns past run) own_calls others f

@@ -1,5 +1,5 @@
 -- A lane reads what it wrote to a file that it opened anew, buffered and flushed.
-use Rattle.std.proofs.Common.{◌≡◌, ◌≢◌, ◌<◌, ◌≤◌, ◌+◌, ℕ, true, List, [], ◌∷◌, Some, refl, subst, arith, inl}
+use Rattle.std.proofs.Common.{◌≡◌, ◌≢◌, ◌<◌, ◌≤◌, ℕ, true, List, [], ◌∷◌, Some, refl, subst, arith, inl}
 use Rattle.std.specs.List.{list_all}
 use Rattle.sftp_model.specs.declared.config.Choice.{Choice}
 use Rattle.sftp_model.specs.declared.config.ServerConfig.{ServerConfig}
@@ -19,6 +19,7 @@ use Rattle.session_model.specs.Runs.{IsRun}
 use Rattle.session_model.specs.Served.{Serves}
 use Rattle.session_model.proofs.OverLaws.{runs_are_journals}
 use Rattle.run_laws.specs.CallsAmong.{GivesUnless}
+use Rattle.run_laws.specs.Flushes.{FlushNumbers}
 use Rattle.run_laws.specs.InJournals.{KeepsOff}
 use Rattle.run_laws.specs.Steps.{AreAllowed, FeignsNoEnd}
 use Rattle.run_laws.proofs.AnewBack.{anew_back}
@@ -32,31 +33,34 @@ use Rattle.run_laws.proofs.RoundTripLaws.{Did}
 
 -- A read behind the flush gives the bytes, unless a request of it was refused by one of these choices, where no other call between writes the name.
 pub flushed_reads : (allowed : Choice → Type 0) (s : Setting) (turns : List Turn) (past : List Entry)
-    (config : ServerConfig) (choices : List Choice) (tree left : FileTree) (name : Name) (lane k reader : ℕ)
-    (bytes path : List ℕ) (bound : ℕ) (ended : Outcome) → ((c : Choice) → allowed c → FeignsNoEnd c) → IsRun s turns past
+    (config : ServerConfig) (choices : List Choice) (tree left : FileTree) (name : Name) (lane : ℕ)
+    (n : FlushNumbers) (reader : ℕ) (bytes path : List ℕ) (bound : ℕ) (ended : Outcome) → ((c : Choice) → allowed c → FeignsNoEnd c) → IsRun s turns past
     → 1 ≤ s.facts.read_len → IsWellFormed tree → Serves config choices tree past left → AreAllowed allowed choices
     → list_all (may_hold name) (lane_calls s past lane) ≡ true → ((other : ℕ) → other ≢ lane → KeepsOff past name other)
-    → ((n : ℕ) (c : Call) → k < n → n < reader → n ≢ k + 2 → call_at s past lane n ≡ Some c → MayWrite name c → ⊥)
-    → k + 3 < reader → FlushedCalls s past name lane k bytes
+    → ((i : ℕ) (c : Call) → n.opener < i → i < reader → i ≢ n.writer → call_at s past lane i ≡ Some c → MayWrite name c → ⊥)
+    → n.flusher < reader → FlushedCalls s past name lane n bytes
     → Did (call.FsRead path bound) s past name lane reader path ended → GivesUnless allowed ended bytes
-flushed_reads allowed s turns past config choices tree left name lane k reader bytes path bound ended honest run some well
+flushed_reads allowed s turns past config choices tree left name lane n reader bytes path bound ended honest run some well
     served among own_calls others spares later f d =
     subst (λ (x : List ℕ). GivesUnless allowed ended x) b.asked.all
-    (anew_back allowed s config choices tree left turns past name lane k (k + 2) reader b.w d.first (own past lane (k + 2)) d.later
-    path bound d.site s.facts ended honest run served among well b.opened (omega (arith, later)) d.asks
-    (λ place n above below ne mine. held_passes s past name lane n place j own_calls mine (λ c is. spares n c above below ne is))
+    (anew_back allowed s config choices tree left turns past name lane n.opener n.writer reader b.w d.first (own past lane n.writer) d.later
+    path bound d.site s.facts ended honest run served among well b.opened writer_first d.asks
+    (λ place i above below ne mine. held_passes s past name lane i place j own_calls mine (λ c is. spares i c above below ne is))
     b.asked.asks b.asked.said
-    (with_call_well s past lane k (k + 2) b.w.0 b.opened.handle j asker b.opened.came
+    (with_call_well s past lane n.opener n.writer b.w.0 b.opened.handle j asker b.opened.came
     (λ place a mine is. (b.bears place a mine is).0)
-    (λ place mine. (bears_there s past lane (k + 2) b.w.0 b.opened.handle b.bears place mine).0)
-    (λ place mine. (bears_there s past lane (k + 2) b.w.0 b.opened.handle b.bears place mine).1))
+    (λ place mine. (bears_there s past lane n.writer b.w.0 b.opened.handle b.bears place mine).0)
+    (λ place mine. (bears_there s past lane n.writer b.w.0 b.opened.handle b.bears place mine).1))
     d.denotes some d.did)
   where
     j : IsJournal s past
     j = runs_are_journals s turns past run
 
-    b : IsFlushed s past name lane k bytes
-    b = is_flushed s past name lane k bytes j (run_plain s turns past run) own_calls others f
+    b : IsFlushed s past name lane n bytes
+    b = is_flushed s past name lane n bytes j (run_plain s turns past run) own_calls others f
 
-    asker : is_asked_by (asked_at past b.w.0) lane k ≡ true
-    asker = has_call past lane k b.w.0 (b.w ∷ []) b.opened.opens (inl refl)
+    asker : is_asked_by (asked_at past b.w.0) lane n.opener ≡ true
+    asker = has_call past lane n.opener b.w.0 (b.w ∷ []) b.opened.opens (inl refl)
+
+    writer_first : n.writer < reader
+    writer_first = let lt : n.writer < n.flusher = f.order.2 in omega (arith, lt, later)

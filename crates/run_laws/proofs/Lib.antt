@@ -13,6 +13,7 @@ pub mod BufferLaws
 pub mod BufferStays
 pub mod BufferedMoves
 pub mod BufferedBears
+pub mod BufferedSites
 pub mod CallEnds
 pub mod PartMoves
 pub mod CallMoves

@@ -6,7 +6,7 @@ use Rattle.machine_model.specs.Components.{Name}
 use Rattle.machine_model.specs.FileTree.{FileTree, node_at}
 use Rattle.plan_model.specs.declared.call.Lane.{Lane}
 use Rattle.run_laws.specs.Steps.{HasBytes}
-use Rattle.run_laws.specs.Flushes.{FlushesLast, IsAloneBut}
+use Rattle.run_laws.specs.Flushes.{FlushNumbers, FlushesLast, IsAloneBut}
 use Rattle.run_laws.specs.NameCalls.{none_writes}
 use Rattle.run_laws.specs.ReadsBack.{IsAlone, WritesLast, calls_in}
 
@@ -20,5 +20,5 @@ pub record LeavesFiles (lanes : List Lane) (tree left : FileTree) (outcomes : Li
       → none_writes name (calls_in lanes lane) ≡ true → HasBytes tree name bytes → HasBytes left name bytes
   pub as_begun : (name : Name) (lane : ℕ) → IsAlone lanes name lane
       → none_writes name (calls_in lanes lane) ≡ true → node_at left name ≡ node_at tree name
-  pub flushed : (name : Name) (lane k : ℕ) (bytes : List ℕ) → IsAloneBut lanes name lane k
-      → FlushesLast lanes outcomes name lane k (length (calls_in lanes lane)) bytes → HasBytes left name bytes
+  pub flushed : (name : Name) (lane : ℕ) (n : FlushNumbers) (bytes : List ℕ) → IsAloneBut lanes name lane n
+      → FlushesLast lanes outcomes name lane n (length (calls_in lanes lane)) bytes → HasBytes left name bytes

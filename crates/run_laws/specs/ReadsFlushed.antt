@@ -6,7 +6,7 @@ use Rattle.sftp_model.specs.declared.outcome.Outcome.{Outcome}
 use Rattle.machine_model.specs.Components.{Name}
 use Rattle.plan_model.specs.declared.call.Lane.{Lane}
 use Rattle.run_laws.specs.CallsAmong.{Gives}
-use Rattle.run_laws.specs.Flushes.{FlushesLast, IsAloneBut}
+use Rattle.run_laws.specs.Flushes.{FlushNumbers, FlushesLast, IsAloneBut}
 use Rattle.run_laws.specs.ReadsBack.{GotBytes, Reads}
 use Rattle.run_laws.specs.Steps.{FeignNoEnd, RefuseNone}
 
@@ -15,10 +15,11 @@ use Rattle.run_laws.specs.Steps.{FeignNoEnd, RefuseNone}
 -- as a whole gives these bytes. Where the choices refuse requests, and none feigns an end, a read may be refused, but
 -- the bytes that one gave are those.
 pub record ReadsFlushed (lanes : List Lane) (choices : List Choice) (outcomes : List (List Outcome)) : Type 0 where
-  pub flushed : (name : Name) (lane k reader : ℕ) (bytes : List ℕ) (ended : Outcome) → RefuseNone choices
-      → IsAloneBut lanes name lane k
-      → FlushesLast lanes outcomes name lane k reader bytes → Reads lanes outcomes name lane reader ended
+  pub flushed : (name : Name) (lane : ℕ) (n : FlushNumbers) (reader : ℕ) (bytes : List ℕ) (ended : Outcome)
+      → RefuseNone choices
+      → IsAloneBut lanes name lane n
+      → FlushesLast lanes outcomes name lane n reader bytes → Reads lanes outcomes name lane reader ended
       → Gives ended bytes
-  pub got_flushed : (name : Name) (lane k reader : ℕ) (bytes got : List ℕ) → FeignNoEnd choices
-      → IsAloneBut lanes name lane k
-      → FlushesLast lanes outcomes name lane k reader bytes → GotBytes lanes outcomes name lane reader got → got ≡ bytes
+  pub got_flushed : (name : Name) (lane : ℕ) (n : FlushNumbers) (reader : ℕ) (bytes got : List ℕ) → FeignNoEnd choices
+      → IsAloneBut lanes name lane n
+      → FlushesLast lanes outcomes name lane n reader bytes → GotBytes lanes outcomes name lane reader got → got ≡ bytes
