@@ -1,24 +1,6 @@
 -- Worked lanes and outcomes: names that are one lane's alone, what was written and read under one, and names that are
 -- no lane's alone.
-use Rattle.std.specs.Prelude.{
-  ◌≡◌,
-  ◌≢◌,
-  ◌<◌,
-  ℕ,
-  zero,
-  suc,
-  true,
-  false,
-  List,
-  Some,
-  [],
-  ◌∷◌,
-  codes,
-  drop,
-  length,
-  refl,
-  take,
-}
+use Rattle.std.specs.Prelude.{◌≡◌, ◌≢◌, ◌<◌, ℕ, zero, suc, true, false, List, Some, [], ◌∷◌, codes, length, refl}
 use Rattle.std.proofs.Common.{arith, subst}
 use Rattle.ssh_encoding.specs.Writing.{string, uint32}
 use Rattle.sftp_model.specs.Frames.{attributes, no_attributes, request_body}
@@ -34,7 +16,7 @@ use Rattle.session_model.specs.RowWords.{to_read}
 use Rattle.run_laws.specs.ReadBackRows.{name}
 use Rattle.run_laws.specs.Steps.{HasBytes, RefuseNone}
 use Rattle.run_laws.specs.Flushes.{FlushNumbers, FlushesLast, IsAloneBut, is_one_of_four}
-use Rattle.run_laws.specs.NameCalls.{all_keep_off, may_own, none_writes}
+use Rattle.run_laws.specs.NameCalls.{all_keep_off, may_own}
 use Rattle.run_laws.specs.ReadsBack.{GotBytes, IsAlone, Reads, WritesLast, call_in, calls_in}
 use Rattle.run_laws.specs.RoundTripRows.{left_there}
 use Rattle.run_laws.specs.RoundTripRun.{no_such_file, writes_then_reads, written_then_read}
@@ -179,10 +161,9 @@ flushing_alone = record { own = own; others = others }
     others (suc other) ne = refl
 
 -- before its read, and to the end
-pub flushes : (reader : ℕ) → 4 < reader → none_writes name (drop 1 (take reader (calls_in flushing 0))) ≡ true
-    → FlushesLast flushing flushed_outcomes name 0 four reader (codes "hi")
+pub flushes_before : FlushesLast flushing flushed_outcomes name 0 four 5 (codes "hi")
 unfolding components
-flushes reader later none =
+flushes_before =
     record {
       slot = 0;
       len = 8;
@@ -199,17 +180,32 @@ flushes reader later none =
       written = refl;
       flushed = refl;
       in_order = (omega arith, omega arith, omega arith);
-      earlier = later;
-      last = none;
+      earlier = omega arith;
+      last = refl;
     }
-
-pub flushes_before : FlushesLast flushing flushed_outcomes name 0 four 5 (codes "hi")
-unfolding components
-flushes_before = flushes 5 (omega arith) refl
 
 pub flushes_last : FlushesLast flushing flushed_outcomes name 0 four 6 (codes "hi")
 unfolding components
-flushes_last = flushes 6 (omega arith) refl
+flushes_last =
+    record {
+      slot = 0;
+      len = 8;
+      options = record nothing_chosen { write = true; create = true; truncate = true };
+      path = codes "a";
+      anew = refl;
+      denotes = refl;
+      opens = refl;
+      buffers = refl;
+      writes = refl;
+      flushes = refl;
+      opened = refl;
+      buffered = refl;
+      written = refl;
+      flushed = refl;
+      in_order = (omega arith, omega arith, omega arith);
+      earlier = omega arith;
+      last = refl;
+    }
 
 pub reads_flushed : GotBytes flushing flushed_outcomes name 0 5 (codes "hi")
 unfolding components
