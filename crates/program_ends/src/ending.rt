@@ -1,17 +1,17 @@
-// How the program ends, and with which status.
+//! How a program ends, and with which status.
 ghost use Rattle.std.specs.Prelude.{◌≡◌};
 ghost use Rattle.std.specs.Option.{option_copied};
-ghost use Rattle.sftp_cli.specs.Ended.{status_of};
-ghost use Rattle.sftp_cli.specs.Words.{cause_of};
-ghost use Rattle.sftp_cli.specs.declared.ending.Failure.TheVariants as failure;
+ghost use Rattle.program_ends.specs.Ended.{status_of};
+ghost use Rattle.program_ends.specs.Texts.{cause_of};
+ghost use Rattle.program_ends.specs.declared.ending.Failure.TheVariants as failure;
 
 use ssh_encoding::OutOfMemory;
 
 /// The status where memory ran out.
-pub(crate) const OUT_OF_MEMORY: u8 = 5;
+pub const OUT_OF_MEMORY: u8 = 5;
 
 /// The status where the dial gave no link.
-pub(crate) const NO_LINK: u8 = 6;
+pub const NO_LINK: u8 = 6;
 
 /// What an answer says that was written whole.
 #[derive(Clone, Copy, Debug, PartialEq, Eq)]
@@ -20,7 +20,7 @@ pub enum Answered {
     Done,
     /// An error stopped the session.
     Stopped,
-    /// The script or the words can't be used.
+    /// What was read, or the words, can't be used.
     Refused,
 }
 
@@ -37,8 +37,9 @@ pub enum Failure {
     DialFailed,
 }
 
-/// The status to end with.
-pub(crate) fn status_of(end: Result<Answered, Failure>) -> u8
+/// The status to end with: 0 where all was done, 1 where an error stopped the session, 2 where what was read or the words
+/// can't be used, 3 where the source failed, 4 where the sink did, 5 for want of memory, and 6 where the dial failed.
+pub fn status_of(end: Result<Answered, Failure>) -> u8
     ensures { result ≡ status_of end }
 {
     match end {
@@ -52,8 +53,8 @@ pub(crate) fn status_of(end: Result<Answered, Failure>) -> u8
     }
 }
 
-/// What standard error is told of a status: why no answer was written whole.
-pub(crate) fn cause_of(status: u8) -> Option<&'static str>
+/// What standard error is told of a status: why no answer was written whole. None for those of an answer.
+pub fn cause_of(status: u8) -> Option<&'static str>
     ensures { option_copied result ≡ cause_of status }
 {
     match status {

@@ -1,36 +1,5 @@
 -- The lines of a server's files and directories, up to one of them.
-use Rattle.std.proofs.Common.{
-  ◌≡◌,
-  ◌<◌,
-  ◌≤◌,
-  ℕ,
-  zero,
-  suc,
-  get_or,
-  append-nil,
-  ◌+◌,
-  ◌-◌,
-  ◌^◌,
-  min,
-  Bool,
-  true,
-  false,
-  List,
-  [],
-  ◌∷◌,
-  ◌++◌,
-  filter,
-  length,
-  take,
-  refl,
-  ap,
-  sym,
-  ◌∙◌,
-  append_assoc,
-  arith,
-  if◌then◌else◌,
-  add-one,
-}
+use Rattle.std.proofs.Common.{◌≡◌, ◌<◌, ◌≤◌, ℕ, zero, suc, get_or, append-nil, ◌+◌, Bool, true, false, List, [], ◌∷◌, ◌++◌, filter, length, take, refl, ap, sym, ◌∙◌, append_assoc, arith, if◌then◌else◌, add-one}
 use Rattle.std.specs.Prelude.{Option}
 use Rattle.std.specs.List.{flat_map}
 use Rattle.std.specs.Option.{option_map}
@@ -44,7 +13,7 @@ use Rattle.machine_model.specs.NameRequests.{is_before}
 use Rattle.machine_model.specs.declared.node.Node.{Node}
 use Rattle.machine_model.specs.declared.node.Node.TheVariants as node
 use Rattle.sftp_text.specs.Texts.{dir_lines, dir_text, file_lines, file_text}
-use Rattle.sftp_mirror.specs.Printed.{dir_text_of, file_text_of}
+use Rattle.program_ends.specs.Texts.{dir_text_of, file_text_of}
 
 -- the first k lines
 abbrev lines_below : (ℕ → List ℕ) → ℕ → List ℕ
@@ -73,10 +42,10 @@ dir_step old mid new tree k h n = line_step old mid new (λ i. dir_text_of (dir_
 
 -- ---- all of them
 
-abbrev Pair : Type 0
+abbrev pub Pair : Type 0
 Pair = Name × Node
 
-nowhere : Pair
+pub nowhere : Pair
 nowhere = ([], node.Directory)
 
 below_is : (xs : List Pair) (line : ℕ → List ℕ) (text : Pair → List ℕ) (k : ℕ)
@@ -125,7 +94,7 @@ one_more test pair xs ys h = by_test (test pair)
     by_test true = ap suc h
     by_test false = h
 
-counted : (test : Pair → Bool) (pairs : List Pair) → length (filter test (in_name_order pairs)) ≡ length (filter test pairs)
+pub counted : (test : Pair → Bool) (pairs : List Pair) → length (filter test (in_name_order pairs)) ≡ length (filter test pairs)
 counted test [] = refl
 counted test (pair ∷ pairs) = counted_in test pair (in_name_order pairs) ∙ one_more test pair (in_name_order pairs) pairs (counted test pairs)
 

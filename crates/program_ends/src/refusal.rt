@@ -1,8 +1,7 @@
-// The lines that say why a script is refused, and with which error a run stopped.
+//! The lines that say why a source is refused, and with which error a run stopped.
 ghost use Rattle.std.specs.Prelude.{◌≡◌, IfOk};
 ghost use Rattle.std.specs.Option.{option_copied};
-ghost use Rattle.sftp_cli.specs.Dialled.{error_line, error_name};
-ghost use Rattle.sftp_cli.specs.Printed.{reason_word, refusal_line};
+ghost use Rattle.program_ends.specs.Texts.{error_line, error_name, reason_word, refusal_line};
 
 use itoa::Buffer;
 use sftp_model::Error;
@@ -28,9 +27,9 @@ pub(crate) fn reason_word(why: Reason) -> &'static str
     }
 }
 
-/// The line that says which line is refused, and why.
+/// The line that says which line is refused, and why: `line N REASON`. The error is want of memory.
 #[tactic(auto, using(sftp_wire::proofs::Puts::puts, sftp_text::proofs::TextLaws::number_decimal))]
-pub(crate) fn refusal_line(alloc: Global, number: u64, why: Reason) -> Result<Vec<u8>, OutOfMemory>
+pub fn refusal_line(alloc: Global, number: u64, why: Reason) -> Result<Vec<u8>, OutOfMemory>
     ensures { IfOk result (λ text. text.items ≡ refusal_line number why) }
 {
     let mut digits = Buffer::new();
@@ -43,7 +42,7 @@ pub(crate) fn refusal_line(alloc: Global, number: u64, why: Reason) -> Result<Ve
 }
 
 /// The name of an error that stops a run; None for want of memory, which has a status of its own.
-pub(crate) fn error_name(error: &Error) -> Option<&'static str>
+pub fn error_name(error: &Error) -> Option<&'static str>
     ensures { option_copied result ≡ error_name error.now }
 {
     match error {
@@ -62,9 +61,9 @@ pub(crate) fn error_name(error: &Error) -> Option<&'static str>
     }
 }
 
-/// The line that names the error with which a run stopped.
+/// The line that names the error with which a run stopped: `error NAME`. The error is want of memory.
 #[tactic(auto, using(sftp_wire::proofs::Puts::puts))]
-pub(crate) fn error_line(alloc: Global, name: &str) -> Result<Vec<u8>, OutOfMemory>
+pub fn error_line(alloc: Global, name: &str) -> Result<Vec<u8>, OutOfMemory>
     ensures { IfOk result (λ text. text.items ≡ error_line name.now) }
 {
     let mut text = Vec::from_slice(alloc, b"error ")?;

@@ -1,12 +1,12 @@
 -- What was written of an answer, and where a program ends that only writes.
-use Rattle.std.proofs.Common.{◌≡◌, ◌≢◌, ℕ, List, inl, inr, refl, sym, subst}
-use Rattle.std.specs.Prelude.{Option, Some, None, Result, Ok, Err, IfErr}
+use Rattle.std.proofs.Common.{◌≡◌, ℕ, List, inl, inr, refl, sym, subst}
+use Rattle.std.specs.Prelude.{Option, Some, None, Ok, Err, IfErr}
 use Rattle.sftp_link.specs.Told.{Told, Same}
 use Rattle.sftp_link.specs.Views.{SinkView}
-use Rattle.sftp_cli.specs.declared.ending.Answered.{Answered}
-use Rattle.sftp_cli.specs.declared.ending.Failure.{Failure}
-use Rattle.sftp_cli.specs.declared.ending.Failure.TheVariants.{SourceFailed, SinkFailed, OutOfMemory, DialFailed}
-use Rattle.sftp_cli.specs.Ended.{DialCause, End, EndsAtSink, Only, SourceCause, Wrote, WroteLess}
+use Rattle.program_ends.specs.declared.ending.Answered.{Answered}
+use Rattle.program_ends.specs.declared.ending.Failure.{Failure}
+use Rattle.program_ends.specs.declared.ending.Failure.TheVariants.{SourceFailed, SinkFailed, OutOfMemory, DialFailed}
+use Rattle.program_ends.specs.Ended.{DialCause, End, EndsAtSink, Only, SourceCause, Wrote, WroteLess}
 
 -- nothing more
 pub nothing_new : (written : Option (List ℕ)) → Told Same written written
