@@ -33,6 +33,7 @@ use Rattle.mirror_jobs.specs.declared.job.Job.{Job}
 use Rattle.mirror_jobs.specs.declared.job.Job.TheVariants as job
 use Rattle.mirror_jobs.specs.declared.verdict.Verdict.{Verdict}
 use Rattle.mirror_jobs.specs.declared.verdict.Verdict.TheVariants as verdict
+use Rattle.mirror_laws.specs.CopiesFiles.{CopiesFiles}
 
 -- the bytes of all files that go up
 abbrev pub up_bytes : List Job → ℕ
@@ -66,3 +67,9 @@ is_good_job tree jobs (job.Down name bound) = false
 abbrev pub CopiesGood : List Job → List Choice → FileTree → List Verdict → Type 0
 CopiesGood jobs choices tree verdicts = (i : ℕ) (j : Job) → RefuseNone choices → slice_get jobs i ≡ Some j
     → is_good_job tree jobs j ≡ true → slice_get verdicts i ≡ Some verdict.Copied
+
+-- What copying does over a file machine: what is said of files holds of them, and good files are said to be copied.
+pub record CopiesWell (jobs : List Job) (choices : List Choice) (tree left : FileTree) (verdicts : List Verdict) :
+    Type 0 where
+  pub files : CopiesFiles jobs choices tree left verdicts
+  pub good : CopiesGood jobs choices tree verdicts
