@@ -87,18 +87,18 @@ path_asked r site left o short e = by_test (is_too_long r) short e
 
 -- ---- a call among the steps, with what it did
 
-record Stood (s : Setting) (past : List Entry) (config : ServerConfig) (tree : FileTree) (steps : List Step)
+pub record Stood (s : Setting) (past : List Entry) (config : ServerConfig) (tree : FileTree) (steps : List Step)
     (lane k : ℕ) (c : Call) (name : Name) (o : Outcome) : Type 0 where
-  site : Site
-  home : (path : List ℕ) → from_directory site path ≡ path
-  first : ℕ × Request
-  later : Own
-  asks : own past lane k ≡ first ∷ later
-  did : HasEnded c site s.facts (first ∷ later) (answer past) o
-  stands : StandsIn config past name tree steps first later
+  pub site : Site
+  pub home : (path : List ℕ) → from_directory site path ≡ path
+  pub first : ℕ × Request
+  pub later : Own
+  pub asks : own past lane k ≡ first ∷ later
+  pub did : HasEnded c site s.facts (first ∷ later) (answer past) o
+  pub stands : StandsIn config past name tree steps first later
 
 -- of a call that opens first, by a path that fits a frame
-stood : (lanes : List Lane) (s : Setting) (turns : List Turn) (past : List Entry) (config : ServerConfig) (choices : List Choice) (tree left : FileTree)
+pub stood : (lanes : List Lane) (s : Setting) (turns : List Turn) (past : List Entry) (config : ServerConfig) (choices : List Choice) (tree left : FileTree)
     (lane k : ℕ) (c : Call) (r : Request) (name : Name) (o : Outcome)
     (p : PlainRunOf lanes s turns past config choices tree left) → call_in lanes lane k ≡ Some c
     → outcome_at past lane k ≡ Some o → IsAlone lanes name lane → LaterWriteNone lanes name lane k

@@ -68,7 +68,7 @@ use Rattle.session_model.proofs.OverLaws.{runs_are_journals, runs_are_over}
 use Rattle.session_model.proofs.RequestLaws.{sent_asked}
 use Rattle.run_laws.specs.CallsAmong.{asked_by}
 use Rattle.run_laws.specs.ReadsBack.{call_in}
-use Rattle.run_laws.specs.Steps.{Choose, RefuseNone, RefusesNone, RunOf, Step, after, answer_to, asked_in}
+use Rattle.run_laws.specs.Steps.{Choose, RefuseNone, RefusesNone, RunOf, Step, after, asked_in}
 use Rattle.run_laws.proofs.Back.{Awaits, GoesBack, drains_repeat, ends_back, lets_go_back, repeats_back, turns_back}
 use Rattle.run_laws.proofs.CutLaws.{chosen_parts, known_parts}
 use Rattle.run_laws.proofs.LaneLaws.{ACall, TheSession, WhoAsked, who_asked}
@@ -83,7 +83,7 @@ use Rattle.granting_laws.proofs.Building.{MakesName}
 use Rattle.granting_laws.proofs.CallAsks.{IsMadeBy, IsOfCall, made_by}
 use Rattle.granting_laws.proofs.Directories.{AreThere, Builds, MakesNot, all_made_by, requests_in, steps_keep, steps_no_directory}
 use Rattle.granting_laws.proofs.EndsWell.{OpensAt}
-use Rattle.granting_laws.proofs.GrowingRuns.{AllSteps, steps_as, steps_both, steps_known, steps_rest}
+use Rattle.granting_laws.proofs.GrowingRuns.{AllSteps, steps_as, steps_both, steps_front, steps_known, steps_rest}
 use Rattle.granting_laws.proofs.LastCalls.{PlainRunOf}
 use Rattle.granting_laws.proofs.WriteEnds.{MayOpen}
 use Rattle.granting_laws.specs.PlainCalls.{is_plain_call}
@@ -275,11 +275,6 @@ behind_front (x ∷ front) back (y ∷ before) rest s e other makes =
     (b.0, ap (λ (t : Step). t ∷ before) (sym same) ∙ ap (λ (l : List Step). x ∷ l) b.1)
 
 -- ---- a name whose directories are made
-
-steps_front : (P : FileTree → Step → Type 0) (config : ServerConfig) (tree : FileTree) (xs ys : List Step)
-    → AllSteps P config tree (xs ++ ys) → AllSteps P config tree xs
-steps_front P config tree [] ys all = tt
-steps_front P config tree (x ∷ xs) ys all = (all.0, steps_front P config (answer_to config tree x).1 xs ys all.1)
 
 may_open : (tree : FileTree) (name : Name) → 0 < length name → NoneLong name → NoDirectory (node_at tree name)
     → ((i : ℕ) → i < length name → node_at tree (first_parts name i) ≡ Some node.Directory) → MayOpen tree name

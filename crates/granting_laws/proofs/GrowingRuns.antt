@@ -87,6 +87,11 @@ pub steps_rest : (P : FileTree → Step → Type 0) (config : ServerConfig) (tre
 steps_rest P config tree [] ys all = all
 steps_rest P config tree (x ∷ xs) ys all = steps_rest P config (answer_to config tree x).1 xs ys all.1
 
+pub steps_front : (P : FileTree → Step → Type 0) (config : ServerConfig) (tree : FileTree) (xs ys : List Step)
+    → AllSteps P config tree (xs ++ ys) → AllSteps P config tree xs
+steps_front P config tree [] ys all = tt
+steps_front P config tree (x ∷ xs) ys all = (all.0, steps_front P config (answer_to config tree x).1 xs ys all.1)
+
 -- ---- steps of calls
 
 place_after : (xs ys : List Step) (place : ℕ) → HasPlace ys place → HasPlace (xs ++ ys) place
@@ -320,3 +325,11 @@ steps_fit claims config first tree (s ∷ steps) all fit = (
   steps_fit claims config first (answer_to config tree s).1 steps all.1
       (fit_next first claims tree s.request (answer_to config tree s).1 (effect_of tree config s.request s.choice s.handle all.0.0) all.0.1 fit),
 )
+
+-- and so does what is left
+pub fit_after : (claims : NameClaims) (config : ServerConfig) (first tree : FileTree) (steps : List Step) → AllSteps (BuildsWithin claims) config tree steps
+    → AreFit first claims tree → AreFit first claims (after config tree steps)
+fit_after claims config first tree [] all fit = fit
+fit_after claims config first tree (x ∷ steps) all fit =
+    fit_after claims config first (answer_to config tree x).1 steps all.1
+    (fit_next first claims tree x.request (answer_to config tree x).1 (effect_of tree config x.request x.choice x.handle all.0.0) all.0.1 fit)

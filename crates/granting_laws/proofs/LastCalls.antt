@@ -90,7 +90,7 @@ got_dropped (y ∷ xs) (suc n) (suc k) x le e =
     let same : suc k - suc n ≡ k - n = omega arith in subst (λ (i : ℕ). slice_get (drop n xs) i ≡ Some x) (sym same)
     (got_dropped xs n k x (omega (arith, le)) e)
 
-writes_none : (name : Name) (c : Call) → not (writes name c) ≡ true → WritesWhole name c → ⊥
+pub writes_none : (name : Name) (c : Call) → not (writes name c) ≡ true → WritesWhole name c → ⊥
 writes_none name (call.FsWrite path bytes) e names = told_apart path name e names
 writes_none name other e names = names
 
@@ -138,6 +138,13 @@ plain_is_still (call.FsWrite path bytes) e = refl
 plain_is_still (call.FsRead path bound) e = refl
 plain_is_still other e = absurd cc
 
+-- none of its calls is cancelled
+pub not_cancelled : (lanes : List Lane) (s : Setting) (turns : List Turn) (past : List Entry) (config : ServerConfig) (choices : List Choice) (tree left : FileTree)
+    (lane k : ℕ) (o : Outcome) → PlainRunOf lanes s turns past config choices tree left → outcome_at past lane k ≡ Some o → o ≢ outcome.Cancelled
+not_cancelled lanes s turns past config choices tree left lane k o p e same =
+    uncancelled is_plain_call s past lane k plain_uncancelled (runs_are_journals s turns past p.run) (run_cancels_none s turns past p.calm p.run)
+    (subst (λ (calls : List Call). list_all is_plain_call calls ≡ true) (sym (p.are lane)) (p.plain lane)) (e ∙ ap (λ (x : Outcome). Some x) same)
+
 -- how a call of it ended
 pub record Did (s : Setting) (past : List Entry) (lane k : ℕ) (c : Call) (o : Outcome) : Type 0 where
   pub site : Site
@@ -148,7 +155,8 @@ pub plain_did : (lanes : List Lane) (s : Setting) (turns : List Turn) (past : Li
     (lane k : ℕ) (c : Call) (o : Outcome) → PlainRunOf lanes s turns past config choices tree left → call_in lanes lane k ≡ Some c
     → outcome_at past lane k ≡ Some o → Did s past lane k c o
 plain_did lanes s turns past config choices tree left lane k c o p is e =
-    let d : EndedByPlan s past lane k c o = call_ended s past lane k c o j (call_is lanes s past lane k (Some c) p.are is) not_cancelled e in
+    let d : EndedByPlan s past lane k c o = call_ended s past lane k c o j (call_is lanes s past lane k (Some c) p.are is)
+    (not_cancelled lanes s turns past config choices tree left lane k o p e) e in
     record {
       site = site_of s d.before lane;
       home = λ path. plain_path s d.before lane path (d.still (all_more is_plain_call is_still (lane_calls s past lane) plain_is_still all));
@@ -160,7 +168,3 @@ plain_did lanes s turns past config choices tree left lane k c o p is e =
 
     all : list_all is_plain_call (lane_calls s past lane) ≡ true
     all = subst (λ (calls : List Call). list_all is_plain_call calls ≡ true) (sym (p.are lane)) (p.plain lane)
-
-    not_cancelled : o ≢ outcome.Cancelled
-    not_cancelled same = uncancelled is_plain_call s past lane k plain_uncancelled j (run_cancels_none s turns past p.calm p.run) all
-        (e ∙ ap (λ (x : Outcome). Some x) same)

@@ -17,4 +17,5 @@ pub mod EndsWell
 pub mod Directories
 pub mod FirstDirectories
 pub mod PathLengths
+pub mod ReadsThere
 pub mod PlainRunLaws

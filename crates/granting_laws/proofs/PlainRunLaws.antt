@@ -7,7 +7,7 @@ use Rattle.sftp_model.specs.declared.config.Choice.{Choice}
 use Rattle.sftp_model.specs.declared.config.ServerConfig.{ServerConfig}
 use Rattle.sftp_model.specs.declared.outcome.Outcome.{Outcome}
 use Rattle.sftp_model.specs.declared.outcome.Outcome.TheVariants as outcome
-use Rattle.machine_model.specs.Components.{Name}
+use Rattle.machine_model.specs.Components.{Name, components}
 use Rattle.machine_model.specs.FileTree.{FileTree, all_bytes, node_at}
 use Rattle.machine_model.specs.declared.node.Node.{Node}
 use Rattle.plan_model.specs.declared.call.Call.{Call}
@@ -20,7 +20,7 @@ use Rattle.session_model.specs.Runs.{IsRun}
 use Rattle.session_model.proofs.OverLaws.{runs_are_journals}
 use Rattle.run_laws.specs.ReadsBack.{call_in, calls_in}
 use Rattle.run_laws.specs.RoundTrips.{outcome_at}
-use Rattle.run_laws.specs.Steps.{RefuseNone, RunOf, Step, after, answer_to, asked_in}
+use Rattle.run_laws.specs.Steps.{HasBytes, RefuseNone, RunOf, Step, after, asked_in}
 use Rattle.run_laws.proofs.CallEnds.{EndedByPlan, call_ended}
 use Rattle.run_laws.proofs.LaneCalls.{all_more, each_is, plain_path}
 use Rattle.run_laws.proofs.OffRequests.{is_still}
@@ -29,20 +29,21 @@ use Rattle.run_laws.proofs.ReadsBackLaws.{AreHandedIn, call_is}
 use Rattle.run_laws.proofs.SentLaws.{AreAll, AreKnown, all_sent}
 use Rattle.run_laws.proofs.ServedSteps.{run_of}
 use Rattle.granting_laws.specs.Claims.{AreClaimed, NameClaims, claims_sum}
-use Rattle.granting_laws.specs.EndsWell.{ReadsWell, WritesWell}
+use Rattle.granting_laws.specs.EndsWell.{ReadsThere, ReadsWell, WritesWell}
 use Rattle.granting_laws.specs.FirstMkdirs.{ComeFirst, MakesFirst, call_turns, times_then}
 use Rattle.granting_laws.specs.PlainCalls.{IsPlainRun, IsServedPlainly, is_plain_call, may_end}
 use Rattle.granting_laws.proofs.Alone.{GrantsNone, none_added}
 use Rattle.granting_laws.proofs.AloneTurns.{Goes, MakeAll}
-use Rattle.granting_laws.proofs.Building.{IsBuilding, effect_of}
+use Rattle.granting_laws.proofs.Building.{IsBuilding}
 use Rattle.granting_laws.proofs.CallKinds.{plain_call_ends, plain_uncancelled}
 use Rattle.granting_laws.proofs.Directories.{Builds, steps_keep}
 use Rattle.granting_laws.proofs.EndsWell.{WritesSo, run_read_ends, run_write_ends}
 use Rattle.granting_laws.proofs.FirstDirectories.{AreFirst, directories_come_first, mkdirs_as, opens_behind}
-use Rattle.granting_laws.proofs.GrowingRuns.{AllSteps, Asker, AWriter, BuildsWithin, NoWrite, run_builds, steps_as, steps_known, who_builds}
+use Rattle.granting_laws.proofs.GrowingRuns.{AllSteps, Asker, AWriter, BuildsWithin, NoWrite, run_builds, steps_as, steps_known, who_builds, fit_after}
 use Rattle.granting_laws.proofs.LastCalls.{PlainRunOf, plain_is_still}
+use Rattle.granting_laws.proofs.ReadsThere.{run_read_there}
 use Rattle.granting_laws.proofs.RunEnds.{outcome_there}
-use Rattle.granting_laws.proofs.Sizes.{AreFit, fit_at_first, fit_next, fit_sum}
+use Rattle.granting_laws.proofs.Sizes.{fit_at_first, fit_sum}
 use Rattle.granting_laws.proofs.Uncancelled.{run_cancels_none, uncancelled}
 
 -- ---- runs
@@ -149,13 +150,6 @@ names_stay_so s turns past config choices tree left name n p is =
     builds = steps_as (λ t x. Asker s.lanes past x) Builds config tree r.steps (λ t x a. asker_builds s past x a)
         (steps_known (Asker s.lanes past) config past (sent past) tree r.steps (who_builds s.lanes s turns past config choices tree left q) known)
 
-fit_after : (claims : NameClaims) (config : ServerConfig) (first tree : FileTree) (steps : List Step) → AllSteps (BuildsWithin claims) config tree steps
-    → AreFit first claims tree → AreFit first claims (after config tree steps)
-fit_after claims config first tree [] all fit = fit
-fit_after claims config first tree (x ∷ steps) all fit =
-    fit_after claims config first (answer_to config tree x).1 steps all.1
-    (fit_next first claims tree x.request (answer_to config tree x).1 (effect_of tree config x.request x.choice x.handle all.0.0) all.0.1 fit)
-
 pub sizes_stay : (s : Setting) (turns : List Turn) (past : List Entry) (config : ServerConfig) (choices : List Choice) (tree left : FileTree) (claims : NameClaims)
     → IsServedPlainly s turns past config choices tree left → AreClaimed s.lanes claims → all_bytes left ≤ all_bytes tree + claims_sum claims
 sizes_stay s turns past config choices tree left claims p c =
@@ -204,3 +198,9 @@ pub read_ends : (s : Setting) (turns : List Turn) (past : List Entry) (config : 
 read_ends s turns past config choices tree left claims paths lane k n path content p m c none w rd =
     run_read_ends s.lanes s turns past config choices tree left claims lane k n path content (served_run s turns past config choices tree left p) c none
     (writes_so s turns past config choices tree left claims paths lane k path content p m c none w) rd
+
+pub read_there : (s : Setting) (turns : List Turn) (past : List Entry) (config : ServerConfig) (choices : List Choice) (tree left : FileTree) (claims : NameClaims)
+    (lane n : ℕ) (path bytes : List ℕ) → IsServedPlainly s turns past config choices tree left → AreClaimed s.lanes claims → RefuseNone choices
+    → HasBytes tree (components path) bytes → ReadsThere s claims lane n path bytes → outcome_at past lane n ≡ Some (outcome.Bytes bytes)
+read_there s turns past config choices tree left claims lane n path bytes p c none has rd =
+    run_read_there s turns past config choices tree left claims lane n path bytes (served_run s turns past config choices tree left p) c none has rd

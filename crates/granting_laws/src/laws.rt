@@ -4,7 +4,7 @@ ghost use Rattle.sftp_model.specs.declared.config.Choice.{Choice};
 ghost use Rattle.sftp_model.specs.declared.config.ServerConfig.{ServerConfig};
 ghost use Rattle.sftp_model.specs.declared.outcome.Outcome.{Outcome};
 ghost use Rattle.sftp_model.specs.declared.outcome.Outcome.TheVariants as outcome;
-ghost use Rattle.machine_model.specs.Components.{Name};
+ghost use Rattle.machine_model.specs.Components.{Name, components};
 ghost use Rattle.machine_model.specs.FileTree.{FileTree, all_bytes, node_at};
 ghost use Rattle.machine_model.specs.declared.node.Node.{Node};
 ghost use Rattle.plan_model.specs.declared.call.Call.{Call};
@@ -13,9 +13,9 @@ ghost use Rattle.session_model.specs.declared.turn.Turn.{Turn};
 ghost use Rattle.session_model.specs.Calls.{Setting};
 ghost use Rattle.run_laws.specs.ReadsBack.{call_in};
 ghost use Rattle.run_laws.specs.RoundTrips.{outcome_at};
-ghost use Rattle.run_laws.specs.Steps.{RefuseNone};
+ghost use Rattle.run_laws.specs.Steps.{HasBytes, RefuseNone};
 ghost use Rattle.granting_laws.specs.Claims.{AreClaimed, NameClaims, claims_sum};
-ghost use Rattle.granting_laws.specs.EndsWell.{ReadsWell, WritesWell};
+ghost use Rattle.granting_laws.specs.EndsWell.{ReadsThere, ReadsWell, WritesWell};
 ghost use Rattle.granting_laws.specs.FirstMkdirs.{ComeFirst, MakesFirst};
 ghost use Rattle.granting_laws.specs.PlainCalls.{IsPlainRun, IsServedPlainly, may_end};
 
@@ -67,4 +67,14 @@ pub fn reads_give_what_was_written()
         → AreClaimed s.lanes claims → RefuseNone choices
         → WritesWell s.lanes tree claims paths lane k path content → ReadsWell s lane k n path content
         → outcome_at past lane n ≡ Some (outcome.Bytes content) }
+{}
+
+/// And a whole read of a name that is its lane's alone and that no lane writes, whose bound is more than the bytes that its
+/// file has at first, gives these bytes.
+pub fn reads_give_what_was_there()
+    ensures { (s : Setting) (turns : List Turn) (past : List Entry) (config : ServerConfig) (choices : List Choice)
+        (tree left : FileTree) (claims : NameClaims) (lane n : ℕ) (path bytes : List ℕ)
+        → IsServedPlainly s turns past config choices tree left → AreClaimed s.lanes claims → RefuseNone choices
+        → HasBytes tree (components path) bytes → ReadsThere s claims lane n path bytes
+        → outcome_at past lane n ≡ Some (outcome.Bytes bytes) }
 {}

@@ -6,5 +6,5 @@ mod laws;
 
 pub use laws::{
     calls_end_by_their_kind, directories_come_first, files_stay_within_their_bounds, names_stay,
-    reads_give_what_was_written, writes_end_well,
+    reads_give_what_was_there, reads_give_what_was_written, writes_end_well,
 };

@@ -82,7 +82,7 @@ behind_others name (j ∷ jobs) all =
     record { other = rw (apart_other name j out, more.other) refl; outside = rw (out, more.outside) refl }
 
 -- those before a file
-before_others : (before behind : List Job) (j : Job) → stand_apart (map name_of (before ++ j ∷ behind)) ≡ true → AreOthers (name_of j) before
+pub before_others : (before behind : List Job) (j : Job) → stand_apart (map name_of (before ++ j ∷ behind)) ≡ true → AreOthers (name_of j) before
 before_others [] behind j all = record { other = refl; outside = refl }
 before_others (x ∷ before) behind j all =
     let both = and_parts (list_all (are_apart (name_of x)) (map name_of (before ++ j ∷ behind))) (stand_apart (map name_of (before ++ j ∷ behind))) all in
@@ -96,7 +96,7 @@ before_others (x ∷ before) behind j all =
         (list_all (are_apart (name_of x)) (map name_of (xs ++ j ∷ behind))) all).1
 
 -- and those behind it
-after_others : (before behind : List Job) (j : Job) → stand_apart (map name_of (before ++ j ∷ behind)) ≡ true → AreOthers (name_of j) behind
+pub after_others : (before behind : List Job) (j : Job) → stand_apart (map name_of (before ++ j ∷ behind)) ≡ true → AreOthers (name_of j) behind
 after_others [] behind j all = behind_others (name_of j) behind
     (and_parts (list_all (are_apart (name_of j)) (map name_of behind)) (stand_apart (map name_of behind)) all).0
 after_others (x ∷ before) behind j all =

@@ -1,4 +1,4 @@
--- A good file that goes up is copied where the machine refuses nothing by choice.
+-- A good file is copied, or got, where the machine refuses nothing by choice.
 use Rattle.std.proofs.Common.{
   ◌≡◌,
   ◌≢◌,
@@ -34,11 +34,11 @@ use Rattle.std.proofs.Common.{
   inl,
   inr,
 }
-use Rattle.std.specs.Prelude.{◌&&◌, map, nat_le, replicate, slice_get, slice_index_or}
+use Rattle.std.specs.Prelude.{nat_lt, ◌&&◌, map, nat_le, slice_get, slice_index_or}
 use Rattle.std.specs.List.{flat_map, list_all}
 use Rattle.std.proofs.lemmas.Bool.{and_parts, cases_lt}
-use Rattle.std.proofs.lemmas.Bool.Decides.{eqb_tells, nat_tests}
-use Rattle.std.proofs.lemmas.List.{append-nil, append_assoc, length-append, length-map}
+use Rattle.std.proofs.lemmas.Bool.Decides.{nat_tests}
+use Rattle.std.proofs.lemmas.List.{length-map}
 use Rattle.std.proofs.lemmas.Nat.{mod_below}
 use Rattle.sftp_model.specs.Lengths.{offers_limits, read_len_of, session_len}
 use Rattle.sftp_model.specs.declared.config.Choice.{Choice}
@@ -47,7 +47,6 @@ use Rattle.sftp_model.specs.declared.flags.Extensions.{Extensions}
 use Rattle.sftp_model.specs.declared.options.SftpOptions.{SftpOptions}
 use Rattle.sftp_model.specs.declared.outcome.Outcome.{Outcome}
 use Rattle.sftp_model.specs.declared.outcome.Outcome.TheVariants as outcome
-use Rattle.machine_model.proofs.NameLaws.{handles_tell}
 use Rattle.machine_model.specs.Changes.{IsWellFormed}
 use Rattle.machine_model.specs.Components.{Name, components, is_long, last_of, written}
 use Rattle.machine_model.specs.FileTree.{FileTree, all_bytes, is_directory, node_at}
@@ -63,7 +62,6 @@ use Rattle.plan_model.specs.declared.call.Call.TheVariants as call
 use Rattle.plan_model.specs.declared.call.Lane.{Lane}
 use Rattle.session_model.specs.declared.entry.Entry.{Entry}
 use Rattle.session_model.specs.declared.turn.Turn.{Turn}
-use Rattle.session_model.specs.declared.turn.Turn.TheVariants as turn
 use Rattle.session_model.specs.Calls.{Setting, calls_of as lane_calls_of}
 use Rattle.session_model.specs.Readings.{answer, outcomes_below, outcomes_of}
 use Rattle.session_model.specs.Runs.{IsRun}
@@ -72,69 +70,37 @@ use Rattle.session_model.specs.Settings.{limits_told, setting_of}
 use Rattle.run_laws.specs.NameCalls.{all_keep_off, is_of_other}
 use Rattle.run_laws.specs.ReadsBack.{IsAlone, call_in, calls_in}
 use Rattle.run_laws.specs.RoundTrips.{outcome_at, passes_length}
-use Rattle.run_laws.specs.Steps.{RefuseNone}
+use Rattle.run_laws.specs.Steps.{HasBytes, RefuseNone}
 use Rattle.run_laws.proofs.OffRequests.{told_apart}
 use Rattle.sftp_model.specs.Paths.{joined_path}
 use Rattle.granting_laws.specs.Claims.{AreClaimed}
-use Rattle.granting_laws.specs.EndsWell.{ReadsWell, WritesWell}
+use Rattle.granting_laws.specs.EndsWell.{ReadsThere, ReadsWell, WritesWell}
 use Rattle.granting_laws.specs.FirstMkdirs.{MakesFirst, call_turns, times_then}
-use Rattle.granting_laws.specs.PlainCalls.{IsServedPlainly, is_calm}
+use Rattle.granting_laws.specs.PlainCalls.{IsServedPlainly}
 use Rattle.granting_laws.specs.StandsBelow.{MakeOthers, NoDirectory, NoFile, StandsBelow, first_parts}
 use Rattle.granting_laws.proofs.PathLengths.{mkdir_fits, opens_fit}
-use Rattle.granting_laws.proofs.PlainRunLaws.{read_ends, write_ends}
+use Rattle.granting_laws.proofs.PlainRunLaws.{read_ends, read_there, write_ends}
 use Rattle.granting_laws.proofs.RunEnds.{lane_under}
 use Rattle.mirror_jobs.specs.declared.directory.Directory.{Directory}
 use Rattle.mirror_jobs.specs.declared.job.Job.{Job}
 use Rattle.mirror_jobs.specs.declared.job.Job.TheVariants as job
 use Rattle.mirror_jobs.specs.declared.verdict.Verdict.{Verdict}
 use Rattle.mirror_jobs.specs.declared.verdict.Verdict.TheVariants as verdict
-use Rattle.mirror_jobs.specs.JobLanes.{calls_of, dealt, lanes_of, mkdir_call, mkdir_turns, repeated, round, steps_from, turns_of}
+use Rattle.mirror_jobs.specs.JobLanes.{calls_of, dealt, lanes_of, mkdir_call, mkdir_turns, repeated, round, turns_of}
 use Rattle.mirror_jobs.specs.Jobs.{are_ok, is_bounded, name_of}
 use Rattle.mirror_jobs.specs.Parents.{directory, leading_slash, parents, parents_of}
-use Rattle.mirror_jobs.specs.Verdicts.{lane_after, outcomes_after, place_after, verdict_of, verdicts_after, verdicts_of}
-use Rattle.mirror_laws.specs.GoodJobs.{CopiesGood, is_good_job, is_no_file, may_be_made, up_bytes}
+use Rattle.mirror_jobs.specs.Verdicts.{lane_after, place_after, verdict_of, verdicts_of}
+use Rattle.mirror_laws.specs.GoodJobs.{CopiesGood, bytes_there, good_verdict, is_file, is_good_job, may_be_made, up_bytes}
 use Rattle.mirror_laws.specs.PlainNames.{is_plain}
 use Rattle.mirror_laws.proofs.AloneLaws.{alone}
 use Rattle.mirror_laws.proofs.CopyLaws.{lane_is, ok_apart}
 use Rattle.mirror_laws.proofs.CutLaws.{IsCutAt, cut_at, got_behind, got_next, lane_beyond, lane_got}
-use Rattle.mirror_laws.proofs.JobCalls.{claims_are, claims_of, lanes_claimed, lanes_plain, later_write_none}
+use Rattle.mirror_laws.proofs.JobCalls.{claims_are, claims_of, lanes_claimed, lanes_plain, later_write_none, never_written, unclaimed}
 use Rattle.mirror_laws.proofs.OrderLaws.{above_has, parents_deeper, parents_have, paths_of}
 use Rattle.mirror_laws.proofs.ParentLaws.{joined_to_none, led_is}
+use Rattle.mirror_laws.proofs.RunParts.{copied_verdict, mkdir_calls, one_taken, outcomes_at, times_are, turns_calm, two_taken, verdict_there}
 use Rattle.mirror_laws.proofs.WrittenLaws.{plain_components}
 use Rattle.mirror_laws.proofs.WrittenLengths.{above_short}
-
--- ---- turns
-
-steps_calm : (lane n : ℕ) → list_all is_calm (steps_from lane n) ≡ true
-steps_calm lane zero = refl
-steps_calm lane (suc n) = steps_calm (lane + 1) n
-
-takes_calm : (n : ℕ) → list_all is_calm (replicate n turn.Take) ≡ true
-takes_calm zero = refl
-takes_calm (suc n) = takes_calm n
-
-append_calm : (xs ys : List Turn) → list_all is_calm xs ≡ true → list_all is_calm ys ≡ true → list_all is_calm (xs ++ ys) ≡ true
-append_calm [] ys all more = more
-append_calm (x ∷ xs) ys all more = let both = and_parts (is_calm x) (list_all is_calm xs) all in rw (both.0, append_calm xs ys both.1 more) refl
-
-repeated_calm : (n : ℕ) (turns : List Turn) → list_all is_calm turns ≡ true → list_all is_calm (repeated n turns) ≡ true
-repeated_calm zero turns all = refl
-repeated_calm (suc n) turns all = append_calm turns (repeated n turns) all (repeated_calm n turns all)
-
-turns_calm : (width rounds : ℕ) (jobs : List Job) → list_all is_calm (turns_of width rounds jobs) ≡ true
-turns_calm width rounds jobs =
-    append_calm (repeated (length (parents jobs)) mkdir_turns) (repeated rounds (round width)) (repeated_calm (length (parents jobs)) mkdir_turns refl)
-    (repeated_calm rounds (round width) (append_calm (steps_from 1 width) (turn.Flush ∷ replicate width turn.Take) (steps_calm 1 width) (takes_calm width)))
-
-times_are : (n : ℕ) (turns later : List Turn) → repeated n turns ++ later ≡ times_then n turns later
-times_are zero turns later = refl
-times_are (suc n) turns later = append_assoc turns (repeated n turns) later ∙ ap (λ (w : List Turn). turns ++ w) (times_are n turns later)
-
--- ---- the lane that makes directories
-
-mkdir_calls : (ds : List Directory) → map mkdir_call ds ≡ map call.Mkdir (paths_of ds)
-mkdir_calls [] = refl
-mkdir_calls (d ∷ ds) = ap (λ (w : List Call). call.Mkdir d.path ∷ w) (mkdir_calls ds)
 
 -- ---- a good file
 
@@ -193,7 +159,7 @@ none_long name all i lt =
     let le : length (last_of (first_parts name (suc i))) ≤ MAX_COMPONENT_LEN =
     part_short (first_parts name (suc i)) (length (first_parts name (suc i)) - 1) (take_all_pass is_component (suc i) name all) in grind (arith, nat_tests)
 
-no_file_is : (o : Option Node) → is_no_file o ≡ true → NoFile o
+no_file_is : (o : Option Node) → not (is_file o) ≡ true → NoFile o
 no_file_is None e = tt
 no_file_is (Some node.Directory) e = tt
 no_file_is (Some (node.File file)) e = absurd cc
@@ -247,7 +213,7 @@ stands_below tree before behind path content good named = record {
         at_root [] = tt
         at_root (part ∷ parts) = tt
     files (suc i) lt = no_file_is (node_at tree (first_parts name (suc i)))
-        (ap (λ (w : Name). is_no_file (node_at tree w)) (sym (denotes (suc i)))
+        (ap (λ (w : Name). not (is_file (node_at tree w))) (sym (denotes (suc i)))
         ∙ among_all (may_be_made tree) (parents_of j) (directory (leading_slash path) (take (suc i) name)) good.parents_free (there (suc i) (omega arith) lt))
 
 -- ---- the lanes make other names
@@ -278,50 +244,6 @@ make_others width jobs name m one (suc l) k q e = absurd (elim (cases_lt l width
   | inr high ↦ (let none : slice_get (calls_in (lanes_of width jobs) (suc l)) k ≡ None =
       ap (λ (w : List Call). slice_get w k) (ap lane_calls_of (lane_beyond width jobs l high)) in let both : None ≡ Some (call.Mkdir q) = sym none ∙ e in cc)
 ])
-
--- ---- verdicts
-
-index_left : {A : Type 0} (xs ys : List A) (i : ℕ) (d : A) → i < length xs → slice_index_or (xs ++ ys) i d ≡ slice_index_or xs i d
-index_left [] ys i d lt = absurd (omega (arith, lt))
-index_left (x ∷ xs) ys zero d lt = refl
-index_left (x ∷ xs) ys (suc i) d lt = index_left xs ys i d (omega (arith, lt))
-
-index_last : {A : Type 0} (xs : List A) (x d : A) → slice_index_or (xs ++ x ∷ []) (length xs) d ≡ x
-index_last [] x d = refl
-index_last (y ∷ xs) x d = index_last xs x d
-
-lanes_counted : (past : List Entry) (n : ℕ) → length (outcomes_below past n) ≡ n
-lanes_counted past zero = refl
-lanes_counted past (suc n) = (let l = length-append (outcomes_below past n) (outcomes_of past n ∷ []) in let old =
-    lanes_counted past n in omega (arith, l, old))
-
-outcomes_at : (past : List Entry) (n lane : ℕ) → lane < n → slice_index_or (outcomes_below past n) lane [] ≡ outcomes_of past lane
-outcomes_at past zero lane lt = absurd (omega (arith, lt))
-outcomes_at past (suc n) lane lt = elim (eqb_tells lane n) [
-  | inl t ↦ (let count : lane ≡ length (outcomes_below past n) = t.1 ∙ sym (lanes_counted past n) in
-      ap (λ (i : ℕ). slice_index_or (outcomes_below past (suc n)) i []) count
-      ∙ (index_last (outcomes_below past n) (outcomes_of past n) [] ∙ ap (outcomes_of past) (sym t.1)))
-  | inr t ↦ (let low : lane < n = (let ne : lane ≢ n = t.1 in omega (arith, ne, lt)) in
-      index_left (outcomes_below past n) (outcomes_of past n ∷ []) lane []
-      (let c = lanes_counted past n in omega (arith, low, c)) ∙ outcomes_at past n lane low)
-]
-
-two_taken : (xs : List Outcome) (k : ℕ) (a b : Outcome) → slice_get xs k ≡ Some a → slice_get xs (suc k) ≡ Some b → take 2 (drop k xs) ≡ a ∷ b ∷ []
-two_taken [] k a b e f = absurd cc
-two_taken (x ∷ []) zero a b e f = absurd cc
-two_taken (x ∷ y ∷ xs) zero a b e f = (let one : x ≡ a = cc in let two : y ≡ b = cc in λ i. one i ∷ two i ∷ [])
-two_taken (x ∷ xs) (suc k) a b e f = two_taken xs k a b e f
-
-copied_verdict : (path content : List ℕ) → verdict_of (job.Up path content) (outcome.Done ∷ outcome.Bytes content ∷ []) ≡ verdict.Copied
-copied_verdict path content = rw ((handles_tell content content).1 refl) refl
-
-verdict_there : (width : ℕ) (first before behind : List Job) (j : Job) (outcomes : List (List Outcome))
-    → slice_get (verdicts_after width first (before ++ j ∷ behind) outcomes) (length before)
-    ≡ Some (verdict_of j (outcomes_after width (first ++ before) j outcomes))
-verdict_there width first [] behind j outcomes = ap (λ (w : List Job). Some (verdict_of j (outcomes_after width w j outcomes))) (sym (append-nil first))
-verdict_there width first (x ∷ before) behind j outcomes =
-    verdict_there width (first ++ x ∷ []) before behind j outcomes
-    ∙ ap (λ (w : List Job). Some (verdict_of j (outcomes_after width w j outcomes))) (append_assoc first (x ∷ []) before)
 
 -- ---- the law
 
@@ -440,13 +362,110 @@ good_copied width rounds before behind path content options extensions past conf
     got : outcome_at past lane (suc place) ≡ Some (outcome.Bytes content)
     got = read_ends s turns past config choices tree left (claims_of jobs) paths lane place (suc place) path content served makes claimed none w rd
 
--- each good file is copied
+-- ---- a file that comes down
+
+-- what is asked of it
+record IsGoodDown (tree : FileTree) (path : List ℕ) (bound : ℕ) : Type 0 where
+  there : is_file (node_at tree (components path)) ≡ true
+  short : not (passes_length path) ≡ true
+  over : nat_lt (length (bytes_there tree (node_at tree (components path)))) bound ≡ true
+
+good_down : (tree : FileTree) (jobs : List Job) (path : List ℕ) (bound : ℕ) → is_good_job tree jobs (job.Down path bound) ≡ true → IsGoodDown tree path bound
+good_down tree jobs path bound e =
+    let a : Bool = is_file (node_at tree (components path)) in
+    let b : Bool = not (passes_length path) in
+    let p = and_parts (a && b) (nat_lt (length (bytes_there tree (node_at tree (components path)))) bound) e in
+    let q = and_parts a b p.0 in
+    record { there = q.0; short = q.1; over = p.1 }
+
+file_there : (tree : FileTree) (name : Name) → is_file (node_at tree name) ≡ true → HasBytes tree name (bytes_there tree (node_at tree name))
+file_there tree name e = by_node (node_at tree name) refl e
+  where
+    by_node : (o : Option Node) → node_at tree name ≡ o → is_file o ≡ true → HasBytes tree name (bytes_there tree o)
+    by_node None is e = absurd cc
+    by_node (Some node.Directory) is e = absurd cc
+    by_node (Some (node.File file)) is e = record { file = file; is = is; bytes_are = refl }
+
+good_got : (width rounds : ℕ) (before behind : List Job) (path : List ℕ) (bound : ℕ) (options : SftpOptions) (extensions : Extensions) (past : List Entry)
+    (config : ServerConfig) (choices : List Choice) (tree left : FileTree) → 1 ≤ width → are_ok (before ++ job.Down path bound ∷ behind) ≡ true
+    → IsRun (setting_of (lanes_of width (before ++ job.Down path bound ∷ behind)) options extensions past) (turns_of width rounds (before ++ job.Down path bound ∷ behind)) past
+    → RefuseNone choices → IsWellFormed tree → Serves config choices tree past left → is_good_job tree (before ++ job.Down path bound ∷ behind) (job.Down path bound) ≡ true
+    → slice_get (verdicts_of width (before ++ job.Down path bound ∷ behind) (outcomes_below past (length (lanes_of width (before ++ job.Down path bound ∷ behind))))) (length before)
+    ≡ Some (verdict.Got (bytes_there tree (node_at tree (components path))))
+good_got width rounds before behind path bound options extensions past config choices tree left some ok run none well serves is_ok =
+    verdict_there width [] before behind j (outcomes_below past (length lanes))
+    ∙ ap (λ (os : List Outcome). Some (verdict_of j os)) (ap (λ (os : List Outcome). take 1 (drop place os))
+    (outcomes_at past (length lanes) lane (lane_under lanes lane place (call.FsRead path bound) read_is))
+    ∙ one_taken (outcomes_of past lane) place (outcome.Bytes bytes) got)
+  where
+    j : Job
+    j = job.Down path bound
+
+    jobs : List Job
+    jobs = before ++ j ∷ behind
+
+    lanes : List Lane
+    lanes = lanes_of width jobs
+
+    s : Setting
+    s = setting_of lanes options extensions past
+
+    bytes : List ℕ
+    bytes = bytes_there tree (node_at tree (components path))
+
+    lane : ℕ
+    lane = lane_after width before
+
+    place : ℕ
+    place = place_after width before
+
+    lt : length before % width < width
+    lt = mod_below (length before) width (let lt : 0 < width = omega (arith, some) in lt)
+
+    apart : stand_apart (map name_of jobs) ≡ true
+    apart = ok_apart jobs ok
+
+    good : IsGoodDown tree path bound
+    good = good_down tree jobs path bound is_ok
+
+    read_is : call_in lanes lane place ≡ Some (call.FsRead path bound)
+    read_is = ap (λ (w : List Call). slice_get w place) (lane_is width before behind j lt)
+        ∙ got_behind (flat_map calls_of (dealt width (length before % width) 0 before)) (flat_map calls_of (dealt width (length before % width) (length before + 1) behind)) (call.FsRead path bound)
+
+    rd : ReadsThere s (claims_of jobs) lane place path bytes
+    rd = record {
+      bound = bound;
+      is = read_is;
+      short = not_true (passes_length path) good.short;
+      over = (let lt = good.over in grind (arith, nat_tests));
+      some = some_len options.max_read_len (read_len_of (limits_told (offers_limits extensions) (answer past 0)));
+      room = omega arith;
+      alone = alone width before behind j lt apart;
+      never = never_written width before behind path bound lt apart;
+      unclaimed = unclaimed before behind path bound apart;
+    }
+
+    got : outcome_at past lane place ≡ Some (outcome.Bytes bytes)
+    got = read_there s (turns_of width rounds jobs) past config choices tree left (claims_of jobs) lane place path bytes
+        (record { plain = record { run = run; calm = turns_calm width rounds jobs; plain = lanes_plain width jobs }; serves = serves; well = well })
+        (lanes_claimed width jobs some ok) none (file_there tree (components path) good.there) rd
+
+-- ---- all files
+
+-- each good file is copied or got
 pub good_files : (width rounds : ℕ) (jobs : List Job) (options : SftpOptions) (extensions : Extensions)
     (past : List Entry) (config : ServerConfig) (choices : List Choice)
     (tree left : FileTree) → 1 ≤ width → are_ok jobs ≡ true → IsRun (setting_of (lanes_of width jobs) options extensions past) (turns_of width rounds jobs) past
     → IsWellFormed tree → Serves config choices tree past left
     → CopiesGood jobs choices tree (verdicts_of width jobs (outcomes_below past (length (lanes_of width jobs))))
-good_files width rounds jobs options extensions past config choices tree left some ok run well serves i (job.Down name bound) none there good = absurd cc
+good_files width rounds jobs options extensions past config choices tree left some ok run well serves i (job.Down path bound) none there good =
+    let c : IsCutAt jobs i (job.Down path bound) = cut_at jobs i (job.Down path bound) there in
+    subst (λ (n : ℕ). slice_get (verdicts_of width jobs (outcomes_below past (length (lanes_of width jobs)))) n ≡ Some (good_verdict tree (job.Down path bound))) c.at
+    (subst (λ (js : List Job). slice_get (verdicts_of width js (outcomes_below past (length (lanes_of width js)))) (length c.before) ≡ Some (good_verdict tree (job.Down path bound))) (sym c.is)
+    (good_got width rounds c.before c.behind path bound options extensions past config choices tree left some
+    (subst (λ (js : List Job). are_ok js ≡ true) c.is ok)
+    (subst (λ (js : List Job). IsRun (setting_of (lanes_of width js) options extensions past) (turns_of width rounds js) past) c.is run) none well serves
+    (subst (λ (js : List Job). is_good_job tree js (job.Down path bound) ≡ true) c.is good)))
 good_files width rounds jobs options extensions past config choices tree left some ok run well serves i (job.Up path content) none there good =
     let c : IsCutAt jobs i (job.Up path content) = cut_at jobs i (job.Up path content) there in
     subst (λ (n : ℕ). slice_get (verdicts_of width jobs (outcomes_below past (length (lanes_of width jobs)))) n ≡ Some verdict.Copied) c.at

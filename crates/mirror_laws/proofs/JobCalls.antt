@@ -13,6 +13,7 @@ use Rattle.std.proofs.Common.{
   Bool,
   true,
   false,
+  not,
   List,
   [],
   ◌∷◌,
@@ -33,7 +34,7 @@ use Rattle.std.proofs.Common.{
 }
 use Rattle.std.specs.Prelude.{◌⊎◌, map, slice_get}
 use Rattle.std.specs.List.{flat_map, list_all}
-use Rattle.std.proofs.lemmas.Bool.{cases_lt}
+use Rattle.std.proofs.lemmas.Bool.{and_parts, cases_lt}
 use Rattle.std.proofs.lemmas.Bool.Decides.{eqb_tells}
 use Rattle.std.proofs.lemmas.List.{length-append}
 use Rattle.std.proofs.lemmas.Nat.{mod_below}
@@ -43,7 +44,8 @@ use Rattle.plan_model.proofs.Among.{Among}
 use Rattle.plan_model.specs.declared.call.Call.{Call}
 use Rattle.plan_model.specs.declared.call.Call.TheVariants as call
 use Rattle.session_model.specs.Calls.{calls_of as lane_calls_of}
-use Rattle.run_laws.specs.NameCalls.{none_writes}
+use Rattle.run_laws.specs.NameCalls.{none_writes, writes}
+use Rattle.run_laws.proofs.OffRequests.{told_apart}
 use Rattle.run_laws.specs.ReadsBack.{IsAlone, call_in, calls_in}
 use Rattle.granting_laws.specs.Claims.{AreClaimed, NameClaims, LaterWriteNone, claims_sum}
 use Rattle.granting_laws.specs.PlainCalls.{is_plain_call}
@@ -55,7 +57,7 @@ use Rattle.mirror_jobs.specs.Jobs.{are_ok, name_of}
 use Rattle.mirror_jobs.specs.Parents.{parents}
 use Rattle.mirror_jobs.specs.Verdicts.{lane_after, place_after}
 use Rattle.mirror_laws.specs.GoodJobs.{up_bytes}
-use Rattle.mirror_laws.proofs.AloneLaws.{alone, none_behind}
+use Rattle.mirror_laws.proofs.AloneLaws.{after_others, alone, before_others, is_other, none_before, none_behind}
 use Rattle.mirror_laws.proofs.CopyLaws.{lane_is, ok_apart}
 use Rattle.mirror_laws.proofs.CutLaws.{lane_beyond, lane_got}
 
@@ -270,3 +272,51 @@ lanes_claimed width jobs some ok = record {
         (subst (λ (js : List Job). LaterWriteNone (lanes_of width js) (components path) (lane_after width w.before) (place_after width w.before)) (sym w.is)
         (later_write_none width w.before w.behind path content (below width (length w.before) some)
         (apart_at jobs w.before w.behind (job.Up path content) ok w.is)).0))
+
+-- ---- a file that comes down
+
+claims_apart : (name : Name) (jobs : List Job) → list_all (is_other name) jobs ≡ true → (claim : Name × ℕ) → Among claim (claims_of jobs) → claim.0 ≢ name
+claims_apart name [] all claim h = absurd h
+claims_apart name (job.Up path content ∷ jobs) all claim (inl e) =
+    let both = and_parts (is_other name (job.Up path content)) (list_all (is_other name) jobs) all in
+    λ same. told_apart path name both.0 (ap (λ (c : Name × ℕ). c.0) (sym e) ∙ same)
+claims_apart name (job.Up path content ∷ jobs) all claim (inr h) =
+    claims_apart name jobs (and_parts (is_other name (job.Up path content)) (list_all (is_other name) jobs) all).1 claim h
+claims_apart name (job.Down path bound ∷ jobs) all claim h =
+    claims_apart name jobs (and_parts (is_other name (job.Down path bound)) (list_all (is_other name) jobs) all).1 claim h
+
+claims_two : (xs ys : List Job) → claims_of (xs ++ ys) ≡ claims_of xs ++ claims_of ys
+claims_two [] ys = refl
+claims_two (job.Up path content ∷ xs) ys = ap (λ (w : NameClaims). (components path, length content) ∷ w) (claims_two xs ys)
+claims_two (job.Down path bound ∷ xs) ys = claims_two xs ys
+
+among_two : (c : Name × ℕ) (xs ys : NameClaims) → Among c (xs ++ ys) → Among c xs ⊎ Among c ys
+among_two c [] ys h = inr h
+among_two c (x ∷ xs) ys (inl e) = inl (inl e)
+among_two c (x ∷ xs) ys (inr h) = elim (among_two c xs ys h) [ inl a ↦ inl (inr a) | inr b ↦ inr b ]
+
+-- no file that goes up has its name
+pub unclaimed : (before behind : List Job) (path : List ℕ) (bound : ℕ) → stand_apart (map name_of (before ++ job.Down path bound ∷ behind)) ≡ true
+    → (claim : Name × ℕ) → Among claim (claims_of (before ++ job.Down path bound ∷ behind)) → claim.0 ≢ components path
+unclaimed before behind path bound apart claim h =
+    by_part (among_two claim (claims_of before) (claims_of behind)
+    (subst (λ (w : NameClaims). Among claim w) (claims_two before (job.Down path bound ∷ behind)) h))
+  where
+    by_part : Among claim (claims_of before) ⊎ Among claim (claims_of behind) → claim.0 ≢ components path
+    by_part (inl a) = claims_apart (components path) before (before_others before behind (job.Down path bound) apart).other claim a
+    by_part (inr b) = claims_apart (components path) behind (after_others before behind (job.Down path bound) apart).other claim b
+
+-- and its lane writes it never
+pub never_written : (width : ℕ) (before behind : List Job) (path : List ℕ) (bound : ℕ) → length before % width < width
+    → stand_apart (map name_of (before ++ job.Down path bound ∷ behind)) ≡ true
+    → none_writes (components path) (calls_in (lanes_of width (before ++ job.Down path bound ∷ behind)) (lane_after width before)) ≡ true
+never_written width before behind path bound lt apart =
+    subst (λ (w : List Call). none_writes (components path) w ≡ true) (sym (lane_is width before behind (job.Down path bound) lt))
+    (append_none (flat_map calls_of (dealt width (length before % width) 0 before))
+    (call.FsRead path bound ∷ flat_map calls_of (dealt width (length before % width) (length before + 1) behind))
+    (none_before width before behind (job.Down path bound) apart) (none_behind width before behind (job.Down path bound) apart))
+  where
+    append_none : (xs ys : List Call) → none_writes (components path) xs ≡ true → none_writes (components path) ys ≡ true → none_writes (components path) (xs ++ ys) ≡ true
+    append_none [] ys all more = more
+    append_none (x ∷ xs) ys all more =
+        let both = and_parts (not (writes (components path) x)) (none_writes (components path) xs) all in rw (both.0, append_none xs ys both.1 more) refl

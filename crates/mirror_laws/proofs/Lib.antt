@@ -6,4 +6,5 @@ pub mod CopyLaws
 pub mod WrittenLengths
 pub mod OrderLaws
 pub mod JobCalls
+pub mod RunParts
 pub mod GoodLaws

@@ -1,4 +1,4 @@
--- Worked files that go up: which are copied for sure, and which needn't be.
+-- Worked files: which are copied or got for sure, and which needn't be.
 use Rattle.std.specs.Prelude.{◌≡◌, true, false, List, [], ◌∷◌, codes, Some, refl}
 use Rattle.machine_model.specs.Components.{components}
 use Rattle.machine_model.specs.FileTree.{FileTree}
@@ -9,7 +9,7 @@ use Rattle.ssh_encoding.specs.Writing.{string, uint32}
 use Rattle.mirror_jobs.specs.declared.job.Job.{Job}
 use Rattle.mirror_jobs.specs.declared.job.Job.TheVariants as job
 use Rattle.mirror_jobs.specs.declared.verdict.Verdict.TheVariants as verdict
-use Rattle.mirror_laws.specs.GoodJobs.{CopiesGood, is_good_job}
+use Rattle.mirror_laws.specs.GoodJobs.{CopiesGood, good_verdict, is_good_job}
 
 -- a server with a file `a` of two bytes and a directory `d`
 abbrev pub some_tree : FileTree
@@ -41,9 +41,22 @@ pub within_is_not : is_good_job some_tree (alone (job.Up (codes "a/b/c") [])) (j
 unfolding components request_body string uint32 attributes
 within_is_not = refl
 
--- a file that comes down may be missing
-pub down_is_not : is_good_job some_tree (alone (job.Down (codes "a") 9)) (job.Down (codes "a") 9) ≡ false
-down_is_not = refl
+-- a file that comes down is there, and has fewer bytes than the bound
+pub down_is_good : is_good_job some_tree (alone (job.Down (codes "a") 3)) (job.Down (codes "a") 3) ≡ true
+unfolding components request_body string uint32 attributes
+down_is_good = refl
+
+pub down_gives : good_verdict some_tree (job.Down (codes "a") 3) ≡ verdict.Got (1 ∷ 2 ∷ [])
+unfolding components
+down_gives = refl
+
+pub bound_is_not : is_good_job some_tree (alone (job.Down (codes "a") 2)) (job.Down (codes "a") 2) ≡ false
+unfolding components request_body string uint32 attributes
+bound_is_not = refl
+
+pub missing_is_not : is_good_job some_tree (alone (job.Down (codes "b") 9)) (job.Down (codes "b") 9) ≡ false
+unfolding components request_body string uint32 attributes
+missing_is_not = refl
 
 -- ---- what the law says of a verdict
 

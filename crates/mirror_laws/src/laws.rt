@@ -43,9 +43,10 @@ pub fn copies_keep_files()
         → CopiesFiles jobs choices tree left (verdicts_of width jobs outcomes) }
 {}
 
-/// In each run of the lanes that copy files under their turns, served by a file machine that refuses nothing by choice, a
-/// good file that goes up is said to be copied: one whose directories are there or may be made, whose name no directory
-/// has, whose path fits a frame, and whose bytes have room, with those of all files that go up.
+/// In each run of the lanes that copy files under their turns, served by a file machine that refuses nothing by choice,
+/// each good file is copied or got. A good file that goes up has directories that are there or may be made, a name that no
+/// directory has, a path that fits a frame, and room for its bytes, with those of all files that go up; one that comes
+/// down is there, by a path that fits a frame, and has fewer bytes than its bound.
 pub fn good_files_are_copied()
     ensures { (width rounds : ℕ) (jobs : List Job) (options : SftpOptions) (extensions : Extensions) (past : List Entry)
         (config : ServerConfig) (choices : List Choice) (tree left : FileTree) → 1 ≤ width → are_ok jobs ≡ true

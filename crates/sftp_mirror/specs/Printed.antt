@@ -33,7 +33,7 @@ verdicts_in schedule jobs past = verdicts_of schedule.width jobs
 -- what the server offers, and the log shows VERSION and the run's journal. The replies are those of one sequential run
 -- of the file machine, and each handle was closed exactly as often as it was granted. The verdicts are those of the
 -- outcomes: a file that is said to be copied holds its content now, bytes that are said to be got are those of the file at
--- first, and a good file is said to be copied where no choice refuses a request.
+-- first, and each good file is copied or got where no choice refuses a request.
 pub record IsServedCopy (schedule : Schedule) (jobs : List Job) (options : SftpOptions) (server : Serving)
     (report : CopyReport) : Type 0 where
   pub extensions : Extensions
