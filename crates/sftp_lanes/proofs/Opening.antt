@@ -393,6 +393,13 @@ pub open_count : (lanes : List Lane) (options : SftpOptions) (version : Option R
 open_count lanes options version known w phase is open_is =
     let works : IsWorking (setting_by lanes options version known) w = in_phase lanes options version known w phase Open is open_is in works.stands.lanes
 
+-- and no grant of theirs is to be closed
+pub open_settled : (lanes : List Lane) (options : SftpOptions) (version : Option Reply) (known : Option Info) (w : Lanes)
+    (phase : Phase) → IsSession lanes options version known w phase → phase ≡ Open
+    → orphan (setting_by lanes options version known) (past_of w) ≡ None
+open_settled lanes options version known w phase is open_is =
+    let works : IsWorking (setting_by lanes options version known) w = in_phase lanes options version known w phase Open is open_is in works.rest.settled
+
 pub open_intact : (lanes : List Lane) (options : SftpOptions) (version : Option Reply) (known : Option Info) (w : Lanes)
     (phase : Phase) → IsSession lanes options version known w phase → phase ≡ Open → IsIntact (length w.calls) w
 open_intact lanes options version known w phase is open_is =

@@ -3,7 +3,7 @@ use Rattle.session_model.specs.Readings.{outcomes_below}
 use Rattle.session_work.specs.Reports.{reports_of}
 use Rattle.session_work.specs.Working.{past_of}
 use Rattle.session_work.proofs.ReportLaws.{all_told}
-use Rattle.sftp_lanes.proofs.session.Session.into_report.Goals as goal
+use Rattle.sftp_lanes.proofs.session.Session.report_into.Goals as goal
 
 pub returns : goal.returns
 returns c =
