@@ -146,16 +146,17 @@ takes_memory Greeted = false
 takes_memory Queried = false
 takes_memory other = true
 
--- a frame may come: what the opening has queued was handed out
+-- a frame may be taken: the hello was handed out
 abbrev pub takes_frames : Phase → Bool
 takes_frames Fresh = false
 takes_frames Greeted = true
-takes_frames Asking = false
+takes_frames Asking = true
 takes_frames Queried = true
 takes_frames Open = true
 takes_frames Failed = true
 
 -- What is taken: VERSION, then the reply to the query for limits where it was made, and then the replies to requests.
+-- While the query stands in the queue, no reply may come.
 abbrev pub TakesIn : Phase → Result (Option ℕ × Reply) FrameError → SessionValue → SessionValue → Type 0
 TakesIn Fresh body_reads old new = ⊥
 TakesIn Greeted body_reads old new = (asks : Bool) × TakesVersion body_reads asks old new
