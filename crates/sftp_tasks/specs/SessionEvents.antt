@@ -102,7 +102,7 @@ pub record IsRefusedBy (body_reads : Result (Option ℕ × Reply) FrameError) (e
   pub first : IsFirst error (first_wrong old.phase (past_of old.work) body_reads)
   pub kept : IsRefused error old new
 
--- the frame came while no reply is awaited
+-- the frame came before the hello was handed out
 pub record IsUnawaited (e : Error) (old new : SessionValue) : Type 0 where
   pub early : takes_frames old.phase ≡ false
   pub is : e ≡ error.InvalidResponse None
