@@ -39,7 +39,7 @@ use Rattle.machine_model.specs.Components.{Name, is_within, same_name}
 use Rattle.machine_model.specs.FirstTree.{are_apart, stand_apart}
 use Rattle.plan_model.specs.declared.call.Call.{Call}
 use Rattle.session_model.specs.Calls.{calls_of as lane_calls_of}
-use Rattle.run_laws.specs.NameCalls.{all_keep_off, is_of_other, may_own, none_writes}
+use Rattle.run_laws.specs.NameCalls.{all_keep_off, may_own, none_writes}
 use Rattle.run_laws.specs.ReadsBack.{IsAlone, calls_in}
 use Rattle.mirror_jobs.specs.declared.job.Job.{Job}
 use Rattle.mirror_jobs.specs.declared.job.Job.TheVariants as job

@@ -16,7 +16,7 @@ use Rattle.mirror_jobs.specs.declared.job.Job.{Job}
 use Rattle.mirror_jobs.specs.declared.verdict.Verdict.{Verdict}
 use Rattle.mirror_jobs.specs.JobLanes.{lanes_of, turns_of}
 use Rattle.mirror_jobs.specs.Verdicts.{verdict_lines, verdicts_of}
-use Rattle.mirror_laws.specs.CopiesFiles.{CopiesFiles}
+use Rattle.mirror_laws.specs.GoodJobs.{CopiesWell}
 use Rattle.program_ends.specs.Ended.{IsServerOf}
 use Rattle.sftp_mirror.specs.declared.copy.CopyReport.{CopyReport}
 use Rattle.sftp_mirror.specs.declared.list.CopyList.{CopyList}
@@ -32,8 +32,8 @@ verdicts_in schedule jobs past = verdicts_of schedule.width jobs
 -- The report is that of a run of the lanes that copy these files over this server, whose log shows it: VERSION told
 -- what the server offers, and the log shows VERSION and the run's journal. The replies are those of one sequential run
 -- of the file machine, and each handle was closed exactly as often as it was granted. The verdicts are those of the
--- outcomes: a file that is said to be copied holds its content now, and bytes that are said to be got are those of the
--- file at first.
+-- outcomes: a file that is said to be copied holds its content now, bytes that are said to be got are those of the file at
+-- first, and a good file is said to be copied where no choice refuses a request.
 pub record IsServedCopy (schedule : Schedule) (jobs : List Job) (options : SftpOptions) (server : Serving)
     (report : CopyReport) : Type 0 where
   pub extensions : Extensions
@@ -45,7 +45,7 @@ pub record IsServedCopy (schedule : Schedule) (jobs : List Job) (options : SftpO
   pub served : IsServedRun server.first past server.now.desk.machine.tree
   pub closed : AreClosed past
   pub verdicts : report.verdicts ≡ verdicts_in schedule jobs past
-  pub copies : CopiesFiles jobs server.first.desk.choices server.first.desk.machine.tree server.now.desk.machine.tree
+  pub copies : CopiesWell jobs server.first.desk.choices server.first.desk.machine.tree server.now.desk.machine.tree
       report.verdicts
 
 -- ---- the text
