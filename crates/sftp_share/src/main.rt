@@ -6,6 +6,8 @@ mod ending;
 mod left;
 mod replayed;
 mod share;
+#[cfg(test)]
+mod tests;
 mod threads;
 
 use sftp_link::{ReadSource, WriteSink};
