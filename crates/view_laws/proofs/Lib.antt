@@ -1,0 +1,9 @@
+pub mod DoingLaws
+pub mod Bytes
+pub mod BlockReads
+pub mod KeptBlocks
+pub mod Gathering
+pub mod GetLaws
+pub mod PutTrees
+pub mod PutLaws
+pub mod ViewedLaws
