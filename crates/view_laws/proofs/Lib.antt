@@ -7,3 +7,5 @@ pub mod GetLaws
 pub mod PutTrees
 pub mod PutLaws
 pub mod ViewedLaws
+pub mod SlotCalls
+pub mod CallsDone

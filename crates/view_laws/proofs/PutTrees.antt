@@ -135,7 +135,7 @@ keeps_two name a b c x y other apart =
       bytes_are = λ file is. second.bytes_are file (first.node_is ∙ is) ∙ first.bytes_are file is;
     }
 
-by_names : (tree now : FileTree) (name : Name) → now.names ≡ tree.names → node_at now name ≡ node_at tree name
+pub by_names : (tree now : FileTree) (name : Name) → now.names ≡ tree.names → node_at now name ≡ node_at tree name
 by_names tree now [] e = refl
 by_names tree now (part ∷ parts) e = λ i. node_at (record now { names = e i }) (part ∷ parts)
 
@@ -190,7 +190,7 @@ bare_node tree name = by_names tree (bare tree) name refl
 abbrev pub to_write : FileTree → Name → Option Node → Answer
 to_write tree name x = after_open (bare tree) [] to_put name x
 
-made_here : (tree : FileTree) (name : Name) → node_at tree name ≡ None → node_at (with_file tree name) name ≡ Some (node.File (length tree.files))
+pub made_here : (tree : FileTree) (name : Name) → node_at tree name ≡ None → node_at (with_file tree name) name ≡ Some (node.File (length tree.files))
 made_here tree [] e = absurd cc
 made_here tree (part ∷ parts) e = found_push_here same_name tree.names (part ∷ parts)
     (node.File (length tree.files)) ((names_tell (part ∷ parts) (part ∷ parts)).1 refl) e
