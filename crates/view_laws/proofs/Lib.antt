@@ -9,3 +9,4 @@ pub mod PutLaws
 pub mod ViewedLaws
 pub mod SlotCalls
 pub mod CallsDone
+pub mod WritesDone

@@ -115,7 +115,7 @@ AfterOk (a ∷ later) o = IsOk o
 abbrev pub AreWrites : Facts → Answers → List ℕ → ℕ → List ℕ → Own → Type 0
 AreWrites facts answers handle offset bytes [] = Unit {0}
 AreWrites facts answers handle offset bytes (a ∷ later) = (a.1 ≡ request.Write handle offset (next_part facts bytes))
-    × AfterOk later (answers a.0)
+    × (length bytes == 0 ≡ false) × AfterOk later (answers a.0)
     × AreWrites facts answers handle (offset + part_len facts bytes) (drop (part_len facts bytes) bytes) later
 
 abbrev pub offset_in : Option Standing → ℕ
@@ -185,17 +185,18 @@ module _ (facts : Facts) (answers : Answers) (handle : List ℕ) (p : ℕ) (r : 
   write_more : (file : FileAt) (bytes : List ℕ) (site : Site) (own : Own) → handle_of (answers file.grant) ≡ handle
       → rest_next (in_slot 0) file bytes site facts own answers ≡ Ask r
       → AreWrites facts answers handle file.offset bytes own → AreWrites facts answers handle file.offset bytes (own ++ (p, r) ∷ [])
-  write_more file bytes site [] same e asked = (by_test (length bytes == 0) e, tt, tt)
+  write_more file bytes site [] same e asked = let w = by_test (length bytes == 0) e in (w.0, w.1, tt, tt)
     where
       by_test : (b : Bool) → (if b then Done outcome.Done site else ask_write file (next_part facts bytes) site answers) ≡ Ask r
-          → r ≡ request.Write handle file.offset (next_part facts bytes)
+          → (r ≡ request.Write handle file.offset (next_part facts bytes)) × (b ≡ false)
       by_test true e = absurd (let both : false ≡ true = ap is_ask e in cc)
-      by_test false e = write_is file (next_part facts bytes) site answers r e
-          ∙ ap (λ (h : List ℕ). request.Write h file.offset (next_part facts bytes)) same
+      by_test false e = (write_is file (next_part facts bytes) site answers r e
+          ∙ ap (λ (h : List ℕ). request.Write h file.offset (next_part facts bytes)) same, refl)
+
   write_more file bytes site (a ∷ later) same e asked =
       let went = by_reply (answers a.0) e in
-      (asked.0, after_ok (later ++ (p, r) ∷ []) (answers a.0) went.0, write_more (further file (part_len facts bytes)) (drop (part_len facts bytes) bytes)
-      (in_slot 0 (further file (part_len facts bytes)) site) later same went.1 asked.2)
+      (asked.0, asked.1, after_ok (later ++ (p, r) ∷ []) (answers a.0) went.0, write_more (further file (part_len facts bytes)) (drop (part_len facts bytes) bytes)
+      (in_slot 0 (further file (part_len facts bytes)) site) later same went.1 asked.3)
     where
       after_ok : (xs : Own) (o : Option Reply) → IsOk o → AfterOk xs o
       after_ok [] o ok = tt
@@ -298,8 +299,9 @@ writes_stay : (facts : Facts) (before now : Answers) (handle : List ℕ) (offset
 writes_stay facts before now handle offset bytes [] more asked = tt
 writes_stay facts before now handle offset bytes (a ∷ later) more asked = (
   asked.0,
-  after_stays later (before a.0) (now a.0) (more a.0) asked.1,
-  writes_stay facts before now handle (offset + part_len facts bytes) (drop (part_len facts bytes) bytes) later more asked.2,
+  asked.1,
+  after_stays later (before a.0) (now a.0) (more a.0) asked.2,
+  writes_stay facts before now handle (offset + part_len facts bytes) (drop (part_len facts bytes) bytes) later more asked.3,
 )
 
 pub asks_stay : (facts : Facts) (before now : Answers) (c : Call) (handle : List ℕ) (offset : ℕ) (own : Own) → Extends before now
