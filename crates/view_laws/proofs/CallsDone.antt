@@ -100,6 +100,7 @@ pub record HasDone (len : ℕ) (answers : Answers) (own : Own) (c : Call) (site 
     pub handle : List ℕ
     pub at : IsAt answers now left handle mid
     pub keeps : (g : ℕ) → is_granted (answers g) ≡ true → (has_grant (given_up c own site) g ≡ true) ⊎ (has_place own g ≡ true) → has_grant left g ≡ true
+    pub replied : (g : ℕ) → has_place own g ≡ true → answers g ≡ None → ⊥
 
 -- a call that is done so
 pub done_as : (len : ℕ) (answers : Answers) (own : Own) (c : Call) (site left to : Site) (now : FileTree) (before : FilesAt) (o p : Outcome)
@@ -181,7 +182,12 @@ has_this : (p : ℕ) (s : Standing) (g : ℕ) → p ≡ g → has_grant (site_wi
 has_this p s g same = rw (eq-eqb p g same) refl
 
 module _ (len : ℕ) (config : ServerConfig) (answers : Answers) (facts : Facts) where
-  open_done : (options : OpenOptions) (path : List ℕ) (tree : FileTree) (st : Step) (site left : Site) (before : FilesAt) (o : Outcome)
+  -- a single request has its reply
+  one_reply : (p : ℕ) (r : Request) (x : Reply) → answers p ≡ Some x → (g : ℕ) → has_place ((p, r) ∷ []) g ≡ true → answers g ≡ None → ⊥
+  one_reply p r x came g asked none =
+      (let both : Some x ≡ None = sym came ∙ (ap answers (one_place p r g asked) ∙ none) in cc)
+
+  pub open_done : (options : OpenOptions) (path : List ℕ) (tree : FileTree) (st : Step) (site left : Site) (before : FilesAt) (o : Outcome)
       → before.tree ≡ bare tree → before.slot ≡ None → site ≡ fresh_site → has_bit (flags_of options).0 SSH_FXF_APPEND ≡ false
       → st.request ≡ open_request (flags_of options) path → AreServed config answers tree (st ∷ []) → st.choice.refuse ≡ SSH_FX_OK
       → next (call.OpenFile 0 options path) site facts ((st.place, st.request) ∷ []) answers ≡ Done o left
@@ -227,6 +233,7 @@ module _ (len : ℕ) (config : ServerConfig) (answers : Answers) (facts : Facts)
               | inr asked ↦ absurd (let here = one_place st.place st.request g asked in
                   let none : false ≡ true = sym (ap is_granted came) ∙ subst (λ (k : ℕ). is_granted (answers k) ≡ true) (sym here) granted in cc)
             ];
+            replied = one_reply st.place st.request (reply.Status r.code [] []) came;
           })
       by_alike (inr w) =
           let is : answer_to config tree st ≡ grants w.to st.handle (held_by (flags_of options).0 w.file) = ans ∙ w.x_is in
@@ -263,12 +270,13 @@ module _ (len : ℕ) (config : ServerConfig) (answers : Answers) (facts : Facts)
               | inr asked ↦ subst (λ (y : Site). has_grant (with_slot y 0 (File (file_at st.place s))) g ≡ true) (sym site_is)
                   (has_this st.place s g (one_place st.place st.request g asked))
             ];
+            replied = one_reply st.place st.request (reply.Handle st.handle) came;
           }))
 
   -- ---- a file that stays open
 
   -- the slot's file, elsewhere in it, and of a tree with the same names and handles
-  moved : (tree now : FileTree) (site : Site) (handle : List ℕ) (s : Standing) (to : ℕ) (h : HoldsFile answers tree site handle s)
+  pub moved : (tree now : FileTree) (site : Site) (handle : List ℕ) (s : Standing) (to : ℕ) (h : HoldsFile answers tree site handle s)
       → now.names ≡ tree.names → now.handles ≡ tree.handles
       → HoldsFile answers now (site_with (file_at h.grant (record s { offset = to }))) handle (record s { offset = to })
   moved tree now site handle s to h names handles = record {
@@ -281,13 +289,13 @@ module _ (len : ℕ) (config : ServerConfig) (answers : Answers) (facts : Facts)
   }
 
   -- where the slot's file is elsewhere the lane holds its grant, and what was asked has none
-  grant_stays : (c : Call) (own : Own) (site : Site) (grant to : ℕ) (s : Standing) → given_up c own site ≡ site → site ≡ site_with (file_at grant s)
+  pub grant_stays : (c : Call) (own : Own) (site : Site) (grant to : ℕ) (s : Standing) → given_up c own site ≡ site → site ≡ site_with (file_at grant s)
       → ((g : ℕ) → has_place own g ≡ true → is_granted (answers g) ≡ true → ⊥) → (g : ℕ) → is_granted (answers g) ≡ true
       → (has_grant (given_up c own site) g ≡ true) ⊎ (has_place own g ≡ true) → has_grant (site_with (file_at grant (record s { offset = to }))) g ≡ true
   grant_stays c own site grant to s same site_is none g granted (inl held) = subst (λ (y : Site). has_grant y g ≡ true) (same ∙ site_is) held
   grant_stays c own site grant to s same site_is none g granted (inr asked) = absurd (none g asked granted)
 
-  seek_done : (n : ℕ) (tree t : FileTree) (site left : Site) (handle : List ℕ) (s : Standing) (o : Outcome) → t ≡ bare tree
+  pub seek_done : (n : ℕ) (tree t : FileTree) (site left : Site) (handle : List ℕ) (s : Standing) (o : Outcome) → t ≡ bare tree
       → HoldsFile answers tree site handle s → next (call.Seek 0 (position.Start n)) site facts [] answers ≡ Done o left
       → HasDone len answers [] (call.Seek 0 (position.Start n)) site left tree (record { tree = t; slot = Some s }) o
   seek_done n tree t site left handle s o tree_is h done =
@@ -300,6 +308,7 @@ module _ (len : ℕ) (config : ServerConfig) (answers : Answers) (facts : Facts)
         handle = handle;
         at = record { tree_is = ap bare tree_is; slot_is = moved tree tree site handle s n h refl refl };
         keeps = grant_stays (call.Seek 0 (position.Start n)) [] site h.grant n s refl h.site_is (λ g asked granted. let both : false ≡ true = asked in cc);
+        replied = λ g asked none. let both : false ≡ true = asked in cc;
       })
 
   -- ---- READ
@@ -310,7 +319,7 @@ module _ (len : ℕ) (config : ServerConfig) (answers : Answers) (facts : Facts)
   capped_most : (cap k : ℕ) → capped cap k ≤ k
   capped_most cap k = grind (arith, nat_tests)
 
-  read_done : (n : ℕ) (tree t : FileTree) (st : Step) (site left : Site) (handle : List ℕ) (s : Standing) (o : Outcome) → t ≡ bare tree
+  pub read_done : (n : ℕ) (tree t : FileTree) (st : Step) (site left : Site) (handle : List ℕ) (s : Standing) (o : Outcome) → t ≡ bare tree
       → HoldsFile answers tree site handle s → s.readable ≡ true → 1 ≤ n → 1 ≤ facts.read_len
       → st.request ≡ request.Read handle s.offset (min n facts.read_len) → AreServed config answers tree (st ∷ []) → st.choice.refuse ≡ SSH_FX_OK
       → next (call.Read 0 n) site facts ((st.place, st.request) ∷ []) answers ≡ Done o left
@@ -369,6 +378,7 @@ module _ (len : ℕ) (config : ServerConfig) (answers : Answers) (facts : Facts)
             handle = handle;
             at = record { tree_is = ap bare tree_is; slot_is = moved tree tree site handle s s.offset h refl refl };
             keeps = grant_stays (call.Read 0 n) ((st.place, st.request) ∷ []) site h.grant s.offset s refl h.site_is (no_grant (reply.Status SSH_FX_EOF [] []) came refl);
+            replied = one_reply st.place st.request (reply.Status SSH_FX_EOF [] []) came;
           }))
       by_test false e =
           let bytes : List ℕ = take (capped st.choice.cap (min n facts.read_len)) (drop s.offset (bytes_of tree s.file)) in
@@ -404,6 +414,7 @@ module _ (len : ℕ) (config : ServerConfig) (answers : Answers) (facts : Facts)
             handle = handle;
             at = record { tree_is = ap bare tree_is; slot_is = moved tree tree site handle s to h refl refl };
             keeps = grant_stays (call.Read 0 n) ((st.place, st.request) ∷ []) site h.grant to s refl h.site_is (no_grant (reply.Content bytes) came refl);
+            replied = one_reply st.place st.request (reply.Content bytes) came;
           }))
 
   -- ---- CLOSE
@@ -416,7 +427,7 @@ module _ (len : ℕ) (config : ServerConfig) (answers : Answers) (facts : Facts)
       ap (λ (b : Bool). bare (if b || list_any (λ (pair : List ℕ × Opened). opens_file file pair.1) (without_handle tree handle).handles then
           without_handle tree handle else with_bytes (without_handle tree handle) file [])) living
 
-  close_done : (tree t : FileTree) (st : Step) (site left : Site) (handle : List ℕ) (s : Standing) (o : Outcome) → t ≡ bare tree
+  pub close_done : (tree t : FileTree) (st : Step) (site left : Site) (handle : List ℕ) (s : Standing) (o : Outcome) → t ≡ bare tree
       → HoldsFile answers tree site handle s → st.request ≡ request.Close handle → AreServed config answers tree (st ∷ []) → st.choice.refuse ≡ SSH_FX_OK
       → next (call.Close 0) site facts ((st.place, st.request) ∷ []) answers ≡ Done o left
       → HasDone len answers ((st.place, st.request) ∷ []) (call.Close 0) site left (answer_to config tree st).1 (record { tree = t; slot = Some s }) o
@@ -442,4 +453,5 @@ module _ (len : ℕ) (config : ServerConfig) (answers : Answers) (facts : Facts)
           | inr asked ↦ absurd (let here = one_place st.place st.request g asked in
               let both : false ≡ true = sym (ap is_granted came) ∙ subst (λ (j : ℕ). is_granted (answers j) ≡ true) (sym here) granted in cc)
         ];
+        replied = one_reply st.place st.request (reply.Status SSH_FX_OK [] []) came;
       }))

@@ -10,3 +10,4 @@ pub mod ViewedLaws
 pub mod SlotCalls
 pub mod CallsDone
 pub mod WritesDone
+pub mod EachCall

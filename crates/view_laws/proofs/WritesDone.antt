@@ -75,7 +75,7 @@ no_pieces : (most len : ℕ) → pieces most len [] ≡ []
 no_pieces zero len = refl
 no_pieces (suc most) len = refl
 
-not_over : (m n : ℕ) → n < m → nat_le m n ≡ false
+pub not_over : (m n : ℕ) → n < m → nat_le m n ≡ false
 not_over m n lt = grind (arith, nat_tests)
 
 module _ (config : ServerConfig) (answers : Answers) (facts : Facts) (handle : List ℕ) (grant : ℕ) (some : 1 ≤ facts.write_len) where
@@ -88,6 +88,7 @@ module _ (config : ServerConfig) (answers : Answers) (facts : Facts) (handle : L
     pub names : now.names ≡ tree.names
     pub handles : now.handles ≡ tree.handles
     pub ungranted : (g : ℕ) → has_place own g ≡ true → is_granted (answers g) ≡ true → ⊥
+    pub replied : (g : ℕ) → has_place own g ≡ true → answers g ≡ None → ⊥
 
   part_short : (bytes : List ℕ) → part_len facts bytes ≤ length bytes
   part_short bytes = let x : part_len facts bytes ≡ min (length bytes) facts.write_len = refl in omega (arith, x)
@@ -169,6 +170,7 @@ module _ (config : ServerConfig) (answers : Answers) (facts : Facts) (handle : L
             names = refl;
             handles = refl;
             ungranted = λ g has granted. let both : false ≡ true = has in cc;
+            replied = λ g has none. let both : false ≡ true = has in cc;
           }
       by_test false e done =
           let len_is : length (next_part facts bytes) ≡ part_len facts bytes = length-take-le (part_len facts bytes) bytes (part_short bytes) in
@@ -214,6 +216,14 @@ module _ (config : ServerConfig) (answers : Answers) (facts : Facts) (handle : L
         | inr t ↦ others g (rw t.0 at has) granted
       ]
 
+      replied_here : (code : ℕ) → answers st.place ≡ Some (reply.Status code [] [])
+          → ((g : ℕ) → has_place (asked_in steps) g ≡ true → answers g ≡ None → ⊥)
+          → (g : ℕ) → has_place (asked_in (st ∷ steps)) g ≡ true → answers g ≡ None → ⊥
+      replied_here code came others g has none = elim (eqb_tells st.place g) [
+        | inl t ↦ (let both : Some (reply.Status code [] []) ≡ None = sym came ∙ (ap answers t.1 ∙ none) in cc)
+        | inr t ↦ others g (rw t.0 at has) none
+      ]
+
       by_test : (m : ℕ) → length bytes ≤ suc m → (b : Bool) → is_over tree s.file (max (size_of tree s.file) (s.offset + length (next_part facts bytes))) ≡ b
           → WritesDone (asked_in (st ∷ steps)) s (suc m) bytes tree (after config (answer_to config tree st).1 steps) left o
       by_test m le true e =
@@ -233,6 +243,8 @@ module _ (config : ServerConfig) (answers : Answers) (facts : Facts) (handle : L
             names = ap (λ (x : FileTree). x.names) now_is;
             handles = ap (λ (x : FileTree). x.handles) now_is;
             ungranted = ungranted_here SSH_FX_FAILURE came (λ g has granted. let none : has_place (asked_in steps) g ≡ false = ap (λ (x : List Step). has_place (asked_in x) g) last in
+                let both : true ≡ false = sym has ∙ none in cc);
+            replied = replied_here SSH_FX_FAILURE came (λ g has unanswered. let none : has_place (asked_in steps) g ≡ false = ap (λ (x : List Step). has_place (asked_in x) g) last in
                 let both : true ≡ false = sym has ∙ none in cc);
           }
       by_test m le false e =
@@ -257,6 +269,7 @@ module _ (config : ServerConfig) (answers : Answers) (facts : Facts) (handle : L
             names = ap (λ (x : FileTree). x.names) now_is ∙ later.names;
             handles = ap (λ (x : FileTree). x.handles) now_is ∙ later.handles;
             ungranted = ungranted_here SSH_FX_OK came later.ungranted;
+            replied = replied_here SSH_FX_OK came later.replied;
           }
         where
           done_with : FileTree → Answer
