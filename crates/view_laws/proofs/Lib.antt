@@ -11,3 +11,4 @@ pub mod SlotCalls
 pub mod CallsDone
 pub mod WritesDone
 pub mod EachCall
+pub mod JournalSteps
