@@ -12,3 +12,5 @@ pub mod CallsDone
 pub mod WritesDone
 pub mod EachCall
 pub mod JournalSteps
+pub mod JournalEnds
+pub mod JournalDid
