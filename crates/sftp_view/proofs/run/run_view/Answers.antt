@@ -4,7 +4,7 @@ use Rattle.session_exchange.proofs.Joining.{escaped}
 use Rattle.sftp_view.specs.Doings.{one_lane}
 use Rattle.sftp_view.proofs.MemoryLaws.{stops_for_memory}
 use Rattle.sftp_view.proofs.ViewLaws.{may_new, starved_stops, stops_as_given}
-use Rattle.sftp_view.proofs.view.run_view.Goals as goal
+use Rattle.sftp_view.proofs.run.run_view.Goals as goal
 
 pub drive-requires-clause-may : goal.drive-requires-clause-may
 drive-requires-clause-may g c =
