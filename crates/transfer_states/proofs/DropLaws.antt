@@ -72,9 +72,13 @@ use Rattle.transfer_states.proofs.HoldingLaws.{parts_over, spares_both, spares_s
 parts_abandoned_on : (core : Core) (ticket : ℕ) (file : FileHold) (parts : List Part) → IsNotOfParts ticket parts
     → ArePartsHeld core file parts → ArePartsHeld (abandoned core ticket) file parts
 parts_abandoned_on core ticket file [] apart held = tt
-parts_abandoned_on core ticket file (part ∷ later) (ne, apart) (h, p, f, own, held) =
-    (cancelled_on core ticket part.ticket part.kind (λ same. ne (sym same)) h, p, f, own,
-    parts_abandoned_on core ticket file later apart held)
+parts_abandoned_on core ticket file (part ∷ later) (ne, apart) (h, p, f, own, held) = (
+  cancelled_on core ticket part.ticket part.kind (λ same. ne (sym same)) h,
+  p,
+  f,
+  own,
+  parts_abandoned_on core ticket file later apart held,
+)
 
 -- these parts are left of all
 pub record Dropping (first core : Core) (all parts : List Part) : Type 0 where
@@ -138,11 +142,13 @@ dropped_apart core file [] held none = (held, spares_same (record { file = file;
 dropped_apart core file (part ∷ later) held (h, p, f, own, parts) =
     let mid = abandoned core part.ticket in
     let below = dropped_apart mid file later (abandoned_file core part.ticket file h.counted f held)
-    (parts_abandoned_on core part.ticket file later own parts) in
-    (below.0, spares_both (record { file = file; parts = part ∷ later }) (record { file = file; parts = later })
-    (record { file = file; parts = [] }) core mid (drops_parts mid later)
-    (abandoned_spares core part.ticket (record { file = file; parts = part ∷ later }) (record { file = file; parts = later })
-    (λ id others. (others.parts.0, record { file = others.file; parts = others.parts.1 }))) below.1)
+    (parts_abandoned_on core part.ticket file later own parts) in (
+      below.0,
+      spares_both (record { file = file; parts = part ∷ later }) (record { file = file; parts = later })
+          (record { file = file; parts = [] }) core mid (drops_parts mid later)
+          (abandoned_spares core part.ticket (record { file = file; parts = part ∷ later }) (record { file = file; parts = later })
+          (λ id others. (others.parts.0, record { file = others.file; parts = others.parts.1 }))) below.1,
+    )
 
 pub parts_dropped : (core after : Core) (old new : HoldingValue) → HoldsAll core old → DropsParts core old after new
     → KeepsApart old new core after

@@ -167,7 +167,7 @@ submitted_spares old new asking ticket before after s others = record {
 -- they are held by another core that holds each of them, beside a file that has no number of theirs
 pub parts_over : (old new : Core) (file next : FileHold) (parts : List Part)
     → ((part : Part) → Holds old part.ticket part.kind → IsNotOfFile part.ticket file
-        → Holds new part.ticket part.kind × IsNotOfFile part.ticket next)
+    → Holds new part.ticket part.kind × IsNotOfFile part.ticket next)
     → ArePartsHeld old file parts → ArePartsHeld new next parts
 parts_over old new file next [] goes held = tt
 parts_over old new file next (part ∷ later) goes (holds, plain, file_apart, parts_apart, held) =
@@ -215,9 +215,13 @@ last_held : (core : Core) (file : FileHold) (ticket : ℕ) (kind : Expected) (le
     → ArePartsHeld core file parts → Holds core ticket kind → asks_handle kind ≡ false → IsNotOfFile ticket file
     → IsNotOfParts ticket parts → ArePartsHeld core file (parts ++ record { ticket = ticket; kind = kind; len = len } ∷ [])
 last_held core file ticket kind len [] held here plain file_apart apart = (here, plain, file_apart, tt, tt)
-last_held core file ticket kind len (part ∷ later) (h, p, f, own, held) here plain file_apart (ne, apart) =
-    (h, p, f, last_of_others part.ticket ticket kind len later (λ same. ne (sym same)) own,
-    last_held core file ticket kind len later held here plain file_apart apart)
+last_held core file ticket kind len (part ∷ later) (h, p, f, own, held) here plain file_apart (ne, apart) = (
+  h,
+  p,
+  f,
+  last_of_others part.ticket ticket kind len later (λ same. ne (sym same)) own,
+  last_held core file ticket kind len later held here plain file_apart apart,
+)
 
 free_of_file : (core : Core) (ticket : ℕ) (file : FileHold) → at core ticket ≡ None → IsFileHeld core file → IsNotOfFile ticket file
 free_of_file core ticket hold.Nothing free held = tt
@@ -284,8 +288,11 @@ file_polled core after old new ticket kind next held is core_is now next_held ap
       held = record {
         file = next_held;
         parts = parts_over core after (hold.Asked ticket kind) next old.parts
-            (λ part here ne. (subst (λ (x : Core). Holds x part.ticket part.kind) (sym core_is)
-            (polled_on core ticket part.ticket part.kind ne here), apart part.ticket ne)) parts;
+            (λ part here ne. (
+              subst (λ (x : Core). Holds x part.ticket part.kind) (sym core_is)
+                  (polled_on core ticket part.ticket part.kind ne here),
+              apart part.ticket ne,
+            )) parts;
       };
       spares = polled_spares core after ticket old (record old { file = next }) core_is
           (λ id others. (let ne = subst (λ (f : FileHold). IsNotOfFile id f) is others.file in
@@ -340,8 +347,7 @@ file_granted core after old new ticket kind grant held is core_is now (come, sam
     let one : at after grant.id ≡ Some (Granted grant.handle 1) = (λ i. at (core_is i) (same i)) ∙ here in
     let grant_is : grant ≡ record { id = ticket; handle = grant.handle } = λ i. record { id = same i; handle = grant.handle } in
     let file_is : new.file ≡ hold.Opened (record { id = ticket; handle = grant.handle }) =
-    ap (λ (x : HoldingValue). x.file) now ∙ ap hold.Opened grant_is in
-    (
+    ap (λ (x : HoldingValue). x.file) now ∙ ap hold.Opened grant_is in (
       (
         grant.handle,
         ap (file_reply core) is ∙ come.taken,
@@ -351,7 +357,7 @@ file_granted core after old new ticket kind grant held is core_is now (come, sam
         ap (λ (x : HoldingValue). x.parts) now,
       ),
       file_polled core after old new ticket kind (hold.Opened grant) held is core_is now one
-      (λ id ne there. ne (there ∙ same)),
+          (λ id ne there. ne (there ∙ same)),
     )
 
 -- a request for bytes is never answered by a HANDLE

@@ -211,6 +211,13 @@ pub record ClosesFile (core : Core) (old : HoldingValue) (after : Core) (new : H
   pub core_is : after ≡ released core grant
   pub now : new ≡ record old { file = hold.Asked grant.id expected.Status }
 
+-- both, one after the other
+pub record LetsGo (core : Core) (old : HoldingValue) (after : Core) (new : HoldingValue) : Type 0 where
+  pub mid : Core
+  pub alone : HoldingValue
+  pub drops : DropsParts core old mid alone
+  pub closes : ClosesFile mid alone after new
+
 -- the core once the file was given up: the CLOSE of its handle is queued as soon as there is one, and nobody awaits it
 abbrev pub drops_file : Core → FileHold → Core
 drops_file core hold.Nothing = core

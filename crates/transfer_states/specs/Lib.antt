@@ -1,3 +1,5 @@
 pub mod Local
 pub mod Answers
+pub mod Refusals
 pub mod Holdings
+pub mod Gets

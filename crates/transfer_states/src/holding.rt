@@ -3,7 +3,7 @@ ghost use Rattle.std.specs.Prelude.{◌≡◌, ◌<◌, ◌^◌, [], true, lengt
 ghost use Rattle.sftp_core.specs.Core.{is_call};
 ghost use Rattle.sftp_core.specs.Info.{info_of};
 ghost use Rattle.transfer_states.specs.declared.holding.FileHold.TheVariants as hold;
-ghost use Rattle.transfer_states.specs.Holdings.{AsksFile, ClosesFile, DropsParts, HoldsAll, IsAsked, IsFileHeld, IsOpened, ArePartsHeld, AsksRead, AsksWrite, KeepsApart, SettlesFile, Spares, TakesPart, drops_file, drops_parts, nothing_held};
+ghost use Rattle.transfer_states.specs.Holdings.{AsksFile, ClosesFile, DropsParts, HoldsAll, IsAsked, IsFileHeld, IsOpened, ArePartsHeld, AsksRead, AsksWrite, KeepsApart, LetsGo, SettlesFile, Spares, TakesPart, drops_file, drops_parts, nothing_held};
 ghost use Rattle.transfer_states.specs.declared.holding.FileHold.{FileHold as FileValue};
 
 use crate::answers::{TicketAnswer, answer_to};
@@ -127,7 +127,8 @@ impl Holding {
     {
         match submit(core, request) {
             Ok(ticket) => {
-                self.file.put(FileHold::Asked(ticket, Expected::of(request)));
+                self.file
+                    .put(FileHold::Asked(ticket, Expected::of(request)));
                 Ok(())
             }
             Err(e) => Err(e),
@@ -179,12 +180,7 @@ impl Holding {
 
 impl Holding {
     /// Asks for bytes of the file at an offset, behind the other parts. Refused, core and holding are as before.
-    pub(crate) fn ask_read(
-        &mut self,
-        core: &mut Core,
-        offset: u64,
-        len: u32,
-    ) -> Result<(), Failure>
+    pub(crate) fn ask_read(&mut self, core: &mut Core, offset: u64, len: u32) -> Result<(), Failure>
         requires file { IsOpened self.old.file }
         requires opened { IsSome (info_of core.old.phase) }
         requires held { HoldsAll core.old self.old }
@@ -276,6 +272,17 @@ impl Holding {
         ensures apart { KeepsApart self.old self.new core.old core.new }
     {
         drop_parts(&mut self.parts, core);
+    }
+
+    /// Gives up the parts that are under way, and closes the file.
+    pub(crate) fn let_go(&mut self, core: &mut Core)
+        requires opened { IsOpened self.old.file }
+        requires held { HoldsAll core.old self.old }
+        ensures goes { LetsGo core.old self.old core.new self.new }
+        ensures apart { KeepsApart self.old self.new core.old core.new }
+    {
+        self.abandon_parts(core);
+        self.close(core);
     }
 
     /// Gives everything up: replies, come or to come, are dropped, and a handle that came or comes is closed.

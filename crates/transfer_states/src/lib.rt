@@ -5,9 +5,15 @@
 mod answers;
 mod asking;
 mod failure;
+mod get;
 mod holding;
 mod local;
+mod paths;
+mod progress;
+mod refusals;
 
 pub use failure::Failure;
+pub use get::{FileGet, GetStage};
 pub use holding::{FileHold, Holding, Part};
 pub use local::{LocalError, LocalFile};
+pub use progress::Progress;

@@ -7,6 +7,8 @@ use Rattle.transfer_states.proofs.answers.answer_to.Goals as goal
 pub returns-in-Ok-Granted-clause-answer : goal.returns-in-Ok-Granted-clause-answer
 returns-in-Ok-Granted-clause-answer c =
     let gave : polled_with c.args.core.now c.args.ticket ≡ Ok (polled.Granted c.in-Ok-Granted.grant) = search rules in
-    let came = came_grant c.args.core.now c.args.ticket c.in-Ok-Granted.grant c.poll.ensures.allowed gave in
-    (record { taken = came.taken; allowed = came.allowed }, came.granted.0,
-    ap (at (after_poll c.args.core.now c.args.ticket)) (sym came.granted.0) ∙ came.granted.1)
+    let came = came_grant c.args.core.now c.args.ticket c.in-Ok-Granted.grant c.poll.ensures.allowed gave in (
+      record { taken = came.taken; allowed = came.allowed },
+      came.granted.0,
+      ap (at (after_poll c.args.core.now c.args.ticket)) (sym came.granted.0) ∙ came.granted.1,
+    )
