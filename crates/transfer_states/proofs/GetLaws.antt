@@ -36,7 +36,7 @@ use Rattle.transfer_states.specs.declared.holding.Part.{Part}
 use Rattle.transfer_states.specs.declared.holding.PartAnswer.TheVariants as part_answer
 use Rattle.transfer_states.specs.declared.progress.Progress.{Progress}
 use Rattle.transfer_states.specs.declared.progress.Progress.TheVariants as progress
-use Rattle.transfer_states.specs.Holdings.{AsksRead, HoldingValue, IsOpened, KeepsApart, SettlesFile, TakesPart}
+use Rattle.transfer_states.specs.Holdings.{AsksRead, HoldingValue, IsOpened, KeepsApart, SettlesFile, TakesPart, bytes_under_way}
 use Rattle.transfer_states.specs.Gets.{
   AreReads,
   AsksMore,
@@ -54,7 +54,6 @@ use Rattle.transfer_states.specs.Gets.{
   Opens,
   ReadsOn,
   StandsAt,
-  bytes_under_way,
 }
 use Rattle.transfer_states.specs.Local.{LocalAct}
 use Rattle.transfer_states.proofs.HoldingLaws.{apart_both}
@@ -78,12 +77,12 @@ last_reads : (ticket len : ℕ) (parts : List Part) → AreReads parts
 last_reads ticket len [] are = (refl, tt)
 last_reads ticket len (part ∷ later) (here, are) = (here, last_reads ticket len later are)
 
-last_bytes : (ticket len : ℕ) (kind : Expected) (parts : List Part)
+pub last_bytes : (ticket len : ℕ) (kind : Expected) (parts : List Part)
     → bytes_under_way (parts ++ record { ticket = ticket; kind = kind; len = len } ∷ []) ≡ bytes_under_way parts + len
 last_bytes ticket len kind [] = omega (arith)
 last_bytes ticket len kind (part ∷ later) = (let e = last_bytes ticket len kind later in omega (arith, e))
 
-still_open : (core after : Core) (h k : HoldingValue) → KeepsApart h k core after → IsSome (info_of core.phase) → IsSome (info_of after.phase)
+pub still_open : (core after : Core) (h k : HoldingValue) → KeepsApart h k core after → IsSome (info_of core.phase) → IsSome (info_of after.phase)
 still_open core after h k apart opened = subst (λ (p : Phase). IsSome (info_of p)) (sym apart.spares.phase) opened
 
 pub asked_on : (core after : Core) (old : FileGet) (held : HoldingValue) (len : ℕ) → IsSome (info_of core.phase)

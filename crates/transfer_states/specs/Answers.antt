@@ -21,6 +21,7 @@ abbrev pub AnswersTicket : Core → ℕ → TicketAnswer → Type 0
 AnswersTicket core ticket (answer.Came r) = HasCome core ticket r
 AnswersTicket core ticket (answer.Granted grant) = HasCome core ticket (reply.Handle grant.handle) × (grant.id ≡ ticket)
     × (at (after_poll core ticket) ticket ≡ Some (Granted grant.handle 1))
-AnswersTicket core ticket (answer.Missing same) = (reply_in (at core ticket) ≡ None) × (core.fault ≡ None) × (same ≡ ticket)
+AnswersTicket core ticket (answer.Missing same) = (reply_in (at core ticket) ≡ None) × (core.fault ≡ None)
+    × (same ≡ ticket)
     × (after_poll core ticket ≡ core)
 AnswersTicket core ticket (answer.Failed fault) = (reply_in (at core ticket) ≡ None) × (core.fault ≡ Some fault)

@@ -51,33 +51,27 @@ use Rattle.transfer_states.specs.Holdings.{
   DropsParts,
   HoldingValue,
   HoldsAll,
+  IsOk,
+  IsOnly,
   IsOpened,
+  IsRefused,
   KeepsApart,
   LetsGo,
   SettlesFile,
   TakesPart,
+  bytes_under_way,
   nothing_held,
 }
-use Rattle.transfer_states.specs.Refusals.{SaysOk}
 use Rattle.transfer_states.specs.Local.{Created, Failed, LocalAct, Renamed, Wrote}
 
 -- a file is opened to read alone
 abbrev pub read_flags : OpenFlags
 read_flags = flags_of (record nothing_chosen { read = true })
 
--- the bytes that the parts ask for
-abbrev pub bytes_under_way : List Part → ℕ
-bytes_under_way [] = 0
-bytes_under_way (part ∷ later) = part.len + bytes_under_way later
-
 -- each part is a READ
 abbrev pub AreReads : List Part → Type 0
 AreReads [] = Unit {0}
 AreReads (part ∷ later) = (part.kind ≡ expected.Content part.len) × AreReads later
-
--- a request of the file is under way, and nothing else
-abbrev pub IsOnly : Expected → HoldingValue → Type 0
-IsOnly kind h = (ticket : ℕ) × (h ≡ record { file = hold.Asked ticket kind; parts = [] })
 
 -- ---- where it stands
 
@@ -185,11 +179,6 @@ Starts remote core old after new progress.Moved =
 Starts remote core old after new (progress.Ended (Err e)) = (after ≡ core) × (new ≡ record old { stage = stage.Ended })
 Starts remote core old after new other = ⊥
 
--- a request of the file was refused, or a fault is kept in place of its reply
-abbrev pub IsRefused : Core → HoldingValue → Core → HoldingValue → Type 0
-IsRefused core old after new = ((r : Reply) × SettlesFile core old after new (file_answer.Came r))
-    ⊎ ((fault : Fault) × SettlesFile core old after new (file_answer.Failed fault))
-
 -- the part was made, or not
 abbrev pub MakesPart : {H : Type 0} → (LocalAct → H → H) → List ℕ → Core → FileGet → Core → FileGet → H → H → Type 0
 MakesPart done part core old after new before now = ((now ≡ done (Created part) before) × (after ≡ core)
@@ -291,12 +280,11 @@ ReadsOn done core old after new before now (progress.Ended result) = ⊥
 -- ---- the end
 
 -- the server said OK to the CLOSE
-pub record SaysClosed (core : Core) (old : FileGet) (after : Core) (new : FileGet) : Type 0 where
-  pub status : Reply
-  pub came : SettlesFile core old.holding after new.holding (file_answer.Came status)
-  pub ok : SaysOk status
+abbrev pub SaysClosed : Core → FileGet → Core → FileGet → Type 0
+SaysClosed core old after new = IsOk core old.holding after new.holding
 
--- Nothing failed, the server said OK to the CLOSE, and then the part got its name; or not, and the first failure is told.
+-- Nothing failed, the server said OK to the CLOSE, and then the part got its name; or not, and the first failure is
+-- told.
 abbrev pub Ends : {H : Type 0} → (LocalAct → H → H) → List ℕ → List ℕ → Core → FileGet → Core → FileGet → H → H
     → Progress → Type 0
 Ends done part name core old after new before now progress.Waits =

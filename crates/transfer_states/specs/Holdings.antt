@@ -1,8 +1,27 @@
 -- What a copy of one file has of a core: the request or the grant of its file, and the requests for its bytes.
-use Rattle.std.specs.Prelude.{◌≡◌, ◌≢◌, ◌<◌, ℕ, ◌+◌, Bool, true, false, List, [], ◌∷◌, ◌++◌, length, Option, Some, None}
+use Rattle.std.specs.Prelude.{
+  ◌≡◌,
+  ◌≢◌,
+  ◌⊎◌,
+  ◌<◌,
+  ℕ,
+  ◌+◌,
+  Bool,
+  true,
+  false,
+  List,
+  [],
+  ◌∷◌,
+  ◌++◌,
+  length,
+  Option,
+  Some,
+  None,
+}
 use Rattle.sftp_model.specs.Answers.{allows, expected_of}
 use Rattle.sftp_model.specs.declared.answers.Expected.{Expected}
 use Rattle.sftp_model.specs.declared.answers.Expected.TheVariants as expected
+use Rattle.sftp_model.specs.declared.error.Fault.{Fault}
 use Rattle.sftp_model.specs.declared.reply.Reply.{Reply}
 use Rattle.sftp_model.specs.declared.reply.Reply.TheVariants as reply
 use Rattle.sftp_model.specs.declared.request.Request.{Request}
@@ -22,6 +41,9 @@ use Rattle.transfer_states.specs.declared.holding.FileHold.TheVariants as hold
 use Rattle.transfer_states.specs.declared.holding.Part.{Part}
 use Rattle.transfer_states.specs.declared.holding.PartAnswer.{PartAnswer}
 use Rattle.transfer_states.specs.declared.holding.PartAnswer.TheVariants as part_answer
+use Rattle.transfer_states.specs.declared.holding.StatusAnswer.{StatusAnswer}
+use Rattle.transfer_states.specs.declared.holding.StatusAnswer.TheVariants as status_answer
+use Rattle.transfer_states.specs.Refusals.{SaysOk}
 
 -- the file, and the parts under way in order
 pub record HoldingValue : Type 0 where
@@ -30,6 +52,15 @@ pub record HoldingValue : Type 0 where
 
 abbrev pub nothing_held : HoldingValue
 nothing_held = record { file = hold.Nothing; parts = [] }
+
+-- the bytes that the parts ask for or carry
+abbrev pub bytes_under_way : List Part → ℕ
+bytes_under_way [] = 0
+bytes_under_way (part ∷ later) = part.len + bytes_under_way later
+
+-- a request of the file is under way, and nothing else
+abbrev pub IsOnly : Expected → HoldingValue → Type 0
+IsOnly kind h = (ticket : ℕ) × (h ≡ record { file = hold.Asked ticket kind; parts = [] })
 
 -- ---- whose a number is
 
@@ -150,7 +181,8 @@ GivesGrant other handle new = ⊥
 abbrev pub SettlesFile : Core → HoldingValue → Core → HoldingValue → FileAnswer → Type 0
 SettlesFile core old after new file_answer.Missing = (file_reply core old.file ≡ None) × (core.fault ≡ None)
     × (after ≡ core) × (new ≡ old)
-SettlesFile core old after new (file_answer.Failed fault) = (file_reply core old.file ≡ None) × (core.fault ≡ Some fault)
+SettlesFile core old after new (file_answer.Failed fault) = (file_reply core old.file ≡ None)
+    × (core.fault ≡ Some fault)
     × (after ≡ after_file core old.file) × (new ≡ record old { file = hold.Nothing })
 SettlesFile core old after new (file_answer.Came r) = (file_reply core old.file ≡ Some r) × IsFileReply old.file r
     × (after ≡ after_file core old.file) × (new ≡ record old { file = hold.Nothing })
@@ -160,6 +192,29 @@ SettlesFile core old after new file_answer.Granted = (handle : List ℕ)
     × (after ≡ after_file core old.file)
     × GivesGrant old.file handle new.file
     × (new.parts ≡ old.parts)
+
+-- a request of the file was refused, or a fault is kept in place of its reply
+abbrev pub IsRefused : Core → HoldingValue → Core → HoldingValue → Type 0
+IsRefused core old after new = ((r : Reply) × SettlesFile core old after new (file_answer.Came r))
+    ⊎ ((fault : Fault) × SettlesFile core old after new (file_answer.Failed fault))
+
+-- or it was answered otherwise than by OK
+abbrev pub IsNotOk : Core → HoldingValue → Core → HoldingValue → Type 0
+IsNotOk core old after new = ((r : Reply) × SettlesFile core old after new (file_answer.Came r) × (SaysOk r → ⊥))
+    ⊎ ((fault : Fault) × SettlesFile core old after new (file_answer.Failed fault))
+
+-- the server said OK to it
+pub record IsOk (core : Core) (old : HoldingValue) (after : Core) (new : HoldingValue) : Type 0 where
+  pub status : Reply
+  pub came : SettlesFile core old after new (file_answer.Came status)
+  pub ok : SaysOk status
+
+-- A request of the file, and nothing else, is under way, and this is what came of it.
+abbrev pub SettlesStatus : Core → HoldingValue → Core → HoldingValue → StatusAnswer → Type 0
+SettlesStatus core old after new status_answer.Missing = SettlesFile core old core old file_answer.Missing
+    × (after ≡ core) × (new ≡ old)
+SettlesStatus core old after new status_answer.Done = IsOk core old after new × (new ≡ nothing_held)
+SettlesStatus core old after new (status_answer.NotDone e) = IsNotOk core old after new × (new ≡ nothing_held)
 
 -- the first part, of which this is known
 pub record TakesFirst (Known : Part → Type 0) (core : Core) (old : HoldingValue) (after : Core) (new : HoldingValue) :

@@ -3,3 +3,4 @@ pub mod Answers
 pub mod Refusals
 pub mod Holdings
 pub mod Gets
+pub mod Puts

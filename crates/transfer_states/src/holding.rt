@@ -1,14 +1,16 @@
 //! What a copy of one file has of a core.
 ghost use Rattle.std.specs.Prelude.{◌≡◌, ◌<◌, ◌^◌, [], true, length, OnOk, OnErr, IsSome};
+ghost use Rattle.sftp_model.specs.declared.answers.Expected.TheVariants as expected;
 ghost use Rattle.sftp_core.specs.Core.{is_call};
 ghost use Rattle.sftp_core.specs.Info.{info_of};
 ghost use Rattle.transfer_states.specs.declared.holding.FileHold.TheVariants as hold;
-ghost use Rattle.transfer_states.specs.Holdings.{AsksFile, ClosesFile, DropsParts, HoldsAll, IsAsked, IsFileHeld, IsOpened, ArePartsHeld, AsksRead, AsksWrite, KeepsApart, LetsGo, SettlesFile, Spares, TakesPart, drops_file, drops_parts, nothing_held};
+ghost use Rattle.transfer_states.specs.Holdings.{AsksFile, ClosesFile, DropsParts, HoldsAll, IsAsked, IsFileHeld, IsOnly, IsOpened, ArePartsHeld, AsksRead, AsksWrite, KeepsApart, LetsGo, SettlesFile, SettlesStatus, Spares, TakesPart, drops_file, drops_parts, nothing_held};
 ghost use Rattle.transfer_states.specs.declared.holding.FileHold.{FileHold as FileValue};
 
 use crate::answers::{TicketAnswer, answer_to};
 use crate::asking::{submit, submit_write};
 use crate::failure::Failure;
+use crate::refusals::{faulted, settled};
 use bytes::Bytes;
 use sftp_core::{Core, Grant, Ticket};
 use sftp_model::{Expected, Fault, Reply, Request};
@@ -47,6 +49,16 @@ pub(crate) enum FileAnswer {
     Came(Reply),
     /// The reply is missing, and this fault is kept.
     Failed(Fault),
+}
+
+/// What came of a request of the file that a status answers.
+pub(crate) enum StatusAnswer {
+    /// The reply is missing, and no fault is kept.
+    Missing,
+    /// The server said OK.
+    Done,
+    /// It said something else, or a fault is kept.
+    NotDone(Failure),
 }
 
 /// What came of the first part.
@@ -157,6 +169,24 @@ impl Holding {
             },
             FileHold::Nothing => unreachable!(),
             FileHold::Opened(_grant) => unreachable!(),
+        }
+    }
+
+    /// What came of the request of the file, which a status answers, where nothing else is under way.
+    pub(crate) fn settle_status(&mut self, core: &mut Core) -> StatusAnswer
+        requires only { IsOnly expected.Status self.old }
+        requires held { HoldsAll core.old self.old }
+        ensures answers { SettlesStatus core.old self.old core.new self.new result }
+        ensures apart { KeepsApart self.old self.new core.old core.new }
+    {
+        match self.settle(core) {
+            FileAnswer::Missing => StatusAnswer::Missing,
+            FileAnswer::Granted => unreachable!(),
+            FileAnswer::Came(reply) => match settled(reply) {
+                Ok(()) => StatusAnswer::Done,
+                Err(e) => StatusAnswer::NotDone(e),
+            },
+            FileAnswer::Failed(fault) => StatusAnswer::NotDone(faulted(fault)),
         }
     }
 

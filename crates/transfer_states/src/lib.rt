@@ -10,6 +10,7 @@ mod holding;
 mod local;
 mod paths;
 mod progress;
+mod put;
 mod refusals;
 
 pub use failure::Failure;
@@ -17,3 +18,4 @@ pub use get::{FileGet, GetStage};
 pub use holding::{FileHold, Holding, Part};
 pub use local::{LocalError, LocalFile};
 pub use progress::Progress;
+pub use put::{FilePut, PutStage};

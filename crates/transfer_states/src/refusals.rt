@@ -1,5 +1,5 @@
 //! Why a copy failed, by what the server or the session said.
-ghost use Rattle.std.specs.Prelude.{◌≡◌, true, OnOk};
+ghost use Rattle.std.specs.Prelude.{◌≡◌, true, OnOk, OnErr};
 ghost use Rattle.sftp_model.specs.Answers.{allows};
 ghost use Rattle.sftp_model.specs.declared.answers.Expected.TheVariants as expected;
 ghost use Rattle.transfer_states.specs.Refusals.{SaysOk};
@@ -37,7 +37,8 @@ pub(crate) fn refused(reply: Reply) -> Failure {
 
 /// What a status says. Ok exactly where it is OK.
 pub(crate) fn settled(reply: Reply) -> Result<(), Failure>
-    ensures { OnOk result (SaysOk reply) }
+    ensures ok { OnOk result (SaysOk reply) }
+    ensures err { OnErr result (SaysOk reply → ⊥) }
 {
     match reply {
         Reply::Status {
