@@ -1,0 +1,2 @@
+pub mod GoingLaws
+pub mod TogetherLaws
