@@ -68,10 +68,12 @@ use Rattle.transfer_copier.specs.Copies.{
   GoesOn,
   IsEndedAs,
   IsOf,
+  IsOfNone,
   IsOfFile,
   IsOfParts,
   MayCancel,
   MayGo,
+  SparesAll,
   StandsAfter,
   TakesTurn,
   copy_begun,
@@ -272,8 +274,8 @@ together_stepped {F = F} done history core after old later new copy next result 
 pub turn_ended : {F H : Type 0} (done : LocalAct → H → H) (history : F → H) (core mid after : Core) (old later : List (Running F))
     (copy last : Running F) (result : Result ℕ Failure) (copied : Copied F) → old ≡ copy ∷ later
     → GoesOn done history core copy mid last (progress.Ended result) → IsEndedAs last result copied
-    → EndsTurn done history core old after later copied
-turn_ended done history core mid after old later copy last result copied first goes ended = record {
+    → Spares (holding_of last.state) nothing_held mid after → EndsTurn done history core old after later copied
+turn_ended done history core mid after old later copy last result copied first goes ended spent = record {
   copy = copy;
   later = later;
   last = last;
@@ -282,6 +284,7 @@ turn_ended done history core mid after old later copy last result copied first g
   now = refl;
   goes = subst (λ (x : Result ℕ Failure). GoesOn done history core copy mid last (progress.Ended x)) (sym ended.is) goes;
   ended = record { job = ended.job; local = ended.local; is = refl };
+  spent = spent;
 }
 
 pub together_ended : {F H : Type 0} (done : LocalAct → H → H) (history : F → H) (core mid after : Core) (old later : List (Running F))
@@ -292,3 +295,35 @@ together_ended {F = F} done history core mid after old later copy last result fi
     let here = subst (λ (l : List (Running F)). AreTogether core l) first all in
     let both = together_over core mid (holding_of copy.state) (holding_of last.state) later goes.spares here.1 here.2 in
     (together_over mid after (holding_of last.state) nothing_held later spent both.1 both.0).0
+
+-- ---- all are given up
+
+pub record Cancelling {F : Type 0} (first core : Core) (all rs : List (Running F)) : Type 0 where
+  pub together : AreTogether core rs
+  pub places : (id : ℕ) (place : Place) → IsOfNone id all → at first id ≡ Some place → (at core id ≡ Some place) × IsOfNone id rs
+  pub phase : core.phase ≡ first.phase
+  pub fault : core.fault ≡ first.fault
+
+pub cancels_first : {F : Type 0} (core : Core) (all : List (Running F)) → AreTogether core all → Cancelling core core all all
+cancels_first core all together = record { together = together; places = λ id place none here. (here, none); phase = refl; fault = refl }
+
+pub cancels_may : {F : Type 0} (first core : Core) (all rs : List (Running F)) (r : Running F) (later : List (Running F))
+    → Cancelling first core all rs → rs ≡ r ∷ later → MayGo core r.state
+cancels_may {F = F} first core all rs r later c is = (subst (λ (l : List (Running F)). AreTogether core l) is c.together).0
+
+pub cancels_next : {F : Type 0} (first core after : Core) (all rs : List (Running F)) (r : Running F) (later : List (Running F))
+    → Cancelling first core all rs → rs ≡ r ∷ later → Spares (holding_of r.state) nothing_held core after
+    → Cancelling first after all later
+cancels_next {F = F} first core after all rs r later c is spares =
+    let here = subst (λ (l : List (Running F)). Cancelling first core all l) is c in
+    record {
+      together = (together_over core after (holding_of r.state) nothing_held later spares here.together.1 here.together.2).0;
+      places = λ id place none at_first. (let now = here.places id place none at_first in
+          ((spares.places id place now.1.0 now.0).0, now.1.1));
+      phase = spares.phase ∙ here.phase;
+      fault = spares.fault ∙ here.fault;
+    }
+
+pub cancels_all : {F : Type 0} (first core : Core) (all rs : List (Running F)) → Cancelling first core all rs → SparesAll all first core
+cancels_all first core all rs c =
+    record { places = λ id place none here. (c.places id place none here).0; phase = c.phase; fault = c.fault }

@@ -17,7 +17,10 @@ use Rattle.std.specs.Prelude.{
   Err,
 }
 use Rattle.std.specs.String.{string_bytes}
-use Rattle.sftp_core.specs.Core.{Core}
+use Rattle.sftp_core.specs.Core.{Core, at}
+use Rattle.sftp_core.specs.declared.place.Place.{Place}
+use Rattle.sftp_link.specs.Views.{LinkView}
+use Rattle.sftp_client.specs.Sessions.{SftpValue, with_core}
 use Rattle.transfer_states.specs.declared.failure.Failure.{Failure}
 use Rattle.transfer_states.specs.declared.holding.FileHold.{FileHold}
 use Rattle.transfer_states.specs.declared.holding.FileHold.TheVariants as hold
@@ -25,9 +28,12 @@ use Rattle.transfer_states.specs.declared.holding.Part.{Part}
 use Rattle.transfer_states.specs.declared.progress.Progress.{Progress}
 use Rattle.transfer_states.specs.declared.progress.Progress.TheVariants as progress
 use Rattle.transfer_states.specs.Gets.{GetDid, IsGetting, MayGet, get_begun}
-use Rattle.transfer_states.specs.Holdings.{HoldingValue, IsOfOthers, Spares}
+use Rattle.transfer_states.specs.Holdings.{HoldingValue, IsOfOthers, Spares, nothing_held}
 use Rattle.transfer_states.specs.Local.{LocalAct}
 use Rattle.transfer_states.specs.Puts.{IsPutting, MayPut, PutDid, put_begun}
+use Rattle.transfer_copier.specs.Sessions.{IsGoing, Turned}
+use Rattle.transfer_copier.specs.declared.copier.Advance.{Advance}
+use Rattle.transfer_copier.specs.declared.copier.Advance.TheVariants as advance
 use Rattle.transfer_copier.specs.declared.copier.CopierStep.{CopierStep}
 use Rattle.transfer_copier.specs.declared.copier.CopierStep.TheVariants as copier_step
 use Rattle.transfer_copier.specs.declared.running.Copied.{Copied}
@@ -118,6 +124,17 @@ abbrev pub AreTogether : {F : Type 0} → Core → List (Running F) → Type 0
 AreTogether core [] = Unit {0}
 AreTogether core (r ∷ later) = MayGo core r.state × AreApartFrom (holding_of r.state) later × AreTogether core later
 
+-- it is no copy's
+abbrev pub IsOfNone : {F : Type 0} → ℕ → List (Running F) → Type 0
+IsOfNone id [] = Unit {0}
+IsOfNone id (r ∷ later) = IsOfOthers id (holding_of r.state) × IsOfNone id later
+
+-- what stands in the core under a number of no copy stays
+pub record SparesAll {F : Type 0} (copies : List (Running F)) (old new : Core) : Type 0 where
+  pub places : (id : ℕ) (place : Place) → IsOfNone id copies → at old id ≡ Some place → at new id ≡ Some place
+  pub phase : new.phase ≡ old.phase
+  pub fault : new.fault ≡ old.fault
+
 -- how many requests are under way for a file at most, and the copies that have not ended, in order of their turns
 pub record CopierValue (F : Type 0) : Type 0 where
   pub window : ℕ
@@ -146,6 +163,7 @@ pub record EndsTurn {F H : Type 0} (done : LocalAct → H → H) (history : F �
   pub now : new ≡ later
   pub goes : GoesOn done history core copy mid last (progress.Ended copied.result)
   pub ended : IsEndedAs last copied.result copied
+  pub spent : Spares (holding_of last.state) nothing_held mid after
 
 abbrev pub CopierSteps : {F H : Type 0} → (LocalAct → H → H) → (F → H) → Core → List (Running F) → Core
     → List (Running F) → CopierStep F → Type 0
@@ -154,3 +172,62 @@ CopierSteps done history core old after new copier_step.Waits = TakesTurn done h
 CopierSteps done history core old after new copier_step.Moved = TakesTurn done history core old after new progress.Moved
 CopierSteps done history core old after new (copier_step.Ended copied) =
     EndsTurn done history core old after new copied
+
+-- ---- until one has ended
+
+-- a session, and the copies over its core
+pub record Working (L F : Type 0) : Type 0 where
+  pub session : SftpValue L
+  pub running : List (Running F)
+
+-- one step, after which nothing but the core of the session is another
+pub record StepsTo {L F H : Type 0} (done : LocalAct → H → H) (history : F → H) (old new : Working L F)
+    (result : CopierStep F) : Type 0 where
+  pub steps : CopierSteps done history old.session.core old.running new.session.core new.running result
+  pub rest : new.session ≡ with_core old.session new.session.core
+
+-- the session took a turn, and the copies none
+pub record TurnsSession {L S F : Type 0} (state : L → LinkView S) (old new : Working L F) : Type 0 where
+  pub result : Result (Unit {0}) Failure
+  pub turned : Turned state old.session new.session result
+  pub same : new.running ≡ old.running
+
+-- a step of a copy that has not ended, or a turn of the session
+abbrev pub Works : {L S F H : Type 0} → (L → LinkView S) → (LocalAct → H → H) → (F → H) → Working L F → Working L F
+    → Type 0
+Works state done history old new = StepsTo done history old new copier_step.Waits
+    ⊎ StepsTo done history old new copier_step.Moved
+    ⊎ TurnsSession state old new
+
+-- so many of these
+abbrev pub Worked : {L S F H : Type 0} → (L → LinkView S) → (LocalAct → H → H) → (F → H) → ℕ → Working L F
+    → Working L F → Type 0
+Worked state done history zero old new = new ≡ old
+Worked {L = L} {F = F} state done history (suc n) old new = (mid : Working L F) × Worked state done history n old mid
+    × Works state done history mid new
+
+-- what one advance did
+abbrev pub AdvanceDid : {L S F H : Type 0} → (L → LinkView S) → (LocalAct → H → H) → (F → H) → Working L F
+    → Working L F → Advance F → Type 0
+AdvanceDid state done history old new advance.On = (n : ℕ) × Worked state done history n old new
+AdvanceDid state done history old new (advance.Over (Some copied)) =
+    StepsTo done history old new (copier_step.Ended copied)
+AdvanceDid state done history old new (advance.Over None) = StepsTo done history old new copier_step.Idle
+AdvanceDid state done history old new (advance.Stopped e) = (n : ℕ) × Worked state done history n old new
+
+pub record Advanced {L S F H : Type 0} (state : L → LinkView S) (done : LocalAct → H → H) (history : F → H)
+    (old new : Working L F) (result : Advance F) : Type 0 where
+  pub going : IsGoing state new.session
+  pub together : AreTogether new.session.core new.running
+  pub did : AdvanceDid state done history old new result
+
+-- Steps and turns, and then one copy ended; or none was under way.
+abbrev pub NextEnded : {L S F H : Type 0} → (L → LinkView S) → (LocalAct → H → H) → (F → H) → Working L F
+    → Working L F → Result (Option (Copied F)) Failure → Type 0
+NextEnded {L = L} {F = F} state done history old new (Ok (Some copied)) = (n : ℕ) × (last : Working L F)
+    × Worked state done history n old last
+    × StepsTo done history last new (copier_step.Ended copied)
+NextEnded {L = L} {F = F} state done history old new (Ok None) = (n : ℕ) × (last : Working L F)
+    × Worked state done history n old last
+    × StepsTo done history last new copier_step.Idle
+NextEnded state done history old new (Err e) = (n : ℕ) × Worked state done history n old new

@@ -88,6 +88,21 @@ impl<F: LocalFile> Running<F> {
         }
     }
 
+    /// Gives the copy up.
+    pub(crate) fn cancel(self, core: &mut Core)
+    where
+        F: Drop,
+        requires { MayGo core.old self.state }
+        ensures { Spares (holding_of self.state) nothing_held core.old core.new }
+    {
+        let Running {
+            job: _,
+            local: _,
+            state,
+        } = self;
+        state.cancel(core);
+    }
+
     /// What came of a copy that has ended.
     pub(crate) fn end(self, core: &mut Core, outcome: Result<u64, Failure>) -> Copied<F>
         requires { MayCancel core.old self.state }

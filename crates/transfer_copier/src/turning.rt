@@ -1,4 +1,6 @@
 //! A session goes on by one turn.
+ghost use Rattle.std.specs.Prelude.{Result};
+ghost use Rattle.transfer_states.specs.declared.failure.Failure.{Failure as FailureValue};
 ghost use Rattle.transfer_copier.specs.Sessions.{IsGoing, Turned};
 
 use sftp_client::Sftp;
@@ -21,5 +23,21 @@ pub(crate) fn turn<L: Link>(sftp: &mut Sftp<L>) -> Result<(), Failure>
             Err(e) => Err(e.into()),
         },
         Err(e) => Err(e.into()),
+    }
+}
+
+/// A turn, of which a fault that is kept is no error: each copy is told it.
+pub(crate) fn turn_on<L: Link>(sftp: &mut Sftp<L>) -> Result<(), Failure>
+    requires { IsGoing L.LinkState.state sftp.old }
+    ensures { (turned : Result (Unit {0}) FailureValue) × Turned L.LinkState.state sftp.old sftp.new turned }
+{
+    match turn(sftp) {
+        Ok(()) => Ok(()),
+        Err(e) => {
+            if sftp.core().fault().is_some() {
+                return Ok(());
+            }
+            Err(e)
+        }
     }
 }

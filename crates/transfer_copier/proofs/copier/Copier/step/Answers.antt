@@ -40,7 +40,7 @@ returns-in-Ended-clause-did g c =
     let first : c.args.self.now.running ≡ c.in-Some.first ∷ c.pop_front.new.self.items =
     ap (λ (x : CopierValue _). x.running) (sym c.self.view_is) ∙ c.in-Some.ensures.items in
     turn_ended g.F.LocalFile.done g.F.LocalFile.history c.args.core.now c.step.new.core c.end.new.core c.args.self.now.running
-    c.pop_front.new.self.items c.in-Some.first c.step.new.self c.in-Ended.result c.end.result first c.in-Ended.ensures c.end.ensures.is
+    c.pop_front.new.self.items c.in-Some.first c.step.new.self c.in-Ended.result c.end.result first c.in-Ended.ensures c.end.ensures.is c.end.ensures.spares
 
 pub returns-in-Ended-clause-together : goal.returns-in-Ended-clause-together
 returns-in-Ended-clause-together g c =
