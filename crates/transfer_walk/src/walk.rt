@@ -45,6 +45,7 @@ impl From<OutOfMemory> for WalkError {
 
 /// A walk under way: what was found, folders before what stands in them, and the folder whose entries are added. A contract
 /// sees these.
+#[derive(Drop)]
 pub struct Walk {
     found: Vec<Found>,
     at: usize,
@@ -88,6 +89,14 @@ impl Walk {
         ensures walk { IsWalk self.now }
     {
         self.found.as_slice()
+    }
+
+    /// What was found, in order.
+    pub fn into_found(self) -> Vec<Found>
+        ensures is { result.items ≡ self.found }
+        ensures walk { IsWalk self }
+    {
+        self.found
     }
 
     /// The folder whose entries are added.
