@@ -141,8 +141,8 @@ pub record CanTurn (lane : ℕ) (w : Lanes) : Type 0 where
   pub call : HasCall (contents_of w) lane
   pub room : HasRoom w
 
--- what a turn leaves of the lanes: the lane has its number of ended calls, each turn without an entry makes those to come
--- fewer, there is room for what is to be noted, and the other lanes run what they ran
+-- what a turn leaves of the lanes: the lane has its number of ended calls, each turn without an entry makes those to
+-- come fewer, there is room for what is to be noted, and the other lanes run what they ran
 pub record HasTurned (lane : ℕ) (old new : Lanes) (m : Moved) : Type 0 where
   pub number : (lane_in new.states.items lane).ended ≡ (lane_in old.states.items lane).ended
   pub fewer : is_went m ≡ true → turns_left (lane_in new.states.items lane) < turns_left (lane_in old.states.items lane)

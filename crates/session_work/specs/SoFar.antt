@@ -1,5 +1,21 @@
 -- What the journal of a session is in every phase, also once it has failed.
-use Rattle.std.specs.Prelude.{◌≡◌, ◌<◌, ◌≤◌, ◌+◌, ℕ, List, [], ◌∷◌, Option, Some, None, Result, length, vec_len, vec_capacity}
+use Rattle.std.specs.Prelude.{
+  ◌≡◌,
+  ◌<◌,
+  ◌≤◌,
+  ◌+◌,
+  ℕ,
+  List,
+  [],
+  ◌∷◌,
+  Option,
+  Some,
+  None,
+  Result,
+  length,
+  vec_len,
+  vec_capacity,
+}
 use Rattle.sftp_model.specs.declared.error.Fault.{Fault}
 use Rattle.sftp_model.specs.declared.frame_error.FrameError.{FrameError}
 use Rattle.sftp_model.specs.declared.reply.Reply.{Reply}
@@ -67,11 +83,12 @@ pub record IsLeft (old new : Lanes) : Type 0 where
   pub calls : new.calls ≡ old.calls
 
 -- a frame was taken into the core, and nothing was noted: there is room for two entries and that of a fault
-pub record TakesFrame (body_reads : Result (Option ℕ × Reply) FrameError) (told : Taken) (old new : Lanes) : Type 0 where
-  pub taken : TakenFrom body_reads told old.core new.core
-  pub only : take_refusal old.core body_reads ≡ None
-  pub journal : new.journal.items ≡ old.journal.items
-  pub entries : vec_len new.journal + 3 ≤ vec_capacity new.journal
+pub record TakesFrame (body_reads : Result (Option ℕ × Reply) FrameError) (told : Taken) (old new : Lanes) : Type 0
+  where
+    pub taken : TakenFrom body_reads told old.core new.core
+    pub only : take_refusal old.core body_reads ≡ None
+    pub journal : new.journal.items ≡ old.journal.items
+    pub entries : vec_len new.journal + 3 ≤ vec_capacity new.journal
 
 -- a frame was refused by the first thing that is wrong with it, whose fault is kept and noted, or for want of memory
 pub record RefusesFrame (body_reads : Result (Option ℕ × Reply) FrameError) (e : TakeError) (old new : Lanes) : Type 0

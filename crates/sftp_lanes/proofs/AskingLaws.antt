@@ -1,5 +1,5 @@
 -- A frame that comes while the query for limits is unsent is refused.
-use Rattle.std.proofs.Common.{◌≡◌, ◌==◌, ◌∙◌, ℕ, Bool, true, false, List, Option, Some, None, refl, ap, sym, subst, arith, if◌then◌else◌, ne_eqb, eq-eqb}
+use Rattle.std.proofs.Common.{◌≡◌, ◌==◌, ◌∙◌, ℕ, Bool, true, false, List, Option, Some, None, refl, ap, sym, subst, arith, if◌then◌else◌}
 use Rattle.std.specs.Prelude.{◌≢◌, Result, Ok, Err}
 use Rattle.std.specs.FinMap as fin
 use Rattle.std.specs.FinMap.{get-empty}
@@ -24,7 +24,7 @@ use Rattle.sftp_core.proofs.Sent.{get_sent}
 use Rattle.session_model.specs.declared.entry.Entry.{Entry}
 use Rattle.session_model.specs.Readings.{answer, still_open}
 use Rattle.session_driver.specs.NoLanes.{asked_core, asked_past}
-use Rattle.session_driver.specs.Refusals.{awaited_at, refuses, refuses_reply, sent_at}
+use Rattle.session_driver.specs.Refusals.{refuses, refuses_reply, sent_at}
 use Rattle.sftp_lanes.proofs.OpeningSteps.{refuses_as}
 use Rattle.sftp_lanes.proofs.Plain.{told_as}
 use Rattle.sftp_lanes.specs.Seen.{without_lanes}

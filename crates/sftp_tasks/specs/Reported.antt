@@ -6,7 +6,6 @@ use Rattle.session_driver.specs.declared.session.Phase.TheVariants.{Failed}
 use Rattle.session_driver.specs.Session.{IsFixed}
 use Rattle.session_model.specs.declared.entry.Entry.{Entry}
 use Rattle.session_model.specs.declared.event.Event.{Event}
-use Rattle.session_model.specs.declared.report.Report.{Report}
 use Rattle.session_model.specs.Journals.{IsJournal}
 use Rattle.session_model.specs.Readings.{outcomes_below, trace_of}
 use Rattle.session_seats.specs.declared.rule.Held.{Ghosts}

@@ -1,5 +1,23 @@
 -- What the calls of the locked value do to its session.
-use Rattle.std.specs.Prelude.{◌≡◌, ◌≢◌, ◌⊎◌, ℕ, Bool, true, false, List, ◌++◌, length, Option, Some, None, Result, Ok, Err, slice_get}
+use Rattle.std.specs.Prelude.{
+  ◌≡◌,
+  ◌≢◌,
+  ◌⊎◌,
+  ℕ,
+  Bool,
+  true,
+  false,
+  List,
+  ◌++◌,
+  length,
+  Option,
+  Some,
+  None,
+  Result,
+  Ok,
+  Err,
+  slice_get,
+}
 use Rattle.sftp_core.specs.declared.errors.TakeError.{TakeError}
 use Rattle.sftp_core.specs.Take.{IsFirst}
 use Rattle.plan_model.specs.declared.call.Call.{Call}
@@ -70,8 +88,10 @@ polled_of stepped.Ended = polled.Moved
 -- a lane is stepped once, unless all of its calls have ended
 abbrev pub PollsIn : ℕ → SessionValue → SessionValue → Polled → Type 0
 PollsIn lane old new (polled.Ended calls) = AllEnded old.lanes (past_of old.work) lane calls × (new ≡ old)
-PollsIn lane old new polled.Moved = (event : Stepped) × ((polled.Moved ≡ polled_of event) × StepsIn old.phase lane old new event)
-PollsIn lane old new polled.Waits = (event : Stepped) × ((polled.Waits ≡ polled_of event) × StepsIn old.phase lane old new event)
+PollsIn lane old new polled.Moved = (event : Stepped) × ((polled.Moved ≡ polled_of event)
+    × StepsIn old.phase lane old new event)
+PollsIn lane old new polled.Waits = (event : Stepped) × ((polled.Waits ≡ polled_of event)
+    × StepsIn old.phase lane old new event)
 
 -- a call is put behind those of its lane
 abbrev pub AddsIn : ℕ → Call → SessionValue → SessionValue → Bool → Type 0

@@ -17,4 +17,10 @@ invariant_of-self g c =
     (λ (a : Seat g.row.S.Denot View × ℕ). Some a.1) (λ (a : Seat g.row.S.Denot View × ℕ). a.0.table_id
     ≡ c.args.self.now.inner.table_id) (λ (a : Seat g.row.S.Denot View × ℕ). IsSeat a.0.me)
     c.give_lane.ensures.given c.give_lane.ensures.none in
-    record { free = c.give_lane.ensures.own.1; shares = c.args.self.now.shares ∙ sym share; named = k.0 c.args.self.now.named; told = λ whole. k.1 (c.args.self.now.told whole) }
+    record {
+      free = c.give_lane.ensures.own.1;
+      shares = c.args.self.now.shares ∙ sym share;
+      named =
+          k.0 c.args.self.now.named;
+      told = λ whole. k.1 (c.args.self.now.told whole);
+    }

@@ -9,4 +9,9 @@ invariant_of-self g c =
     let k = leaves_keeps g.S.Held.shown c.leave_with-last.result m n c.args.self.now.lane c.args.self.now.receipts.items c.leave_with-last.ensures.left in
     let is = c.args.self.now.shares in
     let less = c.leave_with-last.ensures.left.share in
-    record { free = c.leave_with-last.ensures.free; shares = omega (arith, is, less); named = k.0 c.args.self.now.named; told = λ whole. k.1 (c.args.self.now.told whole) }
+    record {
+      free = c.leave_with-last.ensures.free;
+      shares = omega (arith, is, less);
+      named = k.0 c.args.self.now.named;
+      told = λ whole. k.1 (c.args.self.now.told whole);
+    }

@@ -41,7 +41,8 @@ returns-after-note_close-clause-takes c = λ s w.
     let takes = take_told s (contents_of c.args.self.now) (reply_at c.args.body.now) c.in-Ok-Answer.id
     c.in-Ok-Answer.reply c.take_frame.new.self.core c.queued-before.result c.args.self.now.journal.items
     c.add_entry.new.journal.items c.note_close.new.journal.items
-    c.note_close.result w told c.in-Ok-Answer.ensures.takes.only (sym c.queued-before.ensures) refl entered c.note_close.ensures.none c.note_close.ensures.close in
+    c.note_close.result w told c.in-Ok-Answer.ensures.takes.only (sym c.queued-before.ensures) refl entered
+    c.note_close.ensures.none c.note_close.ensures.close in
     let by : (b : Bool) → c.note_close.result ≡ b → TakesIn s (reply_at c.args.body.now) (contents_of c.args.self.now)
     (contents_of (record c.take_frame.new.self {
       journal = c.note_close.new.journal;

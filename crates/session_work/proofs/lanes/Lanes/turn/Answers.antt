@@ -1,10 +1,10 @@
-use Rattle.std.proofs.Common.{rules, ◌≡◌, ◌<◌, ◌≤◌, ◌+◌, true, Some, None, length, refl, ap, sym, subst, ◌∙◌, arith}
+use Rattle.std.proofs.Common.{rules, ◌≡◌, ◌<◌, ◌≤◌, ◌+◌, Some, None, length, refl, ap, sym, subst, ◌∙◌, arith}
 use Rattle.std.specs.Prelude.{IfOk, reverse, slice_set, vec_capacity, vec_len}
 use Rattle.std.proofs.lemmas.Result.{IfOk-weaker}
 use Rattle.session_lane.specs.Turning.{Turned}
 use Rattle.session_lane.specs.declared.lane.Moved.{Moved}
 use Rattle.session_laws.specs.Lanes.{LaneValue}
-use Rattle.session_work.specs.Noting.{KeepsOthers, Turning, amid, call_in, is_went, turned_in, turns_left}
+use Rattle.session_work.specs.Noting.{Turning, amid, call_in, turned_in, turns_left}
 use Rattle.session_work.specs.Working.{Contents, contents_of, lane_in}
 use Rattle.session_work.proofs.BegunLaws.{others_kept}
 use Rattle.session_work.proofs.Contents.{set_here, state_at}

@@ -1,4 +1,4 @@
-use Rattle.std.proofs.Common.{◌≡◌, false, true, rules, sym, subst}
+use Rattle.std.proofs.Common.{◌≡◌, false, true, rules, sym}
 use Rattle.plan_model.specs.Lanes.{are_ok, is_within}
 use Rattle.session_work.proofs.WeightLaws.{not_ok_with, ok_with}
 use Rattle.session_work.proofs.weighed_lanes.WeighedLanes.may_have.Goals as goal

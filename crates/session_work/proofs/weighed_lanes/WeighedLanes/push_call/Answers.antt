@@ -1,4 +1,4 @@
-use Rattle.std.proofs.Common.{◌≡◌, ◌<◌, ◌+◌, ◌^◌, ◌∙◌, ℕ, List, length, min, rules, ap, sym}
+use Rattle.std.proofs.Common.{◌≡◌, ◌<◌, ◌^◌, ◌∙◌, List, length, min, rules, ap, sym}
 use Rattle.std.specs.List.{sum_by}
 use Rattle.plan_model.specs.declared.call.Lane.{Lane}
 use Rattle.plan_model.specs.Lanes.{lane_weight}
