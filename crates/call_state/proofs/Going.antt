@@ -14,7 +14,23 @@ use Rattle.call_state.specs.Machines.{GoesBehind, HoldsValue, IsOwn, Meaning}
 use Rattle.call_state.specs.declared.machine.Then.TheVariants as then
 use Rattle.call_state.specs.declared.asking.Asking.{Asking}
 use Rattle.call_state.specs.Asked.{Submitted, request_of}
-use Rattle.call_state.specs.Calls.{Asks, CallValue, HoldsReady, IsHeldAt, IsLeft, IsLeftAt, IsOver, IsUnfinished, Leaves, Polled, Tells, TellsAt, Went, is_ended, polled_core}
+use Rattle.call_state.specs.Calls.{
+  Asks,
+  CallValue,
+  HoldsReady,
+  IsHeldAt,
+  IsLeft,
+  IsLeftAt,
+  IsOver,
+  IsUnfinished,
+  Leaves,
+  Polled,
+  Tells,
+  TellsAt,
+  Went,
+  is_ended,
+  polled_core,
+}
 use Rattle.call_state.specs.declared.poll.Poll.{Poll}
 use Rattle.call_state.specs.declared.poll.Poll.TheVariants as poll
 use Rattle.call_state.specs.declared.told.Told.{Told}
@@ -156,6 +172,7 @@ done_leaves s core q value over own h =
     record {
       held = held_ended s core q.machine q.stage over;
       over = over_ready q.stage value over own;
+      awaits = tt;
       holds = holds_ready s core value h;
       keeps = keeps_same core;
       others = idle_others core core Ended q.stage (keeps_same core) (ended_idle q.stage over);

@@ -1,5 +1,29 @@
 -- What the calls of a core leave to the states and files that stand on it.
-use Rattle.std.proofs.Common.{◌≡◌, ◌≢◌, ℕ, ◌<◌, true, false, refl, sym, ap, ◌∙◌, Option, Some, None, Result, Ok, IsTrue, IsSome, ◌⊎◌, inl, inr, subst, arith, List}
+use Rattle.std.proofs.Common.{
+  ◌≡◌,
+  ◌≢◌,
+  ℕ,
+  ◌<◌,
+  true,
+  false,
+  refl,
+  sym,
+  ap,
+  ◌∙◌,
+  Option,
+  Some,
+  None,
+  Result,
+  Ok,
+  IsTrue,
+  IsSome,
+  ◌⊎◌,
+  inl,
+  inr,
+  subst,
+  arith,
+  List,
+}
 use Rattle.std.proofs.lemmas.Bool.{cases_eq}
 use Rattle.std.specs.Option.{option_map}
 use Rattle.sftp_model.specs.Answers.{expected_of}
@@ -111,6 +135,11 @@ submitted_holds old new asking ticket kind h is =
     holds_at new ticket kind (Some (Waiting (expected_of (request_of asking)) false true))
     (ap (λ (c : Core). at c ticket) h.queued ∙ queued_here old ticket asking) refl (ap (λ (k : Expected). Some k) (sym is))
 
+-- and that no reply to it was taken
+pub submitted_missing : (old new : Core) (asking : Asking) (ticket : ℕ) → Submitted old asking ticket new → reply_in (at new ticket) ≡ None
+submitted_missing old new asking ticket h =
+    ap (λ (c : Core). reply_in (at c ticket)) h.queued ∙ ap (λ (p : Option Place). reply_in p) (queued_here old ticket asking)
+
 queued_elsewhere : (core : Core) (ticket : ℕ) (asking : Asking) (q : ℕ) → q ≢ ticket
     → at (queued_by core ticket asking) q ≡ at core q
 queued_elsewhere core ticket (Whole asked) q h = put_elsewhere core.table ticket _ q h
@@ -134,7 +163,11 @@ keeps_submitted core ticket asking free =
     record {
       holds = λ other kind h. held_place core (queued_by core ticket asking) other kind (at core other) refl
           (λ here there. other_place core ticket asking other here free there ∙ sym there) h.counted h.expects;
-      grants = record { grants = λ id handle users here. other_place core ticket asking id (Granted handle users) free here; opened = queued_opened core ticket asking };
+      grants = record {
+        grants = λ id handle users here. other_place core ticket asking id (Granted handle users) free
+            here;
+        opened = queued_opened core ticket asking;
+      };
     }
 
 -- ---- nothing, a fault, a hand-out
@@ -147,7 +180,11 @@ pub keeps_both : (a b c : Core) → Keeps a b → Keeps b c → Keeps a c
 keeps_both a b c h k =
     record {
       holds = λ ticket kind x. k.holds ticket kind (h.holds ticket kind x);
-      grants = record { grants = λ id handle users here. k.grants.grants id handle users (h.grants.grants id handle users here); opened = λ o. k.grants.opened (h.grants.opened o) };
+      grants = record {
+        grants = λ id handle users here. k.grants.grants id handle users
+            (h.grants.grants id handle users here);
+        opened = λ o. k.grants.opened (h.grants.opened o);
+      };
     }
 
 -- two changes that keep the grants, one after the other
@@ -227,7 +264,11 @@ took_keeps core (Open info) None r open_now right = cc
 took_keeps core (Open info) (Some id) r open_now right =
     record {
       holds = λ ticket kind h. took_holds core id r ticket kind right (cases_eq ticket id) h;
-      grants = record { grants = λ other handle users here. took_grant core id r other handle users right here; opened = opened_by core (take_leaves core id r (at core id)) (take_phase core id r (at core id)) };
+      grants = record {
+        grants = λ other handle users here. took_grant core id r other handle users right here;
+        opened =
+            opened_by core (take_leaves core id r (at core id)) (take_phase core id r (at core id));
+      };
     }
 
 refusal_in : (core : Core) (read : Result Read FrameError) (reading : Read) → read ≡ Ok reading → take_refusal core read
@@ -337,7 +378,10 @@ grants_kept old new h = h.grants
 pub grants_polled : (old mid new : Core) (ticket : ℕ) → IsTrue (is_ticket (at old ticket)) → mid ≡ after_poll old ticket → Keeps mid new → KeepsGrants old new
 grants_polled old mid new ticket counted is h =
     let polled : KeepsGrants old mid = subst (λ (x : Core). KeepsGrants old x) (sym is) (polled_keeps_grants old ticket counted) in
-    record { grants = λ id handle users here. h.grants.grants id handle users (polled.grants id handle users here); opened = λ o. h.grants.opened (polled.opened o) }
+    record {
+      grants = λ id handle users here. h.grants.grants id handle users (polled.grants id handle users here);
+      opened = λ o. h.grants.opened (polled.opened o);
+    }
 
 pub cancelled_grants : (core : Core) (stage : Stage) → ((ticket : ℕ) → stage ≡ Asked ticket → IsTrue (is_ticket (at core ticket)))
     → (id : ℕ) (handle : List ℕ) (users : ℕ) → (IsGrantOf stage id → ⊥) → at core id ≡ Some (Granted handle users)

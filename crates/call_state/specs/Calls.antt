@@ -180,6 +180,11 @@ IsOver stage poll.Pending = is_ended stage ≡ false
 IsOver stage (poll.Ready (Err error.OutOfMemory)) = is_ended stage ≡ false
 IsOver stage (poll.Ready value) = is_ended stage ≡ true
 
+-- a call without an answer awaits a ticket whose reply is missing
+abbrev pub AwaitsReply : {V : Type 0} → Core → Stage → Poll (Result V Error) → Type 0
+AwaitsReply core stage poll.Pending = (ticket : ℕ) × ((stage ≡ Asked ticket) × (reply_in (at core ticket) ≡ None))
+AwaitsReply core stage other = Unit {0}
+
 -- the call doesn't await the reply to this ticket
 abbrev pub IsNotOf : Stage → ℕ → Type 0
 IsNotOf stage ticket = stage ≡ Asked ticket → ⊥
@@ -194,19 +199,21 @@ pub record Leaves {W M V : Type 0} (s : Meaning W M V) (old new : Core) (q : Cal
     (result : Poll (Result V Error)) : Type 0 where
   pub held : IsHeld s new q
   pub over : IsOver q.stage result
+  pub awaits : AwaitsReply new q.stage result
   pub holds : HoldsReady s new result
   pub keeps : Keeps old new
   pub others : KeepsOtherTickets old new Ended q.stage
 
 -- A poll did the next move of each plan that the call is what is left of, whatever its replies to come. The call may be
--- polled on or given up, its machine stays what it was, the core holds what belongs to the value, every grant stays,
--- what others await, and the session open.
+-- polled on or given up, and awaits a reply where it has no answer; its machine stays what it was, the core holds what
+-- belongs to the value, every grant stays, what others await, and the session open.
 pub record Stepped {W M V : Type 0} (s : Meaning W M V) (old new : Core) (p q : CallValue M)
     (result : Poll (Result V Error)) : Type 0 where
   pub polled : (w : W) (plan : Plan) (answers : Answers) → IsLeft s w plan answers p → Tells s old p answers
       → Polled s w plan answers old new p q result
   pub held : IsHeld s new q
   pub over : IsOver q.stage result
+  pub awaits : AwaitsReply new q.stage result
   pub holds : HoldsReady s new result
   pub grants : KeepsGrants old new
   pub others : KeepsOtherTickets old new p.stage q.stage

@@ -18,6 +18,7 @@ use crate::told::{Told, Untold, take_told};
 use sftp_core::{Core, Ended, Ticket};
 use sftp_model::Error;
 use std::marker::Model;
+use std::mem;
 
 /// A call under way: what it awaits, and how it goes on. It isn't droppable: `cancel` spends it, once it has answered
 /// too, and `let_go` where its core was given up.
@@ -188,6 +189,15 @@ impl<M> Call<M> {
         ensures { result.now ≡ self.now.machine }
     {
         &self.machine
+    }
+
+    /// Puts another machine in the place of the call's, and hands that one out. What the call awaits stays: it may be
+    /// polled where the new machine awaits the same.
+    pub fn replace_machine(&mut self, machine: M) -> M
+        ensures was { result ≡ self.old.machine }
+        ensures now { self.new ≡ record self.old { machine = machine } }
+    {
+        mem::replace(&mut self.machine, machine)
     }
 
     /// The number of the request whose reply is awaited.

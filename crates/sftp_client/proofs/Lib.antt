@@ -6,3 +6,4 @@ pub mod Taking
 pub mod Opening
 pub mod Waiting
 pub mod Listing
+pub mod WholeWaiting

@@ -1,20 +1,25 @@
 -- What the rounds of a session leave to a listing that is waited for.
-use Rattle.std.proofs.Common.{◌≡◌, ◌⊎◌, ◌<◌, ◌+◌, ◌-◌, ◌^◌, ℕ, suc, refl, ap, sym, ◌∙◌, subst, arith, inl, inr}
-use Rattle.std.specs.Prelude.{Option, Some, None, Result, Ok, Err, IsSome}
+use Rattle.std.proofs.Common.{◌≡◌, ◌⊎◌, ◌<◌, ◌+◌, ◌-◌, ◌^◌, ℕ, suc, true, false, List, [], ◌∷◌, refl, ap, sym, ◌∙◌, subst, arith, inl, inr}
+use Rattle.std.specs.Prelude.{Bool, Option, Some, None, Result, Ok, Err, IsSome}
 use Rattle.sftp_model.specs.declared.error.Error.{Error}
 use Rattle.sftp_model.specs.declared.error.Error.TheVariants as error
 use Rattle.sftp_model.specs.declared.answers.Expected.TheVariants as expected
 use Rattle.sftp_model.specs.declared.reply.NameEntry.{NameEntry}
-use Rattle.sftp_core.specs.Core.{Core}
+use Rattle.sftp_model.specs.declared.error.Fault.{Fault}
+use Rattle.sftp_model.specs.declared.reply.Reply.{Reply}
+use Rattle.sftp_model.specs.declared.request.Request.TheVariants as request
+use Rattle.sftp_core.specs.Core.{Core, at, reply_in}
 use Rattle.sftp_core.specs.Info.{info_of}
 use Rattle.sftp_link.specs.Views.{LinkView}
 use Rattle.call_state.specs.Keeping.{Keeps, KeepsGrants}
-use Rattle.call_state.proofs.Keeping.{grant_kept, grants_both, keeps_same}
-use Rattle.sftp_fs.specs.Listings.{Given, IsAwaiting, IsListing, ListingValue}
+use Rattle.call_state.specs.declared.asking.Asking.TheVariants.{Whole}
+use Rattle.call_state.specs.declared.poll.Poll.TheVariants.{Pending, Ready}
+use Rattle.call_state.proofs.Keeping.{grant_kept, grants_both, keeps_same, submitted_missing}
+use Rattle.sftp_fs.specs.Listings.{AsksReaddir, Given, GivesAt, HearsOf, IsAwaiting, IsListing, ListingValue, entry_told}
 use Rattle.sftp_client.specs.Listed.{AwaitsEntry, HasListed, ListedIn, MayWaitFor, given_by}
 use Rattle.sftp_client.specs.Sessions.{SftpValue, with_core}
 use Rattle.sftp_client.specs.Waits.{ArePollRounds, RoundFails, SendsAndTakes}
-use Rattle.sftp_client.proofs.Waiting.{fail_stays, round_stays, round_unfaulted, where_ok}
+use Rattle.sftp_client.proofs.Waiting.{AwaitsOne, fail_stays, round_stays, round_takes, round_unfaulted, where_ok}
 
 -- a listing stays what it is over what keeps a core
 awaits_still : (old new : Core) (asked : Option ℕ) → Keeps old new → IsAwaiting old asked → IsAwaiting new asked
@@ -58,6 +63,48 @@ entry_leaves old new p q given may (inr h) =
       link = ap (λ (x : SftpValue _). x.link) h.1.1.0;
     }
 
+-- ---- a listing that gave nothing yet awaits a reply that is missing
+
+-- the ticket that a listing awaits has no reply
+record AwaitsMissing (core : Core) (asked : Option ℕ) : Type 0 where
+  ticket : ℕ
+  awaits : asked ≡ Some ticket
+  missing : reply_in (at core ticket) ≡ None
+
+asked_more : (old new : Core) (p q : ListingValue) → AsksReaddir old new p q → AwaitsMissing new q.asked
+asked_more old new p q h =
+    record {
+      ticket = h.ticket;
+      awaits = ap (λ (x : ListingValue). x.asked) h.awaits;
+      missing = submitted_missing old new (Whole (request.Readdir p.grant.handle)) h.ticket h.submitted;
+    }
+
+heard_none : (old new : Core) (p q : ListingValue) (ticket : ℕ) (r : Option Reply) (fault : Option Fault)
+    → reply_in (at old ticket) ≡ r → HearsOf old new p q Pending ticket r fault → AwaitsMissing new q.asked
+heard_none old new p q ticket (Some r) fault is h = absurd (let clash : ◌≡◌ {A = Given} Pending (Ready (entry_told r)) = h.0 in cc)
+heard_none old new p q ticket None (Some fault) is h =
+    let clash : ◌≡◌ {A = Given} Pending (Ready (Some (Err (error.BackgroundTaskFailure fault)))) = h.0 in absurd cc
+heard_none old new p q ticket None None is h =
+    record {
+      ticket = ticket;
+      awaits = ap (λ (x : ListingValue). x.asked) h.1;
+      missing = ap (λ (c : Core). reply_in (at c ticket)) h.2 ∙ is;
+    }
+
+gave_nothing : (old new : Core) (p q : ListingValue) (over : Bool) (entries : List NameEntry) (asked : Option ℕ)
+    → GivesAt old new p q Pending over entries asked → AwaitsMissing new q.asked
+gave_nothing old new p q true entries asked h = absurd (let clash : ◌≡◌ {A = Given} Pending (Ready None) = h.0 in cc)
+gave_nothing old new p q false (entry ∷ entries) asked h = absurd (let clash : ◌≡◌ {A = Given} Pending (Ready (Some (Ok entry))) = h.0 in cc)
+gave_nothing old new p q false [] None h = asked_more old new p q h
+gave_nothing old new p q false [] (Some ticket) h = heard_none old new p q ticket (reply_in (at old ticket)) old.fault refl h
+
+entry_awaits : {L : Type 0} (old new : SftpValue L) (p q : ListingValue) → AwaitsEntry old new p q → AwaitsOne new.core
+entry_awaits old new p q (inl h) =
+    let m = gave_nothing old.core new.core p q p.ended p.entries p.asked h.0.gives in
+    let held : IsAwaiting new.core (Some m.ticket) = subst (λ (a : Option ℕ). IsAwaiting new.core a) m.awaits h.0.listing.awaits in
+    record { ticket = m.ticket; counted = held.counted; missing = m.missing }
+entry_awaits old new p q (inr h) = absurd cc
+
 -- a round
 pub lists_next : {L S : Type 0} (state : L → LinkView S) (count : ℕ) (old mid polled new : SftpValue L) (p m q : ListingValue)
     → ListsOn state count old mid p m → AwaitsEntry mid polled m q → SendsAndTakes state polled new
@@ -67,7 +114,21 @@ lists_next state count old mid polled new p m q w waits round =
     let left = entry_leaves mid polled m q _ w.may waits in
     let stays = round_stays state polled new left.may.opened round in
     subst (λ (n : ℕ). ListsOn state n old new p q) next (record {
-      rounds = (mid, (m, (w.rounds, record { mid = polled; waits = waits; round = round })));
+      rounds = (
+        mid,
+        (
+          m,
+          (
+            w.rounds,
+            record {
+              mid = polled;
+              waits = waits;
+              round = round;
+              took = round_takes state polled new round left.may.opened (entry_awaits mid polled m q waits);
+            },
+          ),
+        ),
+      );
       may = record {
         opened = stays.grants.opened left.may.opened;
         listing = listing_still polled.core new.core q stays left.may.listing;

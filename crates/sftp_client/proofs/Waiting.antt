@@ -1,14 +1,14 @@
 -- What the rounds of a session leave to a call that awaits its reply.
 use Rattle.std.proofs.Common.{◌≡◌, ◌<◌, ◌+◌, ◌-◌, ◌^◌, ℕ, zero, suc, true, false, refl, ap, sym, ◌∙◌, subst, arith, inl, inr}
-use Rattle.std.specs.Prelude.{Bool, Option, Result, Ok, Err, None, Some, IsSome, OnOk}
+use Rattle.std.specs.Prelude.{Bool, Option, Result, Ok, Err, None, Some, IsSome, IsTrue, OnOk}
 use Rattle.sftp_model.specs.ReplyReadings.{reply_at}
 use Rattle.sftp_model.specs.declared.error.Error.{Error}
 use Rattle.sftp_model.specs.declared.error.Error.TheVariants as error
 use Rattle.sftp_model.specs.declared.error.Fault.{Fault}
-use Rattle.sftp_core.specs.Core.{Core, failed_with, handed_out}
+use Rattle.sftp_core.specs.Core.{Core, at, awaited_of, failed_with, handed_out, is_ticket, reply_in}
 use Rattle.sftp_core.specs.Info.{info_of}
 use Rattle.sftp_link.specs.Views.{LinkView}
-use Rattle.call_state.specs.Calls.{CallValue, Cancels, HoldsReady, IsHeld, IsUnderWay, KeepsOtherTickets, Stepped, cancelled, is_ended}
+use Rattle.call_state.specs.Calls.{CallValue, Cancels, HoldsReady, IsHeld, IsHeldAt, IsUnderWay, KeepsOtherTickets, Stepped, cancelled, is_ended}
 use Rattle.call_state.specs.Keeping.{Keeps, KeepsGrants}
 use Rattle.call_state.specs.Machines.{Meaning}
 use Rattle.call_state.specs.declared.poll.Poll.{Poll}
@@ -17,11 +17,43 @@ use Rattle.call_state.specs.declared.stage.Stage.TheVariants.{Ended, Ready, Unse
 use Rattle.call_state.specs.declared.poll.Poll.TheVariants as poll
 use Rattle.call_state.proofs.Keeping.{grants_both, keeps_both, keeps_failed, keeps_handed_out, keeps_same, keeps_taken, keeps_unchanged, still_under_way}
 use Rattle.sftp_model.specs.declared.slot.FileAt.{FileAt}
-use Rattle.sftp_core.specs.Table.{asks_handle}
+use Rattle.sftp_core.specs.Table.{asks_handle, count, is_waiting}
+use Rattle.sftp_core.specs.declared.place.Place.{Place}
+use Rattle.sftp_core.specs.declared.place.Place.TheVariants.{Answered, Granted, Waiting}
+use Rattle.sftp_core.proofs.Tables.{count-remove}
+use Rattle.sftp_client.proofs.Lowering.{all_awaited}
 use Rattle.sftp_file.proofs.Steps.{cancelled_keeps}
-use Rattle.sftp_file.specs.Files.{FileValue, IsMoved, file_at}
-use Rattle.sftp_client.specs.Sessions.{Flushes, FlushesUnfailed, IsKept, SendStops, SftpValue, Takes, TakesFrame, TakesUnfailed, TakesWhole, fault_by, failed_by, handed, kept_after, with_core}
-use Rattle.sftp_client.specs.Waits.{ArePollRounds, HasFinished, HasFinishedOn, HasWaited, HasWaitedOn, MayWait, PolledIn, RoundFails, SendsAndTakes, WaitEnds, WaitStops, WaitsIn}
+use Rattle.sftp_file.specs.Files.{FileValue, IsMoved, file_at, file_in}
+use Rattle.sftp_client.specs.Sessions.{
+  Flushes,
+  FlushesUnfailed,
+  IsKept,
+  SendStops,
+  SftpValue,
+  Takes,
+  TakesFrame,
+  TakesUnfailed,
+  TakesWhole,
+  fault_by,
+  failed_by,
+  handed,
+  kept_after,
+  with_core,
+}
+use Rattle.sftp_client.specs.Waits.{
+  ArePollRounds,
+  HasFinished,
+  HasFinishedOn,
+  HasWaited,
+  HasWaitedOn,
+  MayWait,
+  PolledIn,
+  RoundFails,
+  SendsAndTakes,
+  WaitEnds,
+  WaitStops,
+  WaitsIn,
+}
 
 -- ---- a core over a round
 
@@ -108,6 +140,36 @@ fail_stays state old new e opened (inr h) =
     let first = flush_stays state old h.0 (Ok tt) h.1.0 in
     keeps_both old.core h.0.core new.core first (take_stays state h.0 new (Err e) (first.grants.opened opened) h.1.1)
 
+-- ---- a frame is taken in a round where a reply is missing
+
+-- a core has a ticket whose reply is missing
+pub record AwaitsOne (core : Core) : Type 0 where
+  pub ticket : ℕ
+  pub counted : IsTrue (is_ticket (at core ticket))
+  pub missing : reply_in (at core ticket) ≡ None
+
+waiting_here : (core : Core) (ticket : ℕ) (p : Option Place) → at core ticket ≡ p → IsTrue (is_ticket p) → reply_in p ≡ None
+    → 0 < count is_waiting core.table
+waiting_here core ticket (Some (Waiting kind sent wanted)) here counted none =
+    let w = count-remove is_waiting core.table ticket (Waiting kind sent wanted) here in omega (arith, w)
+waiting_here core ticket (Some (Answered kind r)) here counted none = absurd cc
+waiting_here core ticket (Some (Granted handle users)) here counted none = absurd cc
+waiting_here core ticket None here counted none = absurd cc
+
+took_frame : {L S : Type 0} (state : L → LinkView S) (old new : SftpValue L) (took : Bool) → 0 < awaited_of old.core
+    → TakesUnfailed state old new (Ok took) → took ≡ true
+took_frame state old new true some h = refl
+took_frame state old new false some h = absurd (omega (arith, some, h.none))
+
+pub round_takes : {L S : Type 0} (state : L → LinkView S) (old new : SftpValue L) (h : SendsAndTakes state old new)
+    → IsSome (info_of old.core.phase) → AwaitsOne old.core → h.took ≡ true
+round_takes state old new h opened one =
+    let out : h.mid.core ≡ handed_out old.core = ap (λ (s : SftpValue _). s.core) h.sends.1.left in
+    let some = waiting_here old.core one.ticket (at old.core one.ticket) refl one.counted one.missing in
+    let all = all_awaited old.core opened in
+    let due : 0 < awaited_of h.mid.core = subst (λ (c : Core). 0 < awaited_of c) (sym out) (omega (arith, some, all)) in
+    took_frame state h.mid new h.took due h.takes.1
+
 -- the link doesn't fail in a round that goes well
 took_unfaulted : {L S : Type 0} (state : L → LinkView S) (old new : SftpValue L) (took : Bool)
     → TakesUnfailed state old new (Ok took) → (state new.link).faults ≡ (state old.link).faults
@@ -176,6 +238,14 @@ pending_on : {W M V L : Type 0} (s : Meaning W M V) (old new : SftpValue L) (p q
 pending_on s old new p q (inl h) = record { over = h.0.over; held = h.0.held }
 pending_on s old new p q (inr h) = absurd cc
 
+-- it awaits a reply that is missing
+pending_awaits : {W M V L : Type 0} (s : Meaning W M V) (old new : SftpValue L) (p q : CallValue M)
+    → PolledIn s old new p q poll.Pending → AwaitsOne new.core
+pending_awaits s old new p q (inl h) =
+    let held : IsHeldAt s new.core q.machine (Asked h.0.awaits.0) = subst (λ x. IsHeldAt s new.core q.machine x) h.0.awaits.1.0 h.0.held in
+    record { ticket = h.0.awaits.0; counted = held.counted; missing = h.0.awaits.1.1 }
+pending_awaits s old new p q (inr h) = absurd cc
+
 others_both : (a b c : Core) (x y z : Stage) → KeepsOtherTickets a b x y → KeepsOtherTickets b c y z → KeepsOtherTickets a c x z
 others_both a b c x y z first last ticket kind apart h =
     let mid = first ticket kind apart h in last ticket kind mid.1 mid.0
@@ -193,7 +263,21 @@ waits_next s state count old mid polled new p m q w pending round =
     let left = poll_leaves s mid polled m q poll.Pending w.may pending in
     let stays = round_stays state polled new left.opened round in
     subst (λ (n : ℕ). WaitsOn s state n old new p q) next (record {
-      rounds = (mid, (m, (w.rounds, record { mid = polled; waits = pending; round = round })));
+      rounds = (
+        mid,
+        (
+          m,
+          (
+            w.rounds,
+            record {
+              mid = polled;
+              waits = pending;
+              round = round;
+              took = round_takes state polled new round left.opened (pending_awaits s mid polled m q pending);
+            },
+          ),
+        ),
+      );
       may = record {
         opened = stays.grants.opened left.opened;
         under_way = still_under_way s polled.core new.core q stays (pending_on s mid polled m q pending);
@@ -355,19 +439,25 @@ stops_move : {W M V L S : Type 0} (s : Meaning W M V) (at : M → FileAt) → Ke
 stops_move s at keeps state count old new p q result (inl h) = ends_move s at keeps state old new p q result h
 stops_move s at keeps state count old new p q result (inr h) = subst (λ x. MovesOnly (at p.machine) (at x.machine)) (sym h.1.1.1) refl
 
--- where the file stands after the call was run
+-- where the file of a place stands after the call was run
+pub moved_at : {W M V L S : Type 0} (s : Meaning W M V) (at : M → FileAt) → KeepsFile s at → (place : ℕ) (state : L → LinkView S)
+    (old new : SftpValue L) (p q : CallValue M) (before after : FileValue) (result : Result V Error)
+    → at p.machine ≡ file_in place before → after ≡ record before { offset = (at q.machine).offset }
+    → HasWaited s state old new p q result → (at q.machine ≡ file_in place after) × (after ≡ record before { offset = after.offset })
+moved_at s at keeps place state old new p q before after result stands is w =
+    let only = moves_both (at p.machine) (at w.call.machine) (at q.machine) (rounds_move s at keeps state w.count old w.mid p w.call w.rounds)
+    (stops_move s at keeps state w.count w.mid new w.call q result w.ends)
+    in (
+      only ∙ ((λ i. record (stands i) { offset = (at q.machine).offset }) ∙ sym (ap (file_in place) is)),
+      is ∙ (λ i. record before { offset = (sym (ap (λ (f : FileValue). f.offset) is)) i }),
+    )
+
 pub moved_by : {W M V L S : Type 0} (s : Meaning W M V) (at : M → FileAt) → KeepsFile s at → (state : L → LinkView S)
     (old new : SftpValue L) (p q : CallValue M) (before after : FileValue) (result : Result V Error)
     → at p.machine ≡ file_at before → after ≡ record before { offset = (at q.machine).offset }
     → HasWaited s state old new p q result → IsMoved before after (at q.machine)
 moved_by s at keeps state old new p q before after result stands is w =
-    let only = moves_both (at p.machine) (at w.call.machine) (at q.machine) (rounds_move s at keeps state w.count old w.mid p w.call w.rounds)
-    (stops_move s at keeps state w.count w.mid new w.call q result w.ends)
-    in
-    record {
-      stands = only ∙ ((λ i. record (stands i) { offset = (at q.machine).offset }) ∙ sym (ap file_at is));
-      rest = is ∙ (λ i. record before { offset = (sym (ap (λ (f : FileValue). f.offset) is)) i });
-    }
+    let moved = moved_at s at keeps 0 state old new p q before after result stands is w in record { stands = moved.0; rest = moved.1 }
 
 -- where it stands once the call was given up, too
 pub finished_on : {W M V L S : Type 0} (s : Meaning W M V) (at : M → FileAt) (state : L → LinkView S)

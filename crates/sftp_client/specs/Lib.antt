@@ -6,3 +6,4 @@ pub mod Waits
 pub mod Opening
 pub mod SessionRows
 pub mod Listed
+pub mod WholeWaits

@@ -34,10 +34,12 @@ given_by (Err e) = Ready (Some (Err e))
 
 -- how the wait came to its end: the listing gave something; a round went wrong; or no round is left of as many as can
 -- be counted
-abbrev pub ListingStops : {L S : Type 0} → (L → LinkView S) → ℕ → SftpValue L → SftpValue L → ListingValue → ListingValue
+abbrev pub ListingStops : {L S : Type 0} → (L → LinkView S) → ℕ → SftpValue L → SftpValue L → ListingValue
+    → ListingValue
     → Result (Option NameEntry) Error → Type 0
 ListingStops {L = L} state count old new p q result = ListedIn old new p q (given_by result)
-    ⊎ (((mid : SftpValue L) × ((e : Error) × (AwaitsEntry old mid p q × (RoundFails state mid new e × (result ≡ Err e)))))
+    ⊎ (((mid : SftpValue L) × ((e : Error) × (AwaitsEntry old mid p q
+    × (RoundFails state mid new e × (result ≡ Err e)))))
     ⊎ ((count ≡ 2 ^ 64 - 1) × ((result ≡ Err error.OutOfMemory) × ((new ≡ old) × (q ≡ p)))))
 
 -- A listing was polled, and round after round what was queued was sent and a frame taken, until it gave something or a

@@ -1,5 +1,5 @@
 -- Calls that are run to their end over a session's link.
-use Rattle.std.specs.Prelude.{◌≡◌, ◌⊎◌, ◌≤◌, ◌-◌, ◌^◌, ℕ, zero, suc, Bool, Result, Ok, Err, IsSome, OnOk}
+use Rattle.std.specs.Prelude.{◌≡◌, ◌⊎◌, ◌≤◌, ◌-◌, ◌^◌, ℕ, zero, suc, Bool, true, Result, Ok, Err, IsSome, OnOk}
 use Rattle.sftp_model.specs.declared.answers.Expected.{Expected}
 use Rattle.sftp_model.specs.declared.error.Error.{Error}
 use Rattle.sftp_model.specs.declared.error.Error.TheVariants as error
@@ -8,7 +8,16 @@ use Rattle.sftp_core.specs.Core.{Core, kept_of}
 use Rattle.sftp_core.specs.Info.{MAX_IDS, info_of}
 use Rattle.sftp_link.specs.Views.{LinkView}
 use Rattle.call_state.specs.Asked.{Holds, IsReady}
-use Rattle.call_state.specs.Calls.{CallValue, Cancels, HoldsReady, IsHeld, IsNotOf, IsUnderWay, KeepsOtherTickets, Stepped}
+use Rattle.call_state.specs.Calls.{
+  CallValue,
+  Cancels,
+  HoldsReady,
+  IsHeld,
+  IsNotOf,
+  IsUnderWay,
+  KeepsOtherTickets,
+  Stepped,
+}
 use Rattle.call_state.specs.Keeping.{KeepsGrants}
 use Rattle.call_state.specs.Machines.{Meaning}
 use Rattle.call_state.specs.declared.poll.Poll.{Poll}
@@ -52,12 +61,13 @@ abbrev pub PolledIn : {W M V L : Type 0} → Meaning W M V → SftpValue L → S
 PolledIn s old new p q result = (Stepped s old.core new.core p q result × (new ≡ with_core old new.core))
     ⊎ ((MAX_IDS ≤ kept_of old.core) × ((result ≡ poll.Ready (Err error.OutOfMemory)) × ((new ≡ old) × (q ≡ p))))
 
--- Something that is polled had no answer yet, and then a round went well.
+-- Something that is polled had no answer yet, and then a round went well, in which a frame was taken.
 pub record IsPollRound {C L S : Type 0} (Waits : SftpValue L → SftpValue L → C → C → Type 0) (state : L → LinkView S)
     (old new : SftpValue L) (p q : C) : Type 0 where
   pub mid : SftpValue L
   pub waits : Waits old mid p q
   pub round : SendsAndTakes state mid new
+  pub took : round.took ≡ true
 
 -- so many rounds, one after another
 abbrev pub ArePollRounds : {C L S : Type 0} → (SftpValue L → SftpValue L → C → C → Type 0) → (L → LinkView S) → ℕ
@@ -84,8 +94,8 @@ WaitStops s state count old new p q result = WaitEnds s state old new p q result
     ⊎ ((count ≡ 2 ^ 64 - 1) × ((result ≡ Err error.OutOfMemory) × ((new ≡ old) × (q ≡ p))))
 
 -- A call was polled, and round after round what was queued was sent and a frame taken, until it answered or a round
--- went wrong. It may be run on or given up then; the core holds what belongs to its value, each grant stays, what others
--- await, and the session open. The link did not fail where the call gave a value.
+-- went wrong. It may be run on or given up then; the core holds what belongs to its value, each grant stays, what
+-- others await, and the session open. The link did not fail where the call gave a value.
 pub record HasWaited {W M V L S : Type 0} (s : Meaning W M V) (state : L → LinkView S) (old new : SftpValue L)
     (p q : CallValue M) (result : Result V Error) : Type 0 where
   pub count : ℕ

@@ -12,6 +12,7 @@ mod offers;
 mod open;
 mod opening;
 mod wait;
+mod whole;
 
 use crate::incoming::Incoming;
 use crate::outgoing::Outgoing;

@@ -65,7 +65,11 @@ pub cancelled_keeps : {W M V : Type 0} (s : Meaning W M V) (old new : Core) (cal
     → asks_handle (s.expected call.machine) ≡ false → IsHeld s old call → Cancels old new call.stage
     → KeepsGrants old new
 cancelled_keeps s old new call none h cancels =
-    record { grants = λ id handle users here. cancels.grants id handle users (owns_nothing s old call.machine call.stage id none h) here; opened = cancels.opened }
+    record {
+      grants = λ id handle users here. cancels.grants id handle users
+          (owns_nothing s old call.machine call.stage id none h) here;
+      opened = cancels.opened;
+    }
 
 ended_owns_nothing : (stage : Stage) (id : ℕ) → is_ended stage ≡ true → IsGrantOf stage id → ⊥
 ended_owns_nothing Ended id over own = own

@@ -11,3 +11,5 @@ pub mod Writes
 pub mod Copies
 pub mod Slices
 pub mod FileRows
+pub mod Gathers
+pub mod GatherRows

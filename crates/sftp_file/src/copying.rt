@@ -81,7 +81,7 @@ impl PlanMachine for Copying {
 
 impl Copying {
     /// The offsets where the call has come, in bytes: of the file that is copied, and of the other.
-    fn offsets(&self) -> (u64, u64)
+    pub fn offsets(&self) -> (u64, u64)
         ensures { (result.0 ≡ self.now.source.offset) × (result.1 ≡ self.now.target.offset) }
     {
         (self.source.offset, self.target.offset)

@@ -4,6 +4,7 @@
 mod copying;
 mod facts;
 mod file;
+mod gathering;
 mod looks;
 mod on_file;
 mod opening;
@@ -18,6 +19,9 @@ mod writing;
 pub use call_state::Poll;
 pub use copying::{CopyCall, Copying, PollCopy};
 pub use file::File;
+pub use gathering::{
+    Gathering, PollReadAll, ReadAllCall, ReadAllError, cancel_read_all, read_all_answer,
+};
 pub use looks::sought;
 pub use on_file::{OnFile, PollFile};
 pub use opening::{OpenCall, Opening, StartOpen};

@@ -17,7 +17,7 @@ use bytes::Bytes;
 use call_state::{Asking, Call, PlanMachine, Then, Told};
 use sftp_core::Core;
 use sftp_model::numbers::SSH_FX_EOF;
-use sftp_model::{Error, FileAt, Reply, Request};
+use sftp_model::{Error, FileAt, Handle, Reply, Request};
 use sftp_values::ByteText;
 use std::marker::Model;
 
@@ -125,20 +125,20 @@ impl File {
         if let Err(why) = may_read(&file, len) {
             return Err(Error::IOError(why));
         }
-        Call::ask(core, self.read_request(len), Reading { file, len })
+        let asking = read_request(self.grant().handle(), self.offset(), len);
+        Call::ask(core, asking, Reading { file, len })
     }
+}
 
-    /// The READ of `len` bytes at the offset. It fits a frame, since a handle has at most 256 bytes.
-    fn read_request(&self, len: u32) -> Asking
-        ensures is { result ≡ asking.Whole (request.Read self.now.grant.handle self.now.offset len) }
-        ensures short { is_long (request_of result) ≡ false }
-    {
-        let handle = self.grant().handle();
-        let _short = handle.as_bytes();
-        Asking::Whole(Request::Read {
-            handle: handle.copied(),
-            offset: self.offset(),
-            len,
-        })
-    }
+/// The READ of `len` bytes at an offset. It fits a frame, since a handle has at most 256 bytes.
+pub(crate) fn read_request(handle: &Handle, offset: u64, len: u32) -> Asking
+    ensures is { result ≡ asking.Whole (request.Read handle.now offset len) }
+    ensures short { is_long (request_of result) ≡ false }
+{
+    let _short = handle.as_bytes();
+    Asking::Whole(Request::Read {
+        handle: handle.copied(),
+        offset,
+        len,
+    })
 }

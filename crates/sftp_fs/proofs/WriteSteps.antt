@@ -333,7 +333,7 @@ begun_refused facts old mid new grant content m asking e result is part owned st
 -- ---- the OPEN
 
 -- a machine that awaits a HANDLE is what is left of such a plan, whatever is done with the handle
-left_any : (core : Core) (call : CallValue Granting) (w : WithHandle) (answers : Answers) → IsUnderWay granting core call
+pub left_any : (core : Core) (call : CallValue Granting) (w : WithHandle) (answers : Answers) → IsUnderWay granting core call
     → IsLeft granting w (granted_left w) answers call
 left_any core call w answers h = left_at call.stage h.over h.held
   where
@@ -345,7 +345,7 @@ left_any core call w answers h = left_at call.stage h.over h.held
     left_at (stage.Came told) over held = (tt, λ later. refl)
 
 -- from a plan at some of its own requests
-left_later : (core : Core) (call : CallValue Granting) (w : WithHandle) (plan : Plan) (answers : Answers) (later : Own) → IsUnderWay granting core call
+pub left_later : (core : Core) (call : CallValue Granting) (w : WithHandle) (plan : Plan) (answers : Answers) (later : Own) → IsUnderWay granting core call
     → IsLeft granting w plan answers call
     → IsLeft granting (w.0, λ handle own. w.1 handle later) (λ own a. plan later a) answers call
 left_later core call w plan answers later h left = left_at call.stage h.held left
@@ -359,20 +359,20 @@ left_later core call w plan answers later h left = left_at call.stage h.held lef
     left_at (stage.Came told) held l = (tt, λ own. l.1 later)
 
 -- what a HANDLE leads to
-granted_goes : (w : WithHandle) (plan : Plan) (answers : Answers) (old mid : Core) (call next : CallValue Granting) (grant : GrantValue)
+pub granted_goes : (w : WithHandle) (plan : Plan) (answers : Answers) (old mid : Core) (call next : CallValue Granting) (grant : GrantValue)
     → Polled granting w plan answers old mid call next (Ready (Ok grant)) → plan [] answers ≡ w.1 grant.handle []
 granted_goes w plan answers old mid call next grant (inl h) =
     absurd (let clash : ◌≡◌ {A = Poll (Result GrantValue Error)} (Ready (Ok grant)) Pending = h.pending in cc)
 granted_goes w plan answers old mid call next grant (inr h) = h.0
 
-granted_same : (w : WithHandle) (plan : Plan) (answers : Answers) (old mid : Core) (call next : CallValue Granting) (grant : GrantValue)
+pub granted_same : (w : WithHandle) (plan : Plan) (answers : Answers) (old mid : Core) (call next : CallValue Granting) (grant : GrantValue)
     → Polled granting w plan answers old mid call next (Ready (Ok grant)) → mid ≡ polled_core old call.stage
 granted_same w plan answers old mid call next grant (inl h) =
     absurd (let clash : ◌≡◌ {A = Poll (Result GrantValue Error)} (Ready (Ok grant)) Pending = h.pending in cc)
 granted_same w plan answers old mid call next grant (inr h) = h.2
 
 -- the handle is the one that was told
-same_handle : (site : Site) (there : Option Reply) (handle : List ℕ)
+pub same_handle : (site : Site) (there : Option Reply) (handle : List ℕ)
     → once_answered 1 there (λ r. on_handle r site (λ h. Done (outcome.Bytes h) site)) ≡ Done (outcome.Bytes handle) site → handle_of there ≡ handle
 same_handle site None handle e = absurd cc
 same_handle site (Some (reply.Handle h)) handle e = cc
@@ -407,13 +407,13 @@ waits_alone site (Some (reply.Attrs attrs)) place e = absurd cc
 waits_alone site (Some (reply.Extended content)) place e = absurd cc
 
 -- an OPEN that is under way still has no reply
-record IsStill (old mid : Core) (call next : CallValue Granting) (answers : Answers) : Type 0 where
-  core : mid ≡ old
-  unfailed : old.fault ≡ None
-  same : next ≡ call
-  missing : answers 1 ≡ None
+pub record IsStill (old mid : Core) (call next : CallValue Granting) (answers : Answers) : Type 0 where
+  pub core : mid ≡ old
+  pub unfailed : old.fault ≡ None
+  pub same : next ≡ call
+  pub missing : answers 1 ≡ None
 
-still : (site : Site) (answers : Answers) (old mid : Core) (call next : CallValue Granting) → IsUnderWay granting old call
+pub still : (site : Site) (answers : Answers) (old mid : Core) (call next : CallValue Granting) → IsUnderWay granting old call
     → Tells granting old call answers → Stepped {V = GrantValue} granting old mid call next Pending → IsStill old mid call next answers
 still site answers old mid call next held tells h =
     waits (h.polled (site, λ handle later. Done outcome.Done site) (granted_left (site, λ handle later. Done outcome.Done site)) answers
@@ -425,7 +425,7 @@ still site answers old mid call next held tells h =
     waits (inl w) = record { core = w.core; unfailed = w.unfailed; same = w.same; missing = waits_alone site (answers 1) 1 w.waits }
     waits (inr w) = absurd (never_asks site (answers 1) (request_of w.asking) w.behind.asks)
 
-left_now : (core : Core) (call : CallValue Granting) (w : WithHandle) (plan : Plan) (answers : Answers) → IsUnderWay granting core call
+pub left_now : (core : Core) (call : CallValue Granting) (w : WithHandle) (plan : Plan) (answers : Answers) → IsUnderWay granting core call
     → IsLeft granting w plan answers call → plan [] answers ≡ granted_left w [] answers
 left_now core call w plan answers h left = now_at call.stage h.over h.held left
   where
@@ -598,7 +598,7 @@ phase_left core ticket None (Some (Waiting expected sent wanted)) = refl
 phase_left core ticket fault (Some (Granted handle users)) = refl
 phase_left core ticket fault None = refl
 
-ready_polled : (core : Core) (s : Stage) → IsReady core → IsReady (polled_core core s)
+pub ready_polled : (core : Core) (s : Stage) → IsReady core → IsReady (polled_core core s)
 ready_polled core (stage.Asked ticket) h =
     record {
       opened = subst (λ (p : Phase). IsSome (info_of p)) (sym (phase_left core ticket core.fault (at core ticket))) h.opened;
@@ -609,7 +609,7 @@ ready_polled core stage.Ready h = h
 ready_polled core (stage.Unsent asking) h = h
 ready_polled core (stage.Came told) h = h
 
-told_at : (core : Core) (m : Granting) (s : Stage) → (answers : Answers) × TellsAt granting core m s answers
+pub told_at : (core : Core) (m : Granting) (s : Stage) → (answers : Answers) × TellsAt granting core m s answers
 told_at core m (stage.Asked ticket) = (λ place. reply_in (at core ticket), refl)
 told_at core m (stage.Came told) = (λ place. Some (reply_of told), refl)
 told_at core m stage.Ended = (λ place. None, tt)

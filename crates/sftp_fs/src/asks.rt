@@ -3,6 +3,7 @@ ghost use Rattle.std.specs.Prelude.{◌≡◌, ◌≤◌, true, List, ℕ, IsSom
 ghost use Rattle.sftp_model.specs.Answers.{expected_of};
 ghost use Rattle.sftp_model.specs.declared.answers.Expected.TheVariants as expected;
 ghost use Rattle.sftp_model.specs.Numbers.{MAX_TRANSFER_LEN};
+ghost use Rattle.plan_model.specs.GoodMoves.{FitsFacts};
 ghost use Rattle.plan_model.specs.Moves.{is_too_long, offers};
 ghost use Rattle.plan_model.specs.PathPlans.{path_done, path_told};
 ghost use Rattle.sftp_core.specs.Core.{is_call};
@@ -39,10 +40,11 @@ pub(crate) fn offers(core: &Core, extension: Extensions) -> bool
 }
 
 /// What a session fixes.
-pub(crate) fn facts(core: &Core) -> Facts
+pub fn facts(core: &Core) -> Facts
     requires { IsSome (info_of core.now.phase) }
     ensures is { result ≡ facts_of core.now }
     ensures write_range { (1 ≤ result.write_len) × (result.write_len ≤ MAX_TRANSFER_LEN) }
+    ensures fits { FitsFacts result }
 {
     let options = core.options();
     let Some(info) = core.info() else {
@@ -59,11 +61,7 @@ pub(crate) fn facts(core: &Core) -> Facts
 
 /// Submits the first request of a call on paths. `IOError(PathTooLong)`, exactly where its body would pass 1048575
 /// bytes; then as `Call::ask`.
-pub(crate) fn ask<M: PlanMachine>(
-    core: &mut Core,
-    request: Request,
-    machine: M,
-) -> Result<Call<M>, Error>
+pub fn ask<M: PlanMachine>(core: &mut Core, request: Request, machine: M) -> Result<Call<M>, Error>
     requires ready { IsReady core.old }
     requires asks { MayAskFirst M.meaning request machine }
     ensures { AsksFirst M.meaning request machine core.old core.new result }

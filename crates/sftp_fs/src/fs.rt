@@ -56,7 +56,7 @@ impl Fs {
     }
 
     /// What a path names from the working directory. Refused only for want of memory.
-    pub(crate) fn named(&self, alloc: Global, path: &[u8]) -> Result<RemotePath, Error>
+    pub fn named(&self, alloc: Global, path: &[u8]) -> Result<RemotePath, Error>
         ensures path { IfOk result (λ p. p ≡ joined_path self.now path.now) }
         ensures err { IfErr result (λ e. e ≡ error.OutOfMemory) }
     {

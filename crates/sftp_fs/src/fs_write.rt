@@ -88,7 +88,7 @@ impl Writing {
 }
 
 /// Closes a grant with one user, whose CLOSE nobody awaits.
-fn close(core: &mut Core, grant: Grant)
+pub fn close(core: &mut Core, grant: Grant)
     requires { IsOwned core.old grant }
     ensures { core.new ≡ closed core.old grant }
 {

@@ -16,11 +16,12 @@ mod parts;
 mod read_dir;
 mod removing;
 
+pub use asks::{ask, facts};
 pub use dir_entry::DirEntry;
 pub use directory::{Dir, DirCall, OpeningDir};
 pub use directory_builder::DirBuilder;
 pub use fs::Fs;
-pub use fs_write::FsWriteCall;
+pub use fs_write::{FsWriteCall, close};
 pub use granting::Granting;
 pub use laws::listings_are_planned;
 pub use naming::{Naming, PathCall};

@@ -1,8 +1,1 @@
-pub mod Local
-pub mod Sessions
-pub mod Awaits
-pub mod Asks
-pub mod Gets
-pub mod Puts
 pub mod Copies
-pub mod Disks

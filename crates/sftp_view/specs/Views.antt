@@ -24,7 +24,7 @@ use Rattle.view_model.specs.declared.answer.Answer.{Answer}
 use Rattle.view_model.specs.declared.op.ViewOp.{ViewOp}
 use Rattle.sftp_view.specs.Doings.{one_lane}
 use Rattle.sftp_view.specs.declared.ops.View.{View}
-use Rattle.sftp_view.specs.declared.view.ViewReport.{ViewReport}
+use Rattle.sftp_view.specs.declared.run.ViewReport.{ViewReport}
 
 -- Blocks of 1 to 65536 bytes, of which 1 or more are kept, and operations that a view can be given.
 pub record MayView (block capacity : ℕ) (ops : List ViewOp) : Type 0 where

@@ -73,7 +73,7 @@ impl<L: Link> Sftp<L> {
     }
 
     /// Polls a call, and does a round where it has no answer, until it answers or a round goes wrong.
-    fn run<M: PlanMachine>(&mut self, call: &mut Call<M>) -> Result<M::Value, Error>
+    pub(super) fn run<M: PlanMachine>(&mut self, call: &mut Call<M>) -> Result<M::Value, Error>
         requires may { MayWait M.meaning self.old.core call.old }
         requires count { (L.LinkState.state self.old.link).faults < 2 ^ 64 - 1 }
         ensures { HasWaited M.meaning L.LinkState.state self.old self.new call.old call.new result }

@@ -2,7 +2,7 @@ use Rattle.std.proofs.Common.{◌≡◌, ap, ◌∙◌, refl}
 use Rattle.call_state.specs.declared.stage.Stage.TheVariants.{Asked, Ended}
 use Rattle.call_state.specs.Calls.{CallValue}
 use Rattle.call_state.proofs.Going.{sent_by}
-use Rattle.call_state.proofs.Keeping.{submitted_holds, submitted_keeps, submitted_others}
+use Rattle.call_state.proofs.Keeping.{submitted_holds, submitted_keeps, submitted_missing, submitted_others}
 use Rattle.call_state.proofs.call.Call.send.Goals as goal
 
 pub returns-in-Ok-clause-went : goal.returns-in-Ok-clause-went
@@ -17,6 +17,7 @@ returns-in-Ok-clause-leaves g c =
       held = rw stands (submitted_holds c.args.core.now c.submit.new.core c.args.asking c.in-Ok.ticket _ c.in-Ok.ensures.ok
           (ap (λ (x : CallValue g.row.M.Denot). g.M.PlanMachine.meaning.expected x.machine) c.self.view_is ∙ c.requires.asks.expects));
       over = rw stands refl;
+      awaits = (c.in-Ok.ticket, (stands, submitted_missing c.args.core.now c.submit.new.core c.args.asking c.in-Ok.ticket c.in-Ok.ensures.ok));
       holds = tt;
       keeps = submitted_keeps c.args.core.now c.submit.new.core c.args.asking c.in-Ok.ticket c.in-Ok.ensures.ok;
       others = submitted_others c.args.core.now c.submit.new.core c.args.asking c.in-Ok.ticket Ended c.put.new.self c.in-Ok.ensures.ok stands;

@@ -21,6 +21,7 @@ returns-in-Unsent g c =
           (λ b. c.send.ensures.went w plan answers (subst (λ x. GoesBehind g.M.PlanMachine.meaning w plan answers c.in-Unsent.asking x) (sym m) b));
       held = c.send.ensures.leaves.held;
       over = c.send.ensures.leaves.over;
+      awaits = c.send.ensures.leaves.awaits;
       holds = c.send.ensures.leaves.holds;
       grants = c.send.ensures.leaves.keeps.grants;
       others = λ ticket kind apart h. c.send.ensures.leaves.others ticket kind (λ same. cc) h;
@@ -42,6 +43,7 @@ returns-in-Came g c =
           (c.go_on.ensures.went w plan answers));
       held = c.go_on.ensures.leaves.held;
       over = c.go_on.ensures.leaves.over;
+      awaits = c.go_on.ensures.leaves.awaits;
       holds = c.go_on.ensures.leaves.holds;
       grants = c.go_on.ensures.leaves.keeps.grants;
       others = λ ticket kind apart h. c.go_on.ensures.leaves.others ticket kind (λ same. cc) h;
@@ -66,6 +68,7 @@ returns-in-Ok g c =
           (c.go_on-in-Ok.ensures.went w plan answers));
       held = c.go_on-in-Ok.ensures.leaves.held;
       over = c.go_on-in-Ok.ensures.leaves.over;
+      awaits = c.go_on-in-Ok.ensures.leaves.awaits;
       holds = c.go_on-in-Ok.ensures.leaves.holds;
       grants = grants_polled c.args.core.now c.take_told.new.core c.go_on-in-Ok.new.core c.in-Asked.ticket counted
           c.take_told.ensures.core c.go_on-in-Ok.ensures.leaves.keeps;
@@ -83,10 +86,12 @@ returns-in-Err-Failed g c =
       polled = search rules;
       held = search rules;
       over = search rules;
+      awaits = tt;
       holds = search rules;
       grants = grants_polled c.args.core.now c.take_told.new.core c.take_told.new.core c.in-Asked.ticket counted
           c.take_told.ensures.core (keeps_same c.take_told.new.core);
       others = polled_others c.args.core.now c.take_told.new.core c.take_told.new.core c.in-Asked.ticket c.args.self.now.stage _ is
-          c.take_told.ensures.core (idle_others c.take_told.new.core c.take_told.new.core Ended _ (keeps_same c.take_told.new.core) (ended_idle _ (search rules)));
+          c.take_told.ensures.core (idle_others c.take_told.new.core c.take_told.new.core Ended _
+          (keeps_same c.take_told.new.core) (ended_idle _ (search rules)));
       stays = search rules;
     }

@@ -1,0 +1,84 @@
+-- How reads of so many bytes go on.
+use Rattle.std.proofs.Common.{◌≡◌, ◌∙◌, refl, sym, ap, subst, ℕ, List, [], Option, Some, Result, Ok, Err}
+use Rattle.sftp_model.specs.declared.error.Error.TheVariants as error
+use Rattle.sftp_model.specs.declared.error.IoKind.{IoKind}
+use Rattle.sftp_model.specs.declared.outcome.Outcome.TheVariants as outcome
+use Rattle.sftp_model.specs.declared.reply.Reply.TheVariants as reply
+use Rattle.sftp_model.specs.declared.slot.Facts.{Facts}
+use Rattle.sftp_model.specs.declared.slot.Move.{Move}
+use Rattle.sftp_model.specs.declared.slot.Move.TheVariants.{Ask, Done}
+use Rattle.plan_model.specs.Moves.{Answers, handle_of}
+use Rattle.plan_model.specs.TransferPlans.{read_all_next}
+use Rattle.call_state.specs.declared.asking.Asking.{Asking}
+use Rattle.call_state.specs.Asked.{request_of}
+use Rattle.sftp_core.specs.Core.{Core}
+use Rattle.call_state.specs.declared.stage.Stage.{Stage}
+use Rattle.call_state.specs.declared.stage.Stage.TheVariants.{Asked, Came, Ended, Ready, Unsent}
+use Rattle.call_state.specs.Calls.{IsHeldAt}
+use Rattle.call_state.specs.Machines.{GoesBehind}
+use Rattle.sftp_file.specs.Files.{Brought, FileValue, alone, one_slot}
+use Rattle.sftp_file.specs.Gathers.{IsNextRead, ReadAllValue, first_read, gathered, missing_from, next_len, next_read, read_all_left, reading_all, with_buffer}
+
+-- the move of the plan where the machine stands
+abbrev pub MovesAs : ReadAllValue → Answers → Move → Type 0
+MovesAs m answers move = handle_of (answers m.file.grant) ≡ m.handle → missing_from m.file m.got m.missing m.facts [] answers ≡ move
+
+-- a READ of what is missing behind the bytes that came
+pub gathers_behind : (m mid next : ReadAllValue) (bytes : List ℕ) (asking : Asking) (w : Unit {0}) (answers : Answers)
+    → mid ≡ gathered m bytes → IsNextRead mid next (Ok (Some asking)) → MovesAs mid answers (Ask (request_of asking))
+    → handle_of (answers m.file.grant) ≡ m.handle → answers m.place ≡ Some (reply.Content bytes)
+    → GoesBehind reading_all w (read_all_left m) answers asking next
+gathers_behind m mid next bytes asking w answers is step goes knows came =
+    let at : next ≡ record (gathered m bytes) { len = next_len mid } = step.0 ∙ (λ i. record (is i) { len = next_len mid }) in
+    let moves : MovesAs (gathered m bytes) answers (Ask (request_of asking)) =
+    subst (λ (x : ReadAllValue). MovesAs x answers (Ask (request_of asking))) is goes in
+    subst (λ (x : ReadAllValue). GoesBehind reading_all w (read_all_left m) answers asking x) (sym at) (record {
+      asks = rw came (moves knows);
+      rest = λ later. rw came refl;
+      knows = knows;
+    })
+
+-- or it is refused before it is asked
+pub gathers_refused : (m mid next : ReadAllValue) (bytes : List ℕ) (why : IoKind) (answers : Answers) → mid ≡ gathered m bytes
+    → next ≡ mid → MovesAs mid answers (next_read mid (Err why)) → handle_of (answers m.file.grant) ≡ m.handle
+    → answers m.place ≡ Some (reply.Content bytes)
+    → read_all_left m [] answers ≡ Done (outcome.Refused (error.IOError why)) (one_slot next.file)
+gathers_refused m mid next bytes why answers is same goes knows came =
+    let at : next ≡ gathered m bytes = same ∙ is in
+    let moves : MovesAs (gathered m bytes) answers (next_read (gathered m bytes) (Err why)) =
+    subst (λ (x : ReadAllValue). MovesAs x answers (next_read x (Err why))) is goes in
+    subst (λ (x : ReadAllValue). read_all_left m [] answers ≡ Done (outcome.Refused (error.IOError why)) (one_slot x.file)) (sym at)
+    (rw came (moves knows))
+
+-- the first READ
+pub first_read_behind : (f : FileValue) (facts : Facts) (n : ℕ) (m next : ReadAllValue) (asking : Asking) (answers : Answers)
+    → m ≡ first_read f facts n → IsNextRead m next (Ok (Some asking)) → MovesAs m answers (Ask (request_of asking))
+    → Brought f answers → GoesBehind reading_all tt (read_all_next 0 n (alone f) facts) answers asking next
+first_read_behind f facts n m next asking answers is step goes brought =
+    let at : next ≡ record (first_read f facts n) { len = next_len m } = step.0 ∙ (λ i. record (is i) { len = next_len m }) in
+    let moves : MovesAs (first_read f facts n) answers (Ask (request_of asking)) =
+    subst (λ (x : ReadAllValue). MovesAs x answers (Ask (request_of asking))) is goes in
+    subst (λ (x : ReadAllValue). GoesBehind reading_all tt (read_all_next 0 n (alone f) facts) answers asking x) (sym at) (record {
+      asks = moves brought;
+      rest = λ later. refl;
+      knows = brought;
+    })
+
+-- refused before it is asked
+pub first_read_refused : (f : FileValue) (facts : Facts) (n : ℕ) (m : ReadAllValue) (why : IoKind) (answers : Answers)
+    → m ≡ first_read f facts n → MovesAs m answers (next_read m (Err why)) → Brought f answers
+    → read_all_next 0 n (alone f) facts [] answers ≡ Done (outcome.Refused (error.IOError why)) (alone f)
+first_read_refused f facts n m why answers is goes brought =
+    let moves : MovesAs (first_read f facts n) answers (next_read (first_read f facts n) (Err why)) =
+    subst (λ (x : ReadAllValue). MovesAs x answers (next_read x (Err why))) is goes in
+    moves brought
+
+-- other bytes make no difference to what a core needs of it
+pub held_with : (core : Core) (m : ReadAllValue) (bytes : List ℕ) (stage : Stage) → IsHeldAt reading_all core m stage
+    → IsHeldAt reading_all core (with_buffer m bytes) stage
+held_with core m bytes Ended h = tt
+held_with core m bytes Ready h = tt
+held_with core m bytes (Unsent asking) h =
+    (record { call = h.0.call; short = h.0.short; expects = h.0.expects; cut = tt }, refl)
+held_with core m bytes (Asked ticket) h = h
+held_with core m bytes (Came told) h = record { allowed = h.allowed; formed = h.formed; counted = h.counted }

@@ -1,0 +1,55 @@
+//! The texts that the program writes of itself.
+
+/// What `--help` writes.
+pub(crate) fn help_text() -> &'static str {
+    "\
+Usage: sftp_transfer LINK get [OPTIONS] REMOTE.. LOCAL
+       sftp_transfer LINK put [OPTIONS] LOCAL.. REMOTE
+       sftp_transfer LINK list [-l] [PATH]
+       sftp_transfer --help | --version
+
+Copies files and trees from or to an SFTP server, with many requests under way at once, or
+lists a folder of it.
+
+LINK is unix:PATH, a Unix socket on which the server listens, tcp:HOST:PORT, or stdio, where
+standard input and output are the connection. With ssh:
+
+  socat UNIX-LISTEN:sftp.socket,fork EXEC:'ssh -s HOST sftp' &
+  sftp_transfer unix:sftp.socket get -r /etc/ssh copies
+
+  -r           folders too, with all that stands in them; symbolic links as links
+  -p           permissions and times are kept
+  -q           nothing is told but what was not done
+  --progress   how far the transfer has come, on standard error
+  --window N   requests under way for a file, from 1 to 1024; 64 without this option
+
+Where the target is a folder, or there are several sources, each is copied into it. A file
+NAME is written as .NAME.part beside it, and gets its name when all its bytes are there; a
+file that had the name is gone then. What is not done is told on standard error.
+
+The status is 0 where all was done, 1 where something was not, 2 for words that can't be
+used, 3 where the local side failed before anything was done, 5 where memory ran out, and 6
+where nothing answers at LINK.
+"
+}
+
+/// What `--version` writes.
+pub(crate) fn version_text() -> &'static str {
+    "tilfrjon 0.1.0\n"
+}
+
+/// What the one word `--help` or `--version` writes.
+pub(crate) fn text_for(words: &[String]) -> Option<&'static str> {
+    match words {
+        [word] => {
+            if word.as_str() == "--help" {
+                Some(help_text())
+            } else if word.as_str() == "--version" {
+                Some(version_text())
+            } else {
+                None
+            }
+        }
+        _ => None,
+    }
+}

@@ -1,0 +1,4 @@
+pub mod Reads
+pub mod Tickets
+pub mod Hearing
+pub mod WholeReads

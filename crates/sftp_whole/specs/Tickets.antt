@@ -1,0 +1,65 @@
+-- The tickets of READs under way.
+use Rattle.std.specs.Prelude.{◌≡◌, ◌≢◌, ℕ, List, [], ◌∷◌, true, Some, None, IsTrue}
+use Rattle.sftp_model.specs.declared.answers.Expected.TheVariants as expected
+use Rattle.sftp_model.specs.Answers.{allows}
+use Rattle.sftp_model.specs.declared.reply.Reply.{Reply}
+use Rattle.plan_model.specs.Moves.{Answers}
+use Rattle.plan_window.specs.declared.window.ReadAt.{ReadAt}
+use Rattle.sftp_core.specs.Core.{Core, abandoned, after_poll, at, is_ticket, reply_in}
+use Rattle.call_state.specs.Asked.{Holds}
+use Rattle.sftp_whole.specs.declared.tickets.Answer.{Answer}
+use Rattle.sftp_whole.specs.declared.tickets.Answer.TheVariants as answer
+use Rattle.sftp_whole.specs.declared.tickets.Unasked.{Unasked}
+use Rattle.sftp_whole.specs.declared.tickets.Unasked.TheVariants as unasked
+
+-- this ticket is none of these
+abbrev pub IsNoneOf : ℕ → List ℕ → Type 0
+IsNoneOf ticket [] = Unit {0}
+IsNoneOf ticket (other ∷ later) = (ticket ≢ other) × IsNoneOf ticket later
+
+-- the core counts these tickets, and none stands there twice
+abbrev pub AreTickets : Core → List ℕ → Type 0
+AreTickets core [] = Unit {0}
+AreTickets core (ticket ∷ later) = IsTrue (is_ticket (at core ticket)) × IsNoneOf ticket later × AreTickets core later
+
+-- the core awaits the DATA of each READ under a ticket of its own
+abbrev pub AreUnderWay : Core → List ReadAt → List ℕ → Type 0
+AreUnderWay core [] [] = Unit {0}
+AreUnderWay core (r ∷ rest) (ticket ∷ later) = Holds core ticket (expected.Content r.len) × IsNoneOf ticket later
+    × AreUnderWay core rest later
+AreUnderWay core reads tickets = ⊥
+
+-- the reply to each READ is the one that the core has
+abbrev pub TellsReads : Core → Answers → List ReadAt → List ℕ → Type 0
+TellsReads core answers [] [] = Unit {0}
+TellsReads core answers (r ∷ rest) (ticket ∷ later) = (answers r.place ≡ reply_in (at core ticket))
+    × TellsReads core answers rest later
+TellsReads core answers reads tickets = ⊥
+
+-- the core once these were polled, the first one first
+abbrev pub polled_all : Core → List ℕ → Core
+polled_all core [] = core
+polled_all core (ticket ∷ later) = polled_all (after_poll core ticket) later
+
+-- and once they were abandoned
+abbrev pub without : Core → List ℕ → Core
+without core [] = core
+without core (ticket ∷ later) = without (abandoned core ticket) later
+
+-- want of memory, or the kept fault
+abbrev pub IsUnasked : Core → Unasked → Type 0
+IsUnasked core unasked.Short = Unit {0}
+IsUnasked core (unasked.Failed fault) = core.fault ≡ Some fault
+
+-- the reply was taken, and may answer a READ of so many bytes at most
+pub record Came (core : Core) (ticket len : ℕ) (r : Reply) : Type 0 where
+  pub taken : reply_in (at core ticket) ≡ Some r
+  pub allowed : allows (expected.Content len) r ≡ true
+
+-- a taken reply comes before a kept fault, and the ticket comes back where there is neither
+abbrev pub IsAnswer : Core → Core → ℕ → ℕ → Answer → Type 0
+IsAnswer old new ticket len (answer.Came r) = Came old ticket len r × (new ≡ after_poll old ticket)
+IsAnswer old new ticket len (answer.Missing same) = (reply_in (at old ticket) ≡ None) × (old.fault ≡ None)
+    × (same ≡ ticket) × (new ≡ old)
+IsAnswer old new ticket len (answer.Failed fault) = (reply_in (at old ticket) ≡ None) × (old.fault ≡ Some fault)
+    × (new ≡ after_poll old ticket)

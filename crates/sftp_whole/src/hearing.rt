@@ -1,0 +1,71 @@
+//! The replies to the READs under way, in their order.
+ghost use Rattle.std.specs.Prelude.{◌≡◌, ◌≢◌, None, Some};
+ghost use Rattle.sftp_model.specs.declared.answers.Expected.TheVariants as expected;
+ghost use Rattle.plan_window.specs.Windows.{first_of};
+ghost use Rattle.plan_window.specs.declared.window.ReadAt.{ReadAt};
+ghost use Rattle.call_state.specs.Asked.{Holds, IsReady};
+ghost use Rattle.sftp_whole.specs.Hearing.{HasHeard, IsFirst};
+ghost use Rattle.sftp_whole.specs.Tickets.{AreUnderWay};
+
+use crate::reads::Reads;
+use crate::tickets::{Answer, take_reply};
+use sftp_core::{Core, Ticket};
+use sftp_model::Error;
+use std::collections::VecDeque;
+
+/// What came of the reply to the first READ under way.
+pub enum First {
+    /// It was taken: these are the READs behind it.
+    Came(Reads),
+    /// It is missing, and no fault is kept.
+    Missing(Ticket, Reads),
+    /// The read is over.
+    Over(Error),
+}
+
+/// What came of the replies to the READs under way.
+pub enum Heard {
+    /// The next one is missing, or no READ is under way.
+    Missing(Reads, VecDeque<Ticket>),
+    /// The read is over, and these tickets are left.
+    Over(Error, VecDeque<Ticket>),
+}
+
+/// Hears the reply to the first READ under way.
+fn hear_first(core: &mut Core, reads: Reads, ticket: Ticket) -> First
+    requires some { first_of reads.window.waiting ≢ None }
+    requires held { (r : ReadAt) → first_of reads.window.waiting ≡ Some r → Holds core.old ticket (expected.Content r.len) }
+    ensures { IsFirst core.old core.new reads ticket result }
+{
+    let Some(len) = reads.first_len() else {
+        unreachable!()
+    };
+    match take_reply(core, ticket, len) {
+        Answer::Came(reply) => match reads.replied(reply) {
+            Ok(next) => First::Came(next),
+            Err(e) => First::Over(e),
+        },
+        Answer::Missing(ticket) => First::Missing(ticket, reads),
+        Answer::Failed(fault) => First::Over(Error::BackgroundTaskFailure(fault)),
+    }
+}
+
+/// Hears the replies to the READs under way, until one is missing or ends the read.
+pub(crate) fn hear(core: &mut Core, reads: Reads, tickets: VecDeque<Ticket>) -> Heard
+    requires under_way { AreUnderWay core.old reads.window.waiting tickets.items }
+    requires ready { IsReady core.old }
+    ensures { HasHeard core.old core.new reads tickets.items result }
+{
+    let (mut reads, mut tickets) = (reads, tickets);
+    while let Some(ticket) = tickets.pop_front() {
+        match hear_first(core, reads, ticket) {
+            First::Came(next) => reads = next,
+            First::Missing(ticket, same) => {
+                tickets.push_front_reserved(ticket);
+                return Heard::Missing(same, tickets);
+            }
+            First::Over(e) => return Heard::Over(e, tickets),
+        }
+    }
+    Heard::Missing(reads, tickets)
+}

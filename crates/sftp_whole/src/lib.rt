@@ -1,0 +1,9 @@
+//! Whole reads of a path of an SFTP server, by a window of READs.
+#![tactic(auto)]
+
+mod fs_read;
+mod hearing;
+mod reads;
+mod tickets;
+
+pub use fs_read::{FsReadCall, StartRead};

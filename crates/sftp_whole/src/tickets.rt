@@ -1,0 +1,81 @@
+//! The tickets of READs under way.
+ghost use Rattle.std.specs.Prelude.{◌≡◌, IfErr, IfOk};
+ghost use Rattle.sftp_model.specs.declared.answers.Expected.TheVariants as expected;
+ghost use Rattle.sftp_model.specs.declared.request.Request.TheVariants as request;
+ghost use Rattle.call_state.specs.Asked.{Holds, IsReady, Submitted};
+ghost use Rattle.call_state.specs.declared.asking.Asking.TheVariants as asking;
+ghost use Rattle.sftp_whole.specs.Tickets.{AreTickets, IsAnswer, IsUnasked, without};
+
+use sftp_core::{Core, Polled, SubmitError, Ticket};
+use sftp_model::{Fault, Handle, Reply, Request};
+use std::collections::VecDeque;
+
+/// Why a READ was not submitted.
+pub enum Unasked {
+    /// There was no memory.
+    Short,
+    /// This fault is kept.
+    Failed(Fault),
+}
+
+/// What a core tells of a READ.
+pub enum Answer {
+    /// The reply that was taken.
+    Came(Reply),
+    /// It was not taken, and no fault is kept.
+    Missing(Ticket),
+    /// It was not taken, and this fault is kept.
+    Failed(Fault),
+}
+
+/// The reply to a READ of at most `len` bytes, where it was taken; the ticket is spent then, and by a kept fault.
+pub(crate) fn take_reply(core: &mut Core, ticket: Ticket, len: u32) -> Answer
+    requires { Holds core.old ticket (expected.Content len) }
+    ensures { IsAnswer core.old core.new ticket len result }
+{
+    match core.poll(ticket) {
+        Ok(Polled::Reply(reply)) => Answer::Came(reply),
+        Ok(Polled::Granted(_grant)) => unreachable!(),
+        Ok(Polled::Failed(fault)) => Answer::Failed(fault),
+        Err(ticket) => Answer::Missing(ticket),
+    }
+}
+
+/// Submits a READ. Refused for want of memory or by a kept fault; the core is as before then.
+pub(crate) fn submit_read(
+    core: &mut Core,
+    handle: &Handle,
+    offset: u64,
+    len: u32,
+) -> Result<Ticket, Unasked>
+    requires { IsReady core.old }
+    ensures ok { IfOk result (λ ticket. Submitted core.old (asking.Whole (request.Read handle.now offset len)) ticket core.new) }
+    ensures err { IfErr result (λ e. IsUnasked core.old e × (core.new ≡ core.old)) }
+{
+    // for the contract: a handle has at most 256 bytes
+    let _short = handle.as_bytes();
+    let request = Request::Read {
+        handle: handle.copied(),
+        offset,
+        len,
+    };
+    match core.submit(&request) {
+        Ok(ticket) => Ok(ticket),
+        Err(SubmitError::Failed(fault)) => Err(Unasked::Failed(fault)),
+        Err(SubmitError::TooLong) => unreachable!(),
+        Err(SubmitError::OutOfMemory) => Err(Unasked::Short),
+    }
+}
+
+/// Abandons these tickets, the first one first.
+#[tactic(auto, using(crate::proofs::TicketLaws::abandons_first, crate::proofs::TicketLaws::abandons_ticket, crate::proofs::TicketLaws::abandons_next, crate::proofs::TicketLaws::abandons_all))]
+pub(crate) fn abandon_all(core: &mut Core, tickets: VecDeque<Ticket>)
+    requires { AreTickets core.old tickets.items }
+    ensures { core.new ≡ without core.old tickets.items }
+{
+    let mut tickets = tickets;
+    while let Some(ticket) = tickets.pop_front() {
+        core.abandon(ticket);
+    }
+    tickets.destroy_empty();
+}

@@ -1,0 +1,3 @@
+pub mod GoingLaws
+pub mod TogetherLaws
+pub mod WorkLaws

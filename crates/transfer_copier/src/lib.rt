@@ -1,0 +1,10 @@
+//! Many files copied at once over one session.
+#![tactic(auto)]
+
+mod copier;
+mod running;
+mod turning;
+
+pub use copier::{Copier, CopierStep};
+pub use running::{Copied, CopyJob, CopyState, Running, Way};
+pub use transfer_states::{Failure, LocalError, LocalFile, Progress};

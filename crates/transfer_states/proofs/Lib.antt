@@ -1,0 +1,4 @@
+pub mod HoldingLaws
+pub mod DropLaws
+pub mod GetLaws
+pub mod PutLaws

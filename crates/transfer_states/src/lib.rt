@@ -1,0 +1,21 @@
+//! Copies of files as states over a core, so that many of them stand over one session: each step takes one reply that
+//! has come, or submits a request, and never waits.
+#![tactic(auto)]
+
+mod answers;
+mod asking;
+mod failure;
+mod get;
+mod holding;
+mod local;
+mod paths;
+mod progress;
+mod put;
+mod refusals;
+
+pub use failure::Failure;
+pub use get::{FileGet, GetStage};
+pub use holding::{FileHold, Holding, Part};
+pub use local::{LocalError, LocalFile};
+pub use progress::Progress;
+pub use put::{FilePut, PutStage};
