@@ -11,6 +11,7 @@ use Rattle.sftp_model.specs.declared.outcome.Outcome.{Outcome}
 use Rattle.machine_model.specs.Changes.{IsWellFormed}
 use Rattle.machine_model.specs.FileTree.{FileTree}
 use Rattle.plan_model.specs.declared.call.Call.{Call}
+use Rattle.plan_model.specs.declared.call.Lane.{Lane}
 use Rattle.session_model.specs.Calls.{Setting, added}
 use Rattle.session_model.specs.Journals.{IsJournal, IsOver}
 use Rattle.session_model.specs.Readings.{outcomes_of}
@@ -71,10 +72,12 @@ plainly s past block capacity ops lanes reads writes j over quiet some short wit
     }
 
 -- the same, of a session of one lane
-pub view_plainly : (options : SftpOptions) (extensions : Extensions) (past : List Entry) (block capacity : ℕ) (ops : List ViewOp)
-    → IsJournal (setting_of only_lane options extensions past) past → IsOver (setting_of only_lane options extensions past) past → IsUncancelled past
+pub view_plainly : (s : Setting) (lanes : List Lane) (options : SftpOptions) (extensions : Extensions) (past : List Entry) (block capacity : ℕ) (ops : List ViewOp)
+    → s ≡ setting_of lanes options extensions past → lanes ≡ only_lane → IsJournal s past → IsOver s past → IsUncancelled past
     → 1 ≤ block → block ≤ 65536 → list_all is_within ops ≡ true → added past 0 ≡ (viewed block capacity ops (outcomes_of past 0)).calls
-    → IsPlainThere block capacity (setting_of only_lane options extensions past).facts.write_len ops past (viewed block capacity ops (outcomes_of past 0)).value.answers
+    → IsPlainThere block capacity s.facts.write_len ops past (viewed block capacity ops (outcomes_of past 0)).value.answers
     (viewed block capacity ops (outcomes_of past 0)).value.kept.hits (viewed block capacity ops (outcomes_of past 0)).value.kept.misses
-view_plainly options extensions past block capacity ops =
-    plainly (setting_of only_lane options extensions past) past block capacity ops refl (len_some options.max_read_len _) (len_some options.max_write_len _)
+view_plainly s lanes options extensions past block capacity ops fixed one =
+    plainly s past block capacity ops (ap (λ (x : Setting). x.lanes) fixed ∙ one)
+    (subst (λ (x : Setting). 1 ≤ x.facts.read_len) (sym fixed) (len_some options.max_read_len _))
+    (subst (λ (x : Setting). 1 ≤ x.facts.write_len) (sym fixed) (len_some options.max_write_len _))
