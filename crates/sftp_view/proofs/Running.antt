@@ -14,6 +14,8 @@ use Rattle.sftp_model.specs.declared.options.SftpOptions.{SftpOptions}
 use Rattle.machine_model.specs.FirstTree.{FirstFile}
 use Rattle.machine_model.specs.FitTrees.{IsFit}
 use Rattle.machine_model.proofs.FirstFits.{first_fits}
+use Rattle.machine_model.proofs.FirstFiles.{first_well_formed}
+use Rattle.machine_model.specs.Changes.{IsWellFormed}
 use Rattle.session_model.specs.Calls.{Setting, added}
 use Rattle.session_model.specs.Readings.{answer, outcomes_of}
 use Rattle.session_model.specs.Served.{Serves}
@@ -55,6 +57,9 @@ use Rattle.sftp_view.proofs.CalledLaws.{few_called}
 all_codes : (choices : List Choice) → All (λ choice. FitsNumber choice.refuse) choices → AllCodes choices
 all_codes [] h = tt
 all_codes (c ∷ choices) h = (h 0 c (omega arith), all_codes choices (λ k d lt. h (suc k) d (omega (arith, lt))))
+
+begins_well : (first : Server) → IsUnopened first → IsWellFormed first.desk.machine.tree
+begins_well first u = subst (λ (x : Server). IsWellFormed x.desk.machine.tree) (sym u.is) (first_well_formed u.files u.dirs u.may)
 
 first_is : (first : Server) → IsUnopened first → IsFirst first.desk
 first_is first new =
@@ -120,6 +125,9 @@ served_view size ops options old now r may new none same serving report =
     let empty : d.machine.grants ≡ 0 = ap (λ (w : Server). w.desk.machine.grants) fresh.is in
     let closed : d.machine.tree.handles ≡ [] = ap (λ (w : Server). w.desk.machine.tree.handles) fresh.is in
     let by : (p : ℕ) → AnswersBy (answer past p) (due d past p) = λ p. answers_by d past p o.due in
+    let serves : Serves f.machine.config f.choices f.machine.tree past now.now.desk.machine.tree =
+    subst (λ (w : Desk). Serves f.machine.config f.choices f.machine.tree past w.machine.tree)
+    (sym o.owes.desk) (serves_by d past empty closed sound by few) in
     record {
       extensions = report.extensions;
       past = past;
@@ -128,8 +136,7 @@ served_view size ops options old now r may new none same serving report =
       version = shows_version f picks (greeting report.extensions) past now.log now.now first shown served;
       shown = shown;
       served = record {
-        serves = subst (λ (w : Desk). Serves f.machine.config f.choices f.machine.tree past w.machine.tree)
-            (sym o.owes.desk) (serves_by d past empty closed sound by few);
+        serves = serves;
         by_picks = o.by_picks;
         numbered = numbered_by d past empty closed sound by few report.over.2;
       };
@@ -137,6 +144,7 @@ served_view size ops options old now r may new none same serving report =
       answers = report.answers;
       hits = report.hits;
       misses = report.misses;
+      plain = λ unrefused. report.plain f.machine.config f.choices f.machine.tree now.now.desk.machine.tree unrefused (begins_well now.first fresh) serves;
     }
 
 -- the error is want of memory

@@ -12,6 +12,8 @@ use Rattle.program_ends.specs.Ended.{IsServerOf}
 use Rattle.sftp_text.specs.Texts.{dir_lines, file_lines}
 use Rattle.sftp_map_server.specs.Serving.{Serving, version_reply}
 use Rattle.map_server_laws.specs.ServedRuns.{IsServedRun}
+use Rattle.run_laws.specs.Steps.{RefuseNone}
+use Rattle.view_laws.specs.Plainly.{IsPlain}
 use Rattle.view_lists.specs.declared.cache_size.CacheSize.{CacheSize}
 use Rattle.view_lists.specs.declared.list.ViewList.{ViewList}
 use Rattle.view_model.specs.AnswerText.{view_lines}
@@ -25,7 +27,8 @@ use Rattle.sftp_view.specs.declared.run.ViewReport.{ViewReport}
 -- The report is that of a session over this server, which is over, and the server's log shows VERSION, which tells what
 -- the server offers, and the session's journal. The replies are those of one sequential run of the file machine. The
 -- calls that were added are just those that the operations make by the outcomes of these calls, in their order; and the
--- answers, hits and misses are theirs.
+-- answers, hits and misses are theirs. Where the server's choices refuse nothing, answers, hits and misses are what its
+-- files alone give, and what is left of them is what the files alone leave.
 pub record IsServedView (size : CacheSize) (ops : List ViewOp) (options : SftpOptions) (server : Serving)
     (report : ViewReport) : Type 0 where
   pub extensions : Extensions
@@ -39,6 +42,9 @@ pub record IsServedView (size : CacheSize) (ops : List ViewOp) (options : SftpOp
   pub answers : report.answers ≡ (done_in size.block size.capacity ops past).value.answers
   pub hits : report.hits ≡ (done_in size.block size.capacity ops past).value.kept.hits
   pub misses : report.misses ≡ (done_in size.block size.capacity ops past).value.kept.misses
+  pub plain : RefuseNone server.first.desk.choices → IsPlain size.block size.capacity
+      (setting_of one_lane options extensions past).facts.write_len ops server.first.desk.machine.tree
+      server.now.desk.machine.tree report.answers report.hits report.misses
 
 -- ---- the text
 

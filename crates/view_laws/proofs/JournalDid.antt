@@ -68,7 +68,7 @@ use Rattle.run_laws.proofs.StepLaws.{after_two, served_before, served_first, ser
 use Rattle.view_model.specs.Viewed.{found_in}
 use Rattle.view_model.proofs.EndedLaws.{ended_within}
 use Rattle.view_laws.specs.FileCalls.{AllDid, Did, FilesAt, MayCall, at_rest, bare}
-use Rattle.view_laws.specs.Uncancelled.{IsUncancelled}
+use Rattle.view_model.specs.Uncancelled.{IsUncancelled}
 use Rattle.view_laws.proofs.CallsDone.{HasDone}
 use Rattle.view_laws.proofs.EachCall.{call_ends}
 use Rattle.view_laws.proofs.JournalEnds.{Cut, calm, cut_steps, let_go_idle, requests_grow, uncancelled_before}

@@ -75,7 +75,7 @@ use Rattle.run_laws.proofs.WholeRunSent.{answered_sent}
 use Rattle.view_model.specs.Viewed.{found_in}
 use Rattle.view_model.proofs.EndedLaws.{ended_within}
 use Rattle.view_laws.specs.FileCalls.{AllDid, Did, FilesAt, MayCall, at_rest, bare}
-use Rattle.view_laws.specs.Uncancelled.{IsUncancelled}
+use Rattle.view_model.specs.Uncancelled.{IsUncancelled}
 use Rattle.view_laws.proofs.CallsDone.{HasDone}
 use Rattle.view_laws.proofs.EachCall.{call_ends}
 use Rattle.view_laws.proofs.JournalSteps.{AsksNow, Expects, Guard, IsExpected, Reached, adds, asks_limits, at_first, call_asks, keeps_fault, lane_zero, lets_go, one_there, only_lane, sends, takes}

@@ -14,3 +14,4 @@ pub mod EachCall
 pub mod JournalSteps
 pub mod JournalEnds
 pub mod JournalDid
+pub mod PlainLaws

@@ -115,6 +115,13 @@ module _ (len block capacity : ℕ) (some : 1 ≤ block) (short : block ≤ 6553
       by_test true = (well_bare tree well, refl)
       by_test false = (let l = put_leaves path offset tree (pieces_of len content) well in (l.well, l.bare_is))
 
+  -- what operations leave has no handles
+  pub plain_leaves : (ops : List ViewOp) (tree : FileTree) → IsWellFormed tree → bare (plain len ops (bare tree)).1 ≡ (plain len ops (bare tree)).1
+  plain_leaves [] tree well = refl
+  plain_leaves (o ∷ ops) tree well =
+      let leaves = op_leaves o tree well in
+      subst (λ (t : FileTree). bare (plain len ops t).1 ≡ (plain len ops t).1) leaves.1 (plain_leaves ops (plain_op len o (bare tree)).1 leaves.0)
+
   pub viewed_plainly : (ops : List ViewOp) (tree : FileTree) (answers : List Answer) (kept : Kept (List ℕ)) → list_all is_within ops ≡ true
       → IsWellFormed tree → Each (IsBlock (bare tree) block) kept.entries
       → Holds len (viewed_from block capacity ops answers kept) (at_rest tree)

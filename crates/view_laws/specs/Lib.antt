@@ -1,2 +1,2 @@
 pub mod FileCalls
-pub mod Uncancelled
+pub mod Plainly
