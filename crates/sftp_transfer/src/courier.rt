@@ -1,5 +1,5 @@
 //! Who copies between the server and the local side.
-ghost use Rattle.std.specs.Prelude.{◌≡◌, ◌≤◌};
+ghost use Rattle.std.specs.Prelude.{◌≡◌, ◌≤◌, max};
 ghost use Rattle.transfer_file.specs.Sessions.{IsGoing};
 
 use crate::copy::copy_file;
@@ -29,6 +29,19 @@ pub(crate) struct Courier<'a, L> {
     pub(crate) files: u64,
     pub(crate) bytes: u64,
     pub(crate) starved: bool,
+}
+
+/// How many requests are worth having under way for a file: where its size is told, no more than it needs by requests of
+/// 32768 bytes, and one more to come to its end.
+fn window_for(size: Option<u64>, most: u32) -> usize
+    ensures some { 1 ≤ result }
+    ensures few { result ≤ max 1 most }
+{
+    let most = u64::from(most.max(1));
+    match size {
+        Some(size) => (size / 32768).saturating_add(2).min(most) as usize,
+        None => most as usize,
+    }
 }
 
 /// A local path, as text.
@@ -81,7 +94,7 @@ impl<'a, L: Link> Courier<'a, L> {
             self.way,
             found.source.as_slice(),
             found.target.as_slice(),
-            self.options.window.max(1) as usize,
+            window_for(found.attrs.size, self.options.window),
         );
         let len = match copied {
             Ok(len) => len,

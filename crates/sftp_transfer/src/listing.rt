@@ -1,9 +1,9 @@
 //! A folder of the server is listed.
 ghost use Rattle.transfer_file.specs.Sessions.{IsGoing};
 
+use crate::ended::{Reach, ended_by};
 use crate::printable::printable;
 use crate::reason::{Reason, is_starved, tell};
-use crate::status::{DONE, NOT_DONE, OUT_OF_MEMORY};
 use sftp_client::Sftp;
 use sftp_link::Link;
 use sftp_model::FileAttrs;
@@ -37,19 +37,15 @@ fn write_entry(rt: &HostRuntime, found: &Found, folder_len: usize, long: bool) -
     }
 }
 
-/// Writes the names of a folder, one a line, and answers the status.
-pub(crate) fn list<L: Link>(rt: &HostRuntime, sftp: &mut Sftp<L>, listing: &Listing<'_>) -> u8
+/// Writes the names of a folder, one a line, and answers what it came to.
+pub(crate) fn list<L: Link>(rt: &HostRuntime, sftp: &mut Sftp<L>, listing: &Listing<'_>) -> Reach
     requires { IsGoing L.LinkState.state sftp.old }
 {
     match list_into(rt, sftp, listing) {
-        Ok(()) => DONE,
+        Ok(()) => Reach::Done,
         Err(reason) => {
             tell(rt, listing.path, &reason);
-            if is_starved(&reason) {
-                OUT_OF_MEMORY
-            } else {
-                NOT_DONE
-            }
+            ended_by(is_starved(&reason), false, false)
         }
     }
 }

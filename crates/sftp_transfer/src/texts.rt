@@ -1,7 +1,8 @@
 //! The texts that the program writes of itself.
+use crate::ended::Text;
 
 /// What `--help` writes.
-pub(crate) fn help_text() -> &'static str {
+fn help_text() -> &'static str {
     "\
 Usage: sftp_transfer LINK get [OPTIONS] REMOTE.. LOCAL
        sftp_transfer LINK put [OPTIONS] LOCAL.. REMOTE
@@ -34,22 +35,14 @@ where nothing answers at LINK.
 }
 
 /// What `--version` writes.
-pub(crate) fn version_text() -> &'static str {
+fn version_text() -> &'static str {
     "tilfrjon 0.1.0\n"
 }
 
-/// What the one word `--help` or `--version` writes.
-pub(crate) fn text_for(words: &[String]) -> Option<&'static str> {
-    match words {
-        [word] => {
-            if word.as_str() == "--help" {
-                Some(help_text())
-            } else if word.as_str() == "--version" {
-                Some(version_text())
-            } else {
-                None
-            }
-        }
-        _ => None,
+/// What is written as a text.
+pub(crate) fn written(text: Text) -> &'static str {
+    match text {
+        Text::Help => help_text(),
+        Text::Version => version_text(),
     }
 }

@@ -3,17 +3,17 @@ ghost use Rattle.std.specs.Prelude.{◌<◌, ◌-◌, ◌^◌};
 ghost use Rattle.transfer_file.specs.Sessions.{IsGoing};
 
 use crate::courier::Courier;
+use crate::ended::{Reach, ended_by};
 use crate::listing::list;
 use crate::local_side::{is_folder, make_local_folder};
 use crate::printable::printable;
 use crate::reason::{Reason, is_starved, tell};
-use crate::status::{DONE, NOT_DONE, OUT_OF_MEMORY};
 use sftp_client::Sftp;
 use sftp_link::Link;
 use sftp_model::SftpOptions;
 use std::fs;
 use transfer_file::Failure;
-use transfer_jobs::{Tally, carry_out};
+use transfer_jobs::carry_out;
 use transfer_remote::{make_remote_folder, remote_metadata};
 use transfer_words::{Transfer, Way, Work};
 
@@ -72,8 +72,8 @@ fn folder_of(path: &str) -> &str {
     }
 }
 
-/// Does what is asked for over a link, which is dropped then, and answers the status.
-pub(crate) fn over<L: Link + Drop>(rt: &HostRuntime, link: L, work: Work<'_>) -> u8
+/// Does what is asked for over a link, which is dropped then, and answers what it came to.
+pub(crate) fn over<L: Link + Drop>(rt: &HostRuntime, link: L, work: Work<'_>) -> Reach
     requires { (L.LinkState.state link).faults < 2 ^ 64 - 1 }
 {
     match Sftp::new(rt.alloc(), link, &SftpOptions::new()) {
@@ -98,11 +98,7 @@ pub(crate) fn over<L: Link + Drop>(rt: &HostRuntime, link: L, work: Work<'_>) ->
         Err((e, _link)) => {
             let reason = Reason::Failed(Failure::from(e));
             tell(rt, "the session", &reason);
-            if is_starved(&reason) {
-                OUT_OF_MEMORY
-            } else {
-                NOT_DONE
-            }
+            ended_by(is_starved(&reason), false, false)
         }
     }
 }
@@ -134,8 +130,8 @@ fn goes_into<L: Link>(
     }
 }
 
-/// Copies files, and answers the status.
-fn copy<L: Link>(courier: &mut Courier<'_, L>, transfer: &Transfer<'_>) -> u8
+/// Copies files, and answers what it came to.
+fn copy<L: Link>(courier: &mut Courier<'_, L>, transfer: &Transfer<'_>) -> Reach
     requires { IsGoing L.LinkState.state courier.old.sftp }
 {
     let into = match goes_into(courier, transfer) {
@@ -143,19 +139,11 @@ fn copy<L: Link>(courier: &mut Courier<'_, L>, transfer: &Transfer<'_>) -> u8
         Err(e) => {
             let reason = Reason::Failed(e);
             courier.tell_of(transfer.target.as_bytes(), &reason);
-            return if is_starved(&reason) {
-                OUT_OF_MEMORY
-            } else {
-                NOT_DONE
-            };
+            return ended_by(is_starved(&reason), false, false);
         }
     };
     let Some(gathered) = courier.gather(transfer.sources, transfer.target, into) else {
-        return if courier.starved {
-            OUT_OF_MEMORY
-        } else {
-            NOT_DONE
-        };
+        return ended_by(courier.starved, false, false);
     };
     let alloc = courier.rt.alloc();
     let several = gathered.jobs.len() > 1;
@@ -167,18 +155,7 @@ fn copy<L: Link>(courier: &mut Courier<'_, L>, transfer: &Transfer<'_>) -> u8
     );
     courier.tell_end(several);
     match carried {
-        Ok(tally) => status_of(&tally, gathered.complete, courier.starved),
-        Err(_) => OUT_OF_MEMORY,
-    }
-}
-
-/// The status by what came of the jobs.
-fn status_of(tally: &Tally, complete: bool, starved: bool) -> u8 {
-    if starved {
-        OUT_OF_MEMORY
-    } else if tally.all_done() && complete {
-        DONE
-    } else {
-        NOT_DONE
+        Ok(tally) => ended_by(courier.starved, gathered.complete, tally.all_done()),
+        Err(_) => Reach::OutOfMemory,
     }
 }

@@ -1,31 +1,6 @@
 -- Acts one after another, as a loop does them.
-use Rattle.std.proofs.Common.{
-  ◌≡◌,
-  ◌+◌,
-  ◌<◌,
-  ◌≤◌,
-  ℕ,
-  suc,
-  Bool,
-  true,
-  false,
-  List,
-  [],
-  ◌∷◌,
-  ◌++◌,
-  take,
-  drop,
-  length,
-  reverse,
-  if◌then◌else◌,
-  refl,
-  sym,
-  ap,
-  ◌∙◌,
-  subst,
-  get_or,
-}
-use Rattle.std.proofs.lemmas.List.{append_assoc, append-nil, drop_all, drop_more, take_more, take_all, reverse-append}
+use Rattle.std.proofs.Common.{◌≡◌, ◌+◌, ◌<◌, ℕ, Bool, true, false, List, [], ◌∷◌, ◌++◌, take, length, reverse, refl, sym, ap, ◌∙◌, subst, get_or}
+use Rattle.std.proofs.lemmas.List.{append_assoc, append-nil, take_more, reverse-append}
 use Rattle.transfer_jobs.specs.Jobs.{AreActs, FactBy, HasActed, JobAct, MayWorkOne, TallyValue, WorksOne, after_job, all_worked}
 use Rattle.transfer_walk.specs.declared.found.Found.{Found}
 

@@ -3,7 +3,7 @@ use Rattle.std.specs.Prelude.{◌≡◌, ◌==◌, ◌&&◌, ◌||◌, ℕ, Bool
 use Rattle.std.specs.List.{list_any, starts_with}
 use Rattle.transfer_paths.specs.Names.{path_in}
 use Rattle.transfer_jobs.specs.declared.hand.Verdict.{Verdict}
-use Rattle.transfer_jobs.specs.declared.hand.Verdict.TheVariants.{Done, NotDone, Stop}
+use Rattle.transfer_jobs.specs.declared.hand.Verdict.TheVariants.{Done, Stop}
 use Rattle.transfer_walk.specs.declared.found.Found.{Found}
 use Rattle.transfer_walk.specs.declared.task.Task.{Task}
 use Rattle.transfer_walk.specs.declared.task.Task.TheVariants as task
@@ -78,9 +78,13 @@ is_skipped t found = list_any (λ folder. starts_with ◌==◌ found.target fold
 abbrev pub is_unmade : TallyValue → Found → Bool
 is_unmade t found = list_any (λ folder. starts_with ◌==◌ (path_in found.target []) folder) t.unmade
 
+-- the jobs of a phase
+abbrev pub is_of : Bool → Found → Bool
+is_of links found = if links then is_link found.task else not (is_link found.task)
+
 -- symbolic links are made in a phase of their own; nothing is done any more once no job can be
 abbrev pub in_phase : Bool → TallyValue → Found → Bool
-in_phase links t found = (if links then is_link found.task else not (is_link found.task)) && not t.stopped
+in_phase links t found = is_of links found && not t.stopped
 
 -- folders that were made are given their permissions and times
 abbrev pub to_keep : TallyValue → Found → Bool
@@ -145,3 +149,17 @@ pub record CarriesOut {H : Type 0} (done : JobAct → H → H) (keeps : Bool) (j
   pub copies : HasActed done (in_phase false) IsJob jobs no_job first before copied
   pub links : HasActed done (in_phase true) IsJob jobs first linked copied worked
   pub keeps_all : HasKept done keeps jobs linked new worked after
+
+-- ---- where all was done
+
+-- each of these was worked at, and done
+abbrev pub all_work : (Found → Bool) → List Found → List JobAct
+all_work test [] = []
+all_work test (found ∷ later) = if test found then Worked found Done ∷ all_work test later else all_work test later
+
+-- Each job was done, symbolic links behind all others, and nothing was done behind them but to give folders their
+-- permissions and times.
+abbrev pub AreAllDone : {H : Type 0} → (JobAct → H → H) → List Found → H → H → Type 0
+AreAllDone done jobs before after = (kept : List JobAct)
+    × (after ≡ all_worked done kept (all_worked done (all_work (is_of true) jobs)
+    (all_worked done (all_work (is_of false) jobs) before)))

@@ -1,6 +1,6 @@
 //! The jobs are done.
-ghost use Rattle.std.specs.Prelude.{true, IfOk, OnOk};
-ghost use Rattle.transfer_jobs.specs.Jobs.{CarriesOut, HasActed, HasKept, IsJob, IsKeep, MayWorkOne, WorksOne, in_phase, to_keep};
+ghost use Rattle.std.specs.Prelude.{◌≡◌, true, IfOk, OnOk};
+ghost use Rattle.transfer_jobs.specs.Jobs.{AreAllDone, CarriesOut, HasActed, HasKept, IsJob, IsKeep, MayWorkOne, WorksOne, in_phase, to_keep};
 
 use crate::hand::Hand;
 use crate::tally::Tally;
@@ -135,6 +135,7 @@ pub fn carry_out<H: Hand>(
     requires { H.may hand.old }
     ensures may { H.may hand.new }
     ensures carries_out { IfOk result (CarriesOut H.done keeps jobs.now (H.history hand.old) (H.history hand.new)) }
+    ensures all_done { IfOk result (λ tally. tally.all_done ≡ true → AreAllDone H.done jobs.now (H.history hand.old) (H.history hand.new)) }
 {
     let mut tally = Tally::new(alloc);
     work_all(alloc, hand, &mut tally, jobs, false)?;

@@ -4,6 +4,8 @@
 mod carry;
 mod hand;
 mod tally;
+#[cfg(test)]
+mod tests;
 
 pub use carry::carry_out;
 pub use hand::{Hand, Verdict};

@@ -4,6 +4,8 @@
 
 mod found;
 mod task;
+#[cfg(test)]
+mod tests;
 mod walk;
 
 pub use found::Found;

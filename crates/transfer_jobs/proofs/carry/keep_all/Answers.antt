@@ -1,4 +1,4 @@
-use Rattle.std.proofs.Common.{rules, ◌≡◌, ◌+◌, ◌-◌, ◌<◌, ◌≤◌, ℕ, [], ◌∷◌, length, reverse, take, arith, refl, sym, ap, ◌∙◌}
+use Rattle.std.proofs.Common.{rules, ◌≡◌, ◌+◌, ◌-◌, ◌<◌, ◌≤◌, ℕ, ◌∷◌, length, reverse, take, arith, sym, ap, ◌∙◌}
 use Rattle.transfer_jobs.proofs.ActLaws.{ended, last_first, went_on}
 use Rattle.transfer_jobs.specs.Jobs.{IsKeep, to_keep}
 use Rattle.transfer_walk.specs.declared.found.Found.{Found}
