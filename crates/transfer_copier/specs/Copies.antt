@@ -135,9 +135,8 @@ pub record SparesAll {F : Type 0} (copies : List (Running F)) (old new : Core) :
   pub phase : new.phase ≡ old.phase
   pub fault : new.fault ≡ old.fault
 
--- how many requests are under way for a file at most, and the copies that have not ended, in order of their turns
+-- the copies that have not ended, in order of their turns
 pub record CopierValue (F : Type 0) : Type 0 where
-  pub window : ℕ
   pub running : List (Running F)
 
 -- ---- one step of the first copy
