@@ -192,12 +192,16 @@ AsksAt asked to core old after new (progress.Ended (Err e)) = (after ≡ core)
     × (new ≡ record old { stage = stage.Ended })
 AsksAt asked to core old after new other = ⊥
 
--- the local file was opened, and then the OPEN of the part to write was asked
+-- the local file was opened, and then the OPEN of the part to write was asked; or one of them failed
 abbrev pub StartsPut : {H : Type 0} → (LocalAct → H → H) → List ℕ → List ℕ → Core → FilePut → Core → FilePut → H → H
     → Progress → Type 0
-StartsPut done name part core old after new before now result = ((now ≡ done (Opened name) before)
-    × AsksAt (open_request write_flags part) stage.Opening core old after new result)
-    ⊎ ((now ≡ done (Failed (Opened name)) before) × (after ≡ core) × (new ≡ record old { stage = stage.Ended }))
+StartsPut done name part core old after new before now progress.Moved = (now ≡ done (Opened name) before)
+    × AsksAt (open_request write_flags part) stage.Opening core old after new progress.Moved
+StartsPut done name part core old after new before now (progress.Ended (Err e)) = ((now ≡ done (Opened name) before)
+    ⊎ (now ≡ done (Failed (Opened name)) before))
+    × (after ≡ core)
+    × (new ≡ record old { stage = stage.Ended })
+StartsPut done name part core old after new before now other = ⊥
 
 -- the HANDLE came
 abbrev pub OpensPut : Core → FilePut → Core → FilePut → Progress → Type 0
