@@ -246,7 +246,7 @@ sent_on done name part remote core after old new first before now stage.Opening 
 sent_on done name part remote core after old new first before now stage.Opening (progress.Ended (Ok len)) at may so (never, same) = absurd never
 sent_on done name part remote core after old new first before now stage.Writing progress.Waits at may so (missing, (core_is, is), same) =
     put_still done name old new first before now stage.Writing at so is same
-sent_on done name part remote core after old new first before now stage.Writing progress.Moved at may so (inl (going, reads)) =
+sent_on done name part remote core after old new first before now stage.Writing progress.Moved at may so (inl (going, few, reads)) =
     reads_so done name core after old new first before now at going
     (subst (λ (b : Bool). HasRead done name b old.next first before) going so) reads
 sent_on done name part remote core after old new first before now stage.Writing progress.Moved at may so (inr (same, inl puts)) =

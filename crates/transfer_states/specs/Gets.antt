@@ -16,6 +16,7 @@ use Rattle.std.specs.Prelude.{
   [],
   ◌∷◌,
   length,
+  max,
   Option,
   Some,
   None,
@@ -213,6 +214,7 @@ IsFull g = (g.window ≤ length g.holding.parts) ⊎ (g.next ≡ 2 ^ 64 - 1)
 -- one READ more, behind the others
 pub record AsksMore (core : Core) (old : FileGet) (after : Core) (new : FileGet) : Type 0 where
   pub len : ℕ
+  pub few : length old.holding.parts < old.window
   pub some : 0 < len
   pub small : old.next + len < 2 ^ 64
   pub asks : AsksRead core old.holding old.next len after new.holding
@@ -223,6 +225,7 @@ pub record AsksMore (core : Core) (old : FileGet) (after : Core) (new : FileGet)
 pub record KeepsPiece (got len : ℕ) (core : Core) (old : FileGet) (after : Core) (new : FileGet) : Type 0 where
   pub stage : new.stage ≡ stage.Reading
   pub offset : new.offset ≡ old.offset + got
+  pub capped : new.window ≤ max old.window old.most
   pub goes : ((got ≡ len) × (after ≡ core) × (new.holding ≡ old.holding) × (new.next ≡ old.next))
       ⊎ ((got < len) × DropsParts core old.holding after new.holding × (new.next ≡ new.offset))
 

@@ -253,7 +253,7 @@ abbrev pub SendsOn : {H : Type 0} → (LocalAct → H → H) → Core → FilePu
 SendsOn done core old after new before now progress.Waits = (0 < length old.holding.parts)
     × IsPutStill core old after new
     × (now ≡ before)
-SendsOn done core old after new before now progress.Moved = ((old.at_end ≡ false)
+SendsOn done core old after new before now progress.Moved = ((old.at_end ≡ false) × (length old.holding.parts < old.window)
     × ReadsNext done core old after new before now)
     ⊎ ((now ≡ before) × (SentAll core old after new ⊎ PutGivesUp core old.holding old after new))
 SendsOn done core old after new before now (progress.Ended result) = ⊥
@@ -268,7 +268,7 @@ abbrev pub WritesOn : {H : Type 0} → (LocalAct → H → H) → Core → FileP
 WritesOn done core old after new before now progress.Waits =
     TakesPart core old.holding core old.holding part_answer.Missing × IsPutStill core old after new × (now ≡ before)
 WritesOn done core old after new before now progress.Moved =
-    ((old.at_end ≡ false) × ReadsNext done core old after new before now)
+    ((old.at_end ≡ false) × (length old.holding.parts < old.window) × ReadsNext done core old after new before now)
     ⊎ ((now ≡ before)
     × (PutsReply core old after new ⊎ SentAll core old after new ⊎ PutsNoMore core old after new))
 WritesOn done core old after new before now (progress.Ended result) = ⊥

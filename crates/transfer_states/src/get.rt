@@ -317,6 +317,7 @@ impl FileGet {
     fn ask_next(&mut self, core: &mut Core) -> Progress
         requires reads { MayGet core.old self.old × (self.old.stage ≡ stage.Reading) }
         requires below { self.old.next < 2 ^ 64 - 1 }
+        requires few { length self.old.holding.parts < self.old.window }
         ensures did { AsksNext core.old self.old core.new self.new }
         ensures leaves { GetLeaves core.old self.old core.new self.new }
         ensures moved { result ≡ Progress.Moved }
