@@ -42,9 +42,9 @@ use Rattle.transfer_copier.specs.declared.jobs.Telling.TheVariants as telling
 use Rattle.transfer_copier.specs.declared.jobs.Wanted.{Wanted}
 use Rattle.transfer_copier.specs.declared.running.Copied.{Copied}
 use Rattle.transfer_copier.specs.declared.running.Running.{Running}
-use Rattle.transfer_copier.specs.Copies.{AreTogether, CopierSteps, CopierValue, NextEnded, Worked, Working, Works}
+use Rattle.transfer_copier.specs.Copies.{AreTogether, CopierSteps, CopierValue, NextEnded, WorkedOn, Working, WorksOnce}
 use Rattle.transfer_copier.specs.Jobs.{
-  Begins,
+  BeginsJob,
   BeginsOrNot,
   CopiesAll,
   Given,
@@ -77,7 +77,7 @@ sum_is : (a b c : ℕ) → a ≡ suc c → b ≡ c + 1 → b ≡ a
 sum_is a b c x y = omega (arith, x, y)
 
 worked_once : {L S F H : Type 0} (state : L → LinkView S) (done : LocalAct → H → H) (history : F → H) (old new : Working L F)
-    → Works state done history old new → length new.running ≡ length old.running
+    → WorksOnce state done history old new → length new.running ≡ length old.running
 worked_once state done history old new (inl s) =
     sum_is (length old.running) (length new.running) (length s.steps.later) (ap length s.steps.first)
     (ap length s.steps.now ∙ length_last s.steps.later s.steps.next)
@@ -87,7 +87,7 @@ worked_once state done history old new (inr (inl s)) =
 worked_once state done history old new (inr (inr t)) = ap length t.same
 
 worked_length : {L S F H : Type 0} (state : L → LinkView S) (done : LocalAct → H → H) (history : F → H) (n : ℕ) (old new : Working L F)
-    → Worked state done history n old new → length new.running ≡ length old.running
+    → WorkedOn state done history n old new → length new.running ≡ length old.running
 worked_length {L = L} {F = F} state done history zero old new same = ap (λ (w : Working L F). length w.running) same
 worked_length state done history (suc n) old new (mid, earlier, works) =
     worked_once state done history mid new works ∙ worked_length state done history n old mid earlier
@@ -121,7 +121,7 @@ jobs_first state done history noted window most first going together =
 pub turn_begun : {L S F H N : Type 0} (state : L → LinkView S) (done : LocalAct → H → H) (history : F → H) (noted : JobNote F → N → N)
     (window most : ℕ) (now : Jobs L F N) (running : List (Running F)) (after : N)
     → IsGoing state now.session → AreTogether now.session.core now.running → now.more ≡ true → length now.running < most
-    → Begins noted window (record { running = now.running }) (record { running = running }) now.notes after beginning.Begun
+    → BeginsJob noted window (record { running = now.running }) (record { running = running }) now.notes after beginning.Begun
     → JobTurned state done history noted window most now now.session running after (turn.On true)
 turn_begun {L = L} {F = F} {N = N} state done history noted window most now running after going together more few (wanted, is, told, joins) =
     let running_is : running ≡ with_copy now.running wanted window = ap (λ (c : CopierValue F). c.running) is in
@@ -134,7 +134,7 @@ turn_begun {L = L} {F = F} {N = N} state done history noted window most now runn
 pub turn_no_more : {L S F H N : Type 0} (state : L → LinkView S) (done : LocalAct → H → H) (history : F → H) (noted : JobNote F → N → N)
     (window most : ℕ) (now : Jobs L F N) (running : List (Running F)) (after : N)
     → IsGoing state now.session → AreTogether now.session.core now.running → now.more ≡ true → length now.running < most
-    → Begins noted window (record { running = now.running }) (record { running = running }) now.notes after beginning.NoJob
+    → BeginsJob noted window (record { running = now.running }) (record { running = running }) now.notes after beginning.NoJob
     → JobTurned state done history noted window most now now.session running after (turn.On false)
 turn_no_more {L = L} {F = F} {N = N} state done history noted window most now running after going together more few (is, told) =
     let same : running ≡ now.running = ap (λ (c : CopierValue F). c.running) is in
@@ -147,7 +147,7 @@ turn_no_more {L = L} {F = F} {N = N} state done history noted window most now ru
 pub turn_short : {L S F H N : Type 0} (state : L → LinkView S) (done : LocalAct → H → H) (history : F → H) (noted : JobNote F → N → N)
     (window most : ℕ) (now : Jobs L F N) (running : List (Running F)) (after : N) (e : Failure)
     → IsGoing state now.session → AreTogether now.session.core now.running
-    → Begins noted window (record { running = now.running }) (record { running = running }) now.notes after beginning.Short
+    → BeginsJob noted window (record { running = now.running }) (record { running = running }) now.notes after beginning.Short
     → JobTurned state done history noted window most now now.session running after (turn.Stopped e)
 turn_short {F = F} state done history noted window most now running after e going together is = record {
   going = going;

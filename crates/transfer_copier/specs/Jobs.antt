@@ -82,14 +82,14 @@ BeginsOrNot {F = F} noted window most old new = (old.more ≡ true) × (length o
     ⊎ (new ≡ record old { more = false; notes = noted NoMore old.notes }))
 
 -- what begin did of them
-abbrev pub Begins : {F N : Type 0} → (JobNote F → N → N) → ℕ → CopierValue F → CopierValue F → N → N → Beginning
+abbrev pub BeginsJob : {F N : Type 0} → (JobNote F → N → N) → ℕ → CopierValue F → CopierValue F → N → N → Beginning
     → Type 0
-Begins {F = F} noted window old new before after beginning.Begun = (wanted : Wanted F)
+BeginsJob {F = F} noted window old new before after beginning.Begun = (wanted : Wanted F)
     × (new ≡ record old { running = with_copy old.running wanted window })
     × (after ≡ noted (Given wanted) before)
     × Joins old.running new.running
-Begins noted window old new before after beginning.NoJob = (new ≡ old) × (after ≡ noted NoMore before)
-Begins noted window old new before after beginning.Short = new ≡ old
+BeginsJob noted window old new before after beginning.NoJob = (new ≡ old) × (after ≡ noted NoMore before)
+BeginsJob noted window old new before after beginning.Short = new ≡ old
 
 -- one copy ended, and this was told
 pub record TellsOne {L S F H N : Type 0} (state : L → LinkView S) (done : LocalAct → H → H) (history : F → H)

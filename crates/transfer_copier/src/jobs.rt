@@ -1,7 +1,7 @@
 //! A list of files that are copied, so many at once.
 ghost use Rattle.std.specs.Prelude.{◌≡◌, max};
 ghost use Rattle.transfer_copier.specs.Copies.{AreTogether};
-ghost use Rattle.transfer_copier.specs.Jobs.{Begins, CopiesAll, JobNote, JobTurned, JobsDone, NotesJob, Over, TellsNext, jobs_at};
+ghost use Rattle.transfer_copier.specs.Jobs.{BeginsJob, CopiesAll, JobNote, JobTurned, JobsDone, NotesJob, Over, TellsNext, jobs_at};
 ghost use Rattle.transfer_copier.specs.Sessions.{IsGoing};
 
 use crate::copier::Copier;
@@ -75,14 +75,14 @@ pub(crate) enum JobTurn {
     Stopped(Failure),
 }
 
-/// Begins the copy of the next job.
+/// BeginsJob the copy of the next job.
 fn begin_next<J: CopyJobs>(
     alloc: Global,
     copier: &mut Copier<J::File>,
     jobs: &mut J,
     window: u32,
 ) -> Beginning
-    ensures { Begins J.noted window copier.old copier.new (J.history jobs.old) (J.history jobs.new) result }
+    ensures { BeginsJob J.noted window copier.old copier.new (J.history jobs.old) (J.history jobs.new) result }
 {
     match jobs.next_job() {
         Some(wanted) => {
@@ -139,7 +139,7 @@ fn tell_next<L: Link, J: CopyJobs>(
     }
 }
 
-/// Begins copies while there is room for them, and tells what came of each, until all jobs are done.
+/// BeginsJob copies while there is room for them, and tells what came of each, until all jobs are done.
 fn run<L: Link, J: CopyJobs>(
     alloc: Global,
     copier: &mut Copier<J::File>,
@@ -165,7 +165,7 @@ fn run<L: Link, J: CopyJobs>(
     Err(Failure::TooLong)
 }
 
-/// Begins the copy of the next job where there may be one and fewer copies than `most` are under way; else tells what came
+/// BeginsJob the copy of the next job where there may be one and fewer copies than `most` are under way; else tells what came
 /// of the next one.
 fn job_turn<L: Link, J: CopyJobs>(
     alloc: Global,

@@ -34,8 +34,8 @@ use Rattle.transfer_states.specs.declared.get.GetStage.{GetStage}
 use Rattle.transfer_states.specs.declared.get.GetStage.TheVariants as stage
 use Rattle.transfer_states.specs.declared.progress.Progress.{Progress}
 use Rattle.transfer_states.specs.declared.progress.Progress.TheVariants as progress
-use Rattle.transfer_states.specs.Acts.{GotAfter, GotSoFar, HasWritten, IsPartOnly, total_len}
-use Rattle.transfer_states.specs.Gets.{Finishes, GetDid, GivesUp, GoesOn, MakesPart, WritesPiece}
+use Rattle.transfer_states.specs.Acts.{GotAfter, GotSoFar, HasWrittenPart, IsPartOnly, total_len}
+use Rattle.transfer_states.specs.Gets.{GetFinishes, GetStepDid, GetGivesUp, TakesReply, MakesPart, WritesPiece}
 use Rattle.transfer_states.specs.Holdings.{HoldingValue}
 use Rattle.transfer_states.specs.Local.{
   AreOfPart,
@@ -107,13 +107,13 @@ part_then : {H : Type 0} (done : LocalAct → H → H) (part : List ℕ) (first 
 part_then done part first before now act is (acts, did, are) next =
     (acts ++ act ∷ [], acts_join done acts (act ∷ []) first before now did next, part_join part acts (act ∷ []) are (is, tt))
 
-part_of : {H : Type 0} (done : LocalAct → H → H) (part : List ℕ) (len : ℕ) (first now : H) → HasWritten done part len first now
+part_of : {H : Type 0} (done : LocalAct → H → H) (part : List ℕ) (len : ℕ) (first now : H) → HasWrittenPart done part len first now
     → IsPartOnly done part first now
 part_of done part len first now w = (Created part ∷ writes_of w.pieces, w.acts, (refl, writes_of_part part w.pieces))
 
 wrote_more : {H : Type 0} (done : LocalAct → H → H) (part : List ℕ) (len new : ℕ) (first before now : H) (bytes : List ℕ)
-    → HasWritten done part len first before → now ≡ done (Wrote bytes) before → new ≡ len + length bytes
-    → HasWritten done part new first now
+    → HasWrittenPart done part len first before → now ≡ done (Wrote bytes) before → new ≡ len + length bytes
+    → HasWrittenPart done part new first now
 wrote_more done part len new first before now bytes w next sum =
     let total = total_last w.pieces bytes in
     let was = w.total in
@@ -126,7 +126,7 @@ wrote_more done part len new first before now bytes w next sum =
 
 -- nothing more was done, and the count is the same
 wrote_still : {H : Type 0} (done : LocalAct → H → H) (part : List ℕ) (len new : ℕ) (first before now : H)
-    → HasWritten done part len first before → now ≡ before → new ≡ len → HasWritten done part new first now
+    → HasWrittenPart done part len first before → now ≡ before → new ≡ len → HasWrittenPart done part new first now
 wrote_still done part len new first before now w same is =
     record { pieces = w.pieces; acts = same ∙ w.acts; total = w.total ∙ sym is }
 
@@ -137,13 +137,13 @@ failed_is None some none = cc
 failed_is (Some e) some none = (let bad : (◌≡◌ {A = Option Failure} (Some e) None) = none in cc)
 
 gave_up : {H : Type 0} (done : LocalAct → H → H) (part : List ℕ) (core after : Core) (h : HoldingValue) (old new : FileGet) (first now : H)
-    → GivesUp core h old after new → IsPartOnly done part first now → GotSoFar done part new first now new.stage
+    → GetGivesUp core h old after new → IsPartOnly done part first now → GotSoFar done part new first now new.stage
 gave_up done part core after h old new first now gives only =
     subst (λ (s : GetStage). GotSoFar done part new first now s) (sym gives.stage)
     (only, λ none. absurd (failed_is new.failure gives.failure none))
 
 finished : {H : Type 0} (done : LocalAct → H → H) (part : List ℕ) (core after : Core) (h : HoldingValue) (old new : FileGet) (first now : H)
-    → Finishes core h old after new → HasWritten done part old.offset first now → GotSoFar done part new first now new.stage
+    → GetFinishes core h old after new → HasWrittenPart done part old.offset first now → GotSoFar done part new first now new.stage
 finished done part core after h old new first now ends w =
     subst (λ (s : GetStage). GotSoFar done part new first now s) (sym ends.stage)
     (part_of done part old.offset first now w, λ none. wrote_still done part old.offset new.offset first now now w refl ends.offset)
@@ -168,7 +168,7 @@ made_so done part core after old new first before now none zero_is (inr (failed,
     (Failed (Created part) ∷ [], failed ∙ ap (done (Failed (Created part))) none, (refl, tt))
 
 wrote_so : {H : Type 0} (done : LocalAct → H → H) (part : List ℕ) (core after : Core) (old new : FileGet) (first before now : H)
-    (bytes : List ℕ) (len : ℕ) → HasWritten done part old.offset first before
+    (bytes : List ℕ) (len : ℕ) → HasWrittenPart done part old.offset first before
     → WritesPiece done bytes len core old after new before now → GotSoFar done part new first now new.stage
 wrote_so done part core after old new first before now bytes len w (inl (wrote, keeps)) =
     subst (λ (s : GetStage). GotSoFar done part new first now s) (sym keeps.stage)
@@ -178,7 +178,7 @@ wrote_so done part core after old new first before now bytes len w (inr (failed,
     (part_then done part first before now (Failed (Wrote bytes)) tt (part_of done part old.offset first before w) failed)
 
 reply_so : {H : Type 0} (done : LocalAct → H → H) (part : List ℕ) (core after : Core) (old new : FileGet) (first before now : H)
-    (r : Reply) (len : ℕ) → HasWritten done part old.offset first before → GoesOn done r len core old after new before now
+    (r : Reply) (len : ℕ) → HasWrittenPart done part old.offset first before → TakesReply done r len core old after new before now
     → GotSoFar done part new first now new.stage
 reply_so done part core after old new first before now (reply.Content bytes) len w goes =
     wrote_so done part core after old new first before now bytes len w goes
@@ -192,7 +192,7 @@ reply_so done part core after old new first before now other len w never = absur
 
 pub got_on : {H : Type 0} (done : LocalAct → H → H) (remote part name : List ℕ) (core after : Core) (old new : FileGet)
     (first before now : H) (s : GetStage) (result : Progress) → old.stage ≡ s → GotSoFar done part old first before s
-    → GetDid done remote part name core old after new before now result s → GotAfter done part name new first now result
+    → GetStepDid done remote part name core old after new before now result s → GotAfter done part name new first now result
 got_on done remote part name core after old new first before now stage.Starting progress.Waits at so (never, same) = absurd never
 got_on done remote part name core after old new first before now stage.Starting progress.Moved at (none, zero_is) ((asks, is), same) =
     subst (λ (s : GetStage). GotSoFar done part new first now s) (sym (ap (λ (x : FileGet). x.stage) is))

@@ -2,8 +2,8 @@
 ghost use Rattle.std.specs.Prelude.{◌≡◌, ℕ, List};
 ghost use Rattle.sftp_core.specs.Core.{Core};
 ghost use Rattle.transfer_states.specs.Acts.{GotAfter, GotSoFar, SentAfter, SentSoFar};
-ghost use Rattle.transfer_states.specs.Gets.{GetDid, get_begun};
-ghost use Rattle.transfer_states.specs.Puts.{MayPut, PutDid, put_begun};
+ghost use Rattle.transfer_states.specs.Gets.{GetStepDid, get_begun};
+ghost use Rattle.transfer_states.specs.Puts.{MayPut, PutStepDid, put_begun};
 ghost use Rattle.transfer_states.specs.declared.get.FileGet.{FileGet};
 ghost use Rattle.transfer_states.specs.declared.put.FilePut.{FilePut};
 ghost use Rattle.transfer_states.specs.declared.put.PutStage.TheVariants as put;
@@ -19,7 +19,7 @@ pub fn gets_write_their_part<F: LocalFile>()
     ensures begins { (part : List ℕ) (most : ℕ) (first : F.History) → GotSoFar F.done part (get_begun most) first first get.Starting }
     ensures goes { (remote part name : List ℕ) (core after : Core) (old new : FileGet) (first before now : F.History)
         (result : Progress) → GotSoFar F.done part old first before old.stage
-        → GetDid F.done remote part name core old after new before now result old.stage
+        → GetStepDid F.done remote part name core old after new before now result old.stage
         → GotAfter F.done part name new first now result }
 {}
 
@@ -29,6 +29,6 @@ pub fn puts_read_their_file<F: LocalFile>()
     ensures begins { (name : List ℕ) (window : ℕ) (first : F.History) → SentSoFar F.done name (put_begun window) first first put.Starting }
     ensures goes { (name part remote : List ℕ) (core after : Core) (old new : FilePut) (first before now : F.History)
         (result : Progress) → MayPut core old → SentSoFar F.done name old first before old.stage
-        → PutDid F.done name part remote core old after new before now result old.stage
+        → PutStepDid F.done name part remote core old after new before now result old.stage
         → SentAfter F.done name new first now result }
 {}
