@@ -48,7 +48,7 @@ use Rattle.transfer_states.specs.Holdings.{
   IsNotOfFile,
   IsNotOfParts,
   IsOfOthers,
-  Spares,
+  SparesPlaces,
   nothing_held,
 }
 use Rattle.transfer_states.specs.Local.{LocalAct}
@@ -65,14 +65,14 @@ use Rattle.transfer_copier.specs.Copies.{
   AreDisjoint,
   AreTogether,
   EndsTurn,
-  GoesOn,
+  StepsCopy,
   IsEndedAs,
-  IsOf,
+  IsNumberOf,
   IsOfNone,
   IsOfFile,
   IsOfParts,
   MayCancel,
-  MayGo,
+  MayStepCopy,
   SparesAll,
   StandsAfter,
   TakesTurn,
@@ -92,7 +92,7 @@ not_parts a b [] apart never = absurd never
 not_parts a b (part ∷ later) (ne, apart) (inl is) = λ same. ne (same ∙ is)
 not_parts a b (part ∷ later) (ne, apart) (inr is) = not_parts a b later apart is
 
-others_ne : (a b : ℕ) (h : HoldingValue) → IsOfOthers b h → IsOf a h → b ≢ a
+others_ne : (a b : ℕ) (h : HoldingValue) → IsOfOthers b h → IsNumberOf a h → b ≢ a
 others_ne a b h others (inl is) = not_file a b h.file others.file is
 others_ne a b h others (inr is) = not_parts a b h.parts others.parts is
 
@@ -107,7 +107,7 @@ parts_by b (part ∷ later) ne = (ne part.ticket (inl refl), parts_by b later (�
 
 disjoint_sym : (g h : HoldingValue) → AreDisjoint h g → AreDisjoint g h
 disjoint_sym g h apart id is =
-    let ne : (a : ℕ) → IsOf a h → id ≢ a = λ a of same. others_ne id a g (apart a of) is (sym same) in
+    let ne : (a : ℕ) → IsNumberOf a h → id ≢ a = λ a of same. others_ne id a g (apart a of) is (sym same) in
     record { file = file_by id h.file (λ a of. ne a (inl of)); parts = parts_by id h.parts (λ a of. ne a (inr of)) }
 
 -- ---- what stands under them
@@ -132,7 +132,7 @@ part_place core file (part ∷ later) id (h, p, f, own, held) (inl is) =
     (let here = held_place core part.ticket part.kind h in (here.0, ap (λ n. at core n) is ∙ here.1))
 part_place core file (part ∷ later) id (h, p, f, own, held) (inr is) = part_place core file later id held is
 
-of_place : (core : Core) (h : HoldingValue) (id : ℕ) → HoldsAll core h → IsOf id h → (place : Place) × (at core id ≡ Some place)
+of_place : (core : Core) (h : HoldingValue) (id : ℕ) → HoldsAll core h → IsNumberOf id h → (place : Place) × (at core id ≡ Some place)
 of_place core h id held (inl is) = file_place core h.file id held.file is
 of_place core h id held (inr is) = part_place core h.file h.parts id held.parts is
 
@@ -154,10 +154,10 @@ parts_still old new file (part ∷ later) same (h, p, f, own, held) = (
   parts_still old new file later (λ id is. same id (inr is)) held,
 )
 
-holds_over : (old new : Core) (before after h : HoldingValue) → Spares before after old new → AreDisjoint h before
+holds_over : (old new : Core) (before after h : HoldingValue) → SparesPlaces before after old new → AreDisjoint h before
     → HoldsAll old h → HoldsAll new h × AreDisjoint h after
 holds_over old new before after h spares apart held =
-    let same : (id : ℕ) → IsOf id h → at new id ≡ at old id =
+    let same : (id : ℕ) → IsNumberOf id h → at new id ≡ at old id =
     λ id is. (let place = of_place old h id held is in (spares.places id place.0 (apart id is) place.1).0 ∙ sym place.1) in (
       record {
         file = file_still old new h.file (λ id is. same id (inl is)) held.file;
@@ -166,12 +166,12 @@ holds_over old new before after h spares apart held =
       λ id is. (let place = of_place old h id held is in (spares.places id place.0 (apart id is) place.1).1),
     )
 
-held_of : (core : Core) (s : CopyState) → MayGo core s → HoldsAll core (holding_of s)
+held_of : (core : Core) (s : CopyState) → MayStepCopy core s → HoldsAll core (holding_of s)
 held_of core (state.Get g) may = may.getting.held
 held_of core (state.Put p) may = may.putting.held
 
 go_over : (core after : Core) (s : CopyState) → (IsSome (info_of core.phase) → IsSome (info_of after.phase))
-    → HoldsAll after (holding_of s) → MayGo core s → MayGo after s
+    → HoldsAll after (holding_of s) → MayStepCopy core s → MayStepCopy after s
 go_over core after (state.Get g) stays held may = record {
   getting = record { opened = stays may.getting.opened; held = held; stands = may.getting.stands };
   going = may.going;
@@ -181,7 +181,7 @@ go_over core after (state.Put p) stays held may = record {
   going = may.going;
 }
 
-together_over : {F : Type 0} (core after : Core) (before next : HoldingValue) (rs : List (Running F)) → Spares before next core after
+together_over : {F : Type 0} (core after : Core) (before next : HoldingValue) (rs : List (Running F)) → SparesPlaces before next core after
     → AreApartFrom before rs → AreTogether core rs → AreTogether after rs × AreApartFrom next rs
 together_over core after before next [] spares apart all = (tt, tt)
 together_over core after before next (r ∷ later) spares (disjoint, apart) (may, own, all) =
@@ -208,7 +208,7 @@ apart_last h [] r apart disjoint = (disjoint, tt)
 apart_last h (first ∷ later) r (here, apart) disjoint = (here, apart_last h later r apart disjoint)
 
 together_last : {F : Type 0} (core : Core) (rs : List (Running F)) (r : Running F) → AreTogether core rs
-    → AreApartFrom (holding_of r.state) rs → MayGo core r.state → AreTogether core (rs ++ r ∷ [])
+    → AreApartFrom (holding_of r.state) rs → MayStepCopy core r.state → AreTogether core (rs ++ r ∷ [])
 together_last core [] r all apart may = (may, tt, tt)
 together_last core (first ∷ later) r (first_may, own, all) (disjoint, apart) may = (
   first_may,
@@ -227,7 +227,7 @@ begun_held way.Put window = refl
 one_at_least : (n : ℕ) → 1 ≤ max n 1
 one_at_least n = grind (arith, nat_tests)
 
-may_begin : (core : Core) (way : Way) (window : ℕ) → IsSome (info_of core.phase) → MayGo core (copy_begun way window)
+may_begin : (core : Core) (way : Way) (window : ℕ) → IsSome (info_of core.phase) → MayStepCopy core (copy_begun way window)
 may_begin core way.Get window opened = record {
   getting = record {
     opened = opened;
@@ -249,7 +249,7 @@ pub together_begun : {F : Type 0} (core : Core) (rs new : List (Running F)) (job
     → s ≡ copy_begun job.way window → new ≡ rs ++ record { job = job; local = local; state = s } ∷ []
     → IsSome (info_of core.phase) → AreTogether core rs → AreTogether core new
 together_begun {F = F} core rs new job local s window is now opened all =
-    let may = subst (λ (x : CopyState). MayGo core x) (sym is) (may_begin core job.way window opened) in
+    let may = subst (λ (x : CopyState). MayStepCopy core x) (sym is) (may_begin core job.way window opened) in
     let none : holding_of s ≡ nothing_held = ap holding_of is ∙ begun_held job.way window in
     let apart = subst (λ (h : HoldingValue). AreApartFrom h rs) (sym none) (apart_none rs) in
     subst (λ (l : List (Running F)). AreTogether core l) (sym now)
@@ -259,13 +259,13 @@ together_begun {F = F} core rs new job local s window is now opened all =
 
 pub turn_taken : {F H : Type 0} (done : LocalAct → H → H) (history : F → H) (core after : Core) (old later new : List (Running F))
     (copy next : Running F) (result : Progress) → old ≡ copy ∷ later → new ≡ later ++ next ∷ []
-    → GoesOn done history core copy after next result → TakesTurn done history core old after new result
+    → StepsCopy done history core copy after next result → TakesTurn done history core old after new result
 turn_taken done history core after old later new copy next result first now goes =
     record { copy = copy; later = later; next = next; first = first; now = now; goes = goes }
 
 pub together_stepped : {F H : Type 0} (done : LocalAct → H → H) (history : F → H) (core after : Core) (old later new : List (Running F))
     (copy next : Running F) (result : Progress) → old ≡ copy ∷ later → new ≡ later ++ next ∷ []
-    → GoesOn done history core copy after next result → MayGo after next.state → AreTogether core old → AreTogether after new
+    → StepsCopy done history core copy after next result → MayStepCopy after next.state → AreTogether core old → AreTogether after new
 together_stepped {F = F} done history core after old later new copy next result first now goes may all =
     let here = subst (λ (l : List (Running F)). AreTogether core l) first all in
     let both = together_over core after (holding_of copy.state) (holding_of next.state) later goes.spares here.1 here.2 in
@@ -273,8 +273,8 @@ together_stepped {F = F} done history core after old later new copy next result 
 
 pub turn_ended : {F H : Type 0} (done : LocalAct → H → H) (history : F → H) (core mid after : Core) (old later : List (Running F))
     (copy last : Running F) (result : Result ℕ Failure) (copied : Copied F) → old ≡ copy ∷ later
-    → GoesOn done history core copy mid last (progress.Ended result) → IsEndedAs last result copied
-    → Spares (holding_of last.state) nothing_held mid after → EndsTurn done history core old after later copied
+    → StepsCopy done history core copy mid last (progress.Ended result) → IsEndedAs last result copied
+    → SparesPlaces (holding_of last.state) nothing_held mid after → EndsTurn done history core old after later copied
 turn_ended done history core mid after old later copy last result copied first goes ended spent = record {
   copy = copy;
   later = later;
@@ -282,14 +282,14 @@ turn_ended done history core mid after old later copy last result copied first g
   mid = mid;
   first = first;
   now = refl;
-  goes = subst (λ (x : Result ℕ Failure). GoesOn done history core copy mid last (progress.Ended x)) (sym ended.is) goes;
+  goes = subst (λ (x : Result ℕ Failure). StepsCopy done history core copy mid last (progress.Ended x)) (sym ended.is) goes;
   ended = record { job = ended.job; local = ended.local; is = refl };
   spent = spent;
 }
 
 pub together_ended : {F H : Type 0} (done : LocalAct → H → H) (history : F → H) (core mid after : Core) (old later : List (Running F))
     (copy last : Running F) (result : Result ℕ Failure) → old ≡ copy ∷ later
-    → GoesOn done history core copy mid last (progress.Ended result) → Spares (holding_of last.state) nothing_held mid after
+    → StepsCopy done history core copy mid last (progress.Ended result) → SparesPlaces (holding_of last.state) nothing_held mid after
     → AreTogether core old → AreTogether after later
 together_ended {F = F} done history core mid after old later copy last result first goes spent all =
     let here = subst (λ (l : List (Running F)). AreTogether core l) first all in
@@ -308,11 +308,11 @@ pub cancels_first : {F : Type 0} (core : Core) (all : List (Running F)) → AreT
 cancels_first core all together = record { together = together; places = λ id place none here. (here, none); phase = refl; fault = refl }
 
 pub cancels_may : {F : Type 0} (first core : Core) (all rs : List (Running F)) (r : Running F) (later : List (Running F))
-    → Cancelling first core all rs → rs ≡ r ∷ later → MayGo core r.state
+    → Cancelling first core all rs → rs ≡ r ∷ later → MayStepCopy core r.state
 cancels_may {F = F} first core all rs r later c is = (subst (λ (l : List (Running F)). AreTogether core l) is c.together).0
 
 pub cancels_next : {F : Type 0} (first core after : Core) (all rs : List (Running F)) (r : Running F) (later : List (Running F))
-    → Cancelling first core all rs → rs ≡ r ∷ later → Spares (holding_of r.state) nothing_held core after
+    → Cancelling first core all rs → rs ≡ r ∷ later → SparesPlaces (holding_of r.state) nothing_held core after
     → Cancelling first after all later
 cancels_next {F = F} first core after all rs r later c is spares =
     let here = subst (λ (l : List (Running F)). Cancelling first core all l) is c in

@@ -20,10 +20,10 @@ use Rattle.transfer_copier.specs.Copies.{
   AreTogether,
   CopierSteps,
   NextEnded,
-  StepsTo,
-  Worked,
+  StepsCopies,
+  WorkedOn,
   Working,
-  Works,
+  WorksOnce,
 }
 use Rattle.transfer_copier.proofs.TogetherLaws.{together_kept}
 
@@ -47,7 +47,7 @@ step_as_before done history core after old new (copier_step.Ended copied) ends =
 }
 
 pub going_stepped : {L S F H : Type 0} (state : L → LinkView S) (done : LocalAct → H → H) (history : F → H) (old new : Working L F)
-    (result : CopierStep F) → IsGoing state old.session → StepsTo done history old new result → IsGoing state new.session
+    (result : CopierStep F) → IsGoing state old.session → StepsCopies done history old new result → IsGoing state new.session
 going_stepped state done history old new result going s =
     let before = step_as_before done history old.session.core new.session.core old.running new.running result s.steps in
     record {
@@ -59,7 +59,7 @@ going_stepped state done history old new result going s =
 
 pub stepped_on : {L S F H : Type 0} (state : L → LinkView S) (done : LocalAct → H → H) (history : F → H) (old new : Working L F)
     → IsGoing state old.session → AreTogether new.session.core new.running
-    → StepsTo done history old new copier_step.Waits ⊎ StepsTo done history old new copier_step.Moved
+    → StepsCopies done history old new copier_step.Waits ⊎ StepsCopies done history old new copier_step.Moved
     → Advanced state done history old new advance.On
 stepped_on state done history old new going together (inl s) =
     record { going = going_stepped state done history old new copier_step.Waits going s; together = together; did = (1, (old, refl, inl s)) }
@@ -68,25 +68,25 @@ stepped_on state done history old new going together (inr s) =
 
 pub stepped_over : {L S F H : Type 0} (state : L → LinkView S) (done : LocalAct → H → H) (history : F → H) (old new : Working L F)
     (copied : Copied F) → IsGoing state old.session → AreTogether new.session.core new.running
-    → StepsTo done history old new (copier_step.Ended copied) → Advanced state done history old new (advance.Over (Some copied))
+    → StepsCopies done history old new (copier_step.Ended copied) → Advanced state done history old new (advance.Over (Some copied))
 stepped_over state done history old new copied going together s =
     record { going = going_stepped state done history old new (copier_step.Ended copied) going s; together = together; did = s }
 
 pub stepped_idle : {L S F H : Type 0} (state : L → LinkView S) (done : LocalAct → H → H) (history : F → H) (old new : Working L F)
-    → IsGoing state old.session → AreTogether new.session.core new.running → StepsTo done history old new copier_step.Idle
+    → IsGoing state old.session → AreTogether new.session.core new.running → StepsCopies done history old new copier_step.Idle
     → Advanced state done history old new (advance.Over None)
 stepped_idle state done history old new going together s =
     record { going = going_stepped state done history old new copier_step.Idle going s; together = together; did = s }
 
 worked_two : {L S F H : Type 0} (state : L → LinkView S) (done : LocalAct → H → H) (history : F → H) (old mid new : Working L F)
-    (turned : Result (Unit {0}) Failure) → StepsTo done history old mid copier_step.Waits → Turned state mid.session new.session turned
-    → new.running ≡ mid.running → (n : ℕ) × Worked state done history n old new
+    (turned : Result (Unit {0}) Failure) → StepsCopies done history old mid copier_step.Waits → Turned state mid.session new.session turned
+    → new.running ≡ mid.running → (n : ℕ) × WorkedOn state done history n old new
 worked_two state done history old mid new turned s t same =
     (2, (mid, (old, refl, inl s), inr (inr (record { result = turned; turned = t; same = same }))))
 
 pub turned_on : {L S F H : Type 0} (state : L → LinkView S) (done : LocalAct → H → H) (history : F → H) (old mid new : Working L F)
     (turned : Result (Unit {0}) Failure) → AreTogether mid.session.core mid.running
-    → StepsTo done history old mid copier_step.Waits → Turned state mid.session new.session turned → new.running ≡ mid.running
+    → StepsCopies done history old mid copier_step.Waits → Turned state mid.session new.session turned → new.running ≡ mid.running
     → Advanced state done history old new advance.On
 turned_on {F = F} state done history old mid new turned together s t same = record {
   going = t.going;
@@ -97,7 +97,7 @@ turned_on {F = F} state done history old mid new turned together s t same = reco
 
 pub turned_off : {L S F H : Type 0} (state : L → LinkView S) (done : LocalAct → H → H) (history : F → H) (old mid new : Working L F)
     (turned : Result (Unit {0}) Failure) (e : Failure) → AreTogether mid.session.core mid.running
-    → StepsTo done history old mid copier_step.Waits → Turned state mid.session new.session turned → new.running ≡ mid.running
+    → StepsCopies done history old mid copier_step.Waits → Turned state mid.session new.session turned → new.running ≡ mid.running
     → Advanced state done history old new (advance.Stopped e)
 turned_off {F = F} state done history old mid new turned e together s t same = record {
   going = t.going;
@@ -109,15 +109,15 @@ turned_off {F = F} state done history old mid new turned e together s t same = r
 -- ---- so far
 
 worked_then : {L S F H : Type 0} (state : L → LinkView S) (done : LocalAct → H → H) (history : F → H) (k n : ℕ) (a b c : Working L F)
-    → Worked state done history n a b → Worked state done history k b c → (m : ℕ) × Worked state done history m a c
-worked_then state done history zero n a b c first same = (n, subst (λ x. Worked state done history n a x) (sym same) first)
+    → WorkedOn state done history n a b → WorkedOn state done history k b c → (m : ℕ) × WorkedOn state done history m a c
+worked_then state done history zero n a b c first same = (n, subst (λ x. WorkedOn state done history n a x) (sym same) first)
 worked_then state done history (suc k) n a b c first (mid, earlier, works) =
     (let both = worked_then state done history k n a b mid first earlier in (suc both.0, (mid, both.1, works)))
 
 pub record WorkedSoFar {L S F H : Type 0} (state : L → LinkView S) (done : LocalAct → H → H) (history : F → H)
     (first now : Working L F) : Type 0 where
   pub steps : ℕ
-  pub worked : Worked state done history steps first now
+  pub worked : WorkedOn state done history steps first now
   pub going : IsGoing state now.session
   pub together : AreTogether now.session.core now.running
 

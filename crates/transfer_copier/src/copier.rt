@@ -43,7 +43,6 @@ pub(crate) enum Advance<F> {
 /// ended too.
 #[must_use]
 pub struct Copier<F> {
-    window: u32,
     running: VecDeque<Running<F>>,
 }
 
@@ -52,16 +51,15 @@ impl<F> Model for Copier<F> {
 
     ghost Value = { CopierValue F };
 
-    ghost view = { λ c. record { window = c.window; running = c.running.items } };
+    ghost view = { λ c. record { running = c.running.items } };
 }
 
 impl<F: LocalFile + Drop> Copier<F> {
-    /// No copy yet. Each has at most `window` requests under way for its bytes, and one at least.
-    pub fn new(alloc: Global, window: u32) -> Copier<F>
-        ensures { result ≡ record { window = window; running = [] } }
+    /// No copy yet.
+    pub fn new(alloc: Global) -> Copier<F>
+        ensures { result ≡ record { running = [] } }
     {
         Copier {
-            window,
             running: VecDeque::new(alloc),
         }
     }
@@ -73,17 +71,24 @@ impl<F: LocalFile + Drop> Copier<F> {
         self.running.len()
     }
 
-    /// Begins a copy, which stands last. Nothing is asked yet. Refused for want of memory, the copies are as before, and
+    /// BeginsJob a copy, which stands last, with at most `window` requests under way for its bytes, and one at least. Nothing
+    /// is asked yet. Refused for want of memory, the copies are as before, and
     /// job and file are dropped.
-    pub fn begin(&mut self, alloc: Global, job: CopyJob, local: F) -> Result<(), OutOfMemory>
-        ensures ok { OnOk result (self.new ≡ record self.old { running = self.old.running ++ record { job = job; local = local; state = copy_begun job.way self.old.window } ∷ [] }) }
+    pub fn begin(
+        &mut self,
+        alloc: Global,
+        job: CopyJob,
+        local: F,
+        window: u32,
+    ) -> Result<(), OutOfMemory>
+        ensures ok { OnOk result (self.new ≡ record self.old { running = self.old.running ++ record { job = job; local = local; state = copy_begun job.way window } ∷ [] }) }
         ensures together { OnOk result ((core : CoreValue) → IsSome (info_of core.phase) → AreTogether core self.old.running → AreTogether core self.new.running) }
         ensures err { OnErr result (self.new ≡ self.old) }
     {
         if self.running.reserve(1).is_err() {
             return Err(OutOfMemory);
         }
-        let state = CopyState::new(alloc, job.way, self.window);
+        let state = CopyState::new(alloc, job.way, window);
         self.running
             .push_back_reserved(Running { job, local, state });
         Ok(())
@@ -93,7 +98,6 @@ impl<F: LocalFile + Drop> Copier<F> {
     pub fn step(&mut self, core: &mut Core) -> CopierStep<F>
         requires { AreTogether core.old self.old.running }
         ensures did { CopierSteps F.LocalFile.done F.LocalFile.history core.old self.old.running core.new self.new.running result }
-        ensures window { self.new.window ≡ self.old.window }
         ensures together { AreTogether core.new self.new.running }
     {
         let Some(first) = self.running.pop_front() else {
@@ -170,10 +174,7 @@ impl<F: LocalFile + Drop> Copier<F> {
         requires { AreTogether core.old self.running }
         ensures { SparesAll self.running core.old core.new }
     {
-        let Copier {
-            window: _,
-            mut running,
-        } = self;
+        let Copier { mut running } = self;
         while let Some(copy) = running.pop_front() {
             copy.cancel(core);
         }

@@ -1,7 +1,7 @@
 //! One copy among others.
 ghost use Rattle.std.specs.Prelude.{◌≡◌};
-ghost use Rattle.transfer_states.specs.Holdings.{Spares, nothing_held};
-ghost use Rattle.transfer_copier.specs.Copies.{GoesOn, IsEndedAs, MayCancel, MayGo, copy_begun, holding_of};
+ghost use Rattle.transfer_states.specs.Holdings.{SparesPlaces, nothing_held};
+ghost use Rattle.transfer_copier.specs.Copies.{StepsCopy, IsEndedAs, MayCancel, MayStepCopy, copy_begun, holding_of};
 
 use sftp_core::Core;
 use std::alloc::Global;
@@ -64,7 +64,7 @@ impl CopyState {
     /// Gives the copy up, or spends it where it has ended.
     pub(crate) fn cancel(self, core: &mut Core)
         requires { MayCancel core.old self }
-        ensures { Spares (holding_of self) nothing_held core.old core.new }
+        ensures { SparesPlaces (holding_of self) nothing_held core.old core.new }
     {
         match self {
             CopyState::Get(get) => get.cancel(core),
@@ -76,8 +76,8 @@ impl CopyState {
 impl<F: LocalFile> Running<F> {
     /// Takes one step of the copy.
     pub(crate) fn step(&mut self, core: &mut Core) -> Progress
-        requires { MayGo core.old self.old.state }
-        ensures { GoesOn F.done F.history core.old self.old core.new self.new result }
+        requires { MayStepCopy core.old self.old.state }
+        ensures { StepsCopy F.done F.history core.old self.old core.new self.new result }
     {
         let from = self.job.from.as_str();
         let part = self.job.part.as_str();
@@ -92,8 +92,8 @@ impl<F: LocalFile> Running<F> {
     pub(crate) fn cancel(self, core: &mut Core)
     where
         F: Drop,
-        requires { MayGo core.old self.state }
-        ensures { Spares (holding_of self.state) nothing_held core.old core.new }
+        requires { MayStepCopy core.old self.state }
+        ensures { SparesPlaces (holding_of self.state) nothing_held core.old core.new }
     {
         let Running {
             job: _,
@@ -107,7 +107,7 @@ impl<F: LocalFile> Running<F> {
     pub(crate) fn end(self, core: &mut Core, outcome: Result<u64, Failure>) -> Copied<F>
         requires { MayCancel core.old self.state }
         ensures is { IsEndedAs self outcome result }
-        ensures spares { Spares (holding_of self.state) nothing_held core.old core.new }
+        ensures spares { SparesPlaces (holding_of self.state) nothing_held core.old core.new }
     {
         let Running { job, local, state } = self;
         state.cancel(core);

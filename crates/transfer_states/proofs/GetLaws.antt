@@ -36,24 +36,24 @@ use Rattle.transfer_states.specs.declared.holding.Part.{Part}
 use Rattle.transfer_states.specs.declared.holding.PartAnswer.TheVariants as part_answer
 use Rattle.transfer_states.specs.declared.progress.Progress.{Progress}
 use Rattle.transfer_states.specs.declared.progress.Progress.TheVariants as progress
-use Rattle.transfer_states.specs.Holdings.{AsksRead, HoldingValue, IsOpened, KeepsApart, SettlesFile, TakesPart, bytes_under_way}
+use Rattle.transfer_states.specs.Holdings.{AsksForRead, HoldingValue, IsFileOpen, KeepsApart, SettlesFile, TakesPart, bytes_under_way}
 use Rattle.transfer_states.specs.Gets.{
-  AreReads,
-  AsksMore,
+  AreReadParts,
+  GetsMore,
   AsksNext,
-  AsksOn,
+  GetAsksOn,
   GetLeaves,
-  GivesUp,
-  GoesOn,
-  IsBehind,
+  GetGivesUp,
+  TakesReply,
+  IsBehindRead,
   IsFull,
   IsOpenAt,
   IsReadingOn,
   IsStill,
   MakesPart,
-  Opens,
-  ReadsOn,
-  StandsAt,
+  GetOpens,
+  GetReadsOn,
+  StandsGet,
 }
 use Rattle.transfer_states.specs.Local.{LocalAct}
 use Rattle.transfer_states.proofs.HoldingLaws.{apart_both}
@@ -67,13 +67,13 @@ leaves_then core mid after old new left first then_leaves = record {
 }
 
 -- the file is open still once the first READ was answered
-pub open_behind : (len : ℕ) (core : Core) (g : FileGet) → IsBehind len core g → IsOpenAt core g
+pub open_behind : (len : ℕ) (core : Core) (g : FileGet) → IsBehindRead len core g → IsOpenAt core g
 open_behind len core g b = record { opened = b.opened; held = b.held; file = b.reading.file; unfailed = b.reading.unfailed }
 
 -- ---- one READ more
 
-last_reads : (ticket len : ℕ) (parts : List Part) → AreReads parts
-    → AreReads (parts ++ record { ticket = ticket; kind = expected.Content len; len = len } ∷ [])
+last_reads : (ticket len : ℕ) (parts : List Part) → AreReadParts parts
+    → AreReadParts (parts ++ record { ticket = ticket; kind = expected.Content len; len = len } ∷ [])
 last_reads ticket len [] are = (refl, tt)
 last_reads ticket len (part ∷ later) (here, are) = (here, last_reads ticket len later are)
 
@@ -87,7 +87,7 @@ still_open core after h k apart opened = subst (λ (p : Phase). IsSome (info_of 
 
 pub asked_on : (core after : Core) (old : FileGet) (held : HoldingValue) (len : ℕ) → IsSome (info_of core.phase)
     → old.stage ≡ stage.Reading → IsReadingOn old → old.next + len < 2 ^ 64
-    → AsksRead core old.holding old.next len after held → KeepsApart old.holding held core after
+    → AsksForRead core old.holding old.next len after held → KeepsApart old.holding held core after
     → GetLeaves core old after (record old { holding = held; next = old.next + len })
 asked_on core after old held len opened at_reading reading small asks apart =
     let new : FileGet = record old { holding = held; next = old.next + len } in
@@ -96,8 +96,8 @@ asked_on core after old held len opened at_reading reading small asks apart =
     let bytes = ap bytes_under_way parts_are ∙ sum in
     let next = reading.next in
     let on : IsReadingOn new = record {
-      file = subst (λ (x : HoldingValue). IsOpened x.file) (sym asks.now) reading.file;
-      parts = subst (λ (l : List Part). AreReads l) (sym parts_are) (last_reads asks.ticket len old.holding.parts reading.parts);
+      file = subst (λ (x : HoldingValue). IsFileOpen x.file) (sym asks.now) reading.file;
+      parts = subst (λ (l : List Part). AreReadParts l) (sym parts_are) (last_reads asks.ticket len old.holding.parts reading.parts);
       next = omega (arith, bytes, next);
       small = small;
       wide = reading.wide;
@@ -107,7 +107,7 @@ asked_on core after old held len opened at_reading reading small asks apart =
       getting = record {
         opened = still_open core after old.holding held apart opened;
         held = apart.held;
-        stands = subst (λ (s : GetStage). StandsAt s new) (sym at_reading) on;
+        stands = subst (λ (s : GetStage). StandsGet s new) (sym at_reading) on;
       };
       apart = apart;
     }
@@ -116,17 +116,17 @@ asked_on core after old held len opened at_reading reading small asks apart =
 
 pub read_came : {H : Type 0} (done : LocalAct → H → H) (core mid after : Core) (old new : FileGet) (left : HoldingValue)
     (r : Reply) (len : ℕ) (before now : H) (result : Progress) → TakesPart core old.holding mid left (part_answer.Came r len)
-    → GoesOn done r len mid (record old { holding = left }) after new before now → result ≡ progress.Moved
-    → ReadsOn done core old after new before now result
+    → TakesReply done r len mid (record old { holding = left }) after new before now → result ≡ progress.Moved
+    → GetReadsOn done core old after new before now result
 read_came done core mid after old new left r len before now result came goes moved =
-    subst (λ x. ReadsOn done core old after new before now x) (sym moved)
+    subst (λ x. GetReadsOn done core old after new before now x) (sym moved)
     (inl (record { mid = mid; left = left; r = r; len = len; came = came; goes = goes }))
 
 pub read_failed : {H : Type 0} (done : LocalAct → H → H) (core mid after : Core) (old new : FileGet) (left : HoldingValue)
-    (before : H) (result : Progress) → GivesUp mid left (record old { holding = left }) after new → result ≡ progress.Moved
-    → ReadsOn done core old after new before before result
+    (before : H) (result : Progress) → GetGivesUp mid left (record old { holding = left }) after new → result ≡ progress.Moved
+    → GetReadsOn done core old after new before before result
 read_failed done core mid after old new left before result gives moved =
-    subst (λ x. ReadsOn done core old after new before before x) (sym moved)
+    subst (λ x. GetReadsOn done core old after new before before x) (sym moved)
     (inr (
       refl,
       inr (record {
@@ -137,32 +137,32 @@ read_failed done core mid after old new left before result gives moved =
     ))
 
 read_more : {H : Type 0} (done : LocalAct → H → H) (core after : Core) (old new : FileGet) (before : H) → AsksNext core old after new
-    → ReadsOn done core old after new before before progress.Moved
+    → GetReadsOn done core old after new before before progress.Moved
 read_more done core after old new before (inl asks) = inr (refl, inl asks)
 read_more done core after old new before (inr gives) = inr (refl, inr (record { mid = core; left = old.holding; gives_up = gives }))
 
 asks_same : (core mid after : Core) (old new : FileGet) (left : HoldingValue) (result : Progress) → mid ≡ core
-    → left ≡ old.holding → AsksOn mid (record old { holding = left }) after new result → AsksOn core old after new result
+    → left ≡ old.holding → GetAsksOn mid (record old { holding = left }) after new result → GetAsksOn core old after new result
 asks_same core mid after old new left result core_is left_is asks =
-    let at_core = subst (λ (c : Core). AsksOn c (record old { holding = left }) after new result) core_is asks in
-    subst (λ (h : HoldingValue). AsksOn core (record old { holding = h }) after new result) left_is at_core
+    let at_core = subst (λ (c : Core). GetAsksOn c (record old { holding = left }) after new result) core_is asks in
+    subst (λ (h : HoldingValue). GetAsksOn core (record old { holding = h }) after new result) left_is at_core
 
 missing_on : {H : Type 0} (done : LocalAct → H → H) (core after : Core) (old new : FileGet) (before : H) (result : Progress)
-    → TakesPart core old.holding core old.holding part_answer.Missing → AsksOn core old after new result
-    → ReadsOn done core old after new before before result
+    → TakesPart core old.holding core old.holding part_answer.Missing → GetAsksOn core old after new result
+    → GetReadsOn done core old after new before before result
 missing_on done core after old new before progress.Waits missing (full, some, still) = (missing, full, still, refl)
 missing_on done core after old new before progress.Moved missing asks = read_more done core after old new before asks
 missing_on done core after old new before (progress.Ended result) missing never = absurd never
 
 pub read_missing : {H : Type 0} (done : LocalAct → H → H) (core mid after : Core) (old new : FileGet) (left : HoldingValue)
     (before : H) (result : Progress) → TakesPart core old.holding mid left part_answer.Missing
-    → AsksOn mid (record old { holding = left }) after new result → ReadsOn done core old after new before before result
+    → GetAsksOn mid (record old { holding = left }) after new result → GetReadsOn done core old after new before before result
 read_missing done core mid after old new left before result missing asks =
     missing_on done core after old new before result (missing.0, missing.1, missing.2, refl, refl)
     (asks_same core mid after old new left result missing.3 missing.4 asks)
 
 idle_on : {H : Type 0} (done : LocalAct → H → H) (core after : Core) (old new : FileGet) (before : H) (result : Progress)
-    → old.holding.parts ≡ [] → AsksOn core old after new result → ReadsOn done core old after new before before result
+    → old.holding.parts ≡ [] → GetAsksOn core old after new result → GetReadsOn done core old after new before before result
 idle_on done core after old new before progress.Waits none (full, some, still) =
     absurd (let e = ap length none in omega (arith, some, e))
 idle_on done core after old new before progress.Moved none asks = read_more done core after old new before asks
@@ -170,7 +170,7 @@ idle_on done core after old new before (progress.Ended result) none never = absu
 
 pub read_idle : {H : Type 0} (done : LocalAct → H → H) (core mid after : Core) (old new : FileGet) (left : HoldingValue)
     (before : H) (result : Progress) → TakesPart core old.holding mid left part_answer.Idle
-    → AsksOn mid (record old { holding = left }) after new result → ReadsOn done core old after new before before result
+    → GetAsksOn mid (record old { holding = left }) after new result → GetReadsOn done core old after new before before result
 read_idle done core mid after old new left before result idle asks =
     idle_on done core after old new before result idle.0 (asks_same core mid after old new left result idle.1 idle.2 asks)
 
@@ -180,7 +180,7 @@ pub open_granted : {H : Type 0} (done : LocalAct → H → H) (part : List ℕ) 
     (left : HoldingValue) (before now : H) (result : Progress)
     → SettlesFile core old.holding mid left file_answer.Granted
     → MakesPart done part mid (record old { holding = left }) after new before now → result ≡ progress.Moved
-    → Opens done part core old after new before now result
+    → GetOpens done part core old after new before now result
 open_granted done part core mid after old new left before now result granted made moved =
-    subst (λ x. Opens done part core old after new before now x) (sym moved)
+    subst (λ x. GetOpens done part core old after new before now x) (sym moved)
     (record { mid = mid; open_file = left; granted = granted; made = made })

@@ -87,7 +87,7 @@ use Rattle.transfer_states.specs.declared.holding.Part.{Part}
 use Rattle.transfer_states.specs.Holdings.{
   ArePartsHeld,
   AsksFile,
-  AsksPart,
+  AsksForPart,
   GivesGrant,
   HoldingValue,
   HoldsAll,
@@ -98,7 +98,7 @@ use Rattle.transfer_states.specs.Holdings.{
   IsOfOthers,
   KeepsApart,
   SettlesFile,
-  Spares,
+  SparesPlaces,
   after_file,
   file_reply,
 }
@@ -117,10 +117,10 @@ held_apart core id ticket kind h free same = no_ticket (at core id) h.counted (a
 
 -- ---- both, one after the other
 
-pub spares_same : (h : HoldingValue) (core : Core) → Spares h h core core
+pub spares_same : (h : HoldingValue) (core : Core) → SparesPlaces h h core core
 spares_same h core = record { places = λ id place others here. (here, others); phase = refl; fault = refl }
 
-pub spares_both : (a b c : HoldingValue) (x y z : Core) → Spares a b x y → Spares b c y z → Spares a c x z
+pub spares_both : (a b c : HoldingValue) (x y z : Core) → SparesPlaces a b x y → SparesPlaces b c y z → SparesPlaces a c x z
 spares_both a b c x y z s t = record {
   places = λ id place others here. (let mid = s.places id place others here in t.places id place mid.1 mid.0);
   phase = t.phase ∙ s.phase;
@@ -152,7 +152,7 @@ queued_fault core ticket (Parts handle offset parts) = refl
 
 submitted_spares : (old new : Core) (asking : Asking) (ticket : ℕ) (before after : HoldingValue)
     → Submitted old asking ticket new
-    → ((id : ℕ) → id ≢ ticket → IsOfOthers id before → IsOfOthers id after) → Spares before after old new
+    → ((id : ℕ) → id ≢ ticket → IsOfOthers id before → IsOfOthers id after) → SparesPlaces before after old new
 submitted_spares old new asking ticket before after s others = record {
   places = λ id place mine here. (
     ap (λ (x : Core). at x id) s.queued ∙ queued_stays old ticket asking id place s.free here,
@@ -237,7 +237,7 @@ free_of_parts core ticket file (part ∷ later) free (h, p, f, own, held) =
 
 pub part_asked : (core after : Core) (old new : HoldingValue) (asking : Asking) (len : ℕ)
     → asks_handle (expected_of (request_of asking)) ≡ false
-    → HoldsAll core old → AsksPart core old asking len after new → KeepsApart old new core after
+    → HoldsAll core old → AsksForPart core old asking len after new → KeepsApart old new core after
 part_asked core after old new asking len plain held asks =
     let s = asks.submitted in
     let t = asks.ticket in
@@ -269,9 +269,9 @@ poll_fault core k f (Some (Granted handle users)) = refl
 poll_fault core k f None = refl
 
 polled_spares : (core after : Core) (ticket : ℕ) (before next : HoldingValue) → after ≡ after_poll core ticket
-    → ((id : ℕ) → IsOfOthers id before → (id ≢ ticket) × IsOfOthers id next) → Spares before next core after
+    → ((id : ℕ) → IsOfOthers id before → (id ≢ ticket) × IsOfOthers id next) → SparesPlaces before next core after
 polled_spares core after ticket before next is others =
-    subst (λ (x : Core). Spares before next core x) (sym is) (record {
+    subst (λ (x : Core). SparesPlaces before next core x) (sym is) (record {
       places = λ id place mine here. (let o = others id mine in (poll_elsewhere core ticket core.fault (at core ticket) id o.0 ∙ here, o.1));
       phase = poll_phase core ticket core.fault (at core ticket);
       fault = poll_fault core ticket core.fault (at core ticket);

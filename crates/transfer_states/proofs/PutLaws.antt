@@ -39,7 +39,7 @@ use Rattle.transfer_states.specs.declared.progress.Progress.TheVariants as progr
 use Rattle.transfer_states.specs.declared.put.FilePut.{FilePut}
 use Rattle.transfer_states.specs.declared.put.PutStage.{PutStage}
 use Rattle.transfer_states.specs.declared.put.PutStage.TheVariants as stage
-use Rattle.transfer_states.specs.Holdings.{AsksWrite, HoldingValue, IsNotOk, IsOk, IsOpened, KeepsApart, TakesPart, bytes_under_way}
+use Rattle.transfer_states.specs.Holdings.{AsksForWrite, HoldingValue, WasNotOk, WasOk, IsFileOpen, KeepsApart, TakesPart, bytes_under_way}
 use Rattle.transfer_states.specs.Puts.{
   AcceptsWrite,
   AsksAt,
@@ -51,8 +51,8 @@ use Rattle.transfer_states.specs.Puts.{
   PutLeaves,
   PutsNoMore,
   Removes,
-  SendsOn,
-  SentAll,
+  PutSendsOn,
+  PutSentAll,
   StandsPut,
   WritesOn,
   rename_of,
@@ -74,7 +74,7 @@ put_leaves_then core mid after old new left first then_leaves = record {
 
 pub wrote_on : (core after : Core) (old : FilePut) (held : HoldingValue) (bytes : List ℕ) (len : ℕ) → IsSome (info_of core.phase)
     → old.stage ≡ stage.Writing → IsWritingOn old → len ≡ length bytes → old.next + len < 2 ^ 64
-    → AsksWrite core old.holding old.next bytes after held → KeepsApart old.holding held core after
+    → AsksForWrite core old.holding old.next bytes after held → KeepsApart old.holding held core after
     → PutLeaves core old after (record old { holding = held; next = old.next + len })
 wrote_on core after old held bytes len opened at_writing writing len_is small asks apart =
     let new : FilePut = record old { holding = held; next = old.next + len } in
@@ -82,7 +82,7 @@ wrote_on core after old held bytes len opened at_writing writing len_is small as
     let total = ap bytes_under_way (ap (λ (x : HoldingValue). x.parts) asks.now) ∙ sum in
     let next = writing.next in
     let on : IsWritingOn new = record {
-      file = subst (λ (x : HoldingValue). IsOpened x.file) (sym asks.now) writing.file;
+      file = subst (λ (x : HoldingValue). IsFileOpen x.file) (sym asks.now) writing.file;
       next = omega (arith, total, next, len_is);
       small = small;
       wide = writing.wide;
@@ -121,26 +121,26 @@ write_failed done core mid after old new left before result gives moved =
       })),
     ))
 
-ends_or_fails : (core after : Core) (old new : FilePut) → SentAll core old after new ⊎ PutGivesUp core old.holding old after new
-    → SentAll core old after new ⊎ PutsNoMore core old after new
+ends_or_fails : (core after : Core) (old new : FilePut) → PutSentAll core old after new ⊎ PutGivesUp core old.holding old after new
+    → PutSentAll core old after new ⊎ PutsNoMore core old after new
 ends_or_fails core after old new (inl sent) = inl sent
 ends_or_fails core after old new (inr gives) = inr (record { mid = core; left = old.holding; gives_up = gives })
 
 send_moved : {H : Type 0} (done : LocalAct → H → H) (core after : Core) (old new : FilePut) (before now : H)
-    → SendsOn done core old after new before now progress.Moved → WritesOn done core old after new before now progress.Moved
+    → PutSendsOn done core old after new before now progress.Moved → WritesOn done core old after new before now progress.Moved
 send_moved done core after old new before now (inl reads) = inl reads
 send_moved done core after old new before now (inr (same, ends)) = inr (same, inr (ends_or_fails core after old new ends))
 
 sends_same : {H : Type 0} (done : LocalAct → H → H) (core mid after : Core) (old new : FilePut) (left : HoldingValue)
     (before now : H) (result : Progress) → mid ≡ core → left ≡ old.holding
-    → SendsOn done mid (record old { holding = left }) after new before now result
-    → SendsOn done core old after new before now result
+    → PutSendsOn done mid (record old { holding = left }) after new before now result
+    → PutSendsOn done core old after new before now result
 sends_same done core mid after old new left before now result core_is left_is sends =
-    let at_core = subst (λ (c : Core). SendsOn done c (record old { holding = left }) after new before now result) core_is sends in
-    subst (λ (h : HoldingValue). SendsOn done core (record old { holding = h }) after new before now result) left_is at_core
+    let at_core = subst (λ (c : Core). PutSendsOn done c (record old { holding = left }) after new before now result) core_is sends in
+    subst (λ (h : HoldingValue). PutSendsOn done core (record old { holding = h }) after new before now result) left_is at_core
 
 missing_sends : {H : Type 0} (done : LocalAct → H → H) (core after : Core) (old new : FilePut) (before now : H) (result : Progress)
-    → TakesPart core old.holding core old.holding part_answer.Missing → SendsOn done core old after new before now result
+    → TakesPart core old.holding core old.holding part_answer.Missing → PutSendsOn done core old after new before now result
     → WritesOn done core old after new before now result
 missing_sends done core after old new before now progress.Waits missing (some, still, same) = (missing, still, same)
 missing_sends done core after old new before now progress.Moved missing sends = send_moved done core after old new before now sends
@@ -148,14 +148,14 @@ missing_sends done core after old new before now (progress.Ended result) missing
 
 pub write_missing : {H : Type 0} (done : LocalAct → H → H) (core mid after : Core) (old new : FilePut) (left : HoldingValue)
     (before now : H) (result : Progress) → TakesPart core old.holding mid left part_answer.Missing
-    → SendsOn done mid (record old { holding = left }) after new before now result
+    → PutSendsOn done mid (record old { holding = left }) after new before now result
     → WritesOn done core old after new before now result
 write_missing done core mid after old new left before now result missing sends =
     missing_sends done core after old new before now result (missing.0, missing.1, missing.2, refl, refl)
     (sends_same done core mid after old new left before now result missing.3 missing.4 sends)
 
 idle_sends : {H : Type 0} (done : LocalAct → H → H) (core after : Core) (old new : FilePut) (before now : H) (result : Progress)
-    → old.holding.parts ≡ [] → SendsOn done core old after new before now result
+    → old.holding.parts ≡ [] → PutSendsOn done core old after new before now result
     → WritesOn done core old after new before now result
 idle_sends done core after old new before now progress.Waits none (some, still, same) =
     absurd (let e = ap length none in omega (arith, some, e))
@@ -164,7 +164,7 @@ idle_sends done core after old new before now (progress.Ended result) none never
 
 pub write_idle : {H : Type 0} (done : LocalAct → H → H) (core mid after : Core) (old new : FilePut) (left : HoldingValue)
     (before now : H) (result : Progress) → TakesPart core old.holding mid left part_answer.Idle
-    → SendsOn done mid (record old { holding = left }) after new before now result
+    → PutSendsOn done mid (record old { holding = left }) after new before now result
     → WritesOn done core old after new before now result
 write_idle done core mid after old new left before now result idle sends =
     idle_sends done core after old new before now result idle.0 (sends_same done core mid after old new left before now result idle.1 idle.2 sends)
@@ -175,7 +175,7 @@ some_is_none : (p : Option Failure) (e : Failure) → p ≡ None → p ≡ Some 
 some_is_none p e none some = let bad : (◌≡◌ {A = Option Failure} None (Some e)) = sym none ∙ some in cc
 
 named_close : (core mid after : Core) (old new : FilePut) (left : HoldingValue) (part remote : List ℕ) (replaces : Bool) (result : Progress)
-    → IsOk core old.holding mid left → old.failure ≡ None
+    → WasOk core old.holding mid left → old.failure ≡ None
     → AsksAt (rename_of part remote replaces) (rename_stage replaces) mid (record old { holding = left }) after new result
     → EndsWriting part remote core old after new result
 named_close core mid after old new left part remote replaces progress.Waits ok none never = absurd never
@@ -196,7 +196,7 @@ failed_close core mid after old new part remote first result some is over =
     some_same a b e = cc
 
 pub put_closed : (core mid after : Core) (old new : FilePut) (left : HoldingValue) (part remote : List ℕ) (result : Progress)
-    → IsOk core old.holding mid left → IsClosedAt part remote mid (record old { holding = left }) after new result
+    → WasOk core old.holding mid left → IsClosedAt part remote mid (record old { holding = left }) after new result
     → EndsWriting part remote core old after new result
 put_closed core mid after old new left part remote result ok (inl (none, (replaces, asks))) =
     named_close core mid after old new left part remote replaces result ok none asks
@@ -204,7 +204,7 @@ put_closed core mid after old new left part remote result ok (inr (first, some, 
     failed_close core mid after old new part remote first result some is over
 
 pub put_removes : (core mid after : Core) (old new : FilePut) (left : HoldingValue) (remote : List ℕ) (result : Progress)
-    → IsNotOk core old.holding mid left → AsksAt (request.Remove remote) stage.Removing mid (record old { holding = left }) after new result
+    → WasNotOk core old.holding mid left → AsksAt (request.Remove remote) stage.Removing mid (record old { holding = left }) after new result
     → NamedOrRemoves remote core old after new result
 put_removes core mid after old new left remote progress.Waits not_ok never = absurd never
 put_removes core mid after old new left remote progress.Moved not_ok asks = record { mid = mid; left = left; not_ok = not_ok; asks = asks }
@@ -212,7 +212,7 @@ put_removes core mid after old new left remote (progress.Ended (Err e)) not_ok (
 put_removes core mid after old new left remote (progress.Ended (Ok len)) not_ok never = absurd never
 
 pub put_removed : (core mid after : Core) (old new : FilePut) (left : HoldingValue) (part remote : List ℕ) (result : Progress)
-    → IsOk core old.holding mid left → AsksAt (rename_of part remote false) stage.RenamingAgain mid (record old { holding = left }) after new result
+    → WasOk core old.holding mid left → AsksAt (rename_of part remote false) stage.RenamingAgain mid (record old { holding = left }) after new result
     → Removes part remote core old after new result
 put_removed core mid after old new left part remote progress.Waits ok never = absurd never
 put_removed core mid after old new left part remote progress.Moved ok asks = record { mid = mid; left = left; ok = ok; asks = asks }

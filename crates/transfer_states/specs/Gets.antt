@@ -16,6 +16,7 @@ use Rattle.std.specs.Prelude.{
   [],
   ◌∷◌,
   length,
+  max,
   Option,
   Some,
   None,
@@ -47,16 +48,16 @@ use Rattle.transfer_states.specs.declared.progress.Progress.{Progress}
 use Rattle.transfer_states.specs.declared.progress.Progress.TheVariants as progress
 use Rattle.transfer_states.specs.Holdings.{
   AsksFile,
-  AsksRead,
+  AsksForRead,
   DropsParts,
   HoldingValue,
   HoldsAll,
-  IsOk,
+  WasOk,
   IsOnly,
-  IsOpened,
-  IsRefused,
+  IsFileOpen,
+  WasRefused,
   KeepsApart,
-  LetsGo,
+  LetsFileGo,
   SettlesFile,
   TakesPart,
   bytes_under_way,
@@ -69,16 +70,16 @@ abbrev pub read_flags : OpenFlags
 read_flags = flags_of (record nothing_chosen { read = true })
 
 -- each part is a READ
-abbrev pub AreReads : List Part → Type 0
-AreReads [] = Unit {0}
-AreReads (part ∷ later) = (part.kind ≡ expected.Content part.len) × AreReads later
+abbrev pub AreReadParts : List Part → Type 0
+AreReadParts [] = Unit {0}
+AreReadParts (part ∷ later) = (part.kind ≡ expected.Content part.len) × AreReadParts later
 
 -- ---- where it stands
 
 -- the parts stand without a gap from the first byte that was not written
 pub record IsReadingOn (g : FileGet) : Type 0 where
-  pub file : IsOpened g.holding.file
-  pub parts : AreReads g.holding.parts
+  pub file : IsFileOpen g.holding.file
+  pub parts : AreReadParts g.holding.parts
   pub next : g.offset + bytes_under_way g.holding.parts ≡ g.next
   pub small : g.next < 2 ^ 64
   pub wide : 1 ≤ g.window
@@ -92,18 +93,18 @@ pub record IsAtStart (Holds : HoldingValue → Type 0) (g : FileGet) : Type 0 wh
   pub wide : 1 ≤ g.window
   pub unfailed : g.failure ≡ None
 
-abbrev pub StandsAt : GetStage → FileGet → Type 0
-StandsAt stage.Starting g = IsAtStart (λ h. h ≡ nothing_held) g
-StandsAt stage.Opening g = IsAtStart (IsOnly expected.Handle) g
-StandsAt stage.Reading g = IsReadingOn g
-StandsAt stage.Closing g = IsOnly expected.Status g.holding
-StandsAt stage.Ended g = g.holding ≡ nothing_held
+abbrev pub StandsGet : GetStage → FileGet → Type 0
+StandsGet stage.Starting g = IsAtStart (λ h. h ≡ nothing_held) g
+StandsGet stage.Opening g = IsAtStart (IsOnly expected.Handle) g
+StandsGet stage.Reading g = IsReadingOn g
+StandsGet stage.Closing g = IsOnly expected.Status g.holding
+StandsGet stage.Ended g = g.holding ≡ nothing_held
 
 -- A copy over a core of a session that is open: what it awaits is awaited there, and once it has ended nothing is.
 pub record IsGetting (core : Core) (g : FileGet) : Type 0 where
   pub opened : IsSome (info_of core.phase)
   pub held : HoldsAll core g.holding
-  pub stands : StandsAt g.stage g
+  pub stands : StandsGet g.stage g
 
 -- it has not ended
 abbrev pub IsGoingOn : GetStage → Type 0
@@ -115,13 +116,13 @@ pub record MayGet (core : Core) (g : FileGet) : Type 0 where
   pub going : IsGoingOn g.stage
 
 -- it has ended exactly where a step says so
-abbrev pub HasEnded : GetStage → Progress → Type 0
-HasEnded s (progress.Ended result) = s ≡ stage.Ended
-HasEnded s other = IsGoingOn s
+abbrev pub GetHasEnded : GetStage → Progress → Type 0
+GetHasEnded s (progress.Ended result) = s ≡ stage.Ended
+GetHasEnded s other = IsGoingOn s
 
-abbrev pub is_over : GetStage → Bool
-is_over stage.Ended = true
-is_over other = false
+abbrev pub get_is_over : GetStage → Bool
+get_is_over stage.Ended = true
+get_is_over other = false
 
 -- a copy that has asked for nothing
 abbrev pub get_begun : ℕ → FileGet
@@ -140,11 +141,11 @@ get_begun most =
 pub record IsOpenAt (core : Core) (g : FileGet) : Type 0 where
   pub opened : IsSome (info_of core.phase)
   pub held : HoldsAll core g.holding
-  pub file : IsOpened g.holding.file
+  pub file : IsFileOpen g.holding.file
   pub unfailed : g.failure ≡ None
 
 -- the first READ, which asked for so many bytes, was answered
-pub record IsBehind (len : ℕ) (core : Core) (g : FileGet) : Type 0 where
+pub record IsBehindRead (len : ℕ) (core : Core) (g : FileGet) : Type 0 where
   pub opened : IsSome (info_of core.phase)
   pub held : HoldsAll core g.holding
   pub stage : g.stage ≡ stage.Reading
@@ -158,32 +159,33 @@ IsStill core old after new = (after ≡ core) × (new ≡ old)
 
 -- the parts were given up and the file was closed, so that its status is awaited; where the copy failed before, it is
 -- kept why
-pub record Leaves (Why : Option Failure → Type 0) (core : Core) (h : HoldingValue) (old : FileGet) (after : Core)
+pub record LeavesGet (Why : Option Failure → Type 0) (core : Core) (h : HoldingValue) (old : FileGet) (after : Core)
     (new : FileGet) : Type 0 where
-  pub goes : LetsGo core h after new.holding
+  pub goes : LetsFileGo core h after new.holding
   pub stage : new.stage ≡ stage.Closing
   pub offset : new.offset ≡ old.offset
   pub failure : Why new.failure
 
-abbrev pub GivesUp : Core → HoldingValue → FileGet → Core → FileGet → Type 0
-GivesUp core h old after new = Leaves (λ why. IsSome why) core h old after new
+abbrev pub GetGivesUp : Core → HoldingValue → FileGet → Core → FileGet → Type 0
+GetGivesUp core h old after new = LeavesGet (λ why. IsSome why) core h old after new
 
-abbrev pub Finishes : Core → HoldingValue → FileGet → Core → FileGet → Type 0
-Finishes core h old after new = Leaves (λ why. why ≡ None) core h old after new
+abbrev pub GetFinishes : Core → HoldingValue → FileGet → Core → FileGet → Type 0
+GetFinishes core h old after new = LeavesGet (λ why. why ≡ None) core h old after new
 
 -- the OPEN of the path to read was asked, or nothing
-abbrev pub Starts : List ℕ → Core → FileGet → Core → FileGet → Progress → Type 0
-Starts remote core old after new progress.Moved =
+abbrev pub GetStarts : List ℕ → Core → FileGet → Core → FileGet → Progress → Type 0
+GetStarts remote core old after new progress.Moved =
     AsksFile core old.holding (open_request read_flags remote) after new.holding
     × (new ≡ record old { stage = stage.Opening; holding = new.holding })
-Starts remote core old after new (progress.Ended (Err e)) = (after ≡ core) × (new ≡ record old { stage = stage.Ended })
-Starts remote core old after new other = ⊥
+GetStarts remote core old after new (progress.Ended (Err e)) = (after ≡ core)
+    × (new ≡ record old { stage = stage.Ended })
+GetStarts remote core old after new other = ⊥
 
 -- the part was made, or not
 abbrev pub MakesPart : {H : Type 0} → (LocalAct → H → H) → List ℕ → Core → FileGet → Core → FileGet → H → H → Type 0
 MakesPart done part core old after new before now = ((now ≡ done (Created part) before) × (after ≡ core)
     × (new ≡ record old { stage = stage.Reading }))
-    ⊎ ((now ≡ done (Failed (Created part)) before) × GivesUp core old.holding old after new)
+    ⊎ ((now ≡ done (Failed (Created part)) before) × GetGivesUp core old.holding old after new)
 
 -- the HANDLE came, and the part was made or not
 pub record OpensGet {H : Type 0} (done : LocalAct → H → H) (part : List ℕ) (core : Core) (old : FileGet) (after : Core)
@@ -193,16 +195,16 @@ pub record OpensGet {H : Type 0} (done : LocalAct → H → H) (part : List ℕ)
   pub granted : SettlesFile core old.holding mid open_file file_answer.Granted
   pub made : MakesPart done part mid (record old { holding = open_file }) after new before now
 
-abbrev pub Opens : {H : Type 0} → (LocalAct → H → H) → List ℕ → Core → FileGet → Core → FileGet → H → H → Progress
+abbrev pub GetOpens : {H : Type 0} → (LocalAct → H → H) → List ℕ → Core → FileGet → Core → FileGet → H → H → Progress
     → Type 0
-Opens done part core old after new before now progress.Waits =
+GetOpens done part core old after new before now progress.Waits =
     SettlesFile core old.holding core old.holding file_answer.Missing × IsStill core old after new × (now ≡ before)
-Opens done part core old after new before now progress.Moved = OpensGet done part core old after new before now
-Opens done part core old after new before now (progress.Ended (Err e)) =
-    IsRefused core old.holding after new.holding
+GetOpens done part core old after new before now progress.Moved = OpensGet done part core old after new before now
+GetOpens done part core old after new before now (progress.Ended (Err e)) =
+    WasRefused core old.holding after new.holding
     × (new ≡ record old { stage = stage.Ended; holding = new.holding })
     × (now ≡ before)
-Opens done part core old after new before now (progress.Ended (Ok len)) = ⊥
+GetOpens done part core old after new before now (progress.Ended (Ok len)) = ⊥
 
 -- ---- pieces
 
@@ -211,11 +213,12 @@ abbrev pub IsFull : FileGet → Type 0
 IsFull g = (g.window ≤ length g.holding.parts) ⊎ (g.next ≡ 2 ^ 64 - 1)
 
 -- one READ more, behind the others
-pub record AsksMore (core : Core) (old : FileGet) (after : Core) (new : FileGet) : Type 0 where
+pub record GetsMore (core : Core) (old : FileGet) (after : Core) (new : FileGet) : Type 0 where
   pub len : ℕ
+  pub few : length old.holding.parts < old.window
   pub some : 0 < len
   pub small : old.next + len < 2 ^ 64
-  pub asks : AsksRead core old.holding old.next len after new.holding
+  pub asks : AsksForRead core old.holding old.next len after new.holding
   pub now : new ≡ record old { holding = new.holding; next = old.next + len }
 
 -- the bytes of a piece count; where they are fewer than were asked for, the other parts are given up, and the next READ
@@ -223,6 +226,7 @@ pub record AsksMore (core : Core) (old : FileGet) (after : Core) (new : FileGet)
 pub record KeepsPiece (got len : ℕ) (core : Core) (old : FileGet) (after : Core) (new : FileGet) : Type 0 where
   pub stage : new.stage ≡ stage.Reading
   pub offset : new.offset ≡ old.offset + got
+  pub capped : new.window ≤ max old.window old.most
   pub goes : ((got ≡ len) × (after ≡ core) × (new.holding ≡ old.holding) × (new.next ≡ old.next))
       ⊎ ((got < len) × DropsParts core old.holding after new.holding × (new.next ≡ new.offset))
 
@@ -231,16 +235,16 @@ abbrev pub WritesPiece : {H : Type 0} → (LocalAct → H → H) → List ℕ �
     → Type 0
 WritesPiece done bytes len core old after new before now = ((now ≡ done (Wrote bytes) before)
     × KeepsPiece (length bytes) len core old after new)
-    ⊎ ((now ≡ done (Failed (Wrote bytes)) before) × GivesUp core old.holding old after new)
+    ⊎ ((now ≡ done (Failed (Wrote bytes)) before) × GetGivesUp core old.holding old after new)
 
 -- the reply to the first READ: a piece, the end, or a refusal
-abbrev pub GoesOn : {H : Type 0} → (LocalAct → H → H) → Reply → ℕ → Core → FileGet → Core → FileGet → H → H → Type 0
-GoesOn done (reply.Content bytes) len core old after new before now =
+abbrev pub TakesReply : {H : Type 0} → (LocalAct → H → H) → Reply → ℕ → Core → FileGet → Core → FileGet → H → H → Type 0
+TakesReply done (reply.Content bytes) len core old after new before now =
     WritesPiece done bytes len core old after new before now
-GoesOn done (reply.Status code message language) len core old after new before now = (now ≡ before)
-    × (((code ≡ SSH_FX_EOF) × Finishes core old.holding old after new)
-    ⊎ ((code ≢ SSH_FX_EOF) × GivesUp core old.holding old after new))
-GoesOn done other len core old after new before now = ⊥
+TakesReply done (reply.Status code message language) len core old after new before now = (now ≡ before)
+    × (((code ≡ SSH_FX_EOF) × GetFinishes core old.holding old after new)
+    ⊎ ((code ≢ SSH_FX_EOF) × GetGivesUp core old.holding old after new))
+TakesReply done other len core old after new before now = ⊥
 
 -- it came, and the copy goes on with it
 pub record GetsReply {H : Type 0} (done : LocalAct → H → H) (core : Core) (old : FileGet) (after : Core) (new : FileGet)
@@ -250,52 +254,52 @@ pub record GetsReply {H : Type 0} (done : LocalAct → H → H) (core : Core) (o
   pub r : Reply
   pub len : ℕ
   pub came : TakesPart core old.holding mid left (part_answer.Came r len)
-  pub goes : GoesOn done r len mid (record old { holding = left }) after new before now
+  pub goes : TakesReply done r len mid (record old { holding = left }) after new before now
 
 -- a READ was refused or could not be asked, or a fault is kept
 pub record GetsNoMore (core : Core) (old : FileGet) (after : Core) (new : FileGet) : Type 0 where
   pub mid : Core
   pub left : HoldingValue
-  pub gives_up : GivesUp mid left old after new
+  pub gives_up : GetGivesUp mid left old after new
 
 -- one more was asked for, or it was refused
 abbrev pub AsksNext : Core → FileGet → Core → FileGet → Type 0
-AsksNext core old after new = AsksMore core old after new ⊎ GivesUp core old.holding old after new
+AsksNext core old after new = GetsMore core old after new ⊎ GetGivesUp core old.holding old after new
 
 -- where the first reply is missing, and where none is under way: one READ more, while the window is not full and there
 -- is an offset for it
-abbrev pub AsksOn : Core → FileGet → Core → FileGet → Progress → Type 0
-AsksOn core old after new progress.Waits = IsFull old × (0 < length old.holding.parts) × IsStill core old after new
-AsksOn core old after new progress.Moved = AsksNext core old after new
-AsksOn core old after new (progress.Ended result) = ⊥
+abbrev pub GetAsksOn : Core → FileGet → Core → FileGet → Progress → Type 0
+GetAsksOn core old after new progress.Waits = IsFull old × (0 < length old.holding.parts) × IsStill core old after new
+GetAsksOn core old after new progress.Moved = AsksNext core old after new
+GetAsksOn core old after new (progress.Ended result) = ⊥
 
-abbrev pub ReadsOn : {H : Type 0} → (LocalAct → H → H) → Core → FileGet → Core → FileGet → H → H → Progress → Type 0
-ReadsOn done core old after new before now progress.Waits =
+abbrev pub GetReadsOn : {H : Type 0} → (LocalAct → H → H) → Core → FileGet → Core → FileGet → H → H → Progress → Type 0
+GetReadsOn done core old after new before now progress.Waits =
     TakesPart core old.holding core old.holding part_answer.Missing × IsFull old × IsStill core old after new
     × (now ≡ before)
-ReadsOn done core old after new before now progress.Moved = GetsReply done core old after new before now
-    ⊎ ((now ≡ before) × (AsksMore core old after new ⊎ GetsNoMore core old after new))
-ReadsOn done core old after new before now (progress.Ended result) = ⊥
+GetReadsOn done core old after new before now progress.Moved = GetsReply done core old after new before now
+    ⊎ ((now ≡ before) × (GetsMore core old after new ⊎ GetsNoMore core old after new))
+GetReadsOn done core old after new before now (progress.Ended result) = ⊥
 
 -- ---- the end
 
 -- the server said OK to the CLOSE
 abbrev pub SaysClosed : Core → FileGet → Core → FileGet → Type 0
-SaysClosed core old after new = IsOk core old.holding after new.holding
+SaysClosed core old after new = WasOk core old.holding after new.holding
 
 -- Nothing failed, the server said OK to the CLOSE, and then the part got its name; or not, and the first failure is
 -- told.
-abbrev pub Ends : {H : Type 0} → (LocalAct → H → H) → List ℕ → List ℕ → Core → FileGet → Core → FileGet → H → H
+abbrev pub GetEnds : {H : Type 0} → (LocalAct → H → H) → List ℕ → List ℕ → Core → FileGet → Core → FileGet → H → H
     → Progress → Type 0
-Ends done part name core old after new before now progress.Waits =
+GetEnds done part name core old after new before now progress.Waits =
     SettlesFile core old.holding core old.holding file_answer.Missing × IsStill core old after new × (now ≡ before)
-Ends done part name core old after new before now progress.Moved = ⊥
-Ends done part name core old after new before now (progress.Ended (Ok len)) = (old.failure ≡ None)
+GetEnds done part name core old after new before now progress.Moved = ⊥
+GetEnds done part name core old after new before now (progress.Ended (Ok len)) = (old.failure ≡ None)
     × SaysClosed core old after new
     × (now ≡ done (Renamed part name) before)
     × (len ≡ old.offset)
     × (new.stage ≡ stage.Ended)
-Ends done part name core old after new before now (progress.Ended (Err e)) = ((first : Failure)
+GetEnds done part name core old after new before now (progress.Ended (Err e)) = ((first : Failure)
     → old.failure ≡ Some first → e ≡ first)
     × ((now ≡ before) ⊎ ((old.failure ≡ None) × SaysClosed core old after new
     × (now ≡ done (Failed (Renamed part name)) before)))
@@ -304,17 +308,18 @@ Ends done part name core old after new before now (progress.Ended (Err e)) = ((f
 -- ---- one step
 
 -- what a step did, by where the copy stood
-abbrev pub GetDid : {H : Type 0} → (LocalAct → H → H) → List ℕ → List ℕ → List ℕ → Core → FileGet → Core → FileGet → H
+abbrev pub GetStepDid : {H : Type 0} → (LocalAct → H → H) → List ℕ → List ℕ → List ℕ → Core → FileGet → Core → FileGet
+    → H
     → H → Progress → GetStage → Type 0
-GetDid done remote part name core old after new before now result stage.Starting =
-    Starts remote core old after new result × (now ≡ before)
-GetDid done remote part name core old after new before now result stage.Opening =
-    Opens done part core old after new before now result
-GetDid done remote part name core old after new before now result stage.Reading =
-    ReadsOn done core old after new before now result
-GetDid done remote part name core old after new before now result stage.Closing =
-    Ends done part name core old after new before now result
-GetDid done remote part name core old after new before now result stage.Ended = ⊥
+GetStepDid done remote part name core old after new before now result stage.Starting =
+    GetStarts remote core old after new result × (now ≡ before)
+GetStepDid done remote part name core old after new before now result stage.Opening =
+    GetOpens done part core old after new before now result
+GetStepDid done remote part name core old after new before now result stage.Reading =
+    GetReadsOn done core old after new before now result
+GetStepDid done remote part name core old after new before now result stage.Closing =
+    GetEnds done part name core old after new before now result
+GetStepDid done remote part name core old after new before now result stage.Ended = ⊥
 
 -- the copy goes on or has ended, and what others have of the core stays theirs
 pub record GetLeaves (core : Core) (old : FileGet) (after : Core) (new : FileGet) : Type 0 where

@@ -43,7 +43,7 @@ use Rattle.transfer_states.specs.declared.holding.PartAnswer.{PartAnswer}
 use Rattle.transfer_states.specs.declared.holding.PartAnswer.TheVariants as part_answer
 use Rattle.transfer_states.specs.declared.holding.StatusAnswer.{StatusAnswer}
 use Rattle.transfer_states.specs.declared.holding.StatusAnswer.TheVariants as status_answer
-use Rattle.transfer_states.specs.Refusals.{SaysOk}
+use Rattle.transfer_states.specs.Refusals.{IsOkStatus}
 
 -- the file, and the parts under way in order
 pub record HoldingValue : Type 0 where
@@ -99,7 +99,7 @@ pub record HoldsAll (core : Core) (h : HoldingValue) : Type 0 where
   pub parts : ArePartsHeld core h.file h.parts
 
 -- What stands in the core under a number of others stays, and is of others still.
-pub record Spares (before after : HoldingValue) (old new : Core) : Type 0 where
+pub record SparesPlaces (before after : HoldingValue) (old new : Core) : Type 0 where
   pub places : (id : ℕ) (place : Place) → IsOfOthers id before → at old id ≡ Some place
       → (at new id ≡ Some place) × IsOfOthers id after
   pub phase : new.phase ≡ old.phase
@@ -108,19 +108,19 @@ pub record Spares (before after : HoldingValue) (old new : Core) : Type 0 where
 -- What the copy has it may go on with, and what others have stays theirs.
 pub record KeepsApart (before after : HoldingValue) (old new : Core) : Type 0 where
   pub held : HoldsAll new after
-  pub spares : Spares before after old new
+  pub spares : SparesPlaces before after old new
 
 -- ---- what it has of the file
 
 -- a request of the file is under way
-abbrev pub IsAsked : FileHold → Type 0
-IsAsked (hold.Asked ticket kind) = Unit {0}
-IsAsked other = ⊥
+abbrev pub IsFileAsked : FileHold → Type 0
+IsFileAsked (hold.Asked ticket kind) = Unit {0}
+IsFileAsked other = ⊥
 
 -- the file is open
-abbrev pub IsOpened : FileHold → Type 0
-IsOpened (hold.Opened grant) = Unit {0}
-IsOpened other = ⊥
+abbrev pub IsFileOpen : FileHold → Type 0
+IsFileOpen (hold.Opened grant) = Unit {0}
+IsFileOpen other = ⊥
 
 abbrev pub file_handle : FileHold → List ℕ
 file_handle (hold.Opened grant) = grant.handle
@@ -136,7 +136,8 @@ pub record AsksFile (core : Core) (old : HoldingValue) (asked : Request) (after 
     pub now : new ≡ record old { file = hold.Asked ticket (expected_of asked) }
 
 -- a request for so many of its bytes, behind the others
-pub record AsksPart (core : Core) (old : HoldingValue) (asking : Asking) (len : ℕ) (after : Core) (new : HoldingValue) :
+pub record AsksForPart (core : Core) (old : HoldingValue) (asking : Asking) (len : ℕ) (after : Core)
+    (new : HoldingValue) :
     Type 0 where
   pub ticket : ℕ
   pub submitted : Submitted core asking ticket after
@@ -146,13 +147,13 @@ pub record AsksPart (core : Core) (old : HoldingValue) (asking : Asking) (len : 
   }
 
 -- a READ of so many bytes at an offset, and a WRITE of these bytes
-abbrev pub AsksRead : Core → HoldingValue → ℕ → ℕ → Core → HoldingValue → Type 0
-AsksRead core old offset len after new =
-    AsksPart core old (Whole (request.Read (file_handle old.file) offset len)) len after new
+abbrev pub AsksForRead : Core → HoldingValue → ℕ → ℕ → Core → HoldingValue → Type 0
+AsksForRead core old offset len after new =
+    AsksForPart core old (Whole (request.Read (file_handle old.file) offset len)) len after new
 
-abbrev pub AsksWrite : Core → HoldingValue → ℕ → List ℕ → Core → HoldingValue → Type 0
-AsksWrite core old offset bytes after new =
-    AsksPart core old (Parts (file_handle old.file) offset (bytes ∷ [])) (length bytes) after new
+abbrev pub AsksForWrite : Core → HoldingValue → ℕ → List ℕ → Core → HoldingValue → Type 0
+AsksForWrite core old offset bytes after new =
+    AsksForPart core old (Parts (file_handle old.file) offset (bytes ∷ [])) (length bytes) after new
 
 -- ---- what is answered
 
@@ -194,27 +195,27 @@ SettlesFile core old after new file_answer.Granted = (handle : List ℕ)
     × (new.parts ≡ old.parts)
 
 -- a request of the file was refused, or a fault is kept in place of its reply
-abbrev pub IsRefused : Core → HoldingValue → Core → HoldingValue → Type 0
-IsRefused core old after new = ((r : Reply) × SettlesFile core old after new (file_answer.Came r))
+abbrev pub WasRefused : Core → HoldingValue → Core → HoldingValue → Type 0
+WasRefused core old after new = ((r : Reply) × SettlesFile core old after new (file_answer.Came r))
     ⊎ ((fault : Fault) × SettlesFile core old after new (file_answer.Failed fault))
 
 -- or it was answered otherwise than by OK
-abbrev pub IsNotOk : Core → HoldingValue → Core → HoldingValue → Type 0
-IsNotOk core old after new = ((r : Reply) × SettlesFile core old after new (file_answer.Came r) × (SaysOk r → ⊥))
+abbrev pub WasNotOk : Core → HoldingValue → Core → HoldingValue → Type 0
+WasNotOk core old after new = ((r : Reply) × SettlesFile core old after new (file_answer.Came r) × (IsOkStatus r → ⊥))
     ⊎ ((fault : Fault) × SettlesFile core old after new (file_answer.Failed fault))
 
 -- the server said OK to it
-pub record IsOk (core : Core) (old : HoldingValue) (after : Core) (new : HoldingValue) : Type 0 where
+pub record WasOk (core : Core) (old : HoldingValue) (after : Core) (new : HoldingValue) : Type 0 where
   pub status : Reply
   pub came : SettlesFile core old after new (file_answer.Came status)
-  pub ok : SaysOk status
+  pub ok : IsOkStatus status
 
 -- A request of the file, and nothing else, is under way, and this is what came of it.
 abbrev pub SettlesStatus : Core → HoldingValue → Core → HoldingValue → StatusAnswer → Type 0
 SettlesStatus core old after new status_answer.Missing = SettlesFile core old core old file_answer.Missing
     × (after ≡ core) × (new ≡ old)
-SettlesStatus core old after new status_answer.Done = IsOk core old after new × (new ≡ nothing_held)
-SettlesStatus core old after new (status_answer.NotDone e) = IsNotOk core old after new × (new ≡ nothing_held)
+SettlesStatus core old after new status_answer.Done = WasOk core old after new × (new ≡ nothing_held)
+SettlesStatus core old after new (status_answer.NotDone e) = WasNotOk core old after new × (new ≡ nothing_held)
 
 -- the first part, of which this is known
 pub record TakesFirst (Known : Part → Type 0) (core : Core) (old : HoldingValue) (after : Core) (new : HoldingValue) :
@@ -267,7 +268,7 @@ pub record ClosesFile (core : Core) (old : HoldingValue) (after : Core) (new : H
   pub now : new ≡ record old { file = hold.Asked grant.id expected.Status }
 
 -- both, one after the other
-pub record LetsGo (core : Core) (old : HoldingValue) (after : Core) (new : HoldingValue) : Type 0 where
+pub record LetsFileGo (core : Core) (old : HoldingValue) (after : Core) (new : HoldingValue) : Type 0 where
   pub mid : Core
   pub alone : HoldingValue
   pub drops : DropsParts core old mid alone

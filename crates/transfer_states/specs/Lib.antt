@@ -4,3 +4,4 @@ pub mod Refusals
 pub mod Holdings
 pub mod Gets
 pub mod Puts
+pub mod Acts

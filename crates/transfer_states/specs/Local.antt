@@ -64,3 +64,7 @@ IsGot other = ⊥
 abbrev pub AreGot : List LocalAct → Type 0
 AreGot [] = Unit {0}
 AreGot (act ∷ acts) = IsGot act × AreGot acts
+
+-- these pieces are got
+abbrev pub reads_of : List (List ℕ) → List LocalAct
+reads_of pieces = map Got pieces

@@ -42,23 +42,23 @@ use Rattle.transfer_states.specs.declared.put.PutStage.{PutStage}
 use Rattle.transfer_states.specs.declared.put.PutStage.TheVariants as stage
 use Rattle.transfer_states.specs.Holdings.{
   AsksFile,
-  AsksWrite,
+  AsksForWrite,
   HoldingValue,
   HoldsAll,
-  IsNotOk,
-  IsOk,
+  WasNotOk,
+  WasOk,
   IsOnly,
-  IsOpened,
-  IsRefused,
+  IsFileOpen,
+  WasRefused,
   KeepsApart,
-  LetsGo,
+  LetsFileGo,
   SettlesFile,
   TakesPart,
   bytes_under_way,
   nothing_held,
 }
 use Rattle.transfer_states.specs.Local.{Failed, Got, LocalAct, Opened}
-use Rattle.transfer_states.specs.Refusals.{SaysOk}
+use Rattle.transfer_states.specs.Refusals.{IsOkStatus}
 
 -- a file is made, or emptied, to be written
 abbrev pub write_flags : OpenFlags
@@ -73,7 +73,7 @@ rename_of from to false = request.Rename from to
 
 -- the parts stand without a gap from the first byte that the server has not said OK to
 pub record IsWritingOn (p : FilePut) : Type 0 where
-  pub file : IsOpened p.holding.file
+  pub file : IsFileOpen p.holding.file
   pub next : p.offset + bytes_under_way p.holding.parts ≡ p.next
   pub small : p.next < 2 ^ 64
   pub wide : 1 ≤ p.window
@@ -106,18 +106,18 @@ pub record IsPutting (core : Core) (p : FilePut) : Type 0 where
   pub stands : StandsPut p.stage p
 
 -- it has not ended
-abbrev pub IsUnended : PutStage → Type 0
-IsUnended stage.Ended = ⊥
-IsUnended other = Unit {0}
+abbrev pub IsPutUnended : PutStage → Type 0
+IsPutUnended stage.Ended = ⊥
+IsPutUnended other = Unit {0}
 
 pub record MayPut (core : Core) (p : FilePut) : Type 0 where
   pub putting : IsPutting core p
-  pub going : IsUnended p.stage
+  pub going : IsPutUnended p.stage
 
 -- it has ended exactly where a step says so
 abbrev pub PutHasEnded : PutStage → Progress → Type 0
 PutHasEnded s (progress.Ended result) = s ≡ stage.Ended
-PutHasEnded s other = IsUnended s
+PutHasEnded s other = IsPutUnended s
 
 abbrev pub put_is_over : PutStage → Bool
 put_is_over stage.Ended = true
@@ -140,7 +140,7 @@ put_begun window =
 pub record IsOpenToWrite (core : Core) (p : FilePut) : Type 0 where
   pub opened : IsSome (info_of core.phase)
   pub held : HoldsAll core p.holding
-  pub file : IsOpened p.holding.file
+  pub file : IsFileOpen p.holding.file
   pub unfailed : p.failure ≡ None
 
 -- the first WRITE, which carried so many bytes, was answered
@@ -171,18 +171,18 @@ IsPutStill core old after new = (after ≡ core) × (new ≡ old)
 
 -- the parts were given up and the file was closed, so that its status is awaited; where the copy failed before, it is
 -- kept why
-pub record LeavesFile (Why : Option Failure → Type 0) (core : Core) (h : HoldingValue) (old : FilePut) (after : Core)
+pub record LeavesPut (Why : Option Failure → Type 0) (core : Core) (h : HoldingValue) (old : FilePut) (after : Core)
     (new : FilePut) : Type 0 where
-  pub goes : LetsGo core h after new.holding
+  pub goes : LetsFileGo core h after new.holding
   pub stage : new.stage ≡ stage.Closing
   pub offset : new.offset ≡ old.offset
   pub failure : Why new.failure
 
 abbrev pub PutGivesUp : Core → HoldingValue → FilePut → Core → FilePut → Type 0
-PutGivesUp core h old after new = LeavesFile (λ why. IsSome why) core h old after new
+PutGivesUp core h old after new = LeavesPut (λ why. IsSome why) core h old after new
 
 abbrev pub PutFinishes : Core → HoldingValue → FilePut → Core → FilePut → Type 0
-PutFinishes core h old after new = LeavesFile (λ why. why ≡ None) core h old after new
+PutFinishes core h old after new = LeavesPut (λ why. why ≡ None) core h old after new
 
 -- a request of the file was asked, which the copy awaits at this stage; or it was refused, and the copy has ended
 abbrev pub AsksAt : Request → PutStage → Core → FilePut → Core → FilePut → Progress → Type 0
@@ -192,12 +192,16 @@ AsksAt asked to core old after new (progress.Ended (Err e)) = (after ≡ core)
     × (new ≡ record old { stage = stage.Ended })
 AsksAt asked to core old after new other = ⊥
 
--- the local file was opened, and then the OPEN of the part to write was asked
+-- the local file was opened, and then the OPEN of the part to write was asked; or one of them failed
 abbrev pub StartsPut : {H : Type 0} → (LocalAct → H → H) → List ℕ → List ℕ → Core → FilePut → Core → FilePut → H → H
     → Progress → Type 0
-StartsPut done name part core old after new before now result = ((now ≡ done (Opened name) before)
-    × AsksAt (open_request write_flags part) stage.Opening core old after new result)
-    ⊎ ((now ≡ done (Failed (Opened name)) before) × (after ≡ core) × (new ≡ record old { stage = stage.Ended }))
+StartsPut done name part core old after new before now progress.Moved = (now ≡ done (Opened name) before)
+    × AsksAt (open_request write_flags part) stage.Opening core old after new progress.Moved
+StartsPut done name part core old after new before now (progress.Ended (Err e)) = ((now ≡ done (Opened name) before)
+    ⊎ (now ≡ done (Failed (Opened name)) before))
+    × (after ≡ core)
+    × (new ≡ record old { stage = stage.Ended })
+StartsPut done name part core old after new before now other = ⊥
 
 -- the HANDLE came
 abbrev pub OpensPut : Core → FilePut → Core → FilePut → Progress → Type 0
@@ -205,7 +209,7 @@ OpensPut core old after new progress.Waits = SettlesFile core old.holding core o
     × IsPutStill core old after new
 OpensPut core old after new progress.Moved = SettlesFile core old.holding after new.holding file_answer.Granted
     × (new ≡ record old { stage = stage.Writing; holding = new.holding })
-OpensPut core old after new (progress.Ended (Err e)) = IsRefused core old.holding after new.holding
+OpensPut core old after new (progress.Ended (Err e)) = WasRefused core old.holding after new.holding
     × (new ≡ record old { stage = stage.Ended; holding = new.holding })
 OpensPut core old after new (progress.Ended (Ok len)) = ⊥
 
@@ -213,8 +217,9 @@ OpensPut core old after new (progress.Ended (Ok len)) = ⊥
 
 -- the status of the first WRITE: OK moves the offset
 abbrev pub AcceptsWrite : Reply → ℕ → Core → FilePut → Core → FilePut → Type 0
-AcceptsWrite r len core old after new = (SaysOk r × (after ≡ core) × (new ≡ record old { offset = old.offset + len }))
-    ⊎ ((SaysOk r → ⊥) × PutGivesUp core old.holding old after new)
+AcceptsWrite r len core old after new = (IsOkStatus r × (after ≡ core)
+    × (new ≡ record old { offset = old.offset + len }))
+    ⊎ ((IsOkStatus r → ⊥) × PutGivesUp core old.holding old after new)
 
 -- it came
 pub record PutsReply (core : Core) (old : FilePut) (after : Core) (new : FilePut) : Type 0 where
@@ -226,33 +231,35 @@ pub record PutsReply (core : Core) (old : FilePut) (after : Core) (new : FilePut
   pub accepts : AcceptsWrite r len mid (record old { holding = left }) after new
 
 -- the bytes that were got are written behind the others, in one WRITE; or it was refused
-abbrev pub WritesNext : List ℕ → Core → FilePut → Core → FilePut → Type 0
-WritesNext bytes core old after new = (AsksWrite core old.holding old.next bytes after new.holding
+abbrev pub PutWritesNext : List ℕ → Core → FilePut → Core → FilePut → Type 0
+PutWritesNext bytes core old after new = (AsksForWrite core old.holding old.next bytes after new.holding
     × (new ≡ record old { holding = new.holding; next = old.next + length bytes }))
     ⊎ PutGivesUp core old.holding old after new
 
 -- the next bytes were got, or none at the end, or the local file failed
-abbrev pub ReadsNext : {H : Type 0} → (LocalAct → H → H) → Core → FilePut → Core → FilePut → H → H → Type 0
-ReadsNext done core old after new before now = ((bytes : List ℕ) × (0 < length bytes) × (now ≡ done (Got bytes) before)
-    × WritesNext bytes core old after new)
+abbrev pub PutReadsNext : {H : Type 0} → (LocalAct → H → H) → Core → FilePut → Core → FilePut → H → H → Type 0
+PutReadsNext done core old after new before now = ((bytes : List ℕ) × (0 < length bytes)
+    × (now ≡ done (Got bytes) before)
+    × PutWritesNext bytes core old after new)
     ⊎ ((now ≡ done (Got []) before) × (after ≡ core) × (new ≡ record old { at_end = true }))
     ⊎ ((now ≡ done (Failed (Got [])) before) × PutGivesUp core old.holding old after new)
 
 -- the end was got and the server said OK to every WRITE
-pub record SentAll (core : Core) (old : FilePut) (after : Core) (new : FilePut) : Type 0 where
+pub record PutSentAll (core : Core) (old : FilePut) (after : Core) (new : FilePut) : Type 0 where
   pub at_end : old.at_end ≡ true
   pub none : old.holding.parts ≡ []
   pub finishes : PutFinishes core old.holding old after new
 
 -- where the first status is missing, and where no WRITE is under way
-abbrev pub SendsOn : {H : Type 0} → (LocalAct → H → H) → Core → FilePut → Core → FilePut → H → H → Progress → Type 0
-SendsOn done core old after new before now progress.Waits = (0 < length old.holding.parts)
+abbrev pub PutSendsOn : {H : Type 0} → (LocalAct → H → H) → Core → FilePut → Core → FilePut → H → H → Progress → Type 0
+PutSendsOn done core old after new before now progress.Waits = (0 < length old.holding.parts)
     × IsPutStill core old after new
     × (now ≡ before)
-SendsOn done core old after new before now progress.Moved = ((old.at_end ≡ false)
-    × ReadsNext done core old after new before now)
-    ⊎ ((now ≡ before) × (SentAll core old after new ⊎ PutGivesUp core old.holding old after new))
-SendsOn done core old after new before now (progress.Ended result) = ⊥
+PutSendsOn done core old after new before now progress.Moved =
+    ((old.at_end ≡ false) × (length old.holding.parts < old.window)
+    × PutReadsNext done core old after new before now)
+    ⊎ ((now ≡ before) × (PutSentAll core old after new ⊎ PutGivesUp core old.holding old after new))
+PutSendsOn done core old after new before now (progress.Ended result) = ⊥
 
 -- a WRITE was refused, or a fault is kept
 pub record PutsNoMore (core : Core) (old : FilePut) (after : Core) (new : FilePut) : Type 0 where
@@ -264,9 +271,9 @@ abbrev pub WritesOn : {H : Type 0} → (LocalAct → H → H) → Core → FileP
 WritesOn done core old after new before now progress.Waits =
     TakesPart core old.holding core old.holding part_answer.Missing × IsPutStill core old after new × (now ≡ before)
 WritesOn done core old after new before now progress.Moved =
-    ((old.at_end ≡ false) × ReadsNext done core old after new before now)
+    ((old.at_end ≡ false) × (length old.holding.parts < old.window) × PutReadsNext done core old after new before now)
     ⊎ ((now ≡ before)
-    × (PutsReply core old after new ⊎ SentAll core old after new ⊎ PutsNoMore core old after new))
+    × (PutsReply core old after new ⊎ PutSentAll core old after new ⊎ PutsNoMore core old after new))
 WritesOn done core old after new before now (progress.Ended result) = ⊥
 
 -- ---- the end
@@ -276,7 +283,7 @@ pub record AsksThen (asked : Request) (to : PutStage) (core : Core) (old : FileP
     (result : Progress) : Type 0 where
   pub mid : Core
   pub left : HoldingValue
-  pub ok : IsOk core old.holding mid left
+  pub ok : WasOk core old.holding mid left
   pub asks : AsksAt asked to mid (record old { holding = left }) after new result
 
 -- or it said something else, and then this was asked
@@ -284,7 +291,7 @@ pub record AsksInstead (asked : Request) (to : PutStage) (core : Core) (old : Fi
     (result : Progress) : Type 0 where
   pub mid : Core
   pub left : HoldingValue
-  pub not_ok : IsNotOk core old.holding mid left
+  pub not_ok : WasNotOk core old.holding mid left
   pub asks : AsksAt asked to mid (record old { holding = left }) after new result
 
 -- the stage at which such a rename is awaited
@@ -293,8 +300,8 @@ rename_stage true = stage.Replacing
 rename_stage false = stage.Renaming
 
 -- the reply is missing, or the copy has ended so
-abbrev pub Stays : Core → FilePut → Core → FilePut → Type 0
-Stays core old after new = SettlesFile core old.holding core old.holding file_answer.Missing
+abbrev pub PutWaits : Core → FilePut → Core → FilePut → Type 0
+PutWaits core old after new = SettlesFile core old.holding core old.holding file_answer.Missing
     × IsPutStill core old after new
 
 -- the file is closed: where nothing failed the rename of the part is asked, and else the first failure is told
@@ -307,7 +314,7 @@ IsClosedAt part remote core old after new result = ((old.failure ≡ None)
 -- Nothing failed and the server said OK to the CLOSE: the rename of the part is asked. Or not, and the first failure is
 -- told.
 abbrev pub EndsWriting : List ℕ → List ℕ → Core → FilePut → Core → FilePut → Progress → Type 0
-EndsWriting part remote core old after new progress.Waits = Stays core old after new
+EndsWriting part remote core old after new progress.Waits = PutWaits core old after new
 EndsWriting part remote core old after new progress.Moved = (old.failure ≡ None)
     × ((replaces : Bool) × AsksThen (rename_of part remote replaces) (rename_stage replaces) core old after new
     progress.Moved)
@@ -316,26 +323,26 @@ EndsWriting part remote core old after new (progress.Ended (Err e)) = ((first : 
 EndsWriting part remote core old after new (progress.Ended (Ok len)) = ⊥
 
 -- the last rename was OK, or not
-abbrev pub Named : Core → FilePut → Core → FilePut → Progress → Type 0
-Named core old after new progress.Waits = Stays core old after new
-Named core old after new progress.Moved = ⊥
-Named core old after new (progress.Ended (Ok len)) = IsOk core old.holding after new.holding × (len ≡ old.offset)
+abbrev pub PutNamed : Core → FilePut → Core → FilePut → Progress → Type 0
+PutNamed core old after new progress.Waits = PutWaits core old after new
+PutNamed core old after new progress.Moved = ⊥
+PutNamed core old after new (progress.Ended (Ok len)) = WasOk core old.holding after new.holding × (len ≡ old.offset)
     × (new.stage ≡ stage.Ended)
-Named core old after new (progress.Ended (Err e)) = IsNotOk core old.holding after new.holding
+PutNamed core old after new (progress.Ended (Err e)) = WasNotOk core old.holding after new.holding
     × (new.stage ≡ stage.Ended)
 
 -- a plain rename was OK, or the file that has the name is removed
 abbrev pub NamedOrRemoves : List ℕ → Core → FilePut → Core → FilePut → Progress → Type 0
-NamedOrRemoves remote core old after new progress.Waits = Stays core old after new
+NamedOrRemoves remote core old after new progress.Waits = PutWaits core old after new
 NamedOrRemoves remote core old after new progress.Moved =
     AsksInstead (request.Remove remote) stage.Removing core old after new progress.Moved
-NamedOrRemoves remote core old after new (progress.Ended (Ok len)) = IsOk core old.holding after new.holding
+NamedOrRemoves remote core old after new (progress.Ended (Ok len)) = WasOk core old.holding after new.holding
     × (len ≡ old.offset) × (new.stage ≡ stage.Ended)
 NamedOrRemoves remote core old after new (progress.Ended (Err e)) = new.stage ≡ stage.Ended
 
 -- it was removed, and the plain rename is asked once more
 abbrev pub Removes : List ℕ → List ℕ → Core → FilePut → Core → FilePut → Progress → Type 0
-Removes part remote core old after new progress.Waits = Stays core old after new
+Removes part remote core old after new progress.Waits = PutWaits core old after new
 Removes part remote core old after new progress.Moved =
     AsksThen (rename_of part remote false) stage.RenamingAgain core old after new progress.Moved
 Removes part remote core old after new (progress.Ended (Err e)) = new.stage ≡ stage.Ended
@@ -344,25 +351,28 @@ Removes part remote core old after new (progress.Ended (Ok len)) = ⊥
 -- ---- one step
 
 -- what a step did, by where the copy stood
-abbrev pub PutDid : {H : Type 0} → (LocalAct → H → H) → List ℕ → List ℕ → List ℕ → Core → FilePut → Core → FilePut → H
+abbrev pub PutStepDid : {H : Type 0} → (LocalAct → H → H) → List ℕ → List ℕ → List ℕ → Core → FilePut → Core → FilePut
+    → H
     → H → Progress → PutStage → Type 0
-PutDid done name part remote core old after new before now result stage.Starting =
+PutStepDid done name part remote core old after new before now result stage.Starting =
     StartsPut done name part core old after new before now result
-PutDid done name part remote core old after new before now result stage.Opening = OpensPut core old after new result
+PutStepDid done name part remote core old after new before now result stage.Opening = OpensPut core old after new result
     × (now ≡ before)
-PutDid done name part remote core old after new before now result stage.Writing =
+PutStepDid done name part remote core old after new before now result stage.Writing =
     WritesOn done core old after new before now result
-PutDid done name part remote core old after new before now result stage.Closing =
+PutStepDid done name part remote core old after new before now result stage.Closing =
     EndsWriting part remote core old after new result × (now ≡ before)
-PutDid done name part remote core old after new before now result stage.Replacing = Named core old after new result
+PutStepDid done name part remote core old after new before now result stage.Replacing =
+    PutNamed core old after new result
     × (now ≡ before)
-PutDid done name part remote core old after new before now result stage.Renaming =
+PutStepDid done name part remote core old after new before now result stage.Renaming =
     NamedOrRemoves remote core old after new result × (now ≡ before)
-PutDid done name part remote core old after new before now result stage.Removing =
+PutStepDid done name part remote core old after new before now result stage.Removing =
     Removes part remote core old after new result × (now ≡ before)
-PutDid done name part remote core old after new before now result stage.RenamingAgain = Named core old after new result
+PutStepDid done name part remote core old after new before now result stage.RenamingAgain =
+    PutNamed core old after new result
     × (now ≡ before)
-PutDid done name part remote core old after new before now result stage.Ended = ⊥
+PutStepDid done name part remote core old after new before now result stage.Ended = ⊥
 
 -- the copy goes on or has ended, and what others have of the core stays theirs
 pub record PutLeaves (core : Core) (old : FilePut) (after : Core) (new : FilePut) : Type 0 where

@@ -5,6 +5,6 @@ use Rattle.sftp_model.specs.declared.reply.Reply.{Reply}
 use Rattle.sftp_model.specs.declared.reply.Reply.TheVariants as reply
 
 -- it is OK
-abbrev pub SaysOk : Reply → Type 0
-SaysOk (reply.Status code message language) = code ≡ SSH_FX_OK
-SaysOk other = ⊥
+abbrev pub IsOkStatus : Reply → Type 0
+IsOkStatus (reply.Status code message language) = code ≡ SSH_FX_OK
+IsOkStatus other = ⊥

@@ -6,8 +6,8 @@ ghost use Rattle.sftp_model.specs.OpenOptions.{flags_of};
 ghost use Rattle.sftp_model.specs.Answers.{allows};
 ghost use Rattle.sftp_model.specs.declared.answers.Expected.TheVariants as expected;
 ghost use Rattle.transfer_states.specs.declared.get.GetStage.TheVariants as stage;
-ghost use Rattle.transfer_states.specs.Gets.{AsksNext, AsksOn, Ends, Finishes, GetDid, GetLeaves, GivesUp, GoesOn, HasEnded, IsBehind, IsGetting, IsOpenAt, IsReadingOn, KeepsPiece, MakesPart, MayGet, Opens, ReadsOn, Starts, WritesPiece, get_begun, is_over, read_flags};
-ghost use Rattle.transfer_states.specs.Holdings.{Spares, nothing_held};
+ghost use Rattle.transfer_states.specs.Gets.{AsksNext, GetAsksOn, GetEnds, GetFinishes, GetStepDid, GetLeaves, GetGivesUp, TakesReply, GetHasEnded, IsBehindRead, IsGetting, IsOpenAt, IsReadingOn, KeepsPiece, MakesPart, MayGet, GetOpens, GetReadsOn, GetStarts, WritesPiece, get_begun, get_is_over, read_flags};
+ghost use Rattle.transfer_states.specs.Holdings.{SparesPlaces, drops_file, drops_parts, nothing_held};
 
 use crate::failure::Failure;
 use crate::holding::{FileAnswer, Holding, PartAnswer};
@@ -87,7 +87,7 @@ impl FileGet {
 
     /// Whether it has ended. It can't be stepped then.
     pub fn is_ended(&self) -> bool
-        ensures { result ≡ is_over self.now.stage }
+        ensures { result ≡ get_is_over self.now.stage }
     {
         match self.stage {
             GetStage::Ended => true,
@@ -110,9 +110,9 @@ impl FileGet {
         name: &str,
     ) -> Progress
         requires { MayGet core.old self.old }
-        ensures did { GetDid F.done remote.now part.now name.now core.old self.old core.new self.new (F.history local.old) (F.history local.new) result self.old.stage }
+        ensures did { GetStepDid F.done remote.now part.now name.now core.old self.old core.new self.new (F.history local.old) (F.history local.new) result self.old.stage }
         ensures leaves { GetLeaves core.old self.old core.new self.new }
-        ensures ended { HasEnded self.new.stage result }
+        ensures ended { GetHasEnded self.new.stage result }
     {
         match self.stage {
             GetStage::Starting => self.start(core, remote),
@@ -127,7 +127,8 @@ impl FileGet {
     /// comes is closed.
     pub fn cancel(self, core: &mut Core)
         requires { IsGetting core.old self }
-        ensures { Spares self.holding nothing_held core.old core.new }
+        ensures core { core.new ≡ drops_file (drops_parts core.old self.holding.parts) self.holding.file }
+        ensures spares { SparesPlaces self.holding nothing_held core.old core.new }
     {
         let FileGet {
             holding,
@@ -144,9 +145,9 @@ impl FileGet {
     /// Asks for the file to be opened.
     fn start(&mut self, core: &mut Core, remote: &str) -> Progress
         requires { MayGet core.old self.old × (self.old.stage ≡ stage.Starting) }
-        ensures did { Starts remote.now core.old self.old core.new self.new result }
+        ensures did { GetStarts remote.now core.old self.old core.new self.new result }
         ensures leaves { GetLeaves core.old self.old core.new self.new }
-        ensures ended { HasEnded self.new.stage result }
+        ensures ended { GetHasEnded self.new.stage result }
     {
         let request = match open_request(core.alloc(), read_options(), remote) {
             Ok(request) => request,
@@ -170,9 +171,9 @@ impl FileGet {
     /// Goes on with the reply to the OPEN.
     fn open<F: LocalFile>(&mut self, core: &mut Core, local: &mut F, part: &str) -> Progress
         requires { MayGet core.old self.old × (self.old.stage ≡ stage.Opening) }
-        ensures did { Opens F.done part.now core.old self.old core.new self.new (F.history local.old) (F.history local.new) result }
+        ensures did { GetOpens F.done part.now core.old self.old core.new self.new (F.history local.old) (F.history local.new) result }
         ensures leaves { GetLeaves core.old self.old core.new self.new }
-        ensures ended { HasEnded self.new.stage result }
+        ensures ended { GetHasEnded self.new.stage result }
     {
         match self.holding.settle(core) {
             FileAnswer::Missing => Progress::Waits,
@@ -210,9 +211,9 @@ impl FileGet {
     /// Goes on with the reply to the first READ, or asks for more.
     fn read<F: LocalFile>(&mut self, core: &mut Core, local: &mut F) -> Progress
         requires { MayGet core.old self.old × (self.old.stage ≡ stage.Reading) }
-        ensures did { ReadsOn F.done core.old self.old core.new self.new (F.history local.old) (F.history local.new) result }
+        ensures did { GetReadsOn F.done core.old self.old core.new self.new (F.history local.old) (F.history local.new) result }
         ensures leaves { GetLeaves core.old self.old core.new self.new }
-        ensures ended { HasEnded self.new.stage result }
+        ensures ended { GetHasEnded self.new.stage result }
     {
         match self.holding.take_part(core) {
             PartAnswer::Came(reply, len) => self.go_on(core, local, reply, len),
@@ -230,9 +231,9 @@ impl FileGet {
         reply: Reply,
         len: u32,
     ) -> Progress
-        requires reads { IsBehind len core.old self.old }
+        requires reads { IsBehindRead len core.old self.old }
         requires allowed { allows (expected.Content len) reply ≡ true }
-        ensures did { GoesOn F.done reply len core.old self.old core.new self.new (F.history local.old) (F.history local.new) }
+        ensures did { TakesReply F.done reply len core.old self.old core.new self.new (F.history local.old) (F.history local.new) }
         ensures leaves { GetLeaves core.old self.old core.new self.new }
         ensures moved { result ≡ Progress.Moved }
     {
@@ -260,7 +261,7 @@ impl FileGet {
         bytes: &Bytes,
         len: u32,
     ) -> Progress
-        requires reads { IsBehind len core.old self.old }
+        requires reads { IsBehindRead len core.old self.old }
         requires few { length bytes.now ≤ len }
         ensures did { WritesPiece F.done bytes.now len core.old self.old core.new self.new (F.history local.old) (F.history local.new) }
         ensures leaves { GetLeaves core.old self.old core.new self.new }
@@ -277,7 +278,7 @@ impl FileGet {
 
     /// Counts the bytes of a piece that was written. Where it is shorter than its READ, the next one begins behind it.
     fn keep(&mut self, core: &mut Core, got: u32, len: u32)
-        requires reads { IsBehind len core.old self.old }
+        requires reads { IsBehindRead len core.old self.old }
         requires few { got ≤ len }
         ensures did { KeepsPiece got len core.old self.old core.new self.new }
         ensures leaves { GetLeaves core.old self.old core.new self.new }
@@ -296,9 +297,9 @@ impl FileGet {
     /// Asks for more behind the parts, where the window is not full.
     fn ask_more(&mut self, core: &mut Core) -> Progress
         requires { MayGet core.old self.old × (self.old.stage ≡ stage.Reading) }
-        ensures did { AsksOn core.old self.old core.new self.new result }
+        ensures did { GetAsksOn core.old self.old core.new self.new result }
         ensures leaves { GetLeaves core.old self.old core.new self.new }
-        ensures ended { HasEnded self.new.stage result }
+        ensures ended { GetHasEnded self.new.stage result }
     {
         let parts = self.holding.under_way();
         if parts < self.window as usize && self.next < u64::MAX {
@@ -317,6 +318,7 @@ impl FileGet {
     fn ask_next(&mut self, core: &mut Core) -> Progress
         requires reads { MayGet core.old self.old × (self.old.stage ≡ stage.Reading) }
         requires below { self.old.next < 2 ^ 64 - 1 }
+        requires few { length self.old.holding.parts < self.old.window }
         ensures did { AsksNext core.old self.old core.new self.new }
         ensures leaves { GetLeaves core.old self.old core.new self.new }
         ensures moved { result ≡ Progress.Moved }
@@ -339,7 +341,7 @@ impl FileGet {
     /// Closes the file, and awaits that.
     fn finish(&mut self, core: &mut Core) -> Progress
         requires { IsOpenAt core.old self.old }
-        ensures did { Finishes core.old self.old.holding self.old core.new self.new }
+        ensures did { GetFinishes core.old self.old.holding self.old core.new self.new }
         ensures leaves { GetLeaves core.old self.old core.new self.new }
         ensures moved { result ≡ Progress.Moved }
     {
@@ -351,7 +353,7 @@ impl FileGet {
     /// Closes the file, and awaits that: the copy has failed.
     fn fail(&mut self, core: &mut Core, e: Failure) -> Progress
         requires { IsOpenAt core.old self.old }
-        ensures did { GivesUp core.old self.old.holding self.old core.new self.new }
+        ensures did { GetGivesUp core.old self.old.holding self.old core.new self.new }
         ensures leaves { GetLeaves core.old self.old core.new self.new }
         ensures moved { result ≡ Progress.Moved }
     {
@@ -370,9 +372,9 @@ impl FileGet {
         name: &str,
     ) -> Progress
         requires { MayGet core.old self.old × (self.old.stage ≡ stage.Closing) }
-        ensures did { Ends F.done part.now name.now core.old self.old core.new self.new (F.history local.old) (F.history local.new) result }
+        ensures did { GetEnds F.done part.now name.now core.old self.old core.new self.new (F.history local.old) (F.history local.new) result }
         ensures leaves { GetLeaves core.old self.old core.new self.new }
-        ensures ended { HasEnded self.new.stage result }
+        ensures ended { GetHasEnded self.new.stage result }
     {
         let closed = match self.holding.settle(core) {
             FileAnswer::Missing => return Progress::Waits,

@@ -4,7 +4,7 @@ ghost use Rattle.sftp_model.specs.declared.answers.Expected.TheVariants as expec
 ghost use Rattle.sftp_core.specs.Core.{is_call};
 ghost use Rattle.sftp_core.specs.Info.{info_of};
 ghost use Rattle.transfer_states.specs.declared.holding.FileHold.TheVariants as hold;
-ghost use Rattle.transfer_states.specs.Holdings.{AsksFile, ClosesFile, DropsParts, HoldsAll, IsAsked, IsFileHeld, IsOnly, IsOpened, ArePartsHeld, AsksRead, AsksWrite, KeepsApart, LetsGo, SettlesFile, SettlesStatus, Spares, TakesPart, drops_file, drops_parts, nothing_held};
+ghost use Rattle.transfer_states.specs.Holdings.{AsksFile, ClosesFile, DropsParts, HoldsAll, IsFileAsked, IsFileHeld, IsOnly, IsFileOpen, ArePartsHeld, AsksForRead, AsksForWrite, KeepsApart, LetsFileGo, SettlesFile, SettlesStatus, SparesPlaces, TakesPart, drops_file, drops_parts, nothing_held};
 ghost use Rattle.transfer_states.specs.declared.holding.FileHold.{FileHold as FileValue};
 
 use crate::answers::{TicketAnswer, answer_to};
@@ -149,7 +149,7 @@ impl Holding {
 
     /// What came of the request of the file.
     pub(crate) fn settle(&mut self, core: &mut Core) -> FileAnswer
-        requires asked { IsAsked self.old.file }
+        requires asked { IsFileAsked self.old.file }
         requires held { HoldsAll core.old self.old }
         ensures settles { SettlesFile core.old self.old core.new self.new result }
         ensures apart { KeepsApart self.old self.new core.old core.new }
@@ -192,7 +192,7 @@ impl Holding {
 
     /// Closes the file: its CLOSE is queued, and its status is awaited. It takes no memory.
     pub(crate) fn close(&mut self, core: &mut Core)
-        requires opened { IsOpened self.old.file }
+        requires opened { IsFileOpen self.old.file }
         requires held { HoldsAll core.old self.old }
         ensures closes { ClosesFile core.old self.old core.new self.new }
         ensures apart { KeepsApart self.old self.new core.old core.new }
@@ -211,10 +211,10 @@ impl Holding {
 impl Holding {
     /// Asks for bytes of the file at an offset, behind the other parts. Refused, core and holding are as before.
     pub(crate) fn ask_read(&mut self, core: &mut Core, offset: u64, len: u32) -> Result<(), Failure>
-        requires file { IsOpened self.old.file }
+        requires file { IsFileOpen self.old.file }
         requires opened { IsSome (info_of core.old.phase) }
         requires held { HoldsAll core.old self.old }
-        ensures ok { OnOk result (AsksRead core.old self.old offset len core.new self.new × KeepsApart self.old self.new core.old core.new) }
+        ensures ok { OnOk result (AsksForRead core.old self.old offset len core.new self.new × KeepsApart self.old self.new core.old core.new) }
         ensures err { OnErr result ((core.new ≡ core.old) × (self.new ≡ self.old)) }
     {
         let FileHold::Opened(grant) = &self.file else {
@@ -248,11 +248,11 @@ impl Holding {
         offset: u64,
         bytes: &Bytes,
     ) -> Result<(), Failure>
-        requires file { IsOpened self.old.file }
+        requires file { IsFileOpen self.old.file }
         requires opened { IsSome (info_of core.old.phase) }
         requires held { HoldsAll core.old self.old }
         requires few { length bytes.now < 2 ^ 32 }
-        ensures ok { OnOk result (AsksWrite core.old self.old offset bytes.now core.new self.new × KeepsApart self.old self.new core.old core.new) }
+        ensures ok { OnOk result (AsksForWrite core.old self.old offset bytes.now core.new self.new × KeepsApart self.old self.new core.old core.new) }
         ensures err { OnErr result ((core.new ≡ core.old) × (self.new ≡ self.old)) }
     {
         let FileHold::Opened(grant) = &self.file else {
@@ -306,9 +306,9 @@ impl Holding {
 
     /// Gives up the parts that are under way, and closes the file.
     pub(crate) fn let_go(&mut self, core: &mut Core)
-        requires opened { IsOpened self.old.file }
+        requires opened { IsFileOpen self.old.file }
         requires held { HoldsAll core.old self.old }
-        ensures goes { LetsGo core.old self.old core.new self.new }
+        ensures goes { LetsFileGo core.old self.old core.new self.new }
         ensures apart { KeepsApart self.old self.new core.old core.new }
     {
         self.abandon_parts(core);
@@ -319,7 +319,7 @@ impl Holding {
     pub(crate) fn cancel(self, core: &mut Core)
         requires { HoldsAll core.old self }
         ensures core { core.new ≡ drops_file (drops_parts core.old self.parts) self.file }
-        ensures spares { Spares self nothing_held core.old core.new }
+        ensures spares { SparesPlaces self nothing_held core.old core.new }
     {
         let Holding { file, mut parts } = self;
         drop_parts(&mut parts, core);

@@ -35,7 +35,7 @@ pub trait LocalFile {
 
     ghost history: { Self → History };
 
-    /// Opens a file to read it from its start.
+    /// GetOpens a file to read it from its start.
     fn open(&mut self, name: &str) -> Result<(), LocalError>
         ensures { HasDone Self.done (tried result (Opened name.now) ∷ []) (Self.history self.old) (Self.history self.new) };
 

@@ -1,26 +1,24 @@
 //! A local file is written to a file of the server, step by step.
-ghost use Rattle.std.specs.Prelude.{◌≡◌, ◌≤◌, ◌<◌, ◌-◌, ◌^◌, Bool, true, length, IsSome};
-ghost use Rattle.sftp_core.specs.Core.{Core as CoreValue, is_call};
+ghost use Rattle.std.specs.Prelude.{◌≡◌, ◌≤◌, ◌<◌, ◌-◌, ◌^◌, length, IsSome};
+ghost use Rattle.sftp_core.specs.Core.{Core as CoreValue};
 ghost use Rattle.sftp_core.specs.Info.{info_of};
-ghost use Rattle.sftp_model.specs.Answers.{expected_of};
-ghost use Rattle.sftp_model.specs.declared.answers.Expected.TheVariants as expected;
 ghost use Rattle.sftp_model.specs.OpenOptions.{flags_of};
-ghost use Rattle.sftp_model.specs.declared.request.Request.TheVariants as request;
 ghost use Rattle.plan_model.specs.FilePlans.{open_request};
 ghost use Rattle.transfer_states.specs.declared.put.PutStage.TheVariants as stage;
-ghost use Rattle.transfer_states.specs.Holdings.{IsOnly, Spares, nothing_held};
-ghost use Rattle.transfer_states.specs.Puts.{AcceptsWrite, AsksAt, AwaitsStatus, EndsWriting, IsBehindWrite, IsBetween, IsClosedAt, IsOpenToWrite, IsPutting, MayPut, Named, NamedOrRemoves, OpensPut, PutDid, PutFinishes, PutGivesUp, PutHasEnded, PutLeaves, ReadsNext, Removes, SendsOn, StartsPut, WritesNext, WritesOn, put_begun, put_is_over, rename_of, rename_stage, write_flags};
+ghost use Rattle.transfer_states.specs.Holdings.{SparesPlaces, drops_file, drops_parts, nothing_held};
+ghost use Rattle.transfer_states.specs.Puts.{AcceptsWrite, AsksAt, IsBehindWrite, IsOpenToWrite, IsPutting, MayPut, OpensPut, PutStepDid, PutFinishes, PutGivesUp, PutHasEnded, PutLeaves, PutReadsNext, PutSendsOn, StartsPut, PutWritesNext, WritesOn, put_begun, put_is_over, write_flags};
+
+mod naming;
 
 use crate::failure::Failure;
-use crate::holding::{FileAnswer, Holding, PartAnswer, StatusAnswer};
+use crate::holding::{FileAnswer, Holding, PartAnswer};
 use crate::local::LocalFile;
-use crate::paths::{open_request, remove_request, rename_request};
+use crate::paths::open_request;
 use crate::progress::Progress;
 use crate::refusals::{faulted, refused, settled};
-use bitflags::Flags;
 use bytes::Bytes;
 use sftp_core::Core;
-use sftp_model::{Error, Extensions, IoKind, OpenOptions, Reply, Request};
+use sftp_model::{Error, IoKind, OpenOptions, Reply};
 use ssh_encoding::OutOfMemory;
 use std::alloc::Global;
 
@@ -67,14 +65,6 @@ fn write_options() -> OpenOptions
     let mut options = OpenOptions::new();
     options.write(true).create(true).truncate(true);
     options
-}
-
-/// Whether the server can put a file in the place of another one by a rename (OpenSSH's PROTOCOL, section 4.3).
-fn replaces(core: &Core) -> bool {
-    match core.info() {
-        Some(info) => info.extensions.contains(Extensions::POSIX_RENAME),
-        None => false,
-    }
 }
 
 impl FilePut {
@@ -126,7 +116,7 @@ impl FilePut {
         remote: &str,
     ) -> Progress
         requires { MayPut core.old self.old }
-        ensures did { PutDid F.done name.now part.now remote.now core.old self.old core.new self.new (F.history local.old) (F.history local.new) result self.old.stage }
+        ensures did { PutStepDid F.done name.now part.now remote.now core.old self.old core.new self.new (F.history local.old) (F.history local.new) result self.old.stage }
         ensures leaves { PutLeaves core.old self.old core.new self.new }
         ensures ended { PutHasEnded self.new.stage result }
     {
@@ -147,7 +137,8 @@ impl FilePut {
     /// comes is closed.
     pub fn cancel(self, core: &mut Core)
         requires { IsPutting core.old self }
-        ensures { Spares self.holding nothing_held core.old core.new }
+        ensures core { core.new ≡ drops_file (drops_parts core.old self.holding.parts) self.holding.file }
+        ensures spares { SparesPlaces self.holding nothing_held core.old core.new }
     {
         let FilePut {
             holding,
@@ -163,7 +154,7 @@ impl FilePut {
 }
 
 impl FilePut {
-    /// Opens the local file, and asks for the part to be opened.
+    /// GetOpens the local file, and asks for the part to be opened.
     fn start<F: LocalFile>(
         &mut self,
         core: &mut Core,
@@ -269,7 +260,7 @@ impl FilePut {
     /// Writes more where there is room; else the file is closed once all its bytes are written.
     fn send<F: LocalFile>(&mut self, core: &mut Core, local: &mut F) -> Progress
         requires { MayPut core.old self.old × (self.old.stage ≡ stage.Writing) }
-        ensures did { SendsOn F.done core.old self.old core.new self.new (F.history local.old) (F.history local.new) result }
+        ensures did { PutSendsOn F.done core.old self.old core.new self.new (F.history local.old) (F.history local.new) result }
         ensures leaves { PutLeaves core.old self.old core.new self.new }
         ensures ended { PutHasEnded self.new.stage result }
     {
@@ -296,7 +287,7 @@ impl FilePut {
     fn push<F: LocalFile>(&mut self, core: &mut Core, local: &mut F) -> Progress
         requires writes { MayPut core.old self.old × (self.old.stage ≡ stage.Writing) }
         requires below { self.old.next < 2 ^ 64 - 1 }
-        ensures did { ReadsNext F.done core.old self.old core.new self.new (F.history local.old) (F.history local.new) }
+        ensures did { PutReadsNext F.done core.old self.old core.new self.new (F.history local.old) (F.history local.new) }
         ensures leaves { PutLeaves core.old self.old core.new self.new }
         ensures moved { result ≡ Progress.Moved }
     {
@@ -319,10 +310,9 @@ impl FilePut {
     /// Writes a piece behind the others.
     fn push_piece(&mut self, core: &mut Core, bytes: &Bytes) -> Progress
         requires writes { MayPut core.old self.old × (self.old.stage ≡ stage.Writing) }
-        requires some { 0 < length bytes.now }
-        requires few { length bytes.now < 2 ^ 32 }
+        requires fits { (0 < length bytes.now) × (length bytes.now < 2 ^ 32) }
         requires small { length bytes.now ≤ 2 ^ 64 - 1 - self.old.next }
-        ensures did { WritesNext bytes.now core.old self.old core.new self.new }
+        ensures did { PutWritesNext bytes.now core.old self.old core.new self.new }
         ensures leaves { PutLeaves core.old self.old core.new self.new }
         ensures moved { result ≡ Progress.Moved }
     {
@@ -358,174 +348,5 @@ impl FilePut {
         self.stage = PutStage::Closing;
         self.failure = Some(e);
         Progress::Moved
-    }
-}
-
-impl FilePut {
-    /// Goes on with the status of the CLOSE.
-    fn close(&mut self, core: &mut Core, part: &str, remote: &str) -> Progress
-        requires { MayPut core.old self.old × (self.old.stage ≡ stage.Closing) }
-        ensures did { EndsWriting part.now remote.now core.old self.old core.new self.new result }
-        ensures leaves { PutLeaves core.old self.old core.new self.new }
-        ensures ended { PutHasEnded self.new.stage result }
-    {
-        match self.holding.settle_status(core) {
-            StatusAnswer::Missing => Progress::Waits,
-            StatusAnswer::Done => self.closed(core, part, remote),
-            StatusAnswer::NotDone(e) => {
-                self.stage = PutStage::Ended;
-                match self.failure.take() {
-                    Some(first) => Progress::Ended(Err(first)),
-                    None => Progress::Ended(Err(e)),
-                }
-            }
-        }
-    }
-
-    /// The file is closed: where nothing failed, the part is renamed.
-    fn closed(&mut self, core: &mut Core, part: &str, remote: &str) -> Progress
-        requires { IsBetween core.old self.old }
-        ensures did { IsClosedAt part.now remote.now core.old self.old core.new self.new result }
-        ensures leaves { PutLeaves core.old self.old core.new self.new }
-        ensures ended { PutHasEnded self.new.stage result }
-    {
-        match self.failure.take() {
-            Some(first) => {
-                self.stage = PutStage::Ended;
-                Progress::Ended(Err(first))
-            }
-            None => self.name(core, part, remote),
-        }
-    }
-
-    /// Asks for the part to be renamed, in the place of a file that has the name where the server can do that.
-    fn name(&mut self, core: &mut Core, part: &str, remote: &str) -> Progress
-        requires { IsBetween core.old self.old }
-        ensures did { (replaces : Bool) × AsksAt (rename_of part.now remote.now replaces) (rename_stage replaces) core.old self.old core.new self.new result }
-        ensures leaves { PutLeaves core.old self.old core.new self.new }
-        ensures ended { PutHasEnded self.new.stage result }
-    {
-        if replaces(core) {
-            return self.ask_rename(core, part, remote, true, PutStage::Replacing);
-        }
-        self.ask_rename(core, part, remote, false, PutStage::Renaming)
-    }
-
-    /// Asks for a rename, which is awaited at this stage.
-    fn ask_rename(
-        &mut self,
-        core: &mut Core,
-        part: &str,
-        remote: &str,
-        replaces: bool,
-        to: PutStage,
-    ) -> Progress
-        requires between { IsBetween core.old self.old }
-        requires stage { AwaitsStatus to }
-        ensures did { AsksAt (rename_of part.now remote.now replaces) to core.old self.old core.new self.new result }
-        ensures leaves { PutLeaves core.old self.old core.new self.new }
-        ensures ended { PutHasEnded self.new.stage result }
-    {
-        match rename_request(core.alloc(), part, remote, replaces) {
-            Ok(request) => self.ask(core, &request, to),
-            Err(OutOfMemory) => {
-                self.stage = PutStage::Ended;
-                Progress::Ended(Err(Failure::OutOfMemory))
-            }
-        }
-    }
-
-    /// Asks for something of the file that a status answers, which is awaited at this stage.
-    fn ask(&mut self, core: &mut Core, request: &Request, to: PutStage) -> Progress
-        requires between { IsBetween core.old self.old }
-        requires stage { AwaitsStatus to }
-        requires call { is_call request.now ≡ true }
-        requires status { expected_of request.now ≡ expected.Status }
-        ensures did { AsksAt request.now to core.old self.old core.new self.new result }
-        ensures leaves { PutLeaves core.old self.old core.new self.new }
-        ensures ended { PutHasEnded self.new.stage result }
-    {
-        match self.holding.ask(core, request) {
-            Ok(()) => {
-                self.stage = to;
-                Progress::Moved
-            }
-            Err(e) => {
-                self.stage = PutStage::Ended;
-                Progress::Ended(Err(e))
-            }
-        }
-    }
-
-    /// Goes on with the status of the last rename.
-    fn last(&mut self, core: &mut Core) -> Progress
-        requires { MayPut core.old self.old × IsOnly expected.Status self.old.holding }
-        ensures did { Named core.old self.old core.new self.new result }
-        ensures leaves { PutLeaves core.old self.old core.new self.new }
-        ensures ended { PutHasEnded self.new.stage result }
-    {
-        match self.holding.settle_status(core) {
-            StatusAnswer::Missing => Progress::Waits,
-            StatusAnswer::Done => {
-                self.stage = PutStage::Ended;
-                Progress::Ended(Ok(self.offset))
-            }
-            StatusAnswer::NotDone(e) => {
-                self.stage = PutStage::Ended;
-                Progress::Ended(Err(e))
-            }
-        }
-    }
-
-    /// Goes on with the status of a plain RENAME. Where it is not OK, the file that has the name is removed first.
-    fn rename(&mut self, core: &mut Core, remote: &str) -> Progress
-        requires { MayPut core.old self.old × (self.old.stage ≡ stage.Renaming) }
-        ensures did { NamedOrRemoves remote.now core.old self.old core.new self.new result }
-        ensures leaves { PutLeaves core.old self.old core.new self.new }
-        ensures ended { PutHasEnded self.new.stage result }
-    {
-        match self.holding.settle_status(core) {
-            StatusAnswer::Missing => Progress::Waits,
-            StatusAnswer::Done => {
-                self.stage = PutStage::Ended;
-                Progress::Ended(Ok(self.offset))
-            }
-            StatusAnswer::NotDone(_e) => self.ask_remove(core, remote),
-        }
-    }
-
-    /// Asks for the file that has the name to be removed.
-    fn ask_remove(&mut self, core: &mut Core, remote: &str) -> Progress
-        requires { IsBetween core.old self.old }
-        ensures did { AsksAt (request.Remove remote.now) stage.Removing core.old self.old core.new self.new result }
-        ensures leaves { PutLeaves core.old self.old core.new self.new }
-        ensures ended { PutHasEnded self.new.stage result }
-    {
-        match remove_request(core.alloc(), remote) {
-            Ok(request) => self.ask(core, &request, PutStage::Removing),
-            Err(OutOfMemory) => {
-                self.stage = PutStage::Ended;
-                Progress::Ended(Err(Failure::OutOfMemory))
-            }
-        }
-    }
-
-    /// Goes on with the status of the REMOVE.
-    fn remove(&mut self, core: &mut Core, part: &str, remote: &str) -> Progress
-        requires { MayPut core.old self.old × (self.old.stage ≡ stage.Removing) }
-        ensures did { Removes part.now remote.now core.old self.old core.new self.new result }
-        ensures leaves { PutLeaves core.old self.old core.new self.new }
-        ensures ended { PutHasEnded self.new.stage result }
-    {
-        match self.holding.settle_status(core) {
-            StatusAnswer::Missing => Progress::Waits,
-            StatusAnswer::Done => {
-                self.ask_rename(core, part, remote, false, PutStage::RenamingAgain)
-            }
-            StatusAnswer::NotDone(e) => {
-                self.stage = PutStage::Ended;
-                Progress::Ended(Err(e))
-            }
-        }
     }
 }

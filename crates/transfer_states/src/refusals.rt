@@ -2,7 +2,7 @@
 ghost use Rattle.std.specs.Prelude.{◌≡◌, true, OnOk, OnErr};
 ghost use Rattle.sftp_model.specs.Answers.{allows};
 ghost use Rattle.sftp_model.specs.declared.answers.Expected.TheVariants as expected;
-ghost use Rattle.transfer_states.specs.Refusals.{SaysOk};
+ghost use Rattle.transfer_states.specs.Refusals.{IsOkStatus};
 
 use crate::failure::Failure;
 use sftp_model::numbers::SSH_FX_OK;
@@ -37,8 +37,8 @@ pub(crate) fn refused(reply: Reply) -> Failure {
 
 /// What a status says. Ok exactly where it is OK.
 pub(crate) fn settled(reply: Reply) -> Result<(), Failure>
-    ensures ok { OnOk result (SaysOk reply) }
-    ensures err { OnErr result (SaysOk reply → ⊥) }
+    ensures ok { OnOk result (IsOkStatus reply) }
+    ensures err { OnErr result (IsOkStatus reply → ⊥) }
 {
     match reply {
         Reply::Status {

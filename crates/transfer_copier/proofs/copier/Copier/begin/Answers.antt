@@ -8,5 +8,5 @@ pub returns-clause-together : goal.returns-clause-together
 returns-clause-together g c core opened all =
     let now : c.push_back_reserved.new.self.items
     ≡ c.args.self.now.running ++ record { job = c.args.job; local = c.args.local; state = c.new-state.result } ∷ [] = search rules in
-    let is : c.new-state.result ≡ copy_begun c.args.job.way c.args.self.now.window = search rules in
-    together_begun core c.args.self.now.running _ c.args.job c.args.local c.new-state.result c.args.self.now.window is now opened all
+    let is : c.new-state.result ≡ copy_begun c.args.job.way c.args.window = search rules in
+    together_begun core c.args.self.now.running _ c.args.job c.args.local c.new-state.result c.args.window is now opened all
