@@ -2,3 +2,4 @@ pub mod Files
 pub mod Directories
 pub mod Tasks
 pub mod Sizes
+pub mod ExampleRows

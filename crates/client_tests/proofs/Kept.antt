@@ -1,5 +1,5 @@
 -- What a core keeps over a hand-out and a frame that comes.
-use Rattle.std.proofs.Common.{◌≡◌, ◌∙◌, ◌+◌, ◌<◌, arith, ap, subst, sym, Option, None, Some, Result, Ok, Err, IfOk, IfErr, OnOk, IsSome}
+use Rattle.std.proofs.Common.{◌≡◌, ◌∙◌, ◌+◌, ◌<◌, true, false, arith, ap, subst, sym, Option, None, Some, Result, Ok, Err, IfOk, IfErr, OnOk, IsSome}
 use Rattle.sftp_core.specs.Core.{Core, IsGrant, at, handed_out, released, retained, users_of}
 use Rattle.sftp_core.specs.Grant.{GrantValue}
 use Rattle.sftp_core.specs.declared.place.Place.{Place}
@@ -10,8 +10,19 @@ use Rattle.sftp_core.specs.declared.errors.TakeError.{TakeError}
 use Rattle.sftp_core.specs.declared.tokens.Taken.{Taken}
 use Rattle.sftp_model.specs.declared.frame_error.FrameError.{FrameError}
 use Rattle.call_state.specs.Keeping.{Keeps, KeepsGrants}
+use Rattle.bytes.specs.Filled.{Filled}
+use Rattle.call_state.specs.Calls.{CallValue, IsHeld, is_ended}
+use Rattle.call_state.specs.declared.poll.Poll.{Poll}
+use Rattle.sftp_file.specs.Copies.{CopyValue, copying}
+use Rattle.sftp_file.specs.Files.{FileValue, file_at}
+use Rattle.sftp_file.specs.Gathers.{ReadAllValue, ReadsAll, reading_all}
+use Rattle.sftp_file.specs.declared.gathering.ReadAllError.{ReadAllError}
+use Rattle.sftp_file.proofs.GatherLaws.{reads_held}
+use Rattle.sftp_whole.specs.WholeReads.{IsReadHeld}
+use Rattle.sftp_whole.specs.declared.fs_read.Whole.{Whole}
+use Rattle.sftp_whole.proofs.FsReadLaws.{read_still}
 use Rattle.sftp_file.proofs.Granting.{released_grant, retained_users}
-use Rattle.call_state.proofs.Keeping.{grant_kept, keeps_handed_out, keeps_refused, keeps_taken}
+use Rattle.call_state.proofs.Keeping.{grant_kept, keeps_handed_out, keeps_refused, keeps_taken, still_under_way}
 
 pub handed : (old new : Core) → new ≡ handed_out old → Keeps old new
 handed old new is = subst (λ (x : Core). Keeps old x) (sym is) (keeps_handed_out old)
@@ -31,3 +42,20 @@ shared_kept a b c d dir other here more same less k =
     let many : 1 < users_of (at (retained a dir) dir.id) = omega (arith, one, two) in
     let left : c ≡ released (retained a dir) dir = less ∙ (λ i. released (more i) (same i)) in
     grant_kept c d dir k (subst (λ (x : Core). IsGrant x dir) (sym left) (released_grant (retained a dir) dir many))
+
+-- ---- what is given up behind each step
+
+pub read_stays : (old new : Core) (p : Whole) → Keeps old new → IsReadHeld old p → IsReadHeld new p
+read_stays old new p k h = read_still old new p k h
+
+pub bytes_stay : (old new : Core) (call : CallValue ReadAllValue) → Keeps old new → is_ended call.stage ≡ false
+    → IsHeld reading_all old call → IsHeld reading_all new call
+bytes_stay old new call k on h = (still_under_way reading_all old new call k (record { over = on; held = h })).held
+
+pub bytes_held : (old new : Core) (p q : CallValue ReadAllValue) (before after : FileValue) (result : Poll (Result Filled ReadAllError))
+    → ReadsAll old new p q before after result → IsHeld reading_all new q × (q.machine.file ≡ file_at after)
+bytes_held old new p q before after result h = reads_held old new p q before after result h
+
+pub copy_stays : (old new : Core) (call : CallValue CopyValue) → Keeps old new → is_ended call.stage ≡ false
+    → IsHeld copying old call → IsHeld copying new call
+copy_stays old new call k on h = (still_under_way copying old new call k (record { over = on; held = h })).held

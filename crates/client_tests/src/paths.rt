@@ -8,6 +8,7 @@ ghost use Rattle.call_state.specs.Keeping.{Keeps};
 
 mod listing;
 mod names;
+mod reading;
 mod writing;
 
 use bytes::Bytes;
@@ -15,7 +16,7 @@ use call_state::{Alone, Call};
 use sftp_core::Core;
 use sftp_file::Poll;
 use sftp_fs::Fs;
-use sftp_model::{Error, Fault, IoKind, RemotePath, SftpOptions};
+use sftp_model::{Error, Fault, FormatKind, IoKind, RemotePath, SftpOptions};
 use std::alloc::Global;
 use std::process::Abort;
 use std::test::Fail;

@@ -9,6 +9,9 @@ ghost use Rattle.call_state.specs.Keeping.{Keeps};
 ghost use Rattle.sftp_file.specs.Files.{file_at};
 ghost use Rattle.sftp_file.specs.Settles.{settling};
 
+mod copies;
+mod read_all;
+
 use crate::buffered::opened;
 use crate::paths::{Seen, answer, error_seen, greeted, may_ask, poll_seen, sends, takes};
 use bytes::Bytes;

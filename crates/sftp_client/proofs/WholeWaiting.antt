@@ -4,24 +4,22 @@ use Rattle.std.specs.Prelude.{List, ◌++◌, Result, Ok, Err, IsSome, OnOk}
 use Rattle.bytes.specs.Filled.{Filled}
 use Rattle.sftp_model.specs.declared.error.Error.{Error}
 use Rattle.sftp_model.specs.declared.error.Error.TheVariants as error
-use Rattle.sftp_core.specs.Core.{Core}
+use Rattle.sftp_core.specs.Core.{Core, kept_of}
 use Rattle.sftp_core.specs.Info.{info_of}
 use Rattle.sftp_link.specs.Views.{LinkView}
 use Rattle.call_state.specs.Keeping.{Keeps, KeepsGrants}
 use Rattle.call_state.specs.declared.poll.Poll.{Poll}
 use Rattle.call_state.specs.declared.poll.Poll.TheVariants as poll
-use Rattle.call_state.proofs.Keeping.{still_under_way}
 use Rattle.call_state.specs.Calls.{CallValue, Cancels}
 use Rattle.call_state.specs.Machines.{Meaning}
 use Rattle.sftp_file.specs.Copies.{CopyValue, StandsAt, copying}
 use Rattle.sftp_file.specs.Files.{FileValue, IsMoved}
 use Rattle.sftp_file.specs.Gathers.{GivesBytes, ReadAllValue, reading_all}
 use Rattle.sftp_file.specs.declared.gathering.ReadAllError.{ReadAllError}
-use Rattle.sftp_fs.specs.Grants.{granting}
 use Rattle.sftp_whole.specs.WholeReads.{CancelsRead, FsReadValue, IsReadHeld, KeepsForOthers, ReadAnswer, is_over}
 use Rattle.sftp_whole.specs.declared.fs_read.Whole.{Whole}
 use Rattle.sftp_whole.specs.declared.fs_read.Whole.TheVariants as whole
-use Rattle.sftp_whole.proofs.TicketLaws.{keeps_reads}
+use Rattle.sftp_whole.proofs.FsReadLaws.{read_still}
 use Rattle.sftp_client.specs.Sessions.{SftpValue, with_core}
 use Rattle.sftp_client.specs.Waits.{HasFinished, HasWaited, RoundFails, SendsAndTakes}
 use Rattle.sftp_client.specs.WholeWaits.{
@@ -37,13 +35,6 @@ use Rattle.sftp_client.specs.WholeWaits.{
   ReadIn,
 }
 use Rattle.sftp_client.proofs.Waiting.{fail_stays, finished, round_stays, round_unfaulted, where_ok}
-
--- a read stays what it is over what keeps a core
-read_still : (old new : Core) (p : Whole) → Keeps old new → IsReadHeld old p → IsReadHeld new p
-read_still old new whole.Ended k h = tt
-read_still old new (whole.Opening call facts) k h = (still_under_way granting old new call k h.0, h.1)
-read_still old new (whole.Open grant reads tickets) k h =
-    (k.grants.grants grant.id grant.handle 1 h.0, keeps_reads old new reads.window.waiting tickets.items k h.1)
 
 -- what a poll leaves
 record ReadLeaves {L : Type 0} (old new : SftpValue L) (q : FsReadValue) : Type 0 where
@@ -92,7 +83,7 @@ reads_first state old p may = record { rounds = (refl, refl); may = may; unfault
 
 -- a round, or none
 pub reads_next : {L S : Type 0} (state : L → LinkView S) (count : ℕ) (old mid polled new : SftpValue L) (p m q : FsReadValue)
-    → ReadsOn state count old mid p m → ReadIn mid polled m q poll.Pending → MayRound state polled new (Ok tt)
+    → ReadsOn state count old mid p m → ReadIn mid polled m q poll.Pending → MayRound state (kept_of mid.core) polled new (Ok tt)
     → ReadsOn state (count + 1) old new p q
 reads_next state count old mid polled new p m q w waits (inl same) =
     let next : suc count ≡ count + 1 = omega arith in
@@ -100,9 +91,9 @@ reads_next state count old mid polled new p m q w waits (inl same) =
     let opened = pending_open mid polled m q w.may waits in
     subst (λ (n : ℕ). ReadsOn state n old new p q) next (record {
       rounds = (mid, (m, (w.rounds, record { mid = polled; reads = waits; round = inl same })));
-      may = subst (λ (x : SftpValue _). MayWaitRead x.core q) (sym same)
+      may = subst (λ (x : SftpValue _). MayWaitRead x.core q) (sym same.0)
           (record { opened = opened; over = pending_reads mid polled m q waits; held = left.held });
-      unfaulted = ap (λ (x : SftpValue _). (state x.link).faults) same ∙ (ap (λ l. (state l).faults) left.link ∙ w.unfaulted);
+      unfaulted = ap (λ (x : SftpValue _). (state x.link).faults) same.0 ∙ (ap (λ l. (state l).faults) left.link ∙ w.unfaulted);
     })
 reads_next state count old mid polled new p m q w waits (inr round) =
     let next : suc count ≡ count + 1 = omega arith in

@@ -7,3 +7,4 @@ pub mod Opening
 pub mod SessionRows
 pub mod Listed
 pub mod WholeWaits
+pub mod WaitRows

@@ -1,5 +1,5 @@
 -- How reads of so many bytes go on.
-use Rattle.std.proofs.Common.{◌≡◌, ◌∙◌, refl, sym, ap, subst, ℕ, List, [], Option, Some, Result, Ok, Err}
+use Rattle.std.proofs.Common.{◌≡◌, ◌∙◌, refl, sym, ap, subst, ℕ, Bool, true, false, List, [], Option, Some, Result, Ok, Err, if◌then◌else◌}
 use Rattle.sftp_model.specs.declared.error.Error.TheVariants as error
 use Rattle.sftp_model.specs.declared.error.IoKind.{IoKind}
 use Rattle.sftp_model.specs.declared.outcome.Outcome.TheVariants as outcome
@@ -14,10 +14,13 @@ use Rattle.call_state.specs.Asked.{request_of}
 use Rattle.sftp_core.specs.Core.{Core}
 use Rattle.call_state.specs.declared.stage.Stage.{Stage}
 use Rattle.call_state.specs.declared.stage.Stage.TheVariants.{Asked, Came, Ended, Ready, Unsent}
-use Rattle.call_state.specs.Calls.{IsHeldAt}
+use Rattle.call_state.specs.Calls.{CallValue, IsHeld, IsHeldAt, is_ended}
+use Rattle.call_state.specs.declared.poll.Poll.{Poll}
+use Rattle.bytes.specs.Filled.{Filled}
 use Rattle.call_state.specs.Machines.{GoesBehind}
-use Rattle.sftp_file.specs.Files.{Brought, FileValue, alone, one_slot}
-use Rattle.sftp_file.specs.Gathers.{IsNextRead, ReadAllValue, first_read, gathered, missing_from, next_len, next_read, read_all_left, reading_all, with_buffer}
+use Rattle.sftp_file.specs.Files.{Brought, FileValue, alone, file_at, one_slot}
+use Rattle.sftp_file.specs.declared.gathering.ReadAllError.{ReadAllError}
+use Rattle.sftp_file.specs.Gathers.{IsNextRead, ReadAllValue, ReadsAll, first_read, gathered, missing_from, next_len, next_read, read_all_left, reading_all, with_buffer}
 
 -- the move of the plan where the machine stands
 abbrev pub MovesAs : ReadAllValue → Answers → Move → Type 0
@@ -82,3 +85,15 @@ held_with core m bytes (Unsent asking) h =
     (record { call = h.0.call; short = h.0.short; expects = h.0.expects; cut = tt }, refl)
 held_with core m bytes (Asked ticket) h = h
 held_with core m bytes (Came told) h = record { allowed = h.allowed; formed = h.formed; counted = h.counted }
+
+-- a call stays one that may be polled on or given up, on the file where it stands
+pub reads_held : (old new : Core) (p q : CallValue ReadAllValue) (before after : FileValue) (result : Poll (Result Filled ReadAllError))
+    → ReadsAll old new p q before after result → IsHeld reading_all new q × (q.machine.file ≡ file_at after)
+reads_held old new p q before after result h =
+    subst (λ (x : CallValue ReadAllValue). IsHeld reading_all new x × (x.machine.file ≡ file_at after)) (sym h.left)
+    (by_end (is_ended h.last.stage))
+  where
+    by_end : (b : Bool) → IsHeld reading_all new (if b then record h.last { machine = with_buffer h.last.machine [] } else h.last)
+        × ((if b then record h.last { machine = with_buffer h.last.machine [] } else h.last).machine.file ≡ file_at after)
+    by_end true = (held_with new h.last.machine [] h.last.stage h.stepped.held, h.moved.stands)
+    by_end false = (h.stepped.held, h.moved.stands)

@@ -9,4 +9,4 @@ pub mod CopyLaws
 pub mod SliceLaws
 pub mod WriteLaws
 pub mod Steps
-mod GatherLaws
+pub mod GatherLaws

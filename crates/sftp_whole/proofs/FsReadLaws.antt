@@ -60,9 +60,9 @@ use Rattle.call_state.specs.declared.poll.Poll.TheVariants.{Pending, Ready}
 use Rattle.call_state.specs.declared.stage.Stage.{Stage}
 use Rattle.call_state.specs.Asked.{IsReady, Submitted}
 use Rattle.call_state.specs.Calls.{CallValue, IsOver, IsUnderWay, IsUnfinished, Polled, Stepped, Tells, cancelled, is_ended, polled_core}
-use Rattle.call_state.specs.Keeping.{KeepsGrants}
+use Rattle.call_state.specs.Keeping.{Keeps, KeepsGrants}
 use Rattle.call_state.proofs.Going.{unfinished_by}
-use Rattle.call_state.proofs.Keeping.{grants_both, polled_keeps_grants, submitted_holds, submitted_keeps}
+use Rattle.call_state.proofs.Keeping.{grants_both, still_under_way, polled_keeps_grants, submitted_holds, submitted_keeps}
 use Rattle.sftp_fs.specs.Directories.{WithHandle, granted_left}
 use Rattle.sftp_fs.specs.Grants.{granting}
 use Rattle.sftp_fs.specs.WholeWrites.{IsOwned, KeepsBesides, closed}
@@ -90,8 +90,9 @@ use Rattle.sftp_whole.specs.WholeReads.{
 }
 use Rattle.sftp_whole.specs.declared.fs_read.Whole.{Whole}
 use Rattle.sftp_whole.specs.declared.fs_read.Whole.TheVariants as whole
-use Rattle.sftp_whole.proofs.ReadsLaws.{moves_now, waits_none}
-use Rattle.sftp_whole.proofs.TicketLaws.{polled_last, read_more, read_tickets, without_keeps}
+use Rattle.sftp_whole.proofs.MoveLaws.{waits_none}
+use Rattle.sftp_whole.proofs.ReadsLaws.{moves_now}
+use Rattle.sftp_whole.proofs.TicketLaws.{keeps_reads, polled_last, read_more, read_tickets, without_keeps}
 
 abbrev Deque : Type 0
 Deque = VecDeque ℕ Global
@@ -408,3 +409,11 @@ drops_open core new grant reads tickets held close =
       core = close;
       grants = (dropped_besides core new grant tickets.items (read_tickets core reads.window.waiting tickets.items held.1) close).grants;
     }
+
+-- ---- others leave a read
+
+pub read_still : (old new : Core) (p : Whole) → Keeps old new → IsReadHeld old p → IsReadHeld new p
+read_still old new whole.Ended k h = tt
+read_still old new (whole.Opening call facts) k h = (still_under_way granting old new call k h.0, h.1)
+read_still old new (whole.Open grant reads tickets) k h =
+    (k.grants.grants grant.id grant.handle 1 h.0, keeps_reads old new reads.window.waiting tickets.items k h.1)

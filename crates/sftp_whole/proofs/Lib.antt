@@ -1,4 +1,5 @@
 pub mod ReadsLaws
+pub mod MoveLaws
 pub mod TicketLaws
 pub mod HearLaws
 pub mod FsReadLaws

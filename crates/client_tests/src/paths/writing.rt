@@ -116,3 +116,45 @@ fn a_write_behind_a_fault(rt: HostRuntime) -> Result<(), Fail> {
     assert_eq!(rt; failed, Seen::Failed(Fault::Ended));
     Ok(())
 }
+
+/// How many of these requests were answered by their replies, with a write under way behind each.
+fn steps_taken(
+    rt: &impl Abort,
+    core: &mut Core,
+    call: &mut FsWriteCall,
+    steps: &[(&'static [u8], &'static [u8])],
+) -> usize
+    requires { IsWriteHeld core.old call.old.stage }
+    ensures { IsWriteHeld core.new call.new.stage }
+{
+    let mut taken = 0;
+    for (frame, body) in steps {
+        if step(rt, core, call, frame, body) != Seen::Pending {
+            return taken;
+        }
+        taken = taken.saturating_add(1);
+    }
+    taken
+}
+
+/// Gives a write up behind so many of its requests: whether nothing is left of it but requests that are unanswered.
+fn is_given_up(
+    rt: &impl Abort,
+    alloc: Global,
+    steps: &[(&'static [u8], &'static [u8])],
+) -> Result<bool, Fail> {
+    let (mut core, mut call) = started(rt, alloc, b"hello")?;
+    let taken = steps_taken(rt, &mut core, &mut call, steps);
+    call.cancel(&mut core);
+    Ok(taken == steps.len() && core.kept() == core.unanswered())
+}
+
+#[test]
+fn a_write_is_given_up(rt: HostRuntime) -> Result<(), Fail> {
+    let steps = [(OPEN, HANDLE), (PARTS[0], WRITTEN), (PARTS[1], WRITTEN)];
+    assert!(rt; is_given_up(&rt, rt.alloc(), &steps[..0])?);
+    assert!(rt; is_given_up(&rt, rt.alloc(), &steps[..1])?);
+    assert!(rt; is_given_up(&rt, rt.alloc(), &steps[..2])?);
+    assert!(rt; is_given_up(&rt, rt.alloc(), &steps)?);
+    Ok(())
+}

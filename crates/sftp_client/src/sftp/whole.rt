@@ -131,7 +131,7 @@ impl<L: Link> Sftp<L> {
     /// A round, where so many ids are in use still: nothing was asked for then.
     fn round_where(&mut self, kept: u32) -> Result<(), Error>
         requires { (L.LinkState.state self.old.link).faults < 2 ^ 64 - 1 }
-        ensures { MayRound L.LinkState.state self.old self.new result }
+        ensures { MayRound L.LinkState.state kept self.old self.new result }
     {
         if self.core.kept() == kept {
             return self.round();

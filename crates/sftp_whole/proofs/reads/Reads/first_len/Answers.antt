@@ -3,7 +3,7 @@ use Rattle.sftp_model.specs.declared.slot.Site.{Site}
 use Rattle.call_state.specs.Calls.{IsUnfinished}
 use Rattle.plan_window.specs.Windows.{first_of, window_move}
 use Rattle.sftp_whole.specs.Reads.{ReadsValue}
-use Rattle.sftp_whole.proofs.ReadsLaws.{still_going}
+use Rattle.sftp_whole.proofs.MoveLaws.{still_going}
 use Rattle.sftp_whole.proofs.reads.Reads.first_len.Goals as goal
 
 pub returns-clause-going : goal.returns-clause-going

@@ -1,4 +1,4 @@
-use Rattle.sftp_whole.proofs.ReadsLaws.{reads_in_range}
+use Rattle.sftp_whole.proofs.MoveLaws.{reads_in_range}
 use Rattle.sftp_whole.proofs.reads.Reads.next_move.Goals as goal
 
 pub next_move-requires-clause-range : goal.next_move-requires-clause-range

@@ -2,7 +2,7 @@ use Rattle.std.proofs.Common.{rules}
 use Rattle.call_state.specs.Calls.{IsUnderWay}
 use Rattle.call_state.proofs.Keeping.{still_under_way}
 use Rattle.sftp_file.specs.Opens.{opening}
-use Rattle.client_tests.proofs.buffered.opened.Goals as goal
+use Rattle.client_tests.proofs.buffered.opened_as.Goals as goal
 
 pub poll-polled-requires : goal.poll-polled-requires
 poll-polled-requires c =
