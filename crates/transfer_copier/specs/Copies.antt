@@ -70,10 +70,12 @@ MayCancel core (state.Put p) = IsPutting core p
 abbrev pub CopyStepDid : {H : Type 0} → (LocalAct → H → H) → CopyJob → Core → CopyState → Core → CopyState → H → H
     → Progress → Type 0
 CopyStepDid done job core (state.Get g) after (state.Get k) before now result =
-    GetStepDid done (string_bytes job.from) (string_bytes job.part) (string_bytes job.to) core g after k before now result
+    GetStepDid done (string_bytes job.from) (string_bytes job.part) (string_bytes job.to) core g after k before now
+    result
     g.stage
 CopyStepDid done job core (state.Put p) after (state.Put q) before now result =
-    PutStepDid done (string_bytes job.from) (string_bytes job.part) (string_bytes job.to) core p after q before now result
+    PutStepDid done (string_bytes job.from) (string_bytes job.part) (string_bytes job.to) core p after q before now
+    result
     p.stage
 CopyStepDid done job core old after other before now result = ⊥
 
@@ -122,7 +124,8 @@ AreApartFrom h (r ∷ later) = AreDisjoint (holding_of r.state) h × AreApartFro
 -- Each copy may take a step, and no two have a number of the core in common.
 abbrev pub AreTogether : {F : Type 0} → Core → List (Running F) → Type 0
 AreTogether core [] = Unit {0}
-AreTogether core (r ∷ later) = MayStepCopy core r.state × AreApartFrom (holding_of r.state) later × AreTogether core later
+AreTogether core (r ∷ later) = MayStepCopy core r.state × AreApartFrom (holding_of r.state) later
+    × AreTogether core later
 
 -- it is no copy's
 abbrev pub IsOfNone : {F : Type 0} → ℕ → List (Running F) → Type 0
@@ -202,7 +205,8 @@ WorksOnce state done history old new = StepsCopies done history old new copier_s
 abbrev pub WorkedOn : {L S F H : Type 0} → (L → LinkView S) → (LocalAct → H → H) → (F → H) → ℕ → Working L F
     → Working L F → Type 0
 WorkedOn state done history zero old new = new ≡ old
-WorkedOn {L = L} {F = F} state done history (suc n) old new = (mid : Working L F) × WorkedOn state done history n old mid
+WorkedOn {L = L} {F = F} state done history (suc n) old new = (mid : Working L F)
+    × WorkedOn state done history n old mid
     × WorksOnce state done history mid new
 
 -- what one advance did

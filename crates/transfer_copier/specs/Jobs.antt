@@ -53,6 +53,10 @@ abbrev pub NotesJob : {F N : Type 0} → (JobNote F → N → N) → Option (Wan
 NotesJob noted (Some wanted) before after = after ≡ noted (Given wanted) before
 NotesJob noted None before after = after ≡ noted NoMore before
 
+-- what was noted as an outcome was told
+abbrev pub NotesOver : {F N : Type 0} → (JobNote F → N → N) → Copied F → N → N → Type 0
+NotesOver noted copied before after = after ≡ noted (Over copied) before
+
 -- a session, the copies over its core, whether there may be more jobs, and what was noted of them
 pub record Jobs (L F N : Type 0) : Type 0 where
   pub session : SftpValue L

@@ -1,7 +1,7 @@
 //! A list of files that are copied, so many at once.
-ghost use Rattle.std.specs.Prelude.{◌≡◌, max};
+ghost use Rattle.std.specs.Prelude.{max};
 ghost use Rattle.transfer_copier.specs.Copies.{AreTogether};
-ghost use Rattle.transfer_copier.specs.Jobs.{BeginsJob, CopiesAll, JobNote, JobTurned, JobsDone, NotesJob, Over, TellsNext, jobs_at};
+ghost use Rattle.transfer_copier.specs.Jobs.{BeginsJob, CopiesAll, JobNote, JobTurned, JobsDone, NotesJob, NotesOver, TellsNext, jobs_at};
 ghost use Rattle.transfer_copier.specs.Sessions.{IsGoing};
 
 use crate::copier::Copier;
@@ -39,7 +39,7 @@ pub trait CopyJobs {
 
     /// One of them was copied, or failed.
     fn tell(&mut self, copied: Copied<Self::File>)
-        ensures { Self.history self.new ≡ Self.noted (Over copied) (Self.history self.old) };
+        ensures { NotesOver Self.noted copied (Self.history self.old) (Self.history self.new) };
 }
 
 /// Whether a copy was begun.
