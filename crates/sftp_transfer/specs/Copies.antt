@@ -5,9 +5,9 @@ use Rattle.transfer_paths.specs.Cuts.{IsPartOf}
 use Rattle.sftp_client.specs.Sessions.{SftpValue}
 use Rattle.transfer_words.specs.declared.asked.Way.{Way}
 use Rattle.transfer_words.specs.declared.asked.Way.TheVariants.{Get, Put}
-use Rattle.transfer_file.specs.Gets.{GetDid, GetJob}
+use Rattle.transfer_file.specs.Gets.{GetDid}
 use Rattle.transfer_file.specs.Local.{LocalAct}
-use Rattle.transfer_file.specs.Puts.{PutDid, PutJob}
+use Rattle.transfer_file.specs.Puts.{PutDid}
 use Rattle.transfer_file.specs.Sessions.{IsGoing}
 
 -- a file went this way, by the name of its part

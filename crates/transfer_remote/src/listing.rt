@@ -4,7 +4,7 @@ ghost use Rattle.sftp_core.specs.Core.{IsGrant};
 ghost use Rattle.sftp_fs.specs.Directories.{OpensFrom, opening_dir};
 ghost use Rattle.sftp_fs.specs.Listings.{IsListing};
 ghost use Rattle.transfer_file.specs.Sessions.{IsGoing};
-ghost use Rattle.transfer_remote.specs.Listed.{GrowsBy, GrowsByGiven, HasGrown, IsListedTo, is_self, kind_of};
+ghost use Rattle.transfer_remote.specs.Listed.{AllTold, ClosedTold, FolderTold, GrowsBy, GrowsByGiven, MayGoOn, StepTold, is_self, kind_of};
 ghost use Rattle.transfer_remote.specs.Runs.{Runs};
 
 use crate::asks::{finish, plain_paths, ready};
@@ -91,7 +91,9 @@ fn list_step<L: Link>(
 ) -> Result<bool, Failure>
     requires going { IsGoing L.LinkState.state sftp.old }
     requires listing { IsListing sftp.old.core listing.old }
-    ensures { IsListedTo L.LinkState.state sftp.new listing.new walk.old walk.new }
+    ensures goes { MayGoOn L.LinkState.state (record { session = sftp.new; listing = listing.new }) }
+    ensures told { StepTold L.LinkState.state (record { session = sftp.old; listing = listing.old })
+        (record { session = sftp.new; listing = listing.new }) walk.old walk.new result }
 {
     match ready(sftp) {
         Ok(()) => {}
@@ -115,7 +117,9 @@ fn list_entries<L: Link>(
 ) -> Result<(), Failure>
     requires going { IsGoing L.LinkState.state sftp.old }
     requires listing { IsListing sftp.old.core listing.old }
-    ensures { IsListedTo L.LinkState.state sftp.new listing.new walk.old walk.new }
+    ensures goes { MayGoOn L.LinkState.state (record { session = sftp.new; listing = listing.new }) }
+    ensures told { AllTold L.LinkState.state (record { session = sftp.old; listing = listing.old })
+        (record { session = sftp.new; listing = listing.new }) walk.old walk.new result }
 {
     for _ in 0..u64::MAX {
         match list_step(alloc, sftp, listing, walk) {
@@ -142,6 +146,28 @@ fn open_folder<L: Link>(alloc: Global, sftp: &mut Sftp<L>, path: &[u8]) -> Resul
     }
 }
 
+/// Adds the entries of an open folder to a walk, up to their end, and closes the folder whatever came of it.
+fn list_closed<L: Link>(
+    alloc: Global,
+    sftp: &mut Sftp<L>,
+    dir: Dir,
+    walk: &mut Walk,
+) -> Result<(), Failure>
+    requires going { IsGoing L.LinkState.state sftp.old }
+    requires granted { IsGrant sftp.old.core dir }
+    ensures going { IsGoing L.LinkState.state sftp.new }
+    ensures told { ClosedTold L.LinkState.state dir sftp.old sftp.new walk.old walk.new result }
+{
+    let mut listing = dir.read_dir(alloc);
+    let listed = list_entries(alloc, sftp, &mut listing, walk);
+    let closing = listing.start_close(sftp.core());
+    let closed = await_call(sftp, closing);
+    match listed {
+        Ok(()) => closed,
+        Err(e) => Err(e),
+    }
+}
+
 /// Adds the entries of the walk's folder, as the server lists them, without the folder itself and the one above. After an
 /// error those are added that came before it. The folder is closed whatever came of it.
 pub fn list_remote<L: Link>(
@@ -151,20 +177,11 @@ pub fn list_remote<L: Link>(
 ) -> Result<(), Failure>
     requires { IsGoing L.LinkState.state sftp.old }
     ensures going { IsGoing L.LinkState.state sftp.new }
-    ensures grows { HasGrown walk.old walk.new }
+    ensures told { FolderTold L.LinkState.state sftp.old sftp.new walk.old walk.new result }
 {
     let path = walk.folder().source.as_slice();
-    let mut listing = match open_folder(alloc, sftp, path) {
-        Ok(dir) => dir.read_dir(alloc),
-        Err(e) => return Err(e),
-    };
-    let listed = list_entries(alloc, sftp, &mut listing, walk);
-    let closing = listing.start_close(sftp.core());
-    match await_call(sftp, closing) {
-        Ok(()) => listed,
-        Err(e) => match listed {
-            Ok(()) => Err(e),
-            Err(first) => Err(first),
-        },
+    match open_folder(alloc, sftp, path) {
+        Ok(dir) => list_closed(alloc, sftp, dir, walk),
+        Err(e) => Err(e),
     }
 }
