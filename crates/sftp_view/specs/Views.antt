@@ -69,8 +69,9 @@ pub record Views {Service : Type 0} (block capacity : ℕ) (ops : List ViewOp) (
 
 -- The report's events are those of a run so far after which the session is over, and the link's log shows it, where it
 -- tells one. The calls that were added are just those that the operations make by the outcomes of these calls, in their
--- order; and the answers, hits and misses are theirs. Where the replies are those of a file machine whose choices refuse
--- nothing, answers, hits and misses are what the files alone give, and what is left is what the files alone leave.
+-- order; and the answers, hits and misses are theirs. Where the replies are those of a file machine whose choices
+-- refuse nothing, answers, hits and misses are what the files alone give, and what is left is what the files alone
+-- leave.
 pub record IsViewReport (block capacity : ℕ) (ops : List ViewOp) (options : SftpOptions)
     (before after : Option (List Piece)) (r : ViewReport) : Type 0 where
   pub extensions : Extensions
@@ -83,7 +84,8 @@ pub record IsViewReport (block capacity : ℕ) (ops : List ViewOp) (options : Sf
   pub hits : r.hits ≡ (done_in block capacity ops past).value.kept.hits
   pub misses : r.misses ≡ (done_in block capacity ops past).value.kept.misses
   pub log : Told (Shows (greeting extensions) past) before after
-  pub plain : IsPlainThere block capacity (setting_of one_lane options extensions past).facts.write_len ops past r.answers
+  pub plain : IsPlainThere block capacity (setting_of one_lane options extensions past).facts.write_len ops past
+      r.answers
       r.hits r.misses
 
 -- a view of blocks of this length, of which it keeps so many, and none yet; its session has one lane without calls

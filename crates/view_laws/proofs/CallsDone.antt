@@ -1,41 +1,7 @@
 -- What each call on the first slot did over the file machine, once it is done: what `Did` says.
-use Rattle.std.proofs.Common.{
-  ◌≡◌,
-  ◌≤◌,
-  ◌<◌,
-  ◌==◌,
-  ◌+◌,
-  ◌-◌,
-  ◌^◌,
-  ℕ,
-  zero,
-  suc,
-  Bool,
-  true,
-  false,
-  not,
-  List,
-  [],
-  ◌∷◌,
-  length,
-  take,
-  drop,
-  Option,
-  Some,
-  None,
-  Ok,
-  Err,
-  if◌then◌else◌,
-  refl,
-  ap,
-  sym,
-  ◌∙◌,
-  subst,
-  arith,
-  inl,
-  inr,
-}
-use Rattle.std.specs.Prelude.{◌⊎◌, ◌&&◌, ◌||◌, max, min, nat_le}
+use Rattle.std.proofs.Common.{◌≡◌, ◌≤◌, ◌<◌, ◌+◌, ◌-◌, ℕ, Bool, true, false, not, List, [], ◌∷◌, length, take, drop,
+    Option, Some, None, Ok, Err, if◌then◌else◌, refl, ap, sym, ◌∙◌, subst, arith, inl, inr}
+use Rattle.std.specs.Prelude.{◌⊎◌, ◌&&◌, ◌||◌, min, nat_le}
 use Rattle.std.specs.List.{list_any}
 use Rattle.std.specs.Str.{bytes_eq}
 use Rattle.std.specs.declared.io.traits.SeekFrom.TheVariants as position
@@ -48,7 +14,6 @@ use Rattle.sftp_model.specs.Readings.{has_bit}
 use Rattle.sftp_model.specs.Slots.{fresh_site, has_grant, with_slot}
 use Rattle.sftp_model.specs.declared.config.ServerConfig.{ServerConfig}
 use Rattle.sftp_model.specs.declared.error.Error.TheVariants as error
-use Rattle.sftp_model.specs.declared.flags.OpenFlags.{OpenFlags}
 use Rattle.sftp_model.specs.declared.open_options.OpenOptions.{OpenOptions}
 use Rattle.sftp_model.specs.declared.outcome.Outcome.{Outcome}
 use Rattle.sftp_model.specs.declared.outcome.Outcome.TheVariants as outcome
@@ -58,16 +23,16 @@ use Rattle.sftp_model.specs.declared.request.Request.{Request}
 use Rattle.sftp_model.specs.declared.request.Request.TheVariants as request
 use Rattle.sftp_model.specs.declared.slot.Facts.{Facts}
 use Rattle.sftp_model.specs.declared.slot.FileAt.{FileAt}
-use Rattle.sftp_model.specs.declared.slot.Move.{Move}
-use Rattle.sftp_model.specs.declared.slot.Move.TheVariants.{Ask, Done}
+use Rattle.sftp_model.specs.declared.slot.Move.TheVariants.{Done}
 use Rattle.sftp_model.specs.declared.slot.Site.{Site}
 use Rattle.sftp_model.specs.declared.slot.Slot.TheVariants.{Empty, File}
 use Rattle.machine_model.proofs.NameLaws.{handles_tell}
 use Rattle.machine_model.proofs.LossLaws.{name_has}
 use Rattle.machine_model.proofs.PairLaws.{found_push_here, has_any}
 use Rattle.machine_model.specs.Components.{Name, components, is_long, parent_of}
-use Rattle.machine_model.specs.FileTree.{FileTree, after_loss, bytes_of, file_of, is_directory, names_file, node_at, opened_at, opens_file, size_of, with_bytes, with_file, with_handle, without_handle}
-use Rattle.machine_model.specs.HandleRequests.{Answer, after_close, after_open, after_read, capped, creates, grants, held_by, is_exclusive, refuses, truncates, where_new}
+use Rattle.machine_model.specs.FileTree.{FileTree, after_loss, bytes_of, file_of, is_directory, names_file, node_at,
+    opened_at, opens_file, size_of, with_bytes, with_file, with_handle, without_handle}
+use Rattle.machine_model.specs.HandleRequests.{Answer, after_close, after_open, after_read, capped, creates, grants, held_by, is_exclusive, refuses, truncates}
 use Rattle.machine_model.specs.TreeAnswers.{apply}
 use Rattle.machine_model.specs.declared.node.Node.{Node}
 use Rattle.machine_model.specs.declared.node.Node.TheVariants as node
@@ -82,15 +47,15 @@ use Rattle.plan_model.specs.declared.call.Call.TheVariants as call
 use Rattle.session_model.proofs.CallLaws.{has_place}
 use Rattle.session_model.specs.Calls.{given_up}
 use Rattle.session_model.specs.Grants.{is_granted}
-use Rattle.run_laws.specs.Steps.{AreServed, Choose, RefusesNone, Step, after, answer_to, asked_in}
-use Rattle.run_laws.proofs.MoveWords.{is_done, outcome_of, site_of, taken_is}
+use Rattle.run_laws.specs.Steps.{AreServed, Step, answer_to}
+use Rattle.run_laws.proofs.MoveWords.{outcome_of, site_of, taken_is}
 use Rattle.run_laws.proofs.OpenLaws.{step_opens}
 use Rattle.run_laws.proofs.WriteLaws.{answers_as}
-use Rattle.view_model.specs.Viewed.{Found, found_in}
+use Rattle.view_model.specs.Viewed.{found_in}
 use Rattle.view_laws.specs.FileCalls.{Did, FilesAt, OpensBy, OpensNode, Standing, at_rest, at_start, bare, standing}
 use Rattle.view_laws.proofs.BlockReads.{handles_apart}
 use Rattle.view_laws.proofs.PutTrees.{bare_node, by_names, made_here}
-use Rattle.view_laws.proofs.SlotCalls.{HoldsFile, HoldsSlot, IsAt, IsOne, file_at, held_as, site_with}
+use Rattle.view_laws.proofs.SlotCalls.{HoldsFile, HoldsSlot, IsAt, file_at, held_as, site_with}
 
 -- The call did what the files say, and left the lane so; each grant that it held, or asked for, the lane still holds.
 pub record HasDone (len : ℕ) (answers : Answers) (own : Own) (c : Call) (site left : Site) (now : FileTree) (before : FilesAt) (o : Outcome) : Type 0
@@ -153,13 +118,15 @@ open_alike tree handle flags name (Some (node.File file)) is = by_tests (creates
     })
     by_tests false false = inr (record { to = tree; file = file; x_is = refl; y_is = refl; named = is; handles = refl })
 open_alike tree handle flags name None is =
-    by_tests (not (creates flags)) (not (is_directory (node_at tree (parent_of name)))) (is_long name) (not (is_directory (node_at (bare tree) (parent_of name))))
+    by_tests (not (creates flags)) (not (is_directory (node_at tree (parent_of name)))) (is_long name)
+        (not (is_directory (node_at (bare tree) (parent_of name))))
     (ap (λ (x : Option Node). not (is_directory x)) (bare_node tree (parent_of name)))
   where
     by_tests : (a b c d : Bool) → d ≡ b → OpenAlike tree handle flags name
         (if a then refuses tree SSH_FX_NO_SUCH_FILE else if b then refuses tree SSH_FX_NO_SUCH_FILE else if c then refuses tree SSH_FX_FAILURE else
         grants (with_file tree name) handle (held_by flags (length tree.files)))
-        (if a then refuses (bare tree) SSH_FX_NO_SUCH_FILE else if d then refuses (bare tree) SSH_FX_NO_SUCH_FILE else if c then refuses (bare tree) SSH_FX_FAILURE else
+        (if a then refuses (bare tree) SSH_FX_NO_SUCH_FILE else if d then refuses (bare tree) SSH_FX_NO_SUCH_FILE else
+            if c then refuses (bare tree) SSH_FX_FAILURE else
         grants (with_file (bare tree) name) [] (held_by flags (length tree.files)))
     by_tests true b c d e = inl (record { code = SSH_FX_NO_SUCH_FILE; x_is = refl; y_is = refl })
     by_tests false true c true e = inl (record { code = SSH_FX_NO_SUCH_FILE; x_is = refl; y_is = refl })
@@ -245,14 +212,18 @@ module _ (len : ℕ) (config : ServerConfig) (answers : Answers) (facts : Facts)
           let free : opened_at w.to st.handle ≡ None = (λ i. opened_at (record w.to { handles = w.handles i }) st.handle) ∙ served.0.1 in
           let mine : opened_at now st.handle ≡ Some held =
           found_push_here bytes_eq w.to.handles st.handle held ((handles_tell st.handle st.handle).1 refl) free in
-          done_as len answers ((st.place, st.request) ∷ []) (call.OpenFile 0 options path) site left (with_slot site 0 (File (file_at st.place s))) (answer_to config tree st).1 before o outcome.Opened
+          done_as len answers ((st.place, st.request) ∷ []) (call.OpenFile 0 options path) site left
+              (with_slot site 0 (File (file_at st.place s))) (answer_to config tree st).1 before o outcome.Opened
           (subst (λ (a : Answer). opens 0 (flags_of options) site st.place a.0 ≡ Done o left) is taken.1)
-          (subst (λ (a : Answer). HasDone len answers ((st.place, st.request) ∷ []) (call.OpenFile 0 options path) site (with_slot site 0 (File (file_at st.place s))) a.1 before outcome.Opened) (sym is)
+          (subst (λ (a : Answer). HasDone len answers ((st.place, st.request) ∷ []) (call.OpenFile 0 options path) site
+              (with_slot site 0 (File (file_at st.place s))) a.1 before outcome.Opened) (sym is)
           (record {
             mid = standing w.to s;
-            did = subst (λ (a : Answer). OpensBy (flags_of options).0 (components path) before a (Ok []) (standing w.to s)) (sym (bare_is ∙ w.y_is))
-                (refl, subst (λ (n : Option Node). OpensNode (flags_of options).0 (bare w.to) n (standing w.to s))
-                (sym (handles_apart (bare w.to) [] held name ∙ (bare_node w.to name ∙ w.named))) refl);
+            did = subst (λ (a : Answer). OpensBy (flags_of options).0 (components path) before a (Ok []) (standing w.to s)) (sym (bare_is ∙ w.y_is)) (
+              refl,
+              subst (λ (n : Option Node). OpensNode (flags_of options).0 (bare w.to) n (standing w.to s))
+                  (sym (handles_apart (bare w.to) [] held name ∙ (bare_node w.to name ∙ w.named))) refl,
+            );
             handle = st.handle;
             at = record {
               tree_is = refl;
@@ -366,7 +337,8 @@ module _ (len : ℕ) (config : ServerConfig) (answers : Answers) (facts : Facts)
           done_as len answers ((st.place, st.request) ∷ []) (call.Read 0 n) site left (site_with (file_at h.grant s)) (answer_to config tree st).1
           (record { tree = t; slot = Some s }) o outcome.End
           (subst (λ (a : Answer). was_read 0 (file_at h.grant s) (site_with (file_at h.grant s)) a.0 ≡ Done o left) is taken.1)
-          (subst (λ (a : Answer). HasDone len answers ((st.place, st.request) ∷ []) (call.Read 0 n) site (site_with (file_at h.grant s)) a.1 (record { tree = t; slot = Some s }) outcome.End) (sym is)
+          (subst (λ (a : Answer). HasDone len answers ((st.place, st.request) ∷ []) (call.Read 0 n) site
+              (site_with (file_at h.grant s)) a.1 (record { tree = t; slot = Some s }) outcome.End) (sym is)
           (record {
             mid = standing t s;
             did = inl (record {
@@ -377,7 +349,8 @@ module _ (len : ℕ) (config : ServerConfig) (answers : Answers) (facts : Facts)
             });
             handle = handle;
             at = record { tree_is = ap bare tree_is; slot_is = moved tree tree site handle s s.offset h refl refl };
-            keeps = grant_stays (call.Read 0 n) ((st.place, st.request) ∷ []) site h.grant s.offset s refl h.site_is (no_grant (reply.Status SSH_FX_EOF [] []) came refl);
+            keeps = grant_stays (call.Read 0 n) ((st.place, st.request) ∷ []) site h.grant s.offset s refl h.site_is
+                (no_grant (reply.Status SSH_FX_EOF [] []) came refl);
             replied = one_reply st.place st.request (reply.Status SSH_FX_EOF [] []) came;
           }))
       by_test false e =
@@ -385,10 +358,13 @@ module _ (len : ℕ) (config : ServerConfig) (answers : Answers) (facts : Facts)
           let is : answer_to config tree st ≡ (let a : Answer = (reply.Content bytes, tree) in a) = ans ∙ rw e refl in
           let came : answers st.place ≡ Some (reply.Content bytes) = taken.0 ∙ ap (λ (a : Answer). Some a.0) is in
           let to : ℕ = s.offset + length bytes in
-          done_as len answers ((st.place, st.request) ∷ []) (call.Read 0 n) site left (site_with (file_at h.grant (record s { offset = to }))) (answer_to config tree st).1
+          done_as len answers ((st.place, st.request) ∷ []) (call.Read 0 n) site left
+              (site_with (file_at h.grant (record s { offset = to }))) (answer_to config tree st).1
           (record { tree = t; slot = Some s }) o (outcome.Bytes bytes)
           (subst (λ (a : Answer). was_read 0 (file_at h.grant s) (site_with (file_at h.grant s)) a.0 ≡ Done o left) is taken.1)
-          (subst (λ (a : Answer). HasDone len answers ((st.place, st.request) ∷ []) (call.Read 0 n) site (site_with (file_at h.grant (record s { offset = to }))) a.1 (record { tree = t; slot = Some s }) (outcome.Bytes bytes)) (sym is)
+          (subst (λ (a : Answer). HasDone len answers ((st.place, st.request) ∷ []) (call.Read 0 n) site
+              (site_with (file_at h.grant (record s { offset = to }))) a.1 (record { tree = t; slot = Some s })
+              (outcome.Bytes bytes)) (sym is)
           (record {
             mid = standing t (record s { offset = to });
             did = inr (record {
@@ -399,7 +375,8 @@ module _ (len : ℕ) (config : ServerConfig) (answers : Answers) (facts : Facts)
                   let c = capped_some st.choice.cap (min n facts.read_len) (omega (arith, one)) in
                   let a : length bytes ≡ min (capped st.choice.cap (min n facts.read_len)) (length (drop s.offset (bytes_of tree s.file))) =
                   length-take (capped st.choice.cap (min n facts.read_len)) (drop s.offset (bytes_of tree s.file)) in
-                  let b : length (drop s.offset (bytes_of tree s.file)) ≡ length (bytes_of tree s.file) - s.offset = length-drop s.offset (bytes_of tree s.file) in
+                  let b : length (drop s.offset (bytes_of tree s.file)) ≡ length (bytes_of tree s.file) - s.offset =
+                      length-drop s.offset (bytes_of tree s.file) in
                   let size : size_of tree s.file ≡ length (bytes_of tree s.file) = refl in
                   omega (arith, lt, c, a, b, size));
               most = (let c = capped_most st.choice.cap (min n facts.read_len) in
@@ -425,7 +402,7 @@ module _ (len : ℕ) (config : ServerConfig) (answers : Answers) (facts : Facts)
       let living : list_any (λ (pair : Name × Node). names_file file pair.1) tree.names ≡ true =
       has_any (names_file file) tree.names name (node.File file) (name_has tree name file is) (eq-eqb file file refl) in
       ap (λ (b : Bool). bare (if b || list_any (λ (pair : List ℕ × Opened). opens_file file pair.1) (without_handle tree handle).handles then
-          without_handle tree handle else with_bytes (without_handle tree handle) file [])) living
+      without_handle tree handle else with_bytes (without_handle tree handle) file [])) living
 
   pub close_done : (tree t : FileTree) (st : Step) (site left : Site) (handle : List ℕ) (s : Standing) (o : Outcome) → t ≡ bare tree
       → HoldsFile answers tree site handle s → st.request ≡ request.Close handle → AreServed config answers tree (st ∷ []) → st.choice.refuse ≡ SSH_FX_OK
@@ -442,7 +419,8 @@ module _ (len : ℕ) (config : ServerConfig) (answers : Answers) (facts : Facts)
       done_as len answers ((st.place, st.request) ∷ []) (call.Close 0) site left fresh_site (answer_to config tree st).1
       (record { tree = t; slot = Some s }) o outcome.Done
       (subst (λ (a : Answer). done_by fresh_site a.0 ≡ Done o left) ans taken.1)
-      (subst (λ (a : Answer). HasDone len answers ((st.place, st.request) ∷ []) (call.Close 0) site fresh_site a.1 (record { tree = t; slot = Some s }) outcome.Done) (sym ans)
+      (subst (λ (a : Answer). HasDone len answers ((st.place, st.request) ∷ []) (call.Close 0) site fresh_site a.1
+          (record { tree = t; slot = Some s }) outcome.Done) (sym ans)
       (record {
         mid = at_rest t;
         did = refl;

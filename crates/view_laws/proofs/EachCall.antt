@@ -1,21 +1,21 @@
 -- Each call on the first slot did what the files say, once it is done.
-use Rattle.std.proofs.Common.{◌≡◌, ◌≤◌, ◌<◌, ◌==◌, ◌+◌, ◌^◌, ℕ, Bool, true, false, List, [], ◌∷◌, length, Option, Some, None, refl, ap, sym, ◌∙◌, subst, arith, inl, inr}
+use Rattle.std.proofs.Common.{◌≡◌, ◌≤◌, ◌==◌, ◌+◌, ◌^◌, ℕ, true, false, List, [], ◌∷◌, length, Option, Some, None, refl, ap, sym, ◌∙◌, subst, arith}
 use Rattle.std.specs.Prelude.{min}
 use Rattle.std.proofs.lemmas.Bool.{ne_eqb}
 use Rattle.std.specs.declared.io.traits.SeekFrom.TheVariants as position
 use Rattle.sftp_model.specs.OpenOptions.{flags_of}
-use Rattle.sftp_model.specs.Slots.{fresh_site, has_grant}
+use Rattle.sftp_model.specs.Slots.{has_grant}
 use Rattle.sftp_model.specs.declared.config.ServerConfig.{ServerConfig}
 use Rattle.sftp_model.specs.declared.open_options.OpenOptions.{OpenOptions}
 use Rattle.sftp_model.specs.declared.outcome.Outcome.{Outcome}
 use Rattle.sftp_model.specs.declared.request.Request.TheVariants as request
 use Rattle.sftp_model.specs.declared.slot.Facts.{Facts}
-use Rattle.sftp_model.specs.declared.slot.Move.TheVariants.{Ask, Done}
+use Rattle.sftp_model.specs.declared.slot.Move.TheVariants.{Done}
 use Rattle.sftp_model.specs.declared.slot.Site.{Site}
 use Rattle.machine_model.specs.FileTree.{FileTree}
 use Rattle.plan_model.specs.CallPlans.{next}
 use Rattle.plan_model.specs.FilePlans.{open_request}
-use Rattle.plan_model.specs.Moves.{Answers, Own, ask_path}
+use Rattle.plan_model.specs.Moves.{Answers}
 use Rattle.plan_model.specs.TransferPlans.{read_first}
 use Rattle.plan_model.specs.declared.call.Call.{Call}
 use Rattle.plan_model.specs.declared.call.Call.TheVariants as call
@@ -48,7 +48,8 @@ module _ (config : ServerConfig) (answers : Answers) (facts : Facts) (handle : L
   open_ends options path tree (st ∷ st2 ∷ steps) site left at o is may asked served chosen done = absurd asked
 
   read_ends : (n : ℕ) (tree t : FileTree) (slot : Option Standing) (steps : List Step) (site left : Site) (o : Outcome)
-      → t ≡ bare tree → HoldsSlot answers tree site handle slot → MayRead slot n → IsOne (request.Read handle (offset_in slot) (min n facts.read_len)) (asked_in steps)
+      → t ≡ bare tree → HoldsSlot answers tree site handle slot → MayRead slot n
+          → IsOne (request.Read handle (offset_in slot) (min n facts.read_len)) (asked_in steps)
       → AreServed config answers tree steps → Choose RefusesNone steps → next (call.Read 0 n) site facts (asked_in steps) answers ≡ Done o left
       → EndsSo (call.Read 0 n) tree steps site left (record { tree = t; slot = slot }) o
   read_ends n tree t None steps site left o tree_is holds may asked served chosen done = absurd may
@@ -77,7 +78,8 @@ module _ (config : ServerConfig) (answers : Answers) (facts : Facts) (handle : L
   close_ends tree t (Some s) (st ∷ st2 ∷ steps) site left o tree_is holds may asked served chosen done = absurd asked
 
   write_ends : (bytes : List ℕ) (tree t : FileTree) (slot : Option Standing) (steps : List Step) (site left : Site) (o : Outcome)
-      → t ≡ bare tree → HoldsSlot answers tree site handle slot → MayWrite slot bytes → AsksSo facts answers (call.WriteAll 0 bytes) handle (offset_in slot) (asked_in steps)
+      → t ≡ bare tree → HoldsSlot answers tree site handle slot → MayWrite slot bytes
+          → AsksSo facts answers (call.WriteAll 0 bytes) handle (offset_in slot) (asked_in steps)
       → AreServed config answers tree steps → Choose RefusesNone steps → next (call.WriteAll 0 bytes) site facts (asked_in steps) answers ≡ Done o left
       → EndsSo (call.WriteAll 0 bytes) tree steps site left (record { tree = t; slot = slot }) o
   write_ends bytes tree t None steps site left o tree_is holds may asked served chosen done = absurd may
@@ -98,7 +100,9 @@ module _ (config : ServerConfig) (answers : Answers) (facts : Facts) (handle : L
           slot_is = subst (λ (y : Site). HoldsSlot answers now y handle (Some (record s { offset = w.to }))) (sym w.left_is)
               (moved facts.write_len config answers facts tree now site handle s w.to holds w.names w.handles);
         };
-        keeps = λ g granted x. subst (λ (y : Site). has_grant y g ≡ true) (sym w.left_is) (grant_stays facts.write_len config answers facts (call.WriteAll 0 bytes) (asked_in steps) site holds.grant w.to s refl holds.site_is w.ungranted g granted x);
+        keeps = λ g granted x. subst (λ (y : Site). has_grant y g ≡ true) (sym w.left_is)
+            (grant_stays facts.write_len config answers facts (call.WriteAll 0 bytes) (asked_in steps) site holds.grant
+            w.to s refl holds.site_is w.ungranted g granted x);
         replied = w.replied;
       }
 
@@ -113,7 +117,8 @@ module _ (config : ServerConfig) (answers : Answers) (facts : Facts) (handle : L
       (subst (λ (k : ℕ). next (call.OpenFile k options path) site facts (asked_in steps) answers ≡ Done o left) may.0 done))
   call_ends (call.Seek slot (position.Start n)) tree steps site left at o is may asked served chosen done =
       subst (λ (k : ℕ). EndsSo (call.Seek k (position.Start n)) tree steps site left at o) (sym may.0)
-      (by_slot at.slot may.1 is.slot_is steps asked (subst (λ (k : ℕ). next (call.Seek k (position.Start n)) site facts (asked_in steps) answers ≡ Done o left) may.0 done))
+      (by_slot at.slot may.1 is.slot_is steps asked (subst (λ (k : ℕ). next (call.Seek k (position.Start n)) site facts
+          (asked_in steps) answers ≡ Done o left) may.0 done))
     where
       by_slot : (slot : Option Standing) → Stands slot → HoldsSlot answers tree site handle slot → (steps : List Step) → asked_in steps ≡ []
           → next (call.Seek 0 (position.Start n)) site facts (asked_in steps) answers ≡ Done o left

@@ -1,39 +1,9 @@
 -- The calls of a journal of one lane that a file machine serves did as the files say.
-use Rattle.std.proofs.Common.{
-  ◌≡◌,
-  ◌≢◌,
-  ◌≤◌,
-  ◌<◌,
-  ◌==◌,
-  ◌+◌,
-  ℕ,
-  zero,
-  suc,
-  Bool,
-  true,
-  false,
-  List,
-  [],
-  ◌∷◌,
-  ◌++◌,
-  length,
-  take,
-  Option,
-  Some,
-  None,
-  if◌then◌else◌,
-  refl,
-  ap,
-  sym,
-  ◌∙◌,
-  subst,
-  arith,
-  inl,
-  inr,
-}
+use Rattle.std.proofs.Common.{◌≡◌, ◌≢◌, ◌≤◌, ◌+◌, ℕ, zero, suc, Bool, true, false, List, [], ◌∷◌, ◌++◌, length, take,
+    Option, Some, None, refl, ap, sym, ◌∙◌, subst, arith, inl, inr}
 use Rattle.std.specs.Prelude.{slice_get}
-use Rattle.std.proofs.lemmas.Bool.{eq-eqb, or_cases}
-use Rattle.std.proofs.lemmas.List.{append-nil, append_assoc, append_cancel_left, length-append, map-append, take-append-le, take_all}
+use Rattle.std.proofs.lemmas.Bool.{or_cases}
+use Rattle.std.proofs.lemmas.List.{append-nil, append_assoc, append_cancel_left, map-append, take-append-le, take_all}
 use Rattle.sftp_model.specs.Slots.{has_grant}
 use Rattle.sftp_model.specs.declared.config.ServerConfig.{ServerConfig}
 use Rattle.sftp_model.specs.declared.outcome.Outcome.{Outcome}
@@ -46,9 +16,9 @@ use Rattle.plan_model.specs.Moves.{Own}
 use Rattle.plan_model.specs.declared.call.Call.{Call}
 use Rattle.plan_model.specs.declared.call.Lane.{Lane}
 use Rattle.session_model.specs.Calls.{Setting, added, calls_of, current, given_up, held_by, held_site, lane_calls, move_at, move_of, site_of}
-use Rattle.session_model.specs.Grants.{closed, holds, is_asked_by, is_grant, is_held, is_one_of, is_unended_asker, orphan}
+use Rattle.session_model.specs.Grants.{holds, is_asked_by, is_grant, is_held, is_unended_asker}
 use Rattle.session_model.specs.Journals.{IsJournal, IsOver, MayCome}
-use Rattle.session_model.specs.Readings.{Asked, answer, asked, asked_at, ended, is_by, outcomes_of, own, unanswered, was_let_go}
+use Rattle.session_model.specs.Readings.{Asked, answer, ended, outcomes_of, own, was_let_go}
 use Rattle.session_model.specs.Served.{requests_of}
 use Rattle.session_model.specs.declared.entry.Entry.{Entry}
 use Rattle.session_model.specs.declared.entry.Entry.TheVariants as entry
@@ -71,25 +41,9 @@ use Rattle.view_laws.specs.FileCalls.{AllDid, Did, FilesAt, MayCall, at_rest, ba
 use Rattle.view_model.specs.Uncancelled.{IsUncancelled}
 use Rattle.view_laws.proofs.CallsDone.{HasDone}
 use Rattle.view_laws.proofs.EachCall.{call_ends}
-use Rattle.view_laws.proofs.JournalEnds.{Cut, calm, cut_steps, let_go_idle, requests_grow, uncancelled_before}
-use Rattle.view_laws.proofs.JournalSteps.{
-  AsksNow,
-  Expects,
-  Guard,
-  IsExpected,
-  Reached,
-  adds,
-  asks_limits,
-  at_first,
-  call_asks,
-  keeps_fault,
-  lane_zero,
-  lets_go,
-  one_there,
-  only_lane,
-  sends,
-  takes,
-}
+use Rattle.view_laws.proofs.JournalEnds.{calm, cut_steps, let_go_idle, requests_grow, uncancelled_before}
+use Rattle.view_laws.proofs.JournalSteps.{AsksNow, Expects, Guard, Reached, adds, asks_limits, at_first, call_asks,
+    keeps_fault, lane_zero, lets_go, one_there, only_lane, sends, takes}
 use Rattle.view_laws.proofs.SlotCalls.{AsksSo, IsAt, asks_none, offset_in}
 
 journal_of : (s : Setting) (more q : List Entry) → IsJournal s (more ++ q) → IsJournal s q
@@ -156,7 +110,8 @@ module _ (s : Setting) (config : ServerConfig) (first : FileTree) (steps : List 
       let mine : Own = own q 0 (ended q 0) in
       let later = requests_grow more q in
       let all : asked_in xs ++ asked_in rest ≡ asked_in xs ++ (mine ++ later.0) =
-      sym (map-append (λ (st : Step). (let p : ℕ × Request = (st.place, st.request) in p)) xs rest) ∙ (ap asked_in (sym split) ∙ (by.asks ∙ (ap requests_of (sym whole)
+      sym (map-append (λ (st : Step). (let p : ℕ × Request = (st.place, st.request) in p)) xs rest)
+          ∙ (ap asked_in (sym split) ∙ (by.asks ∙ (ap requests_of (sym whole)
       ∙ (later.1 ∙ (ap (λ (w : Own). w ++ later.0) (sym requests) ∙ append_assoc (asked_in xs) mine later.0))))) in
       let cut = cut_steps rest mine later.0 (append_cancel_left (asked_in xs) (asked_in rest) (mine ++ later.0) all) in
       let whole_split : steps ≡ xs ++ (cut.xs ++ cut.ys) = split ∙ ap (λ (w : List Step). xs ++ w) cut.split in
@@ -170,7 +125,8 @@ module _ (s : Setting) (config : ServerConfig) (first : FileTree) (steps : List 
         served = served_before config (answer q) (answer past) (after config first xs) cut.xs
             (λ place r e. subst (λ (w : List Entry). answer w place ≡ Some r) whole (answers_stay s more q (subst (IsJournal s) (sym whole) by.run) place r e))
             (served_first config (answer past) (after config first xs) cut.xs cut.ys from_here);
-        chosen = (chosen_parts RefusesNone cut.xs cut.ys (chosen_parts RefusesNone xs (cut.xs ++ cut.ys) (subst (Choose RefusesNone) whole_split by.chosen)).1).0;
+        chosen = (chosen_parts RefusesNone cut.xs cut.ys (chosen_parts RefusesNone xs (cut.xs ++ cut.ys)
+            (subst (Choose RefusesNone) whole_split by.chosen)).1).0;
       }
 
   call_ended : (q more : List Entry) (o : Outcome) (left : Site) (c : Call) (at : FilesAt) → more ++ q ≡ past
@@ -239,11 +195,13 @@ module _ (s : Setting) (config : ServerConfig) (first : FileTree) (steps : List 
         split = cs.split;
         requests = ap (λ (w : Own). asked_in (r.xs ++ cs.ys) ++ w) none_own
             ∙ (append-nil (asked_in (r.xs ++ cs.ys))
-            ∙ (map-append (λ (st : Step). (let p : ℕ × Request = (st.place, st.request) in p)) r.xs cs.ys ∙ (ap (λ (w : Own). asked_in r.xs ++ w) cs.asks ∙ r.requests)));
+            ∙ (map-append (λ (st : Step). (let p : ℕ × Request = (st.place, st.request) in p)) r.xs cs.ys
+                ∙ (ap (λ (w : Own). asked_in r.xs ++ w) cs.asks ∙ r.requests)));
         handle = d.handle;
         is = subst (λ (x : Site). IsAt (answer q) (after config first (r.xs ++ cs.ys)) x d.handle d.mid) (sym site_is)
             (subst (λ (t : FileTree). IsAt (answer q) t left d.handle d.mid) (sym (after_two config first r.xs cs.ys)) d.at);
-        asks = subst (λ (w : Own). AsksNow s (entry.Event (End 0 (ended q 0) o) ∷ q) d.handle (offset_in d.mid.slot) (current s (entry.Event (End 0 (ended q 0) o) ∷ q) 0) w) (sym none_own)
+        asks = subst (λ (w : Own). AsksNow s (entry.Event (End 0 (ended q 0) o) ∷ q) d.handle (offset_in d.mid.slot)
+            (current s (entry.Event (End 0 (ended q 0) o) ∷ q) 0) w) (sym none_own)
             (asks_at_start (current s (entry.Event (End 0 (ended q 0) o) ∷ q) 0) d.handle (was_let_go q 0) guard);
         dues = dues;
         idle = none_next s (entry.Event (End 0 (ended q 0) o) ∷ q) refl dues;
@@ -330,7 +288,8 @@ module _ (s : Setting) (config : ServerConfig) (first : FileTree) (steps : List 
           by_kind (entry.Event (Submit owner.Close id r)) j u whole =
               goes_on q (entry.Event (Submit owner.Close id r)) refl refl (λ at t. no_next at id r u j t) d
           by_kind (entry.Event Send) j u whole = goes_on q (entry.Event Send) refl refl (λ at t. sends s by.lanes config first steps q at t) d
-          by_kind (entry.Event (Take id r)) j u whole = goes_on q (entry.Event (Take id r)) refl refl (λ at t. takes s by.lanes config first steps q id r at j t) d
+          by_kind (entry.Event (Take id r)) j u whole = goes_on q (entry.Event (Take id r)) refl refl
+              (λ at t. takes s by.lanes config first steps q id r at j t) d
           by_kind (entry.Event (Cancel lane)) j u whole = absurd u
           by_kind (entry.Event (End lane call o)) j u whole =
               let e = ending s q lane call o j in
@@ -372,9 +331,13 @@ module _ (s : Setting) (config : ServerConfig) (first : FileTree) (steps : List 
     where
       left_is : was_let_go past 0 ≡ true → current s past 0 ≡ None → (at : FilesAt) → Then past at → at.slot ≡ None → at.tree ≡ bare (after config first steps)
       left_is gone idle at t none =
-          let r = subst (λ (x : Option Call). At past at x) idle (t (subst (λ (x : Option Call). Guard x (was_let_go past 0) at) (sym idle) (subst (λ (b : Bool). Guard None b at) (sym gone) none))) in
+          let r = subst (λ (x : Option Call). At past at x) idle (t
+              (subst (λ (x : Option Call). Guard x (was_let_go past 0) at) (sym idle)
+              (subst (λ (b : Bool). Guard None b at) (sym gone) none))) in
           let whole : asked_in r.xs ++ asked_in r.rest ≡ asked_in r.xs ++ [] =
-          sym (map-append (λ (st : Step). (let p : ℕ × Request = (st.place, st.request) in p)) r.xs r.rest) ∙ (ap asked_in (sym r.split) ∙ (by.asks ∙ (sym r.requests ∙ ap (λ (w : Own). asked_in r.xs ++ w) r.asks))) in
+          sym (map-append (λ (st : Step). (let p : ℕ × Request = (st.place, st.request) in p)) r.xs r.rest)
+              ∙ (ap asked_in (sym r.split) ∙ (by.asks ∙ (sym r.requests ∙ ap (λ (w : Own). asked_in r.xs ++ w) r.asks)))
+              in
           let nothing : r.rest ≡ [] = no_steps r.rest (append_cancel_left (asked_in r.xs) (asked_in r.rest) [] whole) in
           let same : steps ≡ r.xs = r.split ∙ (ap (λ (w : List Step). r.xs ++ w) nothing ∙ append-nil r.xs) in
           r.is.tree_is ∙ ap (λ (w : List Step). bare (after config first w)) (sym same)

@@ -1,85 +1,23 @@
 -- The calls of a journal of one lane that a file machine serves did as the files say.
-use Rattle.std.proofs.Common.{
-  ◌≡◌,
-  ◌≢◌,
-  ◌≤◌,
-  ◌<◌,
-  ◌==◌,
-  ◌+◌,
-  ℕ,
-  zero,
-  suc,
-  Bool,
-  true,
-  false,
-  List,
-  [],
-  ◌∷◌,
-  ◌++◌,
-  length,
-  take,
-  Option,
-  Some,
-  None,
-  is_none,
-  if◌then◌else◌,
-  refl,
-  ap,
-  sym,
-  ◌∙◌,
-  subst,
-  arith,
-  inl,
-  inr,
-}
-use Rattle.std.specs.Prelude.{map, slice_get}
-use Rattle.std.proofs.lemmas.Bool.{eq-eqb, or_cases}
+use Rattle.std.proofs.Common.{◌≡◌, ◌<◌, ◌+◌, ℕ, true, false, List, [], ◌∷◌, ◌++◌, Option, Some, None, is_none, refl, ap, sym, ◌∙◌, subst, arith, inl, inr}
 use Rattle.std.proofs.lemmas.Bool.Decides.{eqb_tells}
-use Rattle.std.proofs.lemmas.List.{append-nil, append_assoc, append_cancel_left, length-append, map-append, take-append-le, take_all}
-use Rattle.sftp_model.specs.Slots.{has_grant}
-use Rattle.sftp_model.specs.declared.config.ServerConfig.{ServerConfig}
-use Rattle.sftp_model.specs.declared.outcome.Outcome.{Outcome}
+use Rattle.std.proofs.lemmas.List.{append-nil, append_assoc}
 use Rattle.sftp_model.specs.declared.reply.Reply.{Reply}
 use Rattle.sftp_model.specs.declared.request.Request.{Request}
-use Rattle.sftp_model.specs.declared.slot.Move.TheVariants.{Done}
-use Rattle.sftp_model.specs.declared.slot.Site.{Site}
-use Rattle.machine_model.specs.FileTree.{FileTree}
-use Rattle.plan_model.specs.CallPlans.{next}
 use Rattle.plan_model.specs.Moves.{Own}
-use Rattle.plan_model.specs.declared.call.Call.{Call}
-use Rattle.plan_model.specs.declared.call.Lane.{Lane}
-use Rattle.session_model.specs.Calls.{Setting, added, calls_of, current, given_up, held_by, held_site, lane_calls, move_at, move_of, site_of}
-use Rattle.session_model.specs.Grants.{closed, holds, is_asked_by, is_grant, is_held, is_one_of, is_unended_asker, orphan}
-use Rattle.session_model.specs.Journals.{IsJournal, IsNext, IsOver, MayCome}
-use Rattle.session_model.specs.Readings.{Asked, answer, asked, asked_at, ended, is_by, last_cancel, outcomes_of, own, sent, unanswered, was_let_go}
+use Rattle.session_model.specs.Calls.{Setting, current}
+use Rattle.session_model.specs.Journals.{IsJournal}
+use Rattle.session_model.specs.Readings.{answer, asked, last_cancel, sent, unanswered, was_let_go}
 use Rattle.session_model.specs.Served.{counted, requests_of, requests_sent}
 use Rattle.session_model.specs.declared.entry.Entry.{Entry}
 use Rattle.session_model.specs.declared.entry.Entry.TheVariants as entry
-use Rattle.session_model.specs.declared.event.Event.TheVariants.{Cancel, End, Send, Submit, Take}
-use Rattle.session_model.specs.declared.event.Owner.{Owner}
-use Rattle.session_model.specs.declared.event.Owner.TheVariants as owner
-use Rattle.session_model.proofs.CallLaws.{asker_owns, end_own, end_site, ended_end, has_place, next_may}
-use Rattle.session_model.proofs.ClosedLaws.{lane_there}
+use Rattle.session_model.specs.declared.event.Event.TheVariants.{Cancel, End, Send, Submit}
 use Rattle.session_model.proofs.CountLaws.{count_none}
-use Rattle.session_model.proofs.GrantLaws.{any_passes, any_where}
 use Rattle.session_model.proofs.HolderLaws.{ending, may_of}
 use Rattle.session_model.proofs.RequestLaws.{sent_asked}
-use Rattle.session_laws.specs.Dues.{Dues}
-use Rattle.session_laws.proofs.DueLaws.{none_next}
-use Rattle.session_laws.proofs.EndLaws.{holds_ended}
-use Rattle.run_laws.specs.Steps.{AreServed, Choose, RefusesNone, Step, after, asked_in}
-use Rattle.run_laws.proofs.CutLaws.{chosen_parts}
-use Rattle.run_laws.proofs.JournalCalls.{answers_stay}
-use Rattle.run_laws.proofs.StepLaws.{after_two, served_before, served_first, served_rest}
+use Rattle.run_laws.specs.Steps.{Step, asked_in}
 use Rattle.run_laws.proofs.WholeRunSent.{answered_sent}
-use Rattle.view_model.specs.Viewed.{found_in}
-use Rattle.view_model.proofs.EndedLaws.{ended_within}
-use Rattle.view_laws.specs.FileCalls.{AllDid, Did, FilesAt, MayCall, at_rest, bare}
 use Rattle.view_model.specs.Uncancelled.{IsUncancelled}
-use Rattle.view_laws.proofs.CallsDone.{HasDone}
-use Rattle.view_laws.proofs.EachCall.{call_ends}
-use Rattle.view_laws.proofs.JournalSteps.{AsksNow, Expects, Guard, IsExpected, Reached, adds, asks_limits, at_first, call_asks, keeps_fault, lane_zero, lets_go, one_there, only_lane, sends, takes}
-use Rattle.view_laws.proofs.SlotCalls.{AsksSo, asks_none, offset_in}
 
 -- ---- requests
 

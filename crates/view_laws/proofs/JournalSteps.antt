@@ -1,36 +1,7 @@
 -- Where the files stand behind each entry of a journal of one lane, whose calls go on the first slot.
-use Rattle.std.proofs.Common.{
-  ◌≡◌,
-  ◌≢◌,
-  ◌≤◌,
-  ◌<◌,
-  ◌==◌,
-  ◌+◌,
-  ℕ,
-  zero,
-  suc,
-  Bool,
-  true,
-  false,
-  List,
-  [],
-  ◌∷◌,
-  ◌++◌,
-  length,
-  Option,
-  Some,
-  None,
-  if◌then◌else◌,
-  refl,
-  ap,
-  sym,
-  ◌∙◌,
-  subst,
-  arith,
-  inl,
-  inr,
-}
-use Rattle.std.specs.Prelude.{◌⊎◌, ◌||◌, slice_get}
+use Rattle.std.proofs.Common.{◌≡◌, ◌<◌, ℕ, Bool, true, false, List, [], ◌∷◌, ◌++◌, length, Option, Some, None,
+    if◌then◌else◌, refl, ap, sym, ◌∙◌, subst, arith, inl, inr}
+use Rattle.std.specs.Prelude.{◌⊎◌}
 use Rattle.std.proofs.lemmas.Bool.{eq-eqb, or_cases, or_right}
 use Rattle.std.proofs.lemmas.Bool.Decides.{eqb_tells}
 use Rattle.std.proofs.lemmas.List.{append-nil, append_assoc}
@@ -42,17 +13,16 @@ use Rattle.sftp_model.specs.declared.reply.Reply.{Reply}
 use Rattle.sftp_model.specs.declared.reply.Reply.TheVariants as reply
 use Rattle.sftp_model.specs.declared.request.Request.{Request}
 use Rattle.sftp_model.specs.declared.request.Request.TheVariants as request
-use Rattle.sftp_model.specs.declared.slot.Facts.{Facts}
 use Rattle.sftp_model.specs.declared.slot.Move.TheVariants.{Ask}
 use Rattle.sftp_model.specs.declared.slot.Site.{Site}
 use Rattle.machine_model.specs.FileTree.{FileTree}
 use Rattle.plan_model.specs.CallPlans.{next}
-use Rattle.plan_model.specs.Moves.{Answers, Own}
+use Rattle.plan_model.specs.Moves.{Own}
 use Rattle.plan_model.specs.OwnRequests.{Extends}
 use Rattle.plan_model.specs.declared.call.Call.{Call}
 use Rattle.plan_model.specs.declared.call.Lane.{Lane}
 use Rattle.session_model.specs.Calls.{Setting, current, held_by, held_site, move_at, move_of, site_of}
-use Rattle.session_model.specs.Grants.{closed, first_let_go, holds, is_asked_by, is_grant, is_held, is_one_of, is_unended_asker, orphan}
+use Rattle.session_model.specs.Grants.{closed, first_let_go, holds, is_asked_by, is_held, is_unended_asker, orphan}
 use Rattle.session_model.specs.Journals.{IsJournal, MayReply, MayTake}
 use Rattle.session_model.specs.Readings.{Asked, answer, asked, asked_at, bearer, ended, is_at, is_by, own, was_let_go}
 use Rattle.session_model.specs.Served.{requests_of}
@@ -64,7 +34,7 @@ use Rattle.session_model.proofs.CallLaws.{asker_owns, has_place, next_submit, ne
 use Rattle.session_model.proofs.ClosedLaws.{lane_there}
 use Rattle.session_model.proofs.GrantLaws.{any_passes, any_where}
 use Rattle.session_model.proofs.LetGoLaws.{granted_below}
-use Rattle.session_model.proofs.RequestLaws.{answer_stays, asked_new, asked_other}
+use Rattle.session_model.proofs.RequestLaws.{answer_stays}
 use Rattle.session_laws.specs.Dues.{Dues}
 use Rattle.session_laws.specs.Running.{own_request}
 use Rattle.session_laws.proofs.AskLaws.{ask_dues}
@@ -74,7 +44,7 @@ use Rattle.session_laws.proofs.StartLaws.{begins_unbegun, start_dues}
 use Rattle.session_laws.proofs.TakeDues.{take_held}
 use Rattle.run_laws.specs.Steps.{Step, after, asked_in}
 use Rattle.run_laws.proofs.LaneCalls.{call_stays}
-use Rattle.view_laws.specs.FileCalls.{FilesAt, MayCall, Standing, at_rest, bare}
+use Rattle.view_laws.specs.FileCalls.{FilesAt, MayCall, Standing, at_rest}
 use Rattle.view_laws.proofs.SlotCalls.{AsksSo, HoldsSlot, IsAt, asks_more, asks_none, asks_stay, at_stays, offset_in}
 
 -- a lane without calls but those that are added
@@ -151,10 +121,13 @@ module _ (s : Setting) (one : s.lanes ≡ only_lane) (config : ServerConfig) (fi
   called q r asks = by_call (current s q 0) refl
     where
       by_call : (c : Option Call) → current s q 0 ≡ c → (c : Call) × (current s q 0 ≡ Some c)
-      by_call None is = absurd (let none : None ≡ Some (Ask r) = ap (λ (c : Option Call). move_at c (site_of s q 0) s.facts (own q 0 (ended q 0)) (answer q)) (sym is) ∙ asks in cc)
+      by_call None is = absurd (let none : None ≡ Some (Ask r) =
+          ap (λ (c : Option Call). move_at c (site_of s q 0) s.facts (own q 0 (ended q 0)) (answer q)) (sym is) ∙ asks
+          in cc)
       by_call (Some c) is = (c, is)
 
-  asked_call : (q : List Entry) (id : ℕ) (r : Request) (at : FilesAt) (c : Call) → IsJournal s (own_request q 0 id r ∷ q) → current s q 0 ≡ Some c → MayCall at c
+  asked_call : (q : List Entry) (id : ℕ) (r : Request) (at : FilesAt) (c : Call)
+      → IsJournal s (own_request q 0 id r ∷ q) → current s q 0 ≡ Some c → MayCall at c
       → At q at (Some c) → At (own_request q 0 id r ∷ q) at (Some c)
   asked_call q id r at c j is may h =
       let now : List Entry = own_request q 0 id r ∷ q in
@@ -167,7 +140,9 @@ module _ (s : Setting) (one : s.lanes ≡ only_lane) (config : ServerConfig) (fi
         xs = h.xs;
         rest = h.rest;
         split = h.split;
-        requests = ap (λ (o : Own). asked_in h.xs ++ o) grown ∙ (sym (append_assoc (asked_in h.xs) (own q 0 (ended q 0)) ((asked q, r) ∷ [])) ∙ ap (λ (o : Own). o ++ (asked q, r) ∷ []) h.requests);
+        requests = ap (λ (o : Own). asked_in h.xs ++ o) grown ∙ (sym
+            (append_assoc (asked_in h.xs) (own q 0 (ended q 0)) ((asked q, r) ∷ []))
+            ∙ ap (λ (o : Own). o ++ (asked q, r) ∷ []) h.requests);
         handle = h.handle;
         is = h.is;
         asks = subst (λ (o : Own). AsksSo s.facts (answer q) c h.handle (offset_in at.slot) o) (sym grown)
@@ -193,7 +168,9 @@ module _ (s : Setting) (one : s.lanes ≡ only_lane) (config : ServerConfig) (fi
       by_call zero_is num guard
     where
       no_move : current s q lane ≡ None → move_of s q lane ≡ Some (Ask r) → ⊥
-      no_move none asks = (let still : None ≡ Some (Ask r) = ap (λ (c : Option Call). move_at c (site_of s q lane) s.facts (own q lane (ended q lane)) (answer q)) (sym none) ∙ asks in cc)
+      no_move none asks = (let still : None ≡ Some (Ask r) = ap
+          (λ (c : Option Call). move_at c (site_of s q lane) s.facts (own q lane (ended q lane)) (answer q)) (sym none)
+          ∙ asks in cc)
 
       by_call : lane ≡ 0 → call ≡ ended q 0 → Guard (current s q 0) (was_let_go q 0) at
           → Reached s config first steps (entry.Event (Submit (owner.Call lane call) id r) ∷ q) at (current s q 0)
@@ -285,7 +262,8 @@ module _ (s : Setting) (one : s.lanes ≡ only_lane) (config : ServerConfig) (fi
 
   -- ---- a reply
 
-  pub takes : (q : List Entry) (id : ℕ) (r : Reply) (at : FilesAt) → IsJournal s (entry.Event (Take id r) ∷ q) → Then q at → Then (entry.Event (Take id r) ∷ q) at
+  pub takes : (q : List Entry) (id : ℕ) (r : Reply) (at : FilesAt) → IsJournal s (entry.Event (Take id r) ∷ q)
+      → Then q at → Then (entry.Event (Take id r) ∷ q) at
   takes q id r at j h guard =
       let x = h guard in
       let may : MayTake q id r = (next_take s q id r j.0).0 in
@@ -324,7 +302,8 @@ module _ (s : Setting) (one : s.lanes ≡ only_lane) (config : ServerConfig) (fi
       no_handle (reply.Status code message language) may h = (let both : false ≡ true = h in cc)
       no_handle other may h = (let both : false ≡ true = h in cc)
 
-      held_then : (p : ℕ) (o : Option Asked) → asked_at q p ≡ o → MayReply o r → At q at (current s q 0) → answer q p ≡ None → is_handle r ≡ true → is_held s q p ≡ true
+      held_then : (p : ℕ) (o : Option Asked) → asked_at q p ≡ o → MayReply o r → At q at (current s q 0) → answer q p
+          ≡ None → is_handle r ≡ true → is_held s q p ≡ true
       held_then p None is may x none handle = absurd may
       held_then p (Some a) is may x none handle = elim (x.expected p a is none) [
         | inl mine ↦ any_passes (holds s q p) (length s.lanes) 0 one_there
@@ -334,7 +313,8 @@ module _ (s : Setting) (one : s.lanes ≡ only_lane) (config : ServerConfig) (fi
 
   -- ---- a call is added
 
-  pub adds : (q : List Entry) (lane : ℕ) (c : Call) (at : FilesAt) → IsJournal s q → lane ≡ 0 → was_let_go q 0 ≡ false → Then q at → Then (entry.Added lane c ∷ q) at
+  pub adds : (q : List Entry) (lane : ℕ) (c : Call) (at : FilesAt) → IsJournal s q → lane ≡ 0 → was_let_go q 0 ≡ false
+      → Then q at → Then (entry.Added lane c ∷ q) at
   adds q lane c at j zero_is held h =
       subst (λ (l : ℕ). Then (entry.Added l c ∷ q) at) (sym zero_is) (by_call (current s q 0) refl)
     where
@@ -378,14 +358,16 @@ module _ (s : Setting) (one : s.lanes ≡ only_lane) (config : ServerConfig) (fi
 
   -- ---- the lane is let go
 
-  pub lets_go : (q : List Entry) (lane : ℕ) (at : FilesAt) → lane ≡ 0 → current s q 0 ≡ None → was_let_go q 0 ≡ false → Then q at → Then (entry.LetGo lane ∷ q) at
+  pub lets_go : (q : List Entry) (lane : ℕ) (at : FilesAt) → lane ≡ 0 → current s q 0 ≡ None → was_let_go q 0 ≡ false
+      → Then q at → Then (entry.LetGo lane ∷ q) at
   lets_go q lane at zero_is idle held h =
       subst (λ (l : ℕ). Then (entry.LetGo l ∷ q) at) (sym zero_is) (λ guard. behind (subst (λ (x : Option Call). Guard x true at) idle guard))
     where
       behind : at.slot ≡ None → At (entry.LetGo 0 ∷ q) at (current s q 0)
       behind none =
           let r = h (subst (λ (x : Option Call). Guard x (was_let_go q 0) at) (sym idle) (subst (λ (b : Bool). Guard None b at) (sym held) tt)) in
-          let fresh : site_of s q 0 ≡ fresh_site = subst (λ (x : Option Standing). HoldsSlot (answer q) (after config first r.xs) (site_of s q 0) r.handle x) none r.is.slot_is in
+          let fresh : site_of s q 0 ≡ fresh_site = subst (λ (x : Option Standing). HoldsSlot (answer q)
+              (after config first r.xs) (site_of s q 0) r.handle x) none r.is.slot_is in
           let nothing : own q 0 (ended q 0) ≡ [] = subst (λ (x : Option Call). AsksNow s q r.handle (offset_in at.slot) x (own q 0 (ended q 0))) idle r.asks in
           record {
             xs = r.xs;
@@ -416,5 +398,6 @@ module _ (s : Setting) (one : s.lanes ≡ only_lane) (config : ServerConfig) (fi
               elim (or_cases (has_grant (held_site s q 0) g) (is_unended_asker q 0 g) holder) [
                 | inl has ↦ (let site : held_site s q 0 ≡ fresh_site = (λ i. held_by (idle i) (own q 0 (ended q 0)) (site_of s q 0)) ∙ fresh in
                     let both : false ≡ true = sym (ap (λ (x : Site). has_grant x g) site) ∙ has in cc)
-                | inr asks ↦ (let mine = asker_owns q 0 (ended q 0) g asks in let both : false ≡ true = sym (ap (λ (o : Own). has_place o g) nothing) ∙ mine in cc)
+                | inr asks ↦ (let mine = asker_owns q 0 (ended q 0) g asks in let both : false ≡ true =
+                    sym (ap (λ (o : Own). has_place o g) nothing) ∙ mine in cc)
               ]

@@ -1,37 +1,33 @@
 -- Over a server whose choices refuse nothing, operations are answered what the files alone give.
-use Rattle.std.proofs.Common.{◌≡◌, ◌≤◌, ◌+◌, ℕ, zero, suc, Bool, true, false, List, [], ◌∷◌, ◌++◌, Option, Some, None, refl, ap, sym, ◌∙◌, subst, arith}
+use Rattle.std.proofs.Common.{◌≡◌, ◌≤◌, ℕ, true, List, [], Option, Some, None, ap, sym, ◌∙◌, subst, arith}
 use Rattle.std.specs.List.{list_all}
 use Rattle.std.proofs.lemmas.List.{append-nil}
 use Rattle.sftp_model.specs.Lengths.{session_len}
-use Rattle.sftp_model.specs.declared.config.Choice.{Choice}
-use Rattle.sftp_model.specs.declared.config.ServerConfig.{ServerConfig}
 use Rattle.sftp_model.specs.declared.flags.Extensions.{Extensions}
 use Rattle.sftp_model.specs.declared.options.SftpOptions.{SftpOptions}
 use Rattle.sftp_model.specs.declared.outcome.Outcome.{Outcome}
-use Rattle.machine_model.specs.Changes.{IsWellFormed}
 use Rattle.machine_model.specs.FileTree.{FileTree}
 use Rattle.plan_model.specs.declared.call.Call.{Call}
 use Rattle.plan_model.specs.declared.call.Lane.{Lane}
 use Rattle.session_model.specs.Calls.{Setting, added}
 use Rattle.session_model.specs.Journals.{IsJournal, IsOver}
 use Rattle.session_model.specs.Readings.{outcomes_of}
-use Rattle.session_model.specs.Served.{Serves}
 use Rattle.session_model.specs.Settings.{setting_of}
 use Rattle.session_model.specs.declared.entry.Entry.{Entry}
-use Rattle.run_laws.specs.Steps.{RefuseNone, RefusesNone, RunOf, after}
+use Rattle.run_laws.specs.Steps.{RefusesNone, RunOf}
 use Rattle.run_laws.proofs.ServedSteps.{none_refused, run_chosen, run_of}
 use Rattle.view_model.specs.Blocks.{nothing_kept}
 use Rattle.view_model.specs.Kept.{Keys}
-use Rattle.view_model.specs.Viewed.{Viewed, viewed}
+use Rattle.view_model.specs.Viewed.{viewed}
 use Rattle.view_model.specs.ViewOps.{is_within}
 use Rattle.view_model.specs.declared.op.ViewOp.{ViewOp}
-use Rattle.view_laws.specs.FileCalls.{AllDid, FilesAt, at_rest, bare}
-use Rattle.view_laws.specs.Plainly.{IsPlain, IsPlainThere}
+use Rattle.view_laws.specs.FileCalls.{AllDid, FilesAt, at_rest}
+use Rattle.view_laws.specs.Plainly.{IsPlainThere}
 use Rattle.view_model.specs.Uncancelled.{IsUncancelled}
 use Rattle.view_laws.proofs.JournalDid.{IsServedBy, journal_did}
 use Rattle.view_laws.proofs.JournalEnds.{all_sent}
 use Rattle.view_laws.proofs.JournalSteps.{only_lane}
-use Rattle.view_laws.proofs.ViewedLaws.{ArePlain, plain_leaves, viewed_plainly}
+use Rattle.view_laws.proofs.ViewedLaws.{plain_leaves, viewed_plainly}
 
 len_some : (most : Option ℕ) (len : ℕ) → 1 ≤ session_len most len
 len_some None len = omega arith
@@ -68,11 +64,13 @@ plainly s past block capacity ops lanes reads writes j over quiet some short wit
       answers_are = v.answers_are;
       hits_are = ap (λ (k : Keys). k.hits) v.keys_are;
       misses_are = ap (λ (k : Keys). k.misses) v.keys_are;
-      left_is = sym (goes.1.1 (ap (λ (m : FilesAt). m.slot) v.now_is)) ∙ (ap (λ (m : FilesAt). m.tree) v.now_is ∙ plain_leaves len block capacity some short ops tree well);
+      left_is = sym (goes.1.1 (ap (λ (m : FilesAt). m.slot) v.now_is))
+          ∙ (ap (λ (m : FilesAt). m.tree) v.now_is ∙ plain_leaves len block capacity some short ops tree well);
     }
 
 -- the same, of a session of one lane
-pub view_plainly : (s : Setting) (lanes : List Lane) (options : SftpOptions) (extensions : Extensions) (past : List Entry) (block capacity : ℕ) (ops : List ViewOp)
+pub view_plainly : (s : Setting) (lanes : List Lane) (options : SftpOptions) (extensions : Extensions)
+    (past : List Entry) (block capacity : ℕ) (ops : List ViewOp)
     → s ≡ setting_of lanes options extensions past → lanes ≡ only_lane → IsJournal s past → IsOver s past → IsUncancelled past
     → 1 ≤ block → block ≤ 65536 → list_all is_within ops ≡ true → added past 0 ≡ (viewed block capacity ops (outcomes_of past 0)).calls
     → IsPlainThere block capacity s.facts.write_len ops past (viewed block capacity ops (outcomes_of past 0)).value.answers

@@ -1,38 +1,12 @@
 -- The file that a lane has in its first slot, and what its calls may ask.
-use Rattle.std.proofs.Common.{
-  ◌≡◌,
-  ◌==◌,
-  ◌+◌,
-  ◌^◌,
-  ℕ,
-  Bool,
-  true,
-  false,
-  not,
-  List,
-  [],
-  ◌∷◌,
-  ◌++◌,
-  length,
-  drop,
-  Option,
-  Some,
-  None,
-  if◌then◌else◌,
-  refl,
-  ap,
-  sym,
-  ◌∙◌,
-  subst,
-  inl,
-  inr,
-}
+use Rattle.std.proofs.Common.{◌≡◌, ◌==◌, ◌+◌, ℕ, Bool, true, false, not, List, [], ◌∷◌, ◌++◌, length, drop, Option,
+    Some, None, if◌then◌else◌, refl, ap, sym, ◌∙◌, subst, inl, inr}
 use Rattle.std.specs.Prelude.{min}
 use Rattle.std.proofs.lemmas.Bool.Decides.{eqb_tells}
 use Rattle.std.specs.declared.io.traits.SeekFrom.TheVariants as position
 use Rattle.sftp_model.specs.Numbers.{SSH_FX_EOF, SSH_FX_OK}
 use Rattle.sftp_model.specs.OpenOptions.{flags_of}
-use Rattle.sftp_model.specs.Slots.{fresh_site, has_grant, slot_at, with_slot}
+use Rattle.sftp_model.specs.Slots.{fresh_site, with_slot}
 use Rattle.sftp_model.specs.declared.error.IoKind.TheVariants as kind
 use Rattle.sftp_model.specs.declared.open_options.OpenOptions.{OpenOptions}
 use Rattle.sftp_model.specs.declared.outcome.Outcome.TheVariants as outcome
@@ -43,17 +17,17 @@ use Rattle.sftp_model.specs.declared.request.Request.TheVariants as request
 use Rattle.sftp_model.specs.declared.slot.Facts.{Facts}
 use Rattle.sftp_model.specs.declared.slot.FileAt.{FileAt}
 use Rattle.sftp_model.specs.declared.slot.Move.{Move}
-use Rattle.sftp_model.specs.declared.slot.Move.TheVariants.{Ask, Done, Wait}
+use Rattle.sftp_model.specs.declared.slot.Move.TheVariants.{Ask, Done}
 use Rattle.sftp_model.specs.declared.slot.Site.{Site}
-use Rattle.sftp_model.specs.declared.slot.Slot.TheVariants.{Empty, File}
+use Rattle.sftp_model.specs.declared.slot.Slot.TheVariants.{File}
 use Rattle.machine_model.specs.Components.{Name}
 use Rattle.machine_model.specs.FileTree.{FileTree, node_at, opened_at}
 use Rattle.machine_model.specs.declared.node.Node.TheVariants as node
 use Rattle.machine_model.specs.declared.opened.Held.{Held}
 use Rattle.machine_model.specs.declared.opened.Opened.TheVariants as opened
 use Rattle.plan_model.specs.CallPlans.{next}
-use Rattle.plan_model.specs.FilePlans.{close_grant_next, first_place, open_request, opened as opens}
-use Rattle.plan_model.specs.Moves.{Answers, Own, ask_path, ask_read, ask_write, done_by, further, handle_of, on_handle, on_status, once_answered, overflows, refuses}
+use Rattle.plan_model.specs.FilePlans.{open_request, opened as opens}
+use Rattle.plan_model.specs.Moves.{Answers, Own, ask_read, ask_write, done_by, further, handle_of, on_status, once_answered, overflows, refuses}
 use Rattle.plan_model.specs.OwnRequests.{Extends}
 use Rattle.plan_model.specs.TransferPlans.{in_slot, next_part, part_len, rest_next, was_read}
 use Rattle.plan_model.specs.declared.call.Call.{Call}
@@ -132,7 +106,8 @@ AsksSo facts answers (call.Close slot) handle offset own = IsOne (request.Close 
 AsksSo facts answers other handle offset own = ⊥
 
 -- nothing is asked yet
-pub asks_none : (facts : Facts) (answers : Answers) (c : Call) (handle : List ℕ) (offset : ℕ) (at : FilesAt) → MayCall at c → AsksSo facts answers c handle offset []
+pub asks_none : (facts : Facts) (answers : Answers) (c : Call) (handle : List ℕ) (offset : ℕ) (at : FilesAt)
+    → MayCall at c → AsksSo facts answers c handle offset []
 asks_none facts answers (call.OpenFile slot options path) handle offset at may = tt
 asks_none facts answers (call.Seek slot (position.Start n)) handle offset at may = refl
 asks_none facts answers (call.Seek slot (position.End n)) handle offset at may = absurd may
@@ -190,13 +165,19 @@ module _ (facts : Facts) (answers : Answers) (handle : List ℕ) (p : ℕ) (r : 
       by_test : (b : Bool) → (if b then Done outcome.Done site else ask_write file (next_part facts bytes) site answers) ≡ Ask r
           → (r ≡ request.Write handle file.offset (next_part facts bytes)) × (b ≡ false)
       by_test true e = absurd (let both : false ≡ true = ap is_ask e in cc)
-      by_test false e = (write_is file (next_part facts bytes) site answers r e
-          ∙ ap (λ (h : List ℕ). request.Write h file.offset (next_part facts bytes)) same, refl)
-
+      by_test false e = (
+        write_is file (next_part facts bytes) site answers r e
+            ∙ ap (λ (h : List ℕ). request.Write h file.offset (next_part facts bytes)) same,
+        refl,
+      )
   write_more file bytes site (a ∷ later) same e asked =
-      let went = by_reply (answers a.0) e in
-      (asked.0, asked.1, after_ok (later ++ (p, r) ∷ []) (answers a.0) went.0, write_more (further file (part_len facts bytes)) (drop (part_len facts bytes) bytes)
-      (in_slot 0 (further file (part_len facts bytes)) site) later same went.1 asked.3)
+      let went = by_reply (answers a.0) e in (
+        asked.0,
+        asked.1,
+        after_ok (later ++ (p, r) ∷ []) (answers a.0) went.0,
+        write_more (further file (part_len facts bytes)) (drop (part_len facts bytes) bytes)
+            (in_slot 0 (further file (part_len facts bytes)) site) later same went.1 asked.3,
+      )
     where
       after_ok : (xs : Own) (o : Option Reply) → IsOk o → AfterOk xs o
       after_ok [] o ok = tt

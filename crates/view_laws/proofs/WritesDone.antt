@@ -1,48 +1,13 @@
 -- What a `write_all` on the first slot did over the file machine, once it is done: its parts were written one after another,
 -- up to the first that a limit refuses.
-use Rattle.std.proofs.Common.{
-  ◌≡◌,
-  ◌≤◌,
-  ◌<◌,
-  ◌==◌,
-  ◌+◌,
-  ◌-◌,
-  ◌^◌,
-  ℕ,
-  zero,
-  suc,
-  Bool,
-  true,
-  false,
-  not,
-  List,
-  [],
-  ◌∷◌,
-  length,
-  take,
-  drop,
-  Option,
-  Some,
-  None,
-  Ok,
-  Err,
-  if◌then◌else◌,
-  refl,
-  ap,
-  sym,
-  ◌∙◌,
-  subst,
-  arith,
-  inl,
-  inr,
-}
+use Rattle.std.proofs.Common.{◌≡◌, ◌≤◌, ◌<◌, ◌==◌, ◌+◌, ◌^◌, ℕ, zero, suc, Bool, true, false, List, [], ◌∷◌, length,
+    take, drop, Option, Some, None, if◌then◌else◌, refl, ap, sym, ◌∙◌, subst, arith, inl, inr}
 use Rattle.std.specs.Prelude.{max, min, nat_le}
 use Rattle.std.proofs.lemmas.Bool.Decides.{eqb_tells, nat_tests}
 use Rattle.std.proofs.lemmas.List.{drop_min, length-drop, length-take-le, nil_from_length, take_min}
 use Rattle.sftp_model.specs.Numbers.{SSH_FX_FAILURE, SSH_FX_OK}
 use Rattle.sftp_model.specs.declared.config.ServerConfig.{ServerConfig}
 use Rattle.sftp_model.specs.declared.error.Error.TheVariants as error
-use Rattle.sftp_model.specs.declared.error.IoKind.TheVariants as kind
 use Rattle.sftp_model.specs.declared.outcome.Outcome.{Outcome}
 use Rattle.sftp_model.specs.declared.outcome.Outcome.TheVariants as outcome
 use Rattle.sftp_model.specs.declared.reply.Reply.{Reply}
@@ -51,14 +16,14 @@ use Rattle.sftp_model.specs.declared.request.Request.{Request}
 use Rattle.sftp_model.specs.declared.request.Request.TheVariants as request
 use Rattle.sftp_model.specs.declared.slot.Facts.{Facts}
 use Rattle.sftp_model.specs.declared.slot.Move.{Move}
-use Rattle.sftp_model.specs.declared.slot.Move.TheVariants.{Ask, Done}
+use Rattle.sftp_model.specs.declared.slot.Move.TheVariants.{Done}
 use Rattle.sftp_model.specs.declared.slot.Site.{Site}
 use Rattle.machine_model.specs.FileTree.{FileTree, bytes_of, file_of, is_over, opened_at, put, size_of, with_bytes}
 use Rattle.machine_model.specs.HandleRequests.{Answer, after_write, done, refuses, writes}
 use Rattle.machine_model.specs.TreeAnswers.{apply}
 use Rattle.machine_model.specs.declared.opened.Opened.{Opened}
 use Rattle.machine_model.specs.declared.opened.Opened.TheVariants as opened
-use Rattle.plan_model.specs.Moves.{Answers, Own, ask_write, on_status, overflows, refuses as refused_for}
+use Rattle.plan_model.specs.Moves.{Answers, Own, ask_write, on_status, overflows}
 use Rattle.plan_model.specs.TransferPlans.{in_slot, next_part, part_len, rest_next}
 use Rattle.session_model.proofs.CallLaws.{has_place}
 use Rattle.session_model.specs.Grants.{is_granted}
@@ -69,7 +34,7 @@ use Rattle.view_model.specs.Plain.{Given, pieces, put_pieces}
 use Rattle.view_model.specs.Viewed.{found_in}
 use Rattle.view_model.specs.declared.answer.Answer.TheVariants as answer
 use Rattle.view_laws.specs.FileCalls.{Standing, bare, found_by}
-use Rattle.view_laws.proofs.SlotCalls.{AfterOk, AreWrites, IsOk, file_at, held_as, site_with}
+use Rattle.view_laws.proofs.SlotCalls.{AfterOk, AreWrites, file_at, held_as, site_with}
 
 no_pieces : (most len : ℕ) → pieces most len [] ≡ []
 no_pieces zero len = refl
@@ -118,9 +83,10 @@ module _ (config : ServerConfig) (answers : Answers) (facts : Facts) (handle : L
       let len_is : length (next_part facts bytes) ≡ part_len facts bytes = length-take-le (part_len facts bytes) bytes (part_short bytes) in
       ap (put_pieces (bare tree) s.file s.offset) (pieces_are most bytes any)
       ∙ (ap (λ (b : Bool). (let g : Given = if b then (answer.Refused SSH_FX_FAILURE, bare tree) else
-          put_pieces (bare (written_by tree s bytes)) s.file (s.offset + length (next_part facts bytes))
-          (pieces most facts.write_len (drop (part_len facts bytes) bytes)) in g)) fits
-      ∙ ap (λ (k : ℕ). put_pieces (bare (written_by tree s bytes)) s.file (s.offset + k) (pieces most facts.write_len (drop (part_len facts bytes) bytes))) len_is)
+      put_pieces (bare (written_by tree s bytes)) s.file (s.offset + length (next_part facts bytes))
+      (pieces most facts.write_len (drop (part_len facts bytes) bytes)) in g)) fits
+      ∙ ap (λ (k : ℕ). put_pieces (bare (written_by tree s bytes)) s.file (s.offset + k)
+          (pieces most facts.write_len (drop (part_len facts bytes) bytes))) len_is)
 
   refused_pieces : (most : ℕ) (bytes : List ℕ) (tree : FileTree) (s : Standing) → length bytes == 0 ≡ false
       → is_over tree s.file (max (size_of tree s.file) (s.offset + length (next_part facts bytes))) ≡ true
@@ -128,8 +94,8 @@ module _ (config : ServerConfig) (answers : Answers) (facts : Facts) (handle : L
   refused_pieces most bytes tree s any over =
       ap (put_pieces (bare tree) s.file s.offset) (pieces_are most bytes any)
       ∙ ap (λ (b : Bool). (let g : Given = if b then (answer.Refused SSH_FX_FAILURE, bare tree) else
-          put_pieces (bare (written_by tree s bytes)) s.file (s.offset + length (next_part facts bytes))
-          (pieces most facts.write_len (drop (part_len facts bytes) bytes)) in g)) over
+      put_pieces (bare (written_by tree s bytes)) s.file (s.offset + length (next_part facts bytes))
+      (pieces most facts.write_len (drop (part_len facts bytes) bytes)) in g)) over
 
   -- what a WRITE of the next part answers
   part_written : (tree : FileTree) (st : Step) (s : Standing) (bytes : List ℕ) → s.writable ≡ true → opened_at tree handle ≡ Some (opened.File (held_as s))
@@ -152,7 +118,8 @@ module _ (config : ServerConfig) (answers : Answers) (facts : Facts) (handle : L
   none_left most bytes tree s left o le way far open_is served chosen asked done = by_test (length bytes == 0) refl done
     where
       by_test : (b : Bool) → length bytes == 0 ≡ b
-          → (if b then Done outcome.Done (site_with (file_at grant s)) else ask_write (file_at grant s) (next_part facts bytes) (site_with (file_at grant s)) answers) ≡ Done o left
+          → (if b then Done outcome.Done (site_with (file_at grant s)) else
+              ask_write (file_at grant s) (next_part facts bytes) (site_with (file_at grant s)) answers) ≡ Done o left
           → WritesDone [] s most bytes tree tree left o
       by_test true e done =
           let nil : bytes ≡ [] = nil_from_length bytes (elim (eqb_tells (length bytes) 0) [
@@ -175,7 +142,8 @@ module _ (config : ServerConfig) (answers : Answers) (facts : Facts) (handle : L
       by_test false e done =
           let len_is : length (next_part facts bytes) ≡ part_len facts bytes = length-take-le (part_len facts bytes) bytes (part_short bytes) in
           let short = part_short bytes in
-          let fits : overflows s.offset (length (next_part facts bytes)) ≡ false = not_over (2 ^ 64) (s.offset + length (next_part facts bytes)) (omega (arith, far, len_is, short)) in
+          let fits : overflows s.offset (length (next_part facts bytes)) ≡ false =
+              not_over (2 ^ 64) (s.offset + length (next_part facts bytes)) (omega (arith, far, len_is, short)) in
           let asks : false ≡ true = ap is_done (rw (way, fits) at done) in absurd cc
 
   status_of_part : (a : Own) (code : ℕ) → AfterOk a (Some (reply.Status code [] [])) → (code ≡ SSH_FX_OK → ⊥) → a ≡ []
@@ -229,7 +197,8 @@ module _ (config : ServerConfig) (answers : Answers) (facts : Facts) (handle : L
       by_test m le true e =
           let is : answer_to config tree st ≡ refuses tree SSH_FX_FAILURE = ans ∙ rw e refl in
           let came : answers st.place ≡ Some (reply.Status SSH_FX_FAILURE [] []) = taken.0 ∙ ap (λ (a : Answer). Some a.0) is in
-          let last : steps ≡ [] = no_steps steps (status_of_part (asked_in steps) SSH_FX_FAILURE (subst (λ (x : Option Reply). AfterOk (asked_in steps) x) came asked.2) (λ same. omega (arith, same))) in
+          let last : steps ≡ [] = no_steps steps (status_of_part (asked_in steps) SSH_FX_FAILURE
+              (subst (λ (x : Option Reply). AfterOk (asked_in steps) x) came asked.2) (λ same. omega (arith, same))) in
           let went : Done (outcome.Refused (error.SftpError SSH_FX_FAILURE [] [])) (site_with (file_at grant s)) ≡ Done o left =
           subst (λ (a : Answer). on_status a.0 (site_with (file_at grant s)) go ≡ Done o left) is taken.1 in
           let now_is : after config (answer_to config tree st).1 steps ≡ tree =
@@ -242,9 +211,11 @@ module _ (config : ServerConfig) (answers : Answers) (facts : Facts) (handle : L
             tree_is = ap bare now_is ∙ sym (ap (λ (g : Given). g.1) all);
             names = ap (λ (x : FileTree). x.names) now_is;
             handles = ap (λ (x : FileTree). x.handles) now_is;
-            ungranted = ungranted_here SSH_FX_FAILURE came (λ g has granted. let none : has_place (asked_in steps) g ≡ false = ap (λ (x : List Step). has_place (asked_in x) g) last in
+            ungranted = ungranted_here SSH_FX_FAILURE came (λ g has granted. let none : has_place (asked_in steps) g
+                ≡ false = ap (λ (x : List Step). has_place (asked_in x) g) last in
                 let both : true ≡ false = sym has ∙ none in cc);
-            replied = replied_here SSH_FX_FAILURE came (λ g has unanswered. let none : has_place (asked_in steps) g ≡ false = ap (λ (x : List Step). has_place (asked_in x) g) last in
+            replied = replied_here SSH_FX_FAILURE came (λ g has unanswered. let none : has_place (asked_in steps) g
+                ≡ false = ap (λ (x : List Step). has_place (asked_in x) g) last in
                 let both : true ≡ false = sym has ∙ none in cc);
           }
       by_test m le false e =

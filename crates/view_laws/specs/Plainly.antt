@@ -25,6 +25,7 @@ pub record IsPlain (block capacity write_len : ℕ) (ops : List ViewOp) (tree le
 
 -- so over each server that serves the journal by choices that refuse nothing, from a tree
 abbrev pub IsPlainThere : ℕ → ℕ → ℕ → List ViewOp → List Entry → List Answer → ℕ → ℕ → Type 0
-IsPlainThere block capacity write_len ops past answers hits misses = (config : ServerConfig) (choices : List Choice) (tree left : FileTree)
+IsPlainThere block capacity write_len ops past answers hits misses =
+    (config : ServerConfig) (choices : List Choice) (tree left : FileTree)
     → RefuseNone choices → IsWellFormed tree → Serves config choices tree past left
     → IsPlain block capacity write_len ops tree left answers hits misses

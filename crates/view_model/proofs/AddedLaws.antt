@@ -102,7 +102,8 @@ closes_go s before (e ∷ past) (inr (due, rest)) =
     (goes_event before past _ (λ lane. refl) (λ lane. refl) (λ lane. refl) (λ u. u) (closes_go s before past rest))
 
 sends_go : (b : Bool) (mid now : List Entry) → MatchBool b (now ≡ entry.Event Send ∷ mid) (now ≡ mid) → GoesOn mid now
-sends_go true mid now e = subst (GoesOn mid) (sym e) (goes_event mid mid (entry.Event Send) (λ lane. refl) (λ lane. refl) (λ lane. refl) (λ u. u) (goes_self mid))
+sends_go true mid now e = subst (GoesOn mid) (sym e) (goes_event mid mid (entry.Event Send) (λ lane. refl)
+    (λ lane. refl) (λ lane. refl) (λ u. u) (goes_self mid))
 sends_go false mid now e = goes_same mid now e
 
 rules_go : (s : Setting) (before now : List Entry) → RulesTo s before now → GoesOn before now
@@ -122,7 +123,8 @@ moves_go : (s : Setting) (lane : ℕ) (before now : Stage) (m : Option Move) →
 moves_go s lane before now None e = stage_same before now e
 moves_go s lane before now (Some (Wait place)) e = subst (λ (w : Stage). GoesOn before.past w.past) (sym e) (goes_self before.past)
 moves_go s lane before now (Some (Ask r)) to =
-    rules_behind s before.past now.past (entry.Event (Submit (owner.Call lane (ended before.past lane)) to.1.0 r)) (λ l. refl) (λ l. refl) (λ l. refl) (λ u. u) to.1.1.1
+    rules_behind s before.past now.past (entry.Event (Submit (owner.Call lane (ended before.past lane)) to.1.0 r))
+    (λ l. refl) (λ l. refl) (λ l. refl) (λ u. u) to.1.1.1
 moves_go s lane before now (Some (Done o site)) to =
     goes_on before.past (entry.Event (End lane (ended before.past lane) o) ∷ before.past) now.past
     (goes_end before.past lane (ended before.past lane) o) (rules_go s
