@@ -1,8 +1,8 @@
 #!/usr/bin/env python3
 """Measures the program: how time and memory of the core alone, and of a run, grow with the requests in flight; how long many
 small files take over OpenSSH's server beside `sftp -b`, how long some files of a few kilobytes take up and down, and how long
-one large file takes, by scripts and by sftp_transfer; and how long OpenSSH's client takes over the server of crates/sftp_serve,
-beside its own. It prints tables, is no part of the gate, and takes half an hour or more.
+one large file takes, by scripts and by sftp_transfer; how long many reads through sftp_view's cache take; and how long OpenSSH's
+client takes over the server of crates/sftp_serve, beside its own. It prints tables, is no part of the gate, and takes half an hour or more.
 
     python3 tools/bench.py [FIRST] [LAST]     requests in flight, doubled from FIRST to LAST: from 5000 to 40000
 
@@ -16,6 +16,7 @@ PROGRAM = ROOT + "/crates/sftp_cli/out/sftp_cli"
 LOAD = ROOT + "/crates/core_load/out/core_load"
 OUR_SERVER = ROOT + "/crates/sftp_serve/out/sftp_serve"
 COPIER = ROOT + "/crates/sftp_transfer/out/sftp_transfer"
+VIEWER = ROOT + "/crates/sftp_view/out/sftp_view"
 SERVER = "/usr/lib/openssh/sftp-server"
 LIMIT = float(os.environ.get("BENCH_LIMIT", "1200"))
 # seconds by which each way to a late server is late
@@ -24,6 +25,8 @@ DELAY = 0.010
 FILES, FILE_BYTES = 1000, 8000
 # one file of so many bytes comes down, and one of so many goes up: as many as one script may hold
 LARGE_DOWN, LARGE_UP = 1 << 28, 8000000
+# so many reads of one block each of a file of so many bytes, through a cache of so many blocks
+GETS, VIEWED_BYTES, VIEW_BLOCK, VIEW_CAPACITY = 10000, 1 << 20, 4096, 64
 # what OpenSSH's client does over either server: so many files of so many bytes up and down, so many directories made and removed
 SERVED_FILES, SERVED_BYTES, SERVED_DIRECTORIES = 4, 1 << 24, 5000
 
@@ -184,6 +187,20 @@ def table_of_growth(folder, sizes):
         before = row(f"{n} lanes", measure(folder, [PROGRAM, "script"], script), before)
 
 
+def table_of_views(folder):
+    """Many reads through a cache: of as many blocks as it keeps, and of all blocks in turn, so that none is kept long enough. A
+    block that isn't kept takes three requests, OPEN, READ and CLOSE, and as many replies; one that is kept takes none."""
+    print(f"{GETS} gets of {VIEW_BLOCK} bytes of a file of {VIEWED_BYTES}, {VIEW_CAPACITY} blocks kept")
+    file = f"file {digits('a')} " + bytes((k * 7 + k // 256) % 256 for k in range(VIEWED_BYTES)).hex()
+    for words, blocks in (("of one block", 1), ("of the blocks that are kept", VIEW_CAPACITY), ("of all blocks in turn", VIEWED_BYTES // VIEW_BLOCK)):
+        gets = [f"get {digits('a')} {k % blocks * VIEW_BLOCK} {VIEW_BLOCK}" for k in range(GETS)]
+        text = "\n".join([file] + gets) + "\n"
+        command = [VIEWER, "view", str(VIEW_BLOCK), str(VIEW_CAPACITY)]
+        told = subprocess.run(command, input=text.encode(), capture_output=True, timeout=LIMIT).stdout.decode().split("\n")
+        counts = {line.split()[0]: int(line.split()[1]) for line in told if line.startswith(("hits ", "misses "))}
+        row(f"{words}: {counts['hits']} hits, {counts['misses'] * 6} frames", best(folder, command, text))
+
+
 def table_over_a_server(folder, sizes, names, late):
     """Files over OpenSSH's server, by the program and by `sftp -b`."""
     print("over OpenSSH's server" + (f", each way {DELAY * 1000:.0f} ms late" if late else ""))
@@ -263,7 +280,7 @@ def main():
     sizes = [first]
     while sizes[-1] * 2 <= last:
         sizes.append(sizes[-1] * 2)
-    for program in (LOAD, PROGRAM, OUR_SERVER, COPIER):
+    for program in (LOAD, PROGRAM, OUR_SERVER, COPIER, VIEWER):
         if not os.access(program, os.X_OK):
             sys.exit(f"bench: {program} is missing: run 'rt ci' first")
     # each lane holds a handle of the server
@@ -271,6 +288,7 @@ def main():
     resource.setrlimit(resource.RLIMIT_NOFILE, (most, most))
     with tempfile.TemporaryDirectory() as folder:
         table_of_growth(folder, sizes)
+        table_of_views(folder)
         missing = [tool for tool in (SERVER, "sftp", "socat") if not shutil.which(tool)]
         if missing:
             sys.exit(f"bench: no comparison with sftp, missing: {' '.join(missing)}")

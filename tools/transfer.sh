@@ -1,7 +1,8 @@
 #!/bin/sh
-# Runs sftp_transfer over OpenSSH's SFTP server: files of several sizes down and up, and compares them; and what stands where a file
-# is missing, a name can't be used, or the server ends in the middle. It installs nothing: where the server or socat is missing it
-# says which, and passes. Another program than the one that `rt ci` built may be given as an argument.
+# Runs sftp_transfer over OpenSSH's SFTP server: files of several sizes and trees down and up, and compares them; what is listed;
+# what stands where a file is missing, a name can't be used, or the server ends in the middle; and what comes of a server whose
+# names lead out of their folder. It installs nothing: where the server or socat is missing it says which, and passes. Another
+# program than the one that `rt ci` built may be given as an argument.
 set -u
 cd "$(dirname "$0")/.." || exit 1
 
@@ -123,6 +124,156 @@ tell 'a server that ends while a file goes up' $?
 run socket put "$room/near/big" "$room/far/big"
 [ $status -eq 0 ] && cmp "$room/near/big" "$room/far/big" && ! [ -e "$room/far/.big.part" ]
 tell 'the same file once more' $?
+
+# ---- trees
+
+# a tree of files of 0 to 300000 bytes, with empty folders, symbolic links, and names of all kinds
+plant() {
+    mkdir -p "$1/empty" "$1/with space/deeper/still" "$1/$(printf 'b\303\274cher')" "$1/-r"
+    n=0
+    while [ $n -lt 50 ]; do
+        head -c $((n * n * 120)) /dev/urandom >"$1/with space/file $n"
+        n=$((n + 1))
+    done
+    head -c 100001 /dev/urandom >"$1/with space/deeper/still/.hidden"
+    head -c 32769 /dev/urandom >"$1/$(printf 'b\303\274cher/\342\202\254')"
+    printf 'x' >"$1/-r/--"
+    printf 'x' >"$1/$(printf 'a\tb')"
+    ln -s 'with space/file 1' "$1/link"
+    ln -s ../nowhere "$1/with space/broken"
+    ln -s "with space" "$1/folder link"
+}
+
+# whether two trees are the same, links as links
+same() {
+    diff -r --no-dereference "$1" "$2" >"$room/out" 2>&1
+}
+
+# the permissions and times of all files and folders of a tree
+stats() {
+    (cd "$1" && find . ! -type l -printf '%m %T@ %p\n' | sed 's/\.[0-9]* / /' | sort -k3)
+}
+
+plant "$room/far/tree"
+run socket get -r "$room/far/tree" "$room/near/tree"
+[ $status -eq 0 ] && same "$room/far/tree" "$room/near/tree" && [ "$(cat "$room/err")" = "54 files, 4983772 bytes" ]
+tell 'a tree down' $?
+run socket get -r -q "$room/far/tree" "$room/near/tree"
+[ $status -eq 0 ] && same "$room/far/tree" "$room/near/tree/tree" && ! [ -s "$room/err" ]
+tell 'a tree down into a folder that is there' $?
+rm -rf "$room/near/tree/tree"
+run socket get -r -q "$room/far/tree/." "$room/near/tree/"
+[ $status -eq 0 ] && same "$room/far/tree" "$room/near/tree"
+tell 'what stands in a folder, once more over what is there' $?
+run socket put -r "$room/near/tree" "$room/far/up"
+[ $status -eq 0 ] && same "$room/near/tree" "$room/far/up" && [ "$(cat "$room/err")" = "54 files, 4983772 bytes" ]
+tell 'a tree up' $?
+run socket put -r -q --window 3 "$room/near/tree" "$room/far/up"
+[ $status -eq 0 ] && same "$room/near/tree" "$room/far/up/tree" && ! [ -s "$room/err" ]
+tell 'a tree up into a folder that is there' $?
+run socket put -q "$room/near/tree/with space/file 1" "$room/near/tree/with space/file 2" "$room/far/some"
+[ $status -eq 0 ] && [ "$(ls -A "$room/far/some" | tr '\n' ' ')" = 'file 1 file 2 ' ]
+tell 'several files up, into a folder that is made' $?
+run socket get -q "$room/far/some/file 1" "$room/far/missing" "$room/far/some/file 2" "$room/near/some"
+[ $status -eq 1 ] && same "$room/far/some" "$room/near/some" && [ "$(wc -l <"$room/err")" -eq 1 ]
+tell 'several files down, one of which is missing' $?
+run socket get "$room/far/tree" "$room/near/other"
+[ $status -eq 1 ] && ! [ -e "$room/near/other" ] && grep -q -e '-r' "$room/err"
+tell 'a folder without -r' $?
+run socket get -q -- "$room/far/tree/-r/--" "$room/near/hyphens"
+[ $status -eq 0 ] && [ "$(cat "$room/near/hyphens")" = x ]
+tell 'a name behind --' $?
+
+# ---- permissions and times
+
+chmod 640 "$room/far/tree/with space/file 1"
+chmod 700 "$room/far/tree/empty"
+find "$room/far/tree" ! -type l -exec touch -d '2001-02-03 04:05:06' {} +
+run socket get -r -p -q "$room/far/tree" "$room/near/kept"
+stats "$room/far/tree" >"$room/want" && stats "$room/near/kept" >"$room/out"
+[ $status -eq 0 ] && cmp "$room/want" "$room/out" && same "$room/far/tree" "$room/near/kept"
+tell 'permissions and times down' $?
+run socket put -r -p -q "$room/near/kept" "$room/far/kept"
+stats "$room/far/kept" >"$room/out"
+[ $status -eq 0 ] && cmp "$room/want" "$room/out" && same "$room/far/tree" "$room/far/kept"
+tell 'permissions and times up' $?
+
+# ---- what is listed
+
+run socket list "$room/far/tree/with space/deeper"
+[ $status -eq 0 ] && [ "$(cat "$room/out")" = still ] && ! [ -s "$room/err" ]
+tell 'the names of a folder' $?
+run socket list -l "$room/far/tree/-r"
+[ $status -eq 0 ] && [ "$(cat "$room/out")" = '-            1 --' ]
+tell 'types and sizes of a folder' $?
+run socket list "$room/far/missing"
+[ $status -eq 1 ] && ! [ -s "$room/out" ] && [ "$(wc -l <"$room/err")" -eq 1 ]
+tell 'a folder that the server lacks' $?
+
+# ---- links that stand in the way are not followed
+
+mkdir "$room/outside" "$room/near/trap"
+printf 'safe' >"$room/outside/x"
+mkdir "$room/far/trap" "$room/far/trap/sub"
+printf 'new' >"$room/far/trap/sub/x"
+ln -s "$room/outside" "$room/near/trap/sub"
+run socket get -r "$room/far/trap/." "$room/near/trap"
+[ $status -eq 1 ] && [ "$(ls -A "$room/outside")" = x ] && [ "$(cat "$room/outside/x")" = safe ]
+tell 'a link in the place of a folder' $?
+rm "$room/near/trap/sub"
+mkdir "$room/near/trap/sub"
+ln -s "$room/outside/x" "$room/near/trap/sub/.x.part"
+run socket get -r -q "$room/far/trap/." "$room/near/trap"
+[ $status -eq 0 ] && [ "$(cat "$room/outside/x")" = safe ] && [ "$(cat "$room/near/trap/sub/x")" = new ]
+tell 'a link in the place of a part' $?
+
+# ---- a server whose names lead out of their folder
+
+# a number in four bytes, and a text behind its length
+word() {
+    printf "\\$(printf %03o $(($1 >> 24 & 255)))\\$(printf %03o $(($1 >> 16 & 255)))\\$(printf %03o $(($1 >> 8 & 255)))\\$(printf %03o $(($1 & 255)))"
+}
+text() {
+    word ${#1}
+    printf %s "$1"
+}
+# one frame, of a type, with standard input as the rest of its body
+frame() {
+    cat >"$room/body"
+    word $(($(wc -c <"$room/body") + 1))
+    printf "\\$(printf %03o "$1")"
+    cat "$room/body"
+}
+# an entry of a listing: its name, and its mode
+entry() {
+    text "$1"
+    text "$1"
+    word 4
+    word "$2"
+}
+# a server that answers one walk: what the root is, its handle, its entries, the end, and that it is closed
+hostile() {
+    word 3 | frame 2
+    { word 0; word 4; word 16877; } | frame 105
+    { word 0; text h; } | frame 102
+    { word 1; word $#; for name; do entry "$name" 33188; done; } | frame 104
+    { word 1; word 1; text end; text en; } | frame 101
+    { word 0; word 0; text ok; text en; } | frame 101
+}
+hostile ../escaped /tmp/escaped a/b .. . '' >"$room/script"
+socat "UNIX-LISTEN:$room/evil" "SYSTEM:cat $room/script; sleep 1" 2>/dev/null &
+fourth=$!
+tries=0
+while ! [ -S "$room/evil" ] && [ $tries -lt 100 ]; do
+    sleep 0.1
+    tries=$((tries + 1))
+done
+mkdir "$room/near/cage"
+run evil get -r evil "$room/near/cage/target"
+kill $fourth 2>/dev/null
+[ $status -eq 1 ] && [ "$(ls -A "$room/near/cage")" = target ] && [ -z "$(ls -A "$room/near/cage/target")" ] &&
+    [ "$(grep -c 'would lead out' "$room/err")" -eq 4 ]
+tell 'names that would lead out of the target' $?
 
 echo "transfer over OpenSSH's server: $passed passed, $failed failed"
 [ "$failed" -eq 0 ]

@@ -39,7 +39,7 @@ use Rattle.machine_model.specs.Components.{Name, is_within, same_name}
 use Rattle.machine_model.specs.FirstTree.{are_apart, stand_apart}
 use Rattle.plan_model.specs.declared.call.Call.{Call}
 use Rattle.session_model.specs.Calls.{calls_of as lane_calls_of}
-use Rattle.run_laws.specs.NameCalls.{all_keep_off, is_of_other, may_own, none_writes}
+use Rattle.run_laws.specs.NameCalls.{all_keep_off, may_own, none_writes}
 use Rattle.run_laws.specs.ReadsBack.{IsAlone, calls_in}
 use Rattle.mirror_jobs.specs.declared.job.Job.{Job}
 use Rattle.mirror_jobs.specs.declared.job.Job.TheVariants as job
@@ -82,7 +82,7 @@ behind_others name (j ∷ jobs) all =
     record { other = rw (apart_other name j out, more.other) refl; outside = rw (out, more.outside) refl }
 
 -- those before a file
-before_others : (before behind : List Job) (j : Job) → stand_apart (map name_of (before ++ j ∷ behind)) ≡ true → AreOthers (name_of j) before
+pub before_others : (before behind : List Job) (j : Job) → stand_apart (map name_of (before ++ j ∷ behind)) ≡ true → AreOthers (name_of j) before
 before_others [] behind j all = record { other = refl; outside = refl }
 before_others (x ∷ before) behind j all =
     let both = and_parts (list_all (are_apart (name_of x)) (map name_of (before ++ j ∷ behind))) (stand_apart (map name_of (before ++ j ∷ behind))) all in
@@ -96,7 +96,7 @@ before_others (x ∷ before) behind j all =
         (list_all (are_apart (name_of x)) (map name_of (xs ++ j ∷ behind))) all).1
 
 -- and those behind it
-after_others : (before behind : List Job) (j : Job) → stand_apart (map name_of (before ++ j ∷ behind)) ≡ true → AreOthers (name_of j) behind
+pub after_others : (before behind : List Job) (j : Job) → stand_apart (map name_of (before ++ j ∷ behind)) ≡ true → AreOthers (name_of j) behind
 after_others [] behind j all = behind_others (name_of j) behind
     (and_parts (list_all (are_apart (name_of j)) (map name_of behind)) (stand_apart (map name_of behind)) all).0
 after_others (x ∷ before) behind j all =

@@ -119,11 +119,11 @@ got_read name bound bytes outcomes e = by_refusal (first_refusal outcomes) (gave
 -- ---- one file
 
 -- what is looked at of a list of files that can be copied
-ok_apart : (jobs : List Job) → are_ok jobs ≡ true → stand_apart (map name_of jobs) ≡ true
+pub ok_apart : (jobs : List Job) → are_ok jobs ≡ true → stand_apart (map name_of jobs) ≡ true
 ok_apart jobs ok = (and_parts (list_all is_bounded jobs && list_all may_be_named (map name_of jobs)) (stand_apart (map name_of jobs)) ok).1
 
 -- the calls of its lane, as they stand
-lane_is : (width : ℕ) (before behind : List Job) (j : Job) → length before % width < width
+pub lane_is : (width : ℕ) (before behind : List Job) (j : Job) → length before % width < width
     → calls_in (lanes_of width (before ++ j ∷ behind)) (suc (length before % width))
     ≡ flat_map calls_of (dealt width (length before % width) 0 before)
     ++ (calls_of j ++ flat_map calls_of (dealt width (length before % width) (length before + 1) behind))

@@ -3,3 +3,8 @@ pub mod CutLaws
 pub mod ParentLaws
 pub mod AloneLaws
 pub mod CopyLaws
+pub mod WrittenLengths
+pub mod OrderLaws
+pub mod JobCalls
+pub mod RunParts
+pub mod GoodLaws

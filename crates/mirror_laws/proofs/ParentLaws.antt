@@ -53,7 +53,7 @@ parents_all test (j ∷ jobs) all =
 -- ---- the directories of one file
 
 -- a path that leads to a name, with or without a slash in front
-led_is : (path : List ℕ) (name : Name) → list_all is_plain name ≡ true → components (leading_slash path ++ written name) ≡ name
+pub led_is : (path : List ℕ) (name : Name) → list_all is_plain name ≡ true → components (leading_slash path ++ written name) ≡ name
 led_is [] name plain = components_written name plain
 led_is (b ∷ path) name plain = by_test (b == slash)
   where
@@ -61,7 +61,7 @@ led_is (b ∷ path) name plain = by_test (b == slash)
     by_test true = components_led (written name) ∙ components_written name plain
     by_test false = components_written name plain
 
-front_plain : (xs ys : Name) → list_all is_plain (xs ++ ys) ≡ true → list_all is_plain xs ≡ true
+pub front_plain : (xs ys : Name) → list_all is_plain (xs ++ ys) ≡ true → list_all is_plain xs ≡ true
 front_plain [] ys all = refl
 front_plain (x ∷ xs) ys all = let both = and_parts (is_plain x) (list_all is_plain (xs ++ ys)) all in rw (both.0, front_plain xs ys both.1) refl
 

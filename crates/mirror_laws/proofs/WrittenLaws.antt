@@ -1,33 +1,7 @@
 -- A name of plain components is what its written form denotes.
-use Rattle.std.proofs.Common.{
-  ◌≡◌,
-  ℕ,
-  zero,
-  suc,
-  ◌==◌,
-  ◌-◌,
-  Bool,
-  true,
-  false,
-  not,
-  List,
-  [],
-  ◌∷◌,
-  ◌++◌,
-  codes,
-  length,
-  take,
-  if◌then◌else◌,
-  refl,
-  ap,
-  sym,
-  ◌∙◌,
-  subst,
-  inl,
-  inr,
-}
-use Rattle.std.specs.Prelude.{◌⊎◌, ◌&&◌, ◌||◌}
-use Rattle.std.specs.List.{list_all, join_with_byte}
+use Rattle.std.proofs.Common.{◌≡◌, ℕ, zero, suc, ◌==◌, ◌-◌, Bool, true, false, not, List, [], ◌∷◌, ◌++◌, codes, length, take, if◌then◌else◌, refl, ap, sym, ◌∙◌}
+use Rattle.std.specs.Prelude.{◌&&◌, ◌||◌}
+use Rattle.std.specs.List.{list_all}
 use Rattle.std.specs.Str.{bytes_eq}
 use Rattle.std.proofs.lemmas.Bool.{and_parts}
 use Rattle.std.proofs.lemmas.List.{append-nil, append_assoc}

@@ -1,2 +1,4 @@
 pub mod PlainNames
 pub mod CopiesFiles
+pub mod GoodJobs
+pub mod GoodRows

@@ -1,20 +1,28 @@
 //! Laws of the definitions. The functions do nothing: what they ensure holds of all values.
-ghost use Rattle.std.specs.Prelude.{◌≡◌, ◌≤◌, ◌∷◌, ℕ, List, true};
+ghost use Rattle.std.specs.Prelude.{◌≡◌, ◌≤◌, ◌∷◌, ℕ, List, length, true};
 ghost use Rattle.std.specs.List.{list_all};
 ghost use Rattle.sftp_model.specs.Paths.{slash};
 ghost use Rattle.sftp_model.specs.declared.config.Choice.{Choice};
 ghost use Rattle.sftp_model.specs.declared.config.ServerConfig.{ServerConfig};
+ghost use Rattle.sftp_model.specs.declared.flags.Extensions.{Extensions};
+ghost use Rattle.sftp_model.specs.declared.options.SftpOptions.{SftpOptions};
 ghost use Rattle.sftp_model.specs.declared.outcome.Outcome.{Outcome};
+ghost use Rattle.machine_model.specs.Changes.{IsWellFormed};
 ghost use Rattle.machine_model.specs.Components.{Name, components, written};
 ghost use Rattle.machine_model.specs.FileTree.{FileTree};
 ghost use Rattle.session_model.specs.declared.entry.Entry.{Entry};
 ghost use Rattle.session_model.specs.Calls.{Setting};
+ghost use Rattle.session_model.specs.Readings.{outcomes_below};
+ghost use Rattle.session_model.specs.Runs.{IsRun};
+ghost use Rattle.session_model.specs.Served.{Serves};
+ghost use Rattle.session_model.specs.Settings.{setting_of};
 ghost use Rattle.run_laws.specs.KeepsFiles.{KeepsFiles};
 ghost use Rattle.mirror_jobs.specs.declared.job.Job.{Job};
 ghost use Rattle.mirror_jobs.specs.Jobs.{are_ok};
-ghost use Rattle.mirror_jobs.specs.JobLanes.{lanes_of};
+ghost use Rattle.mirror_jobs.specs.JobLanes.{lanes_of, turns_of};
 ghost use Rattle.mirror_jobs.specs.Verdicts.{verdicts_of};
 ghost use Rattle.mirror_laws.specs.CopiesFiles.{CopiesFiles};
+ghost use Rattle.mirror_laws.specs.GoodJobs.{CopiesGood};
 ghost use Rattle.mirror_laws.specs.PlainNames.{is_plain};
 
 /// The components of a path are plain: none is empty, a dot or two, and none has a slash. A name of plain components is
@@ -33,4 +41,17 @@ pub fn copies_keep_files()
         (s : Setting) (past : List Entry) (outcomes : List (List Outcome)) → 1 ≤ width → are_ok jobs ≡ true
         → KeepsFiles (lanes_of width jobs) config choices tree s past left outcomes
         → CopiesFiles jobs choices tree left (verdicts_of width jobs outcomes) }
+{}
+
+/// In each run of the lanes that copy files under their turns, served by a file machine that refuses nothing by choice,
+/// each good file is copied or got. A good file that goes up has directories that are there or may be made, a name that no
+/// directory has, a path that fits a frame, and room for its bytes, with those of all files that go up; one that comes
+/// down is there, by a path that fits a frame, and has fewer bytes than its bound.
+pub fn good_files_are_copied()
+    ensures { (width rounds : ℕ) (jobs : List Job) (options : SftpOptions) (extensions : Extensions) (past : List Entry)
+        (config : ServerConfig) (choices : List Choice) (tree left : FileTree) → 1 ≤ width → are_ok jobs ≡ true
+        → IsRun (setting_of (lanes_of width jobs) options extensions past) (turns_of width rounds jobs) past
+        → IsWellFormed tree → Serves config choices tree past left
+        → CopiesGood jobs choices tree
+        (verdicts_of width jobs (outcomes_below past (length (lanes_of width jobs)))) }
 {}

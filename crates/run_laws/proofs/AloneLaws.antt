@@ -93,11 +93,11 @@ steps_before p (x ∷ xs) ys low high = rw (lt-ltb x.place p (low x.place (inl r
     (ap (λ (l : List Step). x ∷ l) (steps_before p xs ys (λ place has. low place (inr has)) high))
 
 -- the trees around a step
-record Around (config : ServerConfig) (first : FileTree) (whole xs : List Step) (t : Step) : Type 0 where
-  came : tree_at config first whole t.place ≡ after config first xs
-  left : tree_at config first whole (t.place + 1) ≡ (answer_to config (after config first xs) t).1
+pub record Around (config : ServerConfig) (first : FileTree) (whole xs : List Step) (t : Step) : Type 0 where
+  pub came : tree_at config first whole t.place ≡ after config first xs
+  pub left : tree_at config first whole (t.place + 1) ≡ (answer_to config (after config first xs) t).1
 
-around : (config : ServerConfig) (first : FileTree) (past : List Entry) (n : ℕ) (whole xs steps : List Step) (t : Step)
+pub around : (config : ServerConfig) (first : FileTree) (past : List Entry) (n : ℕ) (whole xs steps : List Step) (t : Step)
     → whole ≡ xs ++ t ∷ steps → AreRising (asked_in whole) → AreKnown past n (asked_in whole)
     → Around config first whole xs t
 around config first past n whole xs steps t is rising known =

@@ -40,7 +40,7 @@ use Rattle.run_laws.specs.InJournals.{AreBelow, IsOfLane, PassesAt, is_elsewhere
 use Rattle.run_laws.specs.Steps.{HasBytes, IsAnyChoice, RunOf, Step, after, asked_in}
 use Rattle.run_laws.proofs.AmongLaws.{among_by, low_known}
 use Rattle.run_laws.proofs.AnewLaws.{anew_stays}
-use Rattle.run_laws.proofs.BufferLaws.{WriteBy, flushed_asks}
+use Rattle.run_laws.proofs.BufferLaws.{AreFlushed, WriteBy, flushed_asks}
 use Rattle.run_laws.proofs.CutLaws.{has_parts, known_has, known_parts, rising_parts}
 use Rattle.run_laws.proofs.GrantAtLaws.{used_well}
 use Rattle.run_laws.proofs.LaidLaws.{IsFront, IsLaid, below_has, front_as, lay_call}
@@ -66,20 +66,26 @@ pub record LaneOpened (s : Setting) (past : List Entry) (name : Name) (lane open
   pub came : answer past w.0 ≡ Some (reply.Handle handle)
   pub in_turn : opener < writer
   pub asks : own past lane writer ≡ written
-  pub others : (place call : ℕ) → opener < call → call ≢ writer → is_of_call past (lane, call) place ≡ true → PassesAt s past name place
 
 -- ---- what is left
+
+-- what calls of the lane ask behind the OPEN passes the name by, but for the call that writes
+abbrev pub OthersPass : Setting → List Entry → Name → ℕ → ℕ → ℕ → Type 0
+OthersPass s past name lane opener writer =
+    (place call : ℕ) → opener < call → call ≢ writer → is_of_call past (lane, call) place ≡ true → PassesAt s past name place
 
 anew_left : (s : Setting) (config : ServerConfig) (choices : List Choice) (first now : FileTree) (turns : List Turn)
     (past : List Entry) (name : Name) (lane opener writer : ℕ) (w : ℕ × Request) (written : Own)
     (grant_of : ℕ → Option ℕ)
     → IsRun s turns past → Serves config choices first past now → IsWellFormed first
-    → (t : LaneOpened s past name lane opener writer w written) → AreWrites t.handle 0 written
+    → (t : LaneOpened s past name lane opener writer w written)
+    → OthersPass s past name lane opener writer → AreWrites t.handle 0 written
     → AreWritten (answer past) (places written)
     → UseWell s past grant_of → ((place : ℕ) → HasRequest written place → grant_of place ≡ Some w.0)
     → ((place : ℕ) → is_asked_by (asked_at past place) lane writer ≡ false → grant_of place ≡ grant_at s past place)
     → HasBytes now name (carried written)
-anew_left s config choices first now turns past name lane opener writer w written grant_of run serves well_formed t writes said well own_uses others_use =
+anew_left s config choices first now turns past name lane opener writer w written grant_of run serves well_formed t others
+    writes said well own_uses others_use =
     by_laid (lay_call IsAnyChoice config past (sent past) lane opener first w [] r.steps f t.opens until.0)
   where
     j : IsJournal s past
@@ -122,7 +128,7 @@ anew_left s config choices first now turns past name lane opener writer w writte
                 (subst (λ (k : ℕ). is_asked_by (asked_at past place) lane k ≡ true) v.1 mine)))
             | inr v ↦ elim (cases_lt c opener) [
               | inl low ↦ absurd (let early : place < w.0 = in_turn s past lane c opener place w.0 j low mine opener_asked in omega (arith, early, high))
-              | inr from ↦ t.others place c (let ne : c ≢ opener = u.1 in omega (arith, ne, from)) v.1 mine
+              | inr from ↦ others place c (let ne : c ≢ opener = u.1 in omega (arith, ne, from)) v.1 mine
             ]
           ]
         ]
@@ -198,76 +204,68 @@ bear_all past n lane writer h (r ∷ requests) known mine bears =
     )
 
 -- the requests of the call that writes use the grant of the OPEN, the others what they used
-abbrev with_call : List Entry → ℕ → ℕ → ℕ → (ℕ → Option ℕ) → ℕ → Option ℕ
+abbrev pub with_call : List Entry → ℕ → ℕ → ℕ → (ℕ → Option ℕ) → ℕ → Option ℕ
 with_call past lane n grant grant_of place = if is_asked_by (asked_at past place) lane n then Some grant else grant_of place
 
 -- a request that writes by a handle is no CLOSE
 writes_close_none : (r : Request) (h k : List ℕ) → WritesBy r h → r ≡ request.Close k → ⊥
 writes_close_none r h k w e = subst (λ (q : Request). WritesBy q h) e w
 
-with_call_well : (s : Setting) (past : List Entry) (name : Name) (lane opener writer : ℕ) (w : ℕ × Request)
-    (written : Own) → IsJournal s past → (t : LaneOpened s past name lane opener writer w written)
+pub with_call_well : (s : Setting) (past : List Entry) (lane opener writer grant : ℕ) (handle : List ℕ)
+    → IsJournal s past → is_asked_by (asked_at past grant) lane opener ≡ true → answer past grant
+    ≡ Some (reply.Handle handle)
     → ((place : ℕ) (a : Asked) → is_of_call past (lane, writer) place ≡ true → asked_at past place ≡ Some a
-    → WritesBy a.request t.handle) → ((place : ℕ) → is_of_call past (lane, writer) place ≡ true
-    → is_one_of (closed_before s past place) w.0 ≡ false)
-    → UseWell s past (with_call past lane writer w.0 (grant_at s past))
-with_call_well s past name lane opener writer w written j t bears unclosed = record { may = may; closes = closes }
+    → WritesBy a.request handle) → ((place : ℕ) → is_of_call past (lane, writer) place ≡ true → grant < place)
+    → ((place : ℕ) → is_of_call past (lane, writer) place ≡ true
+    → is_one_of (closed_before s past place) grant ≡ false)
+    → UseWell s past (with_call past lane writer grant (grant_at s past))
+with_call_well s past lane opener writer grant handle j asker came bears before unclosed = record { may = may; closes = closes }
   where
-    opener_asked : is_asked_by (asked_at past w.0) lane opener ≡ true
-    opener_asked = has_call past lane opener w.0 (w ∷ []) t.opens (inl refl)
-
-    may : (place g : ℕ) → place < asked past → with_call past lane writer w.0 (grant_at s past) place ≡ Some g → MayBeUsed s past place g
+    may : (place g : ℕ) → place < asked past → with_call past lane writer grant (grant_at s past) place ≡ Some g → MayBeUsed s past place g
     may place g lt e = by_test (is_asked_by (asked_at past place) lane writer) refl e
       where
         by_test : (b : Bool) → is_asked_by (asked_at past place) lane writer ≡ b
-            → (if b then Some w.0 else grant_at s past place) ≡ Some g → MayBeUsed s past place g
+            → (if b then Some grant else grant_at s past place) ≡ Some g → MayBeUsed s past place g
         by_test true mine e =
-            subst (MayBeUsed s past place) (some_is w.0 g e)
+            subst (MayBeUsed s past place) (some_is grant g e)
             (record {
-              before = in_turn s past lane opener writer w.0 place j t.in_turn opener_asked mine;
+              before = before place mine;
               lane = lane;
               call = opener;
-              asker = opener_asked;
-              handle = t.handle;
-              came = t.came;
+              asker = asker;
+              handle = handle;
+              came = came;
               unclosed = unclosed place mine;
             })
         by_test false out e = UseWell.may (used_well s past j) place g lt e
 
     closes : (place : ℕ) (a : Asked) (h : List ℕ) → asked_at past place ≡ Some a → a.request ≡ request.Close h
-        → with_call past lane writer w.0 (grant_at s past) place ≡ used s past place h
+        → with_call past lane writer grant (grant_at s past) place ≡ used s past place h
     closes place a h at close = by_test (is_asked_by (asked_at past place) lane writer) refl
       where
-        by_test : (b : Bool) → is_asked_by (asked_at past place) lane writer ≡ b → (if b then Some w.0 else grant_at s past place) ≡ used s past place h
-        by_test true mine = absurd (writes_close_none a.request t.handle h (bears place a mine at) close)
+        by_test : (b : Bool) → is_asked_by (asked_at past place) lane writer ≡ b → (if b then Some grant else grant_at s past place) ≡ used s past place h
+        by_test true mine = absurd (writes_close_none a.request handle h (bears place a mine at) close)
         by_test false out = UseWell.closes (used_well s past j) place a h at close
 
 -- A lane to whom a name is opened it to be written anew, and by a later call wrote bytes to what was opened, which it had buffered and
 -- which wasn't closed then, and flushed it: the bytes are left.
 pub opened_left : (s : Setting) (config : ServerConfig) (choices : List Choice) (first now : FileTree)
-    (turns : List Turn) (past : List Entry) (name : Name) (lane opener writer slot : ℕ) (w : ℕ × Request)
-    (written flush_own : Own)
-    (file : FileAt) (buffer : Buffer) (bytes : List ℕ) (site flush_site : Site) (facts flush_facts : Facts)
-    → IsRun s turns past → Serves config choices first past now → IsWellFormed first → (t : LaneOpened s past name lane opener writer w written)
+    (turns : List Turn) (past : List Entry) (name : Name) (lane opener writer : ℕ) (w : ℕ × Request) (written : Own)
+    (bytes : List ℕ) → IsRun s turns past → Serves config choices first past now → IsWellFormed first
+    → (t : LaneOpened s past name lane opener writer w written) → OthersPass s past name lane opener writer
     → ((place : ℕ) (a : Asked) → is_of_call past (lane, writer) place ≡ true → asked_at past place ≡ Some a
     → WritesBy a.request t.handle) → ((place : ℕ) → is_of_call past (lane, writer) place ≡ true
     → is_one_of (closed_before s past place) w.0 ≡ false)
-    → slot_at site slot ≡ Buffered file buffer → file.offset ≡ 0
-    → (wrote : HasEnded (call.BufWriteAll slot bytes) site facts written (answer past) outcome.Done)
-    → slot_at flush_site slot ≡ slot_at wrote.left slot
-    → HasEnded (call.BufFlush slot) flush_site flush_facts flush_own (answer past) outcome.Done → HasBytes now name bytes
-opened_left s config choices first now turns past name lane opener writer slot w written flush_own file buffer bytes
-    site flush_site facts flush_facts run serves well_formed t bears unclosed stands start wrote same flush =
+    → AreFlushed t.handle 0 bytes (answer past) written → HasBytes now name bytes
+opened_left s config choices first now turns past name lane opener writer w written bytes run serves well_formed t others
+    bears unclosed f =
     let j : IsJournal s past = runs_are_journals s turns past run in
-    let known : AreKnown past (asked past) written = subst (AreKnown past (asked past)) t.asks (own_listed past lane writer).1 in
-    let by_handle : WriteBy t.handle written = bear_all past (asked past) lane writer t.handle written known
-    (λ place has. has_call past lane writer place written t.asks has) bears in
-    let f = flushed_asks (answer past) slot file buffer bytes site flush_site facts flush_facts written flush_own t.handle by_handle stands wrote same flush in
+    let asker : is_asked_by (asked_at past w.0) lane opener ≡ true = has_call past lane opener w.0 (w ∷ []) t.opens (inl refl) in
     subst (λ (b : List ℕ). HasBytes now name b) f.all
     (anew_left s config choices first now turns past name lane opener writer w written
-    (with_call past lane writer w.0 (grant_at s past)) run serves well_formed t
-    (subst (λ (n : ℕ). AreWrites t.handle n written) start f.asks) f.said
-    (with_call_well s past name lane opener writer w written j t bears unclosed)
+    (with_call past lane writer w.0 (grant_at s past)) run serves well_formed t others f.asks f.said
+    (with_call_well s past lane opener writer w.0 t.handle j asker t.came bears
+    (λ place mine. in_turn s past lane opener writer w.0 place j t.in_turn asker mine) unclosed)
     (λ place has. rw (has_call past lane writer place written t.asks has) refl) (λ place out. rw out refl))
 
 -- A lane to whom a name is opened it to be written anew, and by a later call wrote bytes to what was opened, which it had buffered, and flushed
@@ -290,7 +288,7 @@ flushed_left s config choices first now turns past name lane opener writer slot 
     let f = flushed_asks (answer past) slot file buffer bytes site flush_site facts flush_facts written flush_own t.handle bears stands wrote same flush in
     subst (λ (b : List ℕ). HasBytes now name b) f.all
     (anew_left s config choices first now turns past name lane opener writer w written (grant_at s past) run serves
-    well_formed opened (subst (λ (n : ℕ). AreWrites t.handle n written) start f.asks) f.said
+    well_formed opened t.others (subst (λ (n : ℕ). AreWrites t.handle n written) start f.asks) f.said
     (used_well s past (runs_are_journals s turns past run)) (λ place has. t.uses place
     (has_call past lane writer place written t.asks has)) (λ place out. refl))
   where
@@ -306,5 +304,4 @@ flushed_left s config choices first now turns past name lane opener writer slot 
       came = t.came;
       in_turn = t.in_turn;
       asks = t.asks;
-      others = t.others;
     }

@@ -72,7 +72,7 @@ use Rattle.run_laws.specs.NameCalls.{all_keep_off, is_buffered, may_own}
 use Rattle.run_laws.specs.RoundTrips.{WritesWhole}
 use Rattle.run_laws.proofs.BufferedMoves.{buffer_asks_none, flush_asks_none, open_asks_once}
 use Rattle.run_laws.proofs.CallMoves.{call_goes}
-use Rattle.run_laws.proofs.PartMoves.{GoesSo, IsByHandle}
+use Rattle.run_laws.proofs.PartMoves.{GoesSo, IsAnySite, IsByHandle}
 use Rattle.run_laws.proofs.LaneCalls.{all_before, all_more, call_stays, each_is, plain_path, plain_site}
 use Rattle.run_laws.proofs.LaneDirectories.{directory_at, directory_now, off_before, off_there}
 use Rattle.run_laws.proofs.OffRequests.{IsHarmless, IsOff, call_off, handle_off, is_still, on_paths_harmless}
@@ -141,7 +141,7 @@ may_hold name c = is_buffered c || may_own name c
 pub own_held : (name : Name) (c : Call) → may_own name c ≡ true → may_hold name c ≡ true
 own_held name c e = or_right (is_buffered c) (may_own name c) e
 
-held_still : (name : Name) (c : Call) → may_hold name c ≡ true → is_still c ≡ true
+pub held_still : (name : Name) (c : Call) → may_hold name c ≡ true → is_still c ≡ true
 held_still name (call.Cwd path) e = absurd cc
 held_still name other e = refl
 
@@ -275,8 +275,8 @@ asks_next name s past lane id r j w m =
         record {
           c = call.BufWriteAll slot bytes;
           is = is;
-          asks = subst (GoesSo IsByHandle site.directory) e (call_goes IsByHandle (call.BufWriteAll slot bytes) site
-              s.facts (own past lane k) (answer past) (λ q x. x) tt);
+          asks = subst (GoesSo IsByHandle IsAnySite) e (call_goes IsByHandle IsAnySite (call.BufWriteAll slot bytes) site
+              s.facts (own past lane k) (answer past) (λ q x. x) tt (λ other left x y b. tt) tt);
         }
     by_call (call.Buffer slot len) is e owns = absurd (buffer_asks_none slot len site s.facts (own past lane k) (answer past) r e)
     by_call (call.BufFlush slot) is e owns = absurd (flush_asks_none slot site s.facts (own past lane k) (answer past) r e)

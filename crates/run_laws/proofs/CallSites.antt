@@ -31,45 +31,27 @@ use Rattle.std.proofs.Common.{
   inl,
   inr,
 }
-use Rattle.std.specs.Prelude.{slice_get, slice_index_or, slice_set}
+use Rattle.std.specs.Prelude.{slice_get}
 use Rattle.std.proofs.lemmas.Bool.Decides.{eqb_tells}
 use Rattle.std.proofs.lemmas.List.{append-nil}
-use Rattle.sftp_model.specs.Slots.{slot_at}
-use Rattle.sftp_model.specs.declared.flags.OpenFlags.{OpenFlags}
 use Rattle.sftp_model.specs.declared.outcome.Outcome.{Outcome}
-use Rattle.sftp_model.specs.declared.outcome.Outcome.TheVariants as outcome
 use Rattle.sftp_model.specs.declared.reply.Reply.{Reply}
-use Rattle.sftp_model.specs.declared.reply.Reply.TheVariants as reply
-use Rattle.sftp_model.specs.declared.request.Request.{Request}
-use Rattle.sftp_model.specs.declared.slot.Buffer.{Buffer}
-use Rattle.sftp_model.specs.declared.slot.FileAt.{FileAt}
-use Rattle.sftp_model.specs.declared.slot.Move.TheVariants.{Ask, Done}
-use Rattle.sftp_model.specs.declared.slot.Site.{Site}
-use Rattle.sftp_model.specs.declared.slot.Slot.{Slot}
-use Rattle.sftp_model.specs.declared.slot.Slot.TheVariants.{Empty, File, Buffered}
-use Rattle.sftp_model.specs.OpenOptions.{flags_of}
-use Rattle.sftp_model.specs.declared.open_options.OpenOptions.{OpenOptions}
-use Rattle.plan_model.specs.FilePlans.{open_request, opened_file}
-use Rattle.plan_model.specs.Moves.{Answers, Own}
+use Rattle.sftp_model.specs.declared.slot.Move.TheVariants.{Done}
 use Rattle.plan_model.specs.declared.call.Call.{Call}
-use Rattle.plan_model.specs.declared.call.Call.TheVariants as call
 use Rattle.session_model.specs.declared.entry.Entry.{Entry}
 use Rattle.session_model.specs.declared.entry.Entry.TheVariants as entry
 use Rattle.session_model.specs.declared.event.Event.TheVariants.{End}
-use Rattle.session_model.specs.Calls.{GoesByPlan, Setting, call_at, calls_of, current, move_at, site_of}
+use Rattle.session_model.specs.Calls.{Setting, call_at, calls_of, current, move_at, site_of}
 use Rattle.session_model.specs.Journals.{IsJournal, MayCome}
 use Rattle.session_model.specs.Readings.{answer, ended, outcomes_of, own}
 use Rattle.session_model.proofs.CallLaws.{end_site, ended_end}
-use Rattle.session_model.proofs.CallsSoFar.{calls_so_far}
 use Rattle.session_model.proofs.HolderLaws.{may_of}
 use Rattle.run_laws.specs.Listings.{site_at}
 use Rattle.run_laws.proofs.JournalCalls.{answers_stay, ended_grows, own_stays, site_later, site_now}
-use Rattle.run_laws.proofs.OpenLaws.{open_is}
 use Rattle.run_laws.proofs.PlainRuns.{IsPlain, plain_calls}
 use Rattle.run_laws.specs.RoundTrips.{outcome_at}
-use Rattle.run_laws.proofs.BufferedMoves.{Buffers, Opens, buffer_leaves, open_leaves, open_once, set_is}
-use Rattle.run_laws.proofs.CallEnds.{EndsAt, ends_at, outcomes_count}
-use Rattle.run_laws.proofs.CallRequests.{first_asked, journal_before}
+use Rattle.run_laws.proofs.CallEnds.{EndsAt, outcomes_count}
+use Rattle.run_laws.proofs.CallRequests.{journal_before}
 use Rattle.run_laws.proofs.LaneCalls.{call_stays}
 use Rattle.plan_model.specs.CallPlans.{next}
 
@@ -227,105 +209,3 @@ outcome_at_end s past lane n k o q t lt e =
     outcome_before (end ∷ []) t.before lane k q (outcome_before t.more (end ∷ t.before) lane k q
     (subst (λ (l : List Entry). outcome_at l lane k ≡ Some q) (sym t.is) e) (omega (arith, lt, one, here)))
     (omega (arith, lt, here))
-
--- ---- a file that was opened and buffered
-
-set_there : (slots : List Slot) (k : ℕ) (x y : Slot) → slice_index_or slots k Empty ≡ y → y ≢ Empty → slice_index_or (slice_set slots k x) k Empty ≡ x
-set_there [] k x y e some = absurd (some (sym e))
-set_there (z ∷ slots) zero x y e some = refl
-set_there (z ∷ slots) (suc k) x y e some = set_there slots k x y e some
-
--- the lane's slot has a buffered file that its call with this number opened, which stands at its start
-pub record BufferedAt (s : Setting) (past : List Entry) (lane k slot : ℕ) (flags : OpenFlags) (path : List ℕ) : Type 0 where
-  pub w : ℕ × Request
-  pub opens : own past lane k ≡ w ∷ []
-  pub asks : w.1 ≡ open_request flags path
-  pub handle : List ℕ
-  pub came : answer past w.0 ≡ Some (reply.Handle handle)
-  pub file : FileAt
-  pub buffer : Buffer
-  pub there : slot_at (site_of s past lane) slot ≡ Buffered file buffer
-  pub grant : file.grant ≡ w.0
-  pub start : file.offset ≡ 0
-
-abbrev file_in : Slot → FileAt → FileAt
-file_in (File file) other = file
-file_in x other = other
-
-pub buffered_at : (s : Setting) (past : List Entry) (lane k slot : ℕ) (options : OpenOptions) (path : List ℕ) (len : ℕ)
-    (c : Call) → IsJournal s past → IsPlain past → ended past lane ≡ k + 2
-    → given_call s lane k ≡ Some (call.OpenFile slot options path) → given_call s lane (k + 1)
-    ≡ Some (call.Buffer slot len) → given_call s lane (k + 2) ≡ Some c
-    → outcome_at past lane k ≡ Some outcome.Opened → outcome_at past lane (k + 1) ≡ Some outcome.Done → BufferedAt s past lane k slot (flags_of options) path
-buffered_at s past lane k slot options path len c j p at opens buffers later opened buffered =
-    record {
-      w = op.first;
-      opens = own_since s past lane (k + 1) k outcome.Done t1 j (omega arith) ∙ (own_since s t1.before lane k k outcome.Opened t0 j1 (omega arith) ∙ one);
-      asks = open_is (flags_of options) path (site_of s t0.before lane) op.first.1 first.1;
-      handle = op.handle;
-      came = answer_since s past lane (k + 1) outcome.Done t1 j op.first.0 (reply.Handle op.handle)
-          (answer_since s t1.before lane k outcome.Opened t0 j1 op.first.0 (reply.Handle op.handle) op.came);
-      file = bu.file;
-      buffer = bu.buffer;
-      there = ap (λ (x : Site). slot_at x slot) (at_site ∙ bu.leaves)
-          ∙ set_there (site_of s t1.before lane).slots slot (Buffered bu.file bu.buffer) (File bu.file) bu.stood
-          (λ e. cc e);
-      grant = ap (λ (f : FileAt). f.grant) (sym same);
-      start = ap (λ (f : FileAt). f.offset) (sym same);
-    }
-  where
-    t1 : EndsAt s past lane (k + 1) outcome.Done
-    t1 = ends_at s past lane (k + 1) outcome.Done j (λ e. cc) buffered
-
-    j1 : IsJournal s t1.before
-    j1 = journal_at s past lane (k + 1) outcome.Done t1 j
-
-    p1 : IsPlain t1.before
-    p1 = plain_at s past lane (k + 1) outcome.Done t1 p
-
-    at_site : site_of s past lane ≡ t1.site
-    at_site = let two : k + 1 + 1 ≡ k + 2 = omega arith in site_left s past lane (k + 1) outcome.Done c t1 j p
-        (at ∙ sym two) (subst (λ (n : ℕ). given_call s lane n ≡ Some c) (sym two) later)
-
-    d1 : (current s t1.before lane ≡ Some (call.Buffer slot len))
-        × (next (call.Buffer slot len) (site_of s t1.before lane) s.facts (own t1.before lane (ended t1.before lane))
-        (answer t1.before) ≡ Done outcome.Done t1.site)
-    d1 = plan_done s past lane (k + 1) outcome.Done (call.Buffer slot len) t1 p buffers
-
-    bu : Buffers slot (site_of s t1.before lane) t1.site
-    bu = buffer_leaves slot len (site_of s t1.before lane) s.facts (own t1.before lane (ended t1.before lane)) (answer t1.before) t1.site d1.1
-
-    t0 : EndsAt s t1.before lane k outcome.Opened
-    t0 = ends_at s t1.before lane k outcome.Opened j1 (λ e. cc) (outcome_at_end s past lane (k + 1) k outcome.Done outcome.Opened t1 (omega arith) opened)
-
-    d0 : (current s t0.before lane ≡ Some (call.OpenFile slot options path))
-        × (next (call.OpenFile slot options path) (site_of s t0.before lane) s.facts
-        (own t0.before lane (ended t0.before lane)) (answer t0.before) ≡ Done outcome.Opened t0.site)
-    d0 = plan_done s t1.before lane k outcome.Opened (call.OpenFile slot options path) t0 p1 opens
-
-    op : Opens slot (flags_of options) (site_of s t0.before lane) (own t0.before lane (ended t0.before lane)) (answer t0.before) t0.site
-    op = open_leaves slot options path (site_of s t0.before lane) s.facts (own t0.before lane (ended t0.before lane)) (answer t0.before) t0.site d0.1
-
-    at_open : site_of s t1.before lane ≡ t0.site
-    at_open = site_left s t1.before lane k outcome.Opened (call.Buffer slot len) t0 j1 p1 t1.at buffers
-
-    set : File (opened_file (flags_of options) op.first.0) ≡ File bu.file
-    set = set_is (site_of s t0.before lane) slot (File (opened_file (flags_of options) op.first.0)) (File bu.file)
-        (ap (λ (x : Site). slot_at x slot) (sym (at_open ∙ op.leaves)) ∙ bu.stood) (λ e. cc e)
-
-    same : opened_file (flags_of options) op.first.0 ≡ bu.file
-    same = ap (λ (x : Slot). file_in x (opened_file (flags_of options) op.first.0)) set
-
-    plans : GoesByPlan s t0.before lane (call.OpenFile slot options path)
-    plans = calls_so_far s t0.before lane (call.OpenFile slot options path) (journal_at s t1.before lane k outcome.Opened t0 j1) d0.0
-
-    none_later : op.later ≡ []
-    none_later = open_once slot options path (site_of s t0.before lane) s.facts plans.requests
-        (answer t0.before) op.first op.later plans.so_far.asked (plans.are ∙ op.asks)
-
-    one : own t0.before lane k ≡ op.first ∷ []
-    one = ap (own t0.before lane) (sym t0.at) ∙ (op.asks ∙ ap (λ (l : Own). op.first ∷ l) none_later)
-
-    first : (before : Answers) × (next (call.OpenFile slot options path) (site_of s t0.before lane) s.facts [] before ≡ Ask op.first.1)
-    first = first_asked (next (call.OpenFile slot options path) (site_of s t0.before lane) s.facts)
-        plans.requests (answer t0.before) op.first op.later plans.so_far.asked (plans.are ∙ op.asks)

@@ -7,10 +7,11 @@ use Rattle.std.proofs.lemmas.Bool.{eq-eqb, ne_eqb}
 use Rattle.sftp_model.specs.Answers.{is_handle}
 use Rattle.sftp_model.specs.declared.config.ServerConfig.{ServerConfig}
 use Rattle.sftp_model.specs.declared.reply.Reply.TheVariants as reply
+use Rattle.sftp_model.specs.declared.request.Request.{Request}
 use Rattle.machine_model.proofs.ChangeLaws.{apply_leaves}
 use Rattle.machine_model.proofs.NameLaws.{handles_tell}
 use Rattle.machine_model.proofs.PairLaws.{found_push_here}
-use Rattle.machine_model.specs.Changes.{Change, Closes, Created, Granted, Truncated, changed, is_grant}
+use Rattle.machine_model.specs.Changes.{Change, Closes, Created, Granted, MayLead, OpensAsked, Truncated, changed, is_grant}
 use Rattle.machine_model.specs.FileTree.{FileTree, opened_at}
 use Rattle.machine_model.specs.Pairs.{Has}
 use Rattle.machine_model.specs.declared.opened.Held.{Held}
@@ -156,20 +157,24 @@ kinds_of config tree (s ∷ steps) place = if s.place == place then
     inside (kind_at (opened_at (answer_to config tree s).1 s.handle)) else
     kinds_of config (answer_to config tree s).1 steps place
 
-grant_opens : (tree : FileTree) (handle : List ℕ) (c : Change) → opened_at tree handle ≡ None → is_grant c ≡ true
-    → (o : Opened) × (opened_at (changed tree handle c) handle ≡ Some o)
-grant_opens tree handle (Granted o) none e = (o, found_push_here bytes_eq tree.handles handle o ((handles_tell handle handle).1 refl) none)
-grant_opens tree handle (Truncated file o) none e = (o, found_push_here bytes_eq tree.handles handle o ((handles_tell handle handle).1 refl) none)
-grant_opens tree handle (Created name o) none e = (o, found_push_here bytes_eq tree.handles handle o ((handles_tell handle handle).1 refl) none)
-grant_opens tree handle other none e = absurd cc
+grant_opens : (tree : FileTree) (r : Request) (handle : List ℕ) (c : Change) → opened_at tree handle ≡ None → is_grant c
+    ≡ true → MayLead tree r c → (o : Opened) × (opened_at (changed tree handle c) handle ≡ Some o) × OpensAsked r o
+grant_opens tree r handle (Granted o) none e may =
+    (o, found_push_here bytes_eq tree.handles handle o ((handles_tell handle handle).1 refl) none, may.1)
+grant_opens tree r handle (Truncated file o) none e may =
+    (o, found_push_here bytes_eq tree.handles handle o ((handles_tell handle handle).1 refl) none, may.3)
+grant_opens tree r handle (Created name o) none e may =
+    (o, found_push_here bytes_eq tree.handles handle o ((handles_tell handle handle).1 refl) none, may.3)
+grant_opens tree r handle other none e may = absurd cc
 
-step_opened : (config : ServerConfig) (tree : FileTree) (s : Step) → opened_at tree s.handle ≡ None
+-- what a step that is granted a handle opened, as its request asked
+pub step_opened : (config : ServerConfig) (tree : FileTree) (s : Step) → opened_at tree s.handle ≡ None
     → is_handle (answer_to config tree s).0 ≡ true → (o : Opened)
-    × (opened_at (answer_to config tree s).1 s.handle ≡ Some o)
+    × (opened_at (answer_to config tree s).1 s.handle ≡ Some o) × OpensAsked s.request o
 step_opened config tree s none e =
     let l = apply_leaves tree config s.request s.choice s.handle in
-    let p = grant_opens tree s.handle l.change none (sym l.said ∙ e) in
-    (p.0, ap (λ (w : FileTree). opened_at w s.handle) l.is ∙ p.1)
+    let p = grant_opens tree s.request s.handle l.change none (sym l.said ∙ e) l.may in
+    (p.0, ap (λ (w : FileTree). opened_at w s.handle) l.is ∙ p.1, p.2)
 
 known : (x : Option Opened) (o : Opened) → x ≡ Some o → kind_at x ≡ Some (inside (kind_at x))
 known x o e = ap kind_at e ∙ ap (λ (w : Option Opened). Some (inside (kind_at w))) (sym e)

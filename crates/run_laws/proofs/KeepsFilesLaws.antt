@@ -15,7 +15,7 @@ use Rattle.session_model.specs.Served.{Serves}
 use Rattle.session_model.specs.Settings.{setting_of}
 use Rattle.run_laws.specs.KeepsFiles.{KeepsFiles}
 use Rattle.run_laws.proofs.ListsFlushes.{run_flushes_writes, run_lists_directories}
-use Rattle.run_laws.proofs.ReadsBackLaws.{run_leaves_files, run_reads_back}
+use Rattle.run_laws.proofs.ReadsBackLaws.{run_leaves_files, run_reads_back, run_reads_flushed}
 
 pub run_keeps_files : (lanes : List Lane) (options : SftpOptions) (extensions : Extensions) (turns : List Turn)
     (past : List Entry) (config : ServerConfig) (choices : List Choice) (tree left : FileTree)
@@ -26,6 +26,7 @@ pub run_keeps_files : (lanes : List Lane) (options : SftpOptions) (extensions : 
 run_keeps_files lanes options extensions turns past config choices tree left run well served =
     record {
       reads_back = run_reads_back lanes options extensions turns past config choices tree left run well served;
+      reads_flushed = run_reads_flushed lanes options extensions turns past config choices tree left run well served;
       leaves = run_leaves_files lanes options extensions turns past config choices tree left run well served;
       lists = run_lists_directories lanes options extensions turns past config choices tree left run served;
       flushes = run_flushes_writes lanes options extensions turns past config choices tree left run well;

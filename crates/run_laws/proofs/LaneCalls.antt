@@ -49,7 +49,7 @@ use Rattle.session_model.specs.Calls.{Setting, call_at, lane_calls, left_by, sit
 use Rattle.session_model.specs.Readings.{answer, last_cancel, own}
 use Rattle.session_model.proofs.CallLaws.{added_here, added_other}
 use Rattle.run_laws.specs.NameCalls.{may_own}
-use Rattle.run_laws.proofs.CallMoves.{AsksPath, call_goes, cancelled_stays}
+use Rattle.run_laws.proofs.CallMoves.{AsksPath, IsKeptBy, call_goes, cancelled_goes}
 use Rattle.run_laws.proofs.PartMoves.{GoesSo}
 use Rattle.run_laws.proofs.OffRequests.{is_still, plain_joined}
 use Rattle.plan_model.specs.CallPlans.{next}
@@ -107,10 +107,10 @@ all_before test s more past lane all =
 abbrev pub HasNone : Site → Type 0
 HasNone site = site.directory ≡ []
 
-left_so : (P : Request → Type 0) (m : Move) (site : Site) → GoesSo P site.directory m → (left_by m site).directory ≡ site.directory
-left_so P (Done ended after) site goes = goes
-left_so P (Ask r) site goes = refl
-left_so P (Wait place) site goes = refl
+left_so : (P : Request → Type 0) (E : Site → Type 0) (m : Move) (site : Site) → GoesSo P E m → E site → E (left_by m site)
+left_so P E (Done ended after) site goes b = goes
+left_so P E (Ask r) site goes b = b
+left_so P E (Wait place) site goes b = b
 
 -- any request
 abbrev IsAny : Request → Type 0
@@ -128,11 +128,18 @@ any_path site facts (call.FsRead path bound) e = tt
 any_path site facts (call.FsWrite path bytes) e = tt
 any_path site facts other e = tt
 
+-- what the end of a call leaves that is no change of directory, for a property that is kept where it sets slots
+pub end_left : (E : Site → Type 0) (c : Call) (cancel : Option ℕ) (site : Site) (facts : Facts) (own : Own)
+    (answers : Answers) → is_still c ≡ true → IsKeptBy E c → E site → E (site_left (Some c) cancel site facts own answers)
+end_left E c None site facts own answers still k b =
+    left_so IsAny E (next c site facts own answers) site
+    (call_goes IsAny E c site facts own answers (λ r x. tt) (any_path site facts c still) k b) b
+end_left E c (Some lane) site facts own answers still k b = cancelled_goes E c site facts own answers k b
+
 pub call_left : (c : Call) (cancel : Option ℕ) (site : Site) (facts : Facts) (own : Own) (answers : Answers)
     → is_still c ≡ true → (site_left (Some c) cancel site facts own answers).directory ≡ site.directory
-call_left c None site facts own answers still =
-    left_so IsAny (next c site facts own answers) site (call_goes IsAny c site facts own answers (λ r x. tt) (any_path site facts c still))
-call_left c (Some lane) site facts own answers still = cancelled_stays c site facts own answers
+call_left c cancel site facts own answers still =
+    end_left (λ x. x.directory ≡ site.directory) c cancel site facts own answers still (λ slot left x y b. b) refl
 
 -- a lane none of whose calls changes its directory is in none
 pub plain_site : (s : Setting) (past : List Entry) (lane : ℕ) → list_all is_still (lane_calls s past lane) ≡ true → HasNone (site_of s past lane)

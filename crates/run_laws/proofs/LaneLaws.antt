@@ -175,7 +175,7 @@ all_behind r [] rising = (omega arith, tt)
 all_behind r (a ∷ later) rising = (let more = all_behind a later rising.1 in let lt : a.0 < behind a later = more.0 in
     let step : r.0 < a.0 = rising.0.0 in (omega (arith, lt, step), more))
 
-behind_within : (n : ℕ) (r : ℕ × Request) (later : Own) → AreBelow n (r ∷ later) → behind r later ≤ n
+pub behind_within : (n : ℕ) (r : ℕ × Request) (later : Own) → AreBelow n (r ∷ later) → behind r later ≤ n
 behind_within n r [] below = (let lt : r.0 < n = below.0 in omega (arith, lt))
 behind_within n r (a ∷ later) below = behind_within n a later below.1
 
@@ -229,7 +229,7 @@ lane_comes s past name lane n j t place a lt is plain = by_who (who_asked s past
         ]
 
 -- none of the requests of a later call stands within those of a call
-not_after : (s : Setting) (past : List Entry) (lane later c place : ℕ) (r : ℕ × Request) (read : Own) → IsJournal s past
+pub not_after : (s : Setting) (past : List Entry) (lane later c place : ℕ) (r : ℕ × Request) (read : Own) → IsJournal s past
     → own past lane later ≡ r ∷ read → place < behind r read → is_asked_by (asked_at past place) lane c ≡ true
     → later < c → ⊥
 not_after s past lane later c place r read j asks lt mine high =

@@ -1,15 +1,19 @@
 pub mod Alike
 pub mod AloneLaws
 pub mod AmongLaws
+pub mod AnewBack
 pub mod AnewLaws
 pub mod AnewRuns
 pub mod AskedInOrder
 pub mod Back
 pub mod BackLaws
 pub mod BearingLaws
+pub mod BetweenLaws
 pub mod BufferLaws
 pub mod BufferStays
 pub mod BufferedMoves
+pub mod BufferedBears
+pub mod BufferedSites
 pub mod CallEnds
 pub mod PartMoves
 pub mod CallMoves
@@ -20,6 +24,7 @@ pub mod DeferredLaws
 pub mod FirstLaws
 pub mod Fixing
 pub mod FlushedLaws
+pub mod FlushedReads
 pub mod GrantAtLaws
 pub mod GrantLaws
 pub mod HandleLaws
@@ -41,6 +46,7 @@ pub mod NodeLaws
 pub mod OffRequests
 pub mod OneText
 pub mod OpenLaws
+pub mod OpenedLaws
 pub mod OwnLaws
 pub mod Parts
 pub mod PassingLaws
@@ -48,6 +54,7 @@ pub mod PathLaws
 pub mod PieceLaws
 pub mod Placed
 pub mod PlainRuns
+pub mod PutLaws
 pub mod ReadLaws
 pub mod ReadsBackLaws
 pub mod RoundTripLaws

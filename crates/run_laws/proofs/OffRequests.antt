@@ -27,7 +27,7 @@ use Rattle.run_laws.specs.InJournals.{is_open_of}
 use Rattle.run_laws.specs.Sparing.{Avoids}
 use Rattle.run_laws.specs.NameCalls.{is_of_other, is_on_paths, keeps_off, stands_outside}
 use Rattle.run_laws.proofs.CallMoves.{AsksByPath, AsksPath, call_goes, path_call_goes}
-use Rattle.run_laws.proofs.PartMoves.{GoesSo, HoldsByHandle}
+use Rattle.run_laws.proofs.PartMoves.{GoesSo, HoldsByHandle, IsAnySite}
 use Rattle.plan_model.specs.CallPlans.{next}
 
 -- ---- requests
@@ -177,9 +177,9 @@ path_harmless name site facts other at is on off = absurd cc
 
 -- ---- what calls ask
 
-asks_so : (P : Request → Type 0) (d : List ℕ) (c : Call) (site : Site) (facts : Facts) (own : Own) (answers : Answers)
-    (r : Request) → GoesSo P d (next c site facts own answers) → next c site facts own answers ≡ Ask r → P r
-asks_so P d c site facts own answers r goes e = subst (GoesSo P d) e goes
+asks_so : (P : Request → Type 0) (c : Call) (site : Site) (facts : Facts) (own : Own) (answers : Answers) (r : Request)
+    → GoesSo P IsAnySite (next c site facts own answers) → next c site facts own answers ≡ Ask r → P r
+asks_so P c site facts own answers r goes e = subst (GoesSo P IsAnySite) e goes
 
 -- what a call on paths asks that keeps off the name keeps off it, and writes by no handle
 pub on_paths_harmless : (name : Name) (c : Call) (site : Site) (facts : Facts) (own : Own) (answers : Answers)
@@ -187,9 +187,9 @@ pub on_paths_harmless : (name : Name) (c : Call) (site : Site) (facts : Facts) (
     ≡ Ask r → IsHarmless name r
 on_paths_harmless name c site facts own answers r none e asks =
     let both = and_parts (is_on_paths c) (keeps_off name [] c) e in
-    asks_so (IsHarmless name) site.directory c site facts own answers r
-    (path_call_goes (IsHarmless name) c site facts own answers
-    (path_harmless name site facts c [] none both.0 both.1)) asks
+    asks_so (IsHarmless name) c site facts own answers r
+    (path_call_goes (IsHarmless name) IsAnySite c site facts own answers
+    (path_harmless name site facts c [] none both.0 both.1) tt) asks
 
 -- what a call of one path or a slot may ask: the request of the path, by its reading alone
 by_paths_off : (name : Name) (site : Site) (facts : Facts) (c : Call) → AsksByPath (IsHarmless name) site facts c
@@ -251,8 +251,9 @@ pub call_off : (name : Name) (c : Call) (site : Site) (facts : Facts) (own : Own
 call_off name c site facts own answers r at is off asks = by_kind (is_still c) refl
   where
     goes_on : is_still c ≡ true → IsOff name r
-    goes_on still = asks_so (IsOff name) site.directory c site facts own answers r
-        (call_goes (IsOff name) c site facts own answers (handle_off name) (path_off name site facts c at is still off))
+    goes_on still = asks_so (IsOff name) c site facts own answers r
+        (call_goes (IsOff name) IsAnySite c site facts own answers (handle_off name) (path_off name site facts c at is still off)
+        (λ slot left x y b. tt) tt)
         asks
 
     changes : (d : Call) → is_still d ≡ false → next d site facts own answers ≡ Ask r → IsOff name r

@@ -1,5 +1,5 @@
 -- What the parts of a plan ask, for any predicate on requests.
-use Rattle.std.proofs.Common.{◌≡◌, ◌+◌, ◌-◌, ◌==◌, ℕ, List, [], ◌∷◌, Option, Some, None, refl, if◌then◌else◌}
+use Rattle.std.proofs.Common.{◌+◌, ◌-◌, ◌==◌, ℕ, List, [], ◌∷◌, Option, Some, None, refl, if◌then◌else◌}
 use Rattle.std.specs.Prelude.{◌++◌, length, min, max, not, take, drop, pos, negsuc, nat_le, nat_lt}
 use Rattle.std.specs.declared.io.traits.SeekFrom.{SeekFrom}
 use Rattle.std.specs.declared.io.traits.SeekFrom.TheVariants.{Start, End, Current}
@@ -23,14 +23,78 @@ use Rattle.sftp_model.specs.declared.slot.Move.TheVariants.{Ask, Wait, Done}
 use Rattle.sftp_model.specs.declared.slot.Site.{Site}
 use Rattle.sftp_model.specs.declared.slot.Slot.{Slot}
 use Rattle.sftp_model.specs.declared.slot.Slot.TheVariants.{Empty, File, Buffered}
-use Rattle.plan_model.specs.BufferPlans.{after_write, buf_read_file_next, buffered_rest, deferrable_len, fill_next, flush_next, from_buffer, is_full, send_next, taken_out, was_filled, with_capacity, with_deferred, without_reading, written_slot}
+use Rattle.plan_model.specs.BufferPlans.{
+  after_write,
+  buf_read_file_next,
+  buffered_rest,
+  deferrable_len,
+  fill_next,
+  flush_next,
+  from_buffer,
+  is_full,
+  send_next,
+  taken_out,
+  was_filled,
+  with_capacity,
+  with_deferred,
+  without_reading,
+  written_slot,
+}
 use Rattle.plan_model.specs.declared.call.Call.TheVariants as call
-use Rattle.plan_model.specs.FilePlans.{ask_copy, ask_meta, ask_set, ask_sync, close_grant_next, close_slot_next, copied, copy_files_next, first_place, on_seek, open_request, opened, set_next}
-use Rattle.plan_model.specs.Moves.{Answers, Own, Plan, ask_path, ask_read, ask_write, by_reply, done_by, further, handle_of, offers, on_buffered, on_file, on_status, overflows, refuses, refuses_extension, told_by, is_too_long}
+use Rattle.plan_model.specs.FilePlans.{
+  ask_copy,
+  ask_meta,
+  ask_set,
+  ask_sync,
+  close_grant_next,
+  close_slot_next,
+  copied,
+  copy_files_next,
+  first_place,
+  on_seek,
+  open_request,
+  opened,
+  opened_file,
+  set_next,
+}
+use Rattle.plan_model.specs.Moves.{
+  Answers,
+  Own,
+  Plan,
+  ask_path,
+  ask_read,
+  ask_write,
+  by_reply,
+  done_by,
+  further,
+  handle_of,
+  offers,
+  on_buffered,
+  on_file,
+  on_status,
+  overflows,
+  refuses,
+  refuses_extension,
+  told_by,
+  is_too_long,
+}
 use Rattle.plan_model.specs.PathPlans.{named_by, path_done, path_named, path_told}
 use Rattle.plan_model.specs.TransferPlans.{Keeping, missing_next, next_part, part_len, read_first, rest_next, was_read, was_written, write_first}
 use Rattle.plan_model.specs.WholePlans.{entries_next, once_opened}
-use Rattle.plan_model.specs.WindowPlans.{ask_more, await_first, contents, ends_or, first_refusal, gaps, go_on, least, least_end, reaches, unless_refused, window_next}
+use Rattle.plan_model.specs.WindowPlans.{
+  ask_more,
+  await_first,
+  contents,
+  ends_or,
+  first_refusal,
+  gaps,
+  go_on,
+  least,
+  least_end,
+  reaches,
+  unless_refused,
+  window_next,
+}
 use Rattle.plan_model.proofs.CountLaws.{answered_in, on_entries, on_granted}
 use Rattle.plan_model.proofs.MoveLaws.{at_buffered, at_file, by_attrs, by_content, by_refusal, by_status, either}
 use Rattle.plan_model.specs.CallPlans.{next}
@@ -53,344 +117,362 @@ IsByHandle other = ⊥
 abbrev pub HoldsByHandle : (Request → Type 0) → Type 0
 HoldsByHandle P = (r : Request) → IsByHandle r → P r
 
--- where the move asks, it asks so, and where it ends the call, the lane is in this directory
-abbrev pub GoesSo : (Request → Type 0) → List ℕ → Move → Type 0
-GoesSo P d (Ask r) = P r
-GoesSo P d (Wait place) = Unit {0}
-GoesSo P d (Done o after) = after.directory ≡ d
+-- where the move asks, it asks so, and where it ends the call, so is what it leaves
+abbrev pub GoesSo : (Request → Type 0) → (Site → Type 0) → Move → Type 0
+GoesSo P E (Ask r) = P r
+GoesSo P E (Wait place) = Unit {0}
+GoesSo P E (Done o after) = E after
+
+abbrev pub IsAnySite : Site → Type 0
+IsAnySite site = Unit {0}
+
+-- what holds of a site still does once this slot is set
+abbrev pub IsKeptAt : (Site → Type 0) → ℕ → Type 0
+IsKeptAt E slot = (site : Site) (x : Slot) → E site → E (with_slot site slot x)
 
 -- ---- one request
 
-once_goes : (P : Request → Type 0) (d : List ℕ) (first : Move) (go : Reply → Move) (own : Own) (answers : Answers)
-    → GoesSo P d first → ((r : Reply) → GoesSo P d (go r)) → GoesSo P d (by_reply first go own answers)
-once_goes P d first go [] answers asks goes = asks
-once_goes P d first go (asked ∷ later) answers asks goes = answered_in (GoesSo P d) answers asked.0 (answers asked.0) go refl tt (λ r is. goes r)
+once_goes : (P : Request → Type 0) (E : Site → Type 0) (first : Move) (go : Reply → Move) (own : Own) (answers : Answers)
+    → GoesSo P E first → ((r : Reply) → GoesSo P E (go r)) → GoesSo P E (by_reply first go own answers)
+once_goes P E first go [] answers asks goes = asks
+once_goes P E first go (asked ∷ later) answers asks goes = answered_in (GoesSo P E) answers asked.0 (answers asked.0) go refl tt (λ r is. goes r)
 
-pub path_goes : (P : Request → Type 0) (d : List ℕ) (r : Request) (site : Site) → P r → site.directory ≡ d → GoesSo P d (ask_path r site)
-path_goes P d r site p b = either (GoesSo P d) (is_too_long r) (refuses kind.PathTooLong site) (Ask r) (λ e. b) (λ e. p)
+pub path_goes : (P : Request → Type 0) (E : Site → Type 0) (r : Request) (site : Site) → P r → E site → GoesSo P E (ask_path r site)
+path_goes P E r site p b = either (GoesSo P E) (is_too_long r) (refuses kind.PathTooLong site) (Ask r) (λ e. b) (λ e. p)
 
-done_goes : (P : Request → Type 0) (d : List ℕ) (site left : Site) (o : Outcome) (r : Reply) → site.directory ≡ d
-    → left.directory ≡ d → GoesSo P d (on_status r site (Done o left))
-done_goes P d site left o r b l = by_status (GoesSo P d) r site (Done o left) (λ x. b) l
+done_goes : (P : Request → Type 0) (E : Site → Type 0) (site left : Site) (o : Outcome) (r : Reply) → E site
+    → E left → GoesSo P E (on_status r site (Done o left))
+done_goes P E site left o r b l = by_status (GoesSo P E) r site (Done o left) (λ x. b) l
 
-pub path_done_goes : (P : Request → Type 0) (d : List ℕ) (r : Request) (site : Site) (own : Own) (answers : Answers) → P r
-    → site.directory ≡ d → GoesSo P d (path_done r site own answers)
-path_done_goes P d r site own answers p b = once_goes P d (ask_path r site) (done_by site) own answers
-    (path_goes P d r site p b) (λ y. done_goes P d site site outcome.Done y b b)
+pub path_done_goes : (P : Request → Type 0) (E : Site → Type 0) (r : Request) (site : Site) (own : Own) (answers : Answers) → P r
+    → E site → GoesSo P E (path_done r site own answers)
+path_done_goes P E r site own answers p b = once_goes P E (ask_path r site) (done_by site) own answers
+    (path_goes P E r site p b) (λ y. done_goes P E site site outcome.Done y b b)
 
-pub link_goes : (P : Request → Type 0) (d : List ℕ) (facts : Facts) (bit : ℕ) (r : Request) (site : Site) (own : Own) (answers : Answers) → P r → site.directory ≡ d
-    → GoesSo P d (by_reply (if offers facts bit then ask_path r site else refuses_extension bit site) (done_by site) own answers)
-link_goes P d facts bit r site own answers p b =
-    once_goes P d (if offers facts bit then ask_path r site else refuses_extension bit site) (done_by site) own answers
-    (either (GoesSo P d) (offers facts bit) (ask_path r site) (refuses_extension bit site)
-    (λ e. path_goes P d r site p b) (λ e. b)) (λ y. done_goes P d site site outcome.Done y b b)
+pub link_goes : (P : Request → Type 0) (E : Site → Type 0) (facts : Facts) (bit : ℕ) (r : Request) (site : Site) (own : Own) (answers : Answers) → P r → E site
+    → GoesSo P E (by_reply (if offers facts bit then ask_path r site else refuses_extension bit site) (done_by site) own answers)
+link_goes P E facts bit r site own answers p b =
+    once_goes P E (if offers facts bit then ask_path r site else refuses_extension bit site) (done_by site) own answers
+    (either (GoesSo P E) (offers facts bit) (ask_path r site) (refuses_extension bit site)
+    (λ e. path_goes P E r site p b) (λ e. b)) (λ y. done_goes P E site site outcome.Done y b b)
 
-pub path_told_goes : (P : Request → Type 0) (d : List ℕ) (r : Request) (site : Site) (own : Own) (answers : Answers) → P r
-    → site.directory ≡ d → GoesSo P d (path_told r site own answers)
-path_told_goes P d r site own answers p b = once_goes P d (ask_path r site) (told_by site) own answers
-    (path_goes P d r site p b) (λ y. by_attrs (GoesSo P d) y site (λ o. b))
+pub path_told_goes : (P : Request → Type 0) (E : Site → Type 0) (r : Request) (site : Site) (own : Own) (answers : Answers) → P r
+    → E site → GoesSo P E (path_told r site own answers)
+path_told_goes P E r site own answers p b = once_goes P E (ask_path r site) (told_by site) own answers
+    (path_goes P E r site p b) (λ y. by_attrs (GoesSo P E) y site (λ o. b))
 
-named_goes : (P : Request → Type 0) (d : List ℕ) (site : Site) (y : Reply) → site.directory ≡ d → GoesSo P d (named_by site y)
-named_goes P d site (reply.Names []) b = b
-named_goes P d site (reply.Names (entry ∷ entries)) b = b
-named_goes P d site (reply.Status code message language) b = b
-named_goes P d site y b = b
+named_goes : (P : Request → Type 0) (E : Site → Type 0) (site : Site) (y : Reply) → E site → GoesSo P E (named_by site y)
+named_goes P E site (reply.Names []) b = b
+named_goes P E site (reply.Names (entry ∷ entries)) b = b
+named_goes P E site (reply.Status code message language) b = b
+named_goes P E site y b = b
 
-pub path_named_goes : (P : Request → Type 0) (d : List ℕ) (r : Request) (site : Site) (own : Own) (answers : Answers) → P r
-    → site.directory ≡ d → GoesSo P d (path_named r site own answers)
-path_named_goes P d r site own answers p b = once_goes P d (ask_path r site) (named_by site) own answers
-    (path_goes P d r site p b) (λ y. named_goes P d site y b)
+pub path_named_goes : (P : Request → Type 0) (E : Site → Type 0) (r : Request) (site : Site) (own : Own) (answers : Answers) → P r
+    → E site → GoesSo P E (path_named r site own answers)
+path_named_goes P E r site own answers p b = once_goes P E (ask_path r site) (named_by site) own answers
+    (path_goes P E r site p b) (λ y. named_goes P E site y b)
 
 -- ---- files in slots
 
-pub file_goes : (P : Request → Type 0) (d : List ℕ) (site : Site) (slot : ℕ) (go : FileAt → Move) → site.directory ≡ d
-    → ((file : FileAt) → GoesSo P d (go file)) → GoesSo P d (on_file (slot_at site slot) site go)
-file_goes P d site slot go b goes = at_file (GoesSo P d) (slot_at site slot) site go (λ o. b) (λ file at. goes file)
+pub file_goes : (P : Request → Type 0) (E : Site → Type 0) (site : Site) (slot : ℕ) (go : FileAt → Move) → E site
+    → ((file : FileAt) → GoesSo P E (go file)) → GoesSo P E (on_file (slot_at site slot) site go)
+file_goes P E site slot go b goes = at_file (GoesSo P E) (slot_at site slot) site go (λ o. b) (λ file at. goes file)
 
-pub open_goes : (P : Request → Type 0) (d : List ℕ) (slot : ℕ) (flags : OpenFlags) (path : List ℕ) (site : Site) (own : Own)
-    (answers : Answers) → P (open_request flags path) → site.directory ≡ d
-    → GoesSo P d (by_reply (ask_path (open_request flags path) site) (opened slot flags site (first_place own)) own answers)
-open_goes P d slot flags path site own answers p b =
-    once_goes P d (ask_path (open_request flags path) site) (opened slot flags site (first_place own)) own answers
-    (path_goes P d (open_request flags path) site p b)
-    (λ r. on_granted (GoesSo P d) r site _ (λ o. b) (λ handle. b))
+pub open_goes : (P : Request → Type 0) (E : Site → Type 0) (slot : ℕ) (flags : OpenFlags) (path : List ℕ) (site : Site) (own : Own)
+    (answers : Answers) → P (open_request flags path) → IsKeptAt E slot → E site
+    → GoesSo P E (by_reply (ask_path (open_request flags path) site) (opened slot flags site (first_place own)) own answers)
+open_goes P E slot flags path site own answers p k b =
+    once_goes P E (ask_path (open_request flags path) site) (opened slot flags site (first_place own)) own answers
+    (path_goes P E (open_request flags path) site p b)
+    (λ r. on_granted (GoesSo P E) r site _ (λ o. b) (λ handle. k site (File (opened_file flags (first_place own))) b))
 
-pub close_goes : (P : Request → Type 0) (d : List ℕ) (slot : ℕ) (site : Site) (own : Own) (answers : Answers) (x : Slot)
-    → HoldsByHandle P → site.directory ≡ d → GoesSo P d (close_slot_next slot site own answers x)
-close_goes P d slot site own answers x h b = by_slot x
+pub close_goes : (P : Request → Type 0) (E : Site → Type 0) (slot : ℕ) (site : Site) (own : Own) (answers : Answers) (x : Slot)
+    → HoldsByHandle P → IsKeptAt E slot → E site → GoesSo P E (close_slot_next slot site own answers x)
+close_goes P E slot site own answers x h k b = by_slot x
   where
-    by_grant : (grant : ℕ) → GoesSo P d (close_grant_next grant (with_slot site slot Empty) own answers)
+    emptied : E (with_slot site slot Empty)
+    emptied = k site Empty b
+
+    by_grant : (grant : ℕ) → GoesSo P E (close_grant_next grant (with_slot site slot Empty) own answers)
     by_grant grant =
-        once_goes P d (if has_grant (with_slot site slot Empty) grant then
+        once_goes P E (if has_grant (with_slot site slot Empty) grant then
         Done outcome.Done (with_slot site slot Empty) else Ask (request.Close (handle_of (answers grant))))
         (done_by (with_slot site slot Empty)) own answers
-        (either (GoesSo P d) (has_grant (with_slot site slot Empty) grant)
-        (Done outcome.Done (with_slot site slot Empty)) (Ask (request.Close (handle_of (answers grant)))) (λ e. b)
+        (either (GoesSo P E) (has_grant (with_slot site slot Empty) grant)
+        (Done outcome.Done (with_slot site slot Empty)) (Ask (request.Close (handle_of (answers grant)))) (λ e. emptied)
         (λ e. h (request.Close (handle_of (answers grant))) tt))
-        (λ r. done_goes P d (with_slot site slot Empty) (with_slot site slot Empty) outcome.Done r b b)
+        (λ r. done_goes P E (with_slot site slot Empty) (with_slot site slot Empty) outcome.Done r emptied emptied)
 
-    by_slot : (y : Slot) → GoesSo P d (close_slot_next slot site own answers y)
+    by_slot : (y : Slot) → GoesSo P E (close_slot_next slot site own answers y)
     by_slot Empty = b
     by_slot (File file) = by_grant file.grant
     by_slot (Buffered file buffer) = by_grant file.grant
 
-pub set_goes : (P : Request → Type 0) (d : List ℕ) (facts : Facts) (slot : ℕ) (attrs : FileAttrs) (site : Site) (own : Own)
-    (answers : Answers) → HoldsByHandle P → site.directory ≡ d → GoesSo P d (set_next slot attrs site facts own answers)
-set_goes P d facts slot attrs site own answers h b = file_goes P d site slot _ b
-    (λ file. once_goes P d (ask_set attrs file site answers) (done_by site) own answers
-    (either (GoesSo P d) (not file.writable) (refuses kind.NotWritable site)
+pub set_goes : (P : Request → Type 0) (E : Site → Type 0) (facts : Facts) (slot : ℕ) (attrs : FileAttrs) (site : Site) (own : Own)
+    (answers : Answers) → HoldsByHandle P → E site → GoesSo P E (set_next slot attrs site facts own answers)
+set_goes P E facts slot attrs site own answers h b = file_goes P E site slot _ b
+    (λ file. once_goes P E (ask_set attrs file site answers) (done_by site) own answers
+    (either (GoesSo P E) (not file.writable) (refuses kind.NotWritable site)
     (Ask (request.Fsetstat (handle_of (answers file.grant)) attrs)) (λ e. b)
     (λ e. h (request.Fsetstat (handle_of (answers file.grant)) attrs) tt))
-    (λ r. done_goes P d site site outcome.Done r b b))
+    (λ r. done_goes P E site site outcome.Done r b b))
 
-pub meta_goes : (P : Request → Type 0) (d : List ℕ) (file : FileAt) (site : Site) (own : Own) (answers : Answers)
-    → HoldsByHandle P → site.directory ≡ d → GoesSo P d (by_reply (ask_meta file site answers) (told_by site) own
+pub meta_goes : (P : Request → Type 0) (E : Site → Type 0) (file : FileAt) (site : Site) (own : Own) (answers : Answers)
+    → HoldsByHandle P → E site → GoesSo P E (by_reply (ask_meta file site answers) (told_by site) own
     answers)
-meta_goes P d file site own answers h b = once_goes P d (ask_meta file site answers) (told_by site) own answers
-    (either (GoesSo P d) (not file.readable) (refuses kind.NotReadable site)
+meta_goes P E file site own answers h b = once_goes P E (ask_meta file site answers) (told_by site) own answers
+    (either (GoesSo P E) (not file.readable) (refuses kind.NotReadable site)
     (Ask (request.Fstat (handle_of (answers file.grant)))) (λ e. b)
     (λ e. h (request.Fstat (handle_of (answers file.grant))) tt))
-    (λ y. by_attrs (GoesSo P d) y site (λ o. b))
+    (λ y. by_attrs (GoesSo P E) y site (λ o. b))
 
-pub sync_goes : (P : Request → Type 0) (d : List ℕ) (facts : Facts) (file : FileAt) (site : Site) (own : Own)
-    (answers : Answers) → HoldsByHandle P → site.directory ≡ d
-    → GoesSo P d (by_reply (ask_sync file site facts answers) (done_by site) own answers)
-sync_goes P d facts file site own answers h b = once_goes P d (ask_sync file site facts answers) (done_by site) own answers
-    (either (GoesSo P d) (not (offers facts FSYNC)) (refuses_extension FSYNC site) _ (λ e. b)
-    (λ e. either (GoesSo P d) (not file.writable) (refuses kind.NotWritable site)
+pub sync_goes : (P : Request → Type 0) (E : Site → Type 0) (facts : Facts) (file : FileAt) (site : Site) (own : Own)
+    (answers : Answers) → HoldsByHandle P → E site
+    → GoesSo P E (by_reply (ask_sync file site facts answers) (done_by site) own answers)
+sync_goes P E facts file site own answers h b = once_goes P E (ask_sync file site facts answers) (done_by site) own answers
+    (either (GoesSo P E) (not (offers facts FSYNC)) (refuses_extension FSYNC site) _ (λ e. b)
+    (λ e. either (GoesSo P E) (not file.writable) (refuses kind.NotWritable site)
     (Ask (request.Fsync (handle_of (answers file.grant)))) (λ n. b)
     (λ n. h (request.Fsync (handle_of (answers file.grant))) tt)))
-    (λ r. done_goes P d site site outcome.Done r b b)
+    (λ r. done_goes P E site site outcome.Done r b b)
 
-pub copy_goes : (P : Request → Type 0) (d : List ℕ) (facts : Facts) (from to n : ℕ) (site : Site) (own : Own)
-    (answers : Answers) (source target : FileAt) → HoldsByHandle P → site.directory ≡ d
-    → GoesSo P d (copy_files_next from to n site facts own answers source target)
-copy_goes P d facts from to n site own answers source target h b = once_goes P d (ask_copy source target n site facts answers) _ own answers
-    (either (GoesSo P d) (not (offers facts COPY_DATA)) (refuses_extension COPY_DATA site) _ (λ e. b)
-    (λ e. either (GoesSo P d) (not target.writable) (refuses kind.NotWritable site) _ (λ f. b)
-    (λ f. either (GoesSo P d) (not source.readable) (refuses kind.NotReadable site) _ (λ g. b)
-    (λ g. either (GoesSo P d) (overflows source.offset n) (refuses kind.OffsetOverflow site) _ (λ i. b)
-    (λ i. either (GoesSo P d) (overflows target.offset n) (refuses kind.OffsetOverflow site)
+pub copy_goes : (P : Request → Type 0) (E : Site → Type 0) (facts : Facts) (from to n : ℕ) (site : Site) (own : Own)
+    (answers : Answers) (source target : FileAt) → HoldsByHandle P → IsKeptAt E from → IsKeptAt E to → E site
+    → GoesSo P E (copy_files_next from to n site facts own answers source target)
+copy_goes P E facts from to n site own answers source target h k l b = once_goes P E (ask_copy source target n site facts answers) _ own answers
+    (either (GoesSo P E) (not (offers facts COPY_DATA)) (refuses_extension COPY_DATA site) _ (λ e. b)
+    (λ e. either (GoesSo P E) (not target.writable) (refuses kind.NotWritable site) _ (λ f. b)
+    (λ f. either (GoesSo P E) (not source.readable) (refuses kind.NotReadable site) _ (λ g. b)
+    (λ g. either (GoesSo P E) (overflows source.offset n) (refuses kind.OffsetOverflow site) _ (λ i. b)
+    (λ i. either (GoesSo P E) (overflows target.offset n) (refuses kind.OffsetOverflow site)
     (Ask (request.CopyData (handle_of (answers source.grant)) source.offset n (handle_of (answers target.grant))
     target.offset)) (λ j. b)
     (λ j. h (request.CopyData (handle_of (answers source.grant)) source.offset n (handle_of (answers target.grant)) target.offset) tt))))))
-    (λ r. done_goes P d site (copied from to source target n site) outcome.Done r b b)
+    (λ r. done_goes P E site (copied from to source target n site) outcome.Done r b
+    (l (with_slot site from (File (further source n))) (File (further target n)) (k site (File (further source n)) b)))
 
-pub seek_goes : (P : Request → Type 0) (d : List ℕ) (position : SeekFrom) (offset : ℕ) (site : Site) (go : ℕ → Move)
-    → site.directory ≡ d → ((to : ℕ) → GoesSo P d (go to)) → GoesSo P d (on_seek position offset site go)
-seek_goes P d (Start n) offset site go b goes = goes n
-seek_goes P d (End n) offset site go b goes = b
-seek_goes P d (Current (pos n)) offset site go b goes = either (GoesSo P d) (overflows offset n)
+pub seek_goes : (P : Request → Type 0) (E : Site → Type 0) (position : SeekFrom) (offset : ℕ) (site : Site) (go : ℕ → Move)
+    → E site → ((to : ℕ) → GoesSo P E (go to)) → GoesSo P E (on_seek position offset site go)
+seek_goes P E (Start n) offset site go b goes = goes n
+seek_goes P E (End n) offset site go b goes = b
+seek_goes P E (Current (pos n)) offset site go b goes = either (GoesSo P E) (overflows offset n)
     (refuses kind.SeekOverflow site) (go (offset + n)) (λ e. b) (λ e. goes (offset + n))
-seek_goes P d (Current (negsuc n)) offset site go b goes = either (GoesSo P d) (nat_le offset n)
+seek_goes P E (Current (negsuc n)) offset site go b goes = either (GoesSo P E) (nat_le offset n)
     (refuses kind.SeekUnderflow site) (go (offset - (n + 1))) (λ e. b) (λ e. goes (offset - (n + 1)))
 
 -- ---- reads and writes
 
-read_goes : (P : Request → Type 0) (d : List ℕ) (file : FileAt) (len : ℕ) (site : Site) (answers : Answers)
-    → HoldsByHandle P → site.directory ≡ d → GoesSo P d (ask_read file len site answers)
-read_goes P d file len site answers h b =
-    either (GoesSo P d) (not file.readable) (refuses kind.NotReadable site) _ (λ e. b)
-    (λ e. either (GoesSo P d) (overflows file.offset len) (refuses kind.OffsetOverflow site)
+read_goes : (P : Request → Type 0) (E : Site → Type 0) (file : FileAt) (len : ℕ) (site : Site) (answers : Answers)
+    → HoldsByHandle P → E site → GoesSo P E (ask_read file len site answers)
+read_goes P E file len site answers h b =
+    either (GoesSo P E) (not file.readable) (refuses kind.NotReadable site) _ (λ e. b)
+    (λ e. either (GoesSo P E) (overflows file.offset len) (refuses kind.OffsetOverflow site)
     (Ask (request.Read (handle_of (answers file.grant)) file.offset len)) (λ o. b)
     (λ o. h (request.Read (handle_of (answers file.grant)) file.offset len) tt))
 
-write_goes : (P : Request → Type 0) (d : List ℕ) (file : FileAt) (bytes : List ℕ) (site : Site) (answers : Answers)
-    → HoldsByHandle P → site.directory ≡ d → GoesSo P d (ask_write file bytes site answers)
-write_goes P d file bytes site answers h b =
-    either (GoesSo P d) (not file.writable) (refuses kind.NotWritable site) _ (λ e. b)
-    (λ e. either (GoesSo P d) (overflows file.offset (length bytes)) (refuses kind.OffsetOverflow site)
+write_goes : (P : Request → Type 0) (E : Site → Type 0) (file : FileAt) (bytes : List ℕ) (site : Site) (answers : Answers)
+    → HoldsByHandle P → E site → GoesSo P E (ask_write file bytes site answers)
+write_goes P E file bytes site answers h b =
+    either (GoesSo P E) (not file.writable) (refuses kind.NotWritable site) _ (λ e. b)
+    (λ e. either (GoesSo P E) (overflows file.offset (length bytes)) (refuses kind.OffsetOverflow site)
     (Ask (request.Write (handle_of (answers file.grant)) file.offset bytes)) (λ o. b)
     (λ o. h (request.Write (handle_of (answers file.grant)) file.offset bytes) tt))
 
-pub was_read_goes : (P : Request → Type 0) (d : List ℕ) (facts : Facts) (slot n : ℕ) (file : FileAt) (site : Site)
-    (own : Own) (answers : Answers) → HoldsByHandle P → site.directory ≡ d
-    → GoesSo P d (by_reply (read_first file n site facts answers) (was_read slot file site) own answers)
-was_read_goes P d facts slot n file site own answers h b = once_goes P d (read_first file n site facts answers) (was_read slot file site) own answers
-    (either (GoesSo P d) (n == 0) (Done outcome.End site) (ask_read file (min n facts.read_len) site answers) (λ z. b)
-    (λ z. read_goes P d file (min n facts.read_len) site answers h b))
-    (λ r. by_content (GoesSo P d) r site (Done outcome.End site) _ (λ o. b) b (λ bytes. b))
+pub was_read_goes : (P : Request → Type 0) (E : Site → Type 0) (facts : Facts) (slot n : ℕ) (file : FileAt) (site : Site)
+    (own : Own) (answers : Answers) → HoldsByHandle P → IsKeptAt E slot → E site
+    → GoesSo P E (by_reply (read_first file n site facts answers) (was_read slot file site) own answers)
+was_read_goes P E facts slot n file site own answers h k b = once_goes P E (read_first file n site facts answers) (was_read slot file site) own answers
+    (either (GoesSo P E) (n == 0) (Done outcome.End site) (ask_read file (min n facts.read_len) site answers) (λ z. b)
+    (λ z. read_goes P E file (min n facts.read_len) site answers h b))
+    (λ r. by_content (GoesSo P E) r site (Done outcome.End site) _ (λ o. b) b
+    (λ bytes. k site (File (further file (length bytes))) b))
 
-pub missing_goes : (P : Request → Type 0) (d : List ℕ) (facts : Facts) (slot : ℕ) (file : FileAt) (got : List ℕ) (n : ℕ)
-    (site : Site) (own : Own) (answers : Answers) → HoldsByHandle P → site.directory ≡ d
-    → GoesSo P d (missing_next slot file got n site facts own answers)
-missing_goes P d facts slot file got n site [] answers h b =
-    either (GoesSo P d) (n == 0) (Done (outcome.Bytes got) site) (ask_read file (min n facts.read_len) site answers)
-    (λ z. b) (λ z. read_goes P d file (min n facts.read_len) site answers h b)
-missing_goes P d facts slot file got n site (asked ∷ later) answers h b =
-    answered_in (GoesSo P d) answers asked.0 (answers asked.0) _ refl tt (λ r is. by_content (GoesSo P d) r site (refuses kind.UnexpectedEof site) _ (λ o. b) b
-    (λ bytes. missing_goes P d facts slot (further file (length bytes)) _ _ (with_slot site slot (File (further file (length bytes)))) later answers h b))
+pub missing_goes : (P : Request → Type 0) (E : Site → Type 0) (facts : Facts) (slot : ℕ) (file : FileAt) (got : List ℕ) (n : ℕ)
+    (site : Site) (own : Own) (answers : Answers) → HoldsByHandle P → IsKeptAt E slot → E site
+    → GoesSo P E (missing_next slot file got n site facts own answers)
+missing_goes P E facts slot file got n site [] answers h k b =
+    either (GoesSo P E) (n == 0) (Done (outcome.Bytes got) site) (ask_read file (min n facts.read_len) site answers)
+    (λ z. b) (λ z. read_goes P E file (min n facts.read_len) site answers h b)
+missing_goes P E facts slot file got n site (asked ∷ later) answers h k b =
+    answered_in (GoesSo P E) answers asked.0 (answers asked.0) _ refl tt (λ r is. by_content (GoesSo P E) r site (refuses kind.UnexpectedEof site) _ (λ o. b) b
+    (λ bytes. missing_goes P E facts slot (further file (length bytes)) _ _ (with_slot site slot (File (further file (length bytes)))) later answers h k
+    (k site (File (further file (length bytes))) b)))
 
-pub was_written_goes : (P : Request → Type 0) (d : List ℕ) (facts : Facts) (slot : ℕ) (bytes : List ℕ) (file : FileAt)
-    (site : Site) (own : Own) (answers : Answers) → HoldsByHandle P → site.directory ≡ d
-    → GoesSo P d (by_reply (write_first file bytes site facts answers) (was_written slot file (part_len facts bytes) site) own answers)
-was_written_goes P d facts slot bytes file site own answers h b =
-    once_goes P d (write_first file bytes site facts answers) (was_written slot file (part_len facts bytes) site) own
+pub was_written_goes : (P : Request → Type 0) (E : Site → Type 0) (facts : Facts) (slot : ℕ) (bytes : List ℕ) (file : FileAt)
+    (site : Site) (own : Own) (answers : Answers) → HoldsByHandle P → IsKeptAt E slot → E site
+    → GoesSo P E (by_reply (write_first file bytes site facts answers) (was_written slot file (part_len facts bytes) site) own answers)
+was_written_goes P E facts slot bytes file site own answers h k b =
+    once_goes P E (write_first file bytes site facts answers) (was_written slot file (part_len facts bytes) site) own
     answers
-    (either (GoesSo P d) (length bytes == 0) (Done (outcome.Count 0) site) _ (λ z. b) (λ z. write_goes P d file (next_part facts bytes) site answers h b))
-    (λ r. done_goes P d site (with_slot site slot (File (further file (part_len facts bytes)))) (outcome.Count (part_len facts bytes)) r b b)
+    (either (GoesSo P E) (length bytes == 0) (Done (outcome.Count 0) site) _ (λ z. b) (λ z. write_goes P E file (next_part facts bytes) site answers h b))
+    (λ r. done_goes P E site (with_slot site slot (File (further file (part_len facts bytes)))) (outcome.Count (part_len facts bytes)) r b
+    (k site (File (further file (part_len facts bytes))) b))
 
-pub parts_go : (P : Request → Type 0) (d : List ℕ) (facts : Facts) (keep : Keeping) (file : FileAt) (bytes : List ℕ)
+pub parts_go : (P : Request → Type 0) (E : Site → Type 0) (facts : Facts) (keep : Keeping) (file : FileAt) (bytes : List ℕ)
     (site : Site) (own : Own) (answers : Answers) → HoldsByHandle P
-    → ((f : FileAt) (x : Site) → x.directory ≡ d → (keep f x).directory ≡ d)
-    → site.directory ≡ d → GoesSo P d (rest_next keep file bytes site facts own answers)
-parts_go P d facts keep file bytes site [] answers h keeps b =
-    either (GoesSo P d) (length bytes == 0) (Done outcome.Done site) _ (λ z. b) (λ z. write_goes P d file (next_part facts bytes) site answers h b)
-parts_go P d facts keep file bytes site (asked ∷ later) answers h keeps b =
-    answered_in (GoesSo P d) answers asked.0 (answers asked.0) _ refl tt (λ r is. by_status (GoesSo P d) r site _ (λ o. b)
-    (parts_go P d facts keep (further file (part_len facts bytes)) (drop (part_len facts bytes) bytes)
+    → ((f : FileAt) (x : Site) → E x → E (keep f x))
+    → E site → GoesSo P E (rest_next keep file bytes site facts own answers)
+parts_go P E facts keep file bytes site [] answers h keeps b =
+    either (GoesSo P E) (length bytes == 0) (Done outcome.Done site) _ (λ z. b) (λ z. write_goes P E file (next_part facts bytes) site answers h b)
+parts_go P E facts keep file bytes site (asked ∷ later) answers h keeps b =
+    answered_in (GoesSo P E) answers asked.0 (answers asked.0) _ refl tt (λ r is. by_status (GoesSo P E) r site _ (λ o. b)
+    (parts_go P E facts keep (further file (part_len facts bytes)) (drop (part_len facts bytes) bytes)
     (keep (further file (part_len facts bytes)) site) later answers h keeps
     (keeps (further file (part_len facts bytes)) site b)))
 
 -- ---- whole files and listings
 
-pub opened_goes : (P : Request → Type 0) (d : List ℕ) (first : Move) (site : Site) (go : ℕ → List ℕ → Plan) (own : Own)
-    (answers : Answers) → site.directory ≡ d → GoesSo P d first
-    → ((place : ℕ) (handle : List ℕ) (later : Own) → GoesSo P d (go place handle later answers)) → GoesSo P d (once_opened first site go own answers)
-opened_goes P d first site go [] answers b asks goes = asks
-opened_goes P d first site go (asked ∷ later) answers b asks goes =
-    answered_in (GoesSo P d) answers asked.0 (answers asked.0) _ refl tt
-    (λ r is. on_granted (GoesSo P d) r site _ (λ o. b) (λ handle. goes asked.0 handle later))
+pub opened_goes : (P : Request → Type 0) (E : Site → Type 0) (first : Move) (site : Site) (go : ℕ → List ℕ → Plan) (own : Own)
+    (answers : Answers) → E site → GoesSo P E first
+    → ((place : ℕ) (handle : List ℕ) (later : Own) → GoesSo P E (go place handle later answers)) → GoesSo P E (once_opened first site go own answers)
+opened_goes P E first site go [] answers b asks goes = asks
+opened_goes P E first site go (asked ∷ later) answers b asks goes =
+    answered_in (GoesSo P E) answers asked.0 (answers asked.0) _ refl tt
+    (λ r is. on_granted (GoesSo P E) r site _ (λ o. b) (λ handle. goes asked.0 handle later))
 
-pub entries_go : (P : Request → Type 0) (d : List ℕ) (handle : List ℕ) (got : List NameEntry) (bound : ℕ) (site : Site)
-    (own : Own) (answers : Answers) → P (request.Readdir handle) → site.directory ≡ d
-    → GoesSo P d (entries_next handle got bound site own answers)
-entries_go P d handle got bound site [] answers p b = either (GoesSo P d) (bound == 0) (Done outcome.GivenUp site)
+pub entries_go : (P : Request → Type 0) (E : Site → Type 0) (handle : List ℕ) (got : List NameEntry) (bound : ℕ) (site : Site)
+    (own : Own) (answers : Answers) → P (request.Readdir handle) → E site
+    → GoesSo P E (entries_next handle got bound site own answers)
+entries_go P E handle got bound site [] answers p b = either (GoesSo P E) (bound == 0) (Done outcome.GivenUp site)
     (Ask (request.Readdir handle)) (λ e. b) (λ e. p)
-entries_go P d handle got bound site (asked ∷ later) answers p b =
-    answered_in (GoesSo P d) answers asked.0 (answers asked.0) _ refl tt (λ r is. on_entries (GoesSo P d) r site (Done (outcome.Names got) site) _ (λ o. b) b
-    (λ entries. entries_go P d handle (got ++ entries) (bound - 1) site later answers p b))
+entries_go P E handle got bound site (asked ∷ later) answers p b =
+    answered_in (GoesSo P E) answers asked.0 (answers asked.0) _ refl tt (λ r is. on_entries (GoesSo P E) r site (Done (outcome.Names got) site) _ (λ o. b) b
+    (λ entries. entries_go P E handle (got ++ entries) (bound - 1) site later answers p b))
 
-awaits_go : (P : Request → Type 0) (d : List ℕ) (waiting : Own) (site : Site) → site.directory ≡ d → GoesSo P d (await_first waiting site)
-awaits_go P d [] site b = b
-awaits_go P d (asked ∷ later) site b = tt
+awaits_go : (P : Request → Type 0) (E : Site → Type 0) (waiting : Own) (site : Site) → E site → GoesSo P E (await_first waiting site)
+awaits_go P E [] site b = b
+awaits_go P E (asked ∷ later) site b = tt
 
-more_go : (P : Request → Type 0) (d : List ℕ) (facts : Facts) (handle : List ℕ) (reads : Own)
-    (replies : List (ℕ × Reply)) (waiting : Own) (site : Site) (gap end : Option ℕ) → HoldsByHandle P → site.directory
-    ≡ d
-    → GoesSo P d (ask_more handle reads replies waiting site facts gap end)
-more_go P d facts handle reads replies waiting site (Some p) end h b = h _ tt
-more_go P d facts handle reads replies waiting site None None h b = h _ tt
-more_go P d facts handle reads replies waiting site None (Some end) h b = awaits_go P d waiting site b
+more_go : (P : Request → Type 0) (E : Site → Type 0) (facts : Facts) (handle : List ℕ) (reads : Own)
+    (replies : List (ℕ × Reply)) (waiting : Own) (site : Site) (gap end : Option ℕ) → HoldsByHandle P → E site
+    → GoesSo P E (ask_more handle reads replies waiting site facts gap end)
+more_go P E facts handle reads replies waiting site (Some p) end h b = h _ tt
+more_go P E facts handle reads replies waiting site None None h b = h _ tt
+more_go P E facts handle reads replies waiting site None (Some end) h b = awaits_go P E waiting site b
 
-ends_go : (P : Request → Type 0) (d : List ℕ) (missing : List ℕ) (replies : List (ℕ × Reply)) (waiting : Own)
-    (site : Site) (end : Option ℕ) (other : Move) → site.directory ≡ d → GoesSo P d other
-    → GoesSo P d (ends_or missing replies waiting site end other)
-ends_go P d [] replies [] site (Some end) other b goes = b
-ends_go P d [] replies [] site None other b goes = goes
-ends_go P d [] replies (asked ∷ later) site end other b goes = goes
-ends_go P d (p ∷ ps) replies waiting site end other b goes = goes
+ends_go : (P : Request → Type 0) (E : Site → Type 0) (missing : List ℕ) (replies : List (ℕ × Reply)) (waiting : Own)
+    (site : Site) (end : Option ℕ) (other : Move) → E site → GoesSo P E other
+    → GoesSo P E (ends_or missing replies waiting site end other)
+ends_go P E [] replies [] site (Some end) other b goes = b
+ends_go P E [] replies [] site None other b goes = goes
+ends_go P E [] replies (asked ∷ later) site end other b goes = goes
+ends_go P E (p ∷ ps) replies waiting site end other b goes = goes
 
-pub window_goes : (P : Request → Type 0) (d : List ℕ) (facts : Facts) (handle : List ℕ) (bound : Option ℕ) (reads : Own)
-    (replies : List (ℕ × Reply)) (waiting : Own) (site : Site) → HoldsByHandle P → site.directory ≡ d
-    → GoesSo P d (window_next handle bound reads replies waiting site facts)
-window_goes P d facts handle bound reads replies waiting site h b = by_refused (first_refusal replies)
+pub window_goes : (P : Request → Type 0) (E : Site → Type 0) (facts : Facts) (handle : List ℕ) (bound : Option ℕ) (reads : Own)
+    (replies : List (ℕ × Reply)) (waiting : Own) (site : Site) → HoldsByHandle P → E site
+    → GoesSo P E (window_next handle bound reads replies waiting site facts)
+window_goes P E facts handle bound reads replies waiting site h b = by_refused (first_refusal replies)
   where
-    goes : GoesSo P d (go_on handle bound reads replies waiting site facts)
+    goes : GoesSo P E (go_on handle bound reads replies waiting site facts)
     goes =
-        either (GoesSo P d) (reaches bound (length (contents replies))) (Done outcome.GivenUp site) _ (λ e. b)
-        (λ e. either (GoesSo P d) (nat_lt (length waiting) facts.read_window)
+        either (GoesSo P E) (reaches bound (length (contents replies))) (Done outcome.GivenUp site) _ (λ e. b)
+        (λ e. either (GoesSo P E) (nat_lt (length waiting) facts.read_window)
         (ask_more handle reads replies waiting site facts (least (gaps reads replies waiting)) (least_end replies))
         (await_first waiting site)
-        (λ f. more_go P d facts handle reads replies waiting site (least (gaps reads replies waiting))
-        (least_end replies) h b) (λ f. awaits_go P d waiting site b))
+        (λ f. more_go P E facts handle reads replies waiting site (least (gaps reads replies waiting))
+        (least_end replies) h b) (λ f. awaits_go P E waiting site b))
 
-    by_refused : (o : Option (ℕ × Reply)) → GoesSo P d (unless_refused o site
+    by_refused : (o : Option (ℕ × Reply)) → GoesSo P E (unless_refused o site
         (ends_or (gaps reads replies waiting) replies waiting site (least_end replies)
         (go_on handle bound reads replies waiting site facts)))
-    by_refused None = ends_go P d (gaps reads replies waiting) replies waiting site (least_end replies)
+    by_refused None = ends_go P E (gaps reads replies waiting) replies waiting site (least_end replies)
         (go_on handle bound reads replies waiting site facts) b goes
-    by_refused (Some got) = by_refusal (GoesSo P d) got.1 site (λ o. b)
+    by_refused (Some got) = by_refusal (GoesSo P E) got.1 site (λ o. b)
 
 -- ---- buffered files
 
-pub buffered_goes : (P : Request → Type 0) (d : List ℕ) (site : Site) (slot : ℕ) (go : FileAt → Buffer → Move)
-    → site.directory ≡ d → ((file : FileAt) (buffer : Buffer) → GoesSo P d (go file buffer))
-    → GoesSo P d (on_buffered (slot_at site slot) site go)
-buffered_goes P d site slot go b goes = at_buffered (GoesSo P d) (slot_at site slot) site go (λ o. b) (λ file buffer at. goes file buffer)
+pub buffered_goes : (P : Request → Type 0) (E : Site → Type 0) (site : Site) (slot : ℕ) (go : FileAt → Buffer → Move)
+    → E site → ((file : FileAt) (buffer : Buffer) → GoesSo P E (go file buffer))
+    → GoesSo P E (on_buffered (slot_at site slot) site go)
+buffered_goes P E site slot go b goes = at_buffered (GoesSo P E) (slot_at site slot) site go (λ o. b) (λ file buffer at. goes file buffer)
 
-filled_goes : (P : Request → Type 0) (d : List ℕ) (slot n : ℕ) (file : FileAt) (buffer : Buffer) (site : Site)
-    (r : Reply) → site.directory ≡ d → GoesSo P d (was_filled slot n file buffer site r)
-filled_goes P d slot n file buffer site r b =
-    by_content (GoesSo P d) r (without_reading slot file buffer site) (Done outcome.End (without_reading slot file buffer site)) _ (λ o. b) b (λ bytes. b)
+filled_goes : (P : Request → Type 0) (E : Site → Type 0) (slot n : ℕ) (file : FileAt) (buffer : Buffer) (site : Site)
+    (r : Reply) → IsKeptAt E slot → E site → GoesSo P E (was_filled slot n file buffer site r)
+filled_goes P E slot n file buffer site r k b =
+    let left : E (without_reading slot file buffer site) = k site (Buffered file (record buffer { reading = None })) b in
+    by_content (GoesSo P E) r (without_reading slot file buffer site)
+    (Done outcome.End (without_reading slot file buffer site)) _ (λ o. left) left (λ bytes. k site _ b)
 
-fill_goes : (P : Request → Type 0) (d : List ℕ) (facts : Facts) (slot n : ℕ) (file : FileAt) (buffer : Buffer)
-    (site : Site) (reading : Option ℕ) (own : Own) (answers : Answers) → HoldsByHandle P → site.directory ≡ d
-    → GoesSo P d (fill_next slot n file buffer site facts reading own answers)
-fill_goes P d facts slot n file buffer site (Some place) own answers h b =
-    answered_in (GoesSo P d) answers place (answers place) _ refl tt
-    (λ r is. filled_goes P d slot n file buffer site r b)
-fill_goes P d facts slot n file buffer site None own answers h b =
-    once_goes P d (ask_read file (min (max n buffer.len) facts.read_len) site answers)
-    (was_filled slot n file buffer site) own answers (read_goes P d file (min (max n buffer.len) facts.read_len)
+fill_goes : (P : Request → Type 0) (E : Site → Type 0) (facts : Facts) (slot n : ℕ) (file : FileAt) (buffer : Buffer)
+    (site : Site) (reading : Option ℕ) (own : Own) (answers : Answers) → HoldsByHandle P → IsKeptAt E slot → E site
+    → GoesSo P E (fill_next slot n file buffer site facts reading own answers)
+fill_goes P E facts slot n file buffer site (Some place) own answers h k b =
+    answered_in (GoesSo P E) answers place (answers place) _ refl tt
+    (λ r is. filled_goes P E slot n file buffer site r k b)
+fill_goes P E facts slot n file buffer site None own answers h k b =
+    once_goes P E (ask_read file (min (max n buffer.len) facts.read_len) site answers)
+    (was_filled slot n file buffer site) own answers (read_goes P E file (min (max n buffer.len) facts.read_len)
     site answers h b)
-    (λ r. filled_goes P d slot n file buffer site r b)
+    (λ r. filled_goes P E slot n file buffer site r k b)
 
-from_goes : (P : Request → Type 0) (d : List ℕ) (facts : Facts) (slot n : ℕ) (file : FileAt) (buffer : Buffer)
-    (site : Site) (bytes : List ℕ) (own : Own) (answers : Answers) → HoldsByHandle P → site.directory ≡ d
-    → GoesSo P d (from_buffer slot n file buffer site facts bytes own answers)
-from_goes P d facts slot n file buffer site [] own answers h b = fill_goes P d facts slot n file buffer site buffer.reading own answers h b
-from_goes P d facts slot n file buffer site (c ∷ bytes) own answers h b = b
+from_goes : (P : Request → Type 0) (E : Site → Type 0) (facts : Facts) (slot n : ℕ) (file : FileAt) (buffer : Buffer)
+    (site : Site) (bytes : List ℕ) (own : Own) (answers : Answers) → HoldsByHandle P → IsKeptAt E slot → E site
+    → GoesSo P E (from_buffer slot n file buffer site facts bytes own answers)
+from_goes P E facts slot n file buffer site [] own answers h k b = fill_goes P E facts slot n file buffer site buffer.reading own answers h k b
+from_goes P E facts slot n file buffer site (c ∷ bytes) own answers h k b = k site _ b
 
-pub buf_read_goes : (P : Request → Type 0) (d : List ℕ) (facts : Facts) (slot n : ℕ) (file : FileAt) (buffer : Buffer)
-    (site : Site) (own : Own) (answers : Answers) → HoldsByHandle P → site.directory ≡ d
-    → GoesSo P d (buf_read_file_next slot n site facts own answers file buffer)
-buf_read_goes P d facts slot n file buffer site own answers h b =
-    either (GoesSo P d) (not file.readable) (refuses kind.NotReadable site) _ (λ e. b)
-    (λ e. either (GoesSo P d) (n == 0) (Done (outcome.Bytes []) site)
+pub buf_read_goes : (P : Request → Type 0) (E : Site → Type 0) (facts : Facts) (slot n : ℕ) (file : FileAt) (buffer : Buffer)
+    (site : Site) (own : Own) (answers : Answers) → HoldsByHandle P → IsKeptAt E slot → E site
+    → GoesSo P E (buf_read_file_next slot n site facts own answers file buffer)
+buf_read_goes P E facts slot n file buffer site own answers h k b =
+    either (GoesSo P E) (not file.readable) (refuses kind.NotReadable site) _ (λ e. b)
+    (λ e. either (GoesSo P E) (n == 0) (Done (outcome.Bytes []) site)
     (from_buffer slot n file buffer site facts buffer.bytes own answers) (λ z. b)
-    (λ z. from_goes P d facts slot n file buffer site buffer.bytes own answers h b))
+    (λ z. from_goes P E facts slot n file buffer site buffer.bytes own answers h k b))
 
-taken_goes : (P : Request → Type 0) (d : List ℕ) (slot : ℕ) (file : FileAt) (buffer : Buffer) (site : Site)
-    (answers : Answers) (writes : List (ℕ × ℕ)) (go : Buffer → Site → Move) → site.directory ≡ d
-    → ((freed : Buffer) (x : Site) → x.directory ≡ d → GoesSo P d (go freed x)) → GoesSo P d (taken_out slot file buffer site answers writes go)
-taken_goes P d slot file buffer site answers [] go b goes = goes buffer site b
-taken_goes P d slot file buffer site answers (write ∷ writes) go b goes =
-    answered_in (GoesSo P d) answers write.0 (answers write.0) _ refl tt
-    (λ r is. by_status (GoesSo P d) r (with_deferred slot file buffer site writes) _ (λ o. b)
-    (goes (record buffer { deferred = writes }) (with_deferred slot file buffer site writes) b))
+taken_goes : (P : Request → Type 0) (E : Site → Type 0) (slot : ℕ) (file : FileAt) (buffer : Buffer) (site : Site)
+    (answers : Answers) (writes : List (ℕ × ℕ)) (go : Buffer → Site → Move) → IsKeptAt E slot → E site
+    → ((freed : Buffer) (x : Site) → E x → GoesSo P E (go freed x)) → GoesSo P E (taken_out slot file buffer site answers writes go)
+taken_goes P E slot file buffer site answers [] go k b goes = goes buffer site b
+taken_goes P E slot file buffer site answers (write ∷ writes) go k b goes =
+    let left : E (with_deferred slot file buffer site writes) = k site (Buffered file (record buffer { deferred = writes })) b in
+    answered_in (GoesSo P E) answers write.0 (answers write.0) _ refl tt
+    (λ r is. by_status (GoesSo P E) r (with_deferred slot file buffer site writes) _ (λ o. left)
+    (goes (record buffer { deferred = writes }) (with_deferred slot file buffer site writes) left))
 
-capacity_goes : (P : Request → Type 0) (d : List ℕ) (facts : Facts) (slot : ℕ) (file : FileAt) (buffer : Buffer)
-    (site : Site) (answers : Answers) (go : Buffer → Site → Move) → site.directory ≡ d
-    → ((freed : Buffer) (x : Site) → x.directory ≡ d → GoesSo P d (go freed x)) → GoesSo P d (with_capacity slot file buffer site facts answers go)
-capacity_goes P d facts slot file buffer site answers go b goes =
-    either (GoesSo P d) (is_full facts buffer) (taken_out slot file buffer site answers buffer.deferred go)
-    (go buffer site) (λ e. taken_goes P d slot file buffer site answers buffer.deferred go b goes)
+capacity_goes : (P : Request → Type 0) (E : Site → Type 0) (facts : Facts) (slot : ℕ) (file : FileAt) (buffer : Buffer)
+    (site : Site) (answers : Answers) (go : Buffer → Site → Move) → IsKeptAt E slot → E site
+    → ((freed : Buffer) (x : Site) → E x → GoesSo P E (go freed x)) → GoesSo P E (with_capacity slot file buffer site facts answers go)
+capacity_goes P E facts slot file buffer site answers go k b goes =
+    either (GoesSo P E) (is_full facts buffer) (taken_out slot file buffer site answers buffer.deferred go)
+    (go buffer site) (λ e. taken_goes P E slot file buffer site answers buffer.deferred go k b goes)
     (λ e. goes buffer site b)
 
-send_goes : (P : Request → Type 0) (d : List ℕ) (facts : Facts) (slot : ℕ) (file : FileAt) (bytes : List ℕ) (own : Own)
-    (answers : Answers) (buffer : Buffer) (site : Site) → HoldsByHandle P → site.directory ≡ d
-    → GoesSo P d (send_next slot file bytes facts own answers buffer site)
-send_goes P d facts slot file bytes [] answers buffer site h b = write_goes P d file (take (deferrable_len facts bytes buffer) bytes) site answers h b
-send_goes P d facts slot file bytes (asked ∷ later) answers buffer site h b = b
+send_goes : (P : Request → Type 0) (E : Site → Type 0) (facts : Facts) (slot : ℕ) (file : FileAt) (bytes : List ℕ) (own : Own)
+    (answers : Answers) (buffer : Buffer) (site : Site) → HoldsByHandle P → IsKeptAt E slot → E site
+    → GoesSo P E (send_next slot file bytes facts own answers buffer site)
+send_goes P E facts slot file bytes [] answers buffer site h k b = write_goes P E file (take (deferrable_len facts bytes buffer) bytes) site answers h b
+send_goes P E facts slot file bytes (asked ∷ later) answers buffer site h k b = k site _ b
 
-pub buf_write_goes : (P : Request → Type 0) (d : List ℕ) (facts : Facts) (slot : ℕ) (bytes : List ℕ) (site : Site)
-    (own : Own) (answers : Answers) → HoldsByHandle P → site.directory ≡ d
-    → GoesSo P d (next (call.BufWrite slot bytes) site facts own answers)
-buf_write_goes P d facts slot bytes site own answers h b = buffered_goes P d site slot _ b (λ file buffer.
-    either (GoesSo P d) (not file.writable) (refuses kind.NotWritable site) _ (λ e. b)
-    (λ e. either (GoesSo P d) (length bytes == 0) (Done (outcome.Count 0) site) _ (λ z. b)
-    (λ z. capacity_goes P d facts slot file buffer site answers _ b (λ freed x k. send_goes P d facts slot file bytes own answers freed x h k))))
+pub buf_write_goes : (P : Request → Type 0) (E : Site → Type 0) (facts : Facts) (slot : ℕ) (bytes : List ℕ) (site : Site)
+    (own : Own) (answers : Answers) → HoldsByHandle P → IsKeptAt E slot → E site
+    → GoesSo P E (next (call.BufWrite slot bytes) site facts own answers)
+buf_write_goes P E facts slot bytes site own answers h k b = buffered_goes P E site slot _ b (λ file buffer.
+    either (GoesSo P E) (not file.writable) (refuses kind.NotWritable site) _ (λ e. b)
+    (λ e. either (GoesSo P E) (length bytes == 0) (Done (outcome.Count 0) site) _ (λ z. b)
+    (λ z. capacity_goes P E facts slot file buffer site answers _ k b (λ freed x l. send_goes P E facts slot file bytes own answers freed x h k l))))
 
-pub rest_goes : (P : Request → Type 0) (d : List ℕ) (facts : Facts) (slot : ℕ) (bytes : List ℕ) (file : FileAt)
-    (buffer : Buffer) (site : Site) (own : Own) (answers : Answers) → HoldsByHandle P → site.directory ≡ d
-    → GoesSo P d (buffered_rest slot bytes file buffer site facts own answers)
-rest_goes P d facts slot bytes file buffer site [] answers h b =
-    either (GoesSo P d) (length bytes == 0) (Done outcome.Done site) _ (λ z. b)
-    (λ z. either (GoesSo P d) (not file.writable) (refuses kind.NotWritable site) _ (λ e. b)
-    (λ e. capacity_goes P d facts slot file buffer site answers _ b
-    (λ freed x k. write_goes P d file (take (deferrable_len facts bytes freed) bytes) x answers h k)))
-rest_goes P d facts slot bytes file buffer site (asked ∷ later) answers h b =
-    capacity_goes P d facts slot file buffer site answers _ b (λ freed x k.
-    rest_goes P d facts slot (drop (deferrable_len facts bytes freed) bytes)
+pub rest_goes : (P : Request → Type 0) (E : Site → Type 0) (facts : Facts) (slot : ℕ) (bytes : List ℕ) (file : FileAt)
+    (buffer : Buffer) (site : Site) (own : Own) (answers : Answers) → HoldsByHandle P → IsKeptAt E slot → E site
+    → GoesSo P E (buffered_rest slot bytes file buffer site facts own answers)
+rest_goes P E facts slot bytes file buffer site [] answers h k b =
+    either (GoesSo P E) (length bytes == 0) (Done outcome.Done site) _ (λ z. b)
+    (λ z. either (GoesSo P E) (not file.writable) (refuses kind.NotWritable site) _ (λ e. b)
+    (λ e. capacity_goes P E facts slot file buffer site answers _ k b
+    (λ freed x l. write_goes P E file (take (deferrable_len facts bytes freed) bytes) x answers h l)))
+rest_goes P E facts slot bytes file buffer site (asked ∷ later) answers h k b =
+    capacity_goes P E facts slot file buffer site answers _ k b (λ freed x l.
+    rest_goes P E facts slot (drop (deferrable_len facts bytes freed) bytes)
     (further file (deferrable_len facts bytes freed)) (after_write freed asked.0 (deferrable_len facts bytes freed))
-    (with_slot x slot (written_slot file freed asked.0 (deferrable_len facts bytes freed))) later answers h k)
+    (with_slot x slot (written_slot file freed asked.0 (deferrable_len facts bytes freed))) later answers h k
+    (k x (written_slot file freed asked.0 (deferrable_len facts bytes freed)) l))
 
-pub flush_goes : (P : Request → Type 0) (d : List ℕ) (slot : ℕ) (file : FileAt) (buffer : Buffer) (site : Site)
-    (answers : Answers) (writes : List (ℕ × ℕ)) → site.directory ≡ d
-    → GoesSo P d (flush_next slot file buffer site answers writes)
-flush_goes P d slot file buffer site answers [] b = b
-flush_goes P d slot file buffer site answers (write ∷ writes) b =
-    answered_in (GoesSo P d) answers write.0 (answers write.0) _ refl tt
-    (λ r is. by_status (GoesSo P d) r (with_deferred slot file buffer site writes) _ (λ o. b)
-    (flush_goes P d slot file buffer (with_deferred slot file buffer site writes) answers writes b))
+pub flush_goes : (P : Request → Type 0) (E : Site → Type 0) (slot : ℕ) (file : FileAt) (buffer : Buffer) (site : Site)
+    (answers : Answers) (writes : List (ℕ × ℕ)) → IsKeptAt E slot → E site
+    → GoesSo P E (flush_next slot file buffer site answers writes)
+flush_goes P E slot file buffer site answers [] k b = b
+flush_goes P E slot file buffer site answers (write ∷ writes) k b =
+    let left : E (with_deferred slot file buffer site writes) = k site (Buffered file (record buffer { deferred = writes })) b in
+    answered_in (GoesSo P E) answers write.0 (answers write.0) _ refl tt
+    (λ r is. by_status (GoesSo P E) r (with_deferred slot file buffer site writes) _ (λ o. left)
+    (flush_goes P E slot file buffer (with_deferred slot file buffer site writes) answers writes k left))

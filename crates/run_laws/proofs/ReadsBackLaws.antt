@@ -11,6 +11,7 @@ use Rattle.std.proofs.Common.{
   suc,
   Bool,
   true,
+  false,
   List,
   [],
   ◌∷◌,
@@ -30,7 +31,6 @@ use Rattle.std.proofs.Common.{
 }
 use Rattle.std.specs.Prelude.{◌⊎◌, not, take, drop, slice_get, slice_index_or}
 use Rattle.std.specs.List.{list_all}
-use Rattle.std.proofs.lemmas.Bool.{cases_lt}
 use Rattle.std.proofs.lemmas.Bool.Decides.{eqb_tells}
 use Rattle.std.proofs.lemmas.List.{length-append}
 use Rattle.sftp_model.specs.declared.options.SftpOptions.{SftpOptions}
@@ -39,6 +39,7 @@ use Rattle.sftp_model.specs.declared.config.Choice.{Choice}
 use Rattle.sftp_model.specs.declared.config.ServerConfig.{ServerConfig}
 use Rattle.sftp_model.specs.declared.flags.Extensions.{Extensions}
 use Rattle.sftp_model.specs.declared.outcome.Outcome.{Outcome}
+use Rattle.sftp_model.specs.declared.outcome.Outcome.TheVariants as outcome
 use Rattle.machine_model.specs.Changes.{IsWellFormed}
 use Rattle.machine_model.specs.Components.{Name}
 use Rattle.machine_model.specs.FileTree.{FileTree}
@@ -55,15 +56,24 @@ use Rattle.session_model.specs.Settings.{setting_of}
 use Rattle.run_laws.specs.FilesLeft.{IsUntouched}
 use Rattle.run_laws.proofs.PlainRuns.{plain_calls, run_plain}
 use Rattle.run_laws.proofs.UsedLaws.{some_is}
-use Rattle.run_laws.specs.Flushes.{Flushes, IsAloneBut}
+use Rattle.run_laws.specs.Flushes.{FlushNumbers, FlushesLast, IsAloneBut, is_one_of_four}
 use Rattle.run_laws.specs.LeavesFiles.{LeavesFiles}
 use Rattle.run_laws.specs.NameCalls.{all_keep_off, may_own, none_writes, writes}
 use Rattle.run_laws.specs.ReadsBack.{GotBytes, IsAlone, Reads, ReadsBack, WritesLast, calls_in, outcome_in}
 use Rattle.run_laws.specs.RoundTrips.{HasGot, HasRead, HasWritten, IsOneLanes, NoneWrites, WritesWhole, outcome_at}
-use Rattle.run_laws.proofs.CallRequests.{MayWrite, may_hold, own_held, own_writes}
+use Rattle.run_laws.proofs.CallRequests.{MayWrite, held_still, may_hold, own_held, own_writes}
 use Rattle.run_laws.proofs.FlushedLaws.{FlushedCalls, flush_left}
-use Rattle.run_laws.proofs.LaneCalls.{each_is}
-use Rattle.run_laws.proofs.OffRequests.{told_apart}
+use Rattle.run_laws.proofs.LaneCalls.{all_more, each_is}
+use Rattle.run_laws.proofs.OffRequests.{is_still, told_apart}
+use Rattle.session_model.specs.Journals.{IsJournal}
+use Rattle.session_model.proofs.OverLaws.{runs_are_journals}
+use Rattle.run_laws.specs.CallsAmong.{GivesUnless}
+use Rattle.run_laws.specs.ReadsFlushed.{ReadsFlushed}
+use Rattle.run_laws.specs.SlotCalls.{leaves_slot}
+use Rattle.run_laws.specs.Steps.{AreAllowed, FeignsNoEnd, RefusesNone}
+use Rattle.run_laws.proofs.BackLaws.{gives_all, unrefused_feigns}
+use Rattle.run_laws.proofs.FlushedReads.{flushed_reads}
+use Rattle.run_laws.proofs.ServedSteps.{none_feigned, none_refused}
 use Rattle.run_laws.proofs.RoundTripLaws as laws
 
 -- ---- lists
@@ -88,6 +98,13 @@ got_dropped (y ∷ xs) (suc n) zero x le e = absurd (omega (arith, le))
 got_dropped (y ∷ xs) (suc n) (suc k) x le e =
     let same : suc k - suc n ≡ k - n = omega arith in subst (λ (i : ℕ). slice_get (drop n xs) i ≡ Some x) (sym same)
     (got_dropped xs n k x (omega (arith, le)) e)
+
+-- the calls between two numbers of those for which a test holds
+pub test_between : (test : Call → Bool) (calls : List Call) (k m n : ℕ) (c : Call)
+    → list_all test (drop (suc k) (take m calls)) ≡ true → k + 1 ≤ n → n < m → slice_get calls n ≡ Some c → test c ≡ true
+test_between test calls k m n c all above below is =
+    each_is test (drop (suc k) (take m calls)) (n - suc k) c all
+    (got_dropped (take m calls) (suc k) n c (omega (arith, above)) (got_taken calls m n c below is))
 
 -- ---- outcomes
 
@@ -206,66 +223,127 @@ all_indexed test (c ∷ calls) each = rw (each zero c refl, all_indexed test cal
 handed_at : (P : Call → Type 0) (calls : List Call) (n m : ℕ) (c d : Call) → slice_get calls n ≡ Some c → n ≡ m → slice_get calls m ≡ Some d → P d → P c
 handed_at P calls n m c d e same is p = let both : Some c ≡ Some d = sym e ∙ (ap (slice_get calls) same ∙ is) in subst P (sym (some_is c d both)) p
 
--- where the call stands behind the four, or which of them it is
-data Where (k n : ℕ) : Type 0 where
-  Before : n < k → Where k n
-  First : n ≡ k → Where k n
-  Second : n ≡ k + 1 → Where k n
-  Third : n ≡ k + 2 → Where k n
-  Fourth : n ≡ k + 3 → Where k n
-  After : k + 4 ≤ n → Where k n
+-- a call of these leaves each slot
+own_leaves : (name : Name) (slot : ℕ) (c : Call) → may_own name c ≡ true → leaves_slot slot c ≡ true
+own_leaves name slot (call.FsRead path bound) e = refl
+own_leaves name slot (call.FsWrite path bytes) e = refl
+own_leaves name slot (call.List path bound) e = refl
+own_leaves name slot (call.Stat path) e = refl
+own_leaves name slot (call.Lstat path) e = refl
+own_leaves name slot (call.SetStat path size perm) e = refl
+own_leaves name slot (call.Remove path) e = refl
+own_leaves name slot (call.Mkdir path) e = refl
+own_leaves name slot (call.Rmdir path) e = refl
+own_leaves name slot (call.Rename old to) e = refl
+own_leaves name slot (call.HardLink old to) e = refl
+own_leaves name slot (call.Symlink src dst) e = refl
+own_leaves name slot (call.ReadLink path) e = refl
+own_leaves name slot (call.Canonicalize path) e = refl
+own_leaves name slot other e = absurd cc
 
-where_is : (k n : ℕ) → Where k n
-where_is k n =
-    elim (cases_lt n k) [
-      | inl lt ↦ Before lt
-      | inr ge ↦ elim (eqb_tells n k) [
-        | inl t ↦ First t.1
-        | inr t ↦ elim (eqb_tells n (k + 1)) [
-          | inl u ↦ Second u.1
-          | inr u ↦ elim (eqb_tells n (k + 2)) [
-            | inl v ↦ Third v.1
-            | inr v ↦ elim (eqb_tells n (k + 3)) [
-              | inl w ↦ Fourth w.1
-              | inr w ↦ After (let a : n ≢ k = t.1 in let b : n ≢ k + 1 = u.1 in let c : n ≢ k + 2 = v.1 in
-                  let d : n ≢ k + 3 = w.1 in omega (arith, ge, a, b, c, d))
-            ]
+-- which of the four a call is, or that it is none of them
+data Where (n : FlushNumbers) (k : ℕ) : Type 0 where
+  First : k ≡ n.opener → Where n k
+  Second : k ≡ n.bufferer → Where n k
+  Third : k ≡ n.writer → Where n k
+  Fourth : k ≡ n.flusher → Where n k
+  Other : is_one_of_four n k ≡ false → Where n k
+
+where_is : (n : FlushNumbers) (k : ℕ) → Where n k
+where_is n k =
+    elim (eqb_tells k n.opener) [
+      | inl t ↦ First t.1
+      | inr t ↦ elim (eqb_tells k n.bufferer) [
+        | inl u ↦ Second u.1
+        | inr u ↦ elim (eqb_tells k n.writer) [
+          | inl v ↦ Third v.1
+          | inr v ↦ elim (eqb_tells k n.flusher) [
+            | inl w ↦ Fourth w.1
+            | inr w ↦ Other (rw (t.0, u.0, v.0, w.0) refl)
           ]
         ]
       ]
     ]
 
-may_hold_all : (lanes : List Lane) (outcomes : List (List Outcome)) (name : Name) (lane k : ℕ) (bytes : List ℕ)
-    → IsAloneBut lanes name lane k → Flushes lanes outcomes name lane k bytes
-    → list_all (may_hold name) (calls_in lanes lane) ≡ true
-may_hold_all lanes outcomes name lane k bytes alone f = all_indexed (may_hold name) (calls_in lanes lane) (λ n c e. by_place n c e (where_is k n))
+none_of : (n : FlushNumbers) (k : ℕ) → k ≢ n.opener → k ≢ n.bufferer → k ≢ n.writer → k ≢ n.flusher → is_one_of_four n k ≡ false
+none_of n k a b c d = by_place (where_is n k)
   where
-    by_place : (n : ℕ) (c : Call) → slice_get (calls_in lanes lane) n ≡ Some c → Where k n → may_hold name c ≡ true
-    by_place n c e (Before lt) = own_held name c (each_is (may_own name) (take k (calls_in lanes lane)) n c alone.before
-        (got_taken (calls_in lanes lane) k n c lt e))
-    by_place n c e (First at) = handed_at (λ d. may_hold name d ≡ true) (calls_in lanes lane) n k c (call.OpenFile f.slot f.options f.path) e at f.opens refl
-    by_place n c e (Second at) = handed_at (λ d. may_hold name d ≡ true) (calls_in lanes lane) n (k + 1) c (call.Buffer f.slot f.len) e at f.buffers refl
-    by_place n c e (Third at) = handed_at (λ d. may_hold name d ≡ true) (calls_in lanes lane) n (k + 2) c (call.BufWriteAll f.slot bytes) e at f.writes refl
-    by_place n c e (Fourth at) = handed_at (λ d. may_hold name d ≡ true) (calls_in lanes lane) n (k + 3) c (call.BufFlush f.slot) e at f.flushes refl
-    by_place n c e (After le) = own_held name c (each_is (may_own name) (drop (k + 4) (calls_in lanes lane))
-        (n - (k + 4)) c alone.after (got_dropped (calls_in lanes lane) (k + 4) n c le e))
+    by_place : Where n k → is_one_of_four n k ≡ false
+    by_place (First e) = absurd (a e)
+    by_place (Second e) = absurd (b e)
+    by_place (Third e) = absurd (c e)
+    by_place (Fourth e) = absurd (d e)
+    by_place (Other out) = out
 
-others_write_none : (lanes : List Lane) (outcomes : List (List Outcome)) (name : Name) (lane k : ℕ) (bytes : List ℕ)
-    → IsAloneBut lanes name lane k → Flushes lanes outcomes name lane k bytes → (n : ℕ) (c : Call) → k < n → n ≢ k + 2
-    → slice_get (calls_in lanes lane) n ≡ Some c → MayWrite name c → ⊥
-others_write_none lanes outcomes name lane k bytes alone f n c above ne e = by_place (where_is k n)
+may_hold_all : (lanes : List Lane) (outcomes : List (List Outcome)) (name : Name) (lane : ℕ) (n : FlushNumbers)
+    (reader : ℕ) (bytes : List ℕ) → IsAloneBut lanes name lane n → FlushesLast lanes outcomes name lane n reader bytes
+    → list_all (may_hold name) (calls_in lanes lane) ≡ true
+may_hold_all lanes outcomes name lane n reader bytes alone f = all_indexed (may_hold name) (calls_in lanes lane) (λ k c e. by_place k c e (where_is n k))
   where
-    by_place : Where k n → MayWrite name c → ⊥
-    by_place (Before lt) = λ w. omega (arith, lt, above)
+    by_place : (k : ℕ) (c : Call) → slice_get (calls_in lanes lane) k ≡ Some c → Where n k → may_hold name c ≡ true
+    by_place k c e (First at) = handed_at (λ d. may_hold name d ≡ true) (calls_in lanes lane) k n.opener c
+        (call.OpenFile f.slot f.options f.path) e at f.opens refl
+    by_place k c e (Second at) = handed_at (λ d. may_hold name d ≡ true) (calls_in lanes lane) k n.bufferer c (call.Buffer f.slot f.len) e at f.buffers refl
+    by_place k c e (Third at) = handed_at (λ d. may_hold name d ≡ true) (calls_in lanes lane) k n.writer c (call.BufWriteAll f.slot bytes) e at f.writes refl
+    by_place k c e (Fourth at) = handed_at (λ d. may_hold name d ≡ true) (calls_in lanes lane) k n.flusher c (call.BufFlush f.slot) e at f.flushes refl
+    by_place k c e (Other out) = own_held name c (alone.own k c e out)
+
+-- no other call of the lane behind the first of them, and before the later one, may write the name
+others_write_none : (lanes : List Lane) (outcomes : List (List Outcome)) (name : Name) (lane : ℕ) (n : FlushNumbers)
+    (reader : ℕ) (bytes : List ℕ) → IsAloneBut lanes name lane n → FlushesLast lanes outcomes name lane n reader bytes
+    → (k : ℕ) (c : Call) → n.opener < k → k < reader → k ≢ n.writer → slice_get (calls_in lanes lane) k ≡ Some c → MayWrite name c → ⊥
+others_write_none lanes outcomes name lane n reader bytes alone f k c above below ne e = by_place (where_is n k)
+  where
+    by_place : Where n k → MayWrite name c → ⊥
     by_place (First at) = λ w. omega (arith, at, above)
-    by_place (Second at) = handed_at (λ d. MayWrite name d → ⊥) (calls_in lanes lane) n (k + 1) c (call.Buffer f.slot f.len) e at f.buffers (λ w. w)
+    by_place (Second at) = handed_at (λ d. MayWrite name d → ⊥) (calls_in lanes lane) k n.bufferer c (call.Buffer f.slot f.len) e at f.buffers (λ w. w)
     by_place (Third at) = λ w. ne at
-    by_place (Fourth at) = handed_at (λ d. MayWrite name d → ⊥) (calls_in lanes lane) n (k + 3) c (call.BufFlush f.slot) e at f.flushes (λ w. w)
-    by_place (After le) =
-        λ w. writes_none name c (each_is (λ (d : Call). not (writes name d)) (drop (k + 4) (calls_in lanes lane))
-        (n - (k + 4)) c alone.last (got_dropped (calls_in lanes lane) (k + 4) n c le e))
-        (own_writes name c (each_is (may_own name) (drop (k + 4) (calls_in lanes lane)) (n - (k + 4)) c alone.after
-        (got_dropped (calls_in lanes lane) (k + 4) n c le e)) w)
+    by_place (Fourth at) = handed_at (λ d. MayWrite name d → ⊥) (calls_in lanes lane) k n.flusher c (call.BufFlush f.slot) e at f.flushes (λ w. w)
+    by_place (Other out) =
+        λ w. writes_none name c
+        (test_between (λ (d : Call). not (writes name d)) (calls_in lanes lane) n.opener reader k c f.last (omega (arith, above)) below e)
+        (own_writes name c (alone.own k c e out) w)
+
+flushed_calls : (lanes : List Lane) (s : Setting) (past : List Entry) (name : Name) (lane : ℕ) (n : FlushNumbers)
+    (reader : ℕ) (bytes : List ℕ) → s.lanes ≡ lanes → IsAloneBut lanes name lane n
+    → FlushesLast lanes (outcomes_below past (length lanes)) name lane n reader bytes
+    → FlushedCalls s past name lane n bytes
+flushed_calls lanes s past name lane n reader bytes same alone f =
+    record {
+      slot = f.slot;
+      len = f.len;
+      options = f.options;
+      path = f.path;
+      anew = f.anew;
+      denotes = f.denotes;
+      opens = handed _ _ same f.opens;
+      buffers = handed _ _ same f.buffers;
+      writes = handed _ _ same f.writes;
+      flushes = handed _ _ same f.flushes;
+      opened = outcome_is past (length lanes) lane n.opener _ f.opened;
+      buffered = outcome_is past (length lanes) lane n.bufferer _ f.buffered;
+      written = outcome_is past (length lanes) lane n.writer _ f.written;
+      flushed = outcome_is past (length lanes) lane n.flusher _ f.flushed;
+      order = f.in_order;
+      leave_open = λ i d above below is. leaves i d (handed_back i d same is)
+          (let b : n.bufferer < n.writer = f.in_order.1 in let c : n.writer < n.flusher = f.in_order.2 in
+          none_of n i (λ e. omega (arith, e, above)) (λ e. omega (arith, e, below)) (λ e. omega (arith, e, below, b)) (λ e. omega (arith, e, below, b, c)));
+      leave_buffer = λ i d above below is. leaves i d (handed_back i d same is)
+          (let a : n.opener < n.bufferer = f.in_order.0 in let c : n.writer < n.flusher = f.in_order.2 in
+          none_of n i (λ e. omega (arith, e, above, a)) (λ e. omega (arith, e, above)) (λ e. omega (arith, e, below)) (λ e. omega (arith, e, below, c)));
+      leave_written = λ i d above below is. leaves i d (handed_back i d same is)
+          (let a : n.opener < n.bufferer = f.in_order.0 in let b : n.bufferer < n.writer = f.in_order.1 in
+          none_of n i (λ e. omega (arith, e, above, a, b)) (λ e. omega (arith, e, above, b)) (λ e. omega (arith, e, above)) (λ e. omega (arith, e, below)));
+    }
+  where
+    handed : (n : ℕ) (c : Call) → s.lanes ≡ lanes → slice_get (calls_in lanes lane) n ≡ Some c → slice_get (calls_in s.lanes lane) n ≡ Some c
+    handed n c same e = subst (λ (l : List Lane). slice_get (calls_in l lane) n ≡ Some c) (sym same) e
+
+    handed_back : (n : ℕ) (c : Call) → s.lanes ≡ lanes → slice_get (calls_in s.lanes lane) n ≡ Some c → slice_get (calls_in lanes lane) n ≡ Some c
+    handed_back n c same e = subst (λ (l : List Lane). slice_get (calls_in l lane) n ≡ Some c) same e
+
+    leaves : (i : ℕ) (d : Call) → slice_get (calls_in lanes lane) i ≡ Some d → is_one_of_four n i ≡ false → leaves_slot f.slot d ≡ true
+    leaves i d is out = own_leaves name f.slot d (alone.own i d is out)
 
 -- ---- runs
 
@@ -323,14 +401,16 @@ run_leaves_files lanes options extensions turns past config choices tree left ru
           (to_end name lane writer bytes w);
       there = λ name lane bytes alone never has. (untouched name lane alone never).bytes bytes has;
       as_begun = λ name lane alone never. (untouched name lane alone never).node;
-      flushed = λ name lane k bytes alone f. flush_left s turns past config choices tree left name lane k bytes run well served
+      flushed = λ name lane n bytes alone f. flush_left s turns past config choices tree left name lane n bytes run well served
           (subst (λ (calls : List Call). list_all (may_hold name) calls ≡ true) (sym (are lane))
-          (may_hold_all lanes (outcomes_below past (length lanes)) name lane k bytes alone f))
+          (may_hold_all lanes (outcomes_below past (length lanes)) name lane n (length (calls_in lanes lane)) bytes alone f))
           (λ other ne. laws.lane_keeps_off s turns past name other run
           (subst (λ (calls : List Call). all_keep_off name [] calls ≡ true) (sym (are other))
           (alone.others other ne)))
-          (λ n c above ne is. others_write_none lanes (outcomes_below past (length lanes)) name lane k bytes alone f n c
-          above ne (call_was lanes s past lane n (Some c) are is)) (flushed_calls name lane k bytes f);
+          (λ k c above ne is. let was : slice_get (calls_in lanes lane) k ≡ Some c = call_was lanes s past lane k (Some c) are is in
+          others_write_none lanes (outcomes_below past (length lanes)) name lane n (length (calls_in lanes lane)) bytes alone f k c
+          above (laws.got_below (calls_in lanes lane) k c was) ne was)
+          (flushed_calls lanes s past name lane n (length (calls_in lanes lane)) bytes refl alone f);
     }
   where
     s : Setting
@@ -354,22 +434,55 @@ run_leaves_files lanes options extensions turns past config choices tree left ru
         laws.left_untouched s turns past config choices tree left name lane run well served
         (one_lanes lanes s turns past name lane are run alone) (none_before name lane never)
 
-    flushed_calls : (name : Name) (lane k : ℕ) (bytes : List ℕ)
-        → Flushes lanes (outcomes_below past (length lanes)) name lane k bytes → FlushedCalls s past name lane k bytes
-    flushed_calls name lane k bytes f =
-        record {
-          slot = f.slot;
-          len = f.len;
-          options = f.options;
-          path = f.path;
-          anew = f.anew;
-          denotes = f.denotes;
-          opens = f.opens;
-          buffers = f.buffers;
-          writes = f.writes;
-          flushes = f.flushes;
-          opened = outcome_is past (length lanes) lane k _ f.opened;
-          buffered = outcome_is past (length lanes) lane (k + 1) _ f.buffered;
-          written = outcome_is past (length lanes) lane (k + 2) _ f.written;
-          flushed = outcome_is past (length lanes) lane (k + 3) _ f.flushed;
-        }
+-- what a lane reads behind writes that it flushed
+pub run_reads_flushed : (lanes : List Lane) (options : SftpOptions) (extensions : Extensions) (turns : List Turn)
+    (past : List Entry) (config : ServerConfig) (choices : List Choice) (tree left : FileTree)
+    → IsRun (setting_of lanes options extensions past) turns past
+    → IsWellFormed tree → Serves config choices tree past left → ReadsFlushed lanes choices (outcomes_below past (length lanes))
+run_reads_flushed lanes options extensions turns past config choices tree left run well served =
+    record {
+      flushed = λ name lane n reader bytes ended none alone f r. (let q = has_read lanes s past name lane reader ended are r in
+          gives_all ended bytes
+          (reads RefusesNone name lane n reader bytes q.path q.bound ended unrefused_feigns (none_refused choices none) alone f
+          (laws.read_did s past name lane reader ended j (still name lane n reader bytes alone f) q)));
+      got_flushed = λ name lane n reader bytes got honest alone f r. (let q = has_got lanes s past name lane reader got are r in
+          laws.no_other got bytes
+          (reads FeignsNoEnd name lane n reader bytes q.path q.bound (outcome.Bytes got) (λ c h. h) (none_feigned choices honest) alone f
+          (laws.got_did s past name lane reader got j (still name lane n reader bytes alone f) q)));
+    }
+  where
+    s : Setting
+    s = setting_of lanes options extensions past
+
+    outcomes : List (List Outcome)
+    outcomes = outcomes_below past (length lanes)
+
+    j : IsJournal s past
+    j = runs_are_journals s turns past run
+
+    are : AreHandedIn lanes s past
+    are = handed_in lanes options extensions turns past run
+
+    holds : (name : Name) (lane : ℕ) (n : FlushNumbers) (reader : ℕ) (bytes : List ℕ) → IsAloneBut lanes name lane n
+        → FlushesLast lanes outcomes name lane n reader bytes → list_all (may_hold name) (lane_calls s past lane) ≡ true
+    holds name lane n reader bytes alone f =
+        subst (λ (calls : List Call). list_all (may_hold name) calls ≡ true) (sym (are lane))
+        (may_hold_all lanes outcomes name lane n reader bytes alone f)
+
+    still : (name : Name) (lane : ℕ) (n : FlushNumbers) (reader : ℕ) (bytes : List ℕ) → IsAloneBut lanes name lane n
+        → FlushesLast lanes outcomes name lane n reader bytes → list_all is_still (lane_calls s past lane) ≡ true
+    still name lane n reader bytes alone f =
+        all_more (may_hold name) is_still (lane_calls s past lane) (held_still name) (holds name lane n reader bytes alone f)
+
+    reads : (allowed : Choice → Type 0) (name : Name) (lane : ℕ) (n : FlushNumbers) (reader : ℕ) (bytes path : List ℕ) (bound : ℕ) (ended : Outcome)
+        → ((c : Choice) → allowed c → FeignsNoEnd c) → AreAllowed allowed choices → IsAloneBut lanes name lane n
+        → FlushesLast lanes outcomes name lane n reader bytes
+        → laws.Did (call.FsRead path bound) s past name lane reader path ended → GivesUnless allowed ended bytes
+    reads allowed name lane n reader bytes path bound ended honest among alone f did =
+        flushed_reads allowed s turns past config choices tree left name lane n reader bytes path bound ended honest run
+        (some_len options.max_read_len _) well served among (holds name lane n reader bytes alone f)
+        (λ other ne. laws.lane_keeps_off s turns past name other run
+        (subst (λ (calls : List Call). all_keep_off name [] calls ≡ true) (sym (are other)) (alone.others other ne)))
+        (λ k c above below ne is. others_write_none lanes outcomes name lane n reader bytes alone f k c above below ne
+        (call_was lanes s past lane k (Some c) are is))
+        f.earlier (flushed_calls lanes s past name lane n reader bytes refl alone f) did

@@ -54,7 +54,7 @@ use Rattle.session_model.specs.declared.entry.Entry.{Entry}
 use Rattle.session_model.specs.declared.turn.Turn.{Turn}
 use Rattle.session_model.specs.Calls.{Setting, call_at, lane_calls, site_of}
 use Rattle.session_model.specs.Journals.{IsJournal}
-use Rattle.session_model.specs.Readings.{Asked, answer, asked_at, own}
+use Rattle.session_model.specs.Readings.{answer, own}
 use Rattle.session_model.specs.Runs.{IsRun}
 use Rattle.session_model.specs.Served.{Serves}
 use Rattle.session_model.proofs.OverLaws.{runs_are_journals}
@@ -70,7 +70,9 @@ use Rattle.run_laws.proofs.ServedSteps.{none_feigned, none_refused}
 use Rattle.run_laws.specs.NameCalls.{all_keep_off, may_own}
 use Rattle.run_laws.specs.RoundTrips.{HasGot, HasRead, HasWritten, IsOneLanes, NoneWrites, WritesWhole, passes_length}
 use Rattle.run_laws.proofs.CallEnds.{EndedByPlan, call_ended}
-use Rattle.run_laws.proofs.CallRequests.{IsAsked, asked_own, avoids_plain, may_hold, off_asked, own_held, own_writes, passes_so}
+use Rattle.run_laws.proofs.FlushedLaws.{held_passes}
+use Rattle.run_laws.proofs.OffRequests.{is_still}
+use Rattle.run_laws.proofs.CallRequests.{IsAsked, asked_own, avoids_plain, may_hold, off_asked, own_held, own_writes}
 use Rattle.run_laws.proofs.LaneCalls.{all_more, all_own_still, each_is, plain_path}
 
 -- ---- a call that made no request
@@ -96,13 +98,13 @@ first_of_read path site left o short e = by_test (is_too_long (open_request to_r
 -- ---- the calls in the journal
 
 -- a call with its first request, as the laws of runs have it
-record Did (c : Call) (s : Setting) (past : List Entry) (name : Name) (lane k : ℕ) (path : List ℕ) (ended : Outcome) : Type 0 where
-  site : Site
-  first : ℕ × Request
-  later : Own
-  asks : own past lane k ≡ first ∷ later
-  denotes : components (from_directory site path) ≡ name
-  did : HasEnded c site s.facts (first ∷ later) (answer past) ended
+pub record Did (c : Call) (s : Setting) (past : List Entry) (name : Name) (lane k : ℕ) (path : List ℕ) (ended : Outcome) : Type 0 where
+  pub site : Site
+  pub first : ℕ × Request
+  pub later : Own
+  pub asks : own past lane k ≡ first ∷ later
+  pub denotes : components (from_directory site path) ≡ name
+  pub did : HasEnded c site s.facts (first ∷ later) (answer past) ended
 
 write_did : (s : Setting) (past : List Entry) (name : Name) (lane writer reader : ℕ) (bytes : List ℕ) → IsJournal s past
     → IsOneLanes s past name lane → (w : HasWritten s past name lane writer reader bytes)
@@ -128,16 +130,16 @@ write_did s past name lane writer reader bytes j one w = by_own (own past lane w
           did = did;
         }
 
-read_did : (s : Setting) (past : List Entry) (name : Name) (lane reader : ℕ) (ended : Outcome) → IsJournal s past
-    → IsOneLanes s past name lane → (r : HasRead s past name lane reader ended)
+pub read_did : (s : Setting) (past : List Entry) (name : Name) (lane reader : ℕ) (ended : Outcome) → IsJournal s past
+    → list_all is_still (lane_calls s past lane) ≡ true → (r : HasRead s past name lane reader ended)
     → Did (call.FsRead r.path r.bound) s past name lane reader r.path ended
-read_did s past name lane reader ended j one r = by_own (own past lane reader) refl e.did
+read_did s past name lane reader ended j still r = by_own (own past lane reader) refl e.did
   where
     e : EndedByPlan s past lane reader (call.FsRead r.path r.bound) ended
     e = call_ended s past lane reader (call.FsRead r.path r.bound) ended j r.is r.uncancelled r.ends
 
     plain : from_directory (site_of s e.before lane) r.path ≡ r.path
-    plain = plain_path s e.before lane r.path (e.still (all_own_still name (lane_calls s past lane) one.own))
+    plain = plain_path s e.before lane r.path (e.still still)
 
     by_own : (o : Own) → own past lane reader ≡ o → HasEnded (call.FsRead r.path r.bound) (site_of s e.before lane)
         s.facts o (answer past) ended → Did (call.FsRead r.path r.bound) s past name lane reader r.path ended
@@ -165,16 +167,16 @@ first_of_got path site left got e = by_test (is_too_long (open_request to_read (
         gave_bytes other = false
     by_test false e = (let both : false ≡ true = ap is_done e in cc)
 
-got_did : (s : Setting) (past : List Entry) (name : Name) (lane reader : ℕ) (got : List ℕ) → IsJournal s past
-    → IsOneLanes s past name lane → (r : HasGot s past name lane reader got)
+pub got_did : (s : Setting) (past : List Entry) (name : Name) (lane reader : ℕ) (got : List ℕ) → IsJournal s past
+    → list_all is_still (lane_calls s past lane) ≡ true → (r : HasGot s past name lane reader got)
     → Did (call.FsRead r.path r.bound) s past name lane reader r.path (outcome.Bytes got)
-got_did s past name lane reader got j one r = by_own (own past lane reader) refl e.did
+got_did s past name lane reader got j still r = by_own (own past lane reader) refl e.did
   where
     e : EndedByPlan s past lane reader (call.FsRead r.path r.bound) (outcome.Bytes got)
     e = call_ended s past lane reader (call.FsRead r.path r.bound) (outcome.Bytes got) j r.is (λ same. cc) r.ends
 
     plain : from_directory (site_of s e.before lane) r.path ≡ r.path
-    plain = plain_path s e.before lane r.path (e.still (all_own_still name (lane_calls s past lane) one.own))
+    plain = plain_path s e.before lane r.path (e.still still)
 
     by_own : (o : Own) → own past lane reader ≡ o → HasEnded (call.FsRead r.path r.bound) (site_of s e.before lane)
         s.facts o (answer past) (outcome.Bytes got) → Did (call.FsRead r.path r.bound) s past name lane reader r.path
@@ -213,19 +215,9 @@ call_passes : (s : Setting) (past : List Entry) (name : Name) (lane k place : �
     → IsOneLanes s past name lane → is_of_call past (lane, k) place ≡ true
     → ((c : Call) → call_at s past lane k ≡ Some c → WritesWhole name c → ⊥)
     → PassesAt s past name place
-call_passes s past name lane k place j one mine spares = by_asked (asked_at past place) refl
-  where
-    by_asked : (x : Option Asked) → asked_at past place ≡ x → PassesAt s past name place
-    by_asked None none = record {
-      avoids = λ b at. absurd (let both : None ≡ Some b = sym none ∙ at in cc);
-      writes =
-          λ b h grant at w uses. absurd (let both : None ≡ Some b = sym none ∙ at in cc);
-    }
-    by_asked (Some a) is =
-        let x : IsAsked name s past lane k place a.request = asked_own name s past lane k place a j
-        (held name (lane_calls s past lane) one.own) is mine in
-        passes_so s past name lane k place a is x (λ w. spares x.c x.is
-        (own_writes name x.c (each_is (may_own name) (lane_calls s past lane) k x.c one.own x.is) w))
+call_passes s past name lane k place j one mine spares =
+    held_passes s past name lane k place j (held name (lane_calls s past lane) one.own) mine
+    (λ c is w. spares c is (own_writes name c (each_is (may_own name) (lane_calls s past lane) k c one.own is) w))
 
 -- ---- the laws
 
@@ -298,7 +290,7 @@ abbrev inside : List ℕ → Option (List ℕ) → List ℕ
 inside other None = other
 inside other (Some bytes) = bytes
 
-no_other : (got bytes : List ℕ) → GivesUnless FeignsNoEnd (outcome.Bytes got) bytes → got ≡ bytes
+pub no_other : (got bytes : List ℕ) → GivesUnless FeignsNoEnd (outcome.Bytes got) bytes → got ≡ bytes
 no_other got bytes (inl (inl is)) = ap (λ (o : Outcome). inside bytes (bytes_in o)) is
 no_other got bytes (inl (inr is)) = absurd (let both : Some got ≡ None = ap bytes_in is in cc)
 no_other got bytes (inr by) = absurd (let both : Some got ≡ None = ap bytes_in by.ended_so in cc)
@@ -311,7 +303,7 @@ got_back s turns past config choices tree left name lane writer reader bytes got
     no_other got bytes
     (back_by FeignsNoEnd s turns past config choices tree left name lane writer reader r.path bytes r.bound
     (outcome.Bytes got) (λ c h. h) run some well served (none_feigned choices honest) one w
-    (got_did s past name lane reader got (runs_are_journals s turns past run) one r))
+    (got_did s past name lane reader got (runs_are_journals s turns past run) (all_own_still name (lane_calls s past lane) one.own) r))
 
 pub got_first : (s : Setting) (turns : List Turn) (past : List Entry) (config : ServerConfig) (choices : List Choice)
     (tree left : FileTree) (name : Name) (lane reader : ℕ) (got : List ℕ)
@@ -321,7 +313,7 @@ pub got_first : (s : Setting) (turns : List Turn) (past : List Entry) (config : 
 got_first s turns past config choices tree left name lane reader got run some well served honest one before r = by_node (node_at tree name) refl
   where
     read : Did (call.FsRead r.path r.bound) s past name lane reader r.path (outcome.Bytes got)
-    read = got_did s past name lane reader got (runs_are_journals s turns past run) one r
+    read = got_did s past name lane reader got (runs_are_journals s turns past run) (all_own_still name (lane_calls s past lane) one.own) r
 
     none_there : HasNoFile (node_at tree name) → ⊥
     none_there none =
@@ -355,7 +347,7 @@ reads_back s turns past config choices tree left name lane writer reader bytes e
     gives_all ended bytes
     (back_by RefusesNone s turns past config choices tree left name lane writer reader r.path bytes r.bound ended
     unrefused_feigns run some well served (none_refused choices none) one w
-    (read_did s past name lane reader ended (runs_are_journals s turns past run) one r))
+    (read_did s past name lane reader ended (runs_are_journals s turns past run) (all_own_still name (lane_calls s past lane) one.own) r))
 
 pub reads_first : (s : Setting) (turns : List Turn) (past : List Entry) (config : ServerConfig) (choices : List Choice)
     (tree left : FileTree) (name : Name) (lane reader : ℕ) (bytes : List ℕ) (ended : Outcome)
@@ -366,7 +358,7 @@ reads_first s turns past config choices tree left name lane reader bytes ended r
     gives_all ended bytes
     (first_by RefusesNone s turns past config choices tree left name lane reader r.path bytes r.bound ended
     unrefused_feigns run some well served (none_refused choices none) one before has
-    (read_did s past name lane reader ended (runs_are_journals s turns past run) one r))
+    (read_did s past name lane reader ended (runs_are_journals s turns past run) (all_own_still name (lane_calls s past lane) one.own) r))
 
 pub refused_first : (s : Setting) (turns : List Turn) (past : List Entry) (config : ServerConfig)
     (choices : List Choice) (tree left : FileTree) (name : Name) (lane reader : ℕ) (ended : Outcome)
@@ -377,14 +369,14 @@ refused_first s turns past config choices tree left name lane reader ended run s
     elim
     (refused_by RefusesNone s turns past config choices tree left name lane reader r.path r.bound ended run some well
     served (none_refused choices none) one before has
-    (read_did s past name lane reader ended (runs_are_journals s turns past run) one r)) [
+    (read_did s past name lane reader ended (runs_are_journals s turns past run) (all_own_still name (lane_calls s past lane) one.own) r)) [
       | inl refused ↦ refused
       | inr by ↦ absurd (by.refuses by.is)
     ]
 
 -- ---- what is left
 
-got_below : {A : Type 0} (xs : List A) (k : ℕ) (x : A) → slice_get xs k ≡ Some x → k < length xs
+pub got_below : {A : Type 0} (xs : List A) (k : ℕ) (x : A) → slice_get xs k ≡ Some x → k < length xs
 got_below [] k x e = absurd cc
 got_below (y ∷ xs) zero x e = omega arith
 got_below (y ∷ xs) (suc k) x e = (let below = got_below xs k x e in omega (arith, below))

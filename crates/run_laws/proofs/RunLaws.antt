@@ -117,18 +117,19 @@ stands_by config answers grant_of elsewhere name later seen tree first steps mor
 
 -- ---- a read after a write
 
-pub reads_back : (allowed : Choice → Type 0) (config : ServerConfig) (answers : Answers) (grant_of : ℕ → Option ℕ)
+-- where what the first step opened is left with the bytes by the requests that bear its grant
+pub reads_after : (allowed : Choice → Type 0) (config : ServerConfig) (answers : Answers) (grant_of : ℕ → Option ℕ)
     (elsewhere : ℕ → Bool) (name : Name) (tree : FileTree) (before between rest : List Step) (w r : Step)
-    (write_path read_path bytes : List ℕ) (bound : ℕ) (write_site read_site : Site) (write_facts read_facts : Facts) (written read : Own) (ended : Outcome)
+    (path bytes : List ℕ) (bound : ℕ) (site : Site) (facts : Facts) (written read : Own) (ended : Outcome)
     → ((c : Choice) → allowed c → FeignsNoEnd c) → Choose allowed (r ∷ rest) → IsWellFormed tree
     → IsRunOn config answers grant_of elsewhere name tree (before ++ ((w ∷ between) ++ r ∷ rest))
-    → components (from_directory write_site write_path) ≡ name → IsCallOn answers grant_of elsewhere name written w between
-    → HasEnded (call.FsWrite write_path bytes) write_site write_facts (asked_by w ∷ written) answers outcome.Done
-    → components (from_directory read_site read_path) ≡ name → 1 ≤ read_facts.read_len → IsCallOn answers grant_of elsewhere name read r rest
-    → HasEnded (call.FsRead read_path bound) read_site read_facts (asked_by r ∷ read) answers ended → GivesUnless allowed ended bytes
-reads_back allowed config answers grant_of elsewhere name tree before between rest w r write_path read_path bytes bound
-    write_site read_site write_facts read_facts written read ended honest chosen well_formed run denotes is e
-    denotes_too one is_too e_too =
+    → IsCallOn answers grant_of elsewhere name written w between
+    → ((now : FileTree) → IsWellFormed now → StandsOnName config answers name written now w between
+    → HasBytes (after config now (w ∷ between)) name bytes)
+    → components (from_directory site path) ≡ name → 1 ≤ facts.read_len → IsCallOn answers grant_of elsewhere name read r rest
+    → HasEnded (call.FsRead path bound) site facts (asked_by r ∷ read) answers ended → GivesUnless allowed ended bytes
+reads_after allowed config answers grant_of elsewhere name tree before between rest w r path bytes bound site facts written
+    read ended honest chosen well_formed run is leaves denotes one is_too e =
     let now : FileTree = after config tree before in
     let served : AreServed config answers now ((w ∷ between) ++ r ∷ rest) = served_rest config answers tree before ((w ∷ between) ++ r ∷ rest) run.served in
     let from_w : IsOrderly config answers grant_of elsewhere name (seen_after [] before) now ((w ∷ between) ++ r ∷ rest) =
@@ -142,18 +143,34 @@ reads_back allowed config answers grant_of elsewhere name tree before between re
     in
     let sound : IsWellFormed now = steps_well_formed config tree before well_formed in
     let wrote : HasBytes (after config now (w ∷ between)) name bytes =
-    whole_writes config answers name write_path bytes write_site write_facts written now w between sound denotes
-    (stands_by config answers grant_of elsewhere name written (seen_after [] before) now w between (r ∷ rest)
-    (served_first config answers now (w ∷ between) (r ∷ rest) served) from_w is) e
+    leaves now sound (stands_by config answers grant_of elsewhere name written (seen_after [] before) now w between (r ∷ rest)
+    (served_first config answers now (w ∷ between) (r ∷ rest) served) from_w is)
     in
-    whole_reads allowed config answers name read_path bytes bound read_site read_facts read ended
+    whole_reads allowed config answers name path bytes bound site facts read ended
     (after config now (w ∷ between)) r rest honest chosen (steps_well_formed config now (w ∷ between) sound) wrote
-    one denotes_too
+    one denotes
     (stands_by config answers grant_of elsewhere name read (seen_after (seen_after [] before) (w ∷ between)) (after config now (w ∷ between)) r rest []
     (served_rest config answers now (w ∷ between) (r ∷ rest) served)
     (subst (λ (l : List Step). IsOrderly config answers grant_of elsewhere name
     (seen_after (seen_after [] before) (w ∷ between)) (after config now (w ∷ between)) (r ∷ l))
-    (sym (append-nil rest)) from_r) is_too) e_too
+    (sym (append-nil rest)) from_r) is_too) e
+
+pub reads_back : (allowed : Choice → Type 0) (config : ServerConfig) (answers : Answers) (grant_of : ℕ → Option ℕ)
+    (elsewhere : ℕ → Bool) (name : Name) (tree : FileTree) (before between rest : List Step) (w r : Step)
+    (write_path read_path bytes : List ℕ) (bound : ℕ) (write_site read_site : Site) (write_facts read_facts : Facts) (written read : Own) (ended : Outcome)
+    → ((c : Choice) → allowed c → FeignsNoEnd c) → Choose allowed (r ∷ rest) → IsWellFormed tree
+    → IsRunOn config answers grant_of elsewhere name tree (before ++ ((w ∷ between) ++ r ∷ rest))
+    → components (from_directory write_site write_path) ≡ name → IsCallOn answers grant_of elsewhere name written w between
+    → HasEnded (call.FsWrite write_path bytes) write_site write_facts (asked_by w ∷ written) answers outcome.Done
+    → components (from_directory read_site read_path) ≡ name → 1 ≤ read_facts.read_len → IsCallOn answers grant_of elsewhere name read r rest
+    → HasEnded (call.FsRead read_path bound) read_site read_facts (asked_by r ∷ read) answers ended → GivesUnless allowed ended bytes
+reads_back allowed config answers grant_of elsewhere name tree before between rest w r write_path read_path bytes bound
+    write_site read_site write_facts read_facts written read ended honest chosen well_formed run denotes is e
+    denotes_too one is_too e_too =
+    reads_after allowed config answers grant_of elsewhere name tree before between rest w r read_path bytes bound read_site
+    read_facts written read ended honest chosen well_formed run is
+    (λ now sound stands. whole_writes config answers name write_path bytes write_site write_facts written now w between sound
+    denotes stands e) denotes_too one is_too e_too
 
 -- ---- a read of what was there at first
 

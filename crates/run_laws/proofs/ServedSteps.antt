@@ -2,7 +2,6 @@
 use Rattle.std.proofs.Common.{◌≡◌, ◌≢◌, ◌<◌, ◌≤◌, ◌+◌, ℕ, List, [], ◌∷◌, ◌++◌, refl, ap, sym, subst, arith, inl, inr}
 use Rattle.std.specs.Prelude.{◌⊎◌, drop}
 use Rattle.std.proofs.lemmas.List.{append-nil}
-use Rattle.sftp_model.specs.Numbers.{SSH_FX_OK}
 use Rattle.sftp_model.specs.declared.config.Choice.{Choice}
 use Rattle.sftp_model.specs.declared.config.ServerConfig.{ServerConfig}
 use Rattle.sftp_model.specs.declared.request.Request.{Request}

@@ -98,6 +98,13 @@ abbrev pub AllWriteBy : List Entry → ℕ → ℕ → List ℕ → Type 0
 AllWriteBy past lane k handle = (place : ℕ) (a : Asked) → is_of_call past (lane, k) place ≡ true → asked_at past place
     ≡ Some a → WritesBy a.request handle
 
+-- From the first of these requests of a call up to the last of them each request of others leaves the bytes of the
+-- file.
+abbrev pub OthersLeave : ServerConfig → FileTree → List Entry → List Step → ℕ × ℕ → ℕ × Request → Own → ℕ → Type 0
+OthersLeave config first past steps c w written file =
+    (place : ℕ) → w.0 < place → place < behind w written → is_of_call past c place ≡ false
+    → bytes_of (tree_at config first steps (place + 1)) file ≡ bytes_of (tree_at config first steps place) file
+
 -- A handle had a file open to be written, and not to append, as the first of a call's requests came. Up to the last of
 -- them each request of others leaves the bytes of the file.
 pub record WritesAlone (config : ServerConfig) (first : FileTree) (past : List Entry) (steps : List Step) (lane k : ℕ)
@@ -108,9 +115,7 @@ pub record WritesAlone (config : ServerConfig) (first : FileTree) (past : List E
   pub held : Held
   pub is_open : opened_at (tree_at config first steps w.0) handle ≡ Some (opened.File held)
   pub way : ToWrite held
-  pub others : (place : ℕ) → w.0 < place → place < behind w written → is_of_call past (lane, k) place ≡ false
-      → bytes_of (tree_at config first steps (place + 1)) held.file
-      ≡ bytes_of (tree_at config first steps place) held.file
+  pub others : OthersLeave config first past steps (lane, k) w written held.file
 
 -- The bytes were put into that file at an offset: behind the last of the call's requests it has what it had as the
 -- first one came, with the bytes at the offset; zeros fill a gap.

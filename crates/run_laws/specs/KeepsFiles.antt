@@ -11,12 +11,14 @@ use Rattle.run_laws.specs.FlushesWrites.{FlushesWrites}
 use Rattle.run_laws.specs.LeavesFiles.{LeavesFiles}
 use Rattle.run_laws.specs.ListsDirectories.{ListsDirectories}
 use Rattle.run_laws.specs.ReadsBack.{ReadsBack}
+use Rattle.run_laws.specs.ReadsFlushed.{ReadsFlushed}
 
 -- What a whole run of lanes gives of files and leaves of them, over a file machine that had this tree at first, under
 -- these choices.
 pub record KeepsFiles (lanes : List Lane) (config : ServerConfig) (choices : List Choice) (tree : FileTree)
     (s : Setting) (past : List Entry) (left : FileTree) (outcomes : List (List Outcome)) : Type 0 where
   pub reads_back : ReadsBack lanes choices tree outcomes
+  pub reads_flushed : ReadsFlushed lanes choices outcomes
   pub leaves : LeavesFiles lanes tree left outcomes
   pub lists : ListsDirectories lanes config choices tree s past outcomes
   pub flushes : FlushesWrites lanes config choices tree s past left outcomes

@@ -21,10 +21,12 @@ pub mod OtherRows
 pub mod ReadBackRows
 pub mod ReadsBack
 pub mod ReadsBackRows
+pub mod ReadsFlushed
 pub mod RoundTripRun
 pub mod NoFileRows
 pub mod RoundTripRows
 pub mod RoundTrips
+pub mod SlotCalls
 pub mod Sparing
 pub mod Steps
 pub mod WholeCalls

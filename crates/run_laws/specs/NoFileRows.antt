@@ -1,5 +1,5 @@
 -- A run that reads where there is no file, and runs of which the laws do not speak.
-use Rattle.std.specs.Prelude.{◌≡◌, ◌≢◌, ◌-◌, ℕ, zero, suc, ◌==◌, Bool, true, not, ◌||◌, ◌&&◌, List, [], ◌∷◌, codes, drop, None, refl}
+use Rattle.std.specs.Prelude.{◌≡◌, ◌≢◌, ◌-◌, ℕ, zero, suc, ◌==◌, Bool, List, [], ◌∷◌, codes, drop, None, refl}
 use Rattle.std.proofs.Common.{sym, arith, inl}
 use Rattle.std.proofs.lemmas.Bool.{and_parts, eqb-true}
 use Rattle.ssh_encoding.specs.Writing.{string, uint32}
@@ -22,7 +22,14 @@ use Rattle.run_laws.specs.CallsAmong.{HasNoFile}
 use Rattle.run_laws.specs.InJournals.{KeepsOff}
 use Rattle.run_laws.specs.ReadBackRows.{empty, name}
 use Rattle.run_laws.specs.RoundTrips.{HasRead, HasWritten, IsOneLanes, NoneWrites}
-use Rattle.run_laws.specs.RoundTripRun.{writes_then_reads, first_handle, no_such_file, written_then_read, only, only_ended}
+use Rattle.run_laws.specs.RoundTripRun.{
+  writes_then_reads,
+  first_handle,
+  no_such_file,
+  written_then_read,
+  only,
+  only_ended,
+}
 
 -- ---- a read where there is no file
 

@@ -1,7 +1,7 @@
 -- Worked lanes and outcomes: names that are one lane's alone, what was written and read under one, and names that are
 -- no lane's alone.
-use Rattle.std.specs.Prelude.{◌≡◌, ◌≢◌, ℕ, zero, suc, true, List, [], ◌∷◌, codes, length, refl}
-use Rattle.std.proofs.Common.{arith}
+use Rattle.std.specs.Prelude.{◌≡◌, ◌≢◌, ◌<◌, ℕ, zero, suc, true, false, List, Some, [], ◌∷◌, codes, length, refl}
+use Rattle.std.proofs.Common.{arith, subst}
 use Rattle.ssh_encoding.specs.Writing.{string, uint32}
 use Rattle.sftp_model.specs.Frames.{attributes, no_attributes, request_body}
 use Rattle.sftp_model.specs.declared.outcome.Outcome.{Outcome}
@@ -15,9 +15,9 @@ use Rattle.session_model.specs.Readings.{outcomes_below}
 use Rattle.session_model.specs.RowWords.{to_read}
 use Rattle.run_laws.specs.ReadBackRows.{name}
 use Rattle.run_laws.specs.Steps.{HasBytes, RefuseNone}
-use Rattle.run_laws.specs.Flushes.{Flushes, IsAloneBut}
-use Rattle.run_laws.specs.NameCalls.{all_keep_off}
-use Rattle.run_laws.specs.ReadsBack.{IsAlone, Reads, WritesLast, calls_in}
+use Rattle.run_laws.specs.Flushes.{FlushNumbers, FlushesLast, IsAloneBut, is_one_of_four}
+use Rattle.run_laws.specs.NameCalls.{all_keep_off, may_own}
+use Rattle.run_laws.specs.ReadsBack.{GotBytes, IsAlone, Reads, WritesLast, call_in, calls_in}
 use Rattle.run_laws.specs.RoundTripRows.{left_there}
 use Rattle.run_laws.specs.RoundTripRun.{no_such_file, writes_then_reads, written_then_read}
 
@@ -112,33 +112,58 @@ many_alone = record { own = refl; others = others }
 
 -- ---- a lane that flushes
 
--- it opens a to be written anew, buffers it, writes and flushes it, and reads it
+-- it opens a to be written anew, buffers it, writes to it, asks for the file's attributes, flushes it and reads it
 abbrev pub flushing : List Lane
 flushing =
     record {
       calls = call.OpenFile 0 (record nothing_chosen { write = true; create = true; truncate = true }) (codes "a")
           ∷ call.Buffer 0 8
           ∷ call.BufWriteAll 0 (codes "hi")
-          ∷ call.BufFlush 0
           ∷ call.Stat (codes "a")
+          ∷ call.BufFlush 0
+          ∷ call.FsRead (codes "/a") 4
           ∷ [];
     }
     ∷ []
 
 abbrev pub flushed_outcomes : List (List Outcome)
-flushed_outcomes = (outcome.Opened ∷ outcome.Done ∷ outcome.Done ∷ outcome.Done ∷ outcome.Meta no_attributes ∷ []) ∷ []
+flushed_outcomes =
+    (outcome.Opened
+    ∷ outcome.Done
+    ∷ outcome.Done
+    ∷ outcome.Meta no_attributes
+    ∷ outcome.Done
+    ∷ outcome.Bytes (codes "hi")
+    ∷ [])
+    ∷ []
 
-pub flushing_alone : IsAloneBut flushing name 0 0
+abbrev pub four : FlushNumbers
+four = record { opener = 0; bufferer = 1; writer = 2; flusher = 4 }
+
+pub flushing_alone : IsAloneBut flushing name 0 four
 unfolding components
-flushing_alone = record { before = refl; after = refl; last = refl; others = others }
+flushing_alone = record { own = own; others = others }
   where
+    is_this : (d c : Call) → Some d ≡ Some c → may_own name d ≡ true → may_own name c ≡ true
+    is_this d c same may = (let one : d ≡ c = cc in subst (λ (x : Call). may_own name x ≡ true) one may)
+
+    own : (k : ℕ) (c : Call) → call_in flushing 0 k ≡ Some c → is_one_of_four four k ≡ false → may_own name c ≡ true
+    own zero c is out = cc
+    own (suc zero) c is out = cc
+    own (suc (suc zero)) c is out = cc
+    own (suc (suc (suc zero))) c is out = is_this (call.Stat (codes "a")) c is refl
+    own (suc (suc (suc (suc zero)))) c is out = cc
+    own (suc (suc (suc (suc (suc zero))))) c is out = is_this (call.FsRead (codes "/a") 4) c is refl
+    own (suc (suc (suc (suc (suc (suc k)))))) c is out = cc
+
     others : (other : ℕ) → other ≢ 0 → all_keep_off name [] (calls_in flushing other) ≡ true
     others zero ne = absurd (ne refl)
     others (suc other) ne = refl
 
-pub flushes : Flushes flushing flushed_outcomes name 0 0 (codes "hi")
+-- before its read, and to the end
+pub flushes_before : FlushesLast flushing flushed_outcomes name 0 four 5 (codes "hi")
 unfolding components
-flushes =
+flushes_before =
     record {
       slot = 0;
       len = 8;
@@ -154,7 +179,78 @@ flushes =
       buffered = refl;
       written = refl;
       flushed = refl;
+      in_order = (omega arith, omega arith, omega arith);
+      earlier = omega arith;
+      last = refl;
     }
+
+pub flushes_last : FlushesLast flushing flushed_outcomes name 0 four 6 (codes "hi")
+unfolding components
+flushes_last =
+    record {
+      slot = 0;
+      len = 8;
+      options = record nothing_chosen { write = true; create = true; truncate = true };
+      path = codes "a";
+      anew = refl;
+      denotes = refl;
+      opens = refl;
+      buffers = refl;
+      writes = refl;
+      flushes = refl;
+      opened = refl;
+      buffered = refl;
+      written = refl;
+      flushed = refl;
+      in_order = (omega arith, omega arith, omega arith);
+      earlier = omega arith;
+      last = refl;
+    }
+
+pub reads_flushed : GotBytes flushing flushed_outcomes name 0 5 (codes "hi")
+unfolding components
+reads_flushed = record { path = codes "/a"; bound = 4; is = refl; denotes = refl; ends = refl }
+
+-- a read before the flush is none behind it
+pub read_before_is_none : FlushesLast flushing flushed_outcomes name 0 four 2 (codes "hi") → ⊥
+read_before_is_none f = (let early : 4 < 2 = f.earlier in omega (arith, early))
+
+-- nor where a whole write comes between
+abbrev pub flushes_and_writes : List Lane
+flushes_and_writes =
+    record {
+      calls = call.OpenFile 0 (record nothing_chosen { write = true; create = true; truncate = true }) (codes "a")
+          ∷ call.Buffer 0 8
+          ∷ call.BufWriteAll 0 (codes "hi")
+          ∷ call.FsWrite (codes "/a") (codes "ho")
+          ∷ call.BufFlush 0
+          ∷ call.FsRead (codes "a") 4
+          ∷ [];
+    }
+    ∷ []
+
+pub written_since_is_none : (outcomes : List (List Outcome))
+    → FlushesLast flushes_and_writes outcomes name 0 four 5 (codes "hi") → ⊥
+unfolding components
+written_since_is_none outcomes f = (let again = f.last in cc)
+
+-- nor is the name the lane's alone but for the four where it opens it again between
+abbrev pub opens_again : List Lane
+opens_again =
+    record {
+      calls = call.OpenFile 0 (record nothing_chosen { write = true; create = true; truncate = true }) (codes "a")
+          ∷ call.Buffer 0 8
+          ∷ call.BufWriteAll 0 (codes "hi")
+          ∷ call.OpenFile 1 (record nothing_chosen { write = true }) (codes "a")
+          ∷ call.BufFlush 0
+          ∷ [];
+    }
+    ∷ []
+
+pub opened_again_is_none : IsAloneBut opens_again name 0 four → ⊥
+unfolding components
+opened_again_is_none alone =
+    (let again = alone.own 3 (call.OpenFile 1 (record nothing_chosen { write = true }) (codes "a")) refl refl in cc)
 
 -- ---- what the record doesn't speak of
 

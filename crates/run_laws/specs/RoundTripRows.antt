@@ -1,6 +1,6 @@
 -- Worked whole runs in which a lane writes a file as a whole and reads it, and in which one reads where there is none;
 -- and beside them what the laws don't speak of.
-use Rattle.std.specs.Prelude.{◌≡◌, ◌≢◌, ◌-◌, ℕ, zero, suc, ◌==◌, true, false, ◌||◌, ◌&&◌, [], ◌∷◌, codes, Option, Some, None, refl}
+use Rattle.std.specs.Prelude.{◌≡◌, ◌≢◌, ℕ, zero, suc, ◌==◌, true, false, [], ◌∷◌, codes, Option, Some, None, refl}
 use Rattle.std.proofs.Common.{sym, arith, inl, subst}
 use Rattle.std.proofs.lemmas.Bool.{and_parts, eqb-true}
 use Rattle.ssh_encoding.specs.Writing.{string, uint32}
@@ -24,7 +24,24 @@ use Rattle.run_laws.specs.ReadBackRows.{apart, empty, name}
 use Rattle.run_laws.specs.Sparing.{Avoids}
 use Rattle.run_laws.specs.NameCalls.{all_keep_off}
 use Rattle.run_laws.specs.RoundTrips.{HasRead, HasWritten, IsOneLanes}
-use Rattle.run_laws.specs.RoundTripRun.{writes_then_reads, first_handle, second_handle, written_then_read, only, so_far, at, round_1, round_2, round_3, round_4, round_5, round_6, round_7, round_8, round_9}
+use Rattle.run_laws.specs.RoundTripRun.{
+  writes_then_reads,
+  first_handle,
+  second_handle,
+  written_then_read,
+  only,
+  so_far,
+  at,
+  round_1,
+  round_2,
+  round_3,
+  round_4,
+  round_5,
+  round_6,
+  round_7,
+  round_8,
+  round_9,
+}
 
 pub is_run : IsRun writes_then_reads [] written_then_read
 unfolding request_body attributes string uint32

@@ -1,6 +1,7 @@
 -- What a hold leaves.
 use Rattle.std.proofs.Common.{
   ◌≡◌,
+  ◌-◌,
   ◌≤◌,
   ℕ,
   suc,
@@ -42,7 +43,7 @@ use Rattle.session_seats.specs.declared.view.Sight.{Sight}
 use Rattle.session_seats.specs.declared.view.Claim.{Claim}
 use Rattle.session_seats.specs.declared.view.View.{View}
 use Rattle.session_seats.specs.Sights.{Shown, stamp, receipt, own, made_on, made_from, name_at, IsOf, lane_of, AllNamed, FitsStage, Later, Stays, Rises}
-use Rattle.session_seats.specs.Rules.{first, sees, holding, Took, Kept, acquired, released, let_out, newer, MayRelease}
+use Rattle.session_seats.specs.Rules.{Kept, MayRelease, Took, acquired, first, grown, holding, let_out, newer, released, sees}
 use Rattle.session_seats.specs.Holds.{
   claim_of,
   number_of,
@@ -206,6 +207,26 @@ module _ {S : Type 0} (shown : S → Shown) (m p : Me S View) (h : HasTaken show
               (subst (λ (s : Sight). Rises s.counts (shown z).counts) (sym h.took.shows.told) goes.rises));
           did = did;
         }
+
+-- ---- the share
+
+share_sum : (share mine before after leaves now : ℕ) → share ≡ mine → mine ≤ before → leaves ≤ mine → before ≤ leaves + after
+    → now ≡ mine + after - before → after - (before - share) ≡ now
+share_sum share mine before after leaves now is within most users sum = omega (arith, is, within, most, users, sum)
+
+-- the share that is counted beside the users is that of the claim
+pub shares_after : {S : Type 0} (shown : S → Shown) (m p : Me S View) (h : HasTaken shown m p) (z : S) (test : Entry → Bool)
+    (needs : Allowance)
+    (more : List Entry) → Goes test needs more (shown h.value) (shown z) → needs.leaves ≤ (claim_of m).share
+    → (n : Me S View) → Releases shown (p.0, (0, z) ∷ rest p.1) n → (share before after : ℕ) → share ≡ (claim_of m).share
+    → before ≡ (shown h.value).users → after ≡ (shown z).users → after - (before - share) ≡ (claim_of n).share
+shares_after shown m p h z test needs more goes leaves n rel share before after is was are =
+    let mine : Claim = sees h.now (claim_of m) in
+    let users : ℕ = (shown h.value).users in
+    let gave : n ≡ seat_with (grown (shown z) users mine) = rel z users mine (ap (λ (x : Me _ View). (x.0, (0, z) ∷ rest x.1)) h.is) in
+    (λ i. are i - (was i - share))
+    ∙ share_sum share (claim_of m).share users (shown z).users needs.leaves (claim_of n).share is h.took.share leaves goes.users
+    (ap (λ (x : Me _ View). (claim_of x).share) gave)
 
 -- ---- receipts
 

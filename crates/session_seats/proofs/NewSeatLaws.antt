@@ -337,3 +337,11 @@ pub seat_keeps : {S A : Type 0} (shown : S → Shown) (m n : Me S View) (o : Opt
     × (receipts ≡ own (number_of m) (sight_by m).log → receipts ≡ own (number_of n) (sight_by n).log)
 seat_keeps shown m n (Some a) token named P Q lane receipts given none = gives_keeps shown true m n (token a) lane receipts given.0.gives
 seat_keeps shown m n None token named P Q lane receipts given none = looks_keeps shown m n lane receipts none.looks
+
+-- and what share the seat has that gave it, or looked for a lane
+pub seat_shares : {S A : Type 0} (shown : S → Shown) (m n : Me S View) (o : Option A) (token : A → Me S View)
+    (named : A → Option ℕ) (P Q : A → Type 0)
+    → IfSome o (λ a. GivesLane shown (named a) m n (token a) × P a × Q a) → IfNone o (HasNone shown m n)
+    → (claim_of n).share ≡ (claim_of m).share
+seat_shares shown m n (Some a) token named P Q given none = given.0.gives.share
+seat_shares shown m n None token named P Q given none = none.looks.share

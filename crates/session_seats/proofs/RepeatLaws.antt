@@ -3,11 +3,10 @@ use Rattle.std.proofs.Common.{◌≡◌, ℕ, List, [], ◌∷◌, ◌++◌, map
 use Rattle.atomic_table.specs.Table.{Me}
 use Rattle.session_model.specs.declared.entry.Entry.{Entry}
 use Rattle.session_seats.specs.declared.view.Stamp.{Stamp}
-use Rattle.session_seats.specs.declared.view.Sight.{Sight}
 use Rattle.session_seats.specs.declared.view.View.{View}
 use Rattle.session_seats.specs.Sights.{Shown, entries, stamp}
 use Rattle.session_seats.specs.Holds.{Hold, number_of, sight_by}
-use Rattle.session_seats.specs.Repeats.{Led, Repeats}
+use Rattle.session_seats.specs.Repeats.{Repeats}
 
 pub repeats_none : {X : Type 0} (Step : X → X → Type 0) (x : X) → Repeats Step x x
 repeats_none Step x = ([], refl)

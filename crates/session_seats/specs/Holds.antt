@@ -135,6 +135,12 @@ lane_in (Some g) = Some g.lane
 abbrev pub NamesLane : Claim → Option ℕ → Type 0
 NamesLane c lane = lane_in (name_at c.sight.seats c.number) ≡ Some lane
 
+-- a seat that has nothing, names this lane or none, and has this share
+pub record IsSeatOf {S : Type 0} (lane : Option ℕ) (share : ℕ) (m : Me S View) : Type 0 where
+  pub free : IsSeat m
+  pub named : NamesLane (claim_of m) lane
+  pub shares : share ≡ (claim_of m).share
+
 module _ {S : Type 0} (shown : S → Shown) where
   -- the seat has the value, and has seen what it shows
   pub record HasTaken (m n : Me S View) : Type 0 where

@@ -1,5 +1,5 @@
 -- A user that leaves, and the stage that is raised.
-use Rattle.std.specs.Prelude.{◌≡◌, ◌<◌, ℕ, ◌+◌, ◌-◌, ◌==◌, Bool, true, false, max, Result, Ok, Err}
+use Rattle.std.specs.Prelude.{◌≡◌, ◌<◌, ◌≤◌, ℕ, ◌+◌, ◌-◌, ◌==◌, Bool, true, false, max, Result, Ok, Err}
 use Rattle.atomic_table.specs.Table.{Me}
 use Rattle.session_seats.specs.declared.view.Sight.{Sight}
 use Rattle.session_seats.specs.declared.view.View.{View}
@@ -25,6 +25,11 @@ abbrev pub LeftWhere : {X : Type 0} → Result Bool X → Shown → Shown → Ty
 LeftWhere (Ok true) old new = LeftBy old new
 LeftWhere (Ok false) old new = new ≡ old
 LeftWhere (Err e) old new = new ≡ old
+
+-- the seat has seen that the end has begun, and the stage is at most 2
+pub record MayRaise {S : Type 0} (stage : ℕ) (m : Me S View) : Type 0 where
+  pub begun : 0 < (sight_by m).counts.stage
+  pub low : stage ≤ 2
 
 module _ {S : Type 0} (shown : S → Shown) where
   -- what an event did, and then a user left if it answered Ok(true)

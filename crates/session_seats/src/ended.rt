@@ -20,18 +20,18 @@ pub struct Ended<S: Drop> {
     pub receipts: Vec<Vec<Receipt>>,
 }
 
-/// Whether a shared value may be taken out; if not, `E` tells why.
-pub trait Ending<S: Held, E> {
-    ghost use Rattle.std.specs.Prelude.{OnOk, IfErr};
+/// Whether a shared value may be taken out: then `T` is what was made of it before, and else `E` tells why.
+pub trait Ending<S: Held, T, E> {
+    ghost use Rattle.std.specs.Prelude.{IfOk, IfErr};
 
-    // What the value is where it may be taken out.
-    ghost allows: { Self → S → Type 0 };
+    // What the value is where it may be taken out, and what was made of it.
+    ghost allows: { Self → S → T → Type 0 };
     // Why it may not be.
     ghost refuses: { Self → S → E → Type 0 };
 
-    /// Looks at the value.
-    fn look(&self, value: &S) -> Result<(), E>
-        ensures allowed { OnOk result (allows self.now value.now) }
+    /// Looks at the value, which is taken out as it is.
+    fn look(&self, value: &S) -> Result<T, E>
+        ensures allowed { IfOk result (allows self.now value.now) }
         ensures refused { IfErr result (refuses self.now value.now) };
 }
 
@@ -46,8 +46,9 @@ pub struct NotEnded<S: Held + Drop, E: Drop> {
 
 impl<S: Held + Drop> Shared<S> {
     /// Takes the seats in, and the value out, where it may be taken out; the value `empty` is dropped in its place. With Ok there are the
-    /// receipts of each seat in the order of the seats. With an Err no seat was taken in, and each comes back with its receipts.
-    pub fn close<E: Drop, X: Ending<S, E>, R: Wait>(
+    /// receipts of each seat in the order of the seats, and what was made of the value before. With an Err no seat was taken in, and each
+    /// comes back with its receipts.
+    pub fn close<T: Drop, E: Drop, X: Ending<S, T, E>, R: Wait>(
         self,
         rt: &R,
         alloc: Global,
@@ -55,10 +56,10 @@ impl<S: Held + Drop> Shared<S> {
         others: Vec<Seat<S>>,
         empty: S,
         ending: &X,
-    ) -> Result<Ended<S>, NotEnded<S, E>>
+    ) -> Result<(Ended<S>, T), NotEnded<S, E>>
         requires own { AllOf self.table.shared.table_id (seat ∷ others.items) }
-        ensures closes { IfOk result (λ r. Closes S.shown (seat ∷ others.items) r × X.allows ending.now r.value) }
-        ensures covers { IfOk result (λ r. Complete (claims_of (seat ∷ others.items)) → Covers S.shown r) }
+        ensures closes { IfOk result (λ r. Closes S.shown (seat ∷ others.items) r.0 × X.allows ending.now r.0.value r.1) }
+        ensures covers { IfOk result (λ r. Complete (claims_of (seat ∷ others.items)) → Covers S.shown r.0) }
         ensures kept { IfErr result (λ n. HandsBack S.shown (X.refuses ending.now) seat others.items n.error n.seat n.others.items) }
     {
         let mut lists = Vec::new(alloc);
@@ -76,7 +77,7 @@ impl<S: Held + Drop> Shared<S> {
                 others,
             });
         }
-        let (mut inner, receipts) = match self.take_out(rt, seat, ending) {
+        let (mut inner, receipts, made) = match self.take_out(rt, seat, ending) {
             Ok(taken) => taken,
             Err((e, seat)) => {
                 return Err(NotEnded {
@@ -91,21 +92,23 @@ impl<S: Held + Drop> Shared<S> {
         self.table.shared.load::<Check>(&mut inner, 0);
         let held = inner.slot_mut(&self.table.shared, 0);
         let value = mem::replace(held, empty);
-        Ok(Ended {
+        let ended = Ended {
             value,
             receipts: lists,
-        })
+        };
+        Ok((ended, made))
     }
 
-    /// The seat's token that has the value, and the seat's receipts. The seat comes back where the value may not be taken out.
-    fn take_out<E: Drop, X: Ending<S, E>, R: Wait>(
+    /// The seat's token that has the value, the seat's receipts, and what was made of the value. The seat comes back where the value may
+    /// not be taken out.
+    fn take_out<T: Drop, E: Drop, X: Ending<S, T, E>, R: Wait>(
         &self,
         rt: &R,
         seat: Seat<S>,
         ending: &X,
-    ) -> Result<(Inner<S, View>, Vec<Receipt>), (E, Seat<S>)>
+    ) -> Result<(Inner<S, View>, Vec<Receipt>, T), (E, Seat<S>)>
         requires own { seat.inner.table_id ≡ self.now.table.shared.table_id }
-        ensures taken { IfOk result (λ r. (r.0.table_id ≡ seat.inner.table_id) × (r.1 ≡ seat.receipts) × TakesOut S.shown (X.allows ending.now) seat.inner.me r.0.me) }
+        ensures taken { IfOk result (λ r. (r.0.table_id ≡ seat.inner.table_id) × (r.1 ≡ seat.receipts) × TakesOut S.shown (λ y. X.allows ending.now y r.2) seat.inner.me r.0.me) }
         ensures kept { IfErr result (λ r. Returns S.shown (X.refuses ending.now) seat r.1 r.0) }
     {
         let Seat {
@@ -113,11 +116,12 @@ impl<S: Held + Drop> Shared<S> {
             lane,
             receipts,
             whole,
+            share,
         } = seat;
         self.acquire(rt, &mut inner);
         let held = inner.slot_mut(&self.table.shared, 0);
         match ending.look(held) {
-            Ok(()) => Ok((inner, receipts)),
+            Ok(made) => Ok((inner, receipts, made)),
             Err(e) => {
                 self.release(&mut inner);
                 let seat = Seat {
@@ -125,6 +129,7 @@ impl<S: Held + Drop> Shared<S> {
                     lane,
                     receipts,
                     whole,
+                    share,
                 };
                 Err((e, seat))
             }
@@ -151,6 +156,7 @@ impl<S: Held + Drop> Shared<S> {
                 lane: _,
                 receipts,
                 whole: _,
+                share: _,
             } = seat;
             self.table.shared.join_seat::<TakeIn>(base, inner);
             lists.push_reserved(receipts);

@@ -66,7 +66,7 @@ impl<S: Held + Drop> Shared<S> {
         ensures fresh { (result.lane ≡ None) × IsFresh (claim_of result.inner.me) None }
     {
         let inner = from.give_worker(rt, self);
-        Seat::fresh(alloc, inner, None)
+        Seat::fresh(alloc, inner, None, 0)
     }
 
     /// The next lane's seat, from lane 0 on, with a share among the users. None exactly where each lane that the value was made of has
@@ -80,7 +80,7 @@ impl<S: Held + Drop> Shared<S> {
         ensures none { IfNone result (HasNone S.shown from.old.inner.me from.new.inner.me) }
     {
         match from.give_lane(rt, self) {
-            Some((inner, lane)) => Some(Seat::fresh(alloc, inner, Some(lane))),
+            Some((inner, lane)) => Some(Seat::fresh(alloc, inner, Some(lane), 1)),
             None => None,
         }
     }

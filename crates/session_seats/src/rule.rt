@@ -23,6 +23,10 @@ pub trait Held {
     /// A number that is another one once the value has changed in a way for which a thread may wait. Nothing is said of it.
     fn moves(&self) -> u64;
 
+    /// How many users there are.
+    fn users(&self) -> u64
+        ensures { result ≡ (shown self.now).users };
+
     /// The next lane that has no seat, from lane 0 on: it has one then, and there is one user more. None exactly where each lane
     /// that it was made of has one.
     fn seat_lane(&mut self) -> Option<u32>

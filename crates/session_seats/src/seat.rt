@@ -1,5 +1,5 @@
 //! A seat at a shared value.
-ghost use Rattle.std.specs.Prelude.{◌≡◌, ◌<◌, [], None, Some, false, true, IfNone, IfSome};
+ghost use Rattle.std.specs.Prelude.{◌≡◌, ◌<◌, ◌==◌, [], None, Some, false, true, IfNone, IfSome};
 ghost use Rattle.session_seats.specs.Sights.{Made, own};
 ghost use Rattle.session_seats.specs.Holds.{Applied, Hold, IsFresh, IsSeat, NamesLane, Spares, claim_of, passes};
 ghost use Rattle.session_seats.specs.NewSeats.{Gives, GivesLane, HasNone};
@@ -23,8 +23,11 @@ pub struct Seat<S: Held + Drop> {
     pub(crate) receipts: Vec<Receipt>,
     // No memory was wanting for a receipt.
     pub(crate) whole: bool,
+    // How many of the users are its own.
+    pub(crate) share: u64,
     ghost free: { IsSeat inner.me },
     ghost named: { NamesLane (claim_of inner.me) lane },
+    ghost shares: { share ≡ (claim_of inner.me).share },
     ghost told: { whole ≡ true → receipts.items ≡ own (claim_of inner.me).number (claim_of inner.me).sight.log },
 }
 
@@ -39,13 +42,20 @@ impl<S: Held + Drop> Seat<S> {
             lane: None,
             receipts: Vec::new(alloc),
             whole: true,
+            share: 1,
         }
     }
 
     /// A seat that was given, which made nothing yet.
-    pub(crate) fn fresh(alloc: Global, inner: Inner<S, View>, lane: Option<u32>) -> Seat<S>
+    pub(crate) fn fresh(
+        alloc: Global,
+        inner: Inner<S, View>,
+        lane: Option<u32>,
+        share: u64,
+    ) -> Seat<S>
         requires free { IsSeat inner.me }
         requires fresh { IsFresh (claim_of inner.me) lane }
+        requires share { share ≡ (claim_of inner.me).share }
         ensures { (result.inner ≡ inner) × (result.lane ≡ lane) × (result.receipts.items ≡ []) × (result.whole ≡ true) }
     {
         Seat {
@@ -53,6 +63,7 @@ impl<S: Held + Drop> Seat<S> {
             lane,
             receipts: Vec::new(alloc),
             whole: true,
+            share,
         }
     }
 
@@ -68,6 +79,15 @@ impl<S: Held + Drop> Seat<S> {
         ensures { result ≡ self.now.lane }
     {
         self.lane
+    }
+
+    /// Whether it is no user, or no longer: it has no share of the users. So it is of a worker's seat from the beginning, and of
+    /// another once it was released.
+    pub fn is_released(&self) -> bool
+        ensures value { result ≡ ((claim_of self.now.inner.me).share == 0) }
+        ensures share { result ≡ false → 0 < (claim_of self.now.inner.me).share }
+    {
+        self.share == 0
     }
 
     /// Whether each entry that this seat made has its receipt.
@@ -102,6 +122,7 @@ impl<S: Held + Drop> Seat<S> {
             alloc,
             &mut self.inner,
             &mut self.receipts,
+            &mut self.share,
             self.lane,
             event,
         );

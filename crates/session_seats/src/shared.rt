@@ -2,7 +2,7 @@
 ghost use Rattle.std.specs.Prelude.{◌≡◌, ◌++◌, [], None, drop, IfOk, OnOk};
 ghost use Rattle.session_seats.specs.Sights.{made_from};
 ghost use Rattle.session_seats.specs.Rules.{home};
-ghost use Rattle.session_seats.specs.Holds.{Applied, CanRelease, HasTaken, Hold, IsSeat, NamesLane, Releases, Spares, at_first, claim_of, passes};
+ghost use Rattle.session_seats.specs.Holds.{Applied, CanRelease, HasTaken, Hold, IsSeat, IsSeatOf, Releases, Spares, at_first, claim_of, passes};
 
 use crate::event::Event;
 use crate::origin::Origin;
@@ -83,21 +83,23 @@ impl<S: Held + Drop> Shared<S> {
         self.table.shared.store::<Release>(seat, 0, 0);
     }
 
-    /// One hold: an event, and receipts for what it added. The last answer is whether those who wait are to be woken.
+    /// One hold: an event, and receipts for what it added. The seat's share goes by the users. The last answer is whether those who wait
+    /// are to be woken.
     pub(crate) fn hold<A, E: Event<S, A>, R: Wait>(
         &self,
         rt: &R,
         alloc: Global,
         seat: &mut Inner<S, View>,
         receipts: &mut Vec<Receipt>,
+        share: &mut u64,
         lane: Option<u32>,
         event: E,
     ) -> (A, Result<(), OutOfMemory>, bool)
         requires own { seat.old.table_id ≡ self.now.table.shared.table_id }
-        requires free { IsSeat seat.old.me }
-        requires named { NamesLane (claim_of seat.old.me) lane }
+        requires is { IsSeatOf lane share.old seat.old.me }
         requires may { Spares (claim_of seat.old.me) (E.needs event) }
         ensures own { seat.new.table_id ≡ seat.old.table_id }
+        ensures share { share.new ≡ (claim_of seat.new.me).share }
         ensures held { Hold S.shown (Applied S.shown (passes (E.only event) lane) (E.needs event)
             (λ y z. E.does event lane y z result.0) result.1 receipts.old.items receipts.new.items) seat.old.me seat.new.me }
     {
@@ -105,7 +107,9 @@ impl<S: Held + Drop> Shared<S> {
         let held = seat.slot_mut(&self.table.shared, 0);
         let from = held.entries().len();
         let before = held.moves();
+        let others = held.users() - *share;
         let did = event.act(held, lane);
+        *share = held.users() - others;
         let moved = held.moves() != before;
         let copied = copy_from(alloc, held.entries(), from, receipts);
         self.release(seat);

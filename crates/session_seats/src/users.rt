@@ -1,7 +1,7 @@
 //! Users, which leave one by one, and the stage of the end, which is raised then.
-ghost use Rattle.std.specs.Prelude.{◌≡◌, ◌<◌, ◌≤◌};
-ghost use Rattle.session_seats.specs.Holds.{IsSeat, claim_of, sight_by};
-ghost use Rattle.session_seats.specs.Users.{Leaves, Raises};
+ghost use Rattle.std.specs.Prelude.{◌≡◌, ◌<◌};
+ghost use Rattle.session_seats.specs.Holds.{IsSeat, claim_of};
+ghost use Rattle.session_seats.specs.Users.{Leaves, MayRaise, Raises};
 
 use crate::event::Event;
 use crate::rule::Held;
@@ -32,8 +32,7 @@ impl<S: Held + Drop> Shared<S> {
     pub(crate) fn raise_with<R: Wait>(&self, rt: &R, seat: &mut Inner<S, View>, stage: u64)
         requires own { seat.old.table_id ≡ self.now.table.shared.table_id }
         requires free { IsSeat seat.old.me }
-        requires begun { 0 < (sight_by seat.old.me).counts.stage }
-        requires low { stage ≤ 2 }
+        requires may { MayRaise stage seat.old.me }
         ensures own { seat.new.table_id ≡ seat.old.table_id }
         ensures free { IsSeat seat.new.me }
         ensures raised { Raises S.shown stage seat.old.me seat.new.me }
@@ -56,6 +55,7 @@ impl<S: Held + Drop> Seat<S> {
     {
         let mut gate = shared.gate.lock(rt);
         let last = shared.leave_with(rt, &mut self.inner);
+        self.share -= 1;
         shared.wake(&mut *gate, true);
         drop(gate);
         last
@@ -64,7 +64,7 @@ impl<S: Held + Drop> Seat<S> {
     /// Raises the stage of the end to at least this one, at most 2. The seat must have seen that the end has begun.
     pub fn raise<R: Wait>(&mut self, rt: &R, shared: &Shared<S>, stage: u64)
         requires own { self.old.inner.table_id ≡ shared.now.table.shared.table_id }
-        requires begun { (0 < (sight_by self.old.inner.me).counts.stage) × (stage ≤ 2) }
+        requires may { MayRaise stage self.old.inner.me }
         ensures own { self.new.inner.table_id ≡ self.old.inner.table_id }
         ensures same { (self.new.lane ≡ self.old.lane) × (self.new.receipts ≡ self.old.receipts) × (self.new.whole ≡ self.old.whole) }
         ensures raised { Raises S.shown stage self.old.inner.me self.new.inner.me }

@@ -1,6 +1,4 @@
 // A session over a scripted link. The bytes are laid out by draft-ietf-secsh-filexfer-02, sections 3 to 7.
-ghost use Rattle.std.specs.Prelude.{◌≡◌, ◌∷◌, [], true};
-
 use sftp_lanes::*;
 use sftp_link::{Scripted, ScriptedLink};
 use sftp_values::{ByteText, Items};
@@ -125,22 +123,13 @@ fn a_new_session_reports_nothing(rt: HostRuntime) -> Result<(), Fail> {
     Ok(())
 }
 
-/// Whether there is one lane, and it has no call.
-fn is_bare(lanes: &[Lane]) -> bool
-    ensures { result ≡ true → lanes.now ≡ record { calls = [] } ∷ [] }
-{
-    match lanes {
-        [lane] => lane.calls.as_slice().is_empty(),
-        _ => false,
-    }
-}
-
-/// Adds a change of the directory to the one lane of a session.
+/// Adds a change of the directory to the first lane of a session, where it may be added.
 fn change_directory(session: &mut Session, path: ByteText) -> Result<(), OutOfMemory> {
-    if session.was_let_go(0) || !is_bare(session.calls()) {
+    let call = Call::Cwd { path };
+    if !session.can_add(0, &call) {
         return Ok(());
     }
-    session.push_call(0, Call::Cwd { path })
+    session.push_call(0, call)
 }
 
 /// Lets the first lane of a session go, where it has no call left.
@@ -186,6 +175,25 @@ fn counts(session: &Session) -> (usize, usize, bool) {
         session.outcomes(0).len(),
         session.was_let_go(0),
     )
+}
+
+/// Of a session with one empty lane: whether a call can be added to that lane, to the next one, with a slot that isn't there, and to the
+/// lane once it was let go.
+fn additions(session: &mut Session) -> Result<[bool; 4], OutOfMemory> {
+    let here = session.can_add(0, &Call::Close { slot: 15 });
+    let next = session.can_add(1, &Call::Close { slot: 15 });
+    let outside = session.can_add(0, &Call::Close { slot: 16 });
+    let_go(session)?;
+    let gone = session.can_add(0, &Call::Close { slot: 15 });
+    Ok([here, next, outside, gone])
+}
+
+/// Slots are below 16, there is one lane, and a lane that was let go takes no call.
+#[test]
+fn a_session_tells_which_calls_can_be_added(rt: HostRuntime) -> Result<(), Fail> {
+    let mut session = with_lane(rt.alloc())?.ok_or("an empty lane may not run")?;
+    assert!(rt; additions(&mut session)? == [true, false, false, false]);
+    Ok(())
 }
 
 /// A call that is added before VERSION waits until the session is open. The journal has its entry, its end, and the letting go; the

@@ -20,3 +20,4 @@ pub mod Remaining
 pub mod ReportLaws
 pub mod TurningLaws
 pub mod UnnotedLaws
+pub mod WeightLaws

@@ -21,23 +21,8 @@ use Rattle.session_laws.specs.Places.{without}
 use Rattle.session_lane.specs.Premises.{MayTurn}
 use Rattle.session_lane.specs.Rests.{AwaitsReplies, IsSmall}
 use Rattle.session_lane.specs.Holding.{MayGoOn}
-use Rattle.session_lane.specs.Tokens.{AreGrants, AreTickets, grants_with}
-use Rattle.session_lane.specs.Turning.{
-  AllFit,
-  AllInRange,
-  Asks,
-  HasAwaited,
-  HoldsNamed,
-  IsOpen,
-  IsSafe,
-  Settles,
-  Turned,
-  Begun,
-  Replied,
-  Unreplied,
-  Waiting,
-  Widening,
-}
+use Rattle.session_lane.specs.Tokens.{grants_with}
+use Rattle.session_lane.specs.Turning.{AllInRange, Asks, IsOpen, IsSafe, Settles, Turned, Begun, Replied, Unreplied, Waiting, Widening}
 use Rattle.session_lane.specs.declared.lane.Moved.{Moved}
 use Rattle.session_lane.specs.declared.lane.Moved.TheVariants as moved
 use Rattle.session_lane.proofs.Awaiting.{lanes_await}
@@ -45,8 +30,6 @@ use Rattle.session_lane.proofs.Ranges.{lanes_in_range}
 use Rattle.session_lane.proofs.Rests.{turns_leave}
 use Rattle.session_lane.proofs.Turned.{lanes_may}
 use Rattle.session_lane.proofs.WentLaws.{went_few}
-use Rattle.sftp_core.specs.Info.{MAX_IDS}
-use Rattle.session_laws.specs.Budgets.{kept}
 use Rattle.session_laws.specs.Rest.{awaited_in}
 use Rattle.session_work.specs.Noting.{Turning, call_in, is_went, turned_in, turns_left}
 use Rattle.session_work.specs.Working.{Contents, Works, lane_in}

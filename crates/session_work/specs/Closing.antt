@@ -1,5 +1,5 @@
 -- The grants that are due are closed, one after another.
-use Rattle.std.specs.Prelude.{◌≡◌, ◌<◌, ◌≤◌, ◌+◌, ◌^◌, ℕ, List, ◌∷◌, length, None, slice_set}
+use Rattle.std.specs.Prelude.{◌≡◌, ◌<◌, ◌≤◌, ◌+◌, ◌^◌, ℕ, List, ◌∷◌, length, None, slice_set, vec_len, vec_capacity}
 use Rattle.session_model.specs.declared.entry.Entry.{Entry}
 use Rattle.session_model.specs.Calls.{Setting}
 use Rattle.session_model.specs.Grants.{letting_go}
@@ -10,6 +10,7 @@ use Rattle.session_laws.specs.Dues.{loose_of}
 use Rattle.session_laws.specs.Lanes.{Held, grant_places}
 use Rattle.session_laws.specs.Ends.{close_entry, let_go}
 use Rattle.session_laws.specs.Rest.{Between, weigh}
+use Rattle.session_lane.specs.Tokens.{AreGrants}
 use Rattle.session_work.specs.declared.lanes.Lanes.{Lanes}
 use Rattle.session_work.specs.Working.{Contents, Stands, Works, contents_of, lane_in, lanes_left}
 
@@ -25,6 +26,14 @@ closed_in c lane k g =
       states = slice_set c.states lane (closed_lane (lane_in c.states lane) k);
       begun = c.begun;
     }
+
+-- the grant at an index of a lane's may be closed: both are there, and there is room for its entry
+pub record CanClose (lane k : ℕ) (w : Lanes) : Type 0 where
+  pub there : lane < length w.states.items
+  pub held : AreGrants w.core (lane_in w.states.items lane).grants
+  pub within : k < length (lane_in w.states.items lane).grants
+  pub counted : w.asked ≤ vec_len w.journal
+  pub room : vec_len w.journal < vec_capacity w.journal
 
 pub record HasClosed (old new : Contents) (lane k : ℕ) (g : Held) : Type 0 where
   pub is : new ≡ closed_in old lane k g

@@ -18,6 +18,8 @@ use Rattle.std.specs.Prelude.{
   is_some,
   slice_get,
   slice_set,
+  vec_len,
+  vec_capacity,
 }
 use Rattle.sftp_core.specs.Core.{Core}
 use Rattle.plan_model.specs.declared.call.Call.{Call}
@@ -37,6 +39,7 @@ use Rattle.session_lane.specs.Rests.{IsSmall, Leaves}
 use Rattle.session_lane.specs.declared.lane.Moved.{Moved}
 use Rattle.session_lane.specs.declared.lane.Moved.TheVariants as moved
 use Rattle.session_work.specs.declared.lanes.Lanes.{Lanes}
+use Rattle.session_work.specs.SoFar.{HasRoom}
 use Rattle.session_work.specs.Working.{Contents, StepsIn, Works, contents_of, lane_in}
 
 -- ---- the call of a lane
@@ -116,6 +119,14 @@ abbrev pub IsTurning : ℕ → Lanes → Moved → Type 0
 IsTurning lane w m = (s : Setting) × ((old : Contents) × (Turning s lane old (amid old.begun (contents_of w)) m
     × OthersRun old.begun lane w.states.items))
 
+-- the turn of the lane's call with this number may be noted: it was not one without an entry, and there is room for the
+-- entries that it leads to
+pub record CanNote (lane call : ℕ) (m : Moved) (w : Lanes) : Type 0 where
+  pub turning : IsTurning lane w m
+  pub ends : is_went m ≡ false
+  pub number : (lane_in w.states.items lane).ended ≡ call
+  pub room : vec_len w.journal + length (lane_in w.states.items lane).grants + 1 < vec_capacity w.journal
+
 -- the lane has a call
 abbrev pub HasCall : Contents → ℕ → Type 0
 HasCall c lane = call_in c.calls c.states lane ≢ None
@@ -123,6 +134,20 @@ HasCall c lane = call_in c.calls c.states lane ≢ None
 -- how many turns without an entry the lane may still have: each spends a ticket, but the first that awaits a reply
 abbrev pub turns_left : LaneValue → ℕ
 turns_left v = length v.tickets + (if is_some (awaited_in v.running v.site) then 0 else 1)
+
+-- a lane that has a call may have a turn
+pub record CanTurn (lane : ℕ) (w : Lanes) : Type 0 where
+  pub opened : IsAmid w
+  pub call : HasCall (contents_of w) lane
+  pub room : HasRoom w
+
+-- what a turn leaves of the lanes: the lane has its number of ended calls, each turn without an entry makes those to
+-- come fewer, there is room for what is to be noted, and the other lanes run what they ran
+pub record HasTurned (lane : ℕ) (old new : Lanes) (m : Moved) : Type 0 where
+  pub number : (lane_in new.states.items lane).ended ≡ (lane_in old.states.items lane).ended
+  pub fewer : is_went m ≡ true → turns_left (lane_in new.states.items lane) < turns_left (lane_in old.states.items lane)
+  pub room : vec_len new.journal + length (lane_in new.states.items lane).grants + 1 < vec_capacity new.journal
+  pub others : KeepsOthers lane old.states.items new.states.items
 
 -- behind its note it is a step
 abbrev pub Noted : Setting → ℕ → Contents → Lanes → Contents → Moved → Stepped → Type 0

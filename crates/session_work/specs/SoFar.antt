@@ -1,10 +1,27 @@
 -- What the journal of a session is in every phase, also once it has failed.
-use Rattle.std.specs.Prelude.{◌≡◌, ◌<◌, ℕ, List, [], ◌∷◌, Option, Some, None, Result, length, vec_len, vec_capacity}
+use Rattle.std.specs.Prelude.{
+  ◌≡◌,
+  ◌<◌,
+  ◌≤◌,
+  ◌+◌,
+  ℕ,
+  List,
+  [],
+  ◌∷◌,
+  Option,
+  Some,
+  None,
+  Result,
+  length,
+  vec_len,
+  vec_capacity,
+}
 use Rattle.sftp_model.specs.declared.error.Fault.{Fault}
 use Rattle.sftp_model.specs.declared.frame_error.FrameError.{FrameError}
 use Rattle.sftp_model.specs.declared.reply.Reply.{Reply}
 use Rattle.sftp_core.specs.declared.errors.TakeError.{TakeError}
-use Rattle.sftp_core.specs.Take.{IsFirst, fault_of}
+use Rattle.sftp_core.specs.declared.tokens.Taken.{Taken}
+use Rattle.sftp_core.specs.Take.{IsFirst, IsTakeError, TakenFrom, fault_of, take_refusal}
 use Rattle.session_model.specs.declared.entry.Entry.{Entry}
 use Rattle.session_model.specs.declared.entry.Entry.TheVariants as entry
 use Rattle.session_model.specs.Calls.{Setting}
@@ -40,6 +57,11 @@ pub record IsSoFar (s : Setting) (fault : Option Fault) (past : List Entry) : Ty
 abbrev pub HasRoom : Lanes → Type 0
 HasRoom w = w.core.fault ≡ None → vec_len w.journal < vec_capacity w.journal
 
+-- the journal is one entry longer, and has the room that it had
+pub record HasOneMore (old new : Lanes) : Type 0 where
+  pub len : vec_len new.journal ≡ vec_len old.journal + 1
+  pub capacity : vec_capacity old.journal ≤ vec_capacity new.journal
+
 -- So many lanes are intact: there is room for the entry of a fault, and what is kept of each lane for its report is
 -- what the journal tells.
 pub record IsIntact (n : ℕ) (w : Lanes) : Type 0 where
@@ -59,6 +81,20 @@ pub record IsLeft (old new : Lanes) : Type 0 where
   pub fault : new.core.fault ≡ old.core.fault
   pub reports : reports_of new ≡ reports_of old
   pub calls : new.calls ≡ old.calls
+
+-- a frame was taken into the core, and nothing was noted: there is room for two entries and that of a fault
+pub record TakesFrame (body_reads : Result (Option ℕ × Reply) FrameError) (told : Taken) (old new : Lanes) : Type 0
+  where
+    pub taken : TakenFrom body_reads told old.core new.core
+    pub only : take_refusal old.core body_reads ≡ None
+    pub journal : new.journal.items ≡ old.journal.items
+    pub entries : vec_len new.journal + 3 ≤ vec_capacity new.journal
+
+-- a frame was refused by the first thing that is wrong with it, whose fault is kept and noted, or for want of memory
+pub record RefusesFrame (body_reads : Result (Option ℕ × Reply) FrameError) (e : TakeError) (old new : Lanes) : Type 0
+  where
+    pub error : IsTakeError e (take_refusal old.core body_reads) old.core new.core
+    pub noted : past_of new ≡ refused_past (fault_of e) (past_of old)
 
 -- What the lanes of an open session leave where a frame was refused: this is the first thing that is wrong with it by
 -- the journal, or there was no memory; the fault that it keeps is the newest entry, and the calls are as before.

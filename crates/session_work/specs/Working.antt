@@ -130,6 +130,12 @@ IsWorking s w = Works s (contents_of w)
 abbrev pub IsOpened : Lanes → Type 0
 IsOpened w = (s : Setting) × IsWorking s w
 
+-- and this lane, which is there, runs no call
+pub record IsIdleIn (lane : ℕ) (w : Lanes) : Type 0 where
+  pub opened : IsOpened w
+  pub there : lane < length w.states.items
+  pub idle : (lane_in w.states.items lane).running ≡ None
+
 -- Nothing was noted: core and lanes are others, and the session is at rest as before.
 pub record Unnoted (s : Setting) (old new : Contents) : Type 0 where
   pub works : Works s new

@@ -23,7 +23,7 @@ pub(crate) fn push_last<T: Drop>(items: &mut Vec<T>, item: T) -> Result<(), OutO
 }
 
 /// Puts a call behind those of a lane. Refused for want of memory; the lanes are as before then.
-fn add_call(
+pub(crate) fn add_call(
     alloc: Global,
     lanes: &mut Items<Lane>,
     lane: usize,
@@ -58,7 +58,7 @@ impl Lanes {
     {
         let copy = call.try_copy(alloc)?;
         self.journal.reserve(2)?;
-        add_call(alloc, &mut self.calls, lane as usize, call)?;
+        self.calls.push_call(alloc, lane as usize, call)?;
         add_entry(&mut self.journal, Entry::Added { lane, call: copy });
         Ok(())
     }

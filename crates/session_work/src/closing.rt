@@ -8,9 +8,9 @@ ghost use Rattle.session_model.specs.declared.event.Event.TheVariants.{Submit};
 ghost use Rattle.session_model.specs.declared.event.Owner.TheVariants as owner;
 ghost use Rattle.session_model.specs.Calls.{Setting};
 ghost use Rattle.session_laws.specs.Lanes.{Held};
-ghost use Rattle.session_lane.specs.Tokens.{AreGrants};
 ghost use Rattle.session_work.specs.Reports.{LeavesReports, lane_report};
-ghost use Rattle.session_work.specs.Closing.{Closed, HasClosed, IsClosing, closed_in};
+ghost use Rattle.session_work.specs.Closing.{CanClose, Closed, HasClosed, IsClosing};
+ghost use Rattle.session_work.specs.SoFar.{HasOneMore};
 ghost use Rattle.session_work.specs.Working.{contents_of, lane_in};
 
 use crate::lanes::Lanes;
@@ -59,15 +59,10 @@ pub(crate) fn note_close(core: &Core, journal: &mut Vec<Entry>, before: u32) -> 
 impl Lanes {
     /// Closes the grant at an index of a lane's, and notes its CLOSE.
     pub(crate) fn close(&mut self, lane: u32, k: usize)
-        requires there { lane < length self.old.states.items }
-        requires held { AreGrants self.old.core (lane_in self.old.states.items lane).grants }
-        requires within { k < length (lane_in self.old.states.items lane).grants }
-        requires counted { self.old.asked ≤ vec_len self.old.journal }
-        requires room { vec_len self.old.journal < vec_capacity self.old.journal }
+        requires { CanClose lane k self.old }
         ensures closed { (g : Held) → slice_get (lane_in self.old.states.items lane).grants k ≡ Some g → HasClosed (contents_of self.old) (contents_of self.new) lane k g }
         ensures reports { LeavesReports self.old self.new }
-        ensures len { vec_len self.new.journal ≡ vec_len self.old.journal + 1 }
-        ensures capacity { vec_capacity self.old.journal ≤ vec_capacity self.new.journal }
+        ensures one { HasOneMore self.old self.new }
     {
         let (id, handle) = self.states[lane as usize].release(&mut self.core, k);
         add_entry(

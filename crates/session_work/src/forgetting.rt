@@ -1,19 +1,17 @@
 // Tickets that nothing awaits any more.
-ghost use Rattle.std.specs.Prelude.{◌≡◌, ◌≢◌, ◌<◌, ℕ, Some, None, length, slice_get};
+ghost use Rattle.std.specs.Prelude.{◌≡◌, ◌≢◌, ℕ, Some, slice_get};
 ghost use Rattle.plan_runner.specs.Pending.{slots_times};
 ghost use Rattle.session_model.specs.Calls.{Setting};
 ghost use Rattle.session_laws.specs.Lanes.{Ticketed};
 ghost use Rattle.session_work.specs.Reports.{LeavesReports};
-ghost use Rattle.session_work.specs.Working.{IsOpened, IsWorking, Unnoted, contents_of, lane_in};
+ghost use Rattle.session_work.specs.Working.{IsIdleIn, IsWorking, Unnoted, contents_of, lane_in};
 
 use crate::lanes::Lanes;
 
 impl Lanes {
     /// Drops each ticket of a lane that runs no call whose reply no slot awaits: those that are left are awaited.
     pub(crate) fn forget_unawaited(&mut self, lane: u32)
-        requires opened { IsOpened self.old }
-        requires there { lane < length self.old.states.items }
-        requires idle { (lane_in self.old.states.items lane).running ≡ None }
+        requires { IsIdleIn lane self.old }
         ensures forgets { (s : Setting) → IsWorking s self.old → Unnoted s (contents_of self.old) (contents_of self.new) }
         ensures none { (k : ℕ) (t : Ticketed) → slice_get (lane_in self.new.states.items lane).tickets k ≡ Some t
             → slots_times t.place (lane_in self.new.states.items lane).site.slots ≢ 0 }

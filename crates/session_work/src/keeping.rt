@@ -1,9 +1,8 @@
 // A kept fault is an entry of the journal too.
-ghost use Rattle.std.specs.Prelude.{◌≡◌, ◌≤◌, ◌+◌, None, IfOk, IfErr, OnOk, vec_len, vec_capacity};
+ghost use Rattle.std.specs.Prelude.{◌≡◌, None, IfOk, IfErr};
 ghost use Rattle.sftp_model.specs.ReplyReadings.{reply_at};
 ghost use Rattle.sftp_core.specs.Core.{failed_with};
-ghost use Rattle.sftp_core.specs.Take.{TakenFrom, IsTakeError, fault_of, take_refusal};
-ghost use Rattle.session_work.specs.SoFar.{HasRoom, kept_past, refused_past};
+ghost use Rattle.session_work.specs.SoFar.{HasRoom, RefusesFrame, TakesFrame, kept_past};
 ghost use Rattle.session_work.specs.Working.{past_of};
 
 use crate::closing::add_entry;
@@ -29,13 +28,9 @@ impl Lanes {
     pub fn take_frame(&mut self, body: &[u8]) -> Result<Taken, TakeError>
         requires unfailed { self.old.core.fault ≡ None }
         requires room { HasRoom self.old }
-        ensures ok { IfOk result (λ told. TakenFrom (reply_at body.now) told self.old.core self.new.core) }
-        ensures only { OnOk result (take_refusal self.old.core (reply_at body.now) ≡ None) }
-        ensures journal { OnOk result (self.new.journal.items ≡ self.old.journal.items) }
-        ensures entries { OnOk result (vec_len self.new.journal + 3 ≤ vec_capacity self.new.journal) }
+        ensures takes { IfOk result (λ told. TakesFrame (reply_at body.now) told self.old self.new) }
         ensures rest { self.new ≡ record self.old { core = self.new.core; journal = self.new.journal } }
-        ensures refused { IfErr result (λ e. IsTakeError e (take_refusal self.old.core (reply_at body.now)) self.old.core self.new.core) }
-        ensures noted { IfErr result (λ e. past_of self.new ≡ refused_past (fault_of e) (past_of self.old)) }
+        ensures refused { IfErr result (λ e. RefusesFrame (reply_at body.now) e self.old self.new) }
         ensures room { HasRoom self.new }
     {
         if self.journal.reserve(3).is_err() {

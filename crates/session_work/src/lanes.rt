@@ -3,6 +3,7 @@ ghost use Rattle.std.specs.Prelude.{◌≡◌, IfOk};
 ghost use Rattle.session_work.specs.Fresh.{IsMade};
 
 use crate::reports::{empty_lists, unmarked};
+use crate::weighed_lanes::WeighedLanes;
 use bitflags::Flags;
 use session_lane::LaneState;
 use session_model::{Entry, Lane};
@@ -16,7 +17,7 @@ use std::alloc::Global;
 /// how many requests it has, what each lane holds and awaits, and what is kept of it for the report.
 pub struct Lanes {
     /// The calls of each lane.
-    pub calls: Items<Lane>,
+    pub calls: WeighedLanes,
     /// The core that all lanes ask.
     pub core: Core,
     /// What VERSION and the limits told, once the session is open.
@@ -76,7 +77,7 @@ impl Lanes {
         ensures { IfOk result (λ w. IsMade lanes.now options.now w) }
     {
         let mut work = Lanes {
-            calls: copies_of(alloc, lanes)?,
+            calls: WeighedLanes::new(copies_of(alloc, lanes)?),
             core: Core::new(alloc, options)?,
             facts: untold(),
             journal: Vec::with_capacity(alloc, 1)?,

@@ -14,6 +14,7 @@ mod noting;
 mod reports;
 mod stepping;
 mod taking;
+mod weighed_lanes;
 
 pub use lanes::Lanes;
 pub use session_driver::Stepped;
@@ -21,3 +22,4 @@ pub use session_model::{Entry, Lane};
 pub use sftp_core::{Chunk, Core, Fault, TakeError, Taken};
 pub use sftp_model::{Facts, SftpOptions};
 pub use ssh_encoding::OutOfMemory;
+pub use weighed_lanes::WeighedLanes;

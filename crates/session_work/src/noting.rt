@@ -1,9 +1,10 @@
 // What is noted of a lane's turn.
-ghost use Rattle.std.specs.Prelude.{◌≡◌, ◌<◌, ◌≤◌, ◌+◌, ◌^◌, ◌∷◌, ◌++◌, [], false, length, slice_get, vec_len, vec_capacity};
+ghost use Rattle.std.specs.Prelude.{◌≡◌, ◌<◌, ◌≤◌, ◌^◌, ◌∷◌, length, slice_get, vec_len, vec_capacity};
 ghost use Rattle.std.specs.Option.{option_copied};
 ghost use Rattle.session_model.specs.Calls.{Setting};
 ghost use Rattle.session_laws.specs.Rest.{begun_of};
-ghost use Rattle.session_work.specs.Noting.{IsTurning, Noted, amid, asked_in, call_in, ended_in, is_went};
+ghost use Rattle.session_work.specs.Noting.{CanNote, Noted, amid, asked_in, call_in, ended_in};
+ghost use Rattle.session_work.specs.SoFar.{HasOneMore};
 ghost use Rattle.session_model.specs.declared.entry.Entry.TheVariants as entry;
 ghost use Rattle.session_model.specs.declared.event.Event.TheVariants.{End};
 ghost use Rattle.session_work.specs.Reports.{HasReports, LeavesReports, ended_past};
@@ -57,8 +58,7 @@ impl Lanes {
         requires counted { self.old.asked ≤ vec_len self.old.journal }
         ensures noted { contents_of self.new ≡ amid (begun_of (lane_in self.new.states.items)) (asked_in (contents_of self.old) lane call id request) }
         ensures reports { LeavesReports self.old self.new }
-        ensures len { vec_len self.new.journal ≡ vec_len self.old.journal + 1 }
-        ensures capacity { vec_capacity self.old.journal ≤ vec_capacity self.new.journal }
+        ensures one { HasOneMore self.old self.new }
     {
         add_entry(
             &mut self.journal,
@@ -78,8 +78,7 @@ impl Lanes {
         requires room { vec_len self.old.journal < vec_capacity self.old.journal }
         ensures noted { contents_of self.new ≡ amid (begun_of (lane_in self.new.states.items)) (ended_in (contents_of self.old) lane call outcome) }
         ensures reports { HasReports (entry.Event (End lane call outcome) ∷ past_of self.old) self.old self.new }
-        ensures len { vec_len self.new.journal ≡ vec_len self.old.journal + 1 }
-        ensures capacity { vec_capacity self.old.journal ≤ vec_capacity self.new.journal }
+        ensures one { HasOneMore self.old self.new }
     {
         add_entry(
             &mut self.journal,
@@ -94,10 +93,7 @@ impl Lanes {
 
     /// What a lane's turn was is noted, and the grants are closed that are due then.
     pub(crate) fn note(&mut self, lane: u32, call: u32, moved: Moved) -> Stepped
-        requires turning { IsTurning lane self.old moved }
-        requires ends { is_went moved ≡ false }
-        requires number { (lane_in self.old.states.items lane).ended ≡ call }
-        requires journal { vec_len self.old.journal + length (lane_in self.old.states.items lane).grants + 1 < vec_capacity self.old.journal }
+        requires { CanNote lane call moved self.old }
         ensures noted { (s : Setting) (old : Contents) → Noted s lane old self.old (contents_of self.new) moved result }
         ensures reports { HasReports (ended_past lane call moved (past_of self.old)) self.old self.new }
         ensures room { vec_len self.new.journal < vec_capacity self.new.journal }

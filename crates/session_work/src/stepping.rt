@@ -1,10 +1,10 @@
 // One step of a lane.
-ghost use Rattle.std.specs.Prelude.{◌≡◌, ◌<◌, ◌+◌, ◌^◌, ℕ, Bool, true, length, vec_len, vec_capacity, IfOk, OnErr};
+ghost use Rattle.std.specs.Prelude.{◌≡◌, ◌+◌, ℕ, Bool, length, IfOk, OnErr};
 ghost use Rattle.session_model.specs.Calls.{Setting};
 ghost use Rattle.session_lane.specs.declared.lane.Moved.{Moved as MovedValue};
-ghost use Rattle.session_work.specs.Noting.{HasCall, IsAmid, KeepsOthers, Turning, amid, is_went, turns_left};
+ghost use Rattle.session_work.specs.Noting.{CanTurn, HasTurned, Turning, amid, is_went};
 ghost use Rattle.session_work.specs.SoFar.{HasRoom, IsIntact, IsLeft};
-ghost use Rattle.session_work.specs.Working.{IsOpened, IsWorking, Steps, Works, contents_of, lane_in};
+ghost use Rattle.session_work.specs.Working.{IsOpened, IsWorking, Steps, Works, contents_of};
 
 use crate::lanes::Lanes;
 use crate::noting::current_call;
@@ -34,14 +34,9 @@ fn is_went(moved: &Moved) -> bool
 impl Lanes {
     /// One turn of a lane that has a call. Refused for want of memory. It notes nothing.
     fn turn(&mut self, alloc: Global, lane: u32) -> Result<Moved, OutOfMemory>
-        requires opened { IsAmid self.old }
-        requires call { HasCall (contents_of self.old) lane }
-        requires room { HasRoom self.old }
+        requires { CanTurn lane self.old }
         ensures turned { (s : Setting) (begun : ℕ → Bool) → Works s (amid begun (contents_of self.old)) → IfOk result (Turning s lane (amid begun (contents_of self.old)) (amid begun (contents_of self.new))) }
-        ensures number { IfOk result (λ m. (lane_in self.new.states.items lane).ended ≡ (lane_in self.old.states.items lane).ended) }
-        ensures fewer { IfOk result (λ m. is_went m ≡ true → turns_left (lane_in self.new.states.items lane) < turns_left (lane_in self.old.states.items lane)) }
-        ensures journal { IfOk result (λ m. vec_len self.new.journal + length (lane_in self.new.states.items lane).grants + 1 < vec_capacity self.new.journal) }
-        ensures others { IfOk result (λ m. KeepsOthers lane self.old.states.items self.new.states.items) }
+        ensures leaves { IfOk result (HasTurned lane self.old self.new) }
         ensures left { IsLeft self.old self.new }
         ensures room { HasRoom self.new }
     {

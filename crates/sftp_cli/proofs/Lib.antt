@@ -1,7 +1,6 @@
 pub mod Files
 pub mod Running
 pub mod Reading
-pub mod Writing
 pub mod Exits
 pub mod Linked
 pub mod Fixing

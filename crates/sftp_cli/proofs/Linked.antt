@@ -18,7 +18,8 @@ use Rattle.sftp_lanes.specs.Seen.{given}
 use Rattle.sftp_text.specs.Traces.{journal_of}
 use Rattle.sftp_text.proofs.TraceLaws.{trace_text}
 use Rattle.sftp_cli.proofs.Running.{from_empty}
-use Rattle.sftp_cli.specs.Dialled.{IsShown, IsStopped, error_name, error_line}
+use Rattle.program_ends.specs.Texts.{error_line, error_name}
+use Rattle.sftp_cli.specs.Dialled.{IsShown, IsStopped}
 
 pub is_shown : (script : Script) (before log : List Piece) (faults : ℕ) (ended : Bool) (report : Report) (text : List ℕ) → before ≡ []
     → IsReport script.lanes script.options script.turns (Some (reverse before)) (Some log) report → text

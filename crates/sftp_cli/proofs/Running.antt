@@ -1,5 +1,5 @@
 -- A run of lanes over a server that nothing was sent to is served, and stops only for want of memory.
-use Rattle.std.proofs.Common.{◌≡◌, ℕ, true, List, [], ◌++◌, refl, ap, sym, ◌∙◌, subst}
+use Rattle.std.proofs.Common.{◌≡◌, ℕ, true, List, [], refl, ap, sym, ◌∙◌, subst}
 use Rattle.std.specs.Prelude.{Option, Some, None, Result, Ok, Err, IfErr, IfOk, IfSome, IsSomeAnd, Vec}
 use Rattle.std.specs.declared.alloc.Global.{Global}
 use Rattle.ssh_encoding.specs.declared.out_of_memory.OutOfMemory.{OutOfMemory}
@@ -16,15 +16,9 @@ use Rattle.session_model.specs.declared.turn.Turn.{Turn}
 use Rattle.plan_model.specs.Lanes.{are_ok}
 use Rattle.session_model.specs.Settings.{greeting, setting_of}
 use Rattle.session_model.specs.Shown.{Shows}
-use Rattle.sftp_text.specs.Texts.{dir_lines, file_lines, text_of}
-use Rattle.session_model.specs.Readings.{trace_of}
-use Rattle.session_model.specs.declared.entry.Entry.{Entry}
 use Rattle.machine_model.specs.Changes.{IsWellFormed}
-use Rattle.machine_model.specs.FileTree.{FileTree}
 use Rattle.machine_model.proofs.FirstFiles.{first_well_formed}
-use Rattle.sftp_bulk.specs.Summary.{summary_text}
 use Rattle.sftp_cli.specs.declared.printed.Form.{Form}
-use Rattle.sftp_cli.specs.declared.printed.Form.TheVariants as form
 use Rattle.session_exchange.specs.Causes.{Cause}
 use Rattle.session_driver.specs.Logs.{Ends}
 use Rattle.session_driver.specs.Session.{Given, IsFixed}
@@ -34,9 +28,8 @@ use Rattle.sftp_map_server.specs.Unopened.{IsUnopened, unopened}
 use Rattle.map_server_laws.proofs.Whole.{version_is_told, run_is_served, stops_for_memory}
 use Rattle.sftp_lanes.specs.Reported.{IsReport}
 use Rattle.sftp_lanes.specs.ServesFiles.{ServesFiles}
-use Rattle.sftp_text.specs.Traces.{journal_of}
-use Rattle.sftp_text.proofs.TraceLaws.{trace_text}
-use Rattle.sftp_cli.specs.Printed.{IsPrinted, IsServedReport, IsServerOf, report_text}
+use Rattle.program_ends.specs.Ended.{IsServerOf}
+use Rattle.sftp_cli.specs.Printed.{IsPrinted, IsServedReport, report_text}
 
 -- a value in Some
 some_is : {A : Type 0} (x y : A) → Some x ≡ Some y → x ≡ y

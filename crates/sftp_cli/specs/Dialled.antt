@@ -1,8 +1,7 @@
 -- What the program has to write for a script whose lanes run over a link to a server elsewhere.
-use Rattle.std.specs.Prelude.{◌≡◌, ℕ, List, [], ◌++◌, length, codes, Option, Some, None, Err}
+use Rattle.std.specs.Prelude.{◌≡◌, ℕ, List, [], length, Option, Some, Err}
 use Rattle.sftp_link.specs.Views.{LastLink}
 use Rattle.sftp_model.specs.declared.error.Error.{Error}
-use Rattle.sftp_model.specs.declared.error.Error.TheVariants as errors
 use Rattle.sftp_model.specs.declared.flags.Extensions.{Extensions}
 use Rattle.session_model.specs.declared.entry.Entry.{Entry}
 use Rattle.session_model.specs.declared.report.Report.{Report}
@@ -12,13 +11,14 @@ use Rattle.session_model.specs.Readings.{outcomes_below}
 use Rattle.session_model.specs.Runs.{IsRun}
 use Rattle.session_model.specs.Settings.{greeting, setting_of}
 use Rattle.session_model.specs.Shown.{Shows}
-use Rattle.sftp_text.specs.Texts.{line, text_of}
+use Rattle.sftp_text.specs.Texts.{text_of}
 use Rattle.session_exchange.specs.Causes.{Cause, EndCause}
 use Rattle.session_driver.specs.Logs.{Ends}
 use Rattle.sftp_lanes.specs.Reported.{KeepsServed}
 use Rattle.sftp_lanes.specs.Seen.{given}
-use Rattle.sftp_cli.specs.declared.ending.Answered.{Answered}
-use Rattle.sftp_cli.specs.declared.ending.Answered.TheVariants.{Done, Stopped, Refused}
+use Rattle.program_ends.specs.declared.ending.Answered.{Answered}
+use Rattle.program_ends.specs.declared.ending.Answered.TheVariants.{Done, Stopped, Refused}
+use Rattle.program_ends.specs.Texts.{error_line, error_name}
 
 -- ---- a whole run
 
@@ -37,25 +37,6 @@ pub record IsShown (last : Option LastLink) (script : Script) (text : List ℕ) 
   pub is : text ≡ text_of past (outcomes_below past (length script.lanes))
 
 -- ---- a run that stopped
-
--- the name of an error that stops a run; want of memory has a status of its own
-abbrev pub error_name : Error → Option (List ℕ)
-error_name errors.OutOfMemory = None
-error_name errors.LinkFault = Some (codes "LinkFault")
-error_name errors.LinkEnded = Some (codes "LinkEnded")
-error_name (errors.UnsupportedSftpProtocol version) = Some (codes "UnsupportedSftpProtocol")
-error_name (errors.FormatError kind) = Some (codes "FormatError")
-error_name (errors.HandleTooLong len) = Some (codes "HandleTooLong")
-error_name (errors.InvalidResponseId id) = Some (codes "InvalidResponseId")
-error_name (errors.InvalidResponse id) = Some (codes "InvalidResponse")
-error_name (errors.SftpError code message language) = Some (codes "SftpError")
-error_name (errors.UnsupportedExtension set) = Some (codes "UnsupportedExtension")
-error_name (errors.IOError kind) = Some (codes "IOError")
-error_name (errors.BackgroundTaskFailure fault) = Some (codes "BackgroundTaskFailure")
-
--- the line that names an error
-abbrev pub error_line : List ℕ → List ℕ
-error_line name = line (codes "error " ++ name)
 
 -- The run stopped with an error other than want of memory, and the line names it. The link failed only where its count
 -- of faults rose and ended only where its last call found the end; any other error is the first thing that is wrong

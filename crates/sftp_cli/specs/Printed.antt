@@ -1,18 +1,14 @@
 -- What the program has to write for the bytes of a script.
-use Rattle.std.specs.Prelude.{◌≡◌, ℕ, List, [], ◌++◌, filter, length, codes, Option, Some, None, Result, Ok, Err}
+use Rattle.std.specs.Prelude.{◌≡◌, ℕ, List, [], filter, length, Option, Some, None}
 use Rattle.std.specs.List.{sum_by}
 use Rattle.sftp_model.specs.declared.options.SftpOptions.{SftpOptions}
 use Rattle.sftp_model.specs.declared.flags.Extensions.{Extensions}
-use Rattle.sftp_model.specs.declared.outcome.Outcome.{Outcome}
 use Rattle.machine_model.specs.FileTree.{FileTree}
-use Rattle.machine_model.specs.FirstTree.{first_tree}
 use Rattle.machine_model.specs.Listing.{has_file, in_name_order, node_bytes}
 use Rattle.sftp_bulk.specs.declared.summary.Summary.{Summary}
 use Rattle.sftp_bulk.specs.Summary.{limited, summary_of, summary_text}
 use Rattle.plan_model.specs.declared.call.Lane.{Lane}
 use Rattle.session_model.specs.declared.entry.Entry.{Entry}
-use Rattle.sftp_script.specs.declared.reason.Reason.{Reason}
-use Rattle.sftp_script.specs.declared.reason.Reason.TheVariants as reason
 use Rattle.session_model.specs.declared.report.Report.{Report}
 use Rattle.sftp_script.specs.declared.script.Script.{Script}
 use Rattle.session_model.specs.declared.turn.Turn.{Turn}
@@ -22,11 +18,12 @@ use Rattle.session_model.specs.Readings.{trace_of, outcomes_below}
 use Rattle.session_model.specs.Runs.{IsRun}
 use Rattle.session_model.specs.Settings.{greeting, setting_of}
 use Rattle.session_model.specs.Shown.{Shows}
-use Rattle.sftp_text.specs.Texts.{dir_text, file_text, line, number_text, text_with_files}
-use Rattle.sftp_map_server.specs.Serving.{Server, Serving, first_desk, opened, version_reply}
+use Rattle.sftp_text.specs.Texts.{text_with_files}
+use Rattle.sftp_map_server.specs.Serving.{Server, Serving, version_reply}
 use Rattle.map_server_laws.specs.ServedRuns.{IsServedRun}
 use Rattle.run_laws.specs.KeepsFiles.{KeepsFiles}
 use Rattle.sftp_text.specs.Traces.{journal_of}
+use Rattle.program_ends.specs.Ended.{IsServerOf}
 use Rattle.sftp_cli.specs.declared.printed.Form.{Form}
 use Rattle.sftp_cli.specs.declared.printed.Form.TheVariants as form
 
@@ -71,11 +68,6 @@ pub record IsServedReport (lanes : List Lane) (options : SftpOptions) (turns : L
   pub trace : report.trace ≡ trace_of past
   pub outcomes : report.outcomes ≡ outcomes_below past (length lanes)
 
--- the server was made of a script's files and directories, and of its choices and picks
-abbrev pub IsServerOf : Script → Serving → Type 0
-IsServerOf script server =
-    server.first ≡ opened (first_desk script.files script.dirs script.server script.choices) script.picks
-
 -- the text is that of a run of a script's lanes over the script's server, which was kept, and of what is left there
 pub record IsPrinted (form : Form) (kept : Option Serving) (script : Script) (text : List ℕ) : Type 0 where
   pub server : Serving
@@ -85,36 +77,7 @@ pub record IsPrinted (form : Form) (kept : Option Serving) (script : Script) (te
   pub run : IsServedReport script.lanes script.options script.turns server report
   pub is : text ≡ report_text form report server.now.desk.machine.tree
 
--- the line of a file, where there is one
-abbrev pub file_text_of : Option (List ℕ × List ℕ) → List ℕ
-file_text_of None = []
-file_text_of (Some file) = file_text file.0 file.1
-
 -- how many bytes a file has, where there is one
 abbrev pub file_len_of : Option (List ℕ × List ℕ) → ℕ
 file_len_of None = 0
 file_len_of (Some file) = length file.1
-
--- the line of a directory, where there is one
-abbrev pub dir_text_of : Option (List ℕ) → List ℕ
-dir_text_of None = []
-dir_text_of (Some name) = dir_text name
-
--- ---- a refusal
-
--- the word of a reason
-abbrev pub reason_word : Reason → List ℕ
-reason_word reason.Size = codes "size"
-reason_word reason.Words = codes "words"
-reason_word reason.Word = codes "word"
-reason_word reason.Lane = codes "lane"
-reason_word reason.Count = codes "count"
-reason_word reason.Number = codes "number"
-reason_word reason.Hex = codes "hex"
-reason_word reason.Mode = codes "mode"
-reason_word reason.Range = codes "range"
-reason_word reason.Repeat = codes "repeat"
-
--- the line that says which line is refused, and why
-abbrev pub refusal_line : ℕ → Reason → List ℕ
-refusal_line number why = line (codes "line " ++ number_text number ++ codes " " ++ reason_word why)

@@ -1,37 +1,14 @@
 -- What the program writes and answers for the words of its command line.
-use Rattle.std.specs.Prelude.{
-  ◌≡◌,
-  ◌≤◌,
-  ℕ,
-  ◌*◌,
-  ◌-◌,
-  ◌^◌,
-  nat_le,
-  ◌==◌,
-  Bool,
-  false,
-  List,
-  [],
-  ◌∷◌,
-  ◌++◌,
-  Option,
-  Some,
-  None,
-  Result,
-  Ok,
-  Err,
-  codes,
-  if◌then◌else◌,
-}
+use Rattle.std.specs.Prelude.{◌≤◌, ℕ, ◌*◌, ◌-◌, ◌^◌, nat_le, Bool, false, List, [], ◌∷◌, ◌++◌, Option, Some, None, Result, Ok, Err, codes, if◌then◌else◌}
 use Rattle.std.specs.Result.{result_ok}
 use Rattle.std.specs.Str.{bytes_eq}
 use Rattle.ssh_encoding.specs.Reading.{◌>>=◌}
 use Rattle.sftp_script.specs.declared.reason.Reason.{Reason}
 use Rattle.sftp_script.specs.declared.reason.Reason.TheVariants as reason
 use Rattle.sftp_script.specs.Lines.{number_in}
+use Rattle.program_ends.specs.declared.ending.Answered.{Answered}
+use Rattle.program_ends.specs.Texts.{answered_of, text_of}
 use Rattle.sftp_cli.specs.declared.bulk.Numbers.{Numbers}
-use Rattle.sftp_cli.specs.declared.ending.Answered.{Answered}
-use Rattle.sftp_cli.specs.declared.ending.Answered.TheVariants.{Done, Refused}
 
 -- ---- texts
 
@@ -64,23 +41,6 @@ help_text =
     ++ codes "  close 0\n"
     ++ codes "\n"
     ++ codes "docs/sftp_cli.1 names all lines, and docs/SPEC.md says what each of them means.\n"
-
--- what `--version` writes
-unfoldable pub version_text : List ℕ
-version_text = codes "tilfrjon 0.1.0\n"
-
--- what a faulty command line writes
-unfoldable pub faulty_text : List ℕ
-faulty_text = codes "line 0 words\n"
-
--- what standard error is told of a status
-abbrev pub cause_of : ℕ → Option (List ℕ)
-cause_of status =
-    if status == 3 then Some (codes "standard input failed")
-    else if status == 4 then Some (codes "standard output failed")
-    else if status == 5 then Some (codes "out of memory")
-    else if status == 6 then Some (codes "nothing answers")
-    else None
 
 -- ---- words
 
@@ -121,19 +81,6 @@ bulk_of (word ∷ start ∷ lanes ∷ calls ∷ []) = if bytes_eq word (codes "b
     result_ok (numbers_in start lanes calls) else None
 bulk_of (word ∷ start ∷ lanes ∷ calls ∷ another ∷ words) = None
 
--- of other words: two are known, and all else is refused
-abbrev pub answered_of : List (List ℕ) → Answered
-answered_of [] = Refused
-answered_of (word ∷ []) = if bytes_eq word (codes "--help") then Done else if bytes_eq word (codes "--version") then
-    Done else Refused
-answered_of (word ∷ another ∷ words) = Refused
-
-abbrev pub text_of : List (List ℕ) → List ℕ
-text_of [] = faulty_text
-text_of (word ∷ []) = if bytes_eq word (codes "--help") then help_text else if bytes_eq word (codes "--version") then
-    version_text else faulty_text
-text_of (word ∷ another ∷ words) = faulty_text
-
 -- ---- what is asked for
 
 -- a script over a server in memory, or over a link to the server at a path, or the script of three numbers in memory,
@@ -146,7 +93,7 @@ pub data Asked : Type 0 where
 
 abbrev asked_by_numbers : Option Numbers → List (List ℕ) → Asked
 asked_by_numbers (Some n) words = Bulk n
-asked_by_numbers None words = Text (answered_of words) (text_of words)
+asked_by_numbers None words = Text (answered_of words) (text_of help_text words)
 
 abbrev asked_by_path : Option (List ℕ) → List (List ℕ) → Asked
 asked_by_path (Some path) words = AtPath path

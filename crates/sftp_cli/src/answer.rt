@@ -1,13 +1,12 @@
+//! The words of the command line, and the text of `--help`.
 ghost use Rattle.std.specs.Prelude.{◌≡◌, map};
 ghost use Rattle.std.specs.Option.{option_copied};
 ghost use Rattle.std.specs.String.{string_bytes};
-ghost use Rattle.sftp_cli.specs.Words.{answered_of, faulty_text, help_text, is_script, path_of, text_of, version_text};
-
-use crate::ending::Answered;
+ghost use Rattle.sftp_cli.specs.Words.{help_text, is_script, path_of};
 
 /// What `--help` writes.
 #[tactic(auto, unfolding(crate::specs::Words::help_text))]
-fn help_text() -> &'static str
+pub(crate) fn help_text() -> &'static str
     ensures { result.now ≡ help_text }
 {
     "\
@@ -40,29 +39,6 @@ docs/sftp_cli.1 names all lines, and docs/SPEC.md says what each of them means.
 "
 }
 
-/// What `--version` writes.
-#[tactic(auto, unfolding(crate::specs::Words::version_text))]
-fn version_text() -> &'static str
-    ensures { result.now ≡ version_text }
-{
-    "tilfrjon 0.1.0\n"
-}
-
-/// What a faulty command line writes.
-#[tactic(auto, unfolding(crate::specs::Words::faulty_text))]
-fn faulty_text() -> &'static str
-    ensures { result.now ≡ faulty_text }
-{
-    "line 0 words\n"
-}
-
-/// A text to write, and what it says.
-#[derive(Clone, Copy)]
-pub(crate) struct Answer {
-    pub(crate) answered: Answered,
-    pub(crate) text: &'static str,
-}
-
 /// Whether the words are the one word `script`.
 pub(crate) fn is_script(words: &[String]) -> bool
     ensures { result ≡ is_script (map string_bytes words.now) }
@@ -86,30 +62,5 @@ pub(crate) fn unix_path(words: &[String]) -> Option<&str>
             }
         }
         _ => None,
-    }
-}
-
-/// The answer to the other words of a command line, without the program's name.
-pub(crate) fn answer_to(words: &[String]) -> Answer
-    ensures answered { result.answered ≡ answered_of (map string_bytes words.now) }
-    ensures text { result.text.now ≡ text_of (map string_bytes words.now) }
-{
-    if let [word] = words {
-        if word.as_str() == "--help" {
-            return Answer {
-                answered: Answered::Done,
-                text: help_text(),
-            };
-        }
-        if word.as_str() == "--version" {
-            return Answer {
-                answered: Answered::Done,
-                text: version_text(),
-            };
-        }
-    }
-    Answer {
-        answered: Answered::Refused,
-        text: faulty_text(),
     }
 }

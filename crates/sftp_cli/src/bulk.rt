@@ -5,9 +5,8 @@ ghost use Rattle.sftp_bulk.specs.Bulk.{bulk_script};
 ghost use Rattle.sftp_cli.specs.Ended.{EndsSummed};
 ghost use Rattle.sftp_cli.specs.Words.{IsBulk, bulk_of, numbers_in};
 
-use crate::ending::{Answered, Failure};
 use crate::printed::{Form, text_of_run};
-use crate::script::write_answer;
+use program_ends::{Answered, Failure, write_answer};
 use sftp_bulk::bulk_script;
 use sftp_link::Sink;
 use sftp_map_server::MapServer;

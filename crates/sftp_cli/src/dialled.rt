@@ -4,11 +4,9 @@ ghost use Rattle.sftp_link.specs.Views.{last_of};
 ghost use Rattle.plan_model.specs.Lanes.{are_ok};
 ghost use Rattle.sftp_script.specs.CanRun.{CanRun};
 ghost use Rattle.sftp_cli.specs.Dialled.{RunsOver};
-ghost use Rattle.sftp_cli.specs.Replies.{DialsFor};
+ghost use Rattle.program_ends.specs.Replies.{DialsFor};
 
-use crate::ending::{Answered, Failure};
-use crate::refusal::{error_line, error_name};
-use crate::script::Reply;
+use program_ends::{Answered, Failure, Printed, error_line, error_name};
 use sftp_lanes::run_lanes;
 use sftp_link::{DeviceError, Dial, Link, Logged};
 use sftp_script::Script;
@@ -23,7 +21,7 @@ fn reply_over<L: Link>(
     alloc: Global,
     link: &mut Logged<L>,
     script: &Script,
-) -> Result<Reply, OutOfMemory>
+) -> Result<Printed, OutOfMemory>
     requires lanes { are_ok script.now.lanes ≡ true }
     requires quiet { link.old.pieces ≡ [] }
     requires unfailed { (L.LinkState.state link.old.link).faults ≡ 0 }
@@ -34,13 +32,13 @@ fn reply_over<L: Link>(
         Ok(report) => {
             let mut text = Vec::new(alloc);
             write_text(alloc, &report, &mut text)?;
-            Ok(Reply {
+            Ok(Printed {
                 answered: Answered::Done,
                 text,
             })
         }
         Err(error) => match error_name(&error) {
-            Some(name) => Ok(Reply {
+            Some(name) => Ok(Printed {
                 answered: Answered::Stopped,
                 text: error_line(alloc, name)?,
             }),
@@ -55,10 +53,10 @@ pub(crate) fn reply_dialled<D: Dial>(
     dial: &mut D,
     path: &str,
     script: &Script,
-) -> Result<Reply, Failure>
+) -> Result<Printed, Failure>
     requires runs { CanRun script.now }
     requires dial { (D.state dial.old).faults < 2 ^ 64 - 1 }
-    ensures { DialsFor D.dialled path.now script.now result (D.state dial.old) (D.state dial.new) }
+    ensures { DialsFor RunsOver D.dialled path.now script.now result (D.state dial.old) (D.state dial.new) }
 {
     let link = match dial.dial(path) {
         Ok(link) => link,

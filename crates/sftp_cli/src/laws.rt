@@ -8,9 +8,10 @@ ghost use Rattle.sftp_map_server.specs.Serving.{IsServing, Serving};
 ghost use Rattle.sftp_map_server.specs.Unopened.{IsUnopened};
 ghost use Rattle.sftp_lanes.specs.ServesFiles.{ServesFiles};
 ghost use Rattle.sftp_cli.specs.declared.printed.Form.{Form};
-ghost use Rattle.sftp_cli.specs.Completed.{Completes, HasCauses};
+ghost use Rattle.program_ends.specs.Completed.{HasCauses};
+ghost use Rattle.program_ends.specs.Outside.{Outside};
+ghost use Rattle.sftp_cli.specs.Completed.{Completes};
 ghost use Rattle.sftp_cli.specs.Ended.{ProgramEnds};
-ghost use Rattle.sftp_cli.specs.Outside.{Outside};
 ghost use Rattle.sftp_cli.specs.Printed.{IsPrinted};
 ghost use Rattle.sftp_cli.specs.Words.{Asked};
 

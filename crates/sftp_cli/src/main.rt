@@ -4,10 +4,8 @@
 mod answer;
 mod bulk;
 mod dialled;
-mod ending;
 mod laws;
 mod printed;
-mod refusal;
 mod run;
 mod script;
 #[cfg(test)]
@@ -16,6 +14,7 @@ mod tests;
 pub use laws::{
     runs_are_complete, scripts_fix_texts, servers_in_memory_serve_files, statuses_have_causes,
 };
+use program_ends::{NO_LINK, OUT_OF_MEMORY, cause_of};
 pub use run::run;
 use sftp_link::{ReadSource, UnixDial, WriteSink};
 use std::env;
@@ -35,7 +34,7 @@ fn main(rt: HostRuntime) -> ExitCode {
         Err(error) => starved = error.kind() == ErrorKind::OutOfMemory,
     }
     let status = if starved {
-        ending::OUT_OF_MEMORY
+        OUT_OF_MEMORY
     } else {
         let mut source = ReadSource::new(rt.stdin());
         let mut sink = WriteSink::new(rt.stdout());
@@ -50,10 +49,10 @@ fn main(rt: HostRuntime) -> ExitCode {
             &mut kept,
         )
     };
-    if let Some(cause) = ending::cause_of(status) {
+    if let Some(cause) = cause_of(status) {
         // where standard error fails too there is nobody to tell
         let _ = match answer::unix_path(&words) {
-            Some(path) if status == ending::NO_LINK => eprintln!(rt; "sftp_cli: {cause} at {path}"),
+            Some(path) if status == NO_LINK => eprintln!(rt; "sftp_cli: {cause} at {path}"),
             _ => eprintln!(rt; "sftp_cli: {cause}"),
         };
     }

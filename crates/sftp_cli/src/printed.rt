@@ -1,22 +1,23 @@
 // A script that was read is run over a server of its files and directories, and the text of the run is made.
-ghost use Rattle.std.specs.Prelude.{◌≡◌, ◌++◌, [], None, true, IfErr, IfOk, IfSome, IsSomeAnd, OnOk};
+ghost use Rattle.std.specs.Prelude.{◌≡◌, [], None, true, IfErr, IfOk, IfSome, IsSomeAnd};
 ghost use Rattle.plan_model.specs.Lanes.{are_ok};
-ghost use Rattle.sftp_text.specs.Texts.{dir_lines, file_lines};
 ghost use Rattle.sftp_cli.specs.declared.printed.Form.TheVariants as form;
 ghost use Rattle.sftp_model.specs.declared.error.Error.TheVariants as errors;
-ghost use Rattle.machine_model.specs.Listing.{dir_at, file_at};
+ghost use Rattle.machine_model.specs.Listing.{file_at};
 ghost use Rattle.sftp_map_server.specs.Unopened.{IsUnopened};
 ghost use Rattle.session_model.specs.declared.report.Report.{Report};
 ghost use Rattle.sftp_script.specs.CanRun.{CanRun};
-ghost use Rattle.sftp_cli.specs.Printed.{IsPrinted, IsServedReport, IsServerOf, bytes_left, dir_text_of, file_len_of, file_text_of, report_text};
+ghost use Rattle.sftp_cli.specs.Printed.{IsPrinted, IsServedReport, bytes_left, file_len_of, report_text};
+ghost use Rattle.program_ends.specs.Ended.{IsServerOf};
 
+use program_ends::{write_dirs, write_files};
 use session_model::{Lane, Report, Turn};
 use sftp_bulk::{summary_of, write_summary};
 use sftp_lanes::run_lanes;
 use sftp_map_server::{MapServer, new_server};
 use sftp_model::{Error, SftpOptions};
 use sftp_script::Script;
-use sftp_text::{write_dir, write_file, write_text};
+use sftp_text::write_text;
 use ssh_encoding::OutOfMemory;
 use std::alloc::Global;
 
@@ -64,58 +65,6 @@ fn served_run(
             Err(want_of_memory(error))
         }
     }
-}
-
-/// Appends the line of file k.
-fn write_file_at(
-    alloc: Global,
-    server: &MapServer,
-    k: u64,
-    out: &mut Vec<u8>,
-) -> Result<(), OutOfMemory>
-    ensures { OnOk result (out.new.items ≡ out.old.items ++ file_text_of (file_at server.now.now.desk.machine.tree k)) }
-{
-    match server.file(k) {
-        Some((name, content)) => write_file(alloc, name, content, out),
-        None => Ok(()),
-    }
-}
-
-/// Appends a line for each file, in the order of the written names by bytes.
-#[tactic(auto, using(crate::proofs::Files::file_step, crate::proofs::Files::files_end))]
-fn write_files(alloc: Global, server: &MapServer, out: &mut Vec<u8>) -> Result<(), OutOfMemory>
-    ensures { OnOk result (out.new.items ≡ out.old.items ++ file_lines server.now.now.desk.machine.tree) }
-{
-    for k in 0..server.file_count() {
-        write_file_at(alloc, server, k, out)?;
-    }
-    Ok(())
-}
-
-/// Appends the line of directory k.
-fn write_dir_at(
-    alloc: Global,
-    server: &MapServer,
-    k: u64,
-    out: &mut Vec<u8>,
-) -> Result<(), OutOfMemory>
-    ensures { OnOk result (out.new.items ≡ out.old.items ++ dir_text_of (dir_at server.now.now.desk.machine.tree k)) }
-{
-    match server.dir(k) {
-        Some(name) => write_dir(alloc, name, out),
-        None => Ok(()),
-    }
-}
-
-/// Appends a line for each directory, in the order of the written names by bytes.
-#[tactic(auto, using(crate::proofs::Files::dir_step, crate::proofs::Files::dirs_end))]
-fn write_dirs(alloc: Global, server: &MapServer, out: &mut Vec<u8>) -> Result<(), OutOfMemory>
-    ensures { OnOk result (out.new.items ≡ out.old.items ++ dir_lines server.now.now.desk.machine.tree) }
-{
-    for k in 0..server.dir_count() {
-        write_dir_at(alloc, server, k, out)?;
-    }
-    Ok(())
 }
 
 /// How many bytes file k has.

@@ -1,13 +1,13 @@
 ghost use Rattle.std.specs.Prelude.{map};
 ghost use Rattle.std.specs.String.{string_bytes};
 ghost use Rattle.sftp_cli.specs.Ended.{ProgramEnds};
-ghost use Rattle.sftp_cli.specs.Outside.{MayFail};
+ghost use Rattle.program_ends.specs.Outside.{MayFail};
 ghost use Rattle.sftp_cli.specs.Words.{asked_by};
 
-use crate::answer::{answer_to, is_script, unix_path};
+use crate::answer::{help_text, is_script, unix_path};
 use crate::bulk::{bulk_numbers, run_bulk};
-use crate::ending::status_of;
-use crate::script::{run_script, run_unix, write_answer};
+use crate::script::{run_script, run_unix};
+use program_ends::{answer_to, status_of, write_answer};
 use sftp_link::{Dial, Sink, Source};
 use sftp_map_server::MapServer;
 use std::alloc::Global;
@@ -49,7 +49,7 @@ pub fn run<S: Source, K: Sink, D: Dial>(
     } else if let Some(numbers) = bulk_numbers(words) {
         status_of(run_bulk(alloc, numbers, sink, kept))
     } else {
-        let answer = answer_to(words);
+        let answer = answer_to(words, help_text());
         status_of(write_answer(sink, answer.answered, answer.text.as_bytes()))
     }
 }

@@ -1,55 +1,23 @@
 // The bytes of a script are read, run or refused, and the answer is written.
-ghost use Rattle.std.specs.Prelude.{◌≡◌, ◌<◌, ◌-◌, ◌^◌, ℕ, None, Ok, IfOk, IfErr, IfSome};
+ghost use Rattle.std.specs.Prelude.{◌≡◌, ◌<◌, ◌-◌, ◌^◌, None, Ok, IfOk, IfErr, IfSome};
+ghost use Rattle.program_ends.specs.Ended.{IsServerOf, RightInMemory};
+ghost use Rattle.program_ends.specs.Outside.{MayFail};
+ghost use Rattle.program_ends.specs.Replies.{RepliesAt};
 ghost use Rattle.sftp_script.specs.declared.script.Script.{Script};
 ghost use Rattle.sftp_script.specs.Scripts.{script_of};
-ghost use Rattle.sftp_cli.specs.declared.ending.Answered.TheVariants.{Refused};
-ghost use Rattle.sftp_cli.specs.Ended.{EndsAtSink, EndsInMemory, EndsOverLink, Only, RightInMemory};
-ghost use Rattle.sftp_cli.specs.Outside.{MayFail};
-ghost use Rattle.sftp_cli.specs.Printed.{IsServerOf, refusal_line};
-ghost use Rattle.sftp_cli.specs.Replies.{GivesBytes, RepliesAt};
+ghost use Rattle.sftp_cli.specs.declared.printed.Form.TheVariants as form;
+ghost use Rattle.sftp_cli.specs.Dialled.{RunsOver};
+ghost use Rattle.sftp_cli.specs.Ended.{EndsScript, EndsScriptAt};
+ghost use Rattle.sftp_cli.specs.Printed.{IsPrinted};
 
 use crate::dialled::reply_dialled;
-use crate::ending::{Answered, Failure};
 use crate::printed::{Form, text_of_run};
-use crate::refusal::refusal_line;
-use sftp_link::{DeviceError, Dial, Sink, Source, read_up_to, write_all};
+use program_ends::{Answered, Failure, Printed, read_bytes, refuse, write_answer};
+use sftp_link::{Dial, Sink, Source};
 use sftp_map_server::MapServer;
-use sftp_script::{Reason, ScriptError, read_script};
+use sftp_script::{ScriptError, read_script};
 use ssh_encoding::OutOfMemory;
 use std::alloc::Global;
-
-/// One byte more than a script may have.
-const READ_LIMIT: usize = 16777217;
-
-/// A text to write, and what it says.
-#[derive(Drop)]
-pub(crate) struct Reply {
-    pub(crate) answered: Answered,
-    pub(crate) text: Vec<u8>,
-}
-
-/// The bytes of a script, and one more than a script may have at most.
-fn read_bytes<S: Source>(alloc: Global, source: &mut S) -> Result<Vec<u8>, Failure>
-    requires { (S.state source.old).faults < 2 ^ 64 - 1 }
-    ensures { GivesBytes result (S.state source.old) (S.state source.new) }
-{
-    match read_up_to(alloc, source, READ_LIMIT) {
-        Ok(bytes) => Ok(bytes),
-        Err(DeviceError::Failed) => Err(Failure::SourceFailed),
-        Err(DeviceError::OutOfMemory) => Err(Failure::OutOfMemory),
-    }
-}
-
-/// The answer to what is no script.
-fn refuse(alloc: Global, line: u64, reason: Reason) -> Result<Reply, OutOfMemory>
-    ensures { IfOk result (λ reply. (reply.answered ≡ Refused) × (reply.text.items ≡ refusal_line line reason)) }
-{
-    let text = refusal_line(alloc, line, reason)?;
-    Ok(Reply {
-        answered: Answered::Refused,
-        text,
-    })
-}
 
 /// The answer to the bytes of a script, over a server of its files in memory, which is left in `kept`, also where the run
 /// stopped for want of memory.
@@ -57,15 +25,15 @@ fn reply_in_memory(
     alloc: Global,
     bytes: &[u8],
     kept: &mut Option<MapServer>,
-) -> Result<Reply, OutOfMemory>
+) -> Result<Printed, OutOfMemory>
     requires { kept.old ≡ None }
-    ensures ok { IfOk result (λ reply. RightInMemory kept.new (script_of bytes.now) reply.answered reply.text.items) }
+    ensures ok { IfOk result (λ reply. RightInMemory (IsPrinted form.Whole) kept.new (script_of bytes.now) reply.answered reply.text.items) }
     ensures err { IfErr result (λ _. IfSome kept.new (λ server. (script : Script) × (script_of bytes.now ≡ Ok script) × IsServerOf script server)) }
 {
     match read_script(alloc, bytes) {
         Ok(script) => {
             let text = text_of_run(alloc, Form::Whole, script, kept)?;
-            Ok(Reply {
+            Ok(Printed {
                 answered: Answered::Done,
                 text,
             })
@@ -81,9 +49,9 @@ fn reply_at<D: Dial>(
     bytes: &[u8],
     dial: &mut D,
     path: &str,
-) -> Result<Reply, Failure>
+) -> Result<Printed, Failure>
     requires { (D.state dial.old).faults < 2 ^ 64 - 1 }
-    ensures { RepliesAt D.dialled path.now bytes.now result (D.state dial.old) (D.state dial.new) }
+    ensures { RepliesAt script_of RunsOver D.dialled path.now bytes.now result (D.state dial.old) (D.state dial.new) }
 {
     match read_script(alloc, bytes) {
         Ok(script) => reply_dialled(alloc, dial, path, &script),
@@ -92,22 +60,6 @@ fn reply_at<D: Dial>(
             Ok(reply) => Ok(reply),
             Err(OutOfMemory) => Err(Failure::OutOfMemory),
         },
-    }
-}
-
-/// Writes an answer whole.
-pub(crate) fn write_answer<K: Sink>(
-    sink: &mut K,
-    answered: Answered,
-    text: &[u8],
-) -> Result<Answered, Failure>
-    requires { (K.state sink.old).faults < 2 ^ 64 - 1 }
-    ensures { EndsAtSink (Only answered text.now) result (K.state sink.old) (K.state sink.new) }
-{
-    match write_all(sink, text) {
-        Ok(()) => Ok(answered),
-        Err(DeviceError::Failed) => Err(Failure::SinkFailed),
-        Err(DeviceError::OutOfMemory) => Err(Failure::OutOfMemory),
     }
 }
 
@@ -122,7 +74,7 @@ pub(crate) fn run_script<S: Source, K: Sink>(
     requires source { (S.state source.old).faults < 2 ^ 64 - 1 }
     requires sink { (K.state sink.old).faults < 2 ^ 64 - 1 }
     requires none { kept.old ≡ None }
-    ensures { EndsInMemory result kept.new (S.state source.old) (S.state source.new) (K.state sink.old) (K.state sink.new) }
+    ensures { EndsScript result kept.new (S.state source.old) (S.state source.new) (K.state sink.old) (K.state sink.new) }
 {
     let bytes = read_bytes(alloc, source)?;
     let reply = reply_in_memory(alloc, &bytes, kept)?;
@@ -139,7 +91,7 @@ pub(crate) fn run_unix<S: Source, K: Sink, D: Dial>(
     dial: &mut D,
 ) -> Result<Answered, Failure>
     requires { MayFail (record { source = S.state source.old; sink = K.state sink.old; dial = D.state dial.old }) }
-    ensures { EndsOverLink D.dialled path.now result
+    ensures { EndsScriptAt D.dialled path.now result
         (record { source = S.state source.old; sink = K.state sink.old; dial = D.state dial.old })
         (record { source = S.state source.new; sink = K.state sink.new; dial = D.state dial.new }) }
 {

@@ -6,10 +6,8 @@ mod links;
 mod socket;
 mod whole_runs;
 
-use crate::refusal::reason_word;
 use crate::run;
 use sftp_link::{MemoryDial, MemorySink, MemorySource};
-use sftp_script::Reason;
 use std::alloc::{AllocError, Global};
 use std::test::Fail;
 
@@ -78,27 +76,6 @@ fn failing(rt: HostRuntime) -> Result<(), Fail> {
             text: "",
         };
         assert!(rt; ends_so(rt.alloc(), &wanted, &mut dial)?);
-    }
-    Ok(())
-}
-
-/// The words of reasons are their display texts.
-#[test]
-fn words_of_reasons(rt: HostRuntime) -> Result<(), Fail> {
-    for why in [
-        Reason::Size,
-        Reason::Words,
-        Reason::Word,
-        Reason::Lane,
-        Reason::Count,
-        Reason::Number,
-        Reason::Hex,
-        Reason::Mode,
-        Reason::Range,
-        Reason::Repeat,
-    ] {
-        let shown = format!(in rt.alloc(); "{why}")?;
-        assert_eq!(rt; shown.as_str(), reason_word(why));
     }
     Ok(())
 }

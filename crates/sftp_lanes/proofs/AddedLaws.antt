@@ -1,5 +1,5 @@
 -- A session whose lane was given a call, or let go before it was open, is what it was with one entry more.
-use Rattle.std.proofs.Common.{◌≡◌, ◌≢◌, ◌<◌, ◌∷◌, ◌++◌, ◌∙◌, ℕ, Bool, true, false, List, Option, None, refl, ap, sym, subst, inr, arith}
+use Rattle.std.proofs.Common.{◌≡◌, ◌≢◌, ◌<◌, ◌∷◌, ◌++◌, ◌∙◌, ℕ, true, false, List, Option, None, refl, ap, sym, subst, inr, arith}
 use Rattle.std.specs.Prelude.{MatchBool, Result, Ok, Err, OnErr, OnOk, length, nat_lt, slice_get}
 use Rattle.std.proofs.lemmas.Bool.Decides.{nat_tests}
 use Rattle.sftp_model.specs.declared.options.SftpOptions.{SftpOptions}
@@ -8,7 +8,7 @@ use Rattle.sftp_core.specs.declared.info.Info.{Info}
 use Rattle.sftp_core.specs.Core.{Core}
 use Rattle.plan_model.specs.declared.call.Call.{Call}
 use Rattle.plan_model.specs.declared.call.Lane.{Lane}
-use Rattle.plan_model.specs.Lanes.{are_ok, is_within}
+use Rattle.plan_model.specs.Lanes.{are_ok}
 use Rattle.session_model.specs.declared.entry.Entry.{Entry}
 use Rattle.session_model.specs.declared.entry.Entry.TheVariants as entry
 use Rattle.session_model.specs.Calls.{Setting, added, calls_of, current}
@@ -21,18 +21,17 @@ use Rattle.session_driver.specs.NoLanes.{IsBare}
 use Rattle.session_driver.specs.Session.{IsFixed, IsLater}
 use Rattle.session_driver.proofs.Journals.{later_self, match_true}
 use Rattle.session_work.specs.declared.lanes.Lanes.{Lanes}
-use Rattle.session_work.specs.Adding.{AddsIn, added_in}
+use Rattle.session_work.specs.Adding.{added_in}
 use Rattle.session_work.specs.Fresh.{AreFresh, IsUntouched}
 use Rattle.session_work.specs.Letting.{gone_in}
 use Rattle.session_work.specs.SoFar.{IsIntact, IsLeft}
-use Rattle.session_work.specs.Working.{Contents, IsWorking, Works, contents_of, past_of}
+use Rattle.session_work.specs.Working.{Contents, Works, contents_of, past_of}
 use Rattle.session_work.proofs.AddedLaws.{added_calls, added_within, adds, with_length}
 use Rattle.sftp_lanes.specs.Adding.{AddsCall, IsSame}
 use Rattle.sftp_lanes.specs.Events.{LetsIdleGo}
 use Rattle.sftp_lanes.specs.Seen.{AreIdleRuns, HasCalls, IsInPhase, IsSession, given, is_opening, setting_by, without_lanes}
 use Rattle.sftp_lanes.proofs.FaultLaws.{unmoved_at}
 use Rattle.sftp_lanes.proofs.Going.{fails_by, left_fails, value_of}
-use Rattle.sftp_lanes.proofs.Opening.{in_phase}
 use Rattle.sftp_lanes.proofs.UnmovedLaws.{unmoved_added, unmoved_let_go}
 
 -- ---- while a session opens

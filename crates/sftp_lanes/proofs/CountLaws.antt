@@ -1,5 +1,5 @@
 -- What a session tells in numbers is what its journal says.
-use Rattle.std.proofs.Common.{◌≡◌, ◌≢◌, ◌+◌, ◌-◌, ℕ, true, false, List, [], ◌∷◌, ◌↔◌, Option, Some, None, refl, ap, sym, ◌∙◌, arith, if◌then◌else◌, length}
+use Rattle.std.proofs.Common.{◌≡◌, ◌≢◌, ◌-◌, false, List, [], Option, None, refl, ap, sym, ◌∙◌, arith}
 use Rattle.std.specs.Prelude.{is_none}
 use Rattle.std.specs.FinMap as fin
 use Rattle.std.specs.FinMap.{get-empty}
@@ -13,7 +13,7 @@ use Rattle.sftp_core.specs.declared.info.Info.{Info}
 use Rattle.sftp_core.specs.declared.place.Place.{Place}
 use Rattle.sftp_core.specs.declared.place.Place.TheVariants.{Waiting}
 use Rattle.sftp_core.specs.Core.{Core, awaited_of, fresh, handed_out, queued_of, unanswered_of}
-use Rattle.sftp_core.specs.Table.{Places, all_sent, count, is_sent, is_unsent, is_waiting, sent_place}
+use Rattle.sftp_core.specs.Table.{Places, all_sent, count, is_sent, is_waiting, sent_place}
 use Rattle.sftp_core.proofs.Counts.{count-empty, count_len, count_unsent_sent, count_waiting_sent, len_sent, waiting_split}
 use Rattle.sftp_core.proofs.Sent.{get_sent}
 use Rattle.sftp_core.proofs.Tables.{count-insert_new}
@@ -140,8 +140,10 @@ pub shows_in : (lanes : List Lane) (options : SftpOptions) (version : Option Rep
     (phase : Phase) → IsInPhase lanes options version info w phase → phase ≢ Failed → Shows phase (past_of w) w.core
 shows_in lanes options version info w Fresh p on = shown_as Fresh _ (past_of w) _ _ refl p.0.0 (fresh_shows options (past_of w))
 shows_in lanes options version info w Greeted p on = shown_as Greeted _ [] _ _ (told_as (past_of w) [] p.0.2) p.0.0 (greeted_shows options)
-shows_in lanes options version info w Asking p on = shown_as Asking _ asked_past _ _ (told_as (past_of w) asked_past p.0.1.3) p.0.1.2 (asked_shows options p.0.0)
-shows_in lanes options version info w Queried p on = shown_as Queried _ (queried 0) _ _ (told_as (past_of w) (queried 0) p.0.1.3) p.0.1.2 (queried_shows options p.0.0)
+shows_in lanes options version info w Asking p on = shown_as Asking _ asked_past _ _
+    (told_as (past_of w) asked_past p.0.1.3) p.0.1.2 (asked_shows options p.0.0)
+shows_in lanes options version info w Queried p on = shown_as Queried _ (queried 0) _ _
+    (told_as (past_of w) (queried 0) p.0.1.3) p.0.1.2 (queried_shows options p.0.0)
 shows_in lanes options version info w Open p on =
     let o : IsOpened w = (setting_by lanes options version info, p) in
     record { unsent = queued_count w o; awaited = awaited_count w o; unanswered = unanswered_count w o }

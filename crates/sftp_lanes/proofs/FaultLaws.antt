@@ -1,5 +1,5 @@
 -- In every phase the journal of a session is a run so far.
-use Rattle.std.proofs.Common.{◌≡◌, ◌<◌, ◌∙◌, [], List, Option, None, false, true, refl, ap, sym, subst, arith}
+use Rattle.std.proofs.Common.{◌≡◌, ◌∙◌, [], List, Option, None, false, true, refl, ap, arith}
 use Rattle.sftp_model.specs.declared.options.SftpOptions.{SftpOptions}
 use Rattle.sftp_model.specs.declared.reply.Reply.{Reply}
 use Rattle.sftp_model.specs.Lengths.{offers_limits}
@@ -20,7 +20,7 @@ use Rattle.session_work.specs.SoFar.{IsSoFar}
 use Rattle.session_work.specs.Working.{past_of}
 use Rattle.session_work.proofs.FaultLaws.{none_kept, stands_so_far, work_so_far}
 use Rattle.sftp_lanes.specs.Seen.{IsInPhase, IsSession, IsIdleRun, AreIdleRuns, is_opening, setting_by, without_lanes}
-use Rattle.sftp_lanes.proofs.Plain.{Told, told, told_as}
+use Rattle.sftp_lanes.proofs.Plain.{Told, told_as}
 
 -- ---- journals without a fault
 

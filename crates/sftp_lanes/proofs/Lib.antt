@@ -1,4 +1,5 @@
 pub mod AddedLaws
+mod AskingLaws
 pub mod CountLaws
 pub mod DoneLaws
 pub mod FaultLaws

@@ -1,36 +1,9 @@
 -- An opened session of lanes: what it is before a lane has done anything.
-use Rattle.std.proofs.Common.{
-  ◌≡◌,
-  ◌≢◌,
-  ◌==◌,
-  ℕ,
-  zero,
-  suc,
-  Bool,
-  true,
-  false,
-  List,
-  [],
-  ◌∷◌,
-  ◌++◌,
-  Option,
-  Some,
-  None,
-  refl,
-  ap,
-  sym,
-  ◌∙◌,
-  subst,
-  arith,
-  inl,
-  inr,
-  if◌then◌else◌,
-}
+use Rattle.std.proofs.Common.{◌≡◌, ◌≢◌, ◌==◌, ℕ, zero, suc, Bool, true, false, List, [], ◌∷◌, Option, Some, None, refl, ap, sym, ◌∙◌, subst, arith, inl, inr, if◌then◌else◌}
 use Rattle.std.specs.Prelude.{◌+◌, IfSome, is_none, length, Result, Ok, Err}
 use Rattle.std.specs.FinMap.{get-empty, len-empty}
 use Rattle.std.specs.Ordering.{nat_cmp}
 use Rattle.sftp_model.specs.declared.config.Limits.{Limits}
-use Rattle.sftp_model.specs.declared.error.Fault.{Fault}
 use Rattle.sftp_model.specs.declared.flags.Extensions.{Extensions}
 use Rattle.sftp_model.specs.declared.frame_error.FrameError.{FrameError}
 use Rattle.sftp_model.specs.declared.reply.Reply.{Reply}
@@ -48,7 +21,7 @@ use Rattle.sftp_core.specs.Core.{Core, at, handed_out}
 use Rattle.sftp_core.specs.Take.{Read, TakenFrom, limits_in, limits_read, take_refusal, taken}
 use Rattle.sftp_core.specs.Info.{hello_of, info_with}
 use Rattle.sftp_model.specs.Lengths.{offers_limits}
-use Rattle.sftp_core.specs.Table.{brings, count, is_sent, is_waiting}
+use Rattle.sftp_core.specs.Table.{count, is_sent, is_waiting}
 use Rattle.plan_model.specs.declared.call.Lane.{Lane}
 use Rattle.session_model.specs.declared.event.Event.TheVariants.{Take}
 use Rattle.session_model.specs.declared.event.Owner.TheVariants as owner
@@ -392,6 +365,13 @@ pub open_count : (lanes : List Lane) (options : SftpOptions) (version : Option R
     (phase : Phase) → IsSession lanes options version known w phase → phase ≡ Open → length w.calls ≡ length lanes
 open_count lanes options version known w phase is open_is =
     let works : IsWorking (setting_by lanes options version known) w = in_phase lanes options version known w phase Open is open_is in works.stands.lanes
+
+-- and no grant of theirs is to be closed
+pub open_settled : (lanes : List Lane) (options : SftpOptions) (version : Option Reply) (known : Option Info) (w : Lanes)
+    (phase : Phase) → IsSession lanes options version known w phase → phase ≡ Open
+    → orphan (setting_by lanes options version known) (past_of w) ≡ None
+open_settled lanes options version known w phase is open_is =
+    let works : IsWorking (setting_by lanes options version known) w = in_phase lanes options version known w phase Open is open_is in works.rest.settled
 
 pub open_intact : (lanes : List Lane) (options : SftpOptions) (version : Option Reply) (known : Option Info) (w : Lanes)
     (phase : Phase) → IsSession lanes options version known w phase → phase ≡ Open → IsIntact (length w.calls) w

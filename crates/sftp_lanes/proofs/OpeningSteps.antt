@@ -1,12 +1,11 @@
 -- What the opening of a session notes, whatever calls were added and lanes let go meanwhile.
-use Rattle.std.proofs.Common.{◌≡◌, ◌<◌, ◌+◌, ◌∙◌, ℕ, Bool, true, false, List, [], ◌∷◌, Option, Some, None, refl, ap, sym, subst, arith, if◌then◌else◌}
+use Rattle.std.proofs.Common.{◌≡◌, ◌<◌, ◌∙◌, ℕ, true, false, List, [], ◌∷◌, Option, Some, None, refl, ap, sym, subst, arith, if◌then◌else◌}
 use Rattle.std.specs.Prelude.{Result, Ok, Err, nat_lt}
 use Rattle.sftp_model.specs.declared.frame_error.FrameError.{FrameError}
 use Rattle.sftp_model.specs.declared.reply.Reply.{Reply}
 use Rattle.sftp_model.specs.declared.reply.Reply.TheVariants as reply
 use Rattle.sftp_model.specs.declared.request.Request.TheVariants as request
 use Rattle.sftp_model.specs.Answers.{is_handle}
-use Rattle.sftp_core.specs.declared.errors.TakeError.{TakeError}
 use Rattle.sftp_core.specs.Table.{brings}
 use Rattle.plan_model.specs.declared.call.Lane.{Lane}
 use Rattle.session_model.specs.declared.event.Event.TheVariants.{Send, Submit, Take}
@@ -15,7 +14,7 @@ use Rattle.session_model.specs.declared.entry.Entry.{Entry}
 use Rattle.session_model.specs.declared.entry.Entry.TheVariants as entry
 use Rattle.session_model.specs.Calls.{Setting}
 use Rattle.session_model.specs.Journals.{IsFree, MayReply, MayTake}
-use Rattle.session_model.specs.Readings.{Asked, asked, sent, still_open, unsent, was_kept}
+use Rattle.session_model.specs.Readings.{Asked, asked, sent, still_open, unsent}
 use Rattle.session_model.specs.Runs.{queried}
 use Rattle.session_driver.specs.NoLanes.{asked_past}
 use Rattle.session_driver.specs.Refusals.{refuses, refuses_reply, sent_at}

@@ -1,5 +1,5 @@
 -- A journal in which no lane has done anything goes on.
-use Rattle.std.proofs.Common.{◌≡◌, ◌<◌, ◌==◌, ℕ, Bool, true, false, List, [], ◌∷◌, Option, None, refl, ap, sym, ◌∙◌, subst, if◌then◌else◌}
+use Rattle.std.proofs.Common.{◌≡◌, ◌<◌, ◌==◌, ℕ, Bool, true, false, List, [], ◌∷◌, None, refl, ap, if◌then◌else◌}
 use Rattle.std.specs.Prelude.{length}
 use Rattle.sftp_model.specs.declared.reply.Reply.{Reply}
 use Rattle.sftp_model.specs.declared.request.Request.TheVariants as request
@@ -14,7 +14,7 @@ use Rattle.session_model.specs.declared.entry.Entry.{Entry}
 use Rattle.session_model.specs.declared.entry.Entry.TheVariants as entry
 use Rattle.session_model.specs.Calls.{Setting, current, site_of}
 use Rattle.session_model.specs.Grants.{closed, first_let_go, letting_go, orphan}
-use Rattle.session_model.specs.Journals.{IsFree, IsNext, MayTake}
+use Rattle.session_model.specs.Journals.{IsFree, MayTake}
 use Rattle.session_model.specs.Readings.{asked, sent, was_kept, was_let_go}
 use Rattle.session_model.proofs.CallLaws.{may_next}
 use Rattle.session_laws.specs.Changes.{Unbegun}

@@ -1,5 +1,23 @@
 -- What the calls of a session are, in each of its phases.
-use Rattle.std.specs.Prelude.{◌≡◌, ℕ, Bool, true, false, List, ◌∷◌, Option, Some, None, Result, Ok, Err, if◌then◌else◌, length, nat_lt, MatchBool}
+use Rattle.std.specs.Prelude.{
+  ◌≡◌,
+  ℕ,
+  Bool,
+  true,
+  false,
+  List,
+  ◌∷◌,
+  Option,
+  Some,
+  None,
+  Result,
+  Ok,
+  Err,
+  if◌then◌else◌,
+  length,
+  nat_lt,
+  MatchBool,
+}
 use Rattle.sftp_core.specs.declared.errors.TakeError.{TakeError}
 use Rattle.sftp_core.specs.Info.{info_with}
 use Rattle.sftp_core.specs.Take.{fault_of, limits_in}
@@ -28,7 +46,16 @@ use Rattle.session_driver.specs.Session.{IsFixed, IsGreeted, IsLater, IsQueried,
 use Rattle.session_work.specs.declared.lanes.Lanes.{Lanes}
 use Rattle.session_work.specs.SoFar.{IsLeft, refused_past}
 use Rattle.session_work.specs.Letting.{gone_in}
-use Rattle.session_work.specs.Working.{CancelsLane, HandsAll, LetsLaneGo, Steps, TakesBody, contents_of, past_of, stage_of}
+use Rattle.session_work.specs.Working.{
+  CancelsLane,
+  HandsAll,
+  LetsLaneGo,
+  Steps,
+  TakesBody,
+  contents_of,
+  past_of,
+  stage_of,
+}
 use Rattle.sftp_lanes.specs.Seen.{SessionValue, given_of, seen_of, setting_at}
 
 -- ---- an open session
@@ -75,8 +102,8 @@ BeginsBy false phase before now = (phase ≡ Open) × (now ≡ before)
 BeginsBy true phase before now = (phase ≡ Asking) × ((id : ℕ) × (IsFree before id
     × (now ≡ entry.Event (Submit owner.Setup id request.LimitsQuery) ∷ before)))
 
--- VERSION 3 was taken, the first thing that is told: what it offers is all that is known of the server, unless the limits
--- are asked for
+-- VERSION 3 was taken, the first thing that is told: what it offers is all that is known of the server, unless the
+-- limits are asked for
 pub record TakesVersion (body_reads : Result (Option ℕ × Reply) FrameError) (asks : Bool) (old new : SessionValue) :
     Type 0 where
   pub rest : new ≡ record old { phase = new.phase; version = new.version; info = new.info; work = new.work }
@@ -146,16 +173,17 @@ takes_memory Greeted = false
 takes_memory Queried = false
 takes_memory other = true
 
--- a frame may come: what the opening has queued was handed out
+-- a frame may be taken: the hello was handed out
 abbrev pub takes_frames : Phase → Bool
 takes_frames Fresh = false
 takes_frames Greeted = true
-takes_frames Asking = false
+takes_frames Asking = true
 takes_frames Queried = true
 takes_frames Open = true
 takes_frames Failed = true
 
 -- What is taken: VERSION, then the reply to the query for limits where it was made, and then the replies to requests.
+-- While the query stands in the queue, no reply may come.
 abbrev pub TakesIn : Phase → Result (Option ℕ × Reply) FrameError → SessionValue → SessionValue → Type 0
 TakesIn Fresh body_reads old new = ⊥
 TakesIn Greeted body_reads old new = (asks : Bool) × TakesVersion body_reads asks old new

@@ -153,8 +153,8 @@ impl Session {
     }
 
     /// Takes the body of a frame that came: VERSION, then the reply to the query for limits where it was made, and then the replies to
-    /// requests. Refused by the first thing that is wrong with it, which is kept, or for want of memory. After want of memory each later
-    /// call is refused so.
+    /// requests; while the query stands in the queue each frame is refused. Refused by the first thing that is wrong with it, which is
+    /// kept, or for want of memory. After want of memory each later call is refused so.
     pub fn take(&mut self, body: &[u8]) -> Result<(), TakeError>
         requires unfailed { self.old.work.core.fault ≡ None }
         requires sent { takes_frames self.old.phase ≡ true }
@@ -168,17 +168,17 @@ impl Session {
                 Ok(_asks) => Ok(()),
                 Err(e) => Err(e),
             },
-            Phase::Asking => unreachable!(),
+            Phase::Asking => Err(self.refuse_reply(body)),
             Phase::Queried => self.take_told(body),
             Phase::Open => self.take_reply(body),
             Phase::Failed => Err(TakeError::OutOfMemory),
         }
     }
 
-    /// Whether a frame may come: what the opening has queued was handed out.
+    /// Whether a frame may be taken: the hello was handed out.
     pub fn takes_frames(&self) -> bool
         ensures { result ≡ takes_frames self.now.phase }
     {
-        !matches!(self.phase, Phase::Fresh | Phase::Asking)
+        !matches!(self.phase, Phase::Fresh)
     }
 }

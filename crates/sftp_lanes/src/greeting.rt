@@ -67,6 +67,22 @@ impl Session {
         }
     }
 
+    /// Refuses a frame that comes while the query for limits is unsent, since none may come then: by the first thing that is wrong with
+    /// it, which is kept, or for want of memory.
+    pub(crate) fn refuse_reply(&mut self, body: &[u8]) -> TakeError
+        requires asking { self.old.phase ≡ phases.Asking }
+        ensures refused { IsFirst result (refuses (past_of self.old.work) (reply_at body.now)) }
+        ensures kept { IsRefused result self.old self.new }
+    {
+        match self.work.take_frame(body) {
+            Ok(_) => unreachable!(),
+            Err(e) => {
+                self.phase = Phase::Failed;
+                e
+            }
+        }
+    }
+
     /// Hands the query for limits out. Refused for want of memory.
     pub(crate) fn hand_query(&mut self) -> Result<Chunk, OutOfMemory>
         requires asking { self.old.phase ≡ phases.Asking }

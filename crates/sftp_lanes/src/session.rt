@@ -1,23 +1,24 @@
 // A session of lanes: its opening, and each call of its lanes.
-ghost use Rattle.std.specs.Prelude.{◌≡◌, ◌≢◌, [], None, Some, true, IfOk, reverse, ◌<◌, false, length, OnErr, OnOk};
+ghost use Rattle.std.specs.Prelude.{◌≡◌, ◌≢◌, [], None, Some, true, IfOk, MatchBool, reverse, ◌<◌, ◌≤◌, false, length, OnErr, OnOk, vec_capacity};
 ghost use Rattle.std.specs.Option.{unwrap_or};
 ghost use Rattle.sftp_core.specs.Core.{failed_with};
 ghost use Rattle.plan_model.specs.Lanes.{are_ok};
 ghost use Rattle.session_model.specs.Readings.{outcomes_of as of_lane, was_let_go};
 ghost use Rattle.session_model.specs.declared.entry.Entry.TheVariants as entry;
+ghost use Rattle.session_model.specs.Grants.{orphan};
 ghost use Rattle.session_model.specs.Journals.{IsJournal, IsNext};
 ghost use Rattle.session_driver.specs.declared.session.Phase.TheVariants as phases;
-ghost use Rattle.sftp_lanes.specs.Adding.{AddsCall, IsSame};
+ghost use Rattle.sftp_lanes.specs.Adding.{AddsCall, CanAdd, CannotAdd, IsSame};
 ghost use Rattle.session_driver.specs.Adding.{with_call};
 ghost use Rattle.session_driver.specs.Session.{IsFixed};
-ghost use Rattle.sftp_lanes.specs.Seen.{IsNew, Reports, given_of, is_opening, setting_at};
+ghost use Rattle.sftp_lanes.specs.Seen.{HasCalls, IsNew, Reports, given_of, is_opening, setting_at};
 ghost use Rattle.session_work.specs.SoFar.{kept_in, kept_past};
 ghost use Rattle.session_work.specs.Working.{past_of};
 
 use crate::given::GivenLanes;
 use crate::report::events_of;
 use session_driver::{AddsCalls, Phase, RunsLanes, Stepped};
-use session_model::{Call, Entry, Lane, Outcome, Report};
+use session_model::{Call, Entry, Event, Lane, Outcome, Report};
 use session_work::Lanes;
 use sftp_core::{Chunk, Fault, Info, TakeError};
 use sftp_model::{Reply, SftpOptions};
@@ -61,7 +62,7 @@ impl Session {
         ensures { IfOk result (λ session. IsNew lanes.now options.now session) }
     {
         let work = Lanes::new(alloc, lanes, options)?;
-        let given = GivenLanes::of(&work.calls);
+        let given = GivenLanes::of(work.calls.as_items());
         Ok(Session {
             alloc,
             lanes: given,
@@ -91,11 +92,12 @@ impl Session {
     }
 
     /// What happened so far, the first entry first: a run so far in every phase, of the setting that VERSION and the limits
-    /// fix.
+    /// fix. While the session is open, no grant is to be closed.
     pub fn journal(&self) -> &[Entry]
         ensures value { reverse result.now ≡ past_of self.now.work }
         ensures so_far { IsJournal (setting_at self.now) (past_of self.now.work) }
         ensures fixed { self.now.version ≢ None → IsFixed (given_of self.now) self.now.version (past_of self.now.work) (setting_at self.now) }
+        ensures settled { self.now.phase ≡ phases.Open → orphan (setting_at self.now) (past_of self.now.work) ≡ None }
     {
         self.work.journal.as_slice()
     }
@@ -123,14 +125,25 @@ impl Session {
 
     /// The calls of each lane: those that it was given, and then those that were added.
     pub fn calls(&self) -> &[Lane]
-        ensures { result.now ≡ self.now.work.calls }
+        ensures value { result.now ≡ self.now.work.calls }
+        ensures each { HasCalls self.now.lanes self.now.work }
     {
         self.work.calls.as_slice()
     }
 
+    /// Whether a call may be put behind those of a lane: the lane is there and was not let go, and the lanes with the call
+    /// are ones that a session can be given, as `lanes_ok` tells of them. Nothing is copied.
+    pub fn can_add(&self, lane: u32, call: &Call) -> bool
+        ensures { MatchBool result (CanAdd lane call.now self.now) (CannotAdd lane call.now self.now) }
+    {
+        if lane as usize >= self.calls().len() || self.was_let_go(lane) {
+            return false;
+        }
+        self.work.calls.may_have(call)
+    }
+
     /// Puts a call behind those of a lane that is there and was not let go, and notes it in the journal. Before the session
-    /// is open the call waits for a later step. Whether a session can have its lanes with the call is what `lanes_ok` tells
-    /// of them. Refused for want of memory, as always once the session has failed; nothing has changed then, and a session
+    /// is open the call waits for a later step. `can_add` tells whether a session can have its lanes with the call. Refused for want of memory, as always once the session has failed; nothing has changed then, and a session
     /// goes on.
     pub fn push_call(&mut self, lane: u32, call: Call) -> Result<(), OutOfMemory>
         requires there { lane < length self.old.work.calls }
@@ -172,8 +185,19 @@ impl Session {
     pub fn into_report(self) -> Result<Report, OutOfMemory>
         ensures { IfOk result (λ report. Reports self report) }
     {
+        let trace = Vec::with_capacity(self.alloc, self.journal().len())?;
+        Ok(self.report_into(trace))
+    }
+
+    /// Ends the session, and reports what it did, its events in an empty list that has room for the journal. Takes no memory. Nothing is
+    /// sent.
+    pub fn report_into(self, trace: Vec<Event>) -> Report
+        requires empty { trace.items ≡ [] }
+        requires room { length (past_of self.work) ≤ vec_capacity trace }
+        ensures { Reports self result }
+    {
         let Session {
-            alloc,
+            alloc: _,
             lanes: _,
             options: _,
             phase: _,
@@ -182,11 +206,11 @@ impl Session {
             work,
         } = self;
         let (journal, outcomes) = work.into_told();
-        Ok(Report {
+        Report {
             hello: version,
-            trace: events_of(alloc, journal)?,
+            trace: events_of(journal, trace),
             outcomes,
-        })
+        }
     }
 }
 

@@ -1,5 +1,5 @@
 -- What the report of files that were copied says, and a run whose verdicts found no memory.
-use Rattle.std.proofs.Common.{◌≡◌, ◌≤◌, ℕ, Bool, true, List, [], ◌∷◌, Option, Some, None, refl, sym, subst, inl, inr}
+use Rattle.std.proofs.Common.{◌≡◌, ◌≤◌, ℕ, Bool, true, List, [], ◌∷◌, length, Option, Some, None, refl, sym, subst, inl, inr}
 use Rattle.std.specs.Prelude.{◌&&◌, map}
 use Rattle.std.specs.List.{list_all}
 use Rattle.std.proofs.lemmas.Bool.{and_parts}
@@ -29,7 +29,9 @@ use Rattle.mirror_jobs.specs.JobLanes.{lanes_of, turns_of}
 use Rattle.mirror_jobs.specs.Jobs.{are_ok, is_bounded, name_of}
 use Rattle.mirror_jobs.specs.Verdicts.{verdicts_of}
 use Rattle.mirror_laws.proofs.CopyLaws.{copies_files}
-use Rattle.mirror_laws.specs.CopiesFiles.{CopiesFiles}
+use Rattle.mirror_laws.proofs.GoodLaws.{good_files}
+use Rattle.mirror_laws.specs.GoodJobs.{CopiesWell}
+use Rattle.session_model.specs.Readings.{outcomes_below}
 use Rattle.sftp_mirror.specs.Copies.{CopiesServed, IsCopyReport, MayCopy}
 use Rattle.sftp_mirror.specs.declared.copy.CopyReport.{CopyReport}
 
@@ -42,15 +44,19 @@ all_bounded jobs ok =
 
 -- ---- a report
 
--- what is said of files holds of them
-said_holds : (width : ℕ) (jobs : List Job) (options : SftpOptions) (turns : List Turn) (before after : Option (List Piece)) (report : Report)
-    (verdicts : List Verdict) → 1 ≤ width → are_ok jobs ≡ true → (r : IsReport (lanes_of width jobs) options turns before after report)
+-- what is said of files holds of them, and good files are copied
+said_holds : (width rounds : ℕ) (jobs : List Job) (options : SftpOptions) (before after : Option (List Piece)) (report : Report)
+    (verdicts : List Verdict) → 1 ≤ width → are_ok jobs ≡ true
+    → (r : IsReport (lanes_of width jobs) options (turns_of width rounds jobs) before after report)
     → verdicts ≡ verdicts_of width jobs report.outcomes → CopiesServed jobs r.past verdicts
-said_holds width jobs options turns before after report verdicts some ok r is config choices tree left well served =
-    subst (CopiesFiles jobs choices tree left) (sym is)
-    (subst (λ (o : List (List Outcome)). CopiesFiles jobs choices tree left (verdicts_of width jobs o)) (sym r.outcomes)
-    (copies_files width jobs config choices tree left (setting_of (lanes_of width jobs) options r.extensions r.past)
-    r.past _ some ok (r.files config choices tree left well served)))
+said_holds width rounds jobs options before after report verdicts some ok r is config choices tree left well served =
+    subst (CopiesWell jobs choices tree left) (sym is)
+    (subst (λ (o : List (List Outcome)). CopiesWell jobs choices tree left (verdicts_of width jobs o)) (sym r.outcomes)
+    (record {
+      files = copies_files width jobs config choices tree left (setting_of (lanes_of width jobs) options r.extensions r.past) r.past
+          (outcomes_below r.past (length (lanes_of width jobs))) some ok (r.files config choices tree left well served);
+      good = good_files width rounds jobs options r.extensions r.past config choices tree left some ok r.run well served;
+    }))
 
 pub copy_reported : (width rounds : ℕ) (jobs : List Job) (options : SftpOptions) (lanes : List Lane) (turns : List Turn)
     (before after : Option (List Piece)) (r : CopyReport) → MayCopy width rounds jobs → lanes ≡ lanes_of width jobs → turns ≡ turns_of width rounds jobs
@@ -63,7 +69,7 @@ copy_reported width rounds jobs options lanes turns before after r may same orde
     record {
       report = run;
       verdicts = is;
-      copies = said_holds width jobs options (turns_of width rounds jobs) before after r.report r.verdicts may.some may.ok run is;
+      copies = said_holds width rounds jobs options before after r.report r.verdicts may.some may.ok run is;
     }
 
 -- ---- no memory

@@ -1,10 +1,8 @@
 pub mod SizeLaws
 pub mod ListLaws
 pub mod CopyLaws
-pub mod Files
 pub mod Running
 pub mod Reading
-pub mod Writing
 pub mod Exits
 pub mod Linked
 pub mod Completing

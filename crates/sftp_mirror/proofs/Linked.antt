@@ -18,7 +18,8 @@ use Rattle.sftp_mirror.specs.declared.copy.CopyReport.{CopyReport}
 use Rattle.sftp_mirror.specs.declared.list.CopyList.{CopyList}
 use Rattle.sftp_mirror.specs.declared.schedule.Schedule.{Schedule}
 use Rattle.sftp_mirror.specs.Copies.{CopiesServed, IsCopyReport}
-use Rattle.sftp_mirror.specs.Dialled.{IsShown, IsStopped, error_name, error_line}
+use Rattle.program_ends.specs.Texts.{error_line, error_name}
+use Rattle.sftp_mirror.specs.Dialled.{IsShown, IsStopped}
 use Rattle.sftp_mirror.specs.Printed.{verdicts_in}
 use Rattle.sftp_mirror.proofs.Running.{from_empty}
 

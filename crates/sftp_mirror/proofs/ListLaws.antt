@@ -1,30 +1,5 @@
 -- What a list of files that was read is good for, and a line of it that is refused.
-use Rattle.std.proofs.Common.{
-  ◌≡◌,
-  ◌<◌,
-  ◌≤◌,
-  ℕ,
-  ◌+◌,
-  Bool,
-  true,
-  false,
-  not,
-  List,
-  [],
-  ◌∷◌,
-  ◌++◌,
-  length,
-  Result,
-  Ok,
-  Err,
-  if◌then◌else◌,
-  refl,
-  ap,
-  sym,
-  ◌∙◌,
-  subst,
-  arith,
-}
+use Rattle.std.proofs.Common.{◌≡◌, ◌≤◌, ℕ, ◌+◌, Bool, true, false, not, List, [], ◌∷◌, ◌++◌, length, Result, Ok, Err, if◌then◌else◌, refl, ap, subst, arith}
 use Rattle.std.specs.Prelude.{◌&&◌, ◌||◌, ◌*◌, ◌-◌, ◌^◌, Option, Some, None, codes, map, nat_le, nat_lt}
 use Rattle.std.specs.List.{list_all, list_any}
 use Rattle.std.specs.Str.{bytes_eq}
@@ -65,7 +40,7 @@ use Rattle.sftp_script.specs.Lines.{
   words_of,
 }
 use Rattle.sftp_script.specs.Refusals.{Refuses, RefusesIn, RefusesScript}
-use Rattle.sftp_script.specs.Scripts.{MAX_SCRIPT_LEN, empty_script}
+use Rattle.sftp_script.specs.Scripts.{MAX_SCRIPT_LEN}
 use Rattle.sftp_script.specs.Setup.{Draft, path_in, setup_line, unless_said}
 use Rattle.sftp_script.proofs.FitCounts.{lines_cost, lines_fit, words_fit, words_len}
 use Rattle.sftp_script.proofs.SetupLaws.{setup_kept}

@@ -1,6 +1,6 @@
 -- Files that are copied over a server that nothing was sent to: the run is served, and stops only for want of memory.
 use Rattle.std.proofs.Common.{◌≡◌, ℕ, true, List, [], refl, ap, sym, ◌∙◌, subst}
-use Rattle.std.specs.Prelude.{Option, Some, None, Result, Ok, Err, IfErr, IfOk, IfSome, IsSomeAnd, Vec, length}
+use Rattle.std.specs.Prelude.{Option, Some, None, Result, Ok, Err, IfErr, IfOk, IfSome, IsSomeAnd, Vec}
 use Rattle.std.specs.declared.alloc.Global.{Global}
 use Rattle.ssh_encoding.specs.declared.out_of_memory.OutOfMemory.{OutOfMemory}
 use Rattle.std.specs.Option.{unwrap_or}
@@ -14,7 +14,6 @@ use Rattle.plan_model.specs.declared.call.Lane.{Lane}
 use Rattle.plan_model.specs.Lanes.{are_ok}
 use Rattle.sftp_script.specs.declared.script.Script.{Script}
 use Rattle.session_model.specs.declared.turn.Turn.{Turn}
-use Rattle.session_model.specs.Readings.{outcomes_below}
 use Rattle.session_model.specs.Settings.{greeting, setting_of}
 use Rattle.session_model.specs.Shown.{Shows}
 use Rattle.machine_model.specs.Changes.{IsWellFormed}
@@ -33,7 +32,8 @@ use Rattle.sftp_mirror.specs.declared.copy.CopyReport.{CopyReport}
 use Rattle.sftp_mirror.specs.declared.list.CopyList.{CopyList}
 use Rattle.sftp_mirror.specs.declared.schedule.Schedule.{Schedule}
 use Rattle.sftp_mirror.specs.Copies.{IsCopyReport, MayCopy}
-use Rattle.sftp_mirror.specs.Printed.{IsCopied, IsServedCopy, IsServerOf, copy_text}
+use Rattle.program_ends.specs.Ended.{IsServerOf}
+use Rattle.sftp_mirror.specs.Printed.{IsCopied, IsServedCopy, copy_text}
 
 -- a value in Some
 some_is : {A : Type 0} (x y : A) → Some x ≡ Some y → x ≡ y
@@ -120,7 +120,7 @@ pub copied_if : (schedule : Schedule) (list : CopyList) (kept : Option Serving) 
     → files ≡ list.script.files → dirs ≡ list.script.dirs → jobs ≡ list.jobs
     → old ≡ unopened files dirs list.script.server list.script.choices list.script.picks → IsSomeAnd kept (λ now. now.first ≡ old.first)
     → IfOk r (λ text. IsSomeAnd kept (λ now. CopyText schedule jobs list.script.options now text.items))
-    → IfOk r (λ text. IsCopied kept schedule list text.items)
+    → IfOk r (λ text. IsCopied schedule kept list text.items)
 copied_if schedule list kept files dirs jobs old (Err e) f d j is same run = tt
 copied_if schedule list None files dirs jobs old (Ok text) f d j is same run = absurd same
 copied_if schedule list (Some now) files dirs jobs old (Ok text) f d j is same run =

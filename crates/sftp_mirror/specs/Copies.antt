@@ -15,7 +15,7 @@ use Rattle.mirror_jobs.specs.declared.verdict.Verdict.{Verdict}
 use Rattle.mirror_jobs.specs.JobLanes.{lanes_of, turns_of}
 use Rattle.mirror_jobs.specs.Jobs.{are_ok}
 use Rattle.mirror_jobs.specs.Verdicts.{verdicts_of}
-use Rattle.mirror_laws.specs.CopiesFiles.{CopiesFiles}
+use Rattle.mirror_laws.specs.GoodJobs.{CopiesWell}
 use Rattle.sftp_mirror.specs.declared.copy.CopyReport.{CopyReport}
 
 -- The files may be copied together, by 1 to 64 lanes and in at most 4096 rounds, and a session can be given the lanes.
@@ -26,14 +26,15 @@ pub record MayCopy (width rounds : ℕ) (jobs : List Job) : Type 0 where
   pub few : rounds ≤ 4096
   pub lanes : lanes_are_ok (lanes_of width jobs) ≡ true
 
--- Where the replies are those of a file machine, what is said of files holds of them.
+-- Where the replies are those of a file machine, what is said of files holds of them, and each good file is copied or got
+-- where no choice refuses a request.
 abbrev pub CopiesServed : List Job → List Entry → List Verdict → Type 0
 CopiesServed jobs past verdicts = (config : ServerConfig) (choices : List Choice) (tree left : FileTree)
-    → IsWellFormed tree → Serves config choices tree past left → CopiesFiles jobs choices tree left verdicts
+    → IsWellFormed tree → Serves config choices tree past left → CopiesWell jobs choices tree left verdicts
 
 -- The report is that of a run of the lanes that copy these files, under the turns for so many rounds; and what is said
--- of each file is so by the outcomes of its calls. Where the replies are those of a file machine, it holds of the
--- files.
+-- of each file is so by the outcomes of its calls. Where the replies are those of a file machine, it holds of the files,
+-- and good files are copied or got.
 pub record IsCopyReport (width rounds : ℕ) (jobs : List Job) (options : SftpOptions)
     (before after : Option (List Piece)) (r : CopyReport) : Type 0 where
   pub report : IsReport (lanes_of width jobs) options (turns_of width rounds jobs) before after r.report

@@ -4,7 +4,5 @@ pub mod Copies
 pub mod Words
 pub mod Printed
 pub mod Dialled
-pub mod Outside
 pub mod Ended
-pub mod Replies
 pub mod Completed

@@ -29,7 +29,6 @@ use Rattle.machine_model.specs.Components.{Name, components, same_name}
 use Rattle.machine_model.specs.FirstTree.{are_apart}
 use Rattle.sftp_script.specs.declared.reason.Reason.{Reason}
 use Rattle.sftp_script.specs.declared.reason.Reason.TheVariants as reason
-use Rattle.sftp_script.specs.declared.script.Script.{Script}
 use Rattle.sftp_script.specs.Lines.{bytes_in, greatest_u32, lines_of, number_in, or_read, read_by, two_words}
 use Rattle.sftp_script.specs.Scripts.{MAX_SCRIPT_LEN, empty_script}
 use Rattle.sftp_script.specs.Setup.{Draft, path_in, setup_line, unless_said}

@@ -1,5 +1,5 @@
 -- What the program has to write for the bytes of a list, over a server of its files in memory.
-use Rattle.std.specs.Prelude.{◌≡◌, ℕ, List, [], ◌++◌, length, codes, Option, Some, None}
+use Rattle.std.specs.Prelude.{◌≡◌, ℕ, List, [], ◌++◌, length, Option, Some}
 use Rattle.sftp_model.specs.declared.options.SftpOptions.{SftpOptions}
 use Rattle.sftp_model.specs.declared.flags.Extensions.{Extensions}
 use Rattle.machine_model.specs.FileTree.{FileTree}
@@ -9,17 +9,15 @@ use Rattle.session_model.specs.Readings.{outcomes_below}
 use Rattle.session_model.specs.Runs.{IsRun}
 use Rattle.session_model.specs.Settings.{greeting, setting_of}
 use Rattle.session_model.specs.Shown.{Shows}
-use Rattle.sftp_script.specs.declared.reason.Reason.{Reason}
-use Rattle.sftp_script.specs.declared.reason.Reason.TheVariants as reason
-use Rattle.sftp_script.specs.declared.script.Script.{Script}
-use Rattle.sftp_text.specs.Texts.{dir_lines, dir_text, file_lines, file_text, line, number_text}
-use Rattle.sftp_map_server.specs.Serving.{Serving, first_desk, opened, version_reply}
+use Rattle.sftp_text.specs.Texts.{dir_lines, file_lines}
+use Rattle.sftp_map_server.specs.Serving.{Serving, version_reply}
 use Rattle.map_server_laws.specs.ServedRuns.{IsServedRun}
 use Rattle.mirror_jobs.specs.declared.job.Job.{Job}
 use Rattle.mirror_jobs.specs.declared.verdict.Verdict.{Verdict}
 use Rattle.mirror_jobs.specs.JobLanes.{lanes_of, turns_of}
 use Rattle.mirror_jobs.specs.Verdicts.{verdict_lines, verdicts_of}
-use Rattle.mirror_laws.specs.CopiesFiles.{CopiesFiles}
+use Rattle.mirror_laws.specs.GoodJobs.{CopiesWell}
+use Rattle.program_ends.specs.Ended.{IsServerOf}
 use Rattle.sftp_mirror.specs.declared.copy.CopyReport.{CopyReport}
 use Rattle.sftp_mirror.specs.declared.list.CopyList.{CopyList}
 use Rattle.sftp_mirror.specs.declared.schedule.Schedule.{Schedule}
@@ -34,8 +32,8 @@ verdicts_in schedule jobs past = verdicts_of schedule.width jobs
 -- The report is that of a run of the lanes that copy these files over this server, whose log shows it: VERSION told
 -- what the server offers, and the log shows VERSION and the run's journal. The replies are those of one sequential run
 -- of the file machine, and each handle was closed exactly as often as it was granted. The verdicts are those of the
--- outcomes: a file that is said to be copied holds its content now, and bytes that are said to be got are those of the
--- file at first.
+-- outcomes: a file that is said to be copied holds its content now, bytes that are said to be got are those of the file at
+-- first, and each good file is copied or got where no choice refuses a request.
 pub record IsServedCopy (schedule : Schedule) (jobs : List Job) (options : SftpOptions) (server : Serving)
     (report : CopyReport) : Type 0 where
   pub extensions : Extensions
@@ -47,7 +45,7 @@ pub record IsServedCopy (schedule : Schedule) (jobs : List Job) (options : SftpO
   pub served : IsServedRun server.first past server.now.desk.machine.tree
   pub closed : AreClosed past
   pub verdicts : report.verdicts ≡ verdicts_in schedule jobs past
-  pub copies : CopiesFiles jobs server.first.desk.choices server.first.desk.machine.tree server.now.desk.machine.tree
+  pub copies : CopiesWell jobs server.first.desk.choices server.first.desk.machine.tree server.now.desk.machine.tree
       report.verdicts
 
 -- ---- the text
@@ -56,45 +54,11 @@ pub record IsServedCopy (schedule : Schedule) (jobs : List Job) (options : SftpO
 abbrev pub copy_text : List Job → List Verdict → FileTree → List ℕ
 copy_text jobs verdicts tree = verdict_lines jobs verdicts ++ file_lines tree ++ dir_lines tree
 
--- the server was made of the files and directories of the lines of setup, and of their choices and picks
-abbrev pub IsServerOf : Script → Serving → Type 0
-IsServerOf script server =
-    server.first ≡ opened (first_desk script.files script.dirs script.server script.choices) script.picks
-
 -- the text is that of the copying of a list's files over the list's server, which was kept, and of what is left there
-pub record IsCopied (kept : Option Serving) (schedule : Schedule) (list : CopyList) (text : List ℕ) : Type 0 where
+pub record IsCopied (schedule : Schedule) (kept : Option Serving) (list : CopyList) (text : List ℕ) : Type 0 where
   pub server : Serving
   pub is_kept : kept ≡ Some server
   pub first : IsServerOf list.script server
   pub report : CopyReport
   pub run : IsServedCopy schedule list.jobs list.script.options server report
   pub is : text ≡ copy_text list.jobs report.verdicts server.now.desk.machine.tree
-
--- the line of a file, where there is one
-abbrev pub file_text_of : Option (List ℕ × List ℕ) → List ℕ
-file_text_of None = []
-file_text_of (Some file) = file_text file.0 file.1
-
--- the line of a directory, where there is one
-abbrev pub dir_text_of : Option (List ℕ) → List ℕ
-dir_text_of None = []
-dir_text_of (Some name) = dir_text name
-
--- ---- a refusal
-
--- the word of a reason
-abbrev pub reason_word : Reason → List ℕ
-reason_word reason.Size = codes "size"
-reason_word reason.Words = codes "words"
-reason_word reason.Word = codes "word"
-reason_word reason.Lane = codes "lane"
-reason_word reason.Count = codes "count"
-reason_word reason.Number = codes "number"
-reason_word reason.Hex = codes "hex"
-reason_word reason.Mode = codes "mode"
-reason_word reason.Range = codes "range"
-reason_word reason.Repeat = codes "repeat"
-
--- the line that says which line is refused, and why
-abbrev pub refusal_line : ℕ → Reason → List ℕ
-refusal_line number why = line (codes "line " ++ number_text number ++ codes " " ++ reason_word why)

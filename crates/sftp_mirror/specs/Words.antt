@@ -1,28 +1,12 @@
 -- What the program writes and answers for the words of its command line.
-use Rattle.std.specs.Prelude.{
-  ◌≡◌,
-  ◌≤◌,
-  ℕ,
-  ◌==◌,
-  List,
-  [],
-  ◌∷◌,
-  ◌++◌,
-  Option,
-  Some,
-  None,
-  Result,
-  Ok,
-  codes,
-  if◌then◌else◌,
-}
+use Rattle.std.specs.Prelude.{◌≤◌, ℕ, List, [], ◌∷◌, ◌++◌, Option, Some, None, Result, Ok, codes, if◌then◌else◌}
 use Rattle.std.specs.Result.{result_ok}
 use Rattle.std.specs.Str.{bytes_eq}
 use Rattle.ssh_encoding.specs.Reading.{◌>>=◌}
 use Rattle.sftp_script.specs.declared.reason.Reason.{Reason}
 use Rattle.sftp_script.specs.Lines.{number_in}
-use Rattle.sftp_mirror.specs.declared.ending.Answered.{Answered}
-use Rattle.sftp_mirror.specs.declared.ending.Answered.TheVariants.{Done, Refused}
+use Rattle.program_ends.specs.declared.ending.Answered.{Answered}
+use Rattle.program_ends.specs.Texts.{answered_of, text_of}
 use Rattle.sftp_mirror.specs.declared.schedule.Schedule.{Schedule}
 
 -- ---- texts
@@ -52,23 +36,6 @@ help_text =
     ++ codes "copy, the files and directories that are left. The status is 0 where all was done, 1 where\n"
     ++ codes "the session failed, 2 for a list or words that can't be used, 3 where the input failed, 4\n"
     ++ codes "where the output failed, 5 where memory ran out, and 6 where nothing answers at PATH.\n"
-
--- what `--version` writes
-unfoldable pub version_text : List ℕ
-version_text = codes "tilfrjon 0.1.0\n"
-
--- what a faulty command line writes
-unfoldable pub faulty_text : List ℕ
-faulty_text = codes "line 0 words\n"
-
--- what standard error is told of a status
-abbrev pub cause_of : ℕ → Option (List ℕ)
-cause_of status =
-    if status == 3 then Some (codes "standard input failed")
-    else if status == 4 then Some (codes "standard output failed")
-    else if status == 5 then Some (codes "out of memory")
-    else if status == 6 then Some (codes "nothing answers")
-    else None
 
 -- ---- words
 
@@ -110,19 +77,6 @@ path_of [] = []
 path_of (word ∷ []) = []
 path_of (word ∷ path ∷ words) = path
 
--- of other words: two are known, and all else is refused
-abbrev pub answered_of : List (List ℕ) → Answered
-answered_of [] = Refused
-answered_of (word ∷ []) = if bytes_eq word (codes "--help") then Done else if bytes_eq word (codes "--version") then
-    Done else Refused
-answered_of (word ∷ another ∷ words) = Refused
-
-abbrev pub text_of : List (List ℕ) → List ℕ
-text_of [] = faulty_text
-text_of (word ∷ []) = if bytes_eq word (codes "--help") then help_text else if bytes_eq word (codes "--version") then
-    version_text else faulty_text
-text_of (word ∷ another ∷ words) = faulty_text
-
 -- ---- what is asked for
 
 -- to copy files over a server in memory, or over a link to the server at a path, or a text and what it says
@@ -133,7 +87,7 @@ pub data Asked : Type 0 where
 
 abbrev asked_by_unix : Option Schedule → List (List ℕ) → Asked
 asked_by_unix (Some schedule) words = AtPath (path_of words) schedule
-asked_by_unix None words = Text (answered_of words) (text_of words)
+asked_by_unix None words = Text (answered_of words) (text_of help_text words)
 
 abbrev asked_by_copy : Option Schedule → List (List ℕ) → Asked
 asked_by_copy (Some schedule) words = InMemory schedule

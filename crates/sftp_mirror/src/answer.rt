@@ -1,13 +1,10 @@
-//! The texts that are written for words that ask to copy nothing.
-ghost use Rattle.std.specs.Prelude.{◌≡◌, map};
-ghost use Rattle.std.specs.String.{string_bytes};
-ghost use Rattle.sftp_mirror.specs.Words.{answered_of, faulty_text, help_text, text_of, version_text};
-
-use crate::ending::Answered;
+//! The text of `--help`.
+ghost use Rattle.std.specs.Prelude.{◌≡◌};
+ghost use Rattle.sftp_mirror.specs.Words.{help_text};
 
 /// What `--help` writes.
 #[tactic(auto, unfolding(crate::specs::Words::help_text))]
-fn help_text() -> &'static str
+pub(crate) fn help_text() -> &'static str
     ensures { result.now ≡ help_text }
 {
     "\
@@ -34,52 +31,4 @@ copy, the files and directories that are left. The status is 0 where all was don
 the session failed, 2 for a list or words that can't be used, 3 where the input failed, 4
 where the output failed, 5 where memory ran out, and 6 where nothing answers at PATH.
 "
-}
-
-/// What `--version` writes.
-#[tactic(auto, unfolding(crate::specs::Words::version_text))]
-fn version_text() -> &'static str
-    ensures { result.now ≡ version_text }
-{
-    "tilfrjon 0.1.0\n"
-}
-
-/// What a faulty command line writes.
-#[tactic(auto, unfolding(crate::specs::Words::faulty_text))]
-fn faulty_text() -> &'static str
-    ensures { result.now ≡ faulty_text }
-{
-    "line 0 words\n"
-}
-
-/// A text to write, and what it says.
-#[derive(Clone, Copy)]
-pub(crate) struct Answer {
-    pub(crate) answered: Answered,
-    pub(crate) text: &'static str,
-}
-
-/// The answer to the words of a command line that ask to copy nothing, without the program's name.
-pub(crate) fn answer_to(words: &[String]) -> Answer
-    ensures answered { result.answered ≡ answered_of (map string_bytes words.now) }
-    ensures text { result.text.now ≡ text_of (map string_bytes words.now) }
-{
-    if let [word] = words {
-        if word.as_str() == "--help" {
-            return Answer {
-                answered: Answered::Done,
-                text: help_text(),
-            };
-        }
-        if word.as_str() == "--version" {
-            return Answer {
-                answered: Answered::Done,
-                text: version_text(),
-            };
-        }
-    }
-    Answer {
-        answered: Answered::Refused,
-        text: faulty_text(),
-    }
 }

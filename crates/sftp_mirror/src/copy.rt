@@ -54,8 +54,11 @@ fn plan_copy(alloc: Global, jobs: &[Job], width: u32, rounds: u32) -> Result<Cop
 ///
 /// With Ok the report is that of a run of these lanes under these turns, as `run_lanes` says it, and each verdict is that of
 /// its file's outcomes. Where the replies are those of a file machine, a file that is said to be copied holds its content
-/// at the end, and the bytes that are said to be got are those that the file had at first, where no choice feigns an end.
-/// The errors are those of `run_lanes`, by its causes.
+/// at the end, and the bytes that are said to be got are those that the file had at first, where no choice feigns an end;
+/// and where no choice refuses a request, each good file is copied or got: one that goes up whose directories are there or
+/// may be made, whose name no directory has, whose path fits a frame, and for which there is room beside all others that
+/// go up; and one that comes down which is there, by a path that fits, and has fewer bytes than its bound. The errors
+/// are those of `run_lanes`, by its causes.
 pub fn copy_jobs<L: Link>(
     alloc: Global,
     link: &mut L,

@@ -3,16 +3,14 @@ ghost use Rattle.std.specs.Prelude.{◌≡◌, ◌<◌, ◌-◌, ◌^◌, [], So
 ghost use Rattle.sftp_link.specs.Views.{last_of};
 ghost use Rattle.sftp_mirror.specs.CanCopy.{CanCopy};
 ghost use Rattle.sftp_mirror.specs.Dialled.{RunsOver};
-ghost use Rattle.sftp_mirror.specs.Replies.{DialsFor};
+ghost use Rattle.program_ends.specs.Replies.{DialsFor};
 ghost use Rattle.sftp_mirror.specs.Words.{IsSchedule};
 
 use crate::copy::copy_jobs;
-use crate::ending::{Answered, Failure};
 use crate::list::CopyList;
-use crate::refusal::{error_line, error_name};
-use crate::reply::Reply;
 use crate::schedule::Schedule;
 use mirror_jobs::write_verdicts;
+use program_ends::{Answered, Failure, Printed, error_line, error_name};
 use sftp_link::{DeviceError, Dial, Link, Logged};
 use ssh_encoding::OutOfMemory;
 use std::alloc::Global;
@@ -25,12 +23,12 @@ fn reply_over<L: Link>(
     link: &mut Logged<L>,
     schedule: Schedule,
     list: &CopyList,
-) -> Result<Reply, OutOfMemory>
+) -> Result<Printed, OutOfMemory>
     requires schedule { IsSchedule schedule }
     requires copies { CanCopy list.now }
     requires quiet { link.old.pieces ≡ [] }
     requires unfailed { (L.LinkState.state link.old.link).faults ≡ 0 }
-    ensures { IfOk result (λ reply. RunsOver (Some (last_of L.LinkState.state link.new)) schedule list.now reply.answered reply.text.items) }
+    ensures { IfOk result (λ reply. RunsOver schedule (Some (last_of L.LinkState.state link.new)) list.now reply.answered reply.text.items) }
 {
     let jobs = list.jobs.as_slice();
     match copy_jobs(
@@ -44,13 +42,13 @@ fn reply_over<L: Link>(
         Ok(report) => {
             let mut text = Vec::new(alloc);
             write_verdicts(alloc, jobs, report.verdicts.as_slice(), &mut text)?;
-            Ok(Reply {
+            Ok(Printed {
                 answered: Answered::Done,
                 text,
             })
         }
         Err(error) => match error_name(&error) {
-            Some(name) => Ok(Reply {
+            Some(name) => Ok(Printed {
                 answered: Answered::Stopped,
                 text: error_line(alloc, name)?,
             }),
@@ -66,11 +64,11 @@ pub(crate) fn reply_dialled<D: Dial>(
     path: &str,
     schedule: Schedule,
     list: &CopyList,
-) -> Result<Reply, Failure>
+) -> Result<Printed, Failure>
     requires schedule { IsSchedule schedule }
     requires copies { CanCopy list.now }
     requires dial { (D.state dial.old).faults < 2 ^ 64 - 1 }
-    ensures { DialsFor D.dialled path.now schedule list.now result (D.state dial.old) (D.state dial.new) }
+    ensures { DialsFor (RunsOver schedule) D.dialled path.now list.now result (D.state dial.old) (D.state dial.new) }
 {
     let link = match dial.dial(path) {
         Ok(link) => link,

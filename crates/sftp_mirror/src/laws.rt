@@ -1,9 +1,10 @@
 //! Laws of the definitions. The functions do nothing: what they ensure holds of all values.
 ghost use Rattle.std.specs.Prelude.{◌≡◌, ℕ, Option};
 ghost use Rattle.sftp_map_server.specs.Serving.{Serving};
-ghost use Rattle.sftp_mirror.specs.Completed.{Completes, HasCauses};
+ghost use Rattle.program_ends.specs.Completed.{HasCauses};
+ghost use Rattle.program_ends.specs.Outside.{Outside};
+ghost use Rattle.sftp_mirror.specs.Completed.{Completes};
 ghost use Rattle.sftp_mirror.specs.Ended.{ProgramEnds};
-ghost use Rattle.sftp_mirror.specs.Outside.{Outside};
 ghost use Rattle.sftp_mirror.specs.Words.{Asked};
 
 use sftp_link::Dial;

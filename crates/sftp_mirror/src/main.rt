@@ -4,13 +4,11 @@
 mod answer;
 mod copy;
 mod dialled;
-mod ending;
 mod laws;
 mod list;
 mod names;
 mod printed;
 mod program;
-mod refusal;
 mod reply;
 mod schedule;
 
@@ -18,6 +16,7 @@ pub use copy::{CopyReport, copy_jobs};
 pub use laws::{copies_are_complete, statuses_have_causes};
 pub use list::{CopyList, read_list};
 pub use program::mirror;
+use program_ends::{NO_LINK, OUT_OF_MEMORY, cause_of};
 use sftp_link::{ReadSource, UnixDial, WriteSink};
 use std::env;
 use std::io::ErrorKind;
@@ -36,7 +35,7 @@ fn main(rt: HostRuntime) -> ExitCode {
         Err(error) => starved = error.kind() == ErrorKind::OutOfMemory,
     }
     let status = if starved {
-        ending::OUT_OF_MEMORY
+        OUT_OF_MEMORY
     } else {
         let mut source = ReadSource::new(rt.stdin());
         let mut sink = WriteSink::new(rt.stdout());
@@ -51,9 +50,9 @@ fn main(rt: HostRuntime) -> ExitCode {
             &mut kept,
         )
     };
-    if let Some(cause) = ending::cause_of(status) {
+    if let Some(cause) = cause_of(status) {
         // where standard error fails too there is nobody to tell
-        let _ = if status == ending::NO_LINK {
+        let _ = if status == NO_LINK {
             eprintln!(rt; "sftp_mirror: {cause} at {}", schedule::path_of(&words))
         } else {
             eprintln!(rt; "sftp_mirror: {cause}")

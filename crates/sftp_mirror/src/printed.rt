@@ -1,23 +1,22 @@
 //! The files of a list are copied over a server in memory, and the text of what became of them is made.
-ghost use Rattle.std.specs.Prelude.{◌≡◌, ◌++◌, [], None, IfErr, IfOk, IfSome, IsSomeAnd, OnOk};
-ghost use Rattle.sftp_text.specs.Texts.{dir_lines, file_lines};
+ghost use Rattle.std.specs.Prelude.{◌≡◌, [], None, IfErr, IfOk, IfSome, IsSomeAnd};
 ghost use Rattle.sftp_model.specs.declared.error.Error.TheVariants as errors;
-ghost use Rattle.machine_model.specs.Listing.{dir_at, file_at};
 ghost use Rattle.sftp_map_server.specs.Unopened.{IsUnopened};
 ghost use Rattle.sftp_mirror.specs.declared.copy.CopyReport.{CopyReport};
 ghost use Rattle.sftp_mirror.specs.CanCopy.{CanCopy};
 ghost use Rattle.sftp_mirror.specs.Copies.{MayCopy};
-ghost use Rattle.sftp_mirror.specs.Printed.{IsCopied, IsServedCopy, IsServerOf, copy_text, dir_text_of, file_text_of};
+ghost use Rattle.sftp_mirror.specs.Printed.{IsCopied, IsServedCopy, copy_text};
+ghost use Rattle.program_ends.specs.Ended.{IsServerOf};
 ghost use Rattle.sftp_mirror.specs.Words.{IsSchedule};
 
 use crate::copy::{CopyReport, copy_jobs};
 use crate::list::CopyList;
 use crate::schedule::Schedule;
 use mirror_jobs::{Job, Verdict, write_verdicts};
+use program_ends::{write_dirs, write_files};
 use sftp_map_server::{MapServer, new_server};
 use sftp_model::{Error, SftpOptions};
 use sftp_script::Script;
-use sftp_text::{write_dir, write_file};
 use ssh_encoding::OutOfMemory;
 use std::alloc::Global;
 
@@ -63,58 +62,6 @@ fn copy_served(
             Err(want_of_memory(error))
         }
     }
-}
-
-/// Appends the line of file k.
-fn write_file_at(
-    alloc: Global,
-    server: &MapServer,
-    k: u64,
-    out: &mut Vec<u8>,
-) -> Result<(), OutOfMemory>
-    ensures { OnOk result (out.new.items ≡ out.old.items ++ file_text_of (file_at server.now.now.desk.machine.tree k)) }
-{
-    match server.file(k) {
-        Some((name, content)) => write_file(alloc, name, content, out),
-        None => Ok(()),
-    }
-}
-
-/// Appends a line for each file, in the order of the written names by bytes.
-#[tactic(auto, using(crate::proofs::Files::file_step, crate::proofs::Files::files_end))]
-fn write_files(alloc: Global, server: &MapServer, out: &mut Vec<u8>) -> Result<(), OutOfMemory>
-    ensures { OnOk result (out.new.items ≡ out.old.items ++ file_lines server.now.now.desk.machine.tree) }
-{
-    for k in 0..server.file_count() {
-        write_file_at(alloc, server, k, out)?;
-    }
-    Ok(())
-}
-
-/// Appends the line of directory k.
-fn write_dir_at(
-    alloc: Global,
-    server: &MapServer,
-    k: u64,
-    out: &mut Vec<u8>,
-) -> Result<(), OutOfMemory>
-    ensures { OnOk result (out.new.items ≡ out.old.items ++ dir_text_of (dir_at server.now.now.desk.machine.tree k)) }
-{
-    match server.dir(k) {
-        Some(name) => write_dir(alloc, name, out),
-        None => Ok(()),
-    }
-}
-
-/// Appends a line for each directory, in the order of the written names by bytes.
-#[tactic(auto, using(crate::proofs::Files::dir_step, crate::proofs::Files::dirs_end))]
-fn write_dirs(alloc: Global, server: &MapServer, out: &mut Vec<u8>) -> Result<(), OutOfMemory>
-    ensures { OnOk result (out.new.items ≡ out.old.items ++ dir_lines server.now.now.desk.machine.tree) }
-{
-    for k in 0..server.dir_count() {
-        write_dir_at(alloc, server, k, out)?;
-    }
-    Ok(())
 }
 
 /// What became of each file, and the files and directories that a server has.
@@ -170,7 +117,7 @@ pub(crate) fn text_of_copy(
     requires schedule { IsSchedule schedule }
     requires copies { CanCopy list }
     requires none { kept.old ≡ None }
-    ensures ok { IfOk result (λ text. IsCopied kept.new schedule list text.items) }
+    ensures ok { IfOk result (λ text. IsCopied schedule kept.new list text.items) }
     ensures err { IfErr result (λ _. IfSome kept.new (λ server. IsServerOf list.script server)) }
 {
     let CopyList { script, jobs } = list;

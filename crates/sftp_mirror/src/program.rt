@@ -1,13 +1,13 @@
 ghost use Rattle.std.specs.Prelude.{map};
 ghost use Rattle.std.specs.String.{string_bytes};
 ghost use Rattle.sftp_mirror.specs.Ended.{ProgramEnds};
-ghost use Rattle.sftp_mirror.specs.Outside.{MayFail};
+ghost use Rattle.program_ends.specs.Outside.{MayFail};
 ghost use Rattle.sftp_mirror.specs.Words.{asked_by};
 
-use crate::answer::answer_to;
-use crate::ending::status_of;
-use crate::reply::{copy_at, copy_in_memory, write_answer};
+use crate::answer::help_text;
+use crate::reply::{copy_at, copy_in_memory};
 use crate::schedule::{copy_schedule, path_of, unix_schedule};
+use program_ends::{answer_to, status_of, write_answer};
 use sftp_link::{Dial, Sink, Source};
 use sftp_map_server::MapServer;
 use std::alloc::Global;
@@ -45,7 +45,7 @@ pub fn mirror<S: Source, K: Sink, D: Dial>(
     } else if let Some(schedule) = unix_schedule(words) {
         status_of(copy_at(alloc, path_of(words), schedule, source, sink, dial))
     } else {
-        let answer = answer_to(words);
+        let answer = answer_to(words, help_text());
         status_of(write_answer(sink, answer.answered, answer.text.as_bytes()))
     }
 }

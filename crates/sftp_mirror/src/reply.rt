@@ -1,58 +1,25 @@
 //! The bytes of a list are read, its files are copied or it is refused, and the answer is written.
 ghost use Rattle.std.specs.Prelude.{◌≡◌, ◌<◌, ◌-◌, ◌^◌, None, Ok, IfOk, IfErr, IfSome};
-ghost use Rattle.sftp_mirror.specs.declared.ending.Answered.TheVariants.{Refused};
+ghost use Rattle.program_ends.specs.Ended.{IsServerOf, RightInMemory};
+ghost use Rattle.program_ends.specs.Outside.{MayFail};
+ghost use Rattle.program_ends.specs.Replies.{RepliesAt};
 ghost use Rattle.sftp_mirror.specs.declared.list.CopyList.{CopyList};
-ghost use Rattle.sftp_mirror.specs.Ended.{EndsAtSink, EndsInMemory, EndsOverLink, Only, RightInMemory};
+ghost use Rattle.sftp_mirror.specs.Dialled.{RunsOver};
+ghost use Rattle.sftp_mirror.specs.Ended.{EndsList, EndsListAt};
 ghost use Rattle.sftp_mirror.specs.Lists.{list_of};
-ghost use Rattle.sftp_mirror.specs.Outside.{MayFail};
-ghost use Rattle.sftp_mirror.specs.Printed.{IsServerOf, refusal_line};
-ghost use Rattle.sftp_mirror.specs.Replies.{GivesBytes, RepliesAt};
+ghost use Rattle.sftp_mirror.specs.Printed.{IsCopied};
 ghost use Rattle.sftp_mirror.specs.Words.{IsSchedule};
 
 use crate::dialled::reply_dialled;
-use crate::ending::{Answered, Failure};
 use crate::list::read_list;
 use crate::printed::text_of_copy;
-use crate::refusal::refusal_line;
 use crate::schedule::Schedule;
-use sftp_link::{DeviceError, Dial, Sink, Source, read_up_to, write_all};
+use program_ends::{Answered, Failure, Printed, read_bytes, refuse, write_answer};
+use sftp_link::{Dial, Sink, Source};
 use sftp_map_server::MapServer;
-use sftp_script::{Reason, ScriptError};
+use sftp_script::ScriptError;
 use ssh_encoding::OutOfMemory;
 use std::alloc::Global;
-
-/// One byte more than a list may have.
-const READ_LIMIT: usize = 16777217;
-
-/// A text to write, and what it says.
-#[derive(Drop)]
-pub(crate) struct Reply {
-    pub(crate) answered: Answered,
-    pub(crate) text: Vec<u8>,
-}
-
-/// The bytes of a list, and one more than a list may have at most.
-fn read_bytes<S: Source>(alloc: Global, source: &mut S) -> Result<Vec<u8>, Failure>
-    requires { (S.state source.old).faults < 2 ^ 64 - 1 }
-    ensures { GivesBytes result (S.state source.old) (S.state source.new) }
-{
-    match read_up_to(alloc, source, READ_LIMIT) {
-        Ok(bytes) => Ok(bytes),
-        Err(DeviceError::Failed) => Err(Failure::SourceFailed),
-        Err(DeviceError::OutOfMemory) => Err(Failure::OutOfMemory),
-    }
-}
-
-/// The answer to what is no list.
-fn refuse(alloc: Global, line: u64, reason: Reason) -> Result<Reply, OutOfMemory>
-    ensures { IfOk result (λ reply. (reply.answered ≡ Refused) × (reply.text.items ≡ refusal_line line reason)) }
-{
-    let text = refusal_line(alloc, line, reason)?;
-    Ok(Reply {
-        answered: Answered::Refused,
-        text,
-    })
-}
 
 /// The answer to the bytes of a list, over a server of its files in memory, which is left in `kept`, also where the run
 /// stopped for want of memory.
@@ -61,16 +28,16 @@ fn reply_in_memory(
     bytes: &[u8],
     schedule: Schedule,
     kept: &mut Option<MapServer>,
-) -> Result<Reply, OutOfMemory>
+) -> Result<Printed, OutOfMemory>
     requires schedule { IsSchedule schedule }
     requires none { kept.old ≡ None }
-    ensures ok { IfOk result (λ reply. RightInMemory schedule kept.new (list_of bytes.now) reply.answered reply.text.items) }
+    ensures ok { IfOk result (λ reply. RightInMemory (IsCopied schedule) kept.new (list_of bytes.now) reply.answered reply.text.items) }
     ensures err { IfErr result (λ _. IfSome kept.new (λ server. (list : CopyList) × (list_of bytes.now ≡ Ok list) × IsServerOf list.script server)) }
 {
     match read_list(alloc, bytes) {
         Ok(list) => {
             let text = text_of_copy(alloc, schedule, list, kept)?;
-            Ok(Reply {
+            Ok(Printed {
                 answered: Answered::Done,
                 text,
             })
@@ -87,10 +54,10 @@ fn reply_at<D: Dial>(
     dial: &mut D,
     path: &str,
     schedule: Schedule,
-) -> Result<Reply, Failure>
+) -> Result<Printed, Failure>
     requires schedule { IsSchedule schedule }
     requires dial { (D.state dial.old).faults < 2 ^ 64 - 1 }
-    ensures { RepliesAt D.dialled path.now schedule bytes.now result (D.state dial.old) (D.state dial.new) }
+    ensures { RepliesAt list_of (RunsOver schedule) D.dialled path.now bytes.now result (D.state dial.old) (D.state dial.new) }
 {
     match read_list(alloc, bytes) {
         Ok(list) => reply_dialled(alloc, dial, path, schedule, &list),
@@ -99,22 +66,6 @@ fn reply_at<D: Dial>(
             Ok(reply) => Ok(reply),
             Err(OutOfMemory) => Err(Failure::OutOfMemory),
         },
-    }
-}
-
-/// Writes an answer whole.
-pub(crate) fn write_answer<K: Sink>(
-    sink: &mut K,
-    answered: Answered,
-    text: &[u8],
-) -> Result<Answered, Failure>
-    requires { (K.state sink.old).faults < 2 ^ 64 - 1 }
-    ensures { EndsAtSink (Only answered text.now) result (K.state sink.old) (K.state sink.new) }
-{
-    match write_all(sink, text) {
-        Ok(()) => Ok(answered),
-        Err(DeviceError::Failed) => Err(Failure::SinkFailed),
-        Err(DeviceError::OutOfMemory) => Err(Failure::OutOfMemory),
     }
 }
 
@@ -131,7 +82,7 @@ pub(crate) fn copy_in_memory<S: Source, K: Sink>(
     requires source { (S.state source.old).faults < 2 ^ 64 - 1 }
     requires sink { (K.state sink.old).faults < 2 ^ 64 - 1 }
     requires none { kept.old ≡ None }
-    ensures { EndsInMemory schedule result kept.new (S.state source.old) (S.state source.new) (K.state sink.old) (K.state sink.new) }
+    ensures { EndsList schedule result kept.new (S.state source.old) (S.state source.new) (K.state sink.old) (K.state sink.new) }
 {
     let bytes = read_bytes(alloc, source)?;
     let reply = reply_in_memory(alloc, &bytes, schedule, kept)?;
@@ -150,7 +101,7 @@ pub(crate) fn copy_at<S: Source, K: Sink, D: Dial>(
 ) -> Result<Answered, Failure>
     requires schedule { IsSchedule schedule }
     requires may { MayFail (record { source = S.state source.old; sink = K.state sink.old; dial = D.state dial.old }) }
-    ensures { EndsOverLink D.dialled path.now schedule result
+    ensures { EndsListAt schedule D.dialled path.now result
         (record { source = S.state source.old; sink = K.state sink.old; dial = D.state dial.old })
         (record { source = S.state source.new; sink = K.state sink.new; dial = D.state dial.new }) }
 {

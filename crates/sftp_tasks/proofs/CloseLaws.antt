@@ -15,19 +15,19 @@ use Rattle.session_seats.specs.Closes.{Closes, HandsBack, Returns, items_of}
 use Rattle.session_driver.specs.Session.{IsFixed}
 use Rattle.session_model.specs.Journals.{IsJournal}
 use Rattle.session_model.specs.Readings.{outcomes_below, trace_of}
-use Rattle.sftp_lanes.specs.Seen.{SessionValue, given, given_of, setting_at, setting_by}
+use Rattle.sftp_lanes.specs.Seen.{Reports, SessionValue, given, given_of, setting_at, setting_by}
 use Rattle.session_seats.specs.Covers.{Covers, Once}
 use Rattle.session_seats.specs.Sights.{entries, sight_of}
 use Rattle.session_work.specs.SoFar.{kept_in}
 use Rattle.session_work.specs.Working.{past_of}
 use Rattle.sftp_tasks.specs.declared.locked.Locked.{Locked}
 use Rattle.sftp_tasks.specs.declared.report.SharedReport.{SharedReport}
-use Rattle.sftp_tasks.specs.Reported.{ComesBack, GoesOn, HasStopped, Lists, Reported, Tells, reason_of}
+use Rattle.sftp_tasks.specs.Reported.{ComesBack, GoesOn, HasStopped, IsRefusedFor, Lists, Reported, reason_of}
 use Rattle.sftp_tasks.specs.Shows.{shown_of}
 
 pub reported : {G : Ghosts Locked} (seats : List (Seat Locked G)) (e : Ended Locked) (r : SharedReport) → Closes shown_of seats e
-    → GoesOn e.value.session → Tells e.value.session r.report r.journal.items → r.receipts ≡ e.receipts → Reported seats r
-reported seats e r closes goes tells receipts =
+    → GoesOn e.value.session → Reports e.value.session r.report → Lists e.value.session r.journal.items → r.receipts ≡ e.receipts → Reported seats r
+reported seats e r closes goes reports lists receipts =
     let s = e.value.session in
     let now = closes.now in
     let past : past_of s.work ≡ entries now.log = closes.shows.past in
@@ -37,15 +37,15 @@ reported seats e r closes goes tells receipts =
     let version : s.version ≡ now.version = ap (λ (x : Sight). x.version) (sym told) in record {
       now = now;
       info = s.info;
-      journal = tells.1.journal ∙ past;
-      run = subst (λ (x : Sight × List Entry). IsJournal (setting_by x.0.lanes x.0.options x.0.version s.info) x.1) (λ i. (sym told i, past i)) tells.1.run;
+      journal = lists.journal ∙ past;
+      run = subst (λ (x : Sight × List Entry). IsJournal (setting_by x.0.lanes x.0.options x.0.version s.info) x.1) (λ i. (sym told i, past i)) lists.run;
       fixed = subst (λ (x : Sight × List Entry). x.0.version ≢ None
           → IsFixed (given x.0.lanes x.0.options) x.0.version x.1 (setting_by x.0.lanes x.0.options x.0.version s.info))
-          (λ i. (sym told i, past i)) tells.1.fixed;
+          (λ i. (sym told i, past i)) lists.fixed;
       unkept = ap kept_in (sym past) ∙ goes.0;
-      hello = tells.0.hello ∙ version;
-      trace = tells.0.trace ∙ ap trace_of past;
-      outcomes = tells.0.outcomes ∙ (λ i. outcomes_below (past i) (length (lanes i)));
+      hello = reports.hello ∙ version;
+      trace = reports.trace ∙ ap trace_of past;
+      outcomes = reports.outcomes ∙ (λ i. outcomes_below (past i) (length (lanes i)));
       lawful = closes.lawful;
       receipts = ap (λ (v : Vec (Vec Receipt Global) Global). map items_of v.items) receipts ∙ closes.receipts;
       distinct = closes.distinct;
@@ -65,13 +65,17 @@ pub lists_of : {E : Type 0} (s : SessionValue) (journal : List Entry) (copied : 
 lists_of s journal (Ok v) is run fixed same = record { journal = ap reverse same ∙ is; run = run; fixed = fixed }
 lists_of s journal (Err e) is run fixed same = tt
 
-refused_by : {G : Ghosts Locked} (seat new : Seat Locked G) (o : Option Error) → IfSome o (Returns shown_of (λ y e. HasStopped e y.session) seat new)
+refused_by : {G : Ghosts Locked} (seat new : Seat Locked G) (o : Option Error) → IfSome o (Returns shown_of (λ y e. IsRefusedFor e y.session) seat new)
     → (reason_of o ≡ error.OutOfMemory) ⊎ ((y : Locked) × HasStopped (reason_of o) y.session)
 refused_by seat new None h = inl refl
-refused_by seat new (Some e) h = inr (h.looks.before, h.refuses)
+refused_by seat new (Some e) h = why h.refuses
+  where
+    why : IsRefusedFor e h.looks.before.session → (e ≡ error.OutOfMemory) ⊎ ((y : Locked) × HasStopped e y.session)
+    why (inl memory) = inl memory
+    why (inr stopped) = inr (h.looks.before, stopped)
 
 pub refused : {G : Ghosts Locked} (seat new : Seat Locked G) (others rest : List (Seat Locked G)) (o : Option Error) (e : Error)
-    → HandsBack shown_of (λ y e. HasStopped e y.session) seat others o new rest → e ≡ reason_of o
+    → HandsBack shown_of (λ y e. IsRefusedFor e y.session) seat others o new rest → e ≡ reason_of o
     → ComesBack seat new others rest × ((e ≡ error.OutOfMemory) ⊎ ((y : Locked) × HasStopped e y.session))
 refused seat new others rest o e h is = (
   record { rest_is = h.rest_is; receipts = h.receipts; lane = h.lane },

@@ -1,5 +1,44 @@
 -- What the calls of a session add to its journal.
-use Rattle.std.proofs.Common.{◌≡◌, ◌≢◌, ◌⊎◌, ◌≤◌, ℕ, ◌+◌, ◌-◌, ◌==◌, List, [], ◌∷◌, ◌++◌, Bool, true, false, true≢false, ◌&&◌, refl, sym, ap, ◌∙◌, subst, ⊎_elim, arith, Some, None, Ok, Err, append_assoc, eq-eqb, MatchBool, IfOk, IfErr, OnOk, MatchOption, ◌^◌, min, nat_le}
+use Rattle.std.proofs.Common.{
+  ◌≡◌,
+  ◌≢◌,
+  ◌⊎◌,
+  ◌≤◌,
+  ℕ,
+  ◌+◌,
+  ◌-◌,
+  ◌==◌,
+  List,
+  [],
+  ◌∷◌,
+  ◌++◌,
+  Bool,
+  true,
+  false,
+  true≢false,
+  ◌&&◌,
+  refl,
+  sym,
+  ap,
+  ◌∙◌,
+  subst,
+  ⊎_elim,
+  arith,
+  Some,
+  None,
+  Ok,
+  Err,
+  append_assoc,
+  eq-eqb,
+  MatchBool,
+  IfOk,
+  IfErr,
+  OnOk,
+  MatchOption,
+  ◌^◌,
+  min,
+  nat_le,
+}
 use Rattle.std.proofs.lemmas.Bool.Decides.{nat_tests}
 use Rattle.std.specs.Prelude.{Option, Result}
 use Rattle.std.specs.List.{list_all}
@@ -44,7 +83,19 @@ use Rattle.sftp_model.specs.ReplyReadings.{reply_at}
 use Rattle.std.specs.Option.{option_map}
 use Rattle.plan_model.specs.declared.call.Call.{Call}
 use Rattle.sftp_lanes.specs.Adding.{AddsCall, IsSame}
-use Rattle.sftp_tasks.specs.SessionEvents.{GivesUp, IsKept, IsRefusedBy, IsUnawaited, IsUnmoved, LetsLaneGoIn, PollsIn, Refuses, RefusesToAdd, Submits, TakeStops}
+use Rattle.sftp_tasks.specs.SessionEvents.{
+  GivesUp,
+  IsKept,
+  IsRefusedBy,
+  IsUnawaited,
+  IsUnmoved,
+  LetsLaneGoIn,
+  PollsIn,
+  Refuses,
+  RefusesToAdd,
+  Submits,
+  TakeStops,
+}
 use Rattle.sftp_tasks.specs.LockedEvents.{Finishing, HandingOut, Hands, Taking, TakingFrame, Writing, at_end, is_answered, tells}
 use Rattle.sftp_tasks.specs.declared.polls.Polled.{Polled}
 use Rattle.sftp_tasks.specs.declared.polls.Polled.TheVariants as polled

@@ -1,5 +1,23 @@
 -- What a call of the shared session answers, with the receipts that its seat has then.
-use Rattle.std.specs.Prelude.{◌≡◌, ◌⊎◌, ℕ, ◌+◌, Bool, true, false, List, ◌∷◌, ◌++◌, length, Option, Some, None, Result, Ok, Err}
+use Rattle.std.specs.Prelude.{
+  ◌≡◌,
+  ◌⊎◌,
+  ℕ,
+  ◌+◌,
+  Bool,
+  true,
+  false,
+  List,
+  ◌∷◌,
+  ◌++◌,
+  length,
+  Option,
+  Some,
+  None,
+  Result,
+  Ok,
+  Err,
+}
 use Rattle.plan_model.specs.declared.call.Call.{Call}
 use Rattle.session_model.specs.declared.entry.Entry.TheVariants as entry
 use Rattle.session_seats.specs.declared.view.Receipt.{Receipt}
@@ -34,7 +52,8 @@ Answers {A} Does old new (Err e) m n =
     Holds (λ y z more. Does y z (Err e) ⊎ ((e ≡ error.OutOfMemory) × ((a : A) × Does y z (Ok a)))) m n
 
 -- the same of a hold whose receipts are not told
-abbrev pub InOneHold : {A : Type 0} → (Locked → Locked → Result A Error → Type 0) → Result A Error → Token → Token → Type 0
+abbrev pub InOneHold : {A : Type 0} → (Locked → Locked → Result A Error → Type 0) → Result A Error → Token → Token
+    → Type 0
 InOneHold Does (Ok a) m n = Holds (λ y z more. Does y z (Ok a)) m n
 InOneHold {A} Does (Err e) m n =
     Holds (λ y z more. Does y z (Err e) ⊎ ((e ≡ error.OutOfMemory) × ((a : A) × Does y z (Ok a)))) m n

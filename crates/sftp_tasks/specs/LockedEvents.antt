@@ -1,5 +1,28 @@
 -- What each event does to the locked value, for the lane that its seat names.
-use Rattle.std.specs.Prelude.{◌≡◌, ◌≢◌, ℕ, ◌+◌, ◌^◌, ◌-◌, ◌==◌, ◌&&◌, min, Bool, true, false, List, Option, Some, None, Result, Ok, Err, MatchOption, nat_le, nat_lt}
+use Rattle.std.specs.Prelude.{
+  ◌≡◌,
+  ◌≢◌,
+  ℕ,
+  ◌+◌,
+  ◌^◌,
+  ◌-◌,
+  ◌==◌,
+  ◌&&◌,
+  min,
+  Bool,
+  true,
+  false,
+  List,
+  Option,
+  Some,
+  None,
+  Result,
+  Ok,
+  Err,
+  MatchOption,
+  nat_le,
+  nat_lt,
+}
 use Rattle.std.specs.Option.{option_map}
 use Rattle.plan_model.specs.declared.call.Call.{Call}
 use Rattle.session_driver.specs.declared.session.Phase.{Phase}
@@ -62,7 +85,8 @@ pub record Hands (y z : Locked) (n : ℕ) : Type 0 where
 abbrev pub HandingOut : Locked → Locked → Result (Option Handed) Error → Type 0
 HandingOut y z (Ok handed) =
     HandsOutIn y.session.phase y.session z.session (option_map (λ h. joined h.chunk) handed)
-    × (MatchOption handed (z.counts.handed ≡ y.counts.handed) (λ h. Hands y z h.frames) × (z.counts.written ≡ y.counts.written))
+    × (MatchOption handed (z.counts.handed ≡ y.counts.handed) (λ h. Hands y z h.frames)
+    × (z.counts.written ≡ y.counts.written))
 HandingOut y z (Err e) = Refuses e y.session z.session × (z.counts.handed ≡ y.counts.handed)
 
 abbrev pub Taking : List ℕ → Locked → Locked → Result (Unit {0}) Error → Type 0

@@ -1,11 +1,11 @@
 -- What is reported of a shared session that was closed.
-use Rattle.std.specs.Prelude.{◌≡◌, ◌≢◌, ◌⊎◌, List, Option, Some, None, length, map, reverse}
+use Rattle.std.specs.Prelude.{◌≡◌, ◌≢◌, ◌≤◌, ◌⊎◌, List, [], Option, Some, None, length, map, reverse, vec_capacity}
 use Rattle.std.specs.declared.vec.Vec.{Vec}
 use Rattle.std.proofs.Common.{Global}
 use Rattle.session_driver.specs.declared.session.Phase.TheVariants.{Failed}
 use Rattle.session_driver.specs.Session.{IsFixed}
 use Rattle.session_model.specs.declared.entry.Entry.{Entry}
-use Rattle.session_model.specs.declared.report.Report.{Report}
+use Rattle.session_model.specs.declared.event.Event.{Event}
 use Rattle.session_model.specs.Journals.{IsJournal}
 use Rattle.session_model.specs.Readings.{outcomes_below, trace_of}
 use Rattle.session_seats.specs.declared.rule.Held.{Ghosts}
@@ -19,7 +19,7 @@ use Rattle.session_work.specs.Working.{past_of}
 use Rattle.sftp_core.specs.declared.info.Info.{Info}
 use Rattle.sftp_model.specs.declared.error.Error.{Error}
 use Rattle.sftp_model.specs.declared.error.Error.TheVariants as error
-use Rattle.sftp_lanes.specs.Seen.{Reports, SessionValue, given, given_of, setting_at, setting_by}
+use Rattle.sftp_lanes.specs.Seen.{SessionValue, given, given_of, setting_at, setting_by}
 use Rattle.sftp_tasks.specs.declared.locked.Locked.{Locked}
 use Rattle.sftp_tasks.specs.declared.report.SharedReport.{SharedReport}
 
@@ -39,9 +39,19 @@ pub record Lists (s : SessionValue) (listed : List Entry) : Type 0 where
   pub run : IsJournal (setting_at s) (past_of s.work)
   pub fixed : s.version ≢ None → IsFixed (given_of s) s.version (past_of s.work) (setting_at s)
 
--- what a session tells in the end
-abbrev pub Tells : SessionValue → Report → List Entry → Type 0
-Tells s report listed = Reports s report × Lists s listed
+-- its journal is listed, and the list for its events is empty and has room for them
+pub record IsPrepared (s : SessionValue) (journal : Vec Entry Global) (trace : Vec Event Global) : Type 0 where
+  pub lists : Lists s journal.items
+  pub empty : trace.items ≡ []
+  pub room : length (past_of s.work) ≤ vec_capacity trace
+
+-- calls of its lanes can be made, and this was made for its report
+abbrev pub EndsSo : SessionValue → Vec Entry Global → Vec Event Global → Type 0
+EndsSo s journal trace = GoesOn s × IsPrepared s journal trace
+
+-- why a session does not end: it has stopped, or memory is wanting
+abbrev pub IsRefusedFor : Error → SessionValue → Type 0
+IsRefusedFor e s = (e ≡ error.OutOfMemory) ⊎ HasStopped e s
 
 -- where nothing was told, memory was wanting
 abbrev pub reason_of : Option Error → Error
@@ -75,13 +85,7 @@ module _ {G : Ghosts Locked} where
     pub receipts : new.receipts ≡ seat.receipts
     pub lane : new.lane ≡ seat.lane
 
-  abbrev pub AllBack : Seat Locked G → List (Seat Locked G) → Option (Seat Locked G × Vec (Seat Locked G) Global)
-      → Type 0
-  AllBack seat others None = Unit {0}
-  AllBack seat others (Some s) = ComesBack seat s.0 others s.1.items
-
   -- why a session was not closed: for want of memory, or the first seat has seen why it can't go on
-  abbrev pub Refused : Seat Locked G → List (Seat Locked G) → Error
-      → Option (Seat Locked G × Vec (Seat Locked G) Global) → Type 0
-  Refused seat others e back =
-      AllBack seat others back × ((e ≡ error.OutOfMemory) ⊎ ((y : Locked) × HasStopped e y.session))
+  abbrev pub Refused : Seat Locked G → List (Seat Locked G) → Error → Seat Locked G → List (Seat Locked G) → Type 0
+  Refused seat others e new rest =
+      ComesBack seat new others rest × ((e ≡ error.OutOfMemory) ⊎ ((y : Locked) × HasStopped e y.session))

@@ -1,14 +1,30 @@
 -- What the calls of the locked value do to its session.
-use Rattle.std.specs.Prelude.{◌≡◌, ◌≢◌, ◌⊎◌, ◌≤◌, ℕ, Bool, true, false, List, ◌++◌, length, Option, Some, None, Result, Ok, Err, slice_get}
+use Rattle.std.specs.Prelude.{
+  ◌≡◌,
+  ◌≢◌,
+  ◌⊎◌,
+  ℕ,
+  Bool,
+  true,
+  false,
+  List,
+  ◌++◌,
+  length,
+  Option,
+  Some,
+  None,
+  Result,
+  Ok,
+  Err,
+  slice_get,
+}
 use Rattle.sftp_core.specs.declared.errors.TakeError.{TakeError}
 use Rattle.sftp_core.specs.Take.{IsFirst}
 use Rattle.plan_model.specs.declared.call.Call.{Call}
 use Rattle.plan_model.specs.declared.call.Lane.{Lane}
-use Rattle.plan_model.specs.Lanes.{are_ok}
 use Rattle.session_driver.specs.declared.session.Phase.TheVariants.{Failed}
 use Rattle.session_driver.specs.declared.session.Stepped.{Stepped}
 use Rattle.session_driver.specs.declared.session.Stepped.TheVariants as stepped
-use Rattle.session_driver.specs.Adding.{with_call}
 use Rattle.session_exchange.specs.Refusals.{error_of}
 use Rattle.session_model.specs.declared.entry.Entry.{Entry}
 use Rattle.session_model.specs.Calls.{added, calls_of, current}
@@ -19,7 +35,7 @@ use Rattle.sftp_model.specs.declared.error.Error.{Error}
 use Rattle.sftp_model.specs.declared.error.Error.TheVariants as error
 use Rattle.sftp_model.specs.declared.frame_error.FrameError.{FrameError}
 use Rattle.sftp_model.specs.declared.reply.Reply.{Reply}
-use Rattle.sftp_lanes.specs.Adding.{AddsCall, IsSame}
+use Rattle.sftp_lanes.specs.Adding.{AddsCall, CannotAdd, IsSame}
 use Rattle.sftp_lanes.specs.Events.{HasFailed, IsRefused, LetsGoIn, StepsIn, first_wrong, takes_frames}
 use Rattle.sftp_lanes.specs.Seen.{SessionValue, setting_at}
 use Rattle.session_work.specs.SoFar.{kept_past}
@@ -72,19 +88,15 @@ polled_of stepped.Ended = polled.Moved
 -- a lane is stepped once, unless all of its calls have ended
 abbrev pub PollsIn : ℕ → SessionValue → SessionValue → Polled → Type 0
 PollsIn lane old new (polled.Ended calls) = AllEnded old.lanes (past_of old.work) lane calls × (new ≡ old)
-PollsIn lane old new polled.Moved = (event : Stepped) × ((polled.Moved ≡ polled_of event) × StepsIn old.phase lane old new event)
-PollsIn lane old new polled.Waits = (event : Stepped) × ((polled.Waits ≡ polled_of event) × StepsIn old.phase lane old new event)
-
--- the lane isn't there, or it was let go, or a session can't be given the lanes with the call
-abbrev pub MayNotAdd : ℕ → Call → SessionValue → Type 0
-MayNotAdd lane call s =
-    (length s.work.calls ≤ lane) ⊎ ((was_let_go (past_of s.work) lane ≡ true)
-    ⊎ (are_ok (with_call s.work.calls lane call) ≡ false))
+PollsIn lane old new polled.Moved = (event : Stepped) × ((polled.Moved ≡ polled_of event)
+    × StepsIn old.phase lane old new event)
+PollsIn lane old new polled.Waits = (event : Stepped) × ((polled.Waits ≡ polled_of event)
+    × StepsIn old.phase lane old new event)
 
 -- a call is put behind those of its lane
 abbrev pub AddsIn : ℕ → Call → SessionValue → SessionValue → Bool → Type 0
 AddsIn lane call old new true = AddsCall lane call old new
-AddsIn lane call old new false = MayNotAdd lane call old × (new ≡ old)
+AddsIn lane call old new false = CannotAdd lane call old × (new ≡ old)
 
 -- why a call is not added: nothing has changed
 abbrev pub RefusesToAdd : Error → SessionValue → SessionValue → Type 0
@@ -96,7 +108,7 @@ RefusesToAdd other old new = ⊥
 abbrev pub Submits : ℕ → Call → SessionValue → SessionValue → Result Bool Error → Type 0
 Submits lane call old new (Ok true) =
     (mid : SessionValue) × (AddsCall lane call old mid × ((event : Stepped) × StepsIn mid.phase lane mid new event))
-Submits lane call old new (Ok false) = MayNotAdd lane call old × (new ≡ old)
+Submits lane call old new (Ok false) = CannotAdd lane call old × (new ≡ old)
 Submits lane call old new (Err e) =
     RefusesToAdd e old new ⊎ ((mid : SessionValue) × (AddsCall lane call old mid × Refuses e mid new))
 
@@ -110,7 +122,7 @@ pub record IsRefusedBy (body_reads : Result (Option ℕ × Reply) FrameError) (e
   pub first : IsFirst error (first_wrong old.phase (past_of old.work) body_reads)
   pub kept : IsRefused error old new
 
--- the frame came while no reply is awaited
+-- the frame came before the hello was handed out
 pub record IsUnawaited (e : Error) (old new : SessionValue) : Type 0 where
   pub early : takes_frames old.phase ≡ false
   pub is : e ≡ error.InvalidResponse None

@@ -7,7 +7,6 @@ use session_model::Call;
 use session_seats::Event;
 use sftp_model::{Error, Fault};
 use sftp_wire::FrameReader;
-use std::alloc::Global;
 
 /// One step of the seat's lane.
 #[derive(Drop)]
@@ -177,7 +176,6 @@ impl Event<Locked, Result<(), Error>> for TakeFrame {
 /// Adds a call to the seat's lane, and steps the lane once.
 #[derive(Drop)]
 pub struct Submit {
-    pub alloc: Global,
     pub call: Call,
 }
 
@@ -194,11 +192,11 @@ impl Event<Locked, Result<bool, Error>> for Submit {
     ghost does = { λ e. OfLane (Submitting e.call) (Ok false) };
 
     fn act(self, value: &mut Locked, lane: Option<u32>) -> Result<bool, Error> {
-        let Submit { alloc, call } = self;
+        let Submit { call } = self;
         let Some(lane) = lane else {
             return Ok(false);
         };
-        value.submit(alloc, lane, call)
+        value.submit(lane, call)
     }
 }
 

@@ -61,8 +61,7 @@ impl Locked {
     }
 
     /// Takes the body of a frame, and counts it. Refused by the first thing that is wrong with it, which the session keeps as its fault, or
-    /// for want of memory. A frame that comes while no reply is awaited, because the hello or the query for limits was not handed out yet,
-    /// is `InvalidResponse`.
+    /// for want of memory. A frame that comes before the hello was handed out is `InvalidResponse`.
     pub fn take(&mut self, body: &[u8]) -> Result<(), Error>
         ensures rest { self.new ≡ record self.old { session = self.new.session; counts = record self.old.counts { taken = self.new.counts.taken } } }
         ensures takes { OnOk result (TakesIn self.old.session.phase (reply_at body.now) self.old.session self.new.session) }

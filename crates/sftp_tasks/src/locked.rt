@@ -39,6 +39,10 @@ impl Held for Locked {
             .wrapping_add(u64::from(failed))
     }
 
+    fn users(&self) -> u64 {
+        self.users
+    }
+
     fn seat_lane(&mut self) -> Option<u32> {
         if self.seated >= self.session.lane_count() {
             return None;

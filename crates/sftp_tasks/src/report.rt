@@ -1,14 +1,16 @@
 //! The end of the shared session, and what it leaves.
-ghost use Rattle.std.specs.Prelude.{◌≡◌, ◌∷◌, IfErr, IfOk, length, map};
+ghost use Rattle.std.specs.Prelude.{◌≡◌, ◌≤◌, ◌∷◌, [], IfErr, IfOk, length, map, vec_capacity};
 ghost use Rattle.session_seats.specs.Closes.{AllOf, claims_of, items_of};
 ghost use Rattle.session_seats.specs.Covers.{Complete, Once};
-ghost use Rattle.sftp_tasks.specs.Reported.{Lists, Refused, Reported, Tells, reason_of};
+ghost use Rattle.session_work.specs.Working.{past_of};
+ghost use Rattle.sftp_lanes.specs.Seen.{Reports};
+ghost use Rattle.sftp_tasks.specs.Reported.{IsPrepared, Refused, Reported, reason_of};
 
 use crate::copies::copies_of;
 use crate::locked::Locked;
 use crate::shared_sftp::{Seat, SharedSftp};
 use session_driver::Phase;
-use session_model::{Entry, Report};
+use session_model::{Entry, Event, Report};
 use session_seats::{Ended, Ending, NotEnded, Receipt};
 use sftp_model::{Error, SftpOptions};
 use ssh_encoding::OutOfMemory;
@@ -26,59 +28,74 @@ pub struct SharedReport {
     pub receipts: Vec<Vec<Receipt>>,
 }
 
-/// A shared session could not be closed.
+/// A shared session could not be closed. Its seats come back, each with its receipts.
 #[derive(Drop)]
 pub struct NotClosed {
     /// `BackgroundTaskFailure` with the fault that the session keeps, or `OutOfMemory`.
     pub error: Error,
-    /// The seats, each with its receipts. None where memory was wanting for the report, once they had been taken in.
-    pub seats: Option<(Seat, Vec<Seat>)>,
+    pub seat: Seat,
+    pub others: Vec<Seat>,
+}
+
+/// What is made before the session ends, so that its report takes no memory: a copy of its journal, and an empty list that has room for
+/// its events.
+#[derive(Drop)]
+struct Prepared {
+    journal: Vec<Entry>,
+    trace: Vec<Event>,
 }
 
 /// The session ends while calls of its lanes can be made.
-struct Unfailed;
+#[derive(Drop)]
+struct Unfailed {
+    alloc: Global,
+}
 
-impl Ending<Locked, Error> for Unfailed {
-    ghost use Rattle.sftp_tasks.specs.Reported.{GoesOn, HasStopped};
+impl Ending<Locked, Prepared, Error> for Unfailed {
+    ghost use Rattle.sftp_tasks.specs.Reported.{EndsSo, IsRefusedFor};
 
-    ghost allows = { λ _ y. GoesOn y.session };
+    ghost allows = { λ _ y p. EndsSo y.session p.journal p.trace };
 
-    ghost refuses = { λ _ y e. HasStopped e y.session };
+    ghost refuses = { λ _ y e. IsRefusedFor e y.session };
 
-    fn look(&self, value: &Locked) -> Result<(), Error> {
+    fn look(&self, value: &Locked) -> Result<Prepared, Error> {
         if let Some(fault) = value.session.fault() {
             return Err(Error::BackgroundTaskFailure(fault));
         }
-        match value.session.phase() {
-            Phase::Failed => Err(Error::OutOfMemory),
-            _ => Ok(()),
+        if let Phase::Failed = value.session.phase() {
+            return Err(Error::OutOfMemory);
+        }
+        match value.prepared(self.alloc) {
+            Ok(prepared) => Ok(prepared),
+            Err(OutOfMemory) => Err(Error::OutOfMemory),
         }
     }
 }
 
 impl Locked {
-    /// A copy of the journal. Refused for want of memory.
-    fn listed(&self, alloc: Global) -> Result<Vec<Entry>, OutOfMemory>
-        ensures { IfOk result (λ listed. Lists self.now.session listed.items) }
+    /// A copy of the journal, and room for its events. Refused for want of memory.
+    fn prepared(&self, alloc: Global) -> Result<Prepared, OutOfMemory>
+        ensures { IfOk result (λ p. IsPrepared self.now.session p.journal p.trace) }
     {
-        copies_of(alloc, self.session.journal())
+        let listed = self.session.journal();
+        let journal = copies_of(alloc, listed)?;
+        let trace = Vec::with_capacity(alloc, listed.len())?;
+        Ok(Prepared { journal, trace })
     }
 
-    /// The report of the session, and its journal. Refused for want of memory.
-    fn into_told(self, alloc: Global) -> Result<(Report, Vec<Entry>), OutOfMemory>
-        ensures { IfOk result (λ r. Tells self.session r.0 r.1.items) }
+    /// The report of the session, its events in an empty list that has room for the journal.
+    fn report_into(self, trace: Vec<Event>) -> Report
+        requires empty { trace.items ≡ [] }
+        requires room { length (past_of self.session.work) ≤ vec_capacity trace }
+        ensures { Reports self.session result }
     {
-        let journal = self.listed(alloc)?;
         let Locked {
             session,
             counts: _,
             users: _,
             seated: _,
         } = self;
-        match session.into_report() {
-            Ok(report) => Ok((report, journal)),
-            Err(e) => Err(e),
-        }
+        session.report_into(trace)
     }
 }
 
@@ -94,8 +111,8 @@ fn reason(error: Option<Error>) -> Error
 
 impl SharedSftp {
     /// Ends the session, and reports what it did, with the receipts of each seat. Nothing is sent, and nothing is added to the journal.
-    /// `BackgroundTaskFailure` where the session keeps a fault, and `OutOfMemory` for want of memory, also of a receipt: the seats come
-    /// back then, but where memory was wanting for the report itself.
+    /// `BackgroundTaskFailure` where the session keeps a fault, and `OutOfMemory` for want of memory, also of a receipt. After an Err the
+    /// seats come back, each with its receipts.
     pub fn close<R: Wait>(
         self,
         rt: &R,
@@ -105,7 +122,7 @@ impl SharedSftp {
         requires own { AllOf self.shared.table.shared.table_id (seat ∷ others.items) }
         ensures closes { IfOk result (λ r. Reported (seat ∷ others.items) r) }
         ensures covers { IfOk result (λ r. Complete (claims_of (seat ∷ others.items)) → Once (length r.journal.items) (map items_of r.receipts.items)) }
-        ensures refused { IfErr result (λ n. Refused seat others.items n.error n.seats) }
+        ensures refused { IfErr result (λ n. Refused seat others.items n.error n.seat n.others.items) }
     {
         let SharedSftp {
             alloc,
@@ -115,21 +132,20 @@ impl SharedSftp {
         let Ok(empty) = Locked::new(alloc, &[], &SftpOptions::default()) else {
             return Err(NotClosed {
                 error: Error::OutOfMemory,
-                seats: Some((seat, others)),
+                seat,
+                others,
             });
         };
-        match shared.close(rt, alloc, seat, others, empty, &Unfailed) {
-            Ok(Ended { value, receipts }) => match value.into_told(alloc) {
-                Ok((report, journal)) => Ok(SharedReport {
-                    report,
+        match shared.close(rt, alloc, seat, others, empty, &Unfailed { alloc }) {
+            Ok((ended, prepared)) => {
+                let Ended { value, receipts } = ended;
+                let Prepared { journal, trace } = prepared;
+                Ok(SharedReport {
+                    report: value.report_into(trace),
                     journal,
                     receipts,
-                }),
-                Err(OutOfMemory) => Err(NotClosed {
-                    error: Error::OutOfMemory,
-                    seats: None,
-                }),
-            },
+                })
+            }
             Err(
                 NotEnded {
                     error,
@@ -138,7 +154,8 @@ impl SharedSftp {
                 },
             ) => Err(NotClosed {
                 error: reason(error),
-                seats: Some((seat, others)),
+                seat,
+                others,
             }),
         }
     }

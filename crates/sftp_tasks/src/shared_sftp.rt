@@ -118,15 +118,7 @@ impl SharedSftp {
             result seat.old.inner.me seat.new.inner.me }
         ensures first { IfOk result (λ did. did ≡ true → IfSome seat.old.lane (λ lane. BeginsWith lane call seat.old.receipts.items seat.new.receipts.items)) }
     {
-        let (did, copied) = seat.apply(
-            rt,
-            self.alloc,
-            &self.shared,
-            Submit {
-                alloc: self.alloc,
-                call,
-            },
-        );
+        let (did, copied) = seat.apply(rt, self.alloc, &self.shared, Submit { call });
         settle(did, copied)
     }
 

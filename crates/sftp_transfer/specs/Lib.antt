@@ -1,8 +1,2 @@
-pub mod Local
-pub mod Sessions
-pub mod Awaits
-pub mod Asks
-pub mod Gets
-pub mod Puts
 pub mod Copies
-pub mod Disks
+pub mod Ended

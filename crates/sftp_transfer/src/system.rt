@@ -1,11 +1,11 @@
 //! A file of the system as a local file.
-use crate::local::{LocalError, LocalFile};
 use bytes::Bytes;
 use std::alloc::Global;
 use std::fs::{File, Files};
 use std::io::{ErrorKind, Read, Write};
 use std::marker::Model;
 use std::{fs, io};
+use transfer_file::{LocalError, LocalFile};
 
 /// A file that a runtime reaches. It tells nothing of its acts.
 #[derive(Drop)]
@@ -37,7 +37,12 @@ impl<R: Files> LocalFile for SystemFile<R> {
     }
 
     fn create(&mut self, name: &str) -> Result<(), LocalError> {
-        self.file = Some(File::create(&self.runtime, name)?);
+        // what has the name is taken away, so that a symbolic link there isn't followed
+        match fs::remove_file(&self.runtime, name) {
+            Err(e) if e.kind() != ErrorKind::NotFound => return Err(e.into()),
+            _ => {}
+        }
+        self.file = Some(File::create_new(&self.runtime, name)?);
         Ok(())
     }
 

@@ -17,6 +17,7 @@ use Rattle.session_driver.specs.Session.{IsLater, IsUnmoved}
 use Rattle.session_driver.proofs.Joining.{as_part, join, no_memory, quiet, setting_stays}
 use Rattle.session_driver.proofs.Journals.{later_self}
 use Rattle.sftp_lanes.specs.Seen.{SessionValue, seen_of}
+use Rattle.view_model.specs.Uncancelled.{IsUncancelled}
 use Rattle.sftp_view.specs.Closing.{Closes}
 use Rattle.sftp_view.specs.Doings.{IsIdle, going_on}
 use Rattle.sftp_view.specs.IdleSteps.{StepsIdly}
@@ -29,6 +30,7 @@ pub record IsGone (s : Setting) (before now : List Entry) : Type 0 where
   pub ends : outcomes_of now 0 ≡ outcomes_of before 0
   pub let_go : was_let_go now 0 ≡ true
   pub done : current s now 0 ≡ None
+  pub uncancelled : IsUncancelled before → IsUncancelled now
 
 -- letting go, of one lane
 gone_by : (s : Setting) (n : ℕ) (before now : Stage) → n ≡ 1 → current s before.past 0 ≡ None → LetsGoTo s n before now → IsGone s before.past now.past
@@ -40,6 +42,7 @@ gone_by s (suc zero) before now one done (mid, (same, to)) =
       ends = k.ends 0;
       let_go = k.holds 0;
       done = k.done 0 (subst (λ (w : Stage). current s w.past 0 ≡ None) (sym same) done);
+      uncancelled = k.uncancelled;
     })
 gone_by s (suc (suc n)) before now one done to = absurd (omega (arith, one))
 
@@ -66,6 +69,7 @@ module _ {S : Type 0} where
         ends = k.ends 0 ∙ g.ends;
         let_go = k.holds 0 ∙ g.let_go;
         done = k.done 0 g.done;
+        uncancelled = λ u. k.uncancelled (g.uncancelled u);
       }
 
   joined : (a b c : At S) → Ongoing lanes_go a b (Ok tt) → {result : Result (Unit {0}) Error} → Ongoing draining b c result → Ongoing going_on a c result
@@ -121,5 +125,6 @@ module _ {S : Type 0} where
           );
           adds = ap (λ (p : List Entry). added p 0) past ∙ g.adds;
           ends = ap (λ (p : List Entry). outcomes_of p 0) past ∙ g.ends;
+          uncancelled = λ u. subst IsUncancelled (sym past) (g.uncancelled u);
         };
       }

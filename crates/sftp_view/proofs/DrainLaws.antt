@@ -12,16 +12,18 @@ use Rattle.session_model.specs.Journals.{MayTake}
 use Rattle.session_model.specs.Readings.{asked, awaited, outcomes_of, sent, was_let_go}
 use Rattle.session_model.specs.Runs.{DrainsTo, LetGoTo, TurnsTo}
 use Rattle.session_model.specs.Turns.{ClosesTo, RulesTo, Stage, TurnTo, is_full}
+use Rattle.view_model.specs.Uncancelled.{IsUncancelled}
 
--- no call was added, none ended, no lane was let go, and a lane without a call has none still
+-- no call was added, none ended, none was cancelled, no lane was let go, and a lane without a call has none still
 pub record Keeps (s : Setting) (before now : List Entry) : Type 0 where
   pub adds : (lane : ℕ) → added now lane ≡ added before lane
   pub ends : (lane : ℕ) → outcomes_of now lane ≡ outcomes_of before lane
   pub holds : (lane : ℕ) → was_let_go now lane ≡ was_let_go before lane
   pub done : (lane : ℕ) → current s before lane ≡ None → current s now lane ≡ None
+  pub uncancelled : IsUncancelled before → IsUncancelled now
 
 keeps_self : (s : Setting) (past : List Entry) → Keeps s past past
-keeps_self s past = record { adds = λ lane. refl; ends = λ lane. refl; holds = λ lane. refl; done = λ lane none. none }
+keeps_self s past = record { adds = λ lane. refl; ends = λ lane. refl; holds = λ lane. refl; done = λ lane none. none; uncancelled = λ u. u }
 
 keeps_on : (s : Setting) (a b c : List Entry) → Keeps s a b → Keeps s b c → Keeps s a c
 keeps_on s a b c first second = record {
@@ -29,6 +31,7 @@ keeps_on s a b c first second = record {
   ends = λ lane. second.ends lane ∙ first.ends lane;
   holds = λ lane. second.holds lane ∙ first.holds lane;
   done = λ lane none. second.done lane (first.done lane none);
+  uncancelled = λ u. second.uncancelled (first.uncancelled u);
 }
 
 keeps_same : (s : Setting) (before now : List Entry) → now ≡ before → Keeps s before now
@@ -40,10 +43,10 @@ closes_keep s before (e ∷ past) (inl same) = keeps_same s before (e ∷ past) 
 closes_keep s before (e ∷ past) (inr (due, rest)) =
     subst (λ (w : Entry). Keeps s before (w ∷ past)) (sym due.1.1.1.1)
     (keeps_on s before past _ (closes_keep s before past rest)
-    (record { adds = λ lane. refl; ends = λ lane. refl; holds = λ lane. refl; done = λ lane none. none }))
+    (record { adds = λ lane. refl; ends = λ lane. refl; holds = λ lane. refl; done = λ lane none. none; uncancelled = λ u. u }))
 
 send_keeps : (s : Setting) (past : List Entry) → Keeps s past (entry.Event Send ∷ past)
-send_keeps s past = record { adds = λ lane. refl; ends = λ lane. refl; holds = λ lane. refl; done = λ lane none. none }
+send_keeps s past = record { adds = λ lane. refl; ends = λ lane. refl; holds = λ lane. refl; done = λ lane none. none; uncancelled = λ u. u }
 
 sends_keep : (s : Setting) (b : Bool) (mid now : List Entry) → MatchBool b (now ≡ entry.Event Send ∷ mid) (now ≡ mid) → Keeps s mid now
 sends_keep s true mid now e = subst (Keeps s mid) (sym e) (send_keeps s mid)
@@ -81,7 +84,7 @@ turn_keeps s turn.Take before now of to = by_test (nat_lt 0 (awaited before.past
         now.past)))) (now ≡ before) → Keeps s before.past now.past
     by_test true to =
         keeps_on s before.past (entry.Event (Take to.1.0 to.1.1.0) ∷ before.past) now.past
-        (record { adds = λ lane. refl; ends = λ lane. refl; holds = λ lane. refl; done = λ lane none. none })
+        (record { adds = λ lane. refl; ends = λ lane. refl; holds = λ lane. refl; done = λ lane none. none; uncancelled = λ u. u })
         (rules_keep s (entry.Event (Take to.1.0 to.1.1.0) ∷ before.past) now.past to.1.1.1.1)
     by_test false e = stage_same s before now e
 turn_keeps s (turn.Cancel lane) before now of to = absurd of

@@ -13,3 +13,6 @@ pub mod DrainLaws
 pub mod ClosingLaws
 pub mod ViewLaws
 pub mod MemoryLaws
+pub mod CalledLaws
+pub mod Running
+pub mod Exits

@@ -57,5 +57,6 @@ module _ {S : Type 0} where
               (comes_call c once.outcome);
           calls = once.calls;
           outcomes = once.outcomes;
+          uncancelled = once.uncancelled;
         };
       }

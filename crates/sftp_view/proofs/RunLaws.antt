@@ -28,6 +28,7 @@ module _ {T : Type 0} where
     calls = second.calls ∙ (ap (λ (w : List Call). w ++ second.made) first.calls ∙ append_assoc (added a 0) first.made second.made);
     outcomes = second.outcomes ∙ (ap (λ (w : List Outcome). w ++ second.came) first.outcomes
         ∙ append_assoc (outcomes_of a 0) first.came second.came);
+    uncancelled = λ u. second.uncancelled (first.uncancelled u);
   }
 
   does_self : (f : Doing T) (a : List Entry) → Does f f a a
@@ -37,6 +38,7 @@ module _ {T : Type 0} where
     comes = comes_self f;
     calls = sym (append-nil (added a 0));
     outcomes = sym (append-nil (outcomes_of a 0));
+    uncancelled = λ u. u;
   }
 
 does_bind : {A B : Type 0} (m : Doing A) (v : A) (k : A → Doing B) (a b : List Entry) → Does m (pure v) a b → Does (m >>= k) (k v) a b
@@ -46,6 +48,7 @@ does_bind m v k a b d = record {
   comes = comes_bind m v k d.made d.came d.comes;
   calls = d.calls;
   outcomes = d.outcomes;
+  uncancelled = d.uncancelled;
 }
 
 -- ---- by a session

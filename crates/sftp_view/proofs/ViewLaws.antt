@@ -66,6 +66,9 @@ use Rattle.view_model.specs.declared.op.ViewOp.{ViewOp}
 use Rattle.view_model.specs.declared.op.ViewOp.TheVariants as op
 use Rattle.view_model.proofs.BoundLaws.{within_viewed}
 use Rattle.view_model.proofs.CountLaws.{all_counted}
+use Rattle.view_model.specs.Uncancelled.{IsUncancelled}
+use Rattle.view_laws.specs.Plainly.{IsPlainThere}
+use Rattle.view_laws.proofs.PlainLaws.{view_plainly}
 use Rattle.sftp_view.specs.declared.ops.View.{View}
 use Rattle.sftp_lanes.specs.Seen.{seen_of}
 use Rattle.sftp_view.specs.Closing.{Closes}
@@ -91,9 +94,10 @@ pub record Begins (s : Setting) (past : List Entry) : Type 0 where
   pub done : current s past 0 ≡ None
   pub none : added past 0 ≡ []
   pub before : outcomes_of past 0 ≡ []
+  pub uncancelled : IsUncancelled past
 
 no_calls : (s : Setting) (past : List Entry) (b : Bool) → s.lanes ≡ one_lane → Opens b past → Begins s past
-no_calls s past false lanes is = subst (Begins s) (sym is) (record { done = ap first_of lanes; none = refl; before = refl })
+no_calls s past false lanes is = subst (Begins s) (sym is) (record { done = ap first_of lanes; none = refl; before = refl; uncancelled = tt })
   where
     first_of : List Lane → Option Call
     first_of ws = current (record s { lanes = ws }) [] 0
@@ -101,8 +105,8 @@ no_calls s past true lanes to = subst (Begins s) (sym to.1.1.2)
     (record {
       done = ap (λ (ws : List Lane). current (record s { lanes = ws }) [] 0) lanes;
       none = refl;
-      before =
-          refl;
+      before = refl;
+      uncancelled = tt;
     })
 
 lanes_are : (given : Given) (now : Seen) → IsOpened given now → given.lanes ≡ one_lane → now.setting.lanes ≡ one_lane
@@ -238,8 +242,9 @@ module _ {S : Type 0} where
       → IsOpened before.seen.given (seen_of mid.session) → before.seen.given.lanes ≡ one_lane
       → Told (Showing (seen_of mid.session).version (seen_of mid.session).stage.past) before.link.log y.log → Caused before.link y (Ok u)
       → mid.cache.kept ≡ nothing_kept → Works (done_by ops mid) (λ l. left_by l new) (most ops) mid y new z (Ok answers)
-      → Closes (at (seen_of new.session) z) c (Ok tt) → Views mid.block mid.cache.capacity ops before c new.cache.kept (Ok answers)
-  view_done ops before mid new c y z answers {u = u} opened one shows caused none work closes =
+      → Closes (at (seen_of new.session) z) c (Ok tt) → MayView mid.block mid.cache.capacity ops
+          → Views mid.block mid.cache.capacity ops before c new.cache.kept (Ok answers)
+  view_done ops before mid new c y z answers {u = u} opened one shows caused none work closes may =
       let a : At S = at (seen_of mid.session) y in
       let b : At S = at (seen_of new.session) z in
       let all : Ongoing going_on a c (Ok tt) = join {r = going_on} (λ u v. tt) (λ u past v. tt) work.runs.ongoing closes.ongoing in
@@ -251,20 +256,32 @@ module _ {S : Type 0} where
       let is : done_in mid.block mid.cache.capacity ops c.seen.stage.past ≡ after_calls (added c.seen.stage.past 0) (pure v []) =
       ap (viewed mid.block mid.cache.capacity ops) closes.closed.ends
       ∙ (whole ∙ ap (λ (w : List Call). after_calls w (pure v [])) (sym closes.closed.adds)) in
+      let fixed : IsFixed before.seen.given c.seen.version c.seen.stage.past c.seen.setting =
+      subst (λ (w : Seen). IsFixed before.seen.given w.version c.seen.stage.past w.setting) (sym all.went.stays)
+      (still_fixed before.seen.given a.seen.version a.seen.stage.past c.seen.stage.past a.seen.setting opened.fixed opened.opens all.went.later) in
+      let calls : added c.seen.stage.past 0 ≡ (done_in mid.block mid.cache.capacity ops c.seen.stage.past).calls =
+      sym (ap (λ (m : Made Viewed). m.calls) is ∙ append-nil (added c.seen.stage.past 0)) in
+      let within = split_ok (list_all is_within ops) (nat_le (sum_by (count mid.block) ops) count_limit) may.ok in
       record {
         done = record {
           run = closes.closed.run;
           over = closes.closed.over;
           later = subst (λ (s : Setting). IsLater s [] c.seen.stage.past) (sym (setting_stays a.seen c.seen all.went.stays))
               (later_on a.seen.setting [] a.seen.stage.past c.seen.stage.past opened.later all.went.later);
-          fixed = subst (λ (w : Seen). IsFixed before.seen.given w.version c.seen.stage.past w.setting) (sym all.went.stays)
-              (still_fixed before.seen.given a.seen.version a.seen.stage.past c.seen.stage.past a.seen.setting opened.fixed opened.opens all.went.later);
+          fixed = fixed;
           same = ap (λ (w : Seen). w.given) all.went.stays ∙ opened.same;
-          calls = sym (ap (λ (m : Made Viewed). m.calls) is ∙ append-nil (added c.seen.stage.past 0));
+          calls = calls;
           answers_are = sym (ap (λ (m : Made Viewed). m.value.answers) is);
           kept_is = sym (ap (λ (m : Made Viewed). m.value.kept) is);
           log = shows_on a.seen.version c.seen.version a.seen.stage.past c.seen.stage.past before.link.log y.log c.link.log
               (ap (λ (w : Seen). w.version) all.went.stays) shows all.went.log;
+          plain = subst (λ (w : Viewed). IsPlainThere mid.block mid.cache.capacity c.seen.setting.facts.write_len ops
+              c.seen.stage.past w.answers w.kept.hits w.kept.misses)
+              (ap (λ (m : Made Viewed). m.value) is)
+              (view_plainly c.seen.setting before.seen.given.lanes before.seen.given.options fixed.0 c.seen.stage.past
+                  mid.block mid.cache.capacity ops fixed.1.1 one
+              closes.closed.run closes.closed.over (closes.closed.uncancelled
+                  (work.runs.does.uncancelled first.uncancelled)) may.some may.short within.0 calls);
         };
         left = tt;
         caused = caused_on before.link y c.link u (Ok answers) caused (ok_caused y c.link tt answers all.caused);

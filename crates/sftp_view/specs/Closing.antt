@@ -5,14 +5,16 @@ use Rattle.session_model.specs.Calls.{added}
 use Rattle.session_model.specs.Journals.{IsJournal, IsOver}
 use Rattle.session_model.specs.Readings.{outcomes_of}
 use Rattle.session_driver.specs.Ongoing.{At, Ongoing}
+use Rattle.view_model.specs.Uncancelled.{IsUncancelled}
 use Rattle.sftp_view.specs.Doings.{going_on}
 
--- The session is over. No call was added since, and none has ended.
+-- The session is over. No call was added since, none has ended, and none was cancelled.
 pub record IsClosed {Service : Type 0} (before now : At Service) : Type 0 where
   pub run : IsJournal now.seen.setting now.seen.stage.past
   pub over : IsOver now.seen.setting now.seen.stage.past
   pub adds : added now.seen.stage.past 0 ≡ added before.seen.stage.past 0
   pub ends : outcomes_of now.seen.stage.past 0 ≡ outcomes_of before.seen.stage.past 0
+  pub uncancelled : IsUncancelled before.seen.stage.past → IsUncancelled now.seen.stage.past
 
 -- a session was ended, or it stopped
 pub record Closes {Service : Type 0} (before now : At Service) (result : Result (Unit {0}) Error) : Type 0 where

@@ -10,6 +10,7 @@ use Rattle.session_model.specs.Journals.{IsJournal}
 use Rattle.session_model.specs.Readings.{outcomes_of, was_let_go}
 use Rattle.session_driver.specs.Ongoing.{At, IsReady, Ongoing, Part}
 use Rattle.view_model.specs.Calls.{AreFew, call_limit}
+use Rattle.view_model.specs.Uncancelled.{IsUncancelled}
 use Rattle.view_model.specs.Viewed.{ComesTo, Doing}
 
 -- the lane, which has no calls but those that are added
@@ -28,13 +29,14 @@ pub record IsIdle {Service : Type 0} (x : At Service) : Type 0 where
 pub record MayDo {T : Type 0} (whole : Doing T) (past : List Entry) : Type 0 where
   pub few : (outcomes : List Outcome) → AreFew call_limit (added past 0 ++ (whole outcomes).calls)
 
--- Calls of this were made since, and this is left to do.
+-- Calls of this were made since, none was cancelled, and this is left to do.
 pub record Does {T : Type 0} (whole rest : Doing T) (before now : List Entry) : Type 0 where
   pub made : List Call
   pub came : List Outcome
   pub comes : ComesTo whole rest made came
   pub calls : added now 0 ≡ added before 0 ++ made
   pub outcomes : outcomes_of now 0 ≡ outcomes_of before 0 ++ came
+  pub uncancelled : IsUncancelled before → IsUncancelled now
 
 -- any part of a run
 abbrev pub going_on : Part

@@ -4,3 +4,7 @@ pub mod Working
 pub mod Operations
 pub mod Closing
 pub mod Views
+pub mod Printed
+pub mod Words
+pub mod Ended
+pub mod Completed

@@ -22,9 +22,10 @@ use Rattle.view_model.specs.ViewOps.{are_ok}
 use Rattle.view_model.specs.Viewed.{Made, Viewed, viewed}
 use Rattle.view_model.specs.declared.answer.Answer.{Answer}
 use Rattle.view_model.specs.declared.op.ViewOp.{ViewOp}
+use Rattle.view_laws.specs.Plainly.{IsPlainThere}
 use Rattle.sftp_view.specs.Doings.{one_lane}
 use Rattle.sftp_view.specs.declared.ops.View.{View}
-use Rattle.sftp_view.specs.declared.view.ViewReport.{ViewReport}
+use Rattle.sftp_view.specs.declared.run.ViewReport.{ViewReport}
 
 -- Blocks of 1 to 65536 bytes, of which 1 or more are kept, and operations that a view can be given.
 pub record MayView (block capacity : ℕ) (ops : List ViewOp) : Type 0 where
@@ -41,7 +42,8 @@ done_in block capacity ops past = viewed block capacity ops (outcomes_of past 0)
 
 -- The session is over, and the link's log shows VERSION and its journal, where it tells one. The calls that were added
 -- are just those that the operations make by the outcomes of these calls, in their order; and the answers and what is
--- kept are theirs.
+-- kept are theirs. Where the replies are those of a file machine whose choices refuse nothing, they are what the files
+-- alone give.
 pub record IsDone {Service : Type 0} (block capacity : ℕ) (ops : List ViewOp) (before now : At Service)
     (answers : List Answer) (kept : Kept (List ℕ)) : Type 0 where
   pub run : IsJournal now.seen.setting now.seen.stage.past
@@ -53,6 +55,8 @@ pub record IsDone {Service : Type 0} (block capacity : ℕ) (ops : List ViewOp) 
   pub answers_are : answers ≡ (done_in block capacity ops now.seen.stage.past).value.answers
   pub kept_is : kept ≡ (done_in block capacity ops now.seen.stage.past).value.kept
   pub log : Told (Showing now.seen.version now.seen.stage.past) before.link.log now.link.log
+  pub plain : IsPlainThere block capacity now.seen.setting.facts.write_len ops now.seen.stage.past answers kept.hits
+      kept.misses
 
 -- a session did operations and was ended, or it stopped
 pub record Views {Service : Type 0} (block capacity : ℕ) (ops : List ViewOp) (before now : At Service)
@@ -65,7 +69,9 @@ pub record Views {Service : Type 0} (block capacity : ℕ) (ops : List ViewOp) (
 
 -- The report's events are those of a run so far after which the session is over, and the link's log shows it, where it
 -- tells one. The calls that were added are just those that the operations make by the outcomes of these calls, in their
--- order; and the answers, hits and misses are theirs.
+-- order; and the answers, hits and misses are theirs. Where the replies are those of a file machine whose choices
+-- refuse nothing, answers, hits and misses are what the files alone give, and what is left is what the files alone
+-- leave.
 pub record IsViewReport (block capacity : ℕ) (ops : List ViewOp) (options : SftpOptions)
     (before after : Option (List Piece)) (r : ViewReport) : Type 0 where
   pub extensions : Extensions
@@ -78,6 +84,9 @@ pub record IsViewReport (block capacity : ℕ) (ops : List ViewOp) (options : Sf
   pub hits : r.hits ≡ (done_in block capacity ops past).value.kept.hits
   pub misses : r.misses ≡ (done_in block capacity ops past).value.kept.misses
   pub log : Told (Shows (greeting extensions) past) before after
+  pub plain : IsPlainThere block capacity (setting_of one_lane options extensions past).facts.write_len ops past
+      r.answers
+      r.hits r.misses
 
 -- a view of blocks of this length, of which it keeps so many, and none yet; its session has one lane without calls
 pub record IsNewView (block capacity : ℕ) (options : SftpOptions) (view : View) : Type 0 where

@@ -24,14 +24,15 @@ pub trait Pair<R> {
     // What the halves that were put back last say of themselves.
     ghost last: { Self → Option Halves };
 
-    /// The two halves, on which no call was made. Refused for want of memory.
+    /// The two halves, on which no call was made. Refused for want of memory. What was put back before is kept.
     fn split(
         &mut self,
         rt: &R,
         alloc: Global,
         server: MapServer,
     ) -> Result<(Self::Out, Self::In), OutOfMemory>
-        ensures { IfOk result (λ halves. IsNewHalf (Self.Out.LinkState.state halves.0) × IsNewHalf (Self.In.LinkState.state halves.1)) };
+        ensures halves { IfOk result (λ halves. IsNewHalf (Self.Out.LinkState.state halves.0) × IsNewHalf (Self.In.LinkState.state halves.1)) }
+        ensures kept { last self.new ≡ last self.old };
 
     /// Takes the halves back, and keeps what they tell of themselves.
     fn put_back(&mut self, out: Self::Out, input: Self::In)

@@ -1,6 +1,7 @@
 //! A whole run of lanes in threads: one for each lane, one that sends, and one that reads, each with a seat at one session.
 #![tactic(auto)]
 
+mod ends;
 mod running;
 mod seats;
 

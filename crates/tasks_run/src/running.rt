@@ -1,5 +1,5 @@
 // The threads of a run, and its report.
-ghost use Rattle.std.specs.Prelude.{◌≡◌, ◌⊎◌, ◌<◌, ◌-◌, ◌^◌, ◌∷◌, ◌++◌, [], true, Err, Ok, IfErr, IfOk, MatchOption, OnOk};
+ghost use Rattle.std.specs.Prelude.{◌≡◌, ◌⊎◌, ◌<◌, ◌-◌, ◌^◌, ◌∷◌, ◌++◌, [], true, length, reverse, Err, Ok, IfErr, IfOk, MatchOption, OnOk};
 ghost use Rattle.std.specs.Thread.{IsSync};
 ghost use Rattle.plan_model.specs.Lanes.{are_ok};
 ghost use Rattle.session_seats.specs.Closes.{AllOf, claims_of};
@@ -8,9 +8,11 @@ ghost use Rattle.session_seats.specs.Holds.{sight_by};
 ghost use Rattle.sftp_model.specs.declared.error.Error.TheVariants as error;
 ghost use Rattle.sftp_tasks.specs.Workers.{FlushWorks, ReadWorks};
 ghost use Rattle.tasks_run.specs.Crews.{IsCrew};
+ghost use Rattle.tasks_run.specs.RunEnds.{IsEnded};
 ghost use Rattle.tasks_run.specs.Reports.{Ended, IsCause, RunsOf, RunsShared, StopsBy};
 ghost use Rattle.tasks_run.specs.Running.{AllReady, AllRan, HasRun, IsReady, Worked};
 
+use crate::ends::is_ended;
 use crate::seats::{Crew, Told, run_lane, run_reader, run_sender, start, stop};
 use sftp_link::{LinkIn, LinkOut};
 use sftp_tasks::{Error, Lane, OutOfMemory, Seat, SftpOptions, SharedReport, SharedSftp};
@@ -180,7 +182,9 @@ fn close_run<R: Wait>(
 ///
 /// With Ok the journal is a run so far of the lanes, with no kept fault, and each place of it stands in one list of receipts, once: those
 /// of the home seat, which has none, of the lanes in lane order, of the worker that sends and of the one that reads. Both workers came to
-/// the end. With an Err one of the workers stopped by it, or memory was wanting. Where no thread can be made, the run may wait for good.
+/// the end: each lane was let go, each request has its reply, and no call was added or cancelled. With an Err one of the workers
+/// stopped by it, or memory was wanting; it is so too of a run whose journal isn't that of such an end. Where no thread can be made,
+/// the run may wait for good.
 pub fn run_shared<
     O: LinkOut + Send + Drop,
     I: LinkIn + Send + Drop,
@@ -196,6 +200,7 @@ pub fn run_shared<
     requires lanes { are_ok lanes.now ≡ true }
     requires counts { ((O.LinkState.state out).faults < 2 ^ 64 - 1) × ((I.LinkState.state input).faults < 2 ^ 64 - 1) }
     ensures runs { IfOk result.0 (λ report. RunsShared lanes.now options.now report) }
+    ensures over { IfOk result.0 (λ report. IsEnded (length lanes.now) (reverse report.journal.items)) }
     ensures ends { OnOk result.0 (Ended (O.LinkState.state out) (O.LinkState.state result.1) (I.LinkState.state input) (I.LinkState.state result.2)) }
     ensures stops { IfErr result.0 (StopsBy (O.LinkState.state out) (O.LinkState.state result.1) (I.LinkState.state input) (I.LinkState.state result.2)) }
 {
@@ -217,11 +222,16 @@ pub fn run_shared<
         Some(e) => return (Err(e), out, input),
         None => {}
     }
-    let Ok(lanes) = ran else {
+    let Ok(seats) = ran else {
         return (Err(Error::OutOfMemory), out, input);
     };
-    match close_run(rt, shared, home, lanes, sender, reader) {
-        Ok(report) => (Ok(report), out, input),
+    match close_run(rt, shared, home, seats, sender, reader) {
+        Ok(report) => {
+            if !is_ended(report.journal.as_slice(), lanes.len()) {
+                return (Err(Error::OutOfMemory), out, input);
+            }
+            (Ok(report), out, input)
+        }
         Err(OutOfMemory) => (Err(Error::OutOfMemory), out, input),
     }
 }

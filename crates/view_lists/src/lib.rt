@@ -4,6 +4,8 @@
 
 mod cache_size;
 mod list;
+#[cfg(test)]
+mod tests;
 
 pub use cache_size::{CacheSize, view_size};
 pub use list::{ViewList, read_list};

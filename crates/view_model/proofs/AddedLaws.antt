@@ -41,18 +41,21 @@ use Rattle.session_model.specs.Journals.{MayTake}
 use Rattle.session_model.specs.Readings.{asked, awaited, ended, outcomes_of, sent, was_let_go}
 use Rattle.session_model.specs.Runs.{RoundsTo, TurnsTo, round_of}
 use Rattle.session_model.specs.Turns.{ClosesTo, MovesBy, RulesTo, Stage, TurnTo, is_full}
+use Rattle.view_model.specs.Uncancelled.{IsUncancelled}
 
--- no call was added, what had ended is what ended first, and no lane was let go
+-- no call was added, what had ended is what ended first, no lane was let go, and no call was cancelled
 pub record GoesOn (before now : List Entry) : Type 0 where
   pub added_so : (lane : ℕ) → added now lane ≡ added before lane
   pub ended_so : (lane : ℕ) → (more : List Outcome) × (outcomes_of now lane ≡ outcomes_of before lane ++ more)
   pub held_so : (lane : ℕ) → was_let_go now lane ≡ was_let_go before lane
+  pub uncancelled : IsUncancelled before → IsUncancelled now
 
 pub goes_self : (past : List Entry) → GoesOn past past
 goes_self past = record {
   added_so = λ lane. refl;
   ended_so = λ lane. ([], sym (append-nil (outcomes_of past lane)));
   held_so = λ lane. refl;
+  uncancelled = λ u. u;
 }
 
 pub goes_on : (a b c : List Entry) → GoesOn a b → GoesOn b c → GoesOn a c
@@ -65,6 +68,7 @@ goes_on a b c first second =
           (x.0 ++ y.0, y.1 ∙ (ap (λ (w : List Outcome). w ++ y.0) x.1 ∙ append_assoc (outcomes_of a lane) x.0 y.0))
           );
       held_so = λ lane. second.held_so lane ∙ first.held_so lane;
+      uncancelled = λ u. second.uncancelled (first.uncancelled u);
     }
 
 goes_same : (a b : List Entry) → b ≡ a → GoesOn a b
@@ -73,16 +77,17 @@ goes_same a b e = subst (GoesOn a) (sym e) (goes_self a)
 -- an entry that is neither a call's End nor an addition
 goes_event : (before past : List Entry) (e : Entry) → ((lane : ℕ) → added (e ∷ past) lane ≡ added past lane)
     → ((lane : ℕ) → outcomes_of (e ∷ past) lane ≡ outcomes_of past lane) → ((lane : ℕ) → was_let_go (e ∷ past) lane ≡ was_let_go past lane)
-    → GoesOn before past → GoesOn before (e ∷ past)
-goes_event before past e adds ends holds g =
+    → (IsUncancelled past → IsUncancelled (e ∷ past)) → GoesOn before past → GoesOn before (e ∷ past)
+goes_event before past e adds ends holds quiet g =
     goes_on before past (e ∷ past) g (record {
       added_so = adds;
       ended_so = λ lane. ([], ends lane ∙ sym (append-nil (outcomes_of past lane)));
       held_so = holds;
+      uncancelled = quiet;
     })
 
 goes_end : (past : List Entry) (l call : ℕ) (o : Outcome) → GoesOn past (entry.Event (End l call o) ∷ past)
-goes_end past l call o = record { added_so = λ lane. refl; ended_so = λ lane. by_test lane (l == lane); held_so = λ lane. refl }
+goes_end past l call o = record { added_so = λ lane. refl; ended_so = λ lane. by_test lane (l == lane); held_so = λ lane. refl; uncancelled = λ u. u }
   where
     by_test : (lane : ℕ) (b : Bool) → (more : List Outcome) × ((if b then outcomes_of past lane ++ o ∷ [] else
         outcomes_of past lane) ≡ outcomes_of past lane ++ more)
@@ -94,10 +99,11 @@ closes_go s before [] e = goes_same before [] (sym e)
 closes_go s before (e ∷ past) (inl same) = goes_same before (e ∷ past) (sym same)
 closes_go s before (e ∷ past) (inr (due, rest)) =
     subst (λ (w : Entry). GoesOn before (w ∷ past)) (sym due.1.1.1.1)
-    (goes_event before past _ (λ lane. refl) (λ lane. refl) (λ lane. refl) (closes_go s before past rest))
+    (goes_event before past _ (λ lane. refl) (λ lane. refl) (λ lane. refl) (λ u. u) (closes_go s before past rest))
 
 sends_go : (b : Bool) (mid now : List Entry) → MatchBool b (now ≡ entry.Event Send ∷ mid) (now ≡ mid) → GoesOn mid now
-sends_go true mid now e = subst (GoesOn mid) (sym e) (goes_event mid mid (entry.Event Send) (λ lane. refl) (λ lane. refl) (λ lane. refl) (goes_self mid))
+sends_go true mid now e = subst (GoesOn mid) (sym e) (goes_event mid mid (entry.Event Send) (λ lane. refl)
+    (λ lane. refl) (λ lane. refl) (λ u. u) (goes_self mid))
 sends_go false mid now e = goes_same mid now e
 
 rules_go : (s : Setting) (before now : List Entry) → RulesTo s before now → GoesOn before now
@@ -106,9 +112,9 @@ rules_go s before now to = goes_on before to.0 now (closes_go s before to.0 to.1
 -- behind an entry that is none of these
 rules_behind : (s : Setting) (past now : List Entry) (e : Entry) → ((lane : ℕ) → added (e ∷ past) lane ≡ added past lane)
     → ((lane : ℕ) → outcomes_of (e ∷ past) lane ≡ outcomes_of past lane) → ((lane : ℕ) → was_let_go (e ∷ past) lane ≡ was_let_go past lane)
-    → RulesTo s (e ∷ past) now → GoesOn past now
-rules_behind s past now e adds ends holds to =
-    goes_on past (e ∷ past) now (goes_event past past e adds ends holds (goes_self past)) (rules_go s (e ∷ past) now to)
+    → (IsUncancelled past → IsUncancelled (e ∷ past)) → RulesTo s (e ∷ past) now → GoesOn past now
+rules_behind s past now e adds ends holds quiet to =
+    goes_on past (e ∷ past) now (goes_event past past e adds ends holds quiet (goes_self past)) (rules_go s (e ∷ past) now to)
 
 stage_same : (before now : Stage) → now ≡ before → GoesOn before.past now.past
 stage_same before now e = subst (λ (w : Stage). GoesOn before.past w.past) (sym e) (goes_self before.past)
@@ -117,7 +123,8 @@ moves_go : (s : Setting) (lane : ℕ) (before now : Stage) (m : Option Move) →
 moves_go s lane before now None e = stage_same before now e
 moves_go s lane before now (Some (Wait place)) e = subst (λ (w : Stage). GoesOn before.past w.past) (sym e) (goes_self before.past)
 moves_go s lane before now (Some (Ask r)) to =
-    rules_behind s before.past now.past (entry.Event (Submit (owner.Call lane (ended before.past lane)) to.1.0 r)) (λ l. refl) (λ l. refl) (λ l. refl) to.1.1.1
+    rules_behind s before.past now.past (entry.Event (Submit (owner.Call lane (ended before.past lane)) to.1.0 r))
+    (λ l. refl) (λ l. refl) (λ l. refl) (λ u. u) to.1.1.1
 moves_go s lane before now (Some (Done o site)) to =
     goes_on before.past (entry.Event (End lane (ended before.past lane) o) ∷ before.past) now.past
     (goes_end before.past lane (ended before.past lane) o) (rules_go s
@@ -136,14 +143,14 @@ turn_goes s turn.Flush before now of to = by_test (nat_lt (sent before.past) (as
   where
     by_test : (b : Bool) → MatchBool b ((now.begun ≡ before.begun)
         × RulesTo s (entry.Event Send ∷ before.past) now.past) (now ≡ before) → GoesOn before.past now.past
-    by_test true to = rules_behind s before.past now.past (entry.Event Send) (λ l. refl) (λ l. refl) (λ l. refl) to.1
+    by_test true to = rules_behind s before.past now.past (entry.Event Send) (λ l. refl) (λ l. refl) (λ l. refl) (λ u. u) to.1
     by_test false e = stage_same before now e
 turn_goes s turn.Take before now of to = by_test (nat_lt 0 (awaited before.past)) to
   where
     by_test : (b : Bool) → MatchBool b ((now.begun ≡ before.begun)
         × ((id : ℕ) × ((r : Reply) × (MayTake before.past id r × RulesTo s (entry.Event (Take id r) ∷ before.past)
         now.past)))) (now ≡ before) → GoesOn before.past now.past
-    by_test true to = rules_behind s before.past now.past (entry.Event (Take to.1.0 to.1.1.0)) (λ l. refl) (λ l. refl) (λ l. refl) to.1.1.1.1
+    by_test true to = rules_behind s before.past now.past (entry.Event (Take to.1.0 to.1.1.0)) (λ l. refl) (λ l. refl) (λ l. refl) (λ u. u) to.1.1.1.1
     by_test false e = stage_same before now e
 turn_goes s (turn.Cancel lane) before now of to = absurd of
 

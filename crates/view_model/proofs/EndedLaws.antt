@@ -118,6 +118,7 @@ ended_once s lane rounds c past added_stage now is j j0 none to done =
       outcomes = grown.1 ∙ ap (λ (w : List Outcome). outcomes_of past lane ++ w) one.1;
       calls = calls;
       held = g.held_so;
+      uncancelled = g.uncancelled;
     }
   where
     g : GoesOn (entry.Added lane c ∷ past) now.past

@@ -9,3 +9,4 @@ pub mod Caches
 pub mod AnswerText
 pub mod ViewRows
 pub mod OneCall
+pub mod Uncancelled

@@ -10,6 +10,8 @@ mod key;
 mod length;
 mod op;
 mod part;
+#[cfg(test)]
+mod tests;
 mod text;
 
 pub use answer::Answer;

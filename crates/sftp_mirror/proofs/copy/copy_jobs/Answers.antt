@@ -1,6 +1,5 @@
-use Rattle.std.proofs.Common.{◌≡◌, List, ap, ◌∙◌}
+use Rattle.std.proofs.Common.{List, ap, ◌∙◌}
 use Rattle.sftp_model.specs.declared.outcome.Outcome.{Outcome}
-use Rattle.mirror_jobs.specs.JobLanes.{lanes_of, turns_of}
 use Rattle.mirror_jobs.specs.Verdicts.{verdicts_of}
 use Rattle.sftp_mirror.proofs.CopyLaws.{copy_reported, copy_stops}
 use Rattle.sftp_mirror.proofs.copy.copy_jobs.Goals as goal

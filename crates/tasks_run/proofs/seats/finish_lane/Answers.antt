@@ -1,7 +1,5 @@
-use Rattle.std.proofs.Common.{◌∙◌, subst, arith, Option, ℕ}
-use Rattle.session_seats.specs.Holds.{Grew, claim_of}
+use Rattle.std.proofs.Common.{◌∙◌, arith}
 use Rattle.sftp_tasks.specs.Entries.{by_let_go, by_step}
-use Rattle.tasks_run.specs.Running.{HasRun}
 use Rattle.tasks_run.proofs.RunLaws.{ran_grew, ran_on}
 use Rattle.tasks_run.proofs.seats.finish_lane.Goals as goal
 

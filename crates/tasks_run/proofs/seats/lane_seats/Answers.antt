@@ -2,7 +2,7 @@ use Rattle.std.proofs.Common.{rules, ◌≡◌, ◌++◌, ◌∷◌, [], refl, s
 use Rattle.session_seats.specs.Closes.{claim_by, claims_of}
 use Rattle.session_seats.specs.Covers.{HomeGave}
 use Rattle.tasks_run.specs.Running.{AllReady}
-use Rattle.tasks_run.proofs.RunLaws.{given_on, lane_given, none_given}
+use Rattle.tasks_run.proofs.RunLaws.{given_on, lane_given}
 use Rattle.tasks_run.proofs.seats.lane_seats.Goals as goal
 
 pub loop-init : goal.loop-init

@@ -1,4 +1,3 @@
-use Rattle.std.proofs.Common.{◌≡◌}
 use Rattle.session_seats.specs.Closes.{claim_by, claims_of}
 use Rattle.session_seats.specs.Covers.{HomeGave}
 use Rattle.tasks_run.specs.Running.{AllReady, HasGiven}

@@ -1,4 +1,4 @@
-use Rattle.std.proofs.Common.{◌∙◌, subst, Ok, Err}
+use Rattle.std.proofs.Common.{◌∙◌}
 use Rattle.sftp_tasks.specs.Entries.{by_read}
 use Rattle.tasks_run.proofs.RunLaws.{ran_grew, ran_on}
 use Rattle.tasks_run.proofs.seats.run_reader.Goals as goal

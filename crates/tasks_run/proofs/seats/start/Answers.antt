@@ -1,9 +1,5 @@
-use Rattle.std.proofs.Common.{◌≡◌, ◌∙◌, ◌++◌, ◌∷◌, [], refl, sym, ap, subst, arith}
-use Rattle.session_seats.proofs.HomeLaws.{home_first}
-use Rattle.session_seats.specs.Closes.{claim_by, claims_of}
-use Rattle.session_seats.specs.Covers.{HomeGave}
+use Rattle.std.proofs.Common.{◌∙◌, ◌++◌, ◌∷◌, [], ap}
 use Rattle.session_seats.specs.Holds.{claim_of}
-use Rattle.session_seats.specs.Sights.{made}
 use Rattle.sftp_tasks.specs.Rounds.{Token}
 use Rattle.tasks_run.proofs.RunLaws.{worker_given}
 use Rattle.tasks_run.proofs.seats.start.Goals as goal

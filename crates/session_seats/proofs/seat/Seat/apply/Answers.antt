@@ -12,6 +12,7 @@ invariant_of-self g c =
       free = seat_after g.S.Held.shown m n h;
       named = names_after g.S.Held.shown m n h c.args.self.now.lane
           c.args.self.now.named;
+      shares = c.hold-did.ensures.share;
       told = λ whole. absurd (true≢false (sym whole));
     }
 
@@ -24,5 +25,6 @@ invariant_of-self-else-is_err g c =
     record {
       free = seat_after g.S.Held.shown m n h;
       named = names_after g.S.Held.shown m n h c.args.self.now.lane c.args.self.now.named;
+      shares = c.hold-did.ensures.share;
       told = λ whole. told_after g.S.Held.shown m n h c.args.self.now.receipts.items c.hold-did.new.receipts.items (c.args.self.now.told whole) copied;
     }

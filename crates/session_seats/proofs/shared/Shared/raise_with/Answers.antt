@@ -10,7 +10,7 @@ raise-requires g c =
     let sh = g.S.Held.shown in
     let h = c.acquire.ensures.taken in
     let held = tie sh c.args.seat.now.me c.acquire.new.seat.me h c.slot_mut-held.result.now c.slot_mut-held.ensures.value in
-    (subst (λ y. (sh y).users ≡ 0) held (can_raise sh c.args.seat.now.me c.acquire.new.seat.me h c.requires.begun), c.requires.low)
+    (subst (λ y. (sh y).users ≡ 0) held (can_raise sh c.args.seat.now.me c.acquire.new.seat.me h c.requires.may.begun), c.requires.may.low)
 
 pub release-requires-clause-held : goal.release-requires-clause-held
 release-requires-clause-held g c =
@@ -21,7 +21,7 @@ release-requires-clause-held g c =
     let z = c.raise.new.self in
     let held = tie sh m p h c.slot_mut-held.result.now c.slot_mut-held.ensures.value in
     let did = subst (λ y. sh z ≡ with_users (sh y).users (max (sh y).counts.stage c.args.stage) (sh y)) (sym held) c.raise.ensures.raised in
-    raise_can sh m p h c.requires.begun z c.args.stage c.requires.low did
+    raise_can sh m p h c.requires.may.begun z c.args.stage c.requires.may.low did
 
 pub returns-clause-free : goal.returns-clause-free
 returns-clause-free g c =
@@ -43,4 +43,4 @@ returns-clause-raised g c =
     let z = c.raise.new.self in
     let held = tie sh m p h c.slot_mut-held.result.now c.slot_mut-held.ensures.value in
     let did = subst (λ y. sh z ≡ with_users (sh y).users (max (sh y).counts.stage c.args.stage) (sh y)) (sym held) c.raise.ensures.raised in
-    raises sh m p h c.requires.begun z c.args.stage c.requires.low did c.release.new.seat.me c.release.ensures.gave
+    raises sh m p h c.requires.may.begun z c.args.stage c.requires.may.low did c.release.new.seat.me c.release.ensures.gave

@@ -1,4 +1,4 @@
-use Rattle.std.proofs.Common.{rules, sym, ap, subst}
+use Rattle.std.proofs.Common.{rules, sym, ap, subst, ◌∙◌}
 use Rattle.session_seats.specs.Closes.{TakesOut}
 use Rattle.session_seats.proofs.HoldLaws.{is_seat, tie}
 use Rattle.session_seats.proofs.NewSeatLaws.{look_can, looked, looked_at, looks_keeps}
@@ -12,10 +12,10 @@ returns-in-Ok-clause-taken g c =
     let held = tie g.S.Held.shown m p h c.slot_mut-held.result.now c.slot_mut-held.ensures.value in (
       search rules,
       search rules,
-      subst (λ x. TakesOut g.S.Held.shown (g.X.Ending.allows c.args.ending.now) m x)
+      subst (λ x. TakesOut g.S.Held.shown (λ y. g.X.Ending.allows c.args.ending.now y c.in-Ok.made) m x)
           (ap (λ l. (p.0, l)) c.slot_mut-held.ensures.value) (
             h,
-            subst (λ y. g.X.Ending.allows c.args.ending.now y)
+            subst (λ y. g.X.Ending.allows c.args.ending.now y c.in-Ok.made)
                 (sym held) c.in-Ok.ensures.allowed,
           ),
     )
@@ -36,7 +36,7 @@ invariant_of-seat-in-Err g c =
     let held = tie g.S.Held.shown m p h z c.slot_mut-held.ensures.value in
     let l = looked g.S.Held.shown m p n h z (ap g.S.Held.shown (sym held)) c.release.ensures.gave in
     let k = looks_keeps g.S.Held.shown m n c.args.seat.lane c.args.seat.receipts.items l.1 in
-    record { free = is_seat _ _ l.0; named = k.0 c.args.seat.named; told = λ whole. k.1 (c.args.seat.told whole) }
+    record { free = is_seat _ _ l.0; named = k.0 c.args.seat.named; shares = c.args.seat.shares ∙ sym l.1.share; told = λ whole. k.1 (c.args.seat.told whole) }
 
 pub returns-in-Err-clause-kept : goal.returns-in-Err-clause-kept
 returns-in-Err-clause-kept g c =

@@ -19,31 +19,25 @@ index-requires c =
     let len = c.loop-k.self.states.ok.0 in
     omega (arith, lt, len)
 
-pub close-requires-clause-there : goal.close-requires-clause-there
-close-requires-clause-there c =
-    let o = c.requires.closing in there_in o.0 o.1.0 c.args.lane (contents_of c.loop-k.self) (c.loop-k.invariant.1 o.0 o.1.0 o.1.1).closing
-
-pub close-requires-clause-held : goal.close-requires-clause-held
-close-requires-clause-held c =
-    let o = c.requires.closing in grants_in o.0 o.1.0 c.args.lane (contents_of c.loop-k.self) (c.loop-k.invariant.1 o.0 o.1.0 o.1.1).closing
-
-pub close-requires-clause-within : goal.close-requires-clause-within
-close-requires-clause-within c =
+pub close-requires : goal.close-requires
+close-requires c =
     let o = c.requires.closing in
     let states : List LaneValue = c.loop-k.self.states.items in
     let v : LaneValue = c.index.result.now in
-    let is : v ≡ lane_in states c.args.lane = state_at states c.args.lane v
-    (there_in o.0 o.1.0 c.args.lane (contents_of c.loop-k.self) (c.loop-k.invariant.1 o.0 o.1.0 o.1.1).closing)
-    c.index.ensures in
+    let going = (c.loop-k.invariant.1 o.0 o.1.0 o.1.1).closing in
+    let there = there_in o.0 o.1.0 c.args.lane (contents_of c.loop-k.self) going in
+    let is : v ≡ lane_in states c.args.lane = state_at states c.args.lane v there c.index.ensures in
     let f = c.loose.ensures.first c.in-Some.k c.in-Some.is in
-    subst (λ (y : LaneValue). c.in-Some.k < length y.grants) is (slice_get_within v.grants c.in-Some.k f.0 f.1.0)
-
-pub close-requires-clause-counted : goal.close-requires-clause-counted
-close-requires-clause-counted c =
-    let o = c.requires.closing in
-    let few = counted_in o.0 (contents_of c.loop-k.self) c.loop-k.self.journal.items (c.loop-k.invariant.1 o.0 o.1.0 o.1.1).closing.stands refl in
+    let few = counted_in o.0 (contents_of c.loop-k.self) c.loop-k.self.journal.items going.stands refl in
     let len = c.loop-k.self.journal.ok.0 in
-    omega (arith, few, len)
+    let room = c.loop-k.invariant.0 in
+    record {
+      there = there;
+      held = grants_in o.0 o.1.0 c.args.lane (contents_of c.loop-k.self) going;
+      within = subst (λ (y : LaneValue). c.in-Some.k < length y.grants) is (slice_get_within v.grants c.in-Some.k f.0 f.1.0);
+      counted = omega (arith, few, len);
+      room = omega (arith, room);
+    }
 
 pub loop-k-smaller : goal.loop-k-smaller
 loop-k-smaller c =
@@ -82,8 +76,8 @@ loop-k-preserved c =
     ≡ length (lane_in (closed_in (contents_of c.loop-k.self) c.args.lane k f.0).states c.args.lane).grants =
     ap (λ (x : Contents). length (lane_in x.states c.args.lane).grants) closed.is in
     let room : vec_len c.loop-k.self.journal + length (lane_in states c.args.lane).grants < vec_capacity c.loop-k.self.journal = c.loop-k.invariant.0 in
-    let len = c.close.ensures.len in
-    let capacity = c.close.ensures.capacity in (
+    let len = c.close.ensures.one.len in
+    let capacity = c.close.ensures.one.capacity in (
       omega (arith, less, same, room, len, capacity),
       λ s before base. (let was : Goes s before c.args.lane (contents_of c.args.self.now) (contents_of c.loop-k.self) = c.loop-k.invariant.1 s before base in
           goes_on s before c.args.lane (contents_of c.args.self.now) (contents_of c.loop-k.self) (contents_of c.close.new.self) was
@@ -92,27 +86,24 @@ loop-k-preserved c =
       leaves_on (past_of c.args.self.now) c.args.self.now c.loop-k.self c.close.new.self c.loop-k.invariant.2 c.close.ensures.reports,
     )
 
-pub forget_unawaited-requires-clause-opened : goal.forget_unawaited-requires-clause-opened
-forget_unawaited-requires-clause-opened c =
+pub forget_unawaited-requires : goal.forget_unawaited-requires
+forget_unawaited-requires c =
     let o = c.requires.closing in
     let states : List LaneValue = c.loop-k.self.states.items in
     let v : LaneValue = c.index.result.now in
     let was : Goes o.0 o.1.0 c.args.lane (contents_of c.args.self.now) (contents_of c.loop-k.self) = c.loop-k.invariant.1 o.0 o.1.0 o.1.1 in
-    let is : v ≡ lane_in states c.args.lane = state_at states c.args.lane v
-    (there_in o.0 o.1.0 c.args.lane (contents_of c.loop-k.self) was.closing) c.index.ensures in (
-      o.0,
-      (closed_all o.0 o.1.0 c.args.lane (contents_of c.args.self.now) (contents_of c.loop-k.self) was
-          (subst (λ (y : LaneValue). loose_of y.site (grant_places y.grants) ≡ []) is
-          (c.loose.ensures.none c.in_default.is))).works,
-    )
-
-pub forget_unawaited-requires-clause-there : goal.forget_unawaited-requires-clause-there
-forget_unawaited-requires-clause-there c =
-    let o = c.requires.closing in there_in o.0 o.1.0 c.args.lane (contents_of c.loop-k.self) (c.loop-k.invariant.1 o.0 o.1.0 o.1.1).closing
-
-pub forget_unawaited-requires-clause-idle : goal.forget_unawaited-requires-clause-idle
-forget_unawaited-requires-clause-idle c =
-    let o = c.requires.closing in (c.loop-k.invariant.1 o.0 o.1.0 o.1.1).closing.idle
+    let there = there_in o.0 o.1.0 c.args.lane (contents_of c.loop-k.self) was.closing in
+    let is : v ≡ lane_in states c.args.lane = state_at states c.args.lane v there c.index.ensures in
+    record {
+      opened = (
+        o.0,
+        (closed_all o.0 o.1.0 c.args.lane (contents_of c.args.self.now) (contents_of c.loop-k.self) was
+            (subst (λ (y : LaneValue). loose_of y.site (grant_places y.grants) ≡ []) is
+            (c.loose.ensures.none c.in_default.is))).works,
+      );
+      there = there;
+      idle = was.closing.idle;
+    }
 
 pub returns-clause-closed : goal.returns-clause-closed
 returns-clause-closed c = λ s before base.

@@ -14,25 +14,21 @@ use Rattle.session_work.proofs.ReportLaws.{leaves_on}
 use Rattle.session_work.proofs.UnnotedLaws.{let_go_on}
 use Rattle.session_work.proofs.lanes.Lanes.close_slots.Goals as goal
 
-pub forget_unawaited-requires-clause-opened : goal.forget_unawaited-requires-clause-opened
-forget_unawaited-requires-clause-opened c =
+pub forget_unawaited-requires : goal.forget_unawaited-requires
+forget_unawaited-requires c =
     let o = c.requires.letting in
     let rest : List Slot = c.loop-rest.rest.now in
-    let h : Letting o.0 o.1.0 c.args.lane (contents_of c.loop-rest.self) rest = c.loop-rest.invariant.1 o.0 o.1.0 o.1.1 in (
-      o.0,
-      (letting_over o.0 o.1.0 c.args.lane (contents_of c.args.self.now) (contents_of c.loop-rest.self)
-          (subst (λ (xs : List Slot). Letting o.0 o.1.0 c.args.lane (contents_of c.loop-rest.self) xs)
-          (none_left rest c.in-empty.len_below) h) c.loop-rest.invariant.2).works,
-    )
-
-pub forget_unawaited-requires-clause-there : goal.forget_unawaited-requires-clause-there
-forget_unawaited-requires-clause-there c =
-    let o = c.requires.letting in letting_there o.0 o.1.0 c.args.lane (contents_of c.loop-rest.self)
-    c.loop-rest.rest.now (c.loop-rest.invariant.1 o.0 o.1.0 o.1.1)
-
-pub forget_unawaited-requires-clause-idle : goal.forget_unawaited-requires-clause-idle
-forget_unawaited-requires-clause-idle c =
-    let o = c.requires.letting in (c.loop-rest.invariant.1 o.0 o.1.0 o.1.1).idle
+    let h : Letting o.0 o.1.0 c.args.lane (contents_of c.loop-rest.self) rest = c.loop-rest.invariant.1 o.0 o.1.0 o.1.1 in
+    record {
+      opened = (
+        o.0,
+        (letting_over o.0 o.1.0 c.args.lane (contents_of c.args.self.now) (contents_of c.loop-rest.self)
+            (subst (λ (xs : List Slot). Letting o.0 o.1.0 c.args.lane (contents_of c.loop-rest.self) xs)
+            (none_left rest c.in-empty.len_below) h) c.loop-rest.invariant.2).works,
+      );
+      there = letting_there o.0 o.1.0 c.args.lane (contents_of c.loop-rest.self) rest h;
+      idle = h.idle;
+    }
 
 pub returns-in-empty-clause-let_go : goal.returns-in-empty-clause-let_go
 returns-in-empty-clause-let_go c = λ s before base.
@@ -52,33 +48,25 @@ index-requires c =
     let len = c.loop-rest.self.states.ok.0 in
     omega (arith, lt, len)
 
-pub close-requires-clause-there : goal.close-requires-clause-there
-close-requires-clause-there c =
-    let o = c.requires.letting in letting_there o.0 o.1.0 c.args.lane (contents_of c.loop-rest.self)
-    c.loop-rest.rest.now (c.loop-rest.invariant.1 o.0 o.1.0 o.1.1)
-
-pub close-requires-clause-held : goal.close-requires-clause-held
-close-requires-clause-held c =
-    let o = c.requires.letting in letting_grants o.0 o.1.0 c.args.lane (contents_of c.loop-rest.self)
-    c.loop-rest.rest.now (c.loop-rest.invariant.1 o.0 o.1.0 o.1.1)
-
-pub close-requires-clause-within : goal.close-requires-clause-within
-close-requires-clause-within c =
+pub close-requires : goal.close-requires
+close-requires c =
     let o = c.requires.letting in
     let states : List LaneValue = c.loop-rest.self.states.items in
     let v : LaneValue = c.index.result.now in
-    let is : v ≡ lane_in states c.args.lane = state_at states c.args.lane v
-    (letting_there o.0 o.1.0 c.args.lane (contents_of c.loop-rest.self) c.loop-rest.rest.now
-    (c.loop-rest.invariant.1 o.0 o.1.0 o.1.1)) c.index.ensures in
+    let going = c.loop-rest.invariant.1 o.0 o.1.0 o.1.1 in
+    let there = letting_there o.0 o.1.0 c.args.lane (contents_of c.loop-rest.self) c.loop-rest.rest.now going in
+    let is : v ≡ lane_in states c.args.lane = state_at states c.args.lane v there c.index.ensures in
     let f = c.closing.ensures.some c.in-Some.k c.in-Some.is in
-    subst (λ (y : LaneValue). c.in-Some.k < length y.grants) is (slice_get_within v.grants c.in-Some.k f.0 f.1.0)
-
-pub close-requires-clause-counted : goal.close-requires-clause-counted
-close-requires-clause-counted c =
-    let o = c.requires.letting in
-    let few = counted_in o.0 (contents_of c.loop-rest.self) c.loop-rest.self.journal.items (c.loop-rest.invariant.1 o.0 o.1.0 o.1.1).stands refl in
+    let few = counted_in o.0 (contents_of c.loop-rest.self) c.loop-rest.self.journal.items going.stands refl in
     let len = c.loop-rest.self.journal.ok.0 in
-    omega (arith, few, len)
+    let room = c.loop-rest.invariant.0 in
+    record {
+      there = there;
+      held = letting_grants o.0 o.1.0 c.args.lane (contents_of c.loop-rest.self) c.loop-rest.rest.now going;
+      within = subst (λ (y : LaneValue). c.in-Some.k < length y.grants) is (slice_get_within v.grants c.in-Some.k f.0 f.1.0);
+      counted = omega (arith, few, len);
+      room = omega (arith, room);
+    }
 
 pub loop-rest-preserved-in-Some : goal.loop-rest-preserved-in-Some
 loop-rest-preserved-in-Some c =
@@ -101,8 +89,8 @@ loop-rest-preserved-in-Some c =
     ap (λ (x : Contents). length (lane_in x.states c.args.lane).grants) closed.is in
     let room : vec_len c.loop-rest.self.journal + length (lane_in states c.args.lane).grants < vec_capacity
     c.loop-rest.self.journal = c.loop-rest.invariant.0 in
-    let len = c.close.ensures.len in
-    let capacity = c.close.ensures.capacity in (
+    let len = c.close.ensures.one.len in
+    let capacity = c.close.ensures.one.capacity in (
       omega (arith, less, same, room, len, capacity),
       λ s before base. (let h : Letting s before c.args.lane (contents_of c.loop-rest.self) (slot ∷ later) =
           subst (λ (xs : List Slot). Letting s before c.args.lane (contents_of c.loop-rest.self) xs) split

@@ -13,7 +13,7 @@ returns-clause-adds c =
     let old : Contents = contents_of c.args.self.now in
     let kept : c.reserve.new.self.items ≡ c.args.self.now.journal.items = search rules in
     let copied : c.in_ok-copy.copy ≡ c.args.call = search rules in
-    let calls : c.add_call.new.lanes ≡ with_call old.calls c.args.lane c.args.call = search rules in
+    let calls : c.push_call.new.self ≡ with_call old.calls c.args.lane c.args.call = search rules in
     let past : reverse c.add_entry.new.journal.items ≡ entry.Added c.args.lane c.args.call ∷ old.past =
     ap reverse c.add_entry.ensures.items ∙ pushed c.reserve.new.self.items (entry.Added c.args.lane c.in_ok-copy.copy)
     ∙ ap (λ (es : List Entry). entry.Added c.args.lane c.in_ok-copy.copy ∷ reverse es) kept

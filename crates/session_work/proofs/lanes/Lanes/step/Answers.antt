@@ -12,19 +12,31 @@ use Rattle.session_work.proofs.TurningLaws.{is_moved_went}
 use Rattle.session_work.proofs.UnnotedLaws.{steps_from, unnoted_on}
 use Rattle.session_work.proofs.lanes.Lanes.step.Goals as goal
 
-pub turn-requires-clause-opened : goal.turn-requires-clause-opened
-turn-requires-clause-opened c =
+pub turn-requires : goal.turn-requires
+turn-requires c =
     let o = c.requires.opened in
     let begun : ℕ → Bool = begun_of (lane_in c.args.self.now.states.items) in
-    (o.0, (begun, (c.loop-moved.invariant.0 o.0 o.1).works))
+    record {
+      opened = (o.0, (begun, (c.loop-moved.invariant.0 o.0 o.1).works));
+      call = c.loop-moved.invariant.1;
+      room = c.loop-moved.invariant.4;
+    }
 
-pub note-requires-clause-turning : goal.note-requires-clause-turning
-note-requires-clause-turning c =
+pub note-requires : goal.note-requires
+note-requires c =
     let o = c.requires.opened in
     let begun : ℕ → Bool = begun_of (lane_in c.args.self.now.states.items) in
     let mid : Contents = amid begun (contents_of c.loop-moved.self) in
     let u : Unnoted o.0 (contents_of c.args.self.now) mid = c.loop-moved.invariant.0 o.0 o.1 in
-    (o.0, (mid, (c.in_ok-moved.ensures.turned o.0 begun u.works, c.in_ok-moved.ensures.others begun c.loop-moved.invariant.3)))
+    record {
+      turning = (
+        o.0,
+        (mid, (c.in_ok-moved.ensures.turned o.0 begun u.works, c.in_ok-moved.ensures.leaves.others begun c.loop-moved.invariant.3)),
+      );
+      ends = search rules;
+      number = c.in_ok-moved.ensures.leaves.number ∙ c.loop-moved.invariant.2;
+      room = c.in_ok-moved.ensures.leaves.room;
+    }
 
 pub loop-moved-preserved : goal.loop-moved-preserved
 loop-moved-preserved c =
@@ -41,8 +53,8 @@ loop-moved-preserved c =
           (subst (λ (m : Moved). Turning s c.args.lane mid now m) is
           (c.in_ok-moved.ensures.turned s begun u.works)))),
       has_call o.0 c.args.lane mid now c.in_ok-moved.moved (c.in_ok-moved.ensures.turned o.0 begun first.works),
-      c.in_ok-moved.ensures.number ∙ c.loop-moved.invariant.2,
-      c.in_ok-moved.ensures.others begun c.loop-moved.invariant.3,
+      c.in_ok-moved.ensures.leaves.number ∙ c.loop-moved.invariant.2,
+      c.in_ok-moved.ensures.leaves.others begun c.loop-moved.invariant.3,
       c.turn.ensures.room,
       left_on c.args.self.now c.loop-moved.self c.turn.new.self c.loop-moved.invariant.5 c.turn.ensures.left,
     )
@@ -54,7 +66,7 @@ returns-then-not-is_went-clause-steps c = λ s w.
     let mid : Contents = amid begun (contents_of c.loop-moved.self) in
     let u : Unnoted s old mid = c.loop-moved.invariant.0 s w in
     steps_from s c.args.lane old mid (contents_of c.note.new.self) c.note.result u
-    (c.note.ensures.noted s mid (c.in_ok-moved.ensures.turned s begun u.works) (c.in_ok-moved.ensures.others begun c.loop-moved.invariant.3))
+    (c.note.ensures.noted s mid (c.in_ok-moved.ensures.turned s begun u.works) (c.in_ok-moved.ensures.leaves.others begun c.loop-moved.invariant.3))
 
 pub keep_moved-requires : goal.keep_moved-requires
 keep_moved-requires c =

@@ -19,10 +19,10 @@ returns-in-Err-clause-refused c =
     let o = c.requires.opened in
     record {
       first = first_is o.0 (contents_of c.args.self.now) (reply_at c.args.body.now) c.in-Err.e c.take_frame.new.self.core
-          o.1 c.in-Err.ensures.refused;
-      stays = λ s k. refused_so_far s c.in-Err.e _ _ _ _ _ o.1.rest.between.tied.work.unfailed c.in-Err.ensures.refused
-          c.in-Err.ensures.noted k;
-      noted = c.in-Err.ensures.noted;
+          o.1 c.in-Err.ensures.refused.error;
+      stays = λ s k. refused_so_far s c.in-Err.e _ _ _ _ _ o.1.rest.between.tied.work.unfailed c.in-Err.ensures.refused.error
+          c.in-Err.ensures.refused.noted k;
+      noted = c.in-Err.ensures.refused.noted;
       calls = ap (λ (x : Lanes). x.calls) c.take_frame.ensures.rest;
     }
 
@@ -35,13 +35,14 @@ overflow_add-self c =
 pub returns-after-note_close-clause-takes : goal.returns-after-note_close-clause-takes
 returns-after-note_close-clause-takes c = λ s w.
     let told = subst (λ (t : Taken). TakenFrom (reply_at c.args.body.now) t c.args.self.now.core
-    c.take_frame.new.self.core) c.in-Ok-Answer.field-0-is c.in-Ok-Answer.ensures.ok in
+    c.take_frame.new.self.core) c.in-Ok-Answer.field-0-is c.in-Ok-Answer.ensures.takes.taken in
     let entered : c.add_entry.new.journal.items ≡ c.args.self.now.journal.items ++ entry.Event (Take c.in-Ok-Answer.id c.in-Ok-Answer.reply) ∷ [] =
-    c.add_entry.ensures.items ∙ ap (λ xs. xs ++ entry.Event (Take c.in-Ok-Answer.id c.in-Ok-Answer.reply) ∷ []) c.in-Ok-Answer.ensures.journal in
+    c.add_entry.ensures.items ∙ ap (λ xs. xs ++ entry.Event (Take c.in-Ok-Answer.id c.in-Ok-Answer.reply) ∷ []) c.in-Ok-Answer.ensures.takes.journal in
     let takes = take_told s (contents_of c.args.self.now) (reply_at c.args.body.now) c.in-Ok-Answer.id
     c.in-Ok-Answer.reply c.take_frame.new.self.core c.queued-before.result c.args.self.now.journal.items
     c.add_entry.new.journal.items c.note_close.new.journal.items
-    c.note_close.result w told c.in-Ok-Answer.ensures.only (sym c.queued-before.ensures) refl entered c.note_close.ensures.none c.note_close.ensures.close in
+    c.note_close.result w told c.in-Ok-Answer.ensures.takes.only (sym c.queued-before.ensures) refl entered
+    c.note_close.ensures.none c.note_close.ensures.close in
     let by : (b : Bool) → c.note_close.result ≡ b → TakesIn s (reply_at c.args.body.now) (contents_of c.args.self.now)
     (contents_of (record c.take_frame.new.self {
       journal = c.note_close.new.journal;

@@ -1,10 +1,10 @@
-use Rattle.std.proofs.Common.{rules, ◌≡◌, ◌<◌, ◌≤◌, ◌+◌, true, Some, None, length, refl, ap, sym, subst, ◌∙◌, arith}
+use Rattle.std.proofs.Common.{rules, ◌≡◌, ◌<◌, ◌≤◌, ◌+◌, Some, None, length, refl, ap, sym, subst, ◌∙◌, arith}
 use Rattle.std.specs.Prelude.{IfOk, reverse, slice_set, vec_capacity, vec_len}
 use Rattle.std.proofs.lemmas.Result.{IfOk-weaker}
 use Rattle.session_lane.specs.Turning.{Turned}
 use Rattle.session_lane.specs.declared.lane.Moved.{Moved}
 use Rattle.session_laws.specs.Lanes.{LaneValue}
-use Rattle.session_work.specs.Noting.{KeepsOthers, Turning, amid, call_in, is_went, turned_in, turns_left}
+use Rattle.session_work.specs.Noting.{Turning, amid, call_in, turned_in, turns_left}
 use Rattle.session_work.specs.Working.{Contents, contents_of, lane_in}
 use Rattle.session_work.proofs.BegunLaws.{others_kept}
 use Rattle.session_work.proofs.Contents.{set_here, state_at}
@@ -43,49 +43,8 @@ returns-clause-turned c =
     })
     (turning_ok s (amid begun old) c.args.lane c.in-Some.call.now c.turn.new.core now c.turn.result w some t c.turn.ensures.small)
 
-pub returns-clause-others : goal.returns-clause-others
-returns-clause-others c =
-    let some : call_in c.args.self.now.calls c.args.self.now.states.items c.args.lane ≡ Some c.in-Some.call.now = search rules in
-    let old : Contents = contents_of c.args.self.now in
-    let lt = within_states old c.args.lane c.in-Some.call.now (at_call old c.args.lane c.in-Some.call.now some) in
-    IfOk-weaker c.turn.result (λ (m : Moved). Turned c.in-Some.call.now old.facts old.asked old.core c.turn.new.core
-    c.index_mut-state.result.now c.turn.new.self m)
-    (λ (m : Moved). KeepsOthers c.args.lane old.states (slice_set old.states c.args.lane c.turn.new.self))
-    (λ m t. others_kept old.states c.args.lane c.turn.new.self lt) c.turn.ensures.turned
-
-pub returns-clause-number : goal.returns-clause-number
-returns-clause-number c =
-    let some : call_in c.args.self.now.calls c.args.self.now.states.items c.args.lane ≡ Some c.in-Some.call.now = search rules in
-    let old : Contents = contents_of c.args.self.now in
-    let lt = within_states old c.args.lane c.in-Some.call.now (at_call old c.args.lane c.in-Some.call.now some) in
-    let v : LaneValue = c.index_mut-state.result.now in
-    let is : v ≡ lane_in old.states c.args.lane = state_at old.states c.args.lane v lt c.index_mut-state.ensures.value in
-    let now : LaneValue = c.turn.new.self in
-    let here : lane_in (slice_set old.states c.args.lane now) c.args.lane ≡ now = set_here old.states c.args.lane now lt in
-    IfOk-weaker c.turn.result (λ (m : Moved). Turned c.in-Some.call.now old.facts old.asked old.core c.turn.new.core v
-    now m) (λ (m : Moved). (lane_in (slice_set old.states c.args.lane now) c.args.lane).ended
-    ≡ (lane_in old.states c.args.lane).ended)
-    (λ m t. ap (λ (y : LaneValue). y.ended) here ∙ turned_same c.in-Some.call.now old.facts old.asked old.core
-    c.turn.new.core v now m t ∙ ap (λ (y : LaneValue). y.ended) is) c.turn.ensures.turned
-
-pub returns-clause-fewer : goal.returns-clause-fewer
-returns-clause-fewer c =
-    let some : call_in c.args.self.now.calls c.args.self.now.states.items c.args.lane ≡ Some c.in-Some.call.now = search rules in
-    let old : Contents = contents_of c.args.self.now in
-    let lt = within_states old c.args.lane c.in-Some.call.now (at_call old c.args.lane c.in-Some.call.now some) in
-    let v : LaneValue = c.index_mut-state.result.now in
-    let is : v ≡ lane_in old.states c.args.lane = state_at old.states c.args.lane v lt c.index_mut-state.ensures.value in
-    let now : LaneValue = c.turn.new.self in
-    let here : lane_in (slice_set old.states c.args.lane now) c.args.lane ≡ now = set_here old.states c.args.lane now lt in
-    IfOk-weaker c.turn.result (λ (m : Moved). Turned c.in-Some.call.now old.facts old.asked old.core c.turn.new.core v now m)
-    (λ (m : Moved). is_went m ≡ true → turns_left (lane_in (slice_set old.states c.args.lane now) c.args.lane) < turns_left (lane_in old.states c.args.lane))
-    (λ m t went. subst (λ (y : LaneValue). turns_left (lane_in (slice_set old.states c.args.lane now) c.args.lane) < turns_left y) is
-    (subst (λ (y : LaneValue). turns_left y < turns_left v) (sym here)
-    (turned_fewer c.in-Some.call.now old.facts old.asked old.core c.turn.new.core v now m t went)))
-    c.turn.ensures.turned
-
-pub returns-clause-journal : goal.returns-clause-journal
-returns-clause-journal c =
+pub returns-clause-leaves : goal.returns-clause-leaves
+returns-clause-leaves c =
     let some : call_in c.args.self.now.calls c.args.self.now.states.items c.args.lane ≡ Some c.in-Some.call.now = search rules in
     let old : Contents = contents_of c.args.self.now in
     let lt = within_states old c.args.lane c.in-Some.call.now (at_call old c.args.lane c.in-Some.call.now some) in
@@ -96,10 +55,17 @@ returns-clause-journal c =
     let same : length (lane_in (slice_set old.states c.args.lane now) c.args.lane).grants ≡ length now.grants = ap (λ (y : LaneValue). length y.grants) here in
     let room : vec_len c.reserve.new.self + (length v.grants + 4) ≤ vec_capacity c.reserve.new.self = search rules in
     IfOk-weaker c.turn.result (λ (m : Moved). Turned c.in-Some.call.now old.facts old.asked old.core c.turn.new.core v now m)
-    (λ (m : Moved). vec_len c.reserve.new.self + length (lane_in (slice_set old.states c.args.lane now)
-    c.args.lane).grants + 1 < vec_capacity c.reserve.new.self)
-    (λ m t. (let more = turned_grants c.in-Some.call.now old.facts old.asked old.core c.turn.new.core v now m t in
-    omega (arith, more, same, room))) c.turn.ensures.turned
+    _
+    (λ m t. record {
+      number = ap (λ (y : LaneValue). y.ended) here ∙ turned_same c.in-Some.call.now old.facts old.asked old.core
+          c.turn.new.core v now m t ∙ ap (λ (y : LaneValue). y.ended) is;
+      fewer = λ went. subst (λ (y : LaneValue). turns_left (lane_in (slice_set old.states c.args.lane now) c.args.lane) < turns_left y) is
+          (subst (λ (y : LaneValue). turns_left y < turns_left v) (sym here)
+          (turned_fewer c.in-Some.call.now old.facts old.asked old.core c.turn.new.core v now m t went));
+      room = (let more = turned_grants c.in-Some.call.now old.facts old.asked old.core c.turn.new.core v now m t in
+          omega (arith, more, same, room));
+      others = others_kept old.states c.args.lane now lt;
+    }) c.turn.ensures.turned
 
 pub returns-clause-left : goal.returns-clause-left
 returns-clause-left c =

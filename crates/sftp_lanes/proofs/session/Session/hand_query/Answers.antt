@@ -3,7 +3,6 @@ use Rattle.std.specs.Prelude.{length, reverse}
 use Rattle.std.proofs.lemmas.List.{reverse-append}
 use Rattle.sftp_model.specs.Pieces.{joined}
 use Rattle.sftp_model.specs.declared.reply.Reply.{Reply}
-use Rattle.sftp_model.specs.declared.request.Request.{Request}
 use Rattle.sftp_model.specs.declared.request.Request.TheVariants as request
 use Rattle.sftp_model.specs.Lengths.{offers_limits}
 use Rattle.sftp_core.specs.Core.{Core, handed_out}
@@ -11,7 +10,7 @@ use Rattle.session_model.specs.declared.entry.Entry.{Entry}
 use Rattle.session_model.specs.declared.entry.Entry.TheVariants as entry
 use Rattle.session_model.specs.declared.event.Event.TheVariants.{Send}
 use Rattle.session_model.specs.Calls.{Setting, added}
-use Rattle.session_model.specs.Readings.{asked, frames_of, unsent_bytes}
+use Rattle.session_model.specs.Readings.{asked, frames_of}
 use Rattle.session_model.specs.Runs.{queried}
 use Rattle.session_driver.specs.declared.session.Phase.TheVariants.{Asking, Queried}
 use Rattle.session_driver.specs.NoLanes.{offered}
@@ -22,7 +21,6 @@ use Rattle.session_work.specs.Reports.{lane_report}
 use Rattle.session_work.specs.Working.{past_of, stage_of, work_of}
 use Rattle.session_work.proofs.ReportLaws.{leaves_intact}
 use Rattle.sftp_lanes.specs.Seen.{AreIdleRuns, given, setting_by, without_lanes}
-use Rattle.sftp_lanes.proofs.FaultLaws.{unmoved_at}
 use Rattle.sftp_lanes.proofs.FixedLaws.{same_calls}
 use Rattle.sftp_lanes.proofs.Going.{fails_by, left_fails}
 use Rattle.sftp_lanes.proofs.Opening.{in_phase}

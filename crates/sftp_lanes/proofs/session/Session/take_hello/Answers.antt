@@ -50,7 +50,7 @@ pub invariant_of-self : goal.invariant_of-self
 invariant_of-self c =
     let f = in_phase c.self.inside.lanes c.self.inside.options c.self.inside.version c.self.inside.info
     c.self.inside.work c.self.inside.phase Greeted c.self.invariant (rw (← c.self.view_is) at c.requires.greeted) in
-    let v = greets _ _ _ _ _ f.0.0 c.in-Ok-Version.ensures.only c.in-Ok-Version.ensures.ok in
+    let v = greets _ _ _ _ _ f.0.0 c.in-Ok-Version.ensures.takes.only c.in-Ok-Version.ensures.takes.taken in
     let named : c.in-Ok-Version.field-0 ≡ taken_of.Version c.in-Ok-Version.reply = c.in-Ok-Version.field-0-is in
     let same : c.in-Ok-Version.reply ≡ greeting v.extensions = same_version _ _ (sym named ∙ v.tells) in
     let some : offers_limits v.extensions ≡ true = ap (λ (r : Reply). offers_limits (offered (Some r))) (sym same)
@@ -60,10 +60,10 @@ invariant_of-self c =
     let items : c.push.new.self.items ≡ c.take_frame.new.self.journal.items ++ c.query_entry.result ∷ [] = search rules in
     let past : reverse c.push.new.self.items ≡ setup ∷ old = ap reverse items
     ∙ pushed c.take_frame.new.self.journal.items c.query_entry.result
-    ∙ (λ i. c.query_entry.ensures i ∷ reverse (c.in-Ok-Version.ensures.journal i)) in
+    ∙ (λ i. c.query_entry.ensures i ∷ reverse (c.in-Ok-Version.ensures.takes.journal i)) in
     let bare : without_lanes (reverse c.push.new.self.items) ≡ asked_past = ap without_lanes past ∙ ap (λ (p : List Entry). setup ∷ p) f.0.2 in
-    let u = still_untouched _ _ c.take_frame.new.self c.take_frame.ensures.rest (ap (λ xs. asked (reverse xs)) c.in-Ok-Version.ensures.journal) f.1.1 in
-    let number : c.take_frame.new.self.asked ≡ asked old = u.asked ∙ ap (λ xs. asked (reverse xs)) c.in-Ok-Version.ensures.journal in
+    let u = still_untouched _ _ c.take_frame.new.self c.take_frame.ensures.rest (ap (λ xs. asked (reverse xs)) c.in-Ok-Version.ensures.takes.journal) f.1.1 in
+    let number : c.take_frame.new.self.asked ≡ asked old = u.asked ∙ ap (λ xs. asked (reverse xs)) c.in-Ok-Version.ensures.takes.journal in
     let now : Lanes = record c.take_frame.new.self { journal = c.push.new.self; asked = c.take_frame.new.self.asked + 1 } in
     record {
       ok = c.self.invariant.ok;
@@ -91,7 +91,7 @@ pub invariant_of-self-in-Ok-Version : goal.invariant_of-self-in-Ok-Version
 invariant_of-self-in-Ok-Version c =
     let f = in_phase c.self.inside.lanes c.self.inside.options c.self.inside.version c.self.inside.info
     c.self.inside.work c.self.inside.phase Greeted c.self.invariant (rw (← c.self.view_is) at c.requires.greeted) in
-    let v = greets _ _ _ _ _ f.0.0 c.in-Ok-Version.ensures.only c.in-Ok-Version.ensures.ok in
+    let v = greets _ _ _ _ _ f.0.0 c.in-Ok-Version.ensures.takes.only c.in-Ok-Version.ensures.takes.taken in
     let named : c.in-Ok-Version.field-0 ≡ taken_of.Version c.in-Ok-Version.reply = c.in-Ok-Version.field-0-is in
     let same : c.in-Ok-Version.reply ≡ greeting v.extensions = same_version _ _ (sym named ∙ v.tells) in
     let none : offers_limits v.extensions ≡ false = ap (λ (r : Reply). offers_limits (offered (Some r))) (sym same)
@@ -106,9 +106,9 @@ invariant_of-self-in-Ok-Version c =
     let now : Lanes = record c.take_frame.new.self { facts = t.new.work.facts } in
     let u = facts_untouched _ c.take_frame.new.self t.new.work.facts
     (still_untouched _ _ c.take_frame.new.self c.take_frame.ensures.rest
-    (ap (λ xs. asked (reverse xs)) c.in-Ok-Version.ensures.journal) f.1.1) in
+    (ap (λ xs. asked (reverse xs)) c.in-Ok-Version.ensures.takes.journal) f.1.1) in
     let old : List Entry = past_of c.self.inside.work in
-    let past : past_of now ≡ old = ap reverse c.in-Ok-Version.ensures.journal in
+    let past : past_of now ≡ old = ap reverse c.in-Ok-Version.ensures.takes.journal in
     let bare : without_lanes (past_of now) ≡ [] = ap without_lanes past ∙ f.0.2 in
     let s : Setting = setting_by c.self.inside.lanes c.self.inside.options (Some c.in-Ok-Version.reply) t.result in
     let has : HasCalls c.self.inside.lanes now = same_calls c.self.inside.lanes c.self.inside.work now
@@ -137,14 +137,14 @@ invariant_of-self-in-Err c =
     c.self.inside.work c.self.inside.phase Greeted c.self.invariant (rw (← c.self.view_is) at c.requires.greeted) in
     refused_by c.self.inside.lanes c.self.inside.options c.self.inside.version c.self.inside.info c.self.inside.work
     c.take_frame.new.self c.self.inside.phase (fault_of c.in-Err.e) c.self.invariant c.take_frame.ensures.rest
-    c.in-Err.ensures.noted c.take_frame.ensures.room
-    (λ s. refused_so_far s c.in-Err.e _ _ _ _ _ (ap (λ (k : Core). k.fault) f.0.0) c.in-Err.ensures.refused c.in-Err.ensures.noted)
+    c.in-Err.ensures.refused.noted c.take_frame.ensures.room
+    (λ s. refused_so_far s c.in-Err.e _ _ _ _ _ (ap (λ (k : Core). k.fault) f.0.0) c.in-Err.ensures.refused.error c.in-Err.ensures.refused.noted)
 
 pub returns-then-offers_limits-clause-takes : goal.returns-then-offers_limits-clause-takes
 returns-then-offers_limits-clause-takes c =
     let f = in_phase c.self.inside.lanes c.self.inside.options c.self.inside.version c.self.inside.info
     c.self.inside.work c.self.inside.phase Greeted c.self.invariant (rw (← c.self.view_is) at c.requires.greeted) in
-    let v = greets _ _ _ _ _ f.0.0 c.in-Ok-Version.ensures.only c.in-Ok-Version.ensures.ok in
+    let v = greets _ _ _ _ _ f.0.0 c.in-Ok-Version.ensures.takes.only c.in-Ok-Version.ensures.takes.taken in
     let named : c.in-Ok-Version.field-0 ≡ taken_of.Version c.in-Ok-Version.reply = c.in-Ok-Version.field-0-is in
     let same : c.in-Ok-Version.reply ≡ greeting v.extensions = same_version _ _ (sym named ∙ v.tells) in
     let limits : offers_limits (offered (Some c.in-Ok-Version.reply)) ≡ true = sym c.offers_limits.ensures ∙ c.if-offers_limits.true in
@@ -153,7 +153,7 @@ returns-then-offers_limits-clause-takes c =
     let items : c.push.new.self.items ≡ c.take_frame.new.self.journal.items ++ c.query_entry.result ∷ [] = search rules in
     let past : reverse c.push.new.self.items ≡ setup ∷ old = ap reverse items
     ∙ pushed c.take_frame.new.self.journal.items c.query_entry.result
-    ∙ (λ i. c.query_entry.ensures i ∷ reverse (c.in-Ok-Version.ensures.journal i)) in
+    ∙ (λ i. c.query_entry.ensures i ∷ reverse (c.in-Ok-Version.ensures.takes.journal i)) in
     let bare : without_lanes (reverse c.push.new.self.items) ≡ asked_past = ap without_lanes past ∙ ap (λ (p : List Entry). setup ∷ p) f.0.2 in
     let s : Setting = setting_by c.self.inside.lanes c.self.inside.options (Some c.in-Ok-Version.reply) c.self.inside.info in
     let unmoved = asked_unmoved c.self.inside.lanes old f.0.2 f.1.2 s refl (λ some. limits) in
@@ -179,7 +179,7 @@ pub returns-else-offers_limits-clause-takes : goal.returns-else-offers_limits-cl
 returns-else-offers_limits-clause-takes c =
     let f = in_phase c.self.inside.lanes c.self.inside.options c.self.inside.version c.self.inside.info
     c.self.inside.work c.self.inside.phase Greeted c.self.invariant (rw (← c.self.view_is) at c.requires.greeted) in
-    let v = greets _ _ _ _ _ f.0.0 c.in-Ok-Version.ensures.only c.in-Ok-Version.ensures.ok in
+    let v = greets _ _ _ _ _ f.0.0 c.in-Ok-Version.ensures.takes.only c.in-Ok-Version.ensures.takes.taken in
     let named : c.in-Ok-Version.field-0 ≡ taken_of.Version c.in-Ok-Version.reply = c.in-Ok-Version.field-0-is in
     let same : c.in-Ok-Version.reply ≡ greeting v.extensions = same_version _ _ (sym named ∙ v.tells) in
     let none : offers_limits (offered (Some c.in-Ok-Version.reply)) ≡ false = sym c.offers_limits.ensures ∙ c.if-offers_limits.false in
@@ -189,7 +189,7 @@ returns-else-offers_limits-clause-takes c =
     let t = c.tell-self-inside in
     let known = t.ensures.info ∙ ap (λ (k : Core). info_of k.phase) calm in
     let old : List Entry = past_of c.self.inside.work in
-    let past : past_of t.new.work ≡ old = ap past_of t.ensures.rest ∙ ap reverse c.in-Ok-Version.ensures.journal in
+    let past : past_of t.new.work ≡ old = ap past_of t.ensures.rest ∙ ap reverse c.in-Ok-Version.ensures.takes.journal in
     let s : Setting = setting_by c.self.inside.lanes c.self.inside.options (Some c.in-Ok-Version.reply) t.result in
     rw (← c.self.view_is)
     (record {

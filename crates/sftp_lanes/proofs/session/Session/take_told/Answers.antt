@@ -48,7 +48,7 @@ invariant_of-self c =
     let f = in_phase c.self.inside.lanes c.self.inside.options c.self.inside.version c.self.inside.info
     c.self.inside.work c.self.inside.phase Queried c.self.invariant (rw (← c.self.view_is) at c.requires.queried) in
     let q = f.0 in
-    let t = came _ q.0 _ _ _ _ q.1.2 c.in-Ok-Limits.ensures.only c.in-Ok-Limits.ensures.ok in
+    let t = came _ q.0 _ _ _ _ q.1.2 c.in-Ok-Limits.ensures.takes.only c.in-Ok-Limits.ensures.takes.taken in
     let named : c.in-Ok-Limits.field-0 ≡ taken_of.Limits c.in-Ok-Limits.id c.in-Ok-Limits.reply = c.in-Ok-Limits.field-0-is in
     let both = same_limits c.in-Ok-Limits.id 0 c.in-Ok-Limits.reply t.reply (sym named ∙ t.tells) in
     let zero : c.in-Ok-Limits.id ≡ 0 = both.0 in
@@ -63,7 +63,7 @@ invariant_of-self c =
     ∙ told_as (entry.Event (Take 0 t.reply) ∷ old) (entry.Event (Take 0 t.reply) ∷ queried 0)
     (ap (λ (p : List Entry). entry.Event (Take 0 t.reply) ∷ p) q.1.3) in
     let answered : answer (reverse c.push.new.self.items) 0 ≡ Some t.reply = ap (λ (x : Told). x.answer 0) all in
-    let calm = info_came _ q.0 _ _ _ _ t.reply q.1.2 c.in-Ok-Limits.ensures.only c.in-Ok-Limits.ensures.ok t.reads in
+    let calm = info_came _ q.0 _ _ _ _ t.reply q.1.2 c.in-Ok-Limits.ensures.takes.only c.in-Ok-Limits.ensures.takes.taken t.reads in
     let tells = c.tell-self-inside in
     let known = tells.ensures.info ∙ ap (λ (k : Core). info_of k.phase) calm in
     let facts = facts_told tells.new.work.facts c.self.inside.options (offered c.self.inside.version) _ _
@@ -109,15 +109,15 @@ invariant_of-self-in-Err c =
     in
     refused_by c.self.inside.lanes c.self.inside.options c.self.inside.version c.self.inside.info c.self.inside.work
     c.take_frame.new.self c.self.inside.phase (fault_of c.in-Err.e) c.self.invariant c.take_frame.ensures.rest
-    c.in-Err.ensures.noted c.take_frame.ensures.room
-    (λ s. refused_so_far s c.in-Err.e _ _ _ _ _ (ap (λ (k : Core). k.fault) q.1.2) c.in-Err.ensures.refused c.in-Err.ensures.noted)
+    c.in-Err.ensures.refused.noted c.take_frame.ensures.room
+    (λ s. refused_so_far s c.in-Err.e _ _ _ _ _ (ap (λ (k : Core). k.fault) q.1.2) c.in-Err.ensures.refused.error c.in-Err.ensures.refused.noted)
 
 pub returns-in-Ok-Limits-clause-takes : goal.returns-in-Ok-Limits-clause-takes
 returns-in-Ok-Limits-clause-takes c =
     let f = in_phase c.self.inside.lanes c.self.inside.options c.self.inside.version c.self.inside.info
     c.self.inside.work c.self.inside.phase Queried c.self.invariant (rw (← c.self.view_is) at c.requires.queried) in
     let q = f.0 in
-    let t = came _ q.0 _ _ _ _ q.1.2 c.in-Ok-Limits.ensures.only c.in-Ok-Limits.ensures.ok in
+    let t = came _ q.0 _ _ _ _ q.1.2 c.in-Ok-Limits.ensures.takes.only c.in-Ok-Limits.ensures.takes.taken in
     let named : c.in-Ok-Limits.field-0 ≡ taken_of.Limits c.in-Ok-Limits.id c.in-Ok-Limits.reply = c.in-Ok-Limits.field-0-is in
     let both = same_limits c.in-Ok-Limits.id 0 c.in-Ok-Limits.reply t.reply (sym named ∙ t.tells) in
     let zero : c.in-Ok-Limits.id ≡ 0 = both.0 in
@@ -132,7 +132,7 @@ returns-in-Ok-Limits-clause-takes c =
     ∙ told_as (entry.Event (Take 0 t.reply) ∷ old) (entry.Event (Take 0 t.reply) ∷ queried 0)
     (ap (λ (p : List Entry). entry.Event (Take 0 t.reply) ∷ p) q.1.3) in
     let answered : answer (reverse c.push.new.self.items) 0 ≡ Some t.reply = ap (λ (x : Told). x.answer 0) all in
-    let calm = info_came _ q.0 _ _ _ _ t.reply q.1.2 c.in-Ok-Limits.ensures.only c.in-Ok-Limits.ensures.ok t.reads in
+    let calm = info_came _ q.0 _ _ _ _ t.reply q.1.2 c.in-Ok-Limits.ensures.takes.only c.in-Ok-Limits.ensures.takes.taken t.reads in
     let known = c.tell-self-inside.ensures.info ∙ ap (λ (k : Core). info_of k.phase) calm in
     let s : Setting = setting_by c.self.inside.lanes c.self.inside.options c.self.inside.version c.tell-self-inside.result in
     let unmoved : IsIdleRun s (reverse c.push.new.self.items) = subst (IsIdleRun s) (sym came_in)
@@ -171,10 +171,10 @@ returns-in-Err c =
       refused = subst (IsFirst c.in-Err.e)
           (sym (refuses_as (past_of c.self.inside.work) (queried 0) (told_as (past_of c.self.inside.work) (queried 0) q.1.3)
           (reply_at c.args.body.now)))
-          (queried_first _ q.0 _ _ (queried 0) _ _ q.1.2 refl c.in-Err.ensures.refused);
+          (queried_first _ q.0 _ _ (queried 0) _ _ q.1.2 refl c.in-Err.ensures.refused.error);
       kept = record {
         rest = refl;
-        past = c.in-Err.ensures.noted;
+        past = c.in-Err.ensures.refused.noted;
         calls = ap (λ (w : Lanes). w.calls) c.take_frame.ensures.rest;
       };
     })

@@ -40,4 +40,4 @@ returns g c =
     view_done c.args.ops.now (at (seen_of c.args.self.now.session) (g.L.LinkState.state c.args.link.now)) _ c.run_all.new.self
     (at (seen_of c.close_session.new.session) (g.L.LinkState.state c.close_session.new.link)) (g.L.LinkState.state c.open.new.link)
     (g.L.LinkState.state c.run_all.new.link) c.in_ok-answers.answers c.in_ok-open.ensures.opened c.requires.lanes c.in_ok-open.ensures.log
-    c.in_ok-open.ensures.caused c.requires.empty c.in_ok-answers.ensures c.in_ok-close_session.ensures
+    c.in_ok-open.ensures.caused c.requires.empty c.in_ok-answers.ensures c.in_ok-close_session.ensures c.requires.may

@@ -1,0 +1,6 @@
+pub mod Files
+pub mod Reading
+pub mod Writing
+pub mod Exits
+pub mod Completing
+pub mod Causing

@@ -1,0 +1,5 @@
+pub mod Outside
+pub mod Texts
+pub mod Ended
+pub mod Replies
+pub mod Completed

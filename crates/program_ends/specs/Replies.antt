@@ -1,0 +1,44 @@
+-- What the parts of a run answer: the bytes of the source, and the reply to them.
+use Rattle.std.specs.Prelude.{◌≡◌, ◌≢◌, ℕ, List, Vec, Option, Result, Ok, IfOk, IfErr}
+use Rattle.std.specs.declared.alloc.Global.{Global}
+use Rattle.sftp_link.specs.Told.{Told, ReadUpTo}
+use Rattle.sftp_link.specs.Views.{DialView, LastLink, SourceView}
+use Rattle.program_ends.specs.declared.ending.Answered.{Answered}
+use Rattle.program_ends.specs.declared.ending.Failure.{Failure}
+use Rattle.program_ends.specs.declared.ending.Failure.TheVariants.{SourceFailed, SinkFailed, DialFailed}
+use Rattle.program_ends.specs.declared.printed.Printed.{Printed}
+use Rattle.program_ends.specs.Ended.{
+  DialCause,
+  DialledAt,
+  DialsAfter,
+  ReadAs,
+  RightOverLink,
+  SourceCause,
+  read_limit,
+}
+
+-- the bytes that a source gave, all that it had or as many as may be read
+pub record GivesBytes (result : Result (Vec ℕ Global) Failure) (before now : SourceView) : Type 0 where
+  pub bytes : IfOk result (λ v. Told (ReadUpTo read_limit v.items) before.left now.left)
+  pub cause : SourceCause result before.faults now.faults
+  pub only : IfErr result (λ e. (e ≢ SinkFailed) × (e ≢ DialFailed))
+
+-- the reply to a value, over a link that was dialled once
+pub record DialsFor {T History : Type 0} (right : Option LastLink → T → Answered → List ℕ → Type 0)
+    (dialled : List ℕ → History → History) (path : List ℕ) (value : T) (result : Result Printed Failure)
+    (before now : DialView History) : Type 0 where
+  pub ok : IfOk result (λ reply. right now.last value reply.answered reply.text.items)
+  pub history : DialledAt dialled path before now
+  pub undialled : IfErr result (λ e. e ≡ DialFailed → now.last ≡ before.last)
+  pub cause : DialCause result before.faults now.faults
+  pub only : IfErr result (λ e. (e ≢ SourceFailed) × (e ≢ SinkFailed))
+
+-- the reply to bytes, over a link that was dialled once where they read as a value
+pub record RepliesAt {T History : Type 0} (read : List ℕ → ReadAs T)
+    (right : Option LastLink → T → Answered → List ℕ → Type 0) (dialled : List ℕ → History → History)
+    (path bytes : List ℕ) (result : Result Printed Failure) (before now : DialView History) : Type 0 where
+  pub ok : IfOk result (λ reply. RightOverLink right dialled path before now (read bytes) reply.answered
+      reply.text.items)
+  pub failed : IfErr result (λ e. DialsAfter dialled path ((value : T) × (read bytes ≡ Ok value)) e before now)
+  pub cause : DialCause result before.faults now.faults
+  pub only : IfErr result (λ e. (e ≢ SourceFailed) × (e ≢ SinkFailed))

@@ -1,0 +1,73 @@
+//! The lines that say why a source is refused, and with which error a run stopped.
+ghost use Rattle.std.specs.Prelude.{◌≡◌, IfOk};
+ghost use Rattle.std.specs.Option.{option_copied};
+ghost use Rattle.program_ends.specs.Texts.{error_line, error_name, reason_word, refusal_line};
+
+use itoa::Buffer;
+use sftp_model::Error;
+use sftp_script::Reason;
+use ssh_encoding::OutOfMemory;
+use std::alloc::Global;
+
+/// The word of a reason.
+pub(crate) fn reason_word(why: Reason) -> &'static str
+    ensures { result.now ≡ reason_word why }
+{
+    match why {
+        Reason::Size => "size",
+        Reason::Words => "words",
+        Reason::Word => "word",
+        Reason::Lane => "lane",
+        Reason::Count => "count",
+        Reason::Number => "number",
+        Reason::Hex => "hex",
+        Reason::Mode => "mode",
+        Reason::Range => "range",
+        Reason::Repeat => "repeat",
+    }
+}
+
+/// The line that says which line is refused, and why: `line N REASON`. The error is want of memory.
+#[tactic(auto, using(sftp_wire::proofs::Puts::puts, sftp_text::proofs::TextLaws::number_decimal))]
+pub fn refusal_line(alloc: Global, number: u64, why: Reason) -> Result<Vec<u8>, OutOfMemory>
+    ensures { IfOk result (λ text. text.items ≡ refusal_line number why) }
+{
+    let mut digits = Buffer::new();
+    let mut text = Vec::from_slice(alloc, b"line ")?;
+    text.extend_from_slice(digits.format(number).as_bytes())?;
+    text.extend_from_slice(b" ")?;
+    text.extend_from_slice(reason_word(why).as_bytes())?;
+    text.push(b'\n')?;
+    Ok(text)
+}
+
+/// The name of an error that stops a run; None for want of memory, which has a status of its own.
+pub fn error_name(error: &Error) -> Option<&'static str>
+    ensures { option_copied result ≡ error_name error.now }
+{
+    match error {
+        Error::OutOfMemory => None,
+        Error::LinkFault => Some("LinkFault"),
+        Error::LinkEnded => Some("LinkEnded"),
+        Error::UnsupportedSftpProtocol { .. } => Some("UnsupportedSftpProtocol"),
+        Error::FormatError(_) => Some("FormatError"),
+        Error::HandleTooLong { .. } => Some("HandleTooLong"),
+        Error::InvalidResponseId { .. } => Some("InvalidResponseId"),
+        Error::InvalidResponse { .. } => Some("InvalidResponse"),
+        Error::SftpError { .. } => Some("SftpError"),
+        Error::UnsupportedExtension(_) => Some("UnsupportedExtension"),
+        Error::IOError(_) => Some("IOError"),
+        Error::BackgroundTaskFailure(_) => Some("BackgroundTaskFailure"),
+    }
+}
+
+/// The line that names the error with which a run stopped: `error NAME`. The error is want of memory.
+#[tactic(auto, using(sftp_wire::proofs::Puts::puts))]
+pub fn error_line(alloc: Global, name: &str) -> Result<Vec<u8>, OutOfMemory>
+    ensures { IfOk result (λ text. text.items ≡ error_line name.now) }
+{
+    let mut text = Vec::from_slice(alloc, b"error ")?;
+    text.extend_from_slice(name.as_bytes())?;
+    text.push(b'\n')?;
+    Ok(text)
+}

@@ -1,0 +1,91 @@
+//! The calls of a session's lanes, with what they count.
+ghost use Rattle.std.specs.Prelude.{◌≡◌, ◌<◌, ◌+◌, ◌^◌, ℕ, length, min, true, OnErr, OnOk};
+ghost use Rattle.plan_model.specs.Lanes.{are_ok};
+ghost use Rattle.session_driver.specs.Adding.{with_call};
+
+use crate::calls::add_call;
+use plan_model::weight_of_lanes;
+use session_model::{Call, Lane};
+use sftp_values::Items;
+use ssh_encoding::OutOfMemory;
+use std::alloc::Global;
+use std::marker::Model;
+
+/// The calls of each lane, and what they count together, so that a further call is looked at alone. A contract sees the
+/// lanes.
+#[derive(Drop)]
+pub struct WeighedLanes {
+    lanes: Items<Lane>,
+    // 2147483648 where it is more.
+    weight: u32,
+}
+
+impl Model for WeighedLanes {
+    ghost use Rattle.std.specs.Prelude.{◌≡◌, ◌^◌, List, min};
+    ghost use Rattle.std.specs.List.{sum_by};
+    ghost use Rattle.plan_model.specs.Lanes.{lane_weight};
+    ghost use Rattle.plan_model.specs.declared.call.Lane.{Lane as LaneValue};
+
+    ghost Value = { List LaneValue };
+
+    ghost view = { λ w. w.lanes };
+
+    ghost invariant = { λ w. w.weight ≡ min (sum_by lane_weight w.lanes) (2 ^ 31) };
+}
+
+/// A sum, or 2147483648 where it is more.
+fn limited_sum(a: u32, b: u32) -> u32
+    ensures { result ≡ min (a + b) (2 ^ 31) }
+{
+    a.saturating_add(b).min(0x8000_0000)
+}
+
+impl WeighedLanes {
+    /// These lanes.
+    pub(crate) fn new(lanes: Items<Lane>) -> WeighedLanes
+        ensures { result ≡ lanes }
+    {
+        let weight = weight_of_lanes(lanes.as_slice());
+        WeighedLanes { lanes, weight }
+    }
+
+    /// The lanes.
+    pub fn as_items(&self) -> &Items<Lane>
+        ensures { result.now ≡ self.now }
+    {
+        &self.lanes
+    }
+
+    /// The lanes, as a slice.
+    pub fn as_slice(&self) -> &[Lane]
+        ensures { result.now ≡ self.now }
+    {
+        self.lanes.as_slice()
+    }
+
+    /// Whether a session that may be given these lanes may also be given them with the call behind those of one of them,
+    /// as `lanes_ok` tells of the lanes with the call. Nothing is copied.
+    pub fn may_have(&self, call: &Call) -> bool
+        requires ok { are_ok self.now ≡ true }
+        ensures { (lane : ℕ) → lane < length self.now → result ≡ are_ok (with_call self.now lane call.now) }
+    {
+        call.is_within() && limited_sum(self.weight, call.weight()) < 0x8000_0000
+    }
+
+    /// Puts a call behind those of a lane. Refused for want of memory; the lanes are as before then.
+    pub(crate) fn push_call(
+        &mut self,
+        alloc: Global,
+        lane: usize,
+        call: Call,
+    ) -> Result<(), OutOfMemory>
+        requires { lane < length self.old }
+        ensures added { OnOk result (self.new ≡ with_call self.old lane call) }
+        ensures left { OnErr result (self.new ≡ self.old) }
+    {
+        let weight = limited_sum(self.weight, call.weight());
+        add_call(alloc, &mut self.lanes, lane, call)?;
+        self.weight = weight;
+        Ok(())
+    }
+}

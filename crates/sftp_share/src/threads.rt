@@ -1,0 +1,56 @@
+//! The lanes of a script are run in threads over the two halves of its server.
+ghost use Rattle.std.specs.Prelude.{◌≡◌, IfErr, IfOk, OnOk, true};
+ghost use Rattle.sftp_script.specs.CanRun.{CanRun};
+ghost use Rattle.sftp_share.specs.Shared.{HasRun, HasStopped};
+
+use sftp_map_server::{MapServer, new_server};
+use sftp_script::Script;
+use sftp_tasks::{Error, SharedReport};
+use sftp_values::Items;
+use shared_map::Pair;
+use ssh_encoding::OutOfMemory;
+use std::alloc::Global;
+use std::sync::Wait;
+use std::thread::Threads;
+use std::time::Clock;
+use tasks_run::run_shared;
+
+/// The server that a script describes. Refused only for want of memory.
+fn server_of(alloc: Global, script: &Script) -> Result<MapServer, OutOfMemory>
+    requires { CanRun script.now }
+{
+    let choices = Vec::from_slice(alloc, script.choices.as_slice())?;
+    let picks = Vec::from_slice(alloc, script.picks.as_slice())?;
+    new_server(
+        alloc,
+        script.files.as_slice(),
+        script.dirs.as_slice(),
+        script.server,
+        Items::new(choices),
+        Items::new(picks),
+    )
+}
+
+/// Runs the lanes of a script over the halves that a pair gives of the script's server, and gives these back to the pair,
+/// whatever came of the run.
+pub(crate) fn run_lanes<P: Pair<R>, R: Threads + Wait + Clock + Sync>(
+    rt: &R,
+    alloc: Global,
+    script: &Script,
+    pair: &mut P,
+) -> Result<SharedReport, Error>
+    requires { CanRun script.now }
+    ensures ok { IfOk result (λ report. HasRun (P.Out.LinkState.Service) (P.In.LinkState.Service) (P.last pair.new) script.now report) }
+    ensures err { IfErr result (λ e. HasStopped (P.Out.LinkState.Service) (P.In.LinkState.Service) (P.last pair.new) e) }
+{
+    let Ok(server) = server_of(alloc, script) else {
+        return Err(Error::OutOfMemory);
+    };
+    let Ok((out, input)) = pair.split(rt, alloc, server) else {
+        return Err(Error::OutOfMemory);
+    };
+    let lanes = script.lanes.as_slice();
+    let (result, out, input) = run_shared(rt, alloc, out, input, lanes, &script.options);
+    pair.put_back(out, input);
+    result
+}

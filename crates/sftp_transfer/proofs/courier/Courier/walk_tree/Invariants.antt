@@ -1,0 +1,5 @@
+use Rattle.transfer_file.specs.Sessions.{IsGoing}
+use Rattle.sftp_transfer.proofs.courier.Courier.walk_tree.Given as goal
+
+abbrev pub invariant-loop : goal.invariant-loop
+invariant-loop g l = IsGoing g.L.LinkState.state l.self.sftp

@@ -1,0 +1,96 @@
+-- How the program ends with a list, at each of its exits.
+use Rattle.std.proofs.Common.{◌≡◌, ℕ, List, ap, refl, sym, subst}
+use Rattle.std.specs.Prelude.{Option, Some, None, Ok, Err, IfSome}
+use Rattle.sftp_link.specs.Views.{SinkView, SourceView}
+use Rattle.sftp_map_server.specs.Serving.{Serving}
+use Rattle.program_ends.specs.Completed.{HasCause, HasCauses}
+use Rattle.program_ends.specs.Ended.{End, EndsAtSink, IsServerOf, Only, RightInMemory, status_of}
+use Rattle.program_ends.specs.Outside.{Outside}
+use Rattle.program_ends.specs.Replies.{GivesBytes}
+use Rattle.program_ends.specs.Texts.{answered_of, text_of}
+use Rattle.program_ends.specs.declared.ending.Answered.{Answered}
+use Rattle.program_ends.specs.declared.ending.Failure.{Failure}
+use Rattle.program_ends.specs.declared.ending.Failure.TheVariants.{OutOfMemory}
+use Rattle.program_ends.proofs.Causing.{memory_causes, sink_causes}
+use Rattle.program_ends.proofs.Completing.{at_sink, in_memory}
+use Rattle.program_ends.proofs.Exits as ends
+use Rattle.program_ends.proofs.Exits.{Read, Serves, some_kept}
+use Rattle.program_ends.proofs.Reading.{RefusesLong}
+use Rattle.view_lists.specs.CacheSizes.{view_of}
+use Rattle.view_lists.specs.Lists.{list_of}
+use Rattle.view_lists.specs.declared.cache_size.CacheSize.{CacheSize}
+use Rattle.view_lists.specs.declared.list.ViewList.{ViewList}
+use Rattle.sftp_view.specs.Completed.{Completes}
+use Rattle.sftp_view.specs.Ended.{EndsList, EndsSo, IsListServer, ProgramEnds, Streams}
+use Rattle.sftp_view.specs.Printed.{IsViewed}
+use Rattle.sftp_view.specs.Words.{Asked, Text, Through, asked_by, help_text}
+
+-- too many bytes are no list
+long_refused : (block : ℕ) → RefusesLong (list_of block)
+long_refused block bytes h = rw h refl
+
+view_serves : (size : CacheSize) → Serves IsListServer (IsViewed size)
+view_serves size kept list text p = some_kept (IsListServer list) kept p.server p.is_kept p.first
+
+-- the source was not read
+pub view_unread : (size : CacheSize) (why : Failure) (kept : Option Serving) (from now : SourceView) (to : SinkView)
+    → GivesBytes (Err why) from now → kept ≡ None → EndsList size (Err why) kept from now to to
+view_unread size = ends.memory_unread (list_of size.block) IsListServer (IsViewed size)
+
+-- there was no memory for the answer
+pub view_starved : (size : CacheSize) (kept : Option Serving) (bytes : List ℕ) (from now : SourceView)
+    (to : SinkView) → Read bytes from now → now.faults ≡ from.faults
+    → IfSome kept (λ server. (list : ViewList) × (list_of size.block bytes ≡ Ok list) × IsServerOf list.script server)
+    → EndsList size (Err OutOfMemory) kept from now to to
+view_starved size kept bytes from now to =
+    ends.memory_starved (list_of size.block) IsListServer (IsViewed size) kept bytes from now to (long_refused size.block)
+
+-- the answer was to be written
+pub view_answered : (size : CacheSize) (kept : Option Serving) (bytes text : List ℕ) (answered : Answered)
+    (end : End) (from now : SourceView) (to to_now : SinkView) → Read bytes from now → now.faults ≡ from.faults
+    → RightInMemory (IsViewed size) kept (list_of size.block bytes) answered text
+    → EndsAtSink (Only answered text) end to to_now → EndsList size end kept from now to to_now
+view_answered size kept bytes text answered end from now to to_now =
+    ends.memory_answered (list_of size.block) IsListServer (IsViewed size) kept bytes text answered end from now to to_now
+    (long_refused size.block) (view_serves size)
+
+-- ---- what the words ask for
+
+pub asked_through : (words : List (List ℕ)) (size : CacheSize) → Some size ≡ view_of words → asked_by words ≡ Through size
+asked_through words size e = rw (← e) refl
+
+pub asked_text : (words : List (List ℕ)) → None ≡ view_of words → asked_by words ≡ Text (answered_of words) (text_of help_text words)
+asked_text words e = rw (← e) refl
+
+-- ---- statuses
+
+completes_so : (asked : Asked) (end : End) (kept : Option Serving) (before now : Streams) → EndsSo asked end kept before now
+    → now.source.faults ≡ before.source.faults → now.sink.faults ≡ before.sink.faults
+    → Completes asked (status_of end) before.source.left
+completes_so (Through size) end kept before now h s k =
+    in_memory (list_of size.block) IsListServer (IsViewed size) end kept before.source now.source before.sink now.sink
+    (long_refused size.block) h s k
+completes_so (Text answered text) end kept before now h s k =
+    at_sink _ (status_of (Ok answered)) end before.sink now.sink (λ a t r. ap (λ (x : Answered). status_of (Ok x)) r.0) h.0 k
+
+pub completes : (asked : Asked) (status : ℕ) (kept : Option Serving) (before now : Streams) → ProgramEnds asked status kept before now
+    → now.source.faults ≡ before.source.faults → now.sink.faults ≡ before.sink.faults
+    → Completes asked status before.source.left
+completes asked status kept before now h s k =
+    subst (λ (n : ℕ). Completes asked n before.source.left) (sym h.is) (completes_so asked h.end kept before now h.so s k)
+
+-- there is no dial
+abbrev without_dial : Streams → Outside (Unit {0})
+without_dial x = record { source = x.source; sink = x.sink; dial = record { faults = 0; history = tt; last = None } }
+
+causes_so : (asked : Asked) (end : End) (kept : Option Serving) (before now : Streams) → EndsSo asked end kept before now
+    → HasCauses (status_of end) (without_dial before) (without_dial now)
+causes_so (Through size) end kept before now h =
+    memory_causes (list_of size.block) IsListServer (IsViewed size) end kept (without_dial before) (without_dial now) h refl
+causes_so (Text answered text) end kept before now h = sink_causes _ end (without_dial before) (without_dial now) h.0 h.2 refl
+
+pub causes : (asked : Asked) (status : ℕ) (kept : Option Serving) (before now : Streams) → ProgramEnds asked status kept before now
+    → HasCause 3 status before.source.faults now.source.faults × HasCause 4 status before.sink.faults now.sink.faults
+causes asked status kept before now h =
+    subst (λ (n : ℕ). HasCause 3 n before.source.faults now.source.faults × HasCause 4 n before.sink.faults now.sink.faults) (sym h.is)
+    (let c = causes_so asked h.end kept before now h.so in (c.source, c.sink))

@@ -1,0 +1,210 @@
+-- A view over a server that nothing was sent to: its session is served, and stops only for want of memory.
+use Rattle.std.proofs.Common.{◌≡◌, ◌≤◌, ℕ, suc, true, List, [], ◌∷◌, All, refl, ap, sym, ◌∙◌, subst, arith}
+use Rattle.std.specs.Prelude.{Option, Some, None, Result, Ok, Err, IfErr, IfOk, IfSome, IsSomeAnd, Vec, nat_le}
+use Rattle.std.specs.declared.alloc.Global.{Global}
+use Rattle.std.specs.List.{list_all, sum_by}
+use Rattle.std.proofs.lemmas.Bool.{and_parts}
+use Rattle.std.proofs.lemmas.Bool.Decides.{nat_tests}
+use Rattle.ssh_encoding.specs.declared.out_of_memory.OutOfMemory.{OutOfMemory}
+use Rattle.sftp_model.specs.Fits.{FitsNumber}
+use Rattle.sftp_model.specs.declared.config.Choice.{Choice}
+use Rattle.sftp_model.specs.declared.error.Error.{Error}
+use Rattle.sftp_model.specs.declared.error.Error.TheVariants as error
+use Rattle.sftp_model.specs.declared.options.SftpOptions.{SftpOptions}
+use Rattle.machine_model.specs.FirstTree.{FirstFile}
+use Rattle.machine_model.specs.FitTrees.{IsFit}
+use Rattle.machine_model.proofs.FirstFits.{first_fits}
+use Rattle.machine_model.proofs.FirstFiles.{first_well_formed}
+use Rattle.machine_model.specs.Changes.{IsWellFormed}
+use Rattle.session_model.specs.Calls.{Setting, added}
+use Rattle.session_model.specs.Readings.{answer, outcomes_of}
+use Rattle.session_model.specs.Served.{Serves}
+use Rattle.session_model.specs.Settings.{greeting, setting_of}
+use Rattle.session_model.specs.Shown.{Shows}
+use Rattle.session_model.specs.declared.entry.Entry.{Entry}
+use Rattle.sftp_link.specs.declared.piece.Piece.{Piece}
+use Rattle.sftp_lanes.specs.Complete.{StopsForMemory}
+use Rattle.sftp_lanes.specs.Seen.{given}
+use Rattle.sftp_script.specs.declared.script.Script.{Script}
+use Rattle.sftp_map_server.specs.Serving.{Desk, IsServed, IsServing, Server, Serving, first_desk, opened, server_view}
+use Rattle.sftp_map_server.specs.Unopened.{IsUnopened, unopened}
+use Rattle.map_server_laws.proofs.Numbering.{numbered_by}
+use Rattle.map_server_laws.proofs.Owing.{due}
+use Rattle.map_server_laws.proofs.Replying.{AllCodes, greeted_at}
+use Rattle.map_server_laws.proofs.Serving.{serves_by}
+use Rattle.map_server_laws.proofs.Showing.{AnswersBy, IsFirst, answers_by, shows_served, shows_version}
+use Rattle.map_server_laws.proofs.Stopping.{sound_at}
+use Rattle.map_server_laws.proofs.Whole.{server_serves}
+use Rattle.program_ends.specs.Ended.{IsServerOf}
+use Rattle.view_lists.specs.CacheSizes.{IsCacheSize}
+use Rattle.view_lists.specs.CanView.{CanView}
+use Rattle.view_lists.specs.declared.cache_size.CacheSize.{CacheSize}
+use Rattle.view_lists.specs.declared.list.ViewList.{ViewList}
+use Rattle.view_model.proofs.BoundLaws.{within_viewed}
+use Rattle.view_model.proofs.CountLaws.{all_counted}
+use Rattle.view_model.specs.Blocks.{nothing_kept}
+use Rattle.view_model.specs.Calls.{AreFew, call_limit}
+use Rattle.view_model.specs.ViewOps.{are_ok, count, count_limit, is_within}
+use Rattle.view_model.specs.declared.op.ViewOp.{ViewOp}
+use Rattle.sftp_view.specs.Doings.{one_lane}
+use Rattle.sftp_view.specs.Printed.{IsServedView, IsViewed, view_text}
+use Rattle.sftp_view.specs.Views.{IsViewReport, MayView, done_in}
+use Rattle.sftp_view.specs.declared.run.ViewReport.{ViewReport}
+use Rattle.sftp_view.proofs.CalledLaws.{few_called}
+
+-- ---- a server that nothing was sent to
+
+all_codes : (choices : List Choice) → All (λ choice. FitsNumber choice.refuse) choices → AllCodes choices
+all_codes [] h = tt
+all_codes (c ∷ choices) h = (h 0 c (omega arith), all_codes choices (λ k d lt. h (suc k) d (omega (arith, lt))))
+
+begins_well : (first : Server) → IsUnopened first → IsWellFormed first.desk.machine.tree
+begins_well first u = subst (λ (x : Server). IsWellFormed x.desk.machine.tree) (sym u.is) (first_well_formed u.files u.dirs u.may)
+
+first_is : (first : Server) → IsUnopened first → IsFirst first.desk
+first_is first new =
+    let d : Desk = first_desk new.files new.dirs first.desk.machine.config first.desk.choices in
+    let is : first.desk ≡ d = ap (λ (w : Server). w.desk) new.is in
+    record {
+      fresh = ap (λ (w : Desk). w.greeted) is;
+      good = record {
+        greeted = refl;
+        still = ap (λ (w : Desk). w.over) is;
+        codes = all_codes first.desk.choices new.fits.codes;
+        limits = new.fits.limits;
+        fit = subst (λ (w : Desk). IsFit w.machine.tree) (sym is) (first_fits new.files new.dirs new.may);
+      };
+      known = new.fits.known;
+    }
+
+-- its log is that of a server from this desk on
+served_from : (server : Serving) (new : IsUnopened server.first)
+    → IsServing server.first server.now server.log server.ended
+    → IsServed (opened server.first.desk server.first.output.picks) server.log server.now
+served_from server new serving =
+    let here : server.first ≡ opened server.first.desk server.first.output.picks =
+    new.is ∙ ap (λ (d : Desk). opened d server.first.output.picks) (sym (ap (λ (w : Server). w.desk) new.is)) in
+    subst (λ (w : Server). IsServed w server.log server.now) here serving.served
+
+-- ---- a session
+
+at_most : (n m : ℕ) → nat_le n m ≡ true → n ≤ m
+at_most n m e = grind (arith, nat_tests)
+
+few_viewed : (block capacity : ℕ) (ops : List ViewOp) (past : List Entry) → MayView block capacity ops
+    → added past 0 ≡ (done_in block capacity ops past).calls → AreFew call_limit (added past 0)
+few_viewed block capacity ops past may calls =
+    let ok = and_parts (list_all is_within ops) (nat_le (sum_by (count block) ops) count_limit) may.ok in
+    let sum = at_most (sum_by (count block) ops) count_limit ok.1 in
+    let all = all_counted block ops may.some in
+    let w = (within_viewed block capacity ops [] nothing_kept).by (outcomes_of past 0) in
+    subst (AreFew call_limit) (sym calls) (record { light = w.light; few = (let x = w.few in omega (arith, x, all, sum)) })
+
+-- the log was empty
+from_empty : {A : Type 0} (R : List A → List A → Type 0) (before now : List A) → before ≡ [] → R before now → R [] now
+from_empty R before now none h = subst (λ b. R b now) none h
+
+pub served_view : (size : CacheSize) (ops : List ViewOp) (options : SftpOptions) (old now : Serving) (r : ViewReport)
+    → MayView size.block size.capacity ops → IsUnopened old.first → old.log ≡ [] → now.first ≡ old.first
+    → IsServing now.first now.now now.log now.ended
+    → IsViewReport size.block size.capacity ops options (Some old.log) (Some now.log) r → IsServedView size ops options now r
+served_view size ops options old now r may new none same serving report =
+    let past : List Entry = report.past in
+    let s : Setting = setting_of one_lane options report.extensions past in
+    let fresh : IsUnopened now.first = subst IsUnopened (sym same) new in
+    let shown : Shows (greeting report.extensions) past [] now.log =
+    from_empty (Shows (greeting report.extensions) past) old.log now.log none report.log in
+    let first = first_is now.first fresh in
+    let f : Desk = now.first.desk in
+    let picks : List ℕ = now.first.output.picks in
+    let served = served_from now fresh serving in
+    let few = few_called s past refl report.run (few_viewed size.block size.capacity ops past may report.calls) in
+    let sound = sound_at one_lane options report.extensions f picks past now.log now.now first refl report.run shown served in
+    let d : Desk = greeted_at f in
+    let o = shows_served s f picks (greeting report.extensions) past now.log now.now first report.run sound shown served in
+    let empty : d.machine.grants ≡ 0 = ap (λ (w : Server). w.desk.machine.grants) fresh.is in
+    let closed : d.machine.tree.handles ≡ [] = ap (λ (w : Server). w.desk.machine.tree.handles) fresh.is in
+    let by : (p : ℕ) → AnswersBy (answer past p) (due d past p) = λ p. answers_by d past p o.due in
+    let serves : Serves f.machine.config f.choices f.machine.tree past now.now.desk.machine.tree =
+    subst (λ (w : Desk). Serves f.machine.config f.choices f.machine.tree past w.machine.tree)
+    (sym o.owes.desk) (serves_by d past empty closed sound by few) in
+    record {
+      extensions = report.extensions;
+      past = past;
+      run = report.run;
+      over = report.over;
+      version = shows_version f picks (greeting report.extensions) past now.log now.now first shown served;
+      shown = shown;
+      served = record {
+        serves = serves;
+        by_picks = o.by_picks;
+        numbered = numbered_by d past empty closed sound by few report.over.2;
+      };
+      calls = report.calls;
+      answers = report.answers;
+      hits = report.hits;
+      misses = report.misses;
+      plain = λ unrefused. report.plain f.machine.config f.choices f.machine.tree now.now.desk.machine.tree unrefused (begins_well now.first fresh) serves;
+    }
+
+-- the error is want of memory
+pub only_for_memory : (options : SftpOptions) (old now : Serving) (e : Error) → IsUnopened old.first
+    → old.log ≡ [] → now.first ≡ old.first → IsServing now.first now.now now.log now.ended
+    → StopsForMemory (given one_lane options) (server_view old) (server_view now) e → e ≡ error.OutOfMemory
+only_for_memory options old now e new none same serving stops =
+    stops now.log (ap (λ (l : List Piece). Some l) none) refl
+    (server_serves (given one_lane options) now refl (subst IsUnopened (sym same) new) serving) refl
+
+-- ---- the text
+
+-- a report that a text was made of, over a server that is kept
+abbrev ViewText : CacheSize → List ViewOp → SftpOptions → Serving → List ℕ → Type 0
+ViewText size ops options now text = (report : ViewReport) × IsServedView size ops options now report
+    × (text ≡ view_text report now.now.desk.machine.tree)
+
+-- the server of a script's files and directories is the script's
+first_of : (script : Script) (files : List FirstFile) (dirs : List (List ℕ)) (old : Serving) → files ≡ script.files
+    → dirs ≡ script.dirs → old ≡ unopened files dirs script.server script.choices script.picks → IsServerOf script old
+first_of script files dirs old f d is =
+    ap (λ (s : Serving). s.first) is
+    ∙ (λ i. opened (first_desk (f i) (d i) script.server script.choices) script.picks)
+
+-- over the server of a list, which was kept, it is the list's
+pub viewed_if : (size : CacheSize) (list : ViewList) (kept : Option Serving) (files : List FirstFile) (dirs : List (List ℕ))
+    (ops : List ViewOp) (old : Serving) (r : Result (Vec ℕ Global) OutOfMemory)
+    → files ≡ list.script.files → dirs ≡ list.script.dirs → ops ≡ list.ops
+    → old ≡ unopened files dirs list.script.server list.script.choices list.script.picks → IsSomeAnd kept (λ now. now.first ≡ old.first)
+    → IfOk r (λ text. IsSomeAnd kept (λ now. ViewText size ops list.script.options now text.items))
+    → IfOk r (λ text. IsViewed size kept list text.items)
+viewed_if size list kept files dirs ops old (Err e) f d o is same run = tt
+viewed_if size list None files dirs ops old (Ok text) f d o is same run = absurd same
+viewed_if size list (Some now) files dirs ops old (Ok text) f d o is same run =
+    let run_now : ViewText size list.ops list.script.options now text.items =
+    subst (λ (x : List ViewOp). ViewText size x list.script.options now text.items) o run in
+    record {
+      server = now;
+      is_kept = refl;
+      first = same ∙ first_of list.script files dirs old f d is;
+      report = run_now.0;
+      run = run_now.1;
+      is = run_now.2;
+    }
+
+-- and the server that is kept is the script's, whatever came of the session
+pub kept_if : (script : Script) (kept : Option Serving) (files : List FirstFile) (dirs : List (List ℕ)) (old : Serving)
+    (r : Result (Vec ℕ Global) OutOfMemory) → files ≡ script.files → dirs ≡ script.dirs
+    → old ≡ unopened files dirs script.server script.choices script.picks → IsSomeAnd kept (λ now. now.first ≡ old.first)
+    → IfErr r (λ _. IfSome kept (λ server. IsServerOf script server))
+kept_if script kept files dirs old (Ok text) f d is same = tt
+kept_if script None files dirs old (Err e) f d is same = tt
+kept_if script (Some now) files dirs old (Err e) f d is same = same ∙ first_of script files dirs old f d is
+
+-- a list that was read may be viewed
+pub may_view : (size : CacheSize) (list : ViewList) (ops : List ViewOp) → ops ≡ list.ops → IsCacheSize size → CanView size.block list
+    → MayView size.block size.capacity ops
+may_view size list ops same fits can = record {
+  some = fits.some;
+  short = fits.short;
+  any = fits.any;
+  ok = ap (λ (w : List ViewOp). are_ok size.block w) same ∙ can.ok;
+}

@@ -1,0 +1,58 @@
+//! Programs over `tasks_run`, each proved: a script whose lanes run in threads over a server at a Unix socket, and many runs over
+//! the server in memory whose receipts are compared with their journals.
+#![tactic(auto)]
+
+mod receipts;
+mod socket;
+
+use shared_map::MapPair;
+use std::env;
+use std::process::ExitCode;
+
+/// What `--help` prints.
+const USAGE: &str = "share_examples unix SOCKET\n\
+    unix: runs the lanes of the script on standard input, each in a thread, over the server that listens at SOCKET\n\
+    share_examples runs COUNT\n\
+    runs: as often runs eight lanes of 201 calls over the server in memory, and compares journals and receipts\n";
+
+/// `share_examples unix SOCKET` runs a script's lanes over a server and prints the frames and outcomes; `runs COUNT` runs eight
+/// lanes so often over the server in memory.
+fn main(rt: HostRuntime) -> ExitCode {
+    let done = match words_of(&rt) {
+        Ok(words) => match words.as_slice() {
+            [word] if word.as_str() == "--help" => rt
+                .print(USAGE)
+                .map_err(|_| "standard output can't be written"),
+            [word, path] if word.as_str() == "unix" => match socket::script_of(&rt) {
+                Ok(script) => match socket::run_script(&rt, rt.alloc(), path, &script) {
+                    Ok(report) => socket::print_report(&rt, &report),
+                    Err(why) => Err(why),
+                },
+                Err(why) => Err(why),
+            },
+            [word, count] if word.as_str() == "runs" => {
+                receipts::run_often(&rt, rt.alloc(), &mut MapPair::new(), count)
+            }
+            _ => Err("unix and the path of a socket, or runs and a count are needed"),
+        },
+        Err(why) => Err(why),
+    };
+    match done {
+        Ok(()) => ExitCode::from(0),
+        Err(why) => {
+            // where standard error fails too there is nobody to tell
+            let _ = eprintln!(rt; "share_examples: {why}");
+            ExitCode::from(1)
+        }
+    }
+}
+
+/// The words of the command line, without the program's name.
+fn words_of(rt: &HostRuntime) -> Result<Vec<String>, &'static str> {
+    let mut words = Vec::new(rt.alloc());
+    let args = env::args(rt).map_err(|_| "the words can't be read")?;
+    for word in args.skip(1) {
+        words.push(word).map_err(|_| "no memory")?;
+    }
+    Ok(words)
+}

@@ -1,0 +1,4 @@
+pub mod TraceReplies
+pub mod MachineRuns
+pub mod HelloLaws
+pub mod ServedLaws

@@ -1,0 +1,298 @@
+-- A list of files that are copied, so many at once.
+use Rattle.std.proofs.Common.{
+  ◌≡◌,
+  ◌⊎◌,
+  inl,
+  inr,
+  ◌<◌,
+  ℕ,
+  zero,
+  suc,
+  ◌+◌,
+  Bool,
+  true,
+  false,
+  List,
+  [],
+  ◌∷◌,
+  ◌++◌,
+  length,
+  refl,
+  sym,
+  ap,
+  ◌∙◌,
+  subst,
+  arith,
+  Option,
+  Some,
+  None,
+}
+use Rattle.std.specs.Prelude.{IsSome, Result, Ok, Err}
+use Rattle.std.proofs.lemmas.List.{nil_from_length}
+use Rattle.sftp_core.specs.Core.{Core}
+use Rattle.sftp_link.specs.Views.{LinkView}
+use Rattle.sftp_client.specs.Sessions.{SftpValue}
+use Rattle.transfer_states.specs.declared.failure.Failure.{Failure}
+use Rattle.transfer_states.specs.Local.{LocalAct}
+use Rattle.transfer_copier.specs.declared.copier.CopierStep.{CopierStep}
+use Rattle.transfer_copier.specs.declared.copier.CopierStep.TheVariants as copier_step
+use Rattle.transfer_copier.specs.declared.jobs.Beginning.TheVariants as beginning
+use Rattle.transfer_copier.specs.declared.jobs.JobTurn.TheVariants as turn
+use Rattle.transfer_copier.specs.declared.jobs.Telling.TheVariants as telling
+use Rattle.transfer_copier.specs.declared.jobs.Wanted.{Wanted}
+use Rattle.transfer_copier.specs.declared.running.Copied.{Copied}
+use Rattle.transfer_copier.specs.declared.running.Running.{Running}
+use Rattle.transfer_copier.specs.Copies.{AreTogether, CopierSteps, CopierValue, NextEnded, WorkedOn, Working, WorksOnce}
+use Rattle.transfer_copier.specs.Jobs.{
+  BeginsJob,
+  BeginsOrNot,
+  CopiesAll,
+  Given,
+  JobNote,
+  JobStep,
+  JobSteps,
+  JobTurned,
+  Jobs,
+  JobsDone,
+  NoMore,
+  Over,
+  TellsNext,
+  TellsOne,
+  all_noted,
+  given_in,
+  jobs_at,
+  over_in,
+  with_copy,
+  working_in,
+}
+use Rattle.transfer_copier.specs.Sessions.{IsGoing}
+
+-- ---- how many copies there are
+
+pub length_last : {F : Type 0} (l : List (Running F)) (x : Running F) → length (l ++ x ∷ []) ≡ length l + 1
+length_last [] x = refl
+length_last (y ∷ l) x = (let e = length_last l x in omega (arith, e))
+
+sum_is : (a b c : ℕ) → a ≡ suc c → b ≡ c + 1 → b ≡ a
+sum_is a b c x y = omega (arith, x, y)
+
+worked_once : {L S F H : Type 0} (state : L → LinkView S) (done : LocalAct → H → H) (history : F → H) (old new : Working L F)
+    → WorksOnce state done history old new → length new.running ≡ length old.running
+worked_once state done history old new (inl s) =
+    sum_is (length old.running) (length new.running) (length s.steps.later) (ap length s.steps.first)
+    (ap length s.steps.now ∙ length_last s.steps.later s.steps.next)
+worked_once state done history old new (inr (inl s)) =
+    sum_is (length old.running) (length new.running) (length s.steps.later) (ap length s.steps.first)
+    (ap length s.steps.now ∙ length_last s.steps.later s.steps.next)
+worked_once state done history old new (inr (inr t)) = ap length t.same
+
+worked_length : {L S F H : Type 0} (state : L → LinkView S) (done : LocalAct → H → H) (history : F → H) (n : ℕ) (old new : Working L F)
+    → WorkedOn state done history n old new → length new.running ≡ length old.running
+worked_length {L = L} {F = F} state done history zero old new same = ap (λ (w : Working L F). length w.running) same
+worked_length state done history (suc n) old new (mid, earlier, works) =
+    worked_once state done history mid new works ∙ worked_length state done history n old mid earlier
+
+ended_length : {L S F H : Type 0} (state : L → LinkView S) (done : LocalAct → H → H) (history : F → H) (old new : Working L F)
+    (copied : Copied F) → NextEnded state done history old new (Ok (Some copied)) → length old.running ≡ suc (length new.running)
+ended_length state done history old new copied (n, last, worked, step) =
+    sym (worked_length state done history n old last worked) ∙ (ap length step.steps.first ∙ ap (λ l. suc (length l)) (sym step.steps.now))
+
+pub idle_none : {L S F H : Type 0} (state : L → LinkView S) (done : LocalAct → H → H) (history : F → H) (old new : Working L F)
+    → NextEnded state done history old new (Ok None) → (old.running ≡ []) × (new.running ≡ [])
+idle_none state done history old new (n, last, worked, step) =
+    (nil_from_length old.running (sym (worked_length state done history n old last worked) ∙ ap length step.steps.0), step.steps.1)
+
+-- ---- so far
+
+pub record JobsSoFar {L S F H N : Type 0} (state : L → LinkView S) (done : LocalAct → H → H) (history : F → H)
+    (noted : JobNote F → N → N) (window most : ℕ) (first now : Jobs L F N) : Type 0 where
+  pub steps : ℕ
+  pub run : JobSteps state done history noted window most steps first now
+  pub going : IsGoing state now.session
+  pub together : AreTogether now.session.core now.running
+
+pub jobs_first : {L S F H N : Type 0} (state : L → LinkView S) (done : LocalAct → H → H) (history : F → H) (noted : JobNote F → N → N)
+    (window most : ℕ) (first : Jobs L F N) → IsGoing state first.session → AreTogether first.session.core first.running
+    → JobsSoFar state done history noted window most first first
+jobs_first state done history noted window most first going together =
+    record { steps = 0; run = refl; going = going; together = together }
+
+-- a copy was begun where there was room
+pub turn_begun : {L S F H N : Type 0} (state : L → LinkView S) (done : LocalAct → H → H) (history : F → H) (noted : JobNote F → N → N)
+    (window most : ℕ) (now : Jobs L F N) (running : List (Running F)) (after : N)
+    → IsGoing state now.session → AreTogether now.session.core now.running → now.more ≡ true → length now.running < most
+    → BeginsJob noted window (record { running = now.running }) (record { running = running }) now.notes after beginning.Begun
+    → JobTurned state done history noted window most now now.session running after (turn.On true)
+turn_begun {L = L} {F = F} {N = N} state done history noted window most now running after going together more few (wanted, is, told, joins) =
+    let running_is : running ≡ with_copy now.running wanted window = ap (λ (c : CopierValue F). c.running) is in
+    record {
+      going = going;
+      together = joins now.session.core going.opened together;
+      did = inl (more, few, inl (wanted, (λ i. record now { running = running_is i; more = sym more i; notes = told i })));
+    }
+
+pub turn_no_more : {L S F H N : Type 0} (state : L → LinkView S) (done : LocalAct → H → H) (history : F → H) (noted : JobNote F → N → N)
+    (window most : ℕ) (now : Jobs L F N) (running : List (Running F)) (after : N)
+    → IsGoing state now.session → AreTogether now.session.core now.running → now.more ≡ true → length now.running < most
+    → BeginsJob noted window (record { running = now.running }) (record { running = running }) now.notes after beginning.NoJob
+    → JobTurned state done history noted window most now now.session running after (turn.On false)
+turn_no_more {L = L} {F = F} {N = N} state done history noted window most now running after going together more few (is, told) =
+    let same : running ≡ now.running = ap (λ (c : CopierValue F). c.running) is in
+    record {
+      going = going;
+      together = subst (λ (l : List (Running F)). AreTogether now.session.core l) (sym same) together;
+      did = inl (more, few, inr (λ i. record now { running = same i; more = false; notes = told i }));
+    }
+
+pub turn_short : {L S F H N : Type 0} (state : L → LinkView S) (done : LocalAct → H → H) (history : F → H) (noted : JobNote F → N → N)
+    (window most : ℕ) (now : Jobs L F N) (running : List (Running F)) (after : N) (e : Failure)
+    → IsGoing state now.session → AreTogether now.session.core now.running
+    → BeginsJob noted window (record { running = now.running }) (record { running = running }) now.notes after beginning.Short
+    → JobTurned state done history noted window most now now.session running after (turn.Stopped e)
+turn_short {F = F} state done history noted window most now running after e going together is = record {
+  going = going;
+  together = subst (λ (l : List (Running F)). AreTogether now.session.core l) (sym (ap (λ (c : CopierValue F). c.running) is)) together;
+  did = tt;
+}
+
+-- what came of a copy was told
+pub turn_told : {L S F H N : Type 0} (state : L → LinkView S) (done : LocalAct → H → H) (history : F → H) (noted : JobNote F → N → N)
+    (window most : ℕ) (now : Jobs L F N) (session : SftpValue L) (running : List (Running F)) (after : N) (more : Bool) → more ≡ now.more
+    → TellsNext state done history noted (working_in now) (record { session = session; running = running }) now.notes after telling.Told
+    → JobTurned state done history noted window most now session running after (turn.On more)
+turn_told state done history noted window most now session running after more same tells = record {
+  going = tells.going;
+  together = tells.together;
+  did = inr (record { copied = tells.did.0; ended = tells.did.1; more = same; told = tells.did.2 });
+}
+
+pub turn_over : {L S F H N : Type 0} (state : L → LinkView S) (done : LocalAct → H → H) (history : F → H) (noted : JobNote F → N → N)
+    (window most : ℕ) (now : Jobs L F N) (session : SftpValue L) (running : List (Running F)) (after : N)
+    → TellsNext state done history noted (working_in now) (record { session = session; running = running }) now.notes after telling.NoCopy
+    → (now.more ≡ true → length now.running < most → ⊥)
+    → JobTurned state done history noted window most now session running after turn.Over
+turn_over state done history noted window most now session running after tells full =
+    record { going = tells.going; together = tells.together; did = (tells.did.0, full, tells.did.1) }
+
+pub turn_failed : {L S F H N : Type 0} (state : L → LinkView S) (done : LocalAct → H → H) (history : F → H) (noted : JobNote F → N → N)
+    (window most : ℕ) (now : Jobs L F N) (session : SftpValue L) (running : List (Running F)) (after : N) (e x : Failure)
+    → TellsNext state done history noted (working_in now) (record { session = session; running = running }) now.notes after (telling.Failed e)
+    → JobTurned state done history noted window most now session running after (turn.Stopped x)
+turn_failed state done history noted window most now session running after e x tells =
+    record { going = tells.going; together = tells.together; did = tt }
+
+pub jobs_on : {L S F H N : Type 0} (state : L → LinkView S) (done : LocalAct → H → H) (history : F → H) (noted : JobNote F → N → N)
+    (window most : ℕ) (first now : Jobs L F N) (session : SftpValue L) (running : List (Running F)) (notes : N) (more : Bool)
+    → JobsSoFar state done history noted window most first now
+    → JobTurned state done history noted window most now session running notes (turn.On more)
+    → JobsSoFar state done history noted window most first
+    (record { session = session; running = running; more = more; notes = notes })
+jobs_on state done history noted window most first now session running notes more w t =
+    record { steps = suc w.steps; run = (now, w.run, t.did); going = t.going; together = t.together }
+
+one_fits : (n most : ℕ) (more : Bool) → n ≡ 0 → 0 < most → (more ≡ true → n < most → ⊥) → more ≡ false
+one_fits n most true none some full = absurd (full refl (omega (arith, none, some)))
+one_fits n most false none some full = refl
+
+pub jobs_done : {L S F H N : Type 0} (state : L → LinkView S) (done : LocalAct → H → H) (history : F → H) (noted : JobNote F → N → N)
+    (window most : ℕ) (first now : Jobs L F N) (session : SftpValue L) (running : List (Running F)) (notes : N)
+    → JobsSoFar state done history noted window most first now → 0 < most
+    → JobTurned state done history noted window most now session running notes turn.Over
+    → JobsDone state done history noted window most first session running notes (Ok tt)
+jobs_done state done history noted window most first now session running notes w some t =
+    let none = idle_none state done history (working_in now) (record { session = session; running = running }) t.did.0 in
+    (w.steps, now, w.run, one_fits (length now.running) most now.more (ap length none.0) some t.did.1, none.0, none.1, t.did.2)
+
+-- ---- as many outcomes as jobs
+
+pub record IsTold {L F N : Type 0} (noted : JobNote F → N → N) (first now : Jobs L F N) : Type 0 where
+  pub notes : List (JobNote F)
+  pub told : now.notes ≡ all_noted noted notes first.notes
+  pub count : given_in notes ≡ over_in notes + length now.running
+
+noted_last : {F N : Type 0} (noted : JobNote F → N → N) (notes : List (JobNote F)) (note : JobNote F) (n : N)
+    → all_noted noted (notes ++ note ∷ []) n ≡ noted note (all_noted noted notes n)
+noted_last noted [] note n = refl
+noted_last noted (first ∷ later) note n = noted_last noted later note (noted first n)
+
+given_join : {F : Type 0} (xs ys : List (JobNote F)) → given_in (xs ++ ys) ≡ given_in xs + given_in ys
+given_join [] ys = omega (arith)
+given_join (Given w ∷ xs) ys = (let e = given_join xs ys in omega (arith, e))
+given_join (NoMore ∷ xs) ys = given_join xs ys
+given_join (Over c ∷ xs) ys = given_join xs ys
+
+over_join : {F : Type 0} (xs ys : List (JobNote F)) → over_in (xs ++ ys) ≡ over_in xs + over_in ys
+over_join [] ys = omega (arith)
+over_join (Given w ∷ xs) ys = over_join xs ys
+over_join (NoMore ∷ xs) ys = over_join xs ys
+over_join (Over c ∷ xs) ys = (let e = over_join xs ys in omega (arith, e))
+
+begun_told : {L F N : Type 0} (noted : JobNote F → N → N) (window most : ℕ) (first mid new : Jobs L F N) → IsTold noted first mid
+    → BeginsOrNot noted window most mid new → IsTold noted first new
+begun_told {L = L} {F = F} {N = N} noted window most first mid new t (more, few, inl (wanted, is)) =
+    let notes = t.notes ++ Given wanted ∷ [] in
+    let given = given_join t.notes (Given wanted ∷ []) in
+    let over = over_join t.notes (Given wanted ∷ []) in
+    let len : length new.running ≡ length mid.running + 1 = ap (λ (j : Jobs L F N). length j.running) is ∙ length_last mid.running _ in
+    let count = t.count in
+    record {
+      notes = notes;
+      told = ap (λ (j : Jobs L F N). j.notes) is ∙ (ap (noted (Given wanted)) t.told ∙ sym (noted_last noted t.notes (Given wanted) first.notes));
+      count = omega (arith, given, over, len, count);
+    }
+begun_told {L = L} {F = F} {N = N} noted window most first mid new t (more, few, inr is) =
+    let given = given_join {F = F} t.notes (NoMore ∷ []) in
+    let over = over_join {F = F} t.notes (NoMore ∷ []) in
+    let len : length new.running ≡ length mid.running = ap (λ (j : Jobs L F N). length j.running) is in
+    let count = t.count in
+    record {
+      notes = t.notes ++ NoMore ∷ [];
+      told = ap (λ (j : Jobs L F N). j.notes) is ∙ (ap (noted NoMore) t.told ∙ sym (noted_last noted t.notes NoMore first.notes));
+      count = omega (arith, given, over, len, count);
+    }
+
+ended_told : {L S F H N : Type 0} (state : L → LinkView S) (done : LocalAct → H → H) (history : F → H) (noted : JobNote F → N → N)
+    (first mid new : Jobs L F N) → IsTold noted first mid → TellsOne state done history noted mid new → IsTold noted first new
+ended_told state done history noted first mid new t one =
+    let given = given_join t.notes (Over one.copied ∷ []) in
+    let over = over_join t.notes (Over one.copied ∷ []) in
+    let len = ended_length state done history (working_in mid) (working_in new) one.copied one.ended in
+    let count = t.count in
+    record {
+      notes = t.notes ++ Over one.copied ∷ [];
+      told = one.told ∙ (ap (noted (Over one.copied)) t.told ∙ sym (noted_last noted t.notes (Over one.copied) first.notes));
+      count = omega (arith, given, over, len, count);
+    }
+
+step_told : {L S F H N : Type 0} (state : L → LinkView S) (done : LocalAct → H → H) (history : F → H) (noted : JobNote F → N → N)
+    (window most : ℕ) (first mid new : Jobs L F N) → IsTold noted first mid
+    → JobStep state done history noted window most mid new → IsTold noted first new
+step_told state done history noted window most first mid new t (inl begins) = begun_told noted window most first mid new t begins
+step_told state done history noted window most first mid new t (inr one) = ended_told state done history noted first mid new t one
+
+pub steps_told : {L S F H N : Type 0} (state : L → LinkView S) (done : LocalAct → H → H) (history : F → H) (noted : JobNote F → N → N)
+    (window most n : ℕ) (first now : Jobs L F N) → first.running ≡ [] → JobSteps state done history noted window most n first now
+    → IsTold noted first now
+steps_told {L = L} {F = F} {N = N} state done history noted window most zero first now none same =
+    let len : length now.running ≡ 0 = ap (λ (j : Jobs L F N). length j.running) same ∙ ap length none in
+    record { notes = []; told = ap (λ (j : Jobs L F N). j.notes) same; count = omega (arith, len) }
+steps_told state done history noted window most (suc n) first now none (mid, earlier, step) =
+    step_told state done history noted window most first mid now
+    (steps_told state done history noted window most n first mid none earlier) step
+
+pub copied_all : {L S F H N : Type 0} (state : L → LinkView S) (done : LocalAct → H → H) (history : F → H) (noted : JobNote F → N → N)
+    (window most : ℕ) (old session : SftpValue L) (running : List (Running F)) (before after : N) (result : Result (Unit {0}) Failure)
+    → JobsDone state done history noted window most (jobs_at old [] before) session running after result
+    → CopiesAll state done history noted window most old before after result
+copied_all state done history noted window most old session running before after (Ok u) (n, last, steps, more, over, none, same) =
+    let t = steps_told state done history noted window most n (jobs_at old [] before) last refl steps in
+    let len = ap length over in
+    let count = t.count in
+    record {
+      session = session;
+      running = running;
+      did = (n, last, steps, more, over, none, same);
+      each = record { notes = t.notes; noted_all = same ∙ t.told; each = omega (arith, count, len) };
+    }
+copied_all state done history noted window most old session running before after (Err e) did =
+    record { session = session; running = running; did = did; each = tt }

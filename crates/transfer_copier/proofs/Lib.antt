@@ -1,0 +1,4 @@
+pub mod GoingLaws
+pub mod TogetherLaws
+pub mod WorkLaws
+pub mod JobLaws

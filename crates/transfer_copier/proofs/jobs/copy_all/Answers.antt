@@ -1,0 +1,15 @@
+use Rattle.std.proofs.Common.{rules, subst, max, [], ◌≡◌}
+use Rattle.sftp_core.specs.Core.{Core}
+use Rattle.transfer_copier.specs.Copies.{CopierValue}
+use Rattle.transfer_copier.specs.Jobs.{JobsDone, jobs_at}
+use Rattle.transfer_copier.proofs.JobLaws.{copied_all}
+use Rattle.transfer_copier.proofs.jobs.copy_all.Goals as goal
+
+pub returns : goal.returns
+returns g c =
+    let did = subst (λ (x : CopierValue _). JobsDone g.L.LinkState.state g.J.File.LocalFile.done g.J.File.LocalFile.history
+    g.J.CopyJobs.noted c.args.window (max c.args.files 1) (jobs_at c.args.sftp.now x.running (g.J.CopyJobs.history c.args.jobs.now))
+    c.run-done.new.sftp c.run-done.new.copier.running (g.J.CopyJobs.history c.run-done.new.jobs) c.run-done.result)
+    c.new-copier.ensures c.run-done.ensures.done in
+    copied_all g.L.LinkState.state g.J.File.LocalFile.done g.J.File.LocalFile.history g.J.CopyJobs.noted c.args.window (max c.args.files 1)
+    c.args.sftp.now c.run-done.new.sftp c.run-done.new.copier.running _ _ c.run-done.result did

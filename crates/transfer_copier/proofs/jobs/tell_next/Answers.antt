@@ -1,0 +1,13 @@
+use Rattle.std.proofs.Common.{rules, ◌≡◌, Ok, Some, subst, ap}
+use Rattle.std.specs.Prelude.{Option, Result}
+use Rattle.transfer_states.specs.declared.failure.Failure.{Failure}
+use Rattle.transfer_copier.specs.declared.running.Copied.{Copied}
+use Rattle.transfer_copier.specs.Copies.{NextEnded}
+use Rattle.transfer_copier.proofs.jobs.tell_next.Goals as goal
+
+pub returns-in-Some : goal.returns-in-Some
+returns-in-Some g c =
+    let ended = subst (λ (x : Option (Copied g.row.J-File.Denot)). NextEnded g.L.LinkState.state g.J.File.LocalFile.done
+    g.J.File.LocalFile.history (record { session = c.args.sftp.now; running = c.args.copier.now.running })
+    (record { session = c.next_ended.new.sftp; running = c.next_ended.new.self.running }) (Ok x)) c.in-Some.is c.in-Ok.ensures.ended in
+    record { going = c.in-Ok.ensures.going; together = c.in-Ok.ensures.together; did = (c.in-Some.copied, ended, c.tell.ensures) }

@@ -1,0 +1,202 @@
+-- A list of files that are copied, so many at once.
+use Rattle.std.specs.Prelude.{
+  ◌≡◌,
+  ◌⊎◌,
+  ◌<◌,
+  ℕ,
+  zero,
+  suc,
+  Bool,
+  true,
+  false,
+  length,
+  List,
+  [],
+  ◌∷◌,
+  ◌++◌,
+  Option,
+  Some,
+  None,
+  Result,
+  Ok,
+  Err,
+  IsSome,
+  OnOk,
+}
+use Rattle.sftp_core.specs.Core.{Core}
+use Rattle.sftp_core.specs.Info.{info_of}
+use Rattle.sftp_link.specs.Views.{LinkView}
+use Rattle.sftp_client.specs.Sessions.{SftpValue}
+use Rattle.transfer_states.specs.declared.failure.Failure.{Failure}
+use Rattle.transfer_states.specs.Local.{LocalAct}
+use Rattle.transfer_copier.specs.declared.jobs.Beginning.{Beginning}
+use Rattle.transfer_copier.specs.declared.jobs.Beginning.TheVariants as beginning
+use Rattle.transfer_copier.specs.declared.jobs.JobTurn.{JobTurn}
+use Rattle.transfer_copier.specs.declared.jobs.JobTurn.TheVariants as turn
+use Rattle.transfer_copier.specs.declared.jobs.Telling.{Telling}
+use Rattle.transfer_copier.specs.declared.jobs.Telling.TheVariants as telling
+use Rattle.transfer_copier.specs.declared.jobs.Wanted.{Wanted}
+use Rattle.transfer_copier.specs.declared.running.Copied.{Copied}
+use Rattle.transfer_copier.specs.declared.running.CopyJob.{CopyJob}
+use Rattle.transfer_copier.specs.declared.running.Running.{Running}
+use Rattle.transfer_copier.specs.Copies.{AreTogether, CopierValue, NextEnded, Working, copy_begun}
+use Rattle.transfer_copier.specs.Sessions.{IsGoing}
+
+-- a job was given, or there was none any more, or what came of one was told
+pub data JobNote (F : Type 0) : Type 0 where
+  Given : Wanted F → JobNote F
+  NoMore : JobNote F
+  Over : Copied F → JobNote F
+
+-- what was noted as a job was asked for
+abbrev pub NotesJob : {F N : Type 0} → (JobNote F → N → N) → Option (Wanted F) → N → N → Type 0
+NotesJob noted (Some wanted) before after = after ≡ noted (Given wanted) before
+NotesJob noted None before after = after ≡ noted NoMore before
+
+-- what was noted as an outcome was told
+abbrev pub NotesOver : {F N : Type 0} → (JobNote F → N → N) → Copied F → N → N → Type 0
+NotesOver noted copied before after = after ≡ noted (Over copied) before
+
+-- a session, the copies over its core, whether there may be more jobs, and what was noted of them
+pub record Jobs (L F N : Type 0) : Type 0 where
+  pub session : SftpValue L
+  pub running : List (Running F)
+  pub more : Bool
+  pub notes : N
+
+abbrev pub working_in : {L F N : Type 0} → Jobs L F N → Working L F
+working_in j = record { session = j.session; running = j.running }
+
+-- the copy of a job that was given stands last
+abbrev pub with_copy : {F : Type 0} → List (Running F) → Wanted F → ℕ → List (Running F)
+with_copy running wanted window =
+    running ++ record { job = wanted.job; local = wanted.local; state = copy_begun wanted.job.way window } ∷ []
+
+-- a copy that has asked for nothing may stand beside others
+abbrev pub Joins : {F : Type 0} → List (Running F) → List (Running F) → Type 0
+Joins old new = (core : Core) → IsSome (info_of core.phase) → AreTogether core old → AreTogether core new
+
+-- where fewer copies than `most` are under way, a job was given and its copy begun, or there was none any more
+abbrev pub BeginsOrNot : {L F N : Type 0} → (JobNote F → N → N) → ℕ → ℕ → Jobs L F N → Jobs L F N → Type 0
+BeginsOrNot {F = F} noted window most old new = (old.more ≡ true) × (length old.running < most)
+    × (((wanted : Wanted F) × (new ≡ record old {
+      running = with_copy old.running wanted window;
+      notes = noted (Given wanted) old.notes;
+    }))
+    ⊎ (new ≡ record old { more = false; notes = noted NoMore old.notes }))
+
+-- what begin did of them
+abbrev pub BeginsJob : {F N : Type 0} → (JobNote F → N → N) → ℕ → CopierValue F → CopierValue F → N → N → Beginning
+    → Type 0
+BeginsJob {F = F} noted window old new before after beginning.Begun = (wanted : Wanted F)
+    × (new ≡ record old { running = with_copy old.running wanted window })
+    × (after ≡ noted (Given wanted) before)
+    × Joins old.running new.running
+BeginsJob noted window old new before after beginning.NoJob = (new ≡ old) × (after ≡ noted NoMore before)
+BeginsJob noted window old new before after beginning.Short = new ≡ old
+
+-- one copy ended, and this was told
+pub record TellsOne {L S F H N : Type 0} (state : L → LinkView S) (done : LocalAct → H → H) (history : F → H)
+    (noted : JobNote F → N → N) (old new : Jobs L F N) : Type 0 where
+  pub copied : Copied F
+  pub ended : NextEnded state done history (working_in old) (working_in new) (Ok (Some copied))
+  pub more : new.more ≡ old.more
+  pub told : new.notes ≡ noted (Over copied) old.notes
+
+abbrev pub JobStep : {L S F H N : Type 0} → (L → LinkView S) → (LocalAct → H → H) → (F → H) → (JobNote F → N → N) → ℕ
+    → ℕ → Jobs L F N → Jobs L F N → Type 0
+JobStep state done history noted window most old new = BeginsOrNot noted window most old new
+    ⊎ TellsOne state done history noted old new
+
+-- so many of these
+abbrev pub JobSteps : {L S F H N : Type 0} → (L → LinkView S) → (LocalAct → H → H) → (F → H) → (JobNote F → N → N) → ℕ
+    → ℕ → ℕ → Jobs L F N → Jobs L F N → Type 0
+JobSteps state done history noted window most zero old new = new ≡ old
+JobSteps {L = L} {F = F} {N = N} state done history noted window most (suc n) old new = (mid : Jobs L F N)
+    × JobSteps state done history noted window most n old mid
+    × JobStep state done history noted window most mid new
+
+-- what came of one copy was told, or none was under way; or there was no memory
+abbrev pub ToldDid : {L S F H N : Type 0} → (L → LinkView S) → (LocalAct → H → H) → (F → H) → (JobNote F → N → N)
+    → Working L F → Working L F → N → N → Telling → Type 0
+ToldDid {F = F} state done history noted old new before after telling.Told = (copied : Copied F)
+    × NextEnded state done history old new (Ok (Some copied)) × (after ≡ noted (Over copied) before)
+ToldDid state done history noted old new before after telling.NoCopy = NextEnded state done history old new (Ok None)
+    × (after ≡ before)
+ToldDid state done history noted old new before after (telling.Failed e) = after ≡ before
+
+pub record TellsNext {L S F H N : Type 0} (state : L → LinkView S) (done : LocalAct → H → H) (history : F → H)
+    (noted : JobNote F → N → N) (old new : Working L F) (before after : N) (result : Telling) : Type 0 where
+  pub going : IsGoing state new.session
+  pub together : AreTogether new.session.core new.running
+  pub did : ToldDid state done history noted old new before after result
+
+-- a step of jobs; or no copy was under way, and none could be begun; or there was no memory
+abbrev pub JobTurnDid : {L S F H N : Type 0} → (L → LinkView S) → (LocalAct → H → H) → (F → H) → (JobNote F → N → N)
+    → ℕ → ℕ → Jobs L F N → SftpValue L → List (Running F) → N → JobTurn → Type 0
+JobTurnDid state done history noted window most old session running notes (turn.On more) =
+    JobStep state done history noted window most old
+    (record { session = session; running = running; more = more; notes = notes })
+JobTurnDid state done history noted window most old session running notes turn.Over =
+    NextEnded state done history (working_in old) (record { session = session; running = running }) (Ok None)
+    × (old.more ≡ true → length old.running < most → ⊥)
+    × (notes ≡ old.notes)
+JobTurnDid state done history noted window most old session running notes (turn.Stopped e) = Unit {0}
+
+pub record JobTurned {L S F H N : Type 0} (state : L → LinkView S) (done : LocalAct → H → H) (history : F → H)
+    (noted : JobNote F → N → N) (window most : ℕ) (old : Jobs L F N) (session : SftpValue L)
+    (running : List (Running F))
+    (notes : N) (result : JobTurn) : Type 0 where
+  pub going : IsGoing state session
+  pub together : AreTogether session.core running
+  pub did : JobTurnDid state done history noted window most old session running notes result
+
+-- Steps of jobs until there is none any more and no copy is under way; or there was no memory.
+abbrev pub JobsDone : {L S F H N : Type 0} → (L → LinkView S) → (LocalAct → H → H) → (F → H) → (JobNote F → N → N) → ℕ
+    → ℕ → Jobs L F N → SftpValue L → List (Running F) → N → Result (Unit {0}) Failure → Type 0
+JobsDone {L = L} {F = F} {N = N} state done history noted window most old session running notes (Ok u) = (n : ℕ)
+    × (last : Jobs L F N)
+    × JobSteps state done history noted window most n old last
+    × (last.more ≡ false)
+    × (last.running ≡ [])
+    × (running ≡ [])
+    × (notes ≡ last.notes)
+JobsDone state done history noted window most old session running notes (Err e) = Unit {0}
+
+-- jobs over a session, of which nothing was asked yet
+abbrev pub jobs_at : {L F N : Type 0} → SftpValue L → List (Running F) → N → Jobs L F N
+jobs_at session running notes = record { session = session; running = running; more = true; notes = notes }
+
+-- ---- what was noted
+
+abbrev pub all_noted : {F N : Type 0} → (JobNote F → N → N) → List (JobNote F) → N → N
+all_noted noted [] notes = notes
+all_noted noted (note ∷ later) notes = all_noted noted later (noted note notes)
+
+abbrev pub given_in : {F : Type 0} → List (JobNote F) → ℕ
+given_in [] = 0
+given_in (Given wanted ∷ later) = suc (given_in later)
+given_in (other ∷ later) = given_in later
+
+abbrev pub over_in : {F : Type 0} → List (JobNote F) → ℕ
+over_in [] = 0
+over_in (Over copied ∷ later) = suc (over_in later)
+over_in (other ∷ later) = over_in later
+
+-- these notes were made, and as many outcomes were told as jobs were given
+pub record IsEachTold {F N : Type 0} (noted : JobNote F → N → N) (before after : N) : Type 0 where
+  pub notes : List (JobNote F)
+  pub noted_all : after ≡ all_noted noted notes before
+  pub each : over_in notes ≡ given_in notes
+
+-- ---- all jobs
+
+-- All jobs over a session, of which none was under way: steps of jobs until there is none any more, and what came of
+-- each was told.
+pub record CopiesAll {L S F H N : Type 0} (state : L → LinkView S) (done : LocalAct → H → H) (history : F → H)
+    (noted : JobNote F → N → N) (window most : ℕ) (old : SftpValue L) (before after : N)
+    (result : Result (Unit {0}) Failure) : Type 0 where
+  pub session : SftpValue L
+  pub running : List (Running F)
+  pub did : JobsDone state done history noted window most (jobs_at old [] before) session running after result
+  pub each : OnOk result (IsEachTold noted before after)

@@ -1,0 +1,183 @@
+//! Copies of many files over one session.
+ghost use Rattle.std.specs.Prelude.{◌≡◌, [], ◌∷◌, ◌++◌, length, OnOk, OnErr, IsSome};
+ghost use Rattle.sftp_core.specs.Core.{Core as CoreValue};
+ghost use Rattle.sftp_core.specs.Info.{info_of};
+ghost use Rattle.transfer_copier.specs.Copies.{Advanced, AreTogether, CopierSteps, NextEnded, SparesAll, copy_begun};
+ghost use Rattle.transfer_copier.specs.Sessions.{IsGoing};
+
+use crate::running::{Copied, CopyJob, CopyState, Running};
+use crate::turning::turn_on;
+use sftp_client::Sftp;
+use sftp_core::Core;
+use sftp_link::Link;
+use ssh_encoding::OutOfMemory;
+use std::alloc::Global;
+use std::collections::VecDeque;
+use std::marker::Model;
+use transfer_states::{Failure, LocalFile, Progress};
+
+/// What a step of the first copy did.
+#[derive(Drop)]
+pub enum CopierStep<F> {
+    /// No copy is under way.
+    Idle,
+    /// Nothing: the reply that the copy awaits was not taken. It stands last now.
+    Waits,
+    /// It went on by one step, and stands last now.
+    Moved,
+    /// It has ended, and is under way no more.
+    Ended(Copied<F>),
+}
+
+/// How far copies and session have come.
+pub(crate) enum Advance<F> {
+    /// They go on.
+    On,
+    /// A copy has ended, or none was under way.
+    Over(Option<Copied<F>>),
+    /// The session had no memory.
+    Stopped(Failure),
+}
+
+/// Copies of many files over one session, which take turns. It isn't droppable: `cancel` spends it, once all copies have
+/// ended too.
+#[must_use]
+pub struct Copier<F> {
+    running: VecDeque<Running<F>>,
+}
+
+impl<F> Model for Copier<F> {
+    ghost use Rattle.transfer_copier.specs.Copies.{CopierValue};
+
+    ghost Value = { CopierValue F };
+
+    ghost view = { λ c. record { running = c.running.items } };
+}
+
+impl<F: LocalFile + Drop> Copier<F> {
+    /// No copy yet.
+    pub fn new(alloc: Global) -> Copier<F>
+        ensures { result ≡ record { running = [] } }
+    {
+        Copier {
+            running: VecDeque::new(alloc),
+        }
+    }
+
+    /// How many copies are under way.
+    pub fn len(&self) -> usize
+        ensures { result ≡ length self.now.running }
+    {
+        self.running.len()
+    }
+
+    /// BeginsJob a copy, which stands last, with at most `window` requests under way for its bytes, and one at least. Nothing
+    /// is asked yet. Refused for want of memory, the copies are as before, and
+    /// job and file are dropped.
+    pub fn begin(
+        &mut self,
+        alloc: Global,
+        job: CopyJob,
+        local: F,
+        window: u32,
+    ) -> Result<(), OutOfMemory>
+        ensures ok { OnOk result (self.new ≡ record self.old { running = self.old.running ++ record { job = job; local = local; state = copy_begun job.way window } ∷ [] }) }
+        ensures together { OnOk result ((core : CoreValue) → IsSome (info_of core.phase) → AreTogether core self.old.running → AreTogether core self.new.running) }
+        ensures err { OnErr result (self.new ≡ self.old) }
+    {
+        if self.running.reserve(1).is_err() {
+            return Err(OutOfMemory);
+        }
+        let state = CopyState::new(alloc, job.way, window);
+        self.running
+            .push_back_reserved(Running { job, local, state });
+        Ok(())
+    }
+
+    /// Takes one step of the first copy, which stands last then, or has ended. It waits for nothing.
+    pub fn step(&mut self, core: &mut Core) -> CopierStep<F>
+        requires { AreTogether core.old self.old.running }
+        ensures did { CopierSteps F.LocalFile.done F.LocalFile.history core.old self.old.running core.new self.new.running result }
+        ensures together { AreTogether core.new self.new.running }
+    {
+        let Some(first) = self.running.pop_front() else {
+            return CopierStep::Idle;
+        };
+        let mut running = first;
+        match running.step(core) {
+            Progress::Waits => {
+                self.running.push_back_reserved(running);
+                CopierStep::Waits
+            }
+            Progress::Moved => {
+                self.running.push_back_reserved(running);
+                CopierStep::Moved
+            }
+            Progress::Ended(result) => CopierStep::Ended(running.end(core, result)),
+        }
+    }
+}
+
+impl<F: LocalFile + Drop> Copier<F> {
+    /// The next copy that has ended; None where none is under way. Each copy takes its turns, and where each of them waits
+    /// the session sends what is queued and takes one frame. A fault of the session ends each copy by its own step.
+    ///
+    /// `OutOfMemory`, where the session had no memory: the call may be made again.
+    pub fn next_ended<L: Link>(&mut self, sftp: &mut Sftp<L>) -> Result<Option<Copied<F>>, Failure>
+        requires going { IsGoing L.LinkState.state sftp.old }
+        requires together { AreTogether sftp.old.core self.old.running }
+        ensures going { IsGoing L.LinkState.state sftp.new }
+        ensures together { AreTogether sftp.new.core self.new.running }
+        ensures ended { NextEnded L.LinkState.state F.LocalFile.done F.LocalFile.history (record { session = sftp.old; running = self.old.running }) (record { session = sftp.new; running = self.new.running }) result }
+    {
+        let mut still: usize = 0;
+        for _ in 0..u64::MAX {
+            match self.advance(sftp, &mut still) {
+                Advance::On => {}
+                Advance::Over(copied) => return Ok(copied),
+                Advance::Stopped(e) => return Err(e),
+            }
+        }
+        Err(Failure::TooLong)
+    }
+
+    /// One step of the first copy, and a turn of the session where as many have waited one after another as there are.
+    fn advance<L: Link>(&mut self, sftp: &mut Sftp<L>, still: &mut usize) -> Advance<F>
+        requires going { IsGoing L.LinkState.state sftp.old }
+        requires together { AreTogether sftp.old.core self.old.running }
+        ensures { Advanced L.LinkState.state F.LocalFile.done F.LocalFile.history (record { session = sftp.old; running = self.old.running }) (record { session = sftp.new; running = self.new.running }) result }
+    {
+        match self.step(sftp.core()) {
+            CopierStep::Idle => Advance::Over(None),
+            CopierStep::Ended(copied) => Advance::Over(Some(copied)),
+            CopierStep::Moved => {
+                *still = 0;
+                Advance::On
+            }
+            CopierStep::Waits => {
+                *still = still.saturating_add(1);
+                if *still < self.len() {
+                    return Advance::On;
+                }
+                *still = 0;
+                match turn_on(sftp) {
+                    Ok(()) => Advance::On,
+                    Err(e) => Advance::Stopped(e),
+                }
+            }
+        }
+    }
+
+    /// Gives up all copies that are under way: replies, come or to come, are dropped, and the handles that came or come
+    /// are closed.
+    pub fn cancel(self, core: &mut Core)
+        requires { AreTogether core.old self.running }
+        ensures { SparesAll self.running core.old core.new }
+    {
+        let Copier { mut running } = self;
+        while let Some(copy) = running.pop_front() {
+            copy.cancel(core);
+        }
+        running.destroy_empty();
+    }
+}

@@ -1,0 +1,7 @@
+pub mod Local
+pub mod Sessions
+pub mod Awaits
+pub mod Asks
+pub mod Gets
+pub mod Puts
+pub mod Disks

@@ -1,0 +1,165 @@
+-- The jobs of a transfer, one after another.
+use Rattle.std.specs.Prelude.{◌≡◌, ◌==◌, ◌&&◌, ◌||◌, ℕ, Bool, true, false, not, List, [], ◌∷◌, ◌++◌, reverse, if◌then◌else◌}
+use Rattle.std.specs.List.{list_any, starts_with}
+use Rattle.transfer_paths.specs.Names.{path_in}
+use Rattle.transfer_jobs.specs.declared.hand.Verdict.{Verdict}
+use Rattle.transfer_jobs.specs.declared.hand.Verdict.TheVariants.{Done, Stop}
+use Rattle.transfer_walk.specs.declared.found.Found.{Found}
+use Rattle.transfer_walk.specs.declared.task.Task.{Task}
+use Rattle.transfer_walk.specs.declared.task.Task.TheVariants as task
+
+-- a job that was done or not, a folder that was given its permissions and times or not, or a job that was skipped
+pub data JobAct : Type 0 where
+  Worked : Found → Verdict → JobAct
+  Kept : Found → Verdict → JobAct
+  Skipped : Found → JobAct
+
+-- acts one after another
+abbrev pub all_worked : {H : Type 0} → (JobAct → H → H) → List JobAct → H → H
+all_worked done [] history = history
+all_worked done (act ∷ acts) history = all_worked done acts (done act history)
+
+-- ---- what is kept of them
+
+-- whether all jobs were done, whether no other can be done, and the folders that were not made, each with a slash at its
+-- end
+pub record TallyValue : Type 0 where
+  pub all_done : Bool
+  pub stopped : Bool
+  pub unmade : List (List ℕ)
+
+-- of no job
+abbrev pub no_job : TallyValue
+no_job = record { all_done = true; stopped = false; unmade = [] }
+
+abbrev pub is_done : Verdict → Bool
+is_done Done = true
+is_done other = false
+
+abbrev pub is_stop : Verdict → Bool
+is_stop Stop = true
+is_stop other = false
+
+abbrev pub is_folder : Task → Bool
+is_folder task.MakeFolder = true
+is_folder other = false
+
+abbrev pub is_link : Task → Bool
+is_link task.CopyLink = true
+is_link other = false
+
+-- a folder that was not made, and others
+abbrev pub with_unmade : Found → Verdict → List (List ℕ) → List (List ℕ)
+with_unmade found verdict unmade =
+    if is_folder found.task && not (is_done verdict) then unmade ++ path_in found.target [] ∷ [] else unmade
+
+abbrev pub after_job : JobAct → TallyValue → TallyValue
+after_job (Worked found verdict) t =
+    record {
+      all_done = t.all_done && is_done verdict;
+      stopped = t.stopped || is_stop verdict;
+      unmade = with_unmade found verdict t.unmade;
+    }
+after_job (Kept found verdict) t =
+    record {
+      all_done = t.all_done && is_done verdict;
+      stopped = t.stopped || is_stop verdict;
+      unmade = t.unmade;
+    }
+after_job (Skipped found) t = record t { all_done = false }
+
+-- ---- which job is next
+
+-- it stands in a folder that was not made
+abbrev pub is_skipped : TallyValue → Found → Bool
+is_skipped t found = list_any (λ folder. starts_with ◌==◌ found.target folder) t.unmade
+
+-- the folder was not made, or stands in one that was not
+abbrev pub is_unmade : TallyValue → Found → Bool
+is_unmade t found = list_any (λ folder. starts_with ◌==◌ (path_in found.target []) folder) t.unmade
+
+-- the jobs of a phase
+abbrev pub is_of : Bool → Found → Bool
+is_of links found = if links then is_link found.task else not (is_link found.task)
+
+-- symbolic links are made in a phase of their own; nothing is done any more once no job can be
+abbrev pub in_phase : Bool → TallyValue → Found → Bool
+in_phase links t found = is_of links found && not t.stopped
+
+-- folders that were made are given their permissions and times
+abbrev pub to_keep : TallyValue → Found → Bool
+to_keep t found = is_folder found.task && not t.stopped && not (is_unmade t found)
+
+-- it is skipped exactly where it stands in a folder that was not made
+abbrev pub IsJob : TallyValue → Found → JobAct → Type 0
+IsJob t found (Worked other verdict) = (other ≡ found) × (is_skipped t found ≡ false)
+IsJob t found (Kept other verdict) = ⊥
+IsJob t found (Skipped other) = (other ≡ found) × (is_skipped t found ≡ true)
+
+-- a folder is given its permissions and times, or not
+abbrev pub IsKeep : TallyValue → Found → JobAct → Type 0
+IsKeep t found (Worked other verdict) = ⊥
+IsKeep t found (Kept other verdict) = other ≡ found
+IsKeep t found (Skipped other) = ⊥
+
+-- one of two facts, by a test
+abbrev pub FactBy : Bool → Type 0 → Type 0 → Type 0
+FactBy true A B = A
+FactBy false A B = B
+
+-- One act for each of these that is in the phase, in their order.
+abbrev pub AreActs : (TallyValue → Found → Bool) → (TallyValue → Found → JobAct → Type 0) → List Found → TallyValue
+    → List JobAct → TallyValue → Type 0
+AreActs phase Is [] t acts new = (acts ≡ []) × (new ≡ t)
+AreActs phase Is (found ∷ later) t acts new = FactBy (phase t found)
+    ((act : JobAct) × (rest : List JobAct) × (acts ≡ act ∷ rest) × Is t found act
+    × AreActs phase Is later (after_job act t) rest new)
+    (AreActs phase Is later t acts new)
+
+-- one job was done or skipped, and noted
+abbrev pub WorksOne : {H : Type 0} → (JobAct → H → H) → (TallyValue → Found → JobAct → Type 0) → Found → TallyValue
+    → TallyValue → H → H → Type 0
+WorksOne done Is found old new before after = (act : JobAct) × Is old found act × (new ≡ after_job act old)
+    × (after ≡ done act before)
+
+-- so where it is in the phase, and else nothing was done
+abbrev pub MayWorkOne : {H : Type 0} → (JobAct → H → H) → (TallyValue → Found → Bool)
+    → (TallyValue → Found → JobAct → Type 0) → Found → TallyValue → TallyValue → H → H → Type 0
+MayWorkOne done phase Is found old new before after = FactBy (phase old found)
+    (WorksOne done Is found old new before after) ((new ≡ old) × (after ≡ before))
+
+-- those of a phase were, and nothing else
+abbrev pub HasActed : {H : Type 0} → (JobAct → H → H) → (TallyValue → Found → Bool)
+    → (TallyValue → Found → JobAct → Type 0) → List Found → TallyValue → TallyValue → H → H → Type 0
+HasActed done phase Is jobs old new before after = (acts : List JobAct) × AreActs phase Is jobs old acts new
+    × (after ≡ all_worked done acts before)
+
+-- folders are given their permissions and times, the last one first; or that isn't asked for
+abbrev pub HasKept : {H : Type 0} → (JobAct → H → H) → Bool → List Found → TallyValue → TallyValue → H → H → Type 0
+HasKept done false jobs old new before after = (new ≡ old) × (after ≡ before)
+HasKept done true jobs old new before after = HasActed done to_keep IsKeep (reverse jobs) old new before after
+
+-- Folders were made and files copied, then symbolic links made, and then folders given their permissions and times.
+pub record CarriesOut {H : Type 0} (done : JobAct → H → H) (keeps : Bool) (jobs : List Found) (before after : H)
+    (new : TallyValue) : Type 0 where
+  pub first : TallyValue
+  pub linked : TallyValue
+  pub copied : H
+  pub worked : H
+  pub copies : HasActed done (in_phase false) IsJob jobs no_job first before copied
+  pub links : HasActed done (in_phase true) IsJob jobs first linked copied worked
+  pub keeps_all : HasKept done keeps jobs linked new worked after
+
+-- ---- where all was done
+
+-- each of these was worked at, and done
+abbrev pub all_work : (Found → Bool) → List Found → List JobAct
+all_work test [] = []
+all_work test (found ∷ later) = if test found then Worked found Done ∷ all_work test later else all_work test later
+
+-- Each job was done, symbolic links behind all others, and nothing was done behind them but to give folders their
+-- permissions and times.
+abbrev pub AreAllDone : {H : Type 0} → (JobAct → H → H) → List Found → H → H → Type 0
+AreAllDone done jobs before after = (kept : List JobAct)
+    × (after ≡ all_worked done kept (all_worked done (all_work (is_of true) jobs)
+    (all_worked done (all_work (is_of false) jobs) before)))

@@ -1,0 +1,42 @@
+-- Where a path is cut.
+use Rattle.std.specs.Prelude.{◌≡◌, ◌≢◌, ◌≤◌, ◌==◌, ℕ, true, false, List, [], ◌++◌, codes, drop, length, take, Option, Some, None}
+use Rattle.transfer_paths.specs.Names.{is_component}
+use Rattle.std.specs.List.{list_all, list_any}
+use Rattle.sftp_model.specs.Paths.{last_byte, slash, with_separator}
+
+-- the path is cut behind its last slash, or at its start where it has none
+pub record EndsFolder (path : List ℕ) (len : ℕ) : Type 0 where
+  pub within : len ≤ length path
+  pub closed : with_separator (take len path) ≡ take len path
+  pub behind : list_any (λ b. b == slash) (drop len path) ≡ false
+
+-- all slashes at the end of the path are left out, and nothing else
+pub record EndsText (path : List ℕ) (len : ℕ) : Type 0 where
+  pub within : len ≤ length path
+  pub text : last_byte (take len path) ≢ Some slash
+  pub slashes : list_all (λ b. b == slash) (drop len path) ≡ true
+
+-- the path of the file `.NAME.part` in the folder of the file NAME: the path is cut at its last slash
+pub record IsPartOf (path part : List ℕ) : Type 0 where
+  pub folder : List ℕ
+  pub name : List ℕ
+  pub whole : path ≡ folder ++ name
+  pub closed : with_separator folder ≡ folder
+  pub last : list_any (λ b. b == slash) name ≡ false
+  pub is : part ≡ folder ++ codes "." ++ name ++ codes ".part"
+
+-- what stands behind the last slash of a path, when the slashes at its end are left out; empty only where the path has
+-- nothing but slashes
+pub record IsLastPart (path last : List ℕ) : Type 0 where
+  pub folder : List ℕ
+  pub slashes : List ℕ
+  pub whole : path ≡ folder ++ last ++ slashes
+  pub closed : with_separator folder ≡ folder
+  pub filled : last ≡ [] → folder ≡ []
+  pub last_one : list_any (λ b. b == slash) last ≡ false
+  pub only : list_all (λ b. b == slash) slashes ≡ true
+
+-- the last part, where it is a component
+abbrev pub NamesLast : List ℕ → Option (List ℕ) → Type 0
+NamesLast path (Some last) = (is_component last ≡ true) × IsLastPart path last
+NamesLast path None = (last : List ℕ) × (is_component last ≡ false) × IsLastPart path last

@@ -1,0 +1,54 @@
+//! A call of a session from its start to its answer.
+ghost use Rattle.std.specs.Prelude.{◌≡◌, [], OnOk, IfOk};
+ghost use Rattle.call_state.specs.Calls.{IsUnderWay};
+ghost use Rattle.transfer_file.specs.Awaits.{IsPlain};
+ghost use Rattle.transfer_file.specs.Sessions.{IsGoing};
+ghost use Rattle.transfer_remote.specs.Runs.{Finishes, IsFree, IsLive};
+
+use call_state::{Alone, Call};
+use sftp_client::Sftp;
+use sftp_core::MAX_IDS;
+use sftp_fs::Fs;
+use sftp_link::Link;
+use sftp_model::{Error, RemotePath};
+use std::alloc::Global;
+use transfer_file::{Failure, await_call};
+
+/// Paths as they are given.
+pub(crate) fn plain_paths(alloc: Global) -> Fs
+    ensures { result ≡ [] }
+{
+    Fs::new(RemotePath::new(Vec::new(alloc)))
+}
+
+/// Looks whether a further call can be begun. A kept fault is answered, and want of memory where 2147483648 ids are in use.
+pub(crate) fn ready<L: Link>(sftp: &mut Sftp<L>) -> Result<(), Failure>
+    requires { IsGoing L.LinkState.state sftp.old }
+    ensures same { sftp.new ≡ sftp.old }
+    ensures free { OnOk result (IsFree L.LinkState.state sftp.old) }
+{
+    let core = sftp.core();
+    if let Some(fault) = core.fault() {
+        return Err(Failure::Remote(Error::BackgroundTaskFailure(fault)));
+    }
+    if core.kept() >= MAX_IDS {
+        return Err(Failure::OutOfMemory);
+    }
+    Ok(())
+}
+
+/// What a call that was begun answers, or why it was not begun.
+pub(crate) fn finish<L: Link, M: Alone>(
+    sftp: &mut Sftp<L>,
+    started: Result<Call<M>, Error>,
+) -> Result<M::Value, Failure>
+    requires plain { IsPlain M.PlanMachine.meaning }
+    requires live { IsLive L.LinkState.state sftp.old }
+    requires under_way { IfOk started (IsUnderWay M.PlanMachine.meaning sftp.old.core) }
+    ensures { Finishes L.LinkState.state M.PlanMachine.meaning started sftp.old sftp.new result }
+{
+    match started {
+        Ok(call) => await_call(sftp, call),
+        Err(e) => Err(e.into()),
+    }
+}

@@ -1,0 +1,6 @@
+pub mod HoldingLaws
+pub mod DropLaws
+pub mod GetLaws
+pub mod PutLaws
+pub mod ActLaws
+pub mod PutActLaws

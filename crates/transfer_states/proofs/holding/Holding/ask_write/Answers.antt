@@ -1,0 +1,16 @@
+use Rattle.std.proofs.Common.{rules, ◌≡◌, ◌∙◌, ap, sym, refl, subst, [], ◌∷◌, ◌++◌}
+use Rattle.call_state.specs.Asked.{Submitted}
+use Rattle.call_state.specs.declared.asking.Asking.TheVariants.{Whole, Parts}
+use Rattle.sftp_model.specs.declared.request.Request.TheVariants as request
+use Rattle.transfer_states.specs.declared.holding.FileHold.{FileHold}
+use Rattle.transfer_states.specs.Holdings.{AsksForRead, AsksForWrite, HoldingValue, file_handle}
+use Rattle.transfer_states.proofs.HoldingLaws.{part_asked}
+use Rattle.transfer_states.proofs.holding.Holding.ask_write.Goals as goal
+
+pub returns-in-Ok-clause-ok : goal.returns-in-Ok-clause-ok
+returns-in-Ok-clause-ok c =
+    let submitted : Submitted c.args.core.now (Parts (file_handle c.args.self.now.file) c.args.offset
+    (c.args.bytes.now ∷ [])) c.in-Ok.ticket c.submit_write.new.core = search rules in
+    let asks : AsksForWrite c.args.core.now c.args.self.now c.args.offset c.args.bytes.now c.submit_write.new.core _ =
+    record { ticket = c.in-Ok.ticket; submitted = submitted; now = search rules } in
+    (asks, part_asked c.args.core.now c.submit_write.new.core c.args.self.now _ _ _ refl c.requires.held asks)

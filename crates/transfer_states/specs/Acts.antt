@@ -1,0 +1,92 @@
+-- What a copy has done to its local file so far, and once it has ended.
+use Rattle.std.specs.Prelude.{◌≡◌, ℕ, ◌+◌, Bool, true, false, List, [], ◌∷◌, ◌++◌, length, None, Ok, Err}
+use Rattle.transfer_states.specs.declared.get.FileGet.{FileGet}
+use Rattle.transfer_states.specs.declared.get.GetStage.{GetStage}
+use Rattle.transfer_states.specs.declared.get.GetStage.TheVariants as get
+use Rattle.transfer_states.specs.declared.progress.Progress.{Progress}
+use Rattle.transfer_states.specs.declared.progress.Progress.TheVariants as progress
+use Rattle.transfer_states.specs.declared.put.FilePut.{FilePut}
+use Rattle.transfer_states.specs.declared.put.PutStage.{PutStage}
+use Rattle.transfer_states.specs.declared.put.PutStage.TheVariants as put
+use Rattle.transfer_states.specs.Local.{
+  AreGot,
+  AreOfPart,
+  AreUnnamed,
+  Created,
+  Got,
+  HasDone,
+  LocalAct,
+  Opened,
+  Renamed,
+  reads_of,
+  writes_of,
+}
+
+abbrev pub total_len : List (List ℕ) → ℕ
+total_len [] = 0
+total_len (piece ∷ later) = length piece + total_len later
+
+-- ---- from the server
+
+-- the part was made, and so many bytes were written to it, piece by piece, and nothing else
+pub record HasWrittenPart {H : Type 0} (done : LocalAct → H → H) (part : List ℕ) (len : ℕ) (first now : H) : Type 0
+  where
+    pub pieces : List (List ℕ)
+    pub acts : HasDone done (Created part ∷ writes_of pieces) first now
+    pub total : total_len pieces ≡ len
+
+-- the part alone was made or written to
+abbrev pub IsPartOnly : {H : Type 0} → (LocalAct → H → H) → List ℕ → H → H → Type 0
+IsPartOnly done part first now = (acts : List LocalAct) × HasDone done acts first now × AreOfPart part acts
+
+abbrev pub GotSoFar : {H : Type 0} → (LocalAct → H → H) → List ℕ → FileGet → H → H → GetStage → Type 0
+GotSoFar done part g first now get.Starting = (now ≡ first) × (g.offset ≡ 0)
+GotSoFar done part g first now get.Opening = (now ≡ first) × (g.offset ≡ 0)
+GotSoFar done part g first now get.Reading = HasWrittenPart done part g.offset first now
+GotSoFar done part g first now get.Closing = IsPartOnly done part first now
+    × (g.failure ≡ None → HasWrittenPart done part g.offset first now)
+GotSoFar done part g first now get.Ended = Unit {0}
+
+-- Where it gives a count, the part was made, so many bytes were written to it, piece by piece, and then it was renamed;
+-- with an error no file got the name.
+abbrev pub GotAfter : {H : Type 0} → (LocalAct → H → H) → List ℕ → List ℕ → FileGet → H → H → Progress → Type 0
+GotAfter {H = H} done part name new first now (progress.Ended (Ok len)) = (written : H)
+    × HasWrittenPart done part len first written
+    × (now ≡ done (Renamed part name) written)
+GotAfter done part name new first now (progress.Ended (Err e)) = (acts : List LocalAct) × HasDone done acts first now
+    × AreUnnamed part name acts
+GotAfter done part name new first now other = GotSoFar done part new first now new.stage
+
+-- ---- to the server
+
+-- at the end nothing was got
+abbrev pub end_acts : Bool → List LocalAct
+end_acts true = Got [] ∷ []
+end_acts false = []
+
+-- the file was opened, and so many bytes were got, piece by piece, and at the end none
+pub record HasReadFile {H : Type 0} (done : LocalAct → H → H) (name : List ℕ) (at_end : Bool) (len : ℕ) (first now : H)
+    :
+    Type 0 where
+  pub pieces : List (List ℕ)
+  pub acts : HasDone done (Opened name ∷ (reads_of pieces ++ end_acts at_end)) first now
+  pub total : total_len pieces ≡ len
+
+-- the file was only read
+abbrev pub IsReadOnly : {H : Type 0} → (LocalAct → H → H) → H → H → Type 0
+IsReadOnly done first now = (acts : List LocalAct) × HasDone done acts first now × AreGot acts
+
+abbrev pub SentSoFar : {H : Type 0} → (LocalAct → H → H) → List ℕ → FilePut → H → H → PutStage → Type 0
+SentSoFar done name p first now put.Starting = (now ≡ first) × (p.next ≡ 0) × (p.at_end ≡ false)
+SentSoFar done name p first now put.Opening = HasReadFile done name p.at_end p.next first now
+SentSoFar done name p first now put.Writing = HasReadFile done name p.at_end p.next first now
+SentSoFar done name p first now put.Closing = IsReadOnly done first now
+    × (p.failure ≡ None → HasReadFile done name true p.offset first now)
+SentSoFar done name p first now put.Ended = Unit {0}
+SentSoFar done name p first now other = HasReadFile done name true p.offset first now
+
+-- Where it gives a count, the file was opened and so many bytes were got, up to its end; in any case it was only read.
+abbrev pub SentAfter : {H : Type 0} → (LocalAct → H → H) → List ℕ → FilePut → H → H → Progress → Type 0
+SentAfter done name new first now (progress.Ended (Ok len)) = HasReadFile done name true len first now
+SentAfter done name new first now (progress.Ended (Err e)) = IsReadOnly done first now
+SentAfter done name new first now other = SentSoFar done name new first now new.stage

@@ -1,0 +1,7 @@
+pub mod Local
+pub mod Answers
+pub mod Refusals
+pub mod Holdings
+pub mod Gets
+pub mod Puts
+pub mod Acts

@@ -1,0 +1,34 @@
+//! Laws of the definitions. The functions do nothing: what they ensure holds of all values.
+ghost use Rattle.std.specs.Prelude.{◌≡◌, ℕ, List};
+ghost use Rattle.sftp_core.specs.Core.{Core};
+ghost use Rattle.transfer_states.specs.Acts.{GotAfter, GotSoFar, SentAfter, SentSoFar};
+ghost use Rattle.transfer_states.specs.Gets.{GetStepDid, get_begun};
+ghost use Rattle.transfer_states.specs.Puts.{MayPut, PutStepDid, put_begun};
+ghost use Rattle.transfer_states.specs.declared.get.FileGet.{FileGet};
+ghost use Rattle.transfer_states.specs.declared.put.FilePut.{FilePut};
+ghost use Rattle.transfer_states.specs.declared.put.PutStage.TheVariants as put;
+ghost use Rattle.transfer_states.specs.declared.get.GetStage.TheVariants as get;
+ghost use Rattle.transfer_states.specs.declared.progress.Progress.{Progress};
+
+use crate::local::LocalFile;
+
+/// What a copy from the server has done to its local file, over each of its steps: at its end, where it gives a count, the
+/// part was made, so many bytes were written to it and nothing else, and it was renamed; with an error no file got the
+/// name.
+pub fn gets_write_their_part<F: LocalFile>()
+    ensures begins { (part : List ℕ) (most : ℕ) (first : F.History) → GotSoFar F.done part (get_begun most) first first get.Starting }
+    ensures goes { (remote part name : List ℕ) (core after : Core) (old new : FileGet) (first before now : F.History)
+        (result : Progress) → GotSoFar F.done part old first before old.stage
+        → GetStepDid F.done remote part name core old after new before now result old.stage
+        → GotAfter F.done part name new first now result }
+{}
+
+/// What a copy to the server has done to its local file, over each of its steps: at its end, where it gives a count, it was
+/// opened and so many bytes were got, up to its end; in any case it was only read.
+pub fn puts_read_their_file<F: LocalFile>()
+    ensures begins { (name : List ℕ) (window : ℕ) (first : F.History) → SentSoFar F.done name (put_begun window) first first put.Starting }
+    ensures goes { (name part remote : List ℕ) (core after : Core) (old new : FilePut) (first before now : F.History)
+        (result : Progress) → MayPut core old → SentSoFar F.done name old first before old.stage
+        → PutStepDid F.done name part remote core old after new before now result old.stage
+        → SentAfter F.done name new first now result }
+{}

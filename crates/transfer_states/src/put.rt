@@ -1,0 +1,352 @@
+//! A local file is written to a file of the server, step by step.
+ghost use Rattle.std.specs.Prelude.{◌≡◌, ◌≤◌, ◌<◌, ◌-◌, ◌^◌, length, IsSome};
+ghost use Rattle.sftp_core.specs.Core.{Core as CoreValue};
+ghost use Rattle.sftp_core.specs.Info.{info_of};
+ghost use Rattle.sftp_model.specs.OpenOptions.{flags_of};
+ghost use Rattle.plan_model.specs.FilePlans.{open_request};
+ghost use Rattle.transfer_states.specs.declared.put.PutStage.TheVariants as stage;
+ghost use Rattle.transfer_states.specs.Holdings.{SparesPlaces, drops_file, drops_parts, nothing_held};
+ghost use Rattle.transfer_states.specs.Puts.{AcceptsWrite, AsksAt, IsBehindWrite, IsOpenToWrite, IsPutting, MayPut, OpensPut, PutStepDid, PutFinishes, PutGivesUp, PutHasEnded, PutLeaves, PutReadsNext, PutSendsOn, StartsPut, PutWritesNext, WritesOn, put_begun, put_is_over, write_flags};
+
+mod naming;
+
+use crate::failure::Failure;
+use crate::holding::{FileAnswer, Holding, PartAnswer};
+use crate::local::LocalFile;
+use crate::paths::open_request;
+use crate::progress::Progress;
+use crate::refusals::{faulted, refused, settled};
+use bytes::Bytes;
+use sftp_core::Core;
+use sftp_model::{Error, IoKind, OpenOptions, Reply};
+use ssh_encoding::OutOfMemory;
+use std::alloc::Global;
+
+/// Where a copy to the server stands.
+#[derive(Clone, Copy, Debug, PartialEq, Eq)]
+pub enum PutStage {
+    /// Nothing was asked.
+    Starting,
+    /// The OPEN is under way.
+    Opening,
+    /// The file is written.
+    Writing,
+    /// The CLOSE is under way.
+    Closing,
+    /// The rename in the place of a file that has the name is under way.
+    Replacing,
+    /// A plain RENAME is under way.
+    Renaming,
+    /// The REMOVE of a file that has the name is under way.
+    Removing,
+    /// The RENAME behind it is under way.
+    RenamingAgain,
+    /// It has ended.
+    Ended,
+}
+
+/// A copy from a local file to a file of the server, which is written as a part and gets its name when the server has
+/// said OK to all its bytes and closed it. It isn't droppable: `cancel` spends it, once it has ended too.
+#[must_use]
+pub struct FilePut {
+    holding: Holding,
+    stage: PutStage,
+    window: u32,
+    at_end: bool,
+    offset: u64,
+    next: u64,
+    failure: Option<Failure>,
+}
+
+/// A file of the server is made, or emptied, to be written.
+fn write_options() -> OpenOptions
+    ensures { flags_of result ≡ write_flags }
+{
+    let mut options = OpenOptions::new();
+    options.write(true).create(true).truncate(true);
+    options
+}
+
+impl FilePut {
+    /// A copy that has asked for nothing, with at most `window` WRITEs under way, and one at least.
+    pub fn new(alloc: Global, window: u32) -> FilePut
+        ensures new { result ≡ put_begun window }
+        ensures may { (core : CoreValue) → IsSome (info_of core.phase) → MayPut core result }
+    {
+        FilePut {
+            holding: Holding::new(alloc),
+            stage: PutStage::Starting,
+            window: window.max(1),
+            at_end: false,
+            offset: 0,
+            next: 0,
+            failure: None,
+        }
+    }
+
+    /// How many bytes the server has said OK to.
+    pub fn offset(&self) -> u64
+        ensures { result ≡ self.now.offset }
+    {
+        self.offset
+    }
+
+    /// Whether it has ended. It can't be stepped then.
+    pub fn is_ended(&self) -> bool
+        ensures { result ≡ put_is_over self.now.stage }
+    {
+        match self.stage {
+            PutStage::Ended => true,
+            _ => false,
+        }
+    }
+
+    /// Takes one step, and waits for nothing: a request is submitted, or one reply is gone on with. `Waits` where the reply
+    /// that comes next was not taken, and no fault is kept.
+    ///
+    /// The copy ends with the count of bytes, or with the first failure: where the server refused a request, the local
+    /// file failed, the core keeps a fault, or there was no memory. The file on the server is closed then. What there
+    /// is of the part stays.
+    pub fn step<F: LocalFile>(
+        &mut self,
+        core: &mut Core,
+        local: &mut F,
+        name: &str,
+        part: &str,
+        remote: &str,
+    ) -> Progress
+        requires { MayPut core.old self.old }
+        ensures did { PutStepDid F.done name.now part.now remote.now core.old self.old core.new self.new (F.history local.old) (F.history local.new) result self.old.stage }
+        ensures leaves { PutLeaves core.old self.old core.new self.new }
+        ensures ended { PutHasEnded self.new.stage result }
+    {
+        match self.stage {
+            PutStage::Starting => self.start(core, local, name, part),
+            PutStage::Opening => self.open(core),
+            PutStage::Writing => self.write(core, local),
+            PutStage::Closing => self.close(core, part, remote),
+            PutStage::Replacing => self.last(core),
+            PutStage::Renaming => self.rename(core, remote),
+            PutStage::Removing => self.remove(core, part, remote),
+            PutStage::RenamingAgain => self.last(core),
+            PutStage::Ended => unreachable!(),
+        }
+    }
+
+    /// Gives the copy up, or spends it where it has ended: replies, come or to come, are dropped, and a handle that came or
+    /// comes is closed.
+    pub fn cancel(self, core: &mut Core)
+        requires { IsPutting core.old self }
+        ensures core { core.new ≡ drops_file (drops_parts core.old self.holding.parts) self.holding.file }
+        ensures spares { SparesPlaces self.holding nothing_held core.old core.new }
+    {
+        let FilePut {
+            holding,
+            stage: _,
+            window: _,
+            at_end: _,
+            offset: _,
+            next: _,
+            failure: _,
+        } = self;
+        holding.cancel(core);
+    }
+}
+
+impl FilePut {
+    /// GetOpens the local file, and asks for the part to be opened.
+    fn start<F: LocalFile>(
+        &mut self,
+        core: &mut Core,
+        local: &mut F,
+        name: &str,
+        part: &str,
+    ) -> Progress
+        requires { MayPut core.old self.old × (self.old.stage ≡ stage.Starting) }
+        ensures did { StartsPut F.done name.now part.now core.old self.old core.new self.new (F.history local.old) (F.history local.new) result }
+        ensures leaves { PutLeaves core.old self.old core.new self.new }
+        ensures ended { PutHasEnded self.new.stage result }
+    {
+        match local.open(name) {
+            Ok(()) => self.ask_open(core, part),
+            Err(e) => {
+                self.stage = PutStage::Ended;
+                Progress::Ended(Err(e.into()))
+            }
+        }
+    }
+
+    /// Asks for the part to be opened.
+    fn ask_open(&mut self, core: &mut Core, part: &str) -> Progress
+        requires { MayPut core.old self.old × (self.old.stage ≡ stage.Starting) }
+        ensures did { AsksAt (open_request write_flags part.now) stage.Opening core.old self.old core.new self.new result }
+        ensures leaves { PutLeaves core.old self.old core.new self.new }
+        ensures ended { PutHasEnded self.new.stage result }
+    {
+        let request = match open_request(core.alloc(), write_options(), part) {
+            Ok(request) => request,
+            Err(OutOfMemory) => {
+                self.stage = PutStage::Ended;
+                return Progress::Ended(Err(Failure::OutOfMemory));
+            }
+        };
+        match self.holding.ask(core, &request) {
+            Ok(()) => {
+                self.stage = PutStage::Opening;
+                Progress::Moved
+            }
+            Err(e) => {
+                self.stage = PutStage::Ended;
+                Progress::Ended(Err(e))
+            }
+        }
+    }
+
+    /// Goes on with the reply to the OPEN.
+    fn open(&mut self, core: &mut Core) -> Progress
+        requires { MayPut core.old self.old × (self.old.stage ≡ stage.Opening) }
+        ensures did { OpensPut core.old self.old core.new self.new result }
+        ensures leaves { PutLeaves core.old self.old core.new self.new }
+        ensures ended { PutHasEnded self.new.stage result }
+    {
+        match self.holding.settle(core) {
+            FileAnswer::Missing => Progress::Waits,
+            FileAnswer::Granted => {
+                self.stage = PutStage::Writing;
+                Progress::Moved
+            }
+            FileAnswer::Came(reply) => {
+                self.stage = PutStage::Ended;
+                Progress::Ended(Err(refused(reply)))
+            }
+            FileAnswer::Failed(fault) => {
+                self.stage = PutStage::Ended;
+                Progress::Ended(Err(faulted(fault)))
+            }
+        }
+    }
+
+    /// Goes on with the status of the first WRITE, or writes more.
+    fn write<F: LocalFile>(&mut self, core: &mut Core, local: &mut F) -> Progress
+        requires { MayPut core.old self.old × (self.old.stage ≡ stage.Writing) }
+        ensures did { WritesOn F.done core.old self.old core.new self.new (F.history local.old) (F.history local.new) result }
+        ensures leaves { PutLeaves core.old self.old core.new self.new }
+        ensures ended { PutHasEnded self.new.stage result }
+    {
+        match self.holding.take_part(core) {
+            PartAnswer::Came(reply, len) => self.accept(core, reply, len),
+            PartAnswer::Failed(fault) => self.fail(core, faulted(fault)),
+            PartAnswer::Missing => self.send(core, local),
+            PartAnswer::Idle => self.send(core, local),
+        }
+    }
+
+    /// Goes on with the status of the first WRITE, which carried `len` bytes.
+    fn accept(&mut self, core: &mut Core, reply: Reply, len: u32) -> Progress
+        requires { IsBehindWrite len core.old self.old }
+        ensures did { AcceptsWrite reply len core.old self.old core.new self.new }
+        ensures leaves { PutLeaves core.old self.old core.new self.new }
+        ensures moved { result ≡ Progress.Moved }
+    {
+        match settled(reply) {
+            Ok(()) => {
+                self.offset += len as u64;
+                Progress::Moved
+            }
+            Err(e) => self.fail(core, e),
+        }
+    }
+
+    /// Writes more where there is room; else the file is closed once all its bytes are written.
+    fn send<F: LocalFile>(&mut self, core: &mut Core, local: &mut F) -> Progress
+        requires { MayPut core.old self.old × (self.old.stage ≡ stage.Writing) }
+        ensures did { PutSendsOn F.done core.old self.old core.new self.new (F.history local.old) (F.history local.new) result }
+        ensures leaves { PutLeaves core.old self.old core.new self.new }
+        ensures ended { PutHasEnded self.new.stage result }
+    {
+        let parts = self.holding.under_way();
+        if self.at_end {
+            if parts == 0 {
+                return self.finish(core);
+            }
+            return Progress::Waits;
+        }
+        if parts < self.window as usize && self.next < u64::MAX {
+            return self.push(core, local);
+        }
+        if parts == 0 {
+            return self.fail(
+                core,
+                Failure::Remote(Error::IOError(IoKind::OffsetOverflow)),
+            );
+        }
+        Progress::Waits
+    }
+
+    /// Writes the next bytes of the local file.
+    fn push<F: LocalFile>(&mut self, core: &mut Core, local: &mut F) -> Progress
+        requires writes { MayPut core.old self.old × (self.old.stage ≡ stage.Writing) }
+        requires below { self.old.next < 2 ^ 64 - 1 }
+        ensures did { PutReadsNext F.done core.old self.old core.new self.new (F.history local.old) (F.history local.new) }
+        ensures leaves { PutLeaves core.old self.old core.new self.new }
+        ensures moved { result ≡ Progress.Moved }
+    {
+        let Some(info) = core.info() else {
+            unreachable!()
+        };
+        let room = (info.write_len as u64).min(u64::MAX - self.next) as u32;
+        match local.read(core.alloc(), room) {
+            Ok(bytes) => {
+                if bytes.is_empty() {
+                    self.at_end = true;
+                    return Progress::Moved;
+                }
+                self.push_piece(core, &bytes)
+            }
+            Err(e) => self.fail(core, e.into()),
+        }
+    }
+
+    /// Writes a piece behind the others.
+    fn push_piece(&mut self, core: &mut Core, bytes: &Bytes) -> Progress
+        requires writes { MayPut core.old self.old × (self.old.stage ≡ stage.Writing) }
+        requires fits { (0 < length bytes.now) × (length bytes.now < 2 ^ 32) }
+        requires small { length bytes.now ≤ 2 ^ 64 - 1 - self.old.next }
+        ensures did { PutWritesNext bytes.now core.old self.old core.new self.new }
+        ensures leaves { PutLeaves core.old self.old core.new self.new }
+        ensures moved { result ≡ Progress.Moved }
+    {
+        match self.holding.ask_write(core, self.next, bytes) {
+            Ok(()) => {
+                self.next += bytes.len() as u64;
+                Progress::Moved
+            }
+            Err(e) => self.fail(core, e),
+        }
+    }
+
+    /// Closes the file, and awaits that.
+    fn finish(&mut self, core: &mut Core) -> Progress
+        requires { IsOpenToWrite core.old self.old }
+        ensures did { PutFinishes core.old self.old.holding self.old core.new self.new }
+        ensures leaves { PutLeaves core.old self.old core.new self.new }
+        ensures moved { result ≡ Progress.Moved }
+    {
+        self.holding.let_go(core);
+        self.stage = PutStage::Closing;
+        Progress::Moved
+    }
+
+    /// Closes the file, and awaits that: the copy has failed.
+    fn fail(&mut self, core: &mut Core, e: Failure) -> Progress
+        requires { IsOpenToWrite core.old self.old }
+        ensures did { PutGivesUp core.old self.old.holding self.old core.new self.new }
+        ensures leaves { PutLeaves core.old self.old core.new self.new }
+        ensures moved { result ≡ Progress.Moved }
+    {
+        self.holding.let_go(core);
+        self.stage = PutStage::Closing;
+        self.failure = Some(e);
+        Progress::Moved
+    }
+}

@@ -1,0 +1,14 @@
+-- Bytes that are UTF-8.
+use Rattle.std.proofs.Common.{◌≡◌, ℕ, true, false, List, sym, inl, inr}
+use Rattle.std.specs.Str.{IsUtf8, is_utf8}
+use Rattle.std.proofs.lemmas.Bool.{cases_Bool}
+use Rattle.std.proofs.lemmas.Str.{IsUtf8-from_is_utf8, is_utf8-from_IsUtf8}
+
+pub is_text : (bytes : List ℕ) → IsUtf8 bytes → true ≡ is_utf8 bytes
+is_text bytes h = sym (is_utf8-from_IsUtf8 bytes h)
+
+pub is_no_text : (bytes : List ℕ) → (IsUtf8 bytes → ⊥) → false ≡ is_utf8 bytes
+is_no_text bytes h = elim (cases_Bool (is_utf8 bytes)) [
+  | inl e ↦ absurd (h (IsUtf8-from_is_utf8 bytes e))
+  | inr e ↦ sym e
+]

@@ -1,0 +1,148 @@
+-- What the words of a command line ask for.
+use Rattle.std.specs.Prelude.{◌+◌, ◌-◌, ◌*◌, ◌==◌, ◌&&◌, ℕ, Bool, true, false, List, [], ◌∷◌, codes, drop, map, nat_le, Option, Some, None, if◌then◌else◌}
+use Rattle.std.specs.List.{starts_with}
+use Rattle.std.specs.Option.{option_and_then, option_map}
+use Rattle.std.specs.Str.{bytes_eq}
+use Rattle.std.specs.String.{string_bytes}
+use Rattle.transfer_words.specs.declared.asked.Asked.{Asked}
+use Rattle.transfer_words.specs.declared.asked.LinkAt.{LinkAt}
+use Rattle.transfer_words.specs.declared.asked.LinkAt.TheVariants as link
+use Rattle.transfer_words.specs.declared.asked.Way.{Way}
+use Rattle.transfer_words.specs.declared.asked.Way.TheVariants.{Get, Put}
+use Rattle.transfer_words.specs.declared.asked.Work.{Work}
+use Rattle.transfer_words.specs.declared.asked.Work.TheVariants as work
+use Rattle.transfer_words.specs.declared.options.Options.{Options}
+
+-- ---- numbers
+
+-- decimal digits behind a number, as long as it is at most 1024
+abbrev pub digits_behind : ℕ → List ℕ → Option ℕ
+digits_behind number [] = Some number
+digits_behind number (b ∷ bytes) =
+    if nat_le 48 b && nat_le b 57 then (
+    if nat_le (number * 10 + (b - 48)) 1024 then digits_behind (number * 10 + (b - 48)) bytes else None
+    ) else None
+
+-- a number from 1
+abbrev pub from_one : Option ℕ → Option ℕ
+from_one None = None
+from_one (Some n) = if n == 0 then None else Some n
+
+-- a window: from 1 to 1024, in decimal digits
+abbrev pub window_in : List ℕ → Option ℕ
+window_in word = from_one (digits_behind 0 word)
+
+-- ---- options
+
+-- what holds without an option
+abbrev pub plain_options : Options
+plain_options = record { recursive = false; preserve = false; quiet = false; progress = false; window = 64 }
+
+-- the options with one that is a word alone
+abbrev pub flag_of : Options → List ℕ → Option Options
+flag_of o word =
+    if bytes_eq word (codes "-r") then Some (record o { recursive = true })
+    else if bytes_eq word (codes "-p") then Some (record o { preserve = true })
+    else if bytes_eq word (codes "-q") then Some (record o { quiet = true })
+    else if bytes_eq word (codes "--progress") then Some (record o { progress = true })
+    else None
+
+-- ---- where the server is
+
+-- where the server listens, or that it is at standard input and output
+pub data LinkWord : Type 0 where
+  AtUnix : List ℕ → LinkWord
+  AtTcp : List ℕ → LinkWord
+  AtStdio : LinkWord
+
+abbrev pub link_at : List ℕ → Option LinkWord
+link_at word =
+    if bytes_eq word (codes "stdio") then Some AtStdio
+    else if starts_with ◌==◌ word (codes "unix:") then Some (AtUnix (drop 5 word))
+    else if starts_with ◌==◌ word (codes "tcp:") then Some (AtTcp (drop 4 word))
+    else None
+
+abbrev pub link_seen : LinkAt → LinkWord
+link_seen (link.Unix path) = AtUnix path.now
+link_seen (link.Tcp address) = AtTcp address.now
+link_seen link.Stdio = AtStdio
+
+-- ---- options and operands
+
+-- the word says an option
+abbrev pub is_option : List ℕ → Bool
+is_option word = starts_with ◌==◌ word (codes "-")
+
+-- The options that stand first, and the words behind them: a word that begins with "-" is an option, "--" ends them, and
+-- behind "--window" stands the window.
+abbrev pub options_by : Options → Bool → List (List ℕ) → Option (Options × List (List ℕ))
+options_by o false [] = Some (o, [])
+options_by o true [] = None
+options_by o true (word ∷ words) = option_and_then (λ n. options_by (record o { window = n }) false words) (window_in word)
+options_by o false (word ∷ words) =
+    if bytes_eq word (codes "--") then Some (o, words)
+    else if bytes_eq word (codes "--window") then options_by o true words
+    else if is_option word then option_and_then (λ more. options_by more false words) (flag_of o word)
+    else Some (o, word ∷ words)
+
+-- ---- what is to be done
+
+-- the words before the last one, and the last one
+abbrev pub split_last : List (List ℕ) → Option (List (List ℕ) × List ℕ)
+split_last [] = None
+split_last (word ∷ []) = Some ([], word)
+split_last (word ∷ next ∷ words) = option_map (λ s. (word ∷ s.0, s.1)) (split_last (next ∷ words))
+
+-- files that are to be copied, or a folder whose names are to be written
+pub data WorkWords : Type 0 where
+  Copies : Way → Options → List (List ℕ) → List ℕ → WorkWords
+  Lists : Bool → List ℕ → WorkWords
+
+-- one source or more, and the target
+abbrev pub copy_of : Way → Options → Option (List (List ℕ) × List ℕ) → Option WorkWords
+copy_of way o None = None
+copy_of way o (Some ([], target)) = None
+copy_of way o (Some (source ∷ sources, target)) = Some (Copies way o (source ∷ sources) target)
+
+abbrev pub copy_by : Way → List (List ℕ) → Option WorkWords
+copy_by way words = option_and_then (λ r. copy_of way r.0 (split_last r.1)) (options_by plain_options false words)
+
+-- a folder, or none: then the one that the session begins in
+abbrev pub list_at : Bool → List (List ℕ) → Option WorkWords
+list_at long [] = Some (Lists long (codes "."))
+list_at long (path ∷ []) = if is_option path then None else Some (Lists long path)
+list_at long (path ∷ another ∷ words) = None
+
+abbrev pub list_by : List (List ℕ) → Option WorkWords
+list_by [] = list_at false []
+list_by (word ∷ words) = if bytes_eq word (codes "-l") then list_at true words else list_at false (word ∷ words)
+
+abbrev pub work_by : List ℕ → List (List ℕ) → Option WorkWords
+work_by verb words =
+    if bytes_eq verb (codes "get") then copy_by Get words
+    else if bytes_eq verb (codes "put") then copy_by Put words
+    else if bytes_eq verb (codes "list") then list_by words
+    else None
+
+-- names aren't written where standard output is the connection
+abbrev pub can_do : LinkWord → WorkWords → Bool
+can_do AtStdio (Lists long path) = false
+can_do at work = true
+
+abbrev pub asked_at : LinkWord → WorkWords → Option (LinkWord × WorkWords)
+asked_at at work = if can_do at work then Some (at, work) else None
+
+-- where the server is, a verb, and what stands behind it
+abbrev pub asked_by : List (List ℕ) → Option (LinkWord × WorkWords)
+asked_by [] = None
+asked_by (word ∷ []) = None
+asked_by (word ∷ verb ∷ words) = option_and_then (λ at. option_and_then (asked_at at) (work_by verb words)) (link_at word)
+
+-- ---- as the code has them
+
+abbrev pub work_seen : Work → WorkWords
+work_seen (work.Copy t) = Copies t.way t.options (map string_bytes t.sources.now) t.target.now
+work_seen (work.List l) = Lists l.long l.path.now
+
+abbrev pub asked_seen : Asked → LinkWord × WorkWords
+asked_seen a = (link_seen a.link, work_seen a.work)

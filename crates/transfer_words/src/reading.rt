@@ -1,0 +1,201 @@
+//! The words are read.
+ghost use Rattle.std.specs.Prelude.{◌≡◌, false, map};
+ghost use Rattle.std.specs.Option.{option_map};
+ghost use Rattle.std.specs.String.{string_bytes};
+ghost use Rattle.transfer_words.specs.Words.{asked_at, asked_by, asked_seen, copy_by, flag_of, link_at, link_seen, list_at, list_by, options_by, plain_options, split_last, work_by, work_seen};
+
+use crate::asked::{Asked, LinkAt, Listing, Transfer, Way, Work};
+use crate::options::Options;
+use crate::window::window_in;
+
+/// No option.
+fn plain_options() -> Options
+    ensures { result ≡ plain_options }
+{
+    Options {
+        recursive: false,
+        preserve: false,
+        quiet: false,
+        progress: false,
+        window: 64,
+    }
+}
+
+/// The options with one that is a word alone, where the word is one.
+fn with_flag(options: Options, word: &str) -> Option<Options>
+    ensures { result ≡ flag_of options word.now }
+{
+    if word == "-r" {
+        Some(Options {
+            recursive: true,
+            ..options
+        })
+    } else if word == "-p" {
+        Some(Options {
+            preserve: true,
+            ..options
+        })
+    } else if word == "-q" {
+        Some(Options {
+            quiet: true,
+            ..options
+        })
+    } else if word == "--progress" {
+        Some(Options {
+            progress: true,
+            ..options
+        })
+    } else {
+        None
+    }
+}
+
+/// Where the server is, by a word.
+fn link_at(word: &str) -> Option<LinkAt<'_>>
+    ensures { option_map link_seen result ≡ link_at word.now }
+{
+    if word == "stdio" {
+        return Some(LinkAt::Stdio);
+    }
+    if let Some(path) = word.strip_prefix("unix:") {
+        return Some(LinkAt::Unix(path));
+    }
+    match word.strip_prefix("tcp:") {
+        Some(address) => Some(LinkAt::Tcp(address)),
+        None => None,
+    }
+}
+
+/// The options that stand first, and the words behind them.
+fn options_by(words: &[String]) -> Option<(Options, &[String])>
+    ensures { option_map (λ p. (p.0, map string_bytes p.1.now)) result ≡ options_by plain_options false (map string_bytes words.now) }
+{
+    let mut options = plain_options();
+    let mut awaits_window = false;
+    let mut rest = words;
+    loop {
+        match rest {
+            [] => {
+                if awaits_window {
+                    return None;
+                }
+                return Some((options, rest));
+            }
+            [word, later @ ..] => {
+                let word = word.as_str();
+                if awaits_window {
+                    options.window = window_in(word.as_bytes())?;
+                    awaits_window = false;
+                } else if word == "--" {
+                    return Some((options, later));
+                } else if word == "--window" {
+                    awaits_window = true;
+                } else if word.starts_with('-') {
+                    options = with_flag(options, word)?;
+                } else {
+                    return Some((options, rest));
+                }
+                rest = later;
+            }
+        }
+    }
+}
+
+/// The words before the last one, and the last one.
+fn split_last(words: &[String]) -> Option<(&[String], &str)>
+    ensures { option_map (λ s. (map string_bytes s.0.now, s.1.now)) result ≡ split_last (map string_bytes words.now) }
+{
+    match words {
+        [first @ .., last] => Some((first, last.as_str())),
+        [] => None,
+    }
+}
+
+/// Files that are copied, by the words behind the verb.
+fn copy_by(way: Way, words: &[String]) -> Option<Work<'_>>
+    ensures { option_map work_seen result ≡ copy_by way (map string_bytes words.now) }
+{
+    let (options, operands) = options_by(words)?;
+    let (sources, target) = split_last(operands)?;
+    if sources.is_empty() {
+        return None;
+    }
+    Some(Work::Copy(Transfer {
+        way,
+        options,
+        sources,
+        target,
+    }))
+}
+
+/// The folder whose names are written, where there is at most one word.
+fn list_at(long: bool, words: &[String]) -> Option<Work<'_>>
+    ensures { option_map work_seen result ≡ list_at long (map string_bytes words.now) }
+{
+    match words {
+        [] => Some(Work::List(Listing { long, path: "." })),
+        [path] => {
+            let path = path.as_str();
+            if path.starts_with('-') {
+                return None;
+            }
+            Some(Work::List(Listing { long, path }))
+        }
+        _ => None,
+    }
+}
+
+/// A folder whose names are written, by the words behind the verb.
+fn list_by(words: &[String]) -> Option<Work<'_>>
+    ensures { option_map work_seen result ≡ list_by (map string_bytes words.now) }
+{
+    match words {
+        [word, rest @ ..] => {
+            if word.as_str() == "-l" {
+                list_at(true, rest)
+            } else {
+                list_at(false, words)
+            }
+        }
+        [] => list_at(false, words),
+    }
+}
+
+/// What is to be done, by a verb and the words behind it.
+fn work_by<'a>(verb: &str, words: &'a [String]) -> Option<Work<'a>>
+    ensures { option_map work_seen result ≡ work_by verb.now (map string_bytes words.now) }
+{
+    if verb == "get" {
+        copy_by(Way::Get, words)
+    } else if verb == "put" {
+        copy_by(Way::Put, words)
+    } else if verb == "list" {
+        list_by(words)
+    } else {
+        None
+    }
+}
+
+/// What is asked for, unless names are to be written where standard output is the connection.
+fn asked_at<'a>(link: LinkAt<'a>, work: Work<'a>) -> Option<Asked<'a>>
+    ensures { option_map asked_seen result ≡ asked_at (link_seen link.entry) (work_seen work.entry) }
+{
+    match (link, work) {
+        (LinkAt::Stdio, Work::List(_)) => None,
+        _ => Some(Asked { link, work }),
+    }
+}
+
+/// What the words ask for; None where they can't be used.
+pub fn read_words(words: &[String]) -> Option<Asked<'_>>
+    ensures { option_map asked_seen result ≡ asked_by (map string_bytes words.now) }
+{
+    match words {
+        [link, verb, rest @ ..] => {
+            let link = link_at(link.as_str())?;
+            let work = work_by(verb.as_str(), rest)?;
+            asked_at(link, work)
+        }
+        _ => None,
+    }
+}

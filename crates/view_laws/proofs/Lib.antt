@@ -1,0 +1,17 @@
+pub mod DoingLaws
+pub mod Bytes
+pub mod BlockReads
+pub mod KeptBlocks
+pub mod Gathering
+pub mod GetLaws
+pub mod PutTrees
+pub mod PutLaws
+pub mod ViewedLaws
+pub mod SlotCalls
+pub mod CallsDone
+pub mod WritesDone
+pub mod EachCall
+pub mod JournalSteps
+pub mod JournalEnds
+pub mod JournalDid
+pub mod PlainLaws
