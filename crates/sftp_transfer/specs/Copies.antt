@@ -6,7 +6,7 @@ use Rattle.sftp_client.specs.Sessions.{SftpValue}
 use Rattle.transfer_words.specs.declared.asked.Way.{Way}
 use Rattle.transfer_words.specs.declared.asked.Way.TheVariants.{Get, Put}
 use Rattle.transfer_file.specs.Gets.{GetDid}
-use Rattle.transfer_file.specs.Local.{LocalAct}
+use Rattle.transfer_local.specs.Local.{LocalAct}
 use Rattle.transfer_file.specs.Puts.{PutDid}
 use Rattle.transfer_file.specs.Sessions.{IsGoing}
 

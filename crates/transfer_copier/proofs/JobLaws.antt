@@ -33,7 +33,7 @@ use Rattle.sftp_core.specs.Core.{Core}
 use Rattle.sftp_link.specs.Views.{LinkView}
 use Rattle.sftp_client.specs.Sessions.{SftpValue}
 use Rattle.transfer_states.specs.declared.failure.Failure.{Failure}
-use Rattle.transfer_states.specs.Local.{LocalAct}
+use Rattle.transfer_local.specs.Local.{LocalAct}
 use Rattle.transfer_copier.specs.declared.copier.CopierStep.{CopierStep}
 use Rattle.transfer_copier.specs.declared.copier.CopierStep.TheVariants as copier_step
 use Rattle.transfer_copier.specs.declared.jobs.Beginning.TheVariants as beginning

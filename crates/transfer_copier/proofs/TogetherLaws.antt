@@ -51,7 +51,7 @@ use Rattle.transfer_states.specs.Holdings.{
   SparesPlaces,
   nothing_held,
 }
-use Rattle.transfer_states.specs.Local.{LocalAct}
+use Rattle.transfer_local.specs.Local.{LocalAct}
 use Rattle.transfer_states.proofs.HoldingLaws.{all_over}
 use Rattle.transfer_copier.specs.declared.running.Copied.{Copied}
 use Rattle.transfer_copier.specs.declared.running.CopyJob.{CopyJob}

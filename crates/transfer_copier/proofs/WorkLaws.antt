@@ -7,7 +7,7 @@ use Rattle.sftp_core.specs.Info.{info_of}
 use Rattle.sftp_link.specs.Views.{LinkView}
 use Rattle.sftp_client.specs.Sessions.{SftpValue, with_core}
 use Rattle.transfer_states.specs.declared.failure.Failure.{Failure}
-use Rattle.transfer_states.specs.Local.{LocalAct}
+use Rattle.transfer_local.specs.Local.{LocalAct}
 use Rattle.transfer_copier.specs.Sessions.{IsGoing, Turned}
 use Rattle.transfer_copier.specs.declared.copier.Advance.{Advance}
 use Rattle.transfer_copier.specs.declared.copier.Advance.TheVariants as advance

@@ -29,7 +29,7 @@ use Rattle.transfer_states.specs.declared.progress.Progress.{Progress}
 use Rattle.transfer_states.specs.declared.progress.Progress.TheVariants as progress
 use Rattle.transfer_states.specs.Gets.{GetStepDid, IsGetting, MayGet, get_begun}
 use Rattle.transfer_states.specs.Holdings.{HoldingValue, IsOfOthers, SparesPlaces, nothing_held}
-use Rattle.transfer_states.specs.Local.{LocalAct}
+use Rattle.transfer_local.specs.Local.{LocalAct}
 use Rattle.transfer_states.specs.Puts.{IsPutting, MayPut, PutStepDid, put_begun}
 use Rattle.transfer_copier.specs.Sessions.{IsGoing, Turned}
 use Rattle.transfer_copier.specs.declared.copier.Advance.{Advance}

@@ -28,7 +28,7 @@ use Rattle.sftp_core.specs.Info.{info_of}
 use Rattle.sftp_link.specs.Views.{LinkView}
 use Rattle.sftp_client.specs.Sessions.{SftpValue}
 use Rattle.transfer_states.specs.declared.failure.Failure.{Failure}
-use Rattle.transfer_states.specs.Local.{LocalAct}
+use Rattle.transfer_local.specs.Local.{LocalAct}
 use Rattle.transfer_copier.specs.declared.jobs.Beginning.{Beginning}
 use Rattle.transfer_copier.specs.declared.jobs.Beginning.TheVariants as beginning
 use Rattle.transfer_copier.specs.declared.jobs.JobTurn.{JobTurn}

@@ -6,7 +6,7 @@ use Rattle.std.proofs.lemmas.List.{append_assoc, append-nil}
 use Rattle.std.proofs.lemmas.Slice.Eq.{bytes_eq-Decides}
 use Rattle.sftp_model.specs.Pieces.{joined}
 use Rattle.transfer_file.specs.Disks.{Disk, IsCopied, after_act, with_file}
-use Rattle.transfer_file.specs.Local.{Created, LocalAct, Renamed, Wrote, all_done, writes_of}
+use Rattle.transfer_local.specs.Local.{Created, LocalAct, Renamed, Wrote, all_done, writes_of}
 
 here : (files : List ℕ → Option (List ℕ)) (name : List ℕ) (bytes : Option (List ℕ)) → with_file files name bytes name ≡ bytes
 here files name bytes = ap (λ (b : Bool). if b then bytes else files name) ((bytes_eq-Decides name name).1 refl)

@@ -12,7 +12,7 @@ use Rattle.sftp_streams.specs.Downloads.{Begins, DownloadValue, IsReading, MayRe
 use Rattle.sftp_streams.specs.Parts.{KeepsOthers, without_parts}
 use Rattle.transfer_file.specs.Awaits.{Closed, OpensAs}
 use Rattle.transfer_file.specs.Gets.{AreBoth, FetchDid, Fetched, Fetches, FetchesAll, FetchesClosed, Fetching, GetJob, Gets, WritesPieces, read_flags}
-use Rattle.transfer_file.specs.Local.{AreOfPart, AreUnnamed, Created, Failed, HasDone, IsOfPart, IsUnnamed, LocalAct, Renamed, Wrote, Got, Opened, writes_of}
+use Rattle.transfer_local.specs.Local.{AreOfPart, AreUnnamed, Created, Failed, HasDone, IsOfPart, IsUnnamed, LocalAct, Renamed, Wrote, Got, Opened, writes_of}
 use Rattle.transfer_file.specs.Sessions.{IsGoing}
 use Rattle.transfer_file.proofs.FetchLaws.{done_join, going_with, grants_same, grants_then, part_writes}
 

@@ -43,7 +43,7 @@ use Rattle.sftp_streams.specs.Downloads.{DownloadValue, MayRead, Reads, content_
 use Rattle.sftp_streams.specs.Parts.{AreAwaited, KeepsOthers}
 use Rattle.sftp_streams.proofs.PartLaws.{keeps_parts}
 use Rattle.transfer_file.specs.Gets.{FetchSteps, Fetched, Fetching, PiecesDid, Polls, StepDid, Steps, WritesPieces}
-use Rattle.transfer_file.specs.Local.{AreOfPart, Failed, HasDone, IsOfPart, LocalAct, Wrote, all_done, writes_of}
+use Rattle.transfer_local.specs.Local.{AreOfPart, Failed, HasDone, IsOfPart, LocalAct, Wrote, all_done, writes_of}
 use Rattle.transfer_file.specs.Sessions.{IsGoing, Turned, Turns}
 
 -- ---- acts

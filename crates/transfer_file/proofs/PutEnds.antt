@@ -6,7 +6,7 @@ use Rattle.sftp_client.specs.Sessions.{SftpValue}
 use Rattle.sftp_file.specs.Files.{FileValue}
 use Rattle.transfer_file.specs.Asks.{Renamed}
 use Rattle.transfer_file.specs.Awaits.{Closed, OpensAs}
-use Rattle.transfer_file.specs.Local.{AreGot, Failed, Got, HasDone, LocalAct, Opened}
+use Rattle.transfer_local.specs.Local.{AreGot, Failed, Got, HasDone, LocalAct, Opened}
 use Rattle.transfer_file.specs.Puts.{PutJob, Puts, SendDid, SendsClosed, reads_of, write_flags}
 use Rattle.transfer_file.specs.Sessions.{IsGoing}
 use Rattle.transfer_file.proofs.FetchLaws.{done_join}

@@ -44,7 +44,7 @@ use Rattle.sftp_file.specs.Files.{FileValue, facts_of}
 use Rattle.sftp_streams.specs.Parts.{AreAwaited, KeepsOthers, without_parts}
 use Rattle.sftp_streams.specs.Uploads.{AsksWrite, Begins, IsWriting, MayPush, MayWrite, UploadValue, Writes, room_of, status_kind}
 use Rattle.sftp_streams.proofs.PartLaws.{keeps_parts, others_submitted}
-use Rattle.transfer_file.specs.Local.{AreGot, Failed, Got, HasDone, LocalAct, Opened, all_done}
+use Rattle.transfer_local.specs.Local.{AreGot, Failed, Got, HasDone, LocalAct, Opened, all_done}
 use Rattle.transfer_file.specs.Puts.{
   Leaves,
   PiecesSent,

@@ -2,7 +2,7 @@
 use Rattle.std.specs.Prelude.{◌≡◌, ◌≢◌, Bool, ℕ, List, [], ◌++◌, Option, Some, None, if◌then◌else◌}
 use Rattle.std.specs.Str.{bytes_eq}
 use Rattle.std.specs.Option.{unwrap_or}
-use Rattle.transfer_file.specs.Local.{LocalAct, Opened, Created, Got, Wrote, Renamed, Failed}
+use Rattle.transfer_local.specs.Local.{LocalAct, Opened, Created, Got, Wrote, Renamed, Failed}
 
 -- what stands under each name, and the name of the file that was made last
 pub record Disk : Type 0 where

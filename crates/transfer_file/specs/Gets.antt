@@ -32,7 +32,7 @@ use Rattle.sftp_client.specs.Sessions.{SftpValue, with_core}
 use Rattle.sftp_file.specs.Files.{FileValue, facts_of}
 use Rattle.sftp_streams.specs.Downloads.{DownloadValue, MayRead, Reads, content_kind, starting}
 use Rattle.sftp_streams.specs.Parts.{AreAwaited, without_parts}
-use Rattle.transfer_file.specs.Local.{AreOfPart, AreUnnamed, Created, HasDone, LocalAct, Renamed, writes_of}
+use Rattle.transfer_local.specs.Local.{AreOfPart, AreUnnamed, Created, HasDone, LocalAct, Renamed, writes_of}
 use Rattle.transfer_file.specs.Awaits.{Closed, OpensAs}
 use Rattle.transfer_file.specs.Sessions.{IsGoing, Turns}
 

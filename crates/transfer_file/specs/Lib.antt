@@ -1,4 +1,3 @@
-pub mod Local
 pub mod Sessions
 pub mod Awaits
 pub mod Asks

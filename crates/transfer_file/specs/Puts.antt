@@ -39,7 +39,7 @@ use Rattle.sftp_streams.specs.Uploads.{AsksWrite, MayWrite, UploadValue, Writes,
 use Rattle.transfer_file.specs.Awaits.{Closed, OpensAs}
 use Rattle.transfer_file.specs.Asks.{Renames}
 use Rattle.transfer_file.specs.Gets.{AreBoth, WasLetGo}
-use Rattle.transfer_file.specs.Local.{AreGot, Got, HasDone, LocalAct, Opened}
+use Rattle.transfer_local.specs.Local.{AreGot, Got, HasDone, LocalAct, Opened}
 use Rattle.transfer_file.specs.Sessions.{IsGoing, Turns}
 
 -- a session, and an upload on it

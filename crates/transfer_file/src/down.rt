@@ -8,13 +8,13 @@ ghost use Rattle.transfer_file.specs.Sessions.{IsGoing};
 
 use crate::awaiting::{close_remote, open_remote, turn};
 use crate::failure::Failure;
-use crate::local::LocalFile;
 use sftp_client::Sftp;
 use sftp_file::{File, Poll};
 use sftp_link::Link;
 use sftp_model::OpenOptions;
 use sftp_streams::Download;
 use std::alloc::Global;
+use transfer_local::LocalFile;
 
 /// A file of the server is opened to read alone.
 fn read_options() -> OpenOptions

@@ -2,7 +2,7 @@
 ghost use Rattle.std.specs.Prelude.{◌≡◌, ◌≢◌, ◌∷◌, List, ℕ};
 ghost use Rattle.sftp_model.specs.Pieces.{joined};
 ghost use Rattle.transfer_file.specs.Disks.{Disk, IsCopied, after_act};
-ghost use Rattle.transfer_file.specs.Local.{Created, Renamed, all_done, writes_of};
+ghost use Rattle.transfer_local.specs.Local.{Created, Renamed, all_done, writes_of};
 
 /// On a disk where each act does what it says, the acts of a copy from the server leave its pieces, joined, under the
 /// name, nothing under the name of the part, and all else as it was.

@@ -6,12 +6,11 @@ mod awaiting;
 mod down;
 mod failure;
 mod laws;
-mod local;
 mod up;
 
 pub use awaiting::{await_call, turn};
 pub use down::get;
 pub use failure::Failure;
 pub use laws::one_name_is_changed;
-pub use local::{LocalError, LocalFile};
+pub use transfer_local::{LocalError, LocalFile};
 pub use up::put;

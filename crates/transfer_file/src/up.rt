@@ -9,13 +9,13 @@ ghost use Rattle.transfer_file.specs.Sessions.{IsGoing};
 use crate::asking::rename_remote;
 use crate::awaiting::{close_remote, open_remote, turn};
 use crate::failure::Failure;
-use crate::local::LocalFile;
 use sftp_client::Sftp;
 use sftp_file::{File, Poll};
 use sftp_link::Link;
 use sftp_model::{Error, IoKind, OpenOptions};
 use sftp_streams::Upload;
 use std::alloc::Global;
+use transfer_local::LocalFile;
 
 /// A file of the server is made, or emptied, to be written.
 fn write_options() -> OpenOptions

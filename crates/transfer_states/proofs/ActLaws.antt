@@ -37,7 +37,7 @@ use Rattle.transfer_states.specs.declared.progress.Progress.TheVariants as progr
 use Rattle.transfer_states.specs.Acts.{GotAfter, GotSoFar, HasWrittenPart, IsPartOnly, total_len}
 use Rattle.transfer_states.specs.Gets.{GetFinishes, GetStepDid, GetGivesUp, TakesReply, MakesPart, WritesPiece}
 use Rattle.transfer_states.specs.Holdings.{HoldingValue}
-use Rattle.transfer_states.specs.Local.{
+use Rattle.transfer_local.specs.Local.{
   AreOfPart,
   AreUnnamed,
   Created,

@@ -55,7 +55,7 @@ use Rattle.transfer_states.specs.Gets.{
   GetReadsOn,
   StandsGet,
 }
-use Rattle.transfer_states.specs.Local.{LocalAct}
+use Rattle.transfer_local.specs.Local.{LocalAct}
 use Rattle.transfer_states.proofs.HoldingLaws.{apart_both}
 
 -- what comes behind another change

@@ -36,7 +36,7 @@ use Rattle.transfer_states.specs.declared.put.PutStage.{PutStage}
 use Rattle.transfer_states.specs.declared.put.PutStage.TheVariants as stage
 use Rattle.transfer_states.specs.Acts.{HasReadFile, IsReadOnly, SentAfter, SentSoFar, end_acts, total_len}
 use Rattle.transfer_states.specs.Holdings.{HoldingValue, bytes_under_way}
-use Rattle.transfer_states.specs.Local.{AreGot, Failed, Got, HasDone, IsGot, LocalAct, Opened, all_done, reads_of}
+use Rattle.transfer_local.specs.Local.{AreGot, Failed, Got, HasDone, IsGot, LocalAct, Opened, all_done, reads_of}
 use Rattle.transfer_states.specs.Puts.{
   AcceptsWrite,
   IsWritingOn,

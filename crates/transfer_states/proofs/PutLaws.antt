@@ -58,7 +58,7 @@ use Rattle.transfer_states.specs.Puts.{
   rename_of,
   rename_stage,
 }
-use Rattle.transfer_states.specs.Local.{LocalAct}
+use Rattle.transfer_local.specs.Local.{LocalAct}
 use Rattle.transfer_states.proofs.GetLaws.{last_bytes, still_open}
 use Rattle.transfer_states.proofs.HoldingLaws.{apart_both}
 

@@ -8,7 +8,7 @@ use Rattle.transfer_states.specs.declared.progress.Progress.TheVariants as progr
 use Rattle.transfer_states.specs.declared.put.FilePut.{FilePut}
 use Rattle.transfer_states.specs.declared.put.PutStage.{PutStage}
 use Rattle.transfer_states.specs.declared.put.PutStage.TheVariants as put
-use Rattle.transfer_states.specs.Local.{
+use Rattle.transfer_local.specs.Local.{
   AreGot,
   AreOfPart,
   AreUnnamed,

@@ -63,7 +63,7 @@ use Rattle.transfer_states.specs.Holdings.{
   bytes_under_way,
   nothing_held,
 }
-use Rattle.transfer_states.specs.Local.{Created, Failed, LocalAct, Renamed, Wrote}
+use Rattle.transfer_local.specs.Local.{Created, Failed, LocalAct, Renamed, Wrote}
 
 -- a file is opened to read alone
 abbrev pub read_flags : OpenFlags

@@ -1,4 +1,3 @@
-pub mod Local
 pub mod Answers
 pub mod Refusals
 pub mod Holdings

@@ -57,7 +57,7 @@ use Rattle.transfer_states.specs.Holdings.{
   bytes_under_way,
   nothing_held,
 }
-use Rattle.transfer_states.specs.Local.{Failed, Got, LocalAct, Opened}
+use Rattle.transfer_local.specs.Local.{Failed, Got, LocalAct, Opened}
 use Rattle.transfer_states.specs.Refusals.{IsOkStatus}
 
 -- a file is made, or emptied, to be written

@@ -1,6 +1,6 @@
 //! Why a file was not copied.
-use crate::local::LocalError;
 use sftp_model::Error;
+use transfer_local::LocalError;
 
 /// Why a file was not copied.
 #[derive(Drop)]

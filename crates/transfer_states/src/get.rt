@@ -11,7 +11,6 @@ ghost use Rattle.transfer_states.specs.Holdings.{SparesPlaces, drops_file, drops
 
 use crate::failure::Failure;
 use crate::holding::{FileAnswer, Holding, PartAnswer};
-use crate::local::LocalFile;
 use crate::paths::open_request;
 use crate::progress::Progress;
 use crate::refusals::{faulted, refused, settled, status_failure};
@@ -21,6 +20,7 @@ use sftp_model::numbers::SSH_FX_EOF;
 use sftp_model::{Error, IoKind, OpenOptions, Reply};
 use ssh_encoding::OutOfMemory;
 use std::alloc::Global;
+use transfer_local::LocalFile;
 
 /// Where a copy from the server stands.
 #[derive(Clone, Copy, Debug, PartialEq, Eq)]

@@ -10,7 +10,7 @@ ghost use Rattle.transfer_states.specs.declared.put.PutStage.TheVariants as put;
 ghost use Rattle.transfer_states.specs.declared.get.GetStage.TheVariants as get;
 ghost use Rattle.transfer_states.specs.declared.progress.Progress.{Progress};
 
-use crate::local::LocalFile;
+use transfer_local::LocalFile;
 
 /// What a copy from the server has done to its local file, over each of its steps: at its end, where it gives a count, the
 /// part was made, so many bytes were written to it and nothing else, and it was renamed; with an error no file got the

@@ -12,7 +12,6 @@ mod naming;
 
 use crate::failure::Failure;
 use crate::holding::{FileAnswer, Holding, PartAnswer};
-use crate::local::LocalFile;
 use crate::paths::open_request;
 use crate::progress::Progress;
 use crate::refusals::{faulted, refused, settled};
@@ -21,6 +20,7 @@ use sftp_core::Core;
 use sftp_model::{Error, IoKind, OpenOptions, Reply};
 use ssh_encoding::OutOfMemory;
 use std::alloc::Global;
+use transfer_local::LocalFile;
 
 /// Where a copy to the server stands.
 #[derive(Clone, Copy, Debug, PartialEq, Eq)]

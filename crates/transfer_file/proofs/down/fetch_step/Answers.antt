@@ -2,7 +2,7 @@ use Rattle.std.proofs.Common.{rules, ◌≡◌, refl, Ok, Err, Some, None, [], �
 use Rattle.call_state.specs.declared.poll.Poll.TheVariants as poll
 use Rattle.sftp_client.specs.Sessions.{with_core}
 use Rattle.sftp_streams.specs.Downloads.{Reads}
-use Rattle.transfer_file.specs.Local.{Failed, HasDone, Wrote}
+use Rattle.transfer_local.specs.Local.{Failed, HasDone, Wrote}
 use Rattle.transfer_file.proofs.FetchLaws.{gave_piece, wait_failed, waited, write_failed}
 use Rattle.transfer_file.proofs.down.fetch_step.Goals as goal
 

@@ -1,7 +1,7 @@
 use Rattle.std.proofs.Common.{rules, subst, [], ◌∷◌, Ok, Err}
 use Rattle.sftp_model.specs.declared.flags.OpenFlags.{OpenFlags}
 use Rattle.transfer_file.specs.Awaits.{OpensAs}
-use Rattle.transfer_file.specs.Local.{Failed, HasDone, Opened}
+use Rattle.transfer_local.specs.Local.{Failed, HasDone, Opened}
 use Rattle.transfer_file.specs.Puts.{PutJob}
 use Rattle.transfer_file.proofs.PutEnds.{not_made, not_renamed, not_sent, not_there, put_all}
 use Rattle.transfer_file.proofs.up.put.Goals as goal

@@ -1,6 +1,6 @@
 //! A file of the machine that the program runs on.
 ghost use Rattle.std.specs.Prelude.{◌≡◌, ◌≤◌, [], ◌∷◌, length, IfOk};
-ghost use Rattle.transfer_states.specs.Local.{HasDone, LocalAct, Created, Opened, Renamed, Wrote, got_by, tried};
+ghost use Rattle.transfer_local.specs.Local.{HasDone, LocalAct, Created, Opened, Renamed, Wrote, got_by, tried};
 
 use bytes::Bytes;
 use std::alloc::Global;
@@ -35,11 +35,11 @@ pub trait LocalFile {
 
     ghost history: { Self → History };
 
-    /// GetOpens a file to read it from its start.
+    /// Opens a file to read it from its start.
     fn open(&mut self, name: &str) -> Result<(), LocalError>
         ensures { HasDone Self.done (tried result (Opened name.now) ∷ []) (Self.history self.old) (Self.history self.new) };
 
-    /// Makes a file, or empties it, and opens it to write it from its start.
+    /// Makes a new file, in the place of one that has the name, and opens it to write it from its start.
     fn create(&mut self, name: &str) -> Result<(), LocalError>
         ensures { HasDone Self.done (tried result (Created name.now) ∷ []) (Self.history self.old) (Self.history self.new) };
 
