@@ -91,6 +91,28 @@ cmp "$room/far/file" "$room/near/file" && ! [ -s "$room/err" ]
 tell 'a file down over standard input and output' $?
 rm -f "$room/near/file"
 
+# ---- TCP
+
+socat -d -d TCP-LISTEN:0,bind=127.0.0.1 "EXEC:$server" 2>"$room/heard" &
+fifth=$!
+port=
+tries=0
+while [ -z "$port" ] && [ $tries -lt 100 ]; do
+    port=$(sed -n 's/.*listening on AF=2 127.0.0.1:\([0-9]*\)$/\1/p' "$room/heard")
+    [ -n "$port" ] || sleep 0.1
+    tries=$((tries + 1))
+done
+timeout 60 "$program" "tcp:127.0.0.1:$port" get "$room/far/file" "$room/near/file" >"$room/out" 2>"$room/err"
+status=$?
+kill $fifth 2>/dev/null
+[ $status -eq 0 ] && cmp "$room/far/file" "$room/near/file" && ! [ -s "$room/err" ]
+tell 'a file down over TCP' $?
+rm -f "$room/near/file"
+timeout 60 "$program" "tcp:127.0.0.1:$port" get "$room/far/file" "$room/near/file" >"$room/out" 2>"$room/err"
+status=$?
+[ $status -eq 6 ] && [ "$(wc -l <"$room/err")" -eq 1 ] && [ -z "$(ls -A "$room/near")" ]
+tell 'nobody at a TCP port' $?
+
 # ---- what is refused, with the cause and the file on one line
 
 run socket get "$room/far/missing" "$room/near/file"
