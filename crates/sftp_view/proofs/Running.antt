@@ -13,6 +13,7 @@ use Rattle.sftp_model.specs.declared.error.Error.TheVariants as error
 use Rattle.sftp_model.specs.declared.options.SftpOptions.{SftpOptions}
 use Rattle.machine_model.specs.FirstTree.{FirstFile}
 use Rattle.machine_model.specs.FitTrees.{IsFit}
+use Rattle.sftp_model.specs.Numbers.{SSH_FX_OK}
 use Rattle.machine_model.proofs.FirstFits.{first_fits}
 use Rattle.machine_model.proofs.FirstFiles.{first_well_formed}
 use Rattle.machine_model.specs.Changes.{IsWellFormed}
@@ -37,7 +38,8 @@ use Rattle.map_server_laws.proofs.Stopping.{sound_at}
 use Rattle.map_server_laws.proofs.Whole.{server_serves}
 use Rattle.program_ends.specs.Ended.{IsServerOf}
 use Rattle.view_lists.specs.CacheSizes.{IsCacheSize}
-use Rattle.view_lists.specs.CanView.{CanView}
+use Rattle.view_lists.specs.CanView.{CanView, refuses_nothing}
+use Rattle.run_laws.specs.Steps.{RefuseNone}
 use Rattle.view_lists.specs.declared.cache_size.CacheSize.{CacheSize}
 use Rattle.view_lists.specs.declared.list.ViewList.{ViewList}
 use Rattle.view_model.proofs.BoundLaws.{within_viewed}
@@ -169,22 +171,34 @@ first_of script files dirs old f d is =
     ap (λ (s : Serving). s.first) is
     ∙ (λ i. opened (first_desk (f i) (d i) script.server script.choices) script.picks)
 
+is_unrefused : (choice : Choice) → refuses_nothing choice ≡ true → choice.refuse ≡ SSH_FX_OK
+is_unrefused choice e = grind (arith, nat_tests)
+
+unrefused : (choices : List Choice) → list_all refuses_nothing choices ≡ true → RefuseNone choices
+unrefused [] e = tt
+unrefused (c ∷ choices) e =
+    let both = and_parts (refuses_nothing c) (list_all refuses_nothing choices) e in
+    (is_unrefused c both.0, unrefused choices both.1)
+
 -- over the server of a list, which was kept, it is the list's
 pub viewed_if : (size : CacheSize) (list : ViewList) (kept : Option Serving) (files : List FirstFile) (dirs : List (List ℕ))
     (ops : List ViewOp) (old : Serving) (r : Result (Vec ℕ Global) OutOfMemory)
-    → files ≡ list.script.files → dirs ≡ list.script.dirs → ops ≡ list.ops
+    → CanView size.block list → files ≡ list.script.files → dirs ≡ list.script.dirs → ops ≡ list.ops
     → old ≡ unopened files dirs list.script.server list.script.choices list.script.picks → IsSomeAnd kept (λ now. now.first ≡ old.first)
     → IfOk r (λ text. IsSomeAnd kept (λ now. ViewText size ops list.script.options now text.items))
     → IfOk r (λ text. IsViewed size kept list text.items)
-viewed_if size list kept files dirs ops old (Err e) f d o is same run = tt
-viewed_if size list None files dirs ops old (Ok text) f d o is same run = absurd same
-viewed_if size list (Some now) files dirs ops old (Ok text) f d o is same run =
+viewed_if size list kept files dirs ops old (Err e) can f d o is same run = tt
+viewed_if size list None files dirs ops old (Ok text) can f d o is same run = absurd same
+viewed_if size list (Some now) files dirs ops old (Ok text) can f d o is same run =
     let run_now : ViewText size list.ops list.script.options now text.items =
     subst (λ (x : List ViewOp). ViewText size x list.script.options now text.items) o run in
+    let first : IsServerOf list.script now = same ∙ first_of list.script files dirs old f d is in
     record {
       server = now;
       is_kept = refl;
-      first = same ∙ first_of list.script files dirs old f d is;
+      first = first;
+      plain = run_now.1.plain
+          (subst RefuseNone (sym (ap (λ (w : Server). w.desk.choices) first)) (unrefused list.script.choices can.unrefused));
       report = run_now.0;
       run = run_now.1;
       is = run_now.2;

@@ -243,7 +243,7 @@ module _ {S : Type 0} where
       → Told (Showing (seen_of mid.session).version (seen_of mid.session).stage.past) before.link.log y.log → Caused before.link y (Ok u)
       → mid.cache.kept ≡ nothing_kept → Works (done_by ops mid) (λ l. left_by l new) (most ops) mid y new z (Ok answers)
       → Closes (at (seen_of new.session) z) c (Ok tt) → MayView mid.block mid.cache.capacity ops
-          → Views mid.block mid.cache.capacity ops before c new.cache.kept (Ok answers)
+      → Views mid.block mid.cache.capacity ops before c new.cache.kept (Ok answers)
   view_done ops before mid new c y z answers {u = u} opened one shows caused none work closes may =
       let a : At S = at (seen_of mid.session) y in
       let b : At S = at (seen_of new.session) z in
@@ -279,9 +279,9 @@ module _ {S : Type 0} where
               c.seen.stage.past w.answers w.kept.hits w.kept.misses)
               (ap (λ (m : Made Viewed). m.value) is)
               (view_plainly c.seen.setting before.seen.given.lanes before.seen.given.options fixed.0 c.seen.stage.past
-                  mid.block mid.cache.capacity ops fixed.1.1 one
+              mid.block mid.cache.capacity ops fixed.1.1 one
               closes.closed.run closes.closed.over (closes.closed.uncancelled
-                  (work.runs.does.uncancelled first.uncancelled)) may.some may.short within.0 calls);
+              (work.runs.does.uncancelled first.uncancelled)) may.some may.short within.0 calls);
         };
         left = tt;
         caused = caused_on before.link y c.link u (Ok answers) caused (ok_caused y c.link tt answers all.caused);

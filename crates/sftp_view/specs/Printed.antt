@@ -52,11 +52,15 @@ pub record IsServedView (size : CacheSize) (ops : List ViewOp) (options : SftpOp
 abbrev pub view_text : ViewReport → FileTree → List ℕ
 view_text report tree = view_lines report.answers report.hits report.misses ++ file_lines tree ++ dir_lines tree
 
--- the text is that of the operations of a list over the list's server, which was kept, and of what is left there
+-- The text is that of the operations of a list over the list's server, which was kept, and of what is left there.
+-- Answers, hits, misses and what is left of the files are what the list's files alone give.
 pub record IsViewed (size : CacheSize) (kept : Option Serving) (list : ViewList) (text : List ℕ) : Type 0 where
   pub server : Serving
   pub is_kept : kept ≡ Some server
   pub first : IsServerOf list.script server
   pub report : ViewReport
   pub run : IsServedView size list.ops list.script.options server report
+  pub plain : IsPlain size.block size.capacity
+      (setting_of one_lane list.script.options run.extensions run.past).facts.write_len list.ops
+      server.first.desk.machine.tree server.now.desk.machine.tree report.answers report.hits report.misses
   pub is : text ≡ view_text report server.now.desk.machine.tree

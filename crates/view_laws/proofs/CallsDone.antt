@@ -1,6 +1,36 @@
 -- What each call on the first slot did over the file machine, once it is done: what `Did` says.
-use Rattle.std.proofs.Common.{◌≡◌, ◌≤◌, ◌<◌, ◌+◌, ◌-◌, ℕ, Bool, true, false, not, List, [], ◌∷◌, length, take, drop,
-    Option, Some, None, Ok, Err, if◌then◌else◌, refl, ap, sym, ◌∙◌, subst, arith, inl, inr}
+use Rattle.std.proofs.Common.{
+  ◌≡◌,
+  ◌≤◌,
+  ◌<◌,
+  ◌+◌,
+  ◌-◌,
+  ℕ,
+  Bool,
+  true,
+  false,
+  not,
+  List,
+  [],
+  ◌∷◌,
+  length,
+  take,
+  drop,
+  Option,
+  Some,
+  None,
+  Ok,
+  Err,
+  if◌then◌else◌,
+  refl,
+  ap,
+  sym,
+  ◌∙◌,
+  subst,
+  arith,
+  inl,
+  inr,
+}
 use Rattle.std.specs.Prelude.{◌⊎◌, ◌&&◌, ◌||◌, min, nat_le}
 use Rattle.std.specs.List.{list_any}
 use Rattle.std.specs.Str.{bytes_eq}
@@ -30,8 +60,22 @@ use Rattle.machine_model.proofs.NameLaws.{handles_tell}
 use Rattle.machine_model.proofs.LossLaws.{name_has}
 use Rattle.machine_model.proofs.PairLaws.{found_push_here, has_any}
 use Rattle.machine_model.specs.Components.{Name, components, is_long, parent_of}
-use Rattle.machine_model.specs.FileTree.{FileTree, after_loss, bytes_of, file_of, is_directory, names_file, node_at,
-    opened_at, opens_file, size_of, with_bytes, with_file, with_handle, without_handle}
+use Rattle.machine_model.specs.FileTree.{
+  FileTree,
+  after_loss,
+  bytes_of,
+  file_of,
+  is_directory,
+  names_file,
+  node_at,
+  opened_at,
+  opens_file,
+  size_of,
+  with_bytes,
+  with_file,
+  with_handle,
+  without_handle,
+}
 use Rattle.machine_model.specs.HandleRequests.{Answer, after_close, after_open, after_read, capped, creates, grants, held_by, is_exclusive, refuses, truncates}
 use Rattle.machine_model.specs.TreeAnswers.{apply}
 use Rattle.machine_model.specs.declared.node.Node.{Node}
@@ -119,14 +163,14 @@ open_alike tree handle flags name (Some (node.File file)) is = by_tests (creates
     by_tests false false = inr (record { to = tree; file = file; x_is = refl; y_is = refl; named = is; handles = refl })
 open_alike tree handle flags name None is =
     by_tests (not (creates flags)) (not (is_directory (node_at tree (parent_of name)))) (is_long name)
-        (not (is_directory (node_at (bare tree) (parent_of name))))
+    (not (is_directory (node_at (bare tree) (parent_of name))))
     (ap (λ (x : Option Node). not (is_directory x)) (bare_node tree (parent_of name)))
   where
     by_tests : (a b c d : Bool) → d ≡ b → OpenAlike tree handle flags name
         (if a then refuses tree SSH_FX_NO_SUCH_FILE else if b then refuses tree SSH_FX_NO_SUCH_FILE else if c then refuses tree SSH_FX_FAILURE else
         grants (with_file tree name) handle (held_by flags (length tree.files)))
         (if a then refuses (bare tree) SSH_FX_NO_SUCH_FILE else if d then refuses (bare tree) SSH_FX_NO_SUCH_FILE else
-            if c then refuses (bare tree) SSH_FX_FAILURE else
+        if c then refuses (bare tree) SSH_FX_FAILURE else
         grants (with_file (bare tree) name) [] (held_by flags (length tree.files)))
     by_tests true b c d e = inl (record { code = SSH_FX_NO_SUCH_FILE; x_is = refl; y_is = refl })
     by_tests false true c true e = inl (record { code = SSH_FX_NO_SUCH_FILE; x_is = refl; y_is = refl })
@@ -213,10 +257,10 @@ module _ (len : ℕ) (config : ServerConfig) (answers : Answers) (facts : Facts)
           let mine : opened_at now st.handle ≡ Some held =
           found_push_here bytes_eq w.to.handles st.handle held ((handles_tell st.handle st.handle).1 refl) free in
           done_as len answers ((st.place, st.request) ∷ []) (call.OpenFile 0 options path) site left
-              (with_slot site 0 (File (file_at st.place s))) (answer_to config tree st).1 before o outcome.Opened
+          (with_slot site 0 (File (file_at st.place s))) (answer_to config tree st).1 before o outcome.Opened
           (subst (λ (a : Answer). opens 0 (flags_of options) site st.place a.0 ≡ Done o left) is taken.1)
           (subst (λ (a : Answer). HasDone len answers ((st.place, st.request) ∷ []) (call.OpenFile 0 options path) site
-              (with_slot site 0 (File (file_at st.place s))) a.1 before outcome.Opened) (sym is)
+          (with_slot site 0 (File (file_at st.place s))) a.1 before outcome.Opened) (sym is)
           (record {
             mid = standing w.to s;
             did = subst (λ (a : Answer). OpensBy (flags_of options).0 (components path) before a (Ok []) (standing w.to s)) (sym (bare_is ∙ w.y_is)) (
@@ -338,7 +382,7 @@ module _ (len : ℕ) (config : ServerConfig) (answers : Answers) (facts : Facts)
           (record { tree = t; slot = Some s }) o outcome.End
           (subst (λ (a : Answer). was_read 0 (file_at h.grant s) (site_with (file_at h.grant s)) a.0 ≡ Done o left) is taken.1)
           (subst (λ (a : Answer). HasDone len answers ((st.place, st.request) ∷ []) (call.Read 0 n) site
-              (site_with (file_at h.grant s)) a.1 (record { tree = t; slot = Some s }) outcome.End) (sym is)
+          (site_with (file_at h.grant s)) a.1 (record { tree = t; slot = Some s }) outcome.End) (sym is)
           (record {
             mid = standing t s;
             did = inl (record {
@@ -359,12 +403,12 @@ module _ (len : ℕ) (config : ServerConfig) (answers : Answers) (facts : Facts)
           let came : answers st.place ≡ Some (reply.Content bytes) = taken.0 ∙ ap (λ (a : Answer). Some a.0) is in
           let to : ℕ = s.offset + length bytes in
           done_as len answers ((st.place, st.request) ∷ []) (call.Read 0 n) site left
-              (site_with (file_at h.grant (record s { offset = to }))) (answer_to config tree st).1
+          (site_with (file_at h.grant (record s { offset = to }))) (answer_to config tree st).1
           (record { tree = t; slot = Some s }) o (outcome.Bytes bytes)
           (subst (λ (a : Answer). was_read 0 (file_at h.grant s) (site_with (file_at h.grant s)) a.0 ≡ Done o left) is taken.1)
           (subst (λ (a : Answer). HasDone len answers ((st.place, st.request) ∷ []) (call.Read 0 n) site
-              (site_with (file_at h.grant (record s { offset = to }))) a.1 (record { tree = t; slot = Some s })
-              (outcome.Bytes bytes)) (sym is)
+          (site_with (file_at h.grant (record s { offset = to }))) a.1 (record { tree = t; slot = Some s })
+          (outcome.Bytes bytes)) (sym is)
           (record {
             mid = standing t (record s { offset = to });
             did = inr (record {
@@ -376,7 +420,7 @@ module _ (len : ℕ) (config : ServerConfig) (answers : Answers) (facts : Facts)
                   let a : length bytes ≡ min (capped st.choice.cap (min n facts.read_len)) (length (drop s.offset (bytes_of tree s.file))) =
                   length-take (capped st.choice.cap (min n facts.read_len)) (drop s.offset (bytes_of tree s.file)) in
                   let b : length (drop s.offset (bytes_of tree s.file)) ≡ length (bytes_of tree s.file) - s.offset =
-                      length-drop s.offset (bytes_of tree s.file) in
+                  length-drop s.offset (bytes_of tree s.file) in
                   let size : size_of tree s.file ≡ length (bytes_of tree s.file) = refl in
                   omega (arith, lt, c, a, b, size));
               most = (let c = capped_most st.choice.cap (min n facts.read_len) in
@@ -420,7 +464,7 @@ module _ (len : ℕ) (config : ServerConfig) (answers : Answers) (facts : Facts)
       (record { tree = t; slot = Some s }) o outcome.Done
       (subst (λ (a : Answer). done_by fresh_site a.0 ≡ Done o left) ans taken.1)
       (subst (λ (a : Answer). HasDone len answers ((st.place, st.request) ∷ []) (call.Close 0) site fresh_site a.1
-          (record { tree = t; slot = Some s }) outcome.Done) (sym ans)
+      (record { tree = t; slot = Some s }) outcome.Done) (sym ans)
       (record {
         mid = at_rest t;
         did = refl;

@@ -49,7 +49,7 @@ module _ (config : ServerConfig) (answers : Answers) (facts : Facts) (handle : L
 
   read_ends : (n : ℕ) (tree t : FileTree) (slot : Option Standing) (steps : List Step) (site left : Site) (o : Outcome)
       → t ≡ bare tree → HoldsSlot answers tree site handle slot → MayRead slot n
-          → IsOne (request.Read handle (offset_in slot) (min n facts.read_len)) (asked_in steps)
+      → IsOne (request.Read handle (offset_in slot) (min n facts.read_len)) (asked_in steps)
       → AreServed config answers tree steps → Choose RefusesNone steps → next (call.Read 0 n) site facts (asked_in steps) answers ≡ Done o left
       → EndsSo (call.Read 0 n) tree steps site left (record { tree = t; slot = slot }) o
   read_ends n tree t None steps site left o tree_is holds may asked served chosen done = absurd may
@@ -79,7 +79,7 @@ module _ (config : ServerConfig) (answers : Answers) (facts : Facts) (handle : L
 
   write_ends : (bytes : List ℕ) (tree t : FileTree) (slot : Option Standing) (steps : List Step) (site left : Site) (o : Outcome)
       → t ≡ bare tree → HoldsSlot answers tree site handle slot → MayWrite slot bytes
-          → AsksSo facts answers (call.WriteAll 0 bytes) handle (offset_in slot) (asked_in steps)
+      → AsksSo facts answers (call.WriteAll 0 bytes) handle (offset_in slot) (asked_in steps)
       → AreServed config answers tree steps → Choose RefusesNone steps → next (call.WriteAll 0 bytes) site facts (asked_in steps) answers ≡ Done o left
       → EndsSo (call.WriteAll 0 bytes) tree steps site left (record { tree = t; slot = slot }) o
   write_ends bytes tree t None steps site left o tree_is holds may asked served chosen done = absurd may
@@ -118,7 +118,7 @@ module _ (config : ServerConfig) (answers : Answers) (facts : Facts) (handle : L
   call_ends (call.Seek slot (position.Start n)) tree steps site left at o is may asked served chosen done =
       subst (λ (k : ℕ). EndsSo (call.Seek k (position.Start n)) tree steps site left at o) (sym may.0)
       (by_slot at.slot may.1 is.slot_is steps asked (subst (λ (k : ℕ). next (call.Seek k (position.Start n)) site facts
-          (asked_in steps) answers ≡ Done o left) may.0 done))
+      (asked_in steps) answers ≡ Done o left) may.0 done))
     where
       by_slot : (slot : Option Standing) → Stands slot → HoldsSlot answers tree site handle slot → (steps : List Step) → asked_in steps ≡ []
           → next (call.Seek 0 (position.Start n)) site facts (asked_in steps) answers ≡ Done o left

@@ -1,6 +1,33 @@
 -- The calls of a journal of one lane that a file machine serves did as the files say.
-use Rattle.std.proofs.Common.{◌≡◌, ◌≢◌, ◌≤◌, ◌+◌, ℕ, zero, suc, Bool, true, false, List, [], ◌∷◌, ◌++◌, length, take,
-    Option, Some, None, refl, ap, sym, ◌∙◌, subst, arith, inl, inr}
+use Rattle.std.proofs.Common.{
+  ◌≡◌,
+  ◌≢◌,
+  ◌≤◌,
+  ◌+◌,
+  ℕ,
+  zero,
+  suc,
+  Bool,
+  true,
+  false,
+  List,
+  [],
+  ◌∷◌,
+  ◌++◌,
+  length,
+  take,
+  Option,
+  Some,
+  None,
+  refl,
+  ap,
+  sym,
+  ◌∙◌,
+  subst,
+  arith,
+  inl,
+  inr,
+}
 use Rattle.std.specs.Prelude.{slice_get}
 use Rattle.std.proofs.lemmas.Bool.{or_cases}
 use Rattle.std.proofs.lemmas.List.{append-nil, append_assoc, append_cancel_left, map-append, take-append-le, take_all}
@@ -42,8 +69,23 @@ use Rattle.view_model.specs.Uncancelled.{IsUncancelled}
 use Rattle.view_laws.proofs.CallsDone.{HasDone}
 use Rattle.view_laws.proofs.EachCall.{call_ends}
 use Rattle.view_laws.proofs.JournalEnds.{calm, cut_steps, let_go_idle, requests_grow, uncancelled_before}
-use Rattle.view_laws.proofs.JournalSteps.{AsksNow, Expects, Guard, Reached, adds, asks_limits, at_first, call_asks,
-    keeps_fault, lane_zero, lets_go, one_there, only_lane, sends, takes}
+use Rattle.view_laws.proofs.JournalSteps.{
+  AsksNow,
+  Expects,
+  Guard,
+  Reached,
+  adds,
+  asks_limits,
+  at_first,
+  call_asks,
+  keeps_fault,
+  lane_zero,
+  lets_go,
+  one_there,
+  only_lane,
+  sends,
+  takes,
+}
 use Rattle.view_laws.proofs.SlotCalls.{AsksSo, IsAt, asks_none, offset_in}
 
 journal_of : (s : Setting) (more q : List Entry) → IsJournal s (more ++ q) → IsJournal s q
@@ -111,7 +153,7 @@ module _ (s : Setting) (config : ServerConfig) (first : FileTree) (steps : List 
       let later = requests_grow more q in
       let all : asked_in xs ++ asked_in rest ≡ asked_in xs ++ (mine ++ later.0) =
       sym (map-append (λ (st : Step). (let p : ℕ × Request = (st.place, st.request) in p)) xs rest)
-          ∙ (ap asked_in (sym split) ∙ (by.asks ∙ (ap requests_of (sym whole)
+      ∙ (ap asked_in (sym split) ∙ (by.asks ∙ (ap requests_of (sym whole)
       ∙ (later.1 ∙ (ap (λ (w : Own). w ++ later.0) (sym requests) ∙ append_assoc (asked_in xs) mine later.0))))) in
       let cut = cut_steps rest mine later.0 (append_cancel_left (asked_in xs) (asked_in rest) (mine ++ later.0) all) in
       let whole_split : steps ≡ xs ++ (cut.xs ++ cut.ys) = split ∙ ap (λ (w : List Step). xs ++ w) cut.split in
@@ -196,7 +238,7 @@ module _ (s : Setting) (config : ServerConfig) (first : FileTree) (steps : List 
         requests = ap (λ (w : Own). asked_in (r.xs ++ cs.ys) ++ w) none_own
             ∙ (append-nil (asked_in (r.xs ++ cs.ys))
             ∙ (map-append (λ (st : Step). (let p : ℕ × Request = (st.place, st.request) in p)) r.xs cs.ys
-                ∙ (ap (λ (w : Own). asked_in r.xs ++ w) cs.asks ∙ r.requests)));
+            ∙ (ap (λ (w : Own). asked_in r.xs ++ w) cs.asks ∙ r.requests)));
         handle = d.handle;
         is = subst (λ (x : Site). IsAt (answer q) (after config first (r.xs ++ cs.ys)) x d.handle d.mid) (sym site_is)
             (subst (λ (t : FileTree). IsAt (answer q) t left d.handle d.mid) (sym (after_two config first r.xs cs.ys)) d.at);
@@ -332,12 +374,12 @@ module _ (s : Setting) (config : ServerConfig) (first : FileTree) (steps : List 
       left_is : was_let_go past 0 ≡ true → current s past 0 ≡ None → (at : FilesAt) → Then past at → at.slot ≡ None → at.tree ≡ bare (after config first steps)
       left_is gone idle at t none =
           let r = subst (λ (x : Option Call). At past at x) idle (t
-              (subst (λ (x : Option Call). Guard x (was_let_go past 0) at) (sym idle)
-              (subst (λ (b : Bool). Guard None b at) (sym gone) none))) in
+          (subst (λ (x : Option Call). Guard x (was_let_go past 0) at) (sym idle)
+          (subst (λ (b : Bool). Guard None b at) (sym gone) none))) in
           let whole : asked_in r.xs ++ asked_in r.rest ≡ asked_in r.xs ++ [] =
           sym (map-append (λ (st : Step). (let p : ℕ × Request = (st.place, st.request) in p)) r.xs r.rest)
-              ∙ (ap asked_in (sym r.split) ∙ (by.asks ∙ (sym r.requests ∙ ap (λ (w : Own). asked_in r.xs ++ w) r.asks)))
-              in
+          ∙ (ap asked_in (sym r.split) ∙ (by.asks ∙ (sym r.requests ∙ ap (λ (w : Own). asked_in r.xs ++ w) r.asks)))
+          in
           let nothing : r.rest ≡ [] = no_steps r.rest (append_cancel_left (asked_in r.xs) (asked_in r.rest) [] whole) in
           let same : steps ≡ r.xs = r.split ∙ (ap (λ (w : List Step). r.xs ++ w) nothing ∙ append-nil r.xs) in
           r.is.tree_is ∙ ap (λ (w : List Step). bare (after config first w)) (sym same)

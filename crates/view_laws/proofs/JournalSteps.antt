@@ -1,6 +1,29 @@
 -- Where the files stand behind each entry of a journal of one lane, whose calls go on the first slot.
-use Rattle.std.proofs.Common.{◌≡◌, ◌<◌, ℕ, Bool, true, false, List, [], ◌∷◌, ◌++◌, length, Option, Some, None,
-    if◌then◌else◌, refl, ap, sym, ◌∙◌, subst, arith, inl, inr}
+use Rattle.std.proofs.Common.{
+  ◌≡◌,
+  ◌<◌,
+  ℕ,
+  Bool,
+  true,
+  false,
+  List,
+  [],
+  ◌∷◌,
+  ◌++◌,
+  length,
+  Option,
+  Some,
+  None,
+  if◌then◌else◌,
+  refl,
+  ap,
+  sym,
+  ◌∙◌,
+  subst,
+  arith,
+  inl,
+  inr,
+}
 use Rattle.std.specs.Prelude.{◌⊎◌}
 use Rattle.std.proofs.lemmas.Bool.{eq-eqb, or_cases, or_right}
 use Rattle.std.proofs.lemmas.Bool.Decides.{eqb_tells}
@@ -367,7 +390,7 @@ module _ (s : Setting) (one : s.lanes ≡ only_lane) (config : ServerConfig) (fi
       behind none =
           let r = h (subst (λ (x : Option Call). Guard x (was_let_go q 0) at) (sym idle) (subst (λ (b : Bool). Guard None b at) (sym held) tt)) in
           let fresh : site_of s q 0 ≡ fresh_site = subst (λ (x : Option Standing). HoldsSlot (answer q)
-              (after config first r.xs) (site_of s q 0) r.handle x) none r.is.slot_is in
+          (after config first r.xs) (site_of s q 0) r.handle x) none r.is.slot_is in
           let nothing : own q 0 (ended q 0) ≡ [] = subst (λ (x : Option Call). AsksNow s q r.handle (offset_in at.slot) x (own q 0 (ended q 0))) idle r.asks in
           record {
             xs = r.xs;

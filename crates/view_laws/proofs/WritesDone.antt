@@ -1,7 +1,37 @@
 -- What a `write_all` on the first slot did over the file machine, once it is done: its parts were written one after another,
 -- up to the first that a limit refuses.
-use Rattle.std.proofs.Common.{◌≡◌, ◌≤◌, ◌<◌, ◌==◌, ◌+◌, ◌^◌, ℕ, zero, suc, Bool, true, false, List, [], ◌∷◌, length,
-    take, drop, Option, Some, None, if◌then◌else◌, refl, ap, sym, ◌∙◌, subst, arith, inl, inr}
+use Rattle.std.proofs.Common.{
+  ◌≡◌,
+  ◌≤◌,
+  ◌<◌,
+  ◌==◌,
+  ◌+◌,
+  ◌^◌,
+  ℕ,
+  zero,
+  suc,
+  Bool,
+  true,
+  false,
+  List,
+  [],
+  ◌∷◌,
+  length,
+  take,
+  drop,
+  Option,
+  Some,
+  None,
+  if◌then◌else◌,
+  refl,
+  ap,
+  sym,
+  ◌∙◌,
+  subst,
+  arith,
+  inl,
+  inr,
+}
 use Rattle.std.specs.Prelude.{max, min, nat_le}
 use Rattle.std.proofs.lemmas.Bool.Decides.{eqb_tells, nat_tests}
 use Rattle.std.proofs.lemmas.List.{drop_min, length-drop, length-take-le, nil_from_length, take_min}
@@ -86,7 +116,7 @@ module _ (config : ServerConfig) (answers : Answers) (facts : Facts) (handle : L
       put_pieces (bare (written_by tree s bytes)) s.file (s.offset + length (next_part facts bytes))
       (pieces most facts.write_len (drop (part_len facts bytes) bytes)) in g)) fits
       ∙ ap (λ (k : ℕ). put_pieces (bare (written_by tree s bytes)) s.file (s.offset + k)
-          (pieces most facts.write_len (drop (part_len facts bytes) bytes))) len_is)
+      (pieces most facts.write_len (drop (part_len facts bytes) bytes))) len_is)
 
   refused_pieces : (most : ℕ) (bytes : List ℕ) (tree : FileTree) (s : Standing) → length bytes == 0 ≡ false
       → is_over tree s.file (max (size_of tree s.file) (s.offset + length (next_part facts bytes))) ≡ true
@@ -119,7 +149,7 @@ module _ (config : ServerConfig) (answers : Answers) (facts : Facts) (handle : L
     where
       by_test : (b : Bool) → length bytes == 0 ≡ b
           → (if b then Done outcome.Done (site_with (file_at grant s)) else
-              ask_write (file_at grant s) (next_part facts bytes) (site_with (file_at grant s)) answers) ≡ Done o left
+          ask_write (file_at grant s) (next_part facts bytes) (site_with (file_at grant s)) answers) ≡ Done o left
           → WritesDone [] s most bytes tree tree left o
       by_test true e done =
           let nil : bytes ≡ [] = nil_from_length bytes (elim (eqb_tells (length bytes) 0) [
@@ -143,7 +173,7 @@ module _ (config : ServerConfig) (answers : Answers) (facts : Facts) (handle : L
           let len_is : length (next_part facts bytes) ≡ part_len facts bytes = length-take-le (part_len facts bytes) bytes (part_short bytes) in
           let short = part_short bytes in
           let fits : overflows s.offset (length (next_part facts bytes)) ≡ false =
-              not_over (2 ^ 64) (s.offset + length (next_part facts bytes)) (omega (arith, far, len_is, short)) in
+          not_over (2 ^ 64) (s.offset + length (next_part facts bytes)) (omega (arith, far, len_is, short)) in
           let asks : false ≡ true = ap is_done (rw (way, fits) at done) in absurd cc
 
   status_of_part : (a : Own) (code : ℕ) → AfterOk a (Some (reply.Status code [] [])) → (code ≡ SSH_FX_OK → ⊥) → a ≡ []
@@ -198,7 +228,7 @@ module _ (config : ServerConfig) (answers : Answers) (facts : Facts) (handle : L
           let is : answer_to config tree st ≡ refuses tree SSH_FX_FAILURE = ans ∙ rw e refl in
           let came : answers st.place ≡ Some (reply.Status SSH_FX_FAILURE [] []) = taken.0 ∙ ap (λ (a : Answer). Some a.0) is in
           let last : steps ≡ [] = no_steps steps (status_of_part (asked_in steps) SSH_FX_FAILURE
-              (subst (λ (x : Option Reply). AfterOk (asked_in steps) x) came asked.2) (λ same. omega (arith, same))) in
+          (subst (λ (x : Option Reply). AfterOk (asked_in steps) x) came asked.2) (λ same. omega (arith, same))) in
           let went : Done (outcome.Refused (error.SftpError SSH_FX_FAILURE [] [])) (site_with (file_at grant s)) ≡ Done o left =
           subst (λ (a : Answer). on_status a.0 (site_with (file_at grant s)) go ≡ Done o left) is taken.1 in
           let now_is : after config (answer_to config tree st).1 steps ≡ tree =

@@ -1,5 +1,28 @@
 -- What a list of operations that was read is good for, and a line of it that is refused.
-use Rattle.std.proofs.Common.{◌≡◌, ◌≤◌, ℕ, ◌+◌, Bool, true, false, List, [], ◌∷◌, ◌++◌, length, Result, Ok, Err, if◌then◌else◌, refl, ap, subst, arith}
+use Rattle.std.proofs.Common.{
+  ◌≡◌,
+  ◌≤◌,
+  ℕ,
+  ◌+◌,
+  Bool,
+  true,
+  false,
+  List,
+  [],
+  ◌∷◌,
+  ◌++◌,
+  length,
+  Result,
+  Ok,
+  Err,
+  if◌then◌else◌,
+  refl,
+  ap,
+  sym,
+  ◌∙◌,
+  subst,
+  arith,
+}
 use Rattle.std.specs.Prelude.{◌&&◌, Option, Some, None, codes, nat_le, nat_lt}
 use Rattle.std.specs.List.{list_all, sum_by}
 use Rattle.std.specs.Str.{bytes_eq}
@@ -38,7 +61,8 @@ use Rattle.sftp_script.proofs.SetupLaws.{setup_kept}
 use Rattle.view_model.specs.ViewOps.{are_ok, count, count_limit, is_within}
 use Rattle.view_model.specs.declared.op.ViewOp.{ViewOp}
 use Rattle.view_model.specs.declared.op.ViewOp.TheVariants as op
-use Rattle.view_lists.specs.CanView.{CanView}
+use Rattle.view_lists.specs.CanView.{CanView, refuses_nothing}
+use Rattle.view_lists.proofs.ChoiceLaws.{MayChoose, setup_unrefused}
 use Rattle.view_lists.specs.Lists.{ViewDraft, any_line, content_in, get_line, line_by, list_in, list_of, nothing_read, op_line, put_line, with_op, with_setup}
 
 -- ---- a line of setup
@@ -84,9 +108,10 @@ list_refused block bytes (script.Line n why) le refused = refused_at block bytes
 
 -- ---- what a list is good for
 
--- a server may begin as the lines of setup say, and the operations may be viewed
+-- a server may begin as the lines of setup say, which refuse nothing, and the operations may be viewed
 record IsGood (block : ℕ) (d : ViewDraft) : Type 0 where
   begins : CanBegin d.draft.script
+  unrefused : list_all refuses_nothing d.draft.script.choices ≡ true
   same : d.block ≡ block
   ok : are_ok d.block d.ops ≡ true
 
@@ -125,6 +150,7 @@ op_kept long d next o h here e = by_test (nat_le (sum_by (count d.block) d.ops +
         (let same : record d { ops = d.ops ++ o ∷ [] } ≡ next = cc in
         subst (IsGood long) same (record {
           begins = h.begins;
+          unrefused = h.unrefused;
           same = h.same;
           ok = rw (list_all-append is_within d.ops (o ∷ []), parts.0, here, sum_more d.block d.ops o, t) refl;
         }))
@@ -166,8 +192,10 @@ op_line_kept long d next word words h e = by_get (bytes_eq word (codes "get")) e
     by_get true e = three_kept long next (get_line d) words (λ a b c. get_kept long d next a b c h) e
     by_get false e = by_put (bytes_eq word (codes "put")) e
 
-any_line_kept : (long : ℕ) (d next : ViewDraft) (word : List ℕ) (words : List (List ℕ)) → IsGood long d → any_line d word words ≡ Ok next → IsGood long next
-any_line_kept long d next word words h e = by_setup (setup_line d.draft word words) refl e
+any_line_kept : (long : ℕ) (d next : ViewDraft) (word : List ℕ) (words : List (List ℕ))
+    → MayChoose (bytes_eq word (codes "choice")) words → IsGood long d → any_line d word words ≡ Ok next
+    → IsGood long next
+any_line_kept long d next word words may h e = by_setup (setup_line d.draft word words) refl e
   where
     by_setup : (r : Option (Result Draft Reason)) → setup_line d.draft word words ≡ r
         → or_read (with_setup d r) (op_line d word words) ≡ Ok next → IsGood long next
@@ -175,15 +203,22 @@ any_line_kept long d next word words h e = by_setup (setup_line d.draft word wor
     by_setup (Some (Err why)) is e = absurd cc
     by_setup (Some (Ok draft)) is e =
         (let same : record d { draft = draft } ≡ next = cc in
-        subst (IsGood long) same (record { begins = setup_kept true d.draft draft word words is h.begins; same = h.same; ok = h.ok }))
+        subst (IsGood long) same (record {
+          begins = setup_kept true d.draft draft word words is h.begins;
+          unrefused = setup_unrefused d.draft h.unrefused draft word words may is;
+          same = h.same;
+          ok = h.ok;
+        }))
 
 line_kept : (long : ℕ) (d next : ViewDraft) (word : List ℕ) (words : List (List ℕ)) → IsGood long d → line_by d word words ≡ Ok next → IsGood long next
-line_kept long d next word words h e = by_choice (bytes_eq word (codes "choice")) e
+line_kept long d next word words h e = by_choice (bytes_eq word (codes "choice")) refl e
   where
-    by_choice : (b : Bool) → (if b then (two_words (λ a b. number_in 0 0 a) words >>= λ n. any_line d word words) else
+    by_choice : (b : Bool) → bytes_eq word (codes "choice") ≡ b → (if b then (two_words (λ a b. number_in 0 0 a) words >>= λ n. any_line d word words) else
         any_line d word words) ≡ Ok next → IsGood long next
-    by_choice true e = any_line_kept long d next word words h (bound (two_words (λ a b. number_in 0 0 a) words) (λ n. any_line d word words) next e).2
-    by_choice false e = any_line_kept long d next word words h e
+    by_choice true is e =
+        let b = bound (two_words (λ a b. number_in 0 0 a) words) (λ n. any_line d word words) next e in
+        any_line_kept long d next word words (λ choice. (b.0, b.1)) h b.2
+    by_choice false is e = any_line_kept long d next word words (λ choice. absurd (let clash : false ≡ true = sym is ∙ choice in cc)) h e
 
 words_kept : (long : ℕ) (d next : ViewDraft) (words : List (List ℕ)) → IsGood long d → line_of line_by d words ≡ Ok next → IsGood long next
 words_kept long d next [] h e = (let same : d ≡ next = cc in subst (IsGood long) same h)
@@ -207,10 +242,10 @@ lines_kept long n d next (text ∷ lines) h e = by_line (read_line line_by d tex
     by_line (Ok more) is rest e = rest more (text_kept long d more text h is) e
 
 nothing_good : (block : ℕ) → IsGood block (nothing_read block)
-nothing_good block = record { begins = record { begins = refl; known = omega arith; writes = omega arith }; same = refl; ok = refl }
+nothing_good block = record { begins = record { begins = refl; known = omega arith; writes = omega arith }; unrefused = refl; same = refl; ok = refl }
 
 pub draft_can_view : (block : ℕ) (bytes : List ℕ) (d : ViewDraft) → read_by line_by 1 (nothing_read block) (lines_of bytes) ≡ Ok d
     → CanView block (record { script = d.draft.script; ops = d.ops })
 draft_can_view block bytes d read =
     let good = lines_kept block 1 (nothing_read block) d (lines_of bytes) (nothing_good block) read in
-    record { begins = good.begins; ok = subst (λ (n : ℕ). are_ok n d.ops ≡ true) good.same good.ok }
+    record { begins = good.begins; unrefused = good.unrefused; ok = subst (λ (n : ℕ). are_ok n d.ops ≡ true) good.same good.ok }

@@ -1,10 +1,19 @@
 -- What a list of operations that was read is good for.
-use Rattle.std.specs.Prelude.{◌≡◌, ℕ, true}
+use Rattle.std.specs.Prelude.{◌≡◌, ◌==◌, ℕ, Bool, true}
+use Rattle.std.specs.List.{list_all}
+use Rattle.sftp_model.specs.Numbers.{SSH_FX_OK}
+use Rattle.sftp_model.specs.declared.config.Choice.{Choice}
 use Rattle.sftp_script.specs.CanRun.{CanBegin}
 use Rattle.view_model.specs.ViewOps.{are_ok}
 use Rattle.view_lists.specs.declared.list.ViewList.{ViewList}
 
--- A server may begin as the lines of setup say, and a view whose blocks have this length can be given the operations.
+-- the choice refuses nothing
+abbrev pub refuses_nothing : Choice → Bool
+refuses_nothing choice = choice.refuse == SSH_FX_OK
+
+-- A server may begin as the lines of setup say, none of its choices refuses anything, and a view whose blocks have this
+-- length can be given the operations.
 pub record CanView (block : ℕ) (list : ViewList) : Type 0 where
   pub begins : CanBegin list.script
+  pub unrefused : list_all refuses_nothing list.script.choices ≡ true
   pub ok : are_ok block list.ops ≡ true
