@@ -282,7 +282,7 @@ hostile() {
     { word 1; word 1; text end; text en; } | frame 101
     { word 0; word 0; text ok; text en; } | frame 101
 }
-hostile ../escaped /tmp/escaped a/b .. . '' >"$room/script"
+hostile ../escaped /escaped a/b .. . '' >"$room/script"
 socat "UNIX-LISTEN:$room/evil" "SYSTEM:cat $room/script; sleep 1" 2>/dev/null &
 fourth=$!
 tries=0
