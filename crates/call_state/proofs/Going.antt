@@ -15,7 +15,7 @@ use Rattle.call_state.specs.declared.machine.Then.TheVariants as then
 use Rattle.call_state.specs.declared.asking.Asking.{Asking}
 use Rattle.call_state.specs.Asked.{Submitted, request_of}
 use Rattle.call_state.specs.Calls.{
-  Asks,
+  AsksAndAwaits,
   CallValue,
   HoldsReady,
   IsHeldAt,
@@ -23,7 +23,7 @@ use Rattle.call_state.specs.Calls.{
   IsLeftAt,
   IsOver,
   IsUnfinished,
-  Leaves,
+  LeavesCall,
   Polled,
   Tells,
   TellsAt,
@@ -56,7 +56,7 @@ ended_by s w plan answers old new q (Err other) own done over same = (done, over
 pub sent_by : {W M V : Type 0} (s : Meaning W M V) (w : W) (plan : Plan) (answers : Answers) (old new : Core) (m : M)
     (asking : Asking) (ticket : ℕ) (q : CallValue M)
     → q.stage ≡ Asked ticket → q.machine ≡ m → GoesBehind s w plan answers asking m → s.cut m asking
-    → Submitted old asking ticket new → Asks s w plan answers old new q
+    → Submitted old asking ticket new → AsksAndAwaits s w plan answers old new q
 sent_by s w plan answers old new m asking ticket q is same b cut submitted =
     record {
       asking = asking;
@@ -167,7 +167,7 @@ held_ended s core m (Came t) over = absurd cc
 
 -- a value ends the call
 pub done_leaves : {W M V : Type 0} (s : Meaning W M V) (core : Core) (q : CallValue M) (value : Result V Error) → is_ended q.stage ≡ true → IsOwn value
-    → HoldsValue s core (then.Done value) → Leaves s core core q (poll.Ready value)
+    → HoldsValue s core (then.Done value) → LeavesCall s core core q (poll.Ready value)
 done_leaves s core q value over own h =
     record {
       held = held_ended s core q.machine q.stage over;

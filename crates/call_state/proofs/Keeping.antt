@@ -78,10 +78,10 @@ use Rattle.call_state.specs.declared.stage.Stage.TheVariants.{Ended, Ready, Unse
 use Rattle.call_state.specs.declared.told.Told.{Told}
 use Rattle.call_state.specs.declared.told.Told.TheVariants as told
 use Rattle.call_state.specs.Told.{IsCounted}
-use Rattle.call_state.specs.Asked.{Holds, Submitted, queued_by, request_of}
+use Rattle.call_state.specs.Asked.{HoldsTicket, Submitted, queued_by, request_of}
 use Rattle.call_state.specs.Calls.{Cancels, IsGrantOf, IsHeld, IsHeldAt, IsNotOf, IsUnderWay, KeepsOtherTickets, cancelled, is_ended, CallValue}
 use Rattle.call_state.specs.Machines.{Meaning}
-use Rattle.call_state.specs.Keeping.{IsDropped, Keeps, KeepsGrants, StaysOpen}
+use Rattle.call_state.specs.Keeping.{IsDropped, KeepsHeld, KeepsGrants, StaysOpen}
 
 -- ---- an open session
 
@@ -111,12 +111,12 @@ cancelled_opened core (Unsent asking) = λ h. h
 
 -- what is kept under an id tells whether a ticket is held
 pub holds_at : (core : Core) (ticket : ℕ) (kind : Expected) (p : Option Place) → at core ticket ≡ p
-    → IsTrue (is_ticket p) → expected_at p ≡ Some kind → Holds core ticket kind
+    → IsTrue (is_ticket p) → expected_at p ≡ Some kind → HoldsTicket core ticket kind
 holds_at core ticket kind p here counted is = record { counted = rw here counted; expects = rw here is }
 
 -- nothing but what is kept under its id counts
-pub holds_still : (old new : Core) (ticket : ℕ) (kind : Expected) → at new ticket ≡ at old ticket → Holds old ticket kind
-    → Holds new ticket kind
+pub holds_still : (old new : Core) (ticket : ℕ) (kind : Expected) → at new ticket ≡ at old ticket → HoldsTicket old ticket kind
+    → HoldsTicket new ticket kind
 holds_still old new ticket kind same h = holds_at new ticket kind (at old ticket) same h.counted h.expects
 
 -- ---- a request that is submitted
@@ -130,7 +130,7 @@ queued_here core ticket (Parts handle offset parts) =
 
 -- so that its ticket is held
 pub submitted_holds : (old new : Core) (asking : Asking) (ticket : ℕ) (kind : Expected) → Submitted old asking ticket new
-    → kind ≡ expected_of (request_of asking) → Holds new ticket kind
+    → kind ≡ expected_of (request_of asking) → HoldsTicket new ticket kind
 submitted_holds old new asking ticket kind h is =
     holds_at new ticket kind (Some (Waiting (expected_of (request_of asking)) false true))
     (ap (λ (c : Core). at c ticket) h.queued ∙ queued_here old ticket asking) refl (ap (λ (k : Expected). Some k) (sym is))
@@ -154,11 +154,11 @@ other_place core ticket asking other here free there =
 
 held_place : (core new : Core) (ticket : ℕ) (kind : Expected) (p : Option Place) → at core ticket ≡ p
     → ((here : Place) → p ≡ Some here → at new ticket ≡ p) → IsTrue (is_ticket p) → expected_at p ≡ Some kind
-    → Holds new ticket kind
+    → HoldsTicket new ticket kind
 held_place core new ticket kind (Some here) e still counted is = holds_at new ticket kind (Some here) (still here refl) counted is
 held_place core new ticket kind None e still counted is = cc
 
-pub keeps_submitted : (core : Core) (ticket : ℕ) (asking : Asking) → at core ticket ≡ None → Keeps core (queued_by core ticket asking)
+pub keeps_submitted : (core : Core) (ticket : ℕ) (asking : Asking) → at core ticket ≡ None → KeepsHeld core (queued_by core ticket asking)
 keeps_submitted core ticket asking free =
     record {
       holds = λ other kind h. held_place core (queued_by core ticket asking) other kind (at core other) refl
@@ -172,11 +172,11 @@ keeps_submitted core ticket asking free =
 
 -- ---- nothing, a fault, a hand-out
 
-pub keeps_same : (core : Core) → Keeps core core
+pub keeps_same : (core : Core) → KeepsHeld core core
 keeps_same core = record { holds = λ ticket kind h. h; grants = record { grants = λ id handle users here. here; opened = λ h. h } }
 
 -- two changes, one after the other
-pub keeps_both : (a b c : Core) → Keeps a b → Keeps b c → Keeps a c
+pub keeps_both : (a b c : Core) → KeepsHeld a b → KeepsHeld b c → KeepsHeld a c
 keeps_both a b c h k =
     record {
       holds = λ ticket kind x. k.holds ticket kind (h.holds ticket kind x);
@@ -192,7 +192,7 @@ pub grants_both : (a b c : Core) → KeepsGrants a b → KeepsGrants b c → Kee
 grants_both a b c x y =
     record { grants = λ id handle users here. y.grants id handle users (x.grants id handle users here); opened = λ o. y.opened (x.opened o) }
 
-pub keeps_failed : (core : Core) (fault : Fault) → Keeps core (failed_with core fault)
+pub keeps_failed : (core : Core) (fault : Fault) → KeepsHeld core (failed_with core fault)
 keeps_failed core fault =
     record {
       holds = λ ticket kind h. holds_at (failed_with core fault) ticket kind (at core ticket) refl h.counted h.expects;
@@ -200,7 +200,7 @@ keeps_failed core fault =
     }
 
 sent_at : (core : Core) (ticket : ℕ) (kind : Expected) (p : Option Place) → at core ticket ≡ option_map sent_place p
-    → IsTrue (is_ticket p) → expected_at p ≡ Some kind → Holds core ticket kind
+    → IsTrue (is_ticket p) → expected_at p ≡ Some kind → HoldsTicket core ticket kind
 sent_at core ticket kind (Some (Waiting expected sent wanted)) here counted is =
     holds_at core ticket kind (Some (Waiting expected true wanted)) here counted is
 sent_at core ticket kind (Some (Answered expected r)) here counted is =
@@ -208,7 +208,7 @@ sent_at core ticket kind (Some (Answered expected r)) here counted is =
 sent_at core ticket kind (Some (Granted handle users)) here counted is = cc
 sent_at core ticket kind None here counted is = cc
 
-pub keeps_handed_out : (core : Core) → Keeps core (handed_out core)
+pub keeps_handed_out : (core : Core) → KeepsHeld core (handed_out core)
 keeps_handed_out core =
     record {
       holds = λ ticket kind h. sent_at (handed_out core) ticket kind (at core ticket) (hand_out_each core ticket) h.counted h.expects;
@@ -222,7 +222,7 @@ keeps_handed_out core =
 
 taken_at : (core : Core) (ticket : ℕ) (kind : Expected) (r : Reply) (p : Option Place) → IsTrue (is_ticket p)
     → expected_at p ≡ Some kind → wrong_at ticket r p ≡ None
-    → Holds (take_leaves core ticket r p) ticket kind
+    → HoldsTicket (take_leaves core ticket r p) ticket kind
 taken_at core ticket kind r (Some (Waiting expected true true)) counted is right =
     holds_at (take_leaves core ticket r (Some (Waiting expected true true))) ticket kind (Some (Answered expected r))
     (put_here core.table ticket (Answered expected r)) refl is
@@ -233,12 +233,12 @@ taken_at core ticket kind r (Some (Granted handle users)) counted is right = cc
 taken_at core ticket kind r None counted is right = cc
 
 took_holds : (core : Core) (id : ℕ) (r : Reply) (ticket : ℕ) (kind : Expected) → wrong_at id r (at core id) ≡ None
-    → (ticket ≡ id) ⊎ (ticket ≡ id → ⊥) → Holds core ticket kind
-    → Holds (take_leaves core id r (at core id)) ticket kind
+    → (ticket ≡ id) ⊎ (ticket ≡ id → ⊥) → HoldsTicket core ticket kind
+    → HoldsTicket (take_leaves core id r (at core id)) ticket kind
 took_holds core id r ticket kind right (inl same) h =
-    let Kept : ℕ → Type 0 = λ (q : ℕ). Holds (take_leaves core id r (at core id)) q kind in
-    let There : ℕ → Type 0 = λ (q : ℕ). Holds core q kind in
-    let here : Holds core id kind = subst There same h in
+    let Kept : ℕ → Type 0 = λ (q : ℕ). HoldsTicket (take_leaves core id r (at core id)) q kind in
+    let There : ℕ → Type 0 = λ (q : ℕ). HoldsTicket core q kind in
+    let here : HoldsTicket core id kind = subst There same h in
     subst Kept (sym same) (taken_at core id kind r (at core id) here.counted here.expects right)
 took_holds core id r ticket kind right (inr apart) h = holds_still core (take_leaves core id r (at core id)) ticket kind
     (take_elsewhere core id r (at core id) ticket apart) h
@@ -257,7 +257,7 @@ took_grant core id r other handle users right here =
     (λ same. waiting_there id r (at core id) handle users (ap (λ (q : ℕ). at core q) (sym same) ∙ here) right) ∙ here
 
 took_keeps : (core : Core) (phase : Phase) (id : Option ℕ) (r : Reply) → IsSome (info_of phase)
-    → wrong_in core phase id r ≡ None → Keeps core (taken_in core phase id r)
+    → wrong_in core phase id r ≡ None → KeepsHeld core (taken_in core phase id r)
 took_keeps core Greeting id r open_now right = cc
 took_keeps core (AskingLimits extensions) id r open_now right = cc
 took_keeps core (Open info) None r open_now right = cc
@@ -276,17 +276,17 @@ refusal_in : (core : Core) (read : Result Read FrameError) (reading : Read) → 
 refusal_in core read reading is right = let P : Result Read FrameError → Type 0 = λ x. take_refusal core x ≡ None in subst P is right
 
 pub keeps_taken : (old new : Core) (read : Result Read FrameError) (told : Taken) → IsSome (info_of old.phase)
-    → take_refusal old read ≡ None → TakenFrom read told old new → Keeps old new
+    → take_refusal old read ≡ None → TakenFrom read told old new → KeepsHeld old new
 keeps_taken old new read told open_now right h =
-    let P : Core → Type 0 = λ (core : Core). Keeps old core in
+    let P : Core → Type 0 = λ (core : Core). KeepsHeld old core in
     subst P (sym h.leaves) (took_keeps old old.phase h.reading.0 h.reading.1 open_now (refusal_in old read h.reading h.reads right))
 
-refused_keeps : (e : TakeError) (kept : Option Fault) (refusal : Option TakeError) (old new : Core) → Refused e kept refusal old new → Keeps old new
-refused_keeps e None refusal old new h = let P : Core → Type 0 = λ (core : Core). Keeps old core in subst P (sym h) (keeps_same old)
-refused_keeps e (Some fault) refusal old new h = let P : Core → Type 0 = λ (core : Core). Keeps old core in subst P (sym h.1) (keeps_failed old fault)
+refused_keeps : (e : TakeError) (kept : Option Fault) (refusal : Option TakeError) (old new : Core) → Refused e kept refusal old new → KeepsHeld old new
+refused_keeps e None refusal old new h = let P : Core → Type 0 = λ (core : Core). KeepsHeld old core in subst P (sym h) (keeps_same old)
+refused_keeps e (Some fault) refusal old new h = let P : Core → Type 0 = λ (core : Core). KeepsHeld old core in subst P (sym h.1) (keeps_failed old fault)
 
 -- a frame that isn't taken
-pub keeps_refused : (old new : Core) (e : TakeError) (refusal : Option TakeError) → IsTakeError e refusal old new → Keeps old new
+pub keeps_refused : (old new : Core) (e : TakeError) (refusal : Option TakeError) → IsTakeError e refusal old new → KeepsHeld old new
 keeps_refused old new e refusal h = refused_keeps e (fault_of e) refusal old new h
 
 -- ---- a ticket and a grant have different numbers
@@ -320,28 +320,28 @@ cancelled_keeps_grants core ticket counted =
       opened = abandoned_opened core ticket;
     }
 
-pub polled_on : (core : Core) (ticket other : ℕ) (kind : Expected) → other ≢ ticket → Holds core other kind
-    → Holds (after_poll core ticket) other kind
+pub polled_on : (core : Core) (ticket other : ℕ) (kind : Expected) → other ≢ ticket → HoldsTicket core other kind
+    → HoldsTicket (after_poll core ticket) other kind
 polled_on core ticket other kind apart h =
     holds_still core (after_poll core ticket) other kind (poll_elsewhere core ticket core.fault (at core ticket) other apart) h
 
-pub cancelled_on : (core : Core) (ticket other : ℕ) (kind : Expected) → other ≢ ticket → Holds core other kind
-    → Holds (abandoned core ticket) other kind
+pub cancelled_on : (core : Core) (ticket other : ℕ) (kind : Expected) → other ≢ ticket → HoldsTicket core other kind
+    → HoldsTicket (abandoned core ticket) other kind
 cancelled_on core ticket other kind apart h =
     holds_still core (abandoned core ticket) other kind (abandon_elsewhere core ticket (at core ticket) other apart) h
 
-grant_apart : (core : Core) (grant : GrantValue) (ticket : ℕ) (kind : Expected) → IsGrant core grant → Holds core ticket kind → ticket ≢ grant.id
+grant_apart : (core : Core) (grant : GrantValue) (ticket : ℕ) (kind : Expected) → IsGrant core grant → HoldsTicket core ticket kind → ticket ≢ grant.id
 grant_apart core grant ticket kind g h same =
     ticket_apart core ticket grant.id grant.handle (users_of (at core grant.id)) h.counted g.kept (sym same)
 
 pub released_holds : (core : Core) (grant : GrantValue) (ticket : ℕ) (kind : Expected) → IsGrant core grant
-    → Holds core ticket kind → Holds (released core grant) ticket kind
+    → HoldsTicket core ticket kind → HoldsTicket (released core grant) ticket kind
 released_holds core grant ticket kind g h =
     holds_still core (released core grant) ticket kind
     (release_elsewhere core grant (users_of (at core grant.id)) ticket (grant_apart core grant ticket kind g h)) h
 
 pub retained_holds : (core : Core) (grant : GrantValue) (ticket : ℕ) (kind : Expected) → IsGrant core grant
-    → Holds core ticket kind → Holds (retained core grant) ticket kind
+    → HoldsTicket core ticket kind → HoldsTicket (retained core grant) ticket kind
 retained_holds core grant ticket kind g h =
     holds_still core (retained core grant) ticket kind (retain_elsewhere core grant ticket (grant_apart core grant ticket kind g h)) h
 
@@ -356,26 +356,26 @@ dropped_at core ticket kind (Some (Granted handle users)) counted is none = cc
 dropped_at core ticket kind None counted is none = cc
 
 -- it leaves a request whose reply counts for nothing
-pub cancelled_drops : (core : Core) (ticket : ℕ) (kind : Expected) → Holds core ticket kind → reply_in (at core ticket)
+pub cancelled_drops : (core : Core) (ticket : ℕ) (kind : Expected) → HoldsTicket core ticket kind → reply_in (at core ticket)
     ≡ None → IsDropped (at (cancelled core (Asked ticket)) ticket) kind
 cancelled_drops core ticket kind h none = dropped_at core ticket kind (at core ticket) h.counted h.expects none
 
 -- ---- going on, polling and giving up
 
 -- a submitted request leaves all that is held
-pub submitted_keeps : (old new : Core) (asking : Asking) (ticket : ℕ) → Submitted old asking ticket new → Keeps old new
-submitted_keeps old new asking ticket h = subst (λ (x : Core). Keeps old x) (sym h.queued) (keeps_submitted old ticket asking h.free)
+pub submitted_keeps : (old new : Core) (asking : Asking) (ticket : ℕ) → Submitted old asking ticket new → KeepsHeld old new
+submitted_keeps old new asking ticket h = subst (λ (x : Core). KeepsHeld old x) (sym h.queued) (keeps_submitted old ticket asking h.free)
 
 -- a core that nothing was done to
-pub keeps_unchanged : (old new : Core) → new ≡ old → Keeps old new
-keeps_unchanged old new same = subst (λ (x : Core). Keeps old x) (sym same) (keeps_same old)
+pub keeps_unchanged : (old new : Core) → new ≡ old → KeepsHeld old new
+keeps_unchanged old new same = subst (λ (x : Core). KeepsHeld old x) (sym same) (keeps_same old)
 
 -- what keeps all keeps the grants
-pub grants_kept : (old new : Core) → Keeps old new → KeepsGrants old new
+pub grants_kept : (old new : Core) → KeepsHeld old new → KeepsGrants old new
 grants_kept old new h = h.grants
 
 -- a poll of a ticket, and then what keeps all
-pub grants_polled : (old mid new : Core) (ticket : ℕ) → IsTrue (is_ticket (at old ticket)) → mid ≡ after_poll old ticket → Keeps mid new → KeepsGrants old new
+pub grants_polled : (old mid new : Core) (ticket : ℕ) → IsTrue (is_ticket (at old ticket)) → mid ≡ after_poll old ticket → KeepsHeld mid new → KeepsGrants old new
 grants_polled old mid new ticket counted is h =
     let polled : KeepsGrants old mid = subst (λ (x : Core). KeepsGrants old x) (sym is) (polled_keeps_grants old ticket counted) in
     record {
@@ -408,16 +408,16 @@ grant_kept old new grant k h =
     grant_at new grant (users_of (at old grant.id)) here h.used
 
 -- what others await stands elsewhere
-ticket_elsewhere : (core : Core) (ticket : ℕ) (kind : Expected) → Holds core ticket kind → at core ticket ≡ None → ⊥
+ticket_elsewhere : (core : Core) (ticket : ℕ) (kind : Expected) → HoldsTicket core ticket kind → at core ticket ≡ None → ⊥
 ticket_elsewhere core ticket kind h none = let gone = subst (λ (p : Option Place). IsTrue (is_ticket p)) none h.counted in cc
 
-ticket_no_grant : (core : Core) (grant : GrantValue) (ticket : ℕ) (kind : Expected) → IsGrant core grant → Holds core ticket kind
+ticket_no_grant : (core : Core) (grant : GrantValue) (ticket : ℕ) (kind : Expected) → IsGrant core grant → HoldsTicket core ticket kind
     → ticket ≢ grant.id
 ticket_no_grant core grant ticket kind g h same = ticket_apart core ticket grant.id grant.handle (users_of (at core grant.id)) h.counted g.kept (sym same)
 
 -- what others await stays so as a call is given up
 cancelled_others : (core : Core) (stage : Stage) (other : ℕ) (kind : Expected) → ((t : Told) → stage ≡ Came t → IsCounted core t)
-    → IsNotOf stage other → Holds core other kind → Holds (cancelled core stage) other kind
+    → IsNotOf stage other → HoldsTicket core other kind → HoldsTicket (cancelled core stage) other kind
 cancelled_others core (Asked ticket) other kind counted apart h = cancelled_on core ticket other kind (λ same. apart (ap Asked (sym same))) h
 cancelled_others core (Came (told.Granted g)) other kind counted apart h =
     let grant = grant_at core g 1 (counted (told.Granted g) refl) (omega arith) in
@@ -445,7 +445,7 @@ submitted_others old new asking ticket before after h is other kind apart held =
 )
 
 -- a call that awaits nothing keeps others apart
-pub idle_others : (old new : Core) (before after : Stage) → Keeps old new → ((ticket : ℕ) → IsNotOf after ticket) → KeepsOtherTickets old new before after
+pub idle_others : (old new : Core) (before after : Stage) → KeepsHeld old new → ((ticket : ℕ) → IsNotOf after ticket) → KeepsOtherTickets old new before after
 idle_others old new before after k idle other kind apart held = (k.holds other kind held, idle other)
 
 pub ended_idle : (stage : Stage) → is_ended stage ≡ true → (ticket : ℕ) → IsNotOf stage ticket
@@ -460,7 +460,7 @@ pub polled_others : (old mid new : Core) (ticket : ℕ) (before after : Stage) �
     → KeepsOtherTickets mid new Ended after → KeepsOtherTickets old new before after
 polled_others old mid new ticket before after is core k other kind apart held =
     let elsewhere : other ≢ ticket = λ same. apart (is ∙ ap Asked (sym same)) in
-    let here : Holds mid other kind = subst (λ (x : Core). Holds x other kind) (sym core) (polled_on old ticket other kind elsewhere held) in
+    let here : HoldsTicket mid other kind = subst (λ (x : Core). HoldsTicket x other kind) (sym core) (polled_on old ticket other kind elsewhere held) in
     k other kind (λ same. cc) here
 
 -- a cancel leaves every grant but the one that came
@@ -471,11 +471,11 @@ cancels_by old new stage asked counted is =
       core = is;
       grants = λ id handle users own here. ap (λ (x : Core). at x id) is ∙ cancelled_grants old stage asked id handle users own here;
       opened = subst (λ (x : Core). StaysOpen old x) (sym is) (cancelled_opened old stage);
-      others = λ ticket kind apart h. subst (λ (x : Core). Holds x ticket kind) (sym is)
+      others = λ ticket kind apart h. subst (λ (x : Core). HoldsTicket x ticket kind) (sym is)
           (cancelled_others old stage ticket kind counted apart h);
     }
 
-held_still : {W M V : Type 0} (s : Meaning W M V) (old new : Core) (m : M) (stage : Stage) → Keeps old new → IsHeldAt s old m stage → IsHeldAt s new m stage
+held_still : {W M V : Type 0} (s : Meaning W M V) (old new : Core) (m : M) (stage : Stage) → KeepsHeld old new → IsHeldAt s old m stage → IsHeldAt s new m stage
 held_still s old new m (Asked ticket) k h = k.holds ticket (s.expected m) h
 held_still s old new m (Came (told.Granted g)) k h =
     record { allowed = h.allowed; formed = h.formed; counted = k.grants.grants g.id g.handle 1 h.counted }
@@ -485,7 +485,7 @@ held_still s old new m Ready k h = h
 held_still s old new m (Unsent asking) k h = h
 
 -- a call is under way still
-pub still_under_way : {W M V : Type 0} (s : Meaning W M V) (old new : Core) (call : CallValue M) → Keeps old new → IsUnderWay s old call → IsUnderWay s new call
+pub still_under_way : {W M V : Type 0} (s : Meaning W M V) (old new : Core) (call : CallValue M) → KeepsHeld old new → IsUnderWay s old call → IsUnderWay s new call
 still_under_way s old new call k h = record { over = h.over; held = held_still s old new call.machine call.stage k h.held }
 
 -- and may be given up

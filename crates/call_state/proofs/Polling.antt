@@ -16,7 +16,7 @@ use Rattle.sftp_core.specs.Core.{Core, after_poll, at, given, given_leaves, is_t
 use Rattle.sftp_core.specs.Table.{IsAllowed, brings, expected_at}
 use Rattle.sftp_core.proofs.Counts.{len_less, len_same}
 use Rattle.sftp_core.proofs.Elsewhere.{put_here}
-use Rattle.call_state.specs.Told.{Came, IsCounted, IsNew, IsUntold}
+use Rattle.call_state.specs.Told.{ReplyCame, IsCounted, IsNew, IsUntold}
 use Rattle.call_state.specs.declared.told.Told.{Told}
 use Rattle.call_state.specs.declared.told.Told.TheVariants as told
 use Rattle.call_state.specs.declared.told.Untold.TheVariants as untold
@@ -110,7 +110,7 @@ no_handle other e = refl
 
 -- a reply came
 pub came_reply : (core : Core) (t : ℕ) (r : Reply) → IsAllowed (at core t) → polled_with core t ≡ Ok (polled.Reply r)
-    → Came core (after_poll core t) t (told.Reply r)
+    → ReplyCame core (after_poll core t) t (told.Reply r)
 came_reply core t r fits e =
     let taken : reply_in (at core t) ≡ Some r = (gave_reply t core.fault (at core t) r e).0 in
     record {
@@ -123,7 +123,7 @@ came_reply core t r fits e =
 
 -- a grant came
 pub came_grant : (core : Core) (t : ℕ) (g : GrantValue) → IsAllowed (at core t) → polled_with core t
-    ≡ Ok (polled.Granted g) → Came core (after_poll core t) t (told.Granted g)
+    ≡ Ok (polled.Granted g) → ReplyCame core (after_poll core t) t (told.Granted g)
 came_grant core t g fits e =
     let taken : (reply_in (at core t) ≡ Some (reply.Handle g.handle)) × (g.id ≡ t) = gave_grant t core.fault (at core t) g e in
     record {

@@ -24,7 +24,7 @@ pub record IsReady (core : Core) : Type 0 where
   pub few : fin.len core.table < MAX_IDS
 
 -- the core counts this ticket, and its request expects such a reply
-pub record Holds (core : Core) (ticket : ℕ) (kind : Expected) : Type 0 where
+pub record HoldsTicket (core : Core) (ticket : ℕ) (kind : Expected) : Type 0 where
   pub counted : IsTrue (is_ticket (at core ticket))
   pub expects : expected_at (at core ticket) ≡ Some kind
 

@@ -16,8 +16,8 @@ use Rattle.call_state.specs.declared.stage.Stage.{Stage}
 use Rattle.call_state.specs.declared.stage.Stage.TheVariants.{Ended, Ready, Unsent, Asked, Came}
 use Rattle.call_state.specs.declared.told.Told.{Told}
 use Rattle.call_state.specs.declared.told.Told.TheVariants as told
-use Rattle.call_state.specs.Asked.{Holds, IsReady, Submitted}
-use Rattle.call_state.specs.Keeping.{Keeps, KeepsGrants, StaysOpen}
+use Rattle.call_state.specs.Asked.{HoldsTicket, IsReady, Submitted}
+use Rattle.call_state.specs.Keeping.{KeepsHeld, KeepsGrants, StaysOpen}
 use Rattle.call_state.specs.Machines.{GoesBehind, MayAsk, Meaning}
 use Rattle.call_state.specs.Told.{IsCounted, IsFormed, reply_of}
 
@@ -49,7 +49,7 @@ abbrev pub IsHeldAt : {W M V : Type 0} → Meaning W M V → Core → M → Stag
 IsHeldAt s core m Ended = Unit {0}
 IsHeldAt s core m Ready = s.ready m
 IsHeldAt s core m (Unsent asking) = MayAsk s asking m × (s.again ≡ true)
-IsHeldAt s core m (Asked ticket) = Holds core ticket (s.expected m)
+IsHeldAt s core m (Asked ticket) = HoldsTicket core ticket (s.expected m)
 IsHeldAt s core m (Came t) = IsAllowed s core m t
 
 abbrev pub IsHeld : {W M V : Type 0} → Meaning W M V → Core → CallValue M → Type 0
@@ -91,7 +91,7 @@ pub record Waits {W M V : Type 0} (s : Meaning W M V) (plan : Plan) (answers : A
   pub same : q ≡ p
 
 -- the plan asks this; it was submitted, and its reply is awaited
-pub record Asks {W M V : Type 0} (s : Meaning W M V) (w : W) (plan : Plan) (answers : Answers) (old new : Core)
+pub record AsksAndAwaits {W M V : Type 0} (s : Meaning W M V) (w : W) (plan : Plan) (answers : Answers) (old new : Core)
     (q : CallValue M) : Type 0 where
   pub asking : Asking
   pub ticket : ℕ
@@ -110,7 +110,7 @@ IsUnfinished (Done o site) = ⊥
 -- call may be polled again, and goes on with the same move.
 abbrev pub Went : {W M V : Type 0} → Meaning W M V → W → Plan → Answers → Core → Core → CallValue M
     → Poll (Result V Error) → Type 0
-Went s w plan answers old new q poll.Pending = Asks s w plan answers old new q
+Went s w plan answers old new q poll.Pending = AsksAndAwaits s w plan answers old new q
 Went s w plan answers old new q (poll.Ready (Err error.OutOfMemory)) = IsLeft s w plan answers q × (new ≡ old)
 Went s w plan answers old new q (poll.Ready (Err (error.BackgroundTaskFailure fault))) = (old.fault ≡ Some fault)
     × (is_ended q.stage ≡ true) × IsUnfinished (plan [] answers)
@@ -127,7 +127,7 @@ Polled s w plan answers old new p q result = Waits s plan answers old new p q re
 -- of which the core stays as it was.
 abbrev pub Started : {W M V : Type 0} → Meaning W M V → W → (Error → Move) → Plan → Answers → Core → Core
     → Result (CallValue M) Error → Type 0
-Started s w refused plan answers old new (Ok q) = Asks s w plan answers old new q
+Started s w refused plan answers old new (Ok q) = AsksAndAwaits s w plan answers old new q
     ⊎ (IsLeft s w plan answers q × (q.stage ≡ Ready) × (new ≡ old))
 Started s w refused plan answers old new (Err error.OutOfMemory) = new ≡ old
 Started s w refused plan answers old new (Err (error.BackgroundTaskFailure fault)) = (old.fault ≡ Some fault)
@@ -161,7 +161,8 @@ pub record IsUnderWay {W M V : Type 0} (s : Meaning W M V) (core : Core) (call :
   pub held : IsHeld s core call
 
 -- a request of a call was submitted, and the call awaits its reply
-pub record Begins {W M V : Type 0} (s : Meaning W M V) (asking : Asking) (m : M) (old new : Core) (call : CallValue M) :
+pub record BeginsCall {W M V : Type 0} (s : Meaning W M V) (asking : Asking) (m : M) (old new : Core)
+    (call : CallValue M) :
     Type 0 where
   pub under_way : IsUnderWay s new call
   pub machine : call.machine ≡ m
@@ -191,17 +192,18 @@ IsNotOf stage ticket = stage ≡ Asked ticket → ⊥
 
 -- each ticket that others hold stays so, and is none of the call's
 abbrev pub KeepsOtherTickets : Core → Core → Stage → Stage → Type 0
-KeepsOtherTickets old new before after = (ticket : ℕ) (kind : Expected) → IsNotOf before ticket → Holds old ticket kind
-    → Holds new ticket kind × IsNotOf after ticket
+KeepsOtherTickets old new before after = (ticket : ℕ) (kind : Expected) → IsNotOf before ticket
+    → HoldsTicket old ticket kind
+    → HoldsTicket new ticket kind × IsNotOf after ticket
 
 -- what going on with a machine leaves, whatever the plan
-pub record Leaves {W M V : Type 0} (s : Meaning W M V) (old new : Core) (q : CallValue M)
+pub record LeavesCall {W M V : Type 0} (s : Meaning W M V) (old new : Core) (q : CallValue M)
     (result : Poll (Result V Error)) : Type 0 where
   pub held : IsHeld s new q
   pub over : IsOver q.stage result
   pub awaits : AwaitsReply new q.stage result
   pub holds : HoldsReady s new result
-  pub keeps : Keeps old new
+  pub keeps : KeepsHeld old new
   pub others : KeepsOtherTickets old new Ended q.stage
 
 -- A poll did the next move of each plan that the call is what is left of, whatever its replies to come. The call may be
@@ -243,4 +245,5 @@ pub record Cancels (old new : Core) (stage : Stage) : Type 0 where
   pub grants : (id : ℕ) (handle : List ℕ) (users : ℕ) → (IsGrantOf stage id → ⊥)
       → at old id ≡ Some (Granted handle users) → at new id ≡ Some (Granted handle users)
   pub opened : StaysOpen old new
-  pub others : (ticket : ℕ) (kind : Expected) → IsNotOf stage ticket → Holds old ticket kind → Holds new ticket kind
+  pub others : (ticket : ℕ) (kind : Expected) → IsNotOf stage ticket → HoldsTicket old ticket kind
+      → HoldsTicket new ticket kind

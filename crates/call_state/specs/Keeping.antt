@@ -5,7 +5,7 @@ use Rattle.sftp_core.specs.declared.place.Place.{Place}
 use Rattle.sftp_core.specs.declared.place.Place.TheVariants.{Waiting, Granted}
 use Rattle.sftp_core.specs.Core.{Core, at}
 use Rattle.sftp_core.specs.Info.{info_of}
-use Rattle.call_state.specs.Asked.{Holds}
+use Rattle.call_state.specs.Asked.{HoldsTicket}
 
 -- a session that is open stays open
 abbrev pub StaysOpen : Core → Core → Type 0
@@ -18,8 +18,8 @@ pub record KeepsGrants (old new : Core) : Type 0 where
   pub opened : StaysOpen old new
 
 -- each ticket that is held stays so, each grant, and the session open
-pub record Keeps (old new : Core) : Type 0 where
-  pub holds : (ticket : ℕ) (kind : Expected) → Holds old ticket kind → Holds new ticket kind
+pub record KeepsHeld (old new : Core) : Type 0 where
+  pub holds : (ticket : ℕ) (kind : Expected) → HoldsTicket old ticket kind → HoldsTicket new ticket kind
   pub grants : KeepsGrants old new
 
 -- the reply to this request counts for nothing

@@ -7,7 +7,8 @@ use Rattle.sftp_model.specs.declared.error.Error.TheVariants as error
 use Rattle.sftp_model.specs.declared.slot.Move.{Move}
 use Rattle.sftp_model.specs.declared.slot.Move.TheVariants.{Ask}
 use Rattle.plan_model.specs.Moves.{Answers, Own, Plan}
-use Rattle.sftp_core.specs.Core.{Core, is_call, is_long}
+use Rattle.sftp_model.specs.Frames.{is_too_long}
+use Rattle.sftp_core.specs.Core.{Core, is_call}
 use Rattle.call_state.specs.declared.asking.Asking.{Asking}
 use Rattle.call_state.specs.declared.machine.Then.{Then}
 use Rattle.call_state.specs.declared.machine.Then.TheVariants as then
@@ -47,7 +48,7 @@ pub record GoesBehind {W M V : Type 0} (s : Meaning W M V) (w : W) (plan : Plan)
 -- a machine may ask this: it is a call's request, it fits a frame, and it is what the machine awaits
 pub record MayAsk {W M V : Type 0} (s : Meaning W M V) (asking : Asking) (m : M) : Type 0 where
   pub call : is_call (request_of asking) ≡ true
-  pub short : is_long (request_of asking) ≡ false
+  pub short : is_too_long (request_of asking) ≡ false
   pub expects : s.expected m ≡ expected_of (request_of asking)
   pub cut : s.cut m asking
 

@@ -30,7 +30,7 @@ IsNew core ticket (told.Reply r) = Unit {0}
 IsNew core ticket (told.Granted g) = (g.id ≡ ticket) × (at core g.id ≡ Some (places.Granted g.handle 1))
 
 -- the reply to a ticket was taken, and is one that its request allows
-pub record Came (old new : Core) (ticket : ℕ) (t : Told) : Type 0 where
+pub record ReplyCame (old new : Core) (ticket : ℕ) (t : Told) : Type 0 where
   pub taken : reply_in (at old ticket) ≡ Some (reply_of t)
   pub allowed : (kind : Expected) → expected_at (at old ticket) ≡ Some kind → allows kind (reply_of t) ≡ true
   pub formed : IsFormed t

@@ -1,6 +1,7 @@
 //! Requests of calls, as they are submitted.
 ghost use Rattle.std.specs.Prelude.{◌≡◌, true, false, IfOk, IfErr};
-ghost use Rattle.sftp_core.specs.Core.{is_call, is_long, write_of};
+ghost use Rattle.sftp_model.specs.Frames.{is_too_long};
+ghost use Rattle.sftp_core.specs.Core.{is_call, write_of};
 ghost use Rattle.call_state.specs.declared.asking.Asking.TheVariants as asking;
 ghost use Rattle.call_state.specs.Asked.{IsReady, IsUnsubmitted, Submitted, refusal_of, request_of};
 
@@ -35,7 +36,7 @@ pub(crate) enum Unsubmitted {
 pub(crate) fn submit(core: &mut Core, asking: Asking) -> Result<Ticket, Unsubmitted>
     requires ready { IsReady core.old }
     requires call { is_call (request_of asking) ≡ true }
-    requires short { is_long (request_of asking) ≡ false }
+    requires short { is_too_long (request_of asking) ≡ false }
     ensures ok { IfOk result (λ ticket. Submitted core.old asking ticket core.new) }
     ensures err { IfErr result (IsUnsubmitted core.old core.new asking) }
 {
@@ -53,7 +54,7 @@ pub(crate) fn submit(core: &mut Core, asking: Asking) -> Result<Ticket, Unsubmit
 fn submit_whole(core: &mut Core, request: Request) -> Result<Ticket, Unsubmitted>
     requires ready { IsReady core.old }
     requires call { is_call request ≡ true }
-    requires short { is_long request ≡ false }
+    requires short { is_too_long request ≡ false }
     ensures ok { IfOk result (λ ticket. Submitted core.old (asking.Whole request) ticket core.new) }
     ensures err { IfErr result (IsUnsubmitted core.old core.new (asking.Whole request)) }
 {
@@ -73,7 +74,7 @@ fn submit_parts(
     parts: Items<Bytes>,
 ) -> Result<Ticket, Unsubmitted>
     requires ready { IsReady core.old }
-    requires short { is_long (write_of handle offset parts) ≡ false }
+    requires short { is_too_long (write_of handle offset parts) ≡ false }
     ensures ok { IfOk result (λ ticket. Submitted core.old (asking.Parts handle offset parts) ticket core.new) }
     ensures err { IfErr result (IsUnsubmitted core.old core.new (asking.Parts handle offset parts)) }
 {

@@ -5,8 +5,8 @@ ghost use Rattle.sftp_model.specs.declared.slot.Move.{Move};
 ghost use Rattle.plan_model.specs.Moves.{Answers, Own, Plan};
 ghost use Rattle.call_state.specs.declared.stage.Stage.TheVariants as stage;
 ghost use Rattle.call_state.specs.Asked.{IsReady};
-ghost use Rattle.call_state.specs.Calls.{Begins, Cancels, IsHeld, Leaves, MayGoOn, MayPoll, MaySend, Started, Stepped, Went, is_ended, ticket_of};
-ghost use Rattle.call_state.specs.Keeping.{Keeps};
+ghost use Rattle.call_state.specs.Calls.{BeginsCall, Cancels, IsHeld, LeavesCall, MayGoOn, MayPoll, MaySend, Started, Stepped, Went, is_ended, ticket_of};
+ghost use Rattle.call_state.specs.Keeping.{KeepsHeld};
 ghost use Rattle.call_state.specs.Machines.{GoesBehind, MayAsk};
 ghost use Rattle.call_state.specs.Told.{reply_of};
 
@@ -43,7 +43,7 @@ impl<M: PlanMachine> Call<M> {
         ensures went { (w : M.World) (plan : Plan) (answers : Answers)
             → GoesBehind M.meaning w plan answers asking self.old.machine
             → Went M.meaning w plan answers core.old core.new self.new result }
-        ensures leaves { Leaves M.meaning core.old core.new self.new result }
+        ensures leaves { LeavesCall M.meaning core.old core.new self.new result }
         ensures machine { self.new.machine ≡ self.old.machine }
     {
         match submit(core, asking) {
@@ -68,7 +68,7 @@ impl<M: PlanMachine> Call<M> {
             → answers (M.meaning.place self.old.machine) ≡ Some (reply_of told)
             → ((later : Own) → plan later answers ≡ M.meaning.left w self.old.machine later answers)
             → Went M.meaning w plan answers core.old core.new self.new result }
-        ensures leaves { Leaves M.meaning core.old core.new self.new result }
+        ensures leaves { LeavesCall M.meaning core.old core.new self.new result }
         ensures stays { M.meaning.stays self.old.machine self.new.machine }
     {
         match self.machine.on(told) {
@@ -116,8 +116,8 @@ impl<M: PlanMachine> Call<M> {
         ensures started { (w : M.World) (refused : ErrorValue → Move) (plan : Plan) (answers : Answers)
             → GoesBehind M.meaning w plan answers asking machine
             → Started M.meaning w refused plan answers core.old core.new result }
-        ensures begins { IfOk result (Begins M.meaning asking machine core.old core.new) }
-        ensures keeps { Keeps core.old core.new }
+        ensures begins { IfOk result (BeginsCall M.meaning asking machine core.old core.new) }
+        ensures keeps { KeepsHeld core.old core.new }
     {
         match submit(core, asking) {
             Ok(ticket) => Ok(Call {

@@ -12,9 +12,9 @@ ghost use Rattle.sftp_core.specs.Take.{Read, TakenFrom, take_leaves, take_refusa
 ghost use Rattle.sftp_core.specs.declared.tokens.Taken.{Taken};
 ghost use Rattle.call_state.specs.declared.asking.Asking.{Asking};
 ghost use Rattle.call_state.specs.declared.stage.Stage.TheVariants.{Asked};
-ghost use Rattle.call_state.specs.Asked.{Holds, queued_by};
+ghost use Rattle.call_state.specs.Asked.{HoldsTicket, queued_by};
 ghost use Rattle.call_state.specs.Calls.{cancelled};
-ghost use Rattle.call_state.specs.Keeping.{IsDropped, Keeps, KeepsGrants};
+ghost use Rattle.call_state.specs.Keeping.{IsDropped, KeepsHeld, KeepsGrants};
 
 /// The handle of a cancelled open is closed: at once, where its HANDLE was taken; else the request is marked as
 /// dropped, which makes the take of a HANDLE queue the CLOSE.
@@ -22,7 +22,7 @@ pub fn cancelled_opens_are_closed()
     ensures taken { (core : Core) (ticket : ℕ) (handle : List ℕ)
         → reply_in (at core ticket) ≡ Some (reply.Handle handle)
         → cancelled core (Asked ticket) ≡ queued_last core ticket (request.Close handle) false }
-    ensures to_come { (core : Core) (ticket : ℕ) → Holds core ticket expected.Handle
+    ensures to_come { (core : Core) (ticket : ℕ) → HoldsTicket core ticket expected.Handle
         → reply_in (at core ticket) ≡ None
         → IsDropped (at (cancelled core (Asked ticket)) ticket) expected.Handle }
     ensures closed { (core : Core) (ticket : ℕ) (handle : List ℕ) → IsDropped (at core ticket) expected.Handle
@@ -34,10 +34,10 @@ pub fn cancelled_opens_are_closed()
 /// hand-out, and a frame that is taken, their own replies included.
 pub fn calls_keep_what_is_held()
     ensures submitted { (core : Core) (ticket : ℕ) (asking : Asking) → at core ticket ≡ None
-        → Keeps core (queued_by core ticket asking) }
-    ensures handed_out { (core : Core) → Keeps core (handed_out core) }
+        → KeepsHeld core (queued_by core ticket asking) }
+    ensures handed_out { (core : Core) → KeepsHeld core (handed_out core) }
     ensures taken { (old new : Core) (read : Result Read FrameError) (told : Taken) → IsSome (info_of old.phase)
-        → take_refusal old read ≡ None → TakenFrom read told old new → Keeps old new }
+        → take_refusal old read ≡ None → TakenFrom read told old new → KeepsHeld old new }
 {}
 
 /// The poll and the cancel of a state leave every grant and every other ticket; a file that is shared or let go leaves
@@ -48,11 +48,11 @@ pub fn others_keep_what_they_hold()
     ensures cancelled { (core : Core) (ticket : ℕ) → IsTrue (is_ticket (at core ticket))
         → KeepsGrants core (abandoned core ticket) }
     ensures polled_on { (core : Core) (ticket other : ℕ) (kind : Expected) → other ≢ ticket
-        → Holds core other kind → Holds (after_poll core ticket) other kind }
+        → HoldsTicket core other kind → HoldsTicket (after_poll core ticket) other kind }
     ensures cancelled_on { (core : Core) (ticket other : ℕ) (kind : Expected) → other ≢ ticket
-        → Holds core other kind → Holds (abandoned core ticket) other kind }
+        → HoldsTicket core other kind → HoldsTicket (abandoned core ticket) other kind }
     ensures released { (core : Core) (grant : GrantValue) (ticket : ℕ) (kind : Expected)
-        → IsGrant core grant → Holds core ticket kind → Holds (released core grant) ticket kind }
+        → IsGrant core grant → HoldsTicket core ticket kind → HoldsTicket (released core grant) ticket kind }
     ensures retained { (core : Core) (grant : GrantValue) (ticket : ℕ) (kind : Expected)
-        → IsGrant core grant → Holds core ticket kind → Holds (retained core grant) ticket kind }
+        → IsGrant core grant → HoldsTicket core ticket kind → HoldsTicket (retained core grant) ticket kind }
 {}

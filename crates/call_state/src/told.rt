@@ -2,7 +2,7 @@
 ghost use Rattle.std.specs.Prelude.{◌≡◌, ◌≤◌, IsTrue, IfOk, IfErr};
 ghost use Rattle.std.specs.FinMap as fin;
 ghost use Rattle.sftp_core.specs.Core.{after_poll, at, is_ticket};
-ghost use Rattle.call_state.specs.Told.{Came, IsUntold};
+ghost use Rattle.call_state.specs.Told.{ReplyCame, IsUntold};
 
 use sftp_core::{Core, Grant, Polled, Ticket};
 use sftp_model::{Fault, Reply};
@@ -26,7 +26,7 @@ pub enum Untold {
 /// The reply to a ticket, where it was taken; the ticket is spent then.
 pub(crate) fn take_told(core: &mut Core, ticket: Ticket) -> Result<Told, Untold>
     requires { IsTrue (is_ticket (at core.old ticket)) }
-    ensures came { IfOk result (Came core.old core.new ticket) }
+    ensures came { IfOk result (ReplyCame core.old core.new ticket) }
     ensures missing { IfErr result (IsUntold core.old core.new ticket) }
     ensures core { core.new ≡ after_poll core.old ticket }
     ensures few { fin.len core.new.table ≤ fin.len core.old.table }

@@ -14,9 +14,9 @@ use Rattle.sftp_core.specs.declared.place.Place.{Place}
 use Rattle.sftp_link.specs.Views.{LinkView}
 use Rattle.call_state.specs.declared.stage.Stage.{Stage}
 use Rattle.call_state.specs.declared.stage.Stage.TheVariants.{Asked}
-use Rattle.call_state.specs.Asked.{Holds}
+use Rattle.call_state.specs.Asked.{HoldsTicket}
 use Rattle.call_state.specs.Calls.{CallValue, IsHeldAt, IsUnderWay, Started, is_ended}
-use Rattle.call_state.specs.Keeping.{Keeps}
+use Rattle.call_state.specs.Keeping.{KeepsHeld}
 use Rattle.sftp_file.specs.declared.telling.Telling.{Telling}
 use Rattle.sftp_file.specs.Files.{facts_of}
 use Rattle.sftp_file.specs.Tells.{telling}
@@ -60,14 +60,14 @@ asked_by path old new call starts left = from (starts.starts nowhere (λ place. 
     from (inr ready) = absurd (subst (λ (s : Stage). IsHeldAt telling new.core call.machine s) ready.1 starts.under_way.held)
 
 -- what is held is not free
-held_apart : (core : Core) (one two : ℕ) (kind : Expected) → Holds core one kind → at core two ≡ None → one ≢ two
+held_apart : (core : Core) (one two : ℕ) (kind : Expected) → HoldsTicket core one kind → at core two ≡ None → one ≢ two
 held_apart core one two kind h none same =
     let gone : at core one ≡ None = ap (λ (q : ℕ). at core q) same ∙ none in
     let counted = subst (λ (p : Option Place). IsTrue (is_ticket p)) gone h.counted in cc
 
 -- two that were asked for await tickets of their own
 pub both_awaited : {L : Type 0} (a b : List ℕ) (old one two : SftpValue L) (first second : CallValue Telling) → IsAsked a old one first
-    → IsAsked b one two second → Keeps one.core two.core → AreAwaited two.core first second
+    → IsAsked b one two second → KeepsHeld one.core two.core → AreAwaited two.core first second
 both_awaited a b old one two first second f s k =
     record {
       one = f.ticket;

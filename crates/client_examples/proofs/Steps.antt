@@ -8,7 +8,7 @@ use Rattle.sftp_link.specs.Views.{LinkView}
 use Rattle.call_state.specs.Calls.{CallValue}
 use Rattle.sftp_core.specs.Grant.{GrantValue}
 use Rattle.sftp_core.specs.Table.{asks_handle}
-use Rattle.call_state.specs.Keeping.{Keeps}
+use Rattle.call_state.specs.Keeping.{KeepsHeld}
 use Rattle.call_state.specs.Machines.{Meaning}
 use Rattle.sftp_model.specs.declared.slot.FileAt.{FileAt}
 use Rattle.call_state.proofs.Keeping.{grant_kept}
@@ -39,7 +39,7 @@ read_by len state old new core call before after (Err e) starts runs = tt
 -- a file is one that may be closed still, whatever a call on it answered
 pub still_held : {W M V L S : Type 0} (s : Meaning W M V) (at : M → FileAt) (state : L → LinkView S) (old new : SftpValue L) (core : Core)
     (call : CallValue M) (before after : FileValue) (result : Result V Error) → ((m : M) → asks_handle (s.expected m) ≡ false)
-    → IsGrant old.core before.grant → Keeps old.core core
+    → IsGrant old.core before.grant → KeepsHeld old.core core
     → HasFinishedOn s at state (with_core old core) new call before after result → IsGrant new.core after.grant
 still_held s at state old new core call before after result none held keeps runs =
     let first = grant_kept old.core core before.grant keeps.grants held in

@@ -8,7 +8,7 @@ use Rattle.sftp_link.specs.Views.{LinkView}
 use Rattle.call_state.specs.Calls.{CallValue}
 use Rattle.sftp_file.specs.declared.opening.Opening.{Opening}
 use Rattle.sftp_file.specs.declared.settling.Settling.{Settling}
-use Rattle.sftp_file.specs.Closes.{Closes}
+use Rattle.sftp_file.specs.Closes.{ReleasesFile}
 use Rattle.sftp_file.specs.Files.{FileValue, Starts}
 use Rattle.sftp_file.specs.Opens.{opening}
 use Rattle.sftp_file.specs.Reads.{ReadValue, reading}
@@ -43,7 +43,8 @@ pub record IsWritten {L S : Type 0} (content : List ℕ) (state : L → LinkView
   pub core : Core
   pub call : CallValue WriteAllValue
   pub starts : Starts writing_all tt (write_all_next 0 content) before old.core core (Ok call)
-  pub runs : HasFinishedOn writing_all (λ (m : WriteAllValue). m.file) state (with_core old core) new call before after (Ok tt)
+  pub runs : HasFinishedOn writing_all (λ (m : WriteAllValue). m.file) state (with_core old core) new call before after
+      (Ok tt)
 
 -- a READ of at most so many bytes, where the file stood, was answered by these, or by the end
 pub record IsRead {L S : Type 0} (len : ℕ) (state : L → LinkView S) (old new : SftpValue L) (before after : FileValue)
@@ -51,7 +52,8 @@ pub record IsRead {L S : Type 0} (len : ℕ) (state : L → LinkView S) (old new
   pub core : Core
   pub call : CallValue ReadValue
   pub starts : Starts reading tt (read_next 0 len) before old.core core (Ok call)
-  pub runs : HasFinishedOn reading (λ (m : ReadValue). m.file) state (with_core old core) new call before after (Ok answer)
+  pub runs : HasFinishedOn reading (λ (m : ReadValue). m.file) state (with_core old core) new call before after
+      (Ok answer)
 
 -- so many READs, each where the one before had come, gave these bytes
 abbrev pub AreReads : {L S : Type 0} → ℕ → (L → LinkView S) → ℕ → SftpValue L → SftpValue L → FileValue → FileValue
@@ -75,7 +77,7 @@ pub record IsReadToEnd {L S : Type 0} (state : L → LinkView S) (old new : Sftp
 pub record IsClosed {L S : Type 0} (file : FileValue) (state : L → LinkView S) (old new : SftpValue L) : Type 0 where
   pub core : Core
   pub call : CallValue Settling
-  pub starts : Closes file old.core core call
+  pub starts : ReleasesFile file old.core core call
   pub runs : HasFinished settling state (with_core old core) new call (Ok tt)
 
 -- ---- a file whole

@@ -6,7 +6,7 @@ use Rattle.plan_model.specs.PathPlans.{stat_next}
 use Rattle.sftp_core.specs.Core.{Core, at}
 use Rattle.sftp_link.specs.Views.{LinkView}
 use Rattle.call_state.specs.declared.stage.Stage.TheVariants.{Asked}
-use Rattle.call_state.specs.Asked.{Holds}
+use Rattle.call_state.specs.Asked.{HoldsTicket}
 use Rattle.call_state.specs.Calls.{CallValue}
 use Rattle.sftp_file.specs.declared.telling.Telling.{Telling}
 use Rattle.sftp_file.specs.Tells.{telling}
@@ -17,7 +17,7 @@ use Rattle.sftp_client.specs.Waits.{HasFinished}
 -- a call awaits this ticket, which the core counts
 pub record IsAwaiting (core : Core) (call : CallValue Telling) (ticket : ℕ) : Type 0 where
   pub awaits : call.stage ≡ Asked ticket
-  pub holds : Holds core ticket expected.Attrs
+  pub holds : HoldsTicket core ticket expected.Attrs
 
 -- the STAT of a path was queued under a ticket of its own
 pub record IsAsked {L : Type 0} (path : List ℕ) (old new : SftpValue L) (call : CallValue Telling) : Type 0 where
@@ -36,7 +36,8 @@ pub record AreAwaited (core : Core) (first second : CallValue Telling) : Type 0 
   pub of_second : IsAwaiting core second two
 
 -- each of two calls was answered by the attributes of its file
-pub record AreAnswered {L S : Type 0} (state : L → LinkView S) (old new : SftpValue L) (first second : CallValue Telling)
+pub record AreAnswered {L S : Type 0} (state : L → LinkView S) (old new : SftpValue L)
+    (first second : CallValue Telling)
     (x y : Option ℕ) : Type 0 where
   pub mid : SftpValue L
   pub attrs : FileAttrs

@@ -1,6 +1,6 @@
 //! Two calls under way at once.
 ghost use Rattle.std.specs.Prelude.{IfOk};
-ghost use Rattle.call_state.specs.Keeping.{Keeps};
+ghost use Rattle.call_state.specs.Keeping.{KeepsHeld};
 ghost use Rattle.client_examples.specs.Files.{IsUsable};
 ghost use Rattle.client_examples.specs.Sizes.{AreAnswered, AreAwaited, AreSizes, IsAsked};
 
@@ -33,7 +33,7 @@ fn ask<L: Link>(alloc: Global, sftp: &mut Sftp<L>, path: &[u8]) -> Result<AttrsC
     requires { IsUsable L.LinkState.state sftp.old }
     ensures asked { IfOk result (IsAsked path.now sftp.old sftp.new) }
     ensures usable { IsUsable L.LinkState.state sftp.new }
-    ensures kept { Keeps sftp.old.core sftp.new.core }
+    ensures kept { KeepsHeld sftp.old.core sftp.new.core }
 {
     sftp.ready()?;
     sftp.fs().start_metadata(alloc, sftp.core(), path)

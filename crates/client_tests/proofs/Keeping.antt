@@ -6,10 +6,10 @@ use Rattle.sftp_core.specs.declared.tokens.Taken.{Taken}
 use Rattle.sftp_core.specs.Core.{Core}
 use Rattle.sftp_core.specs.Info.{info_of}
 use Rattle.sftp_core.specs.Take.{Read, IsTakeError, TakenFrom, take_refusal}
-use Rattle.call_state.specs.Keeping.{Keeps}
+use Rattle.call_state.specs.Keeping.{KeepsHeld}
 use Rattle.call_state.proofs.Keeping.{keeps_refused, keeps_taken}
 
 pub take_keeps : (old new : Core) (read : Result Read FrameError) (r : Result Taken TakeError) → IsSome (info_of old.phase) → IfOk r (λ told. TakenFrom read told old new)
-    → OnOk r (take_refusal old read ≡ None) → IfErr r (λ e. IsTakeError e (take_refusal old read) old new) → Keeps old new
+    → OnOk r (take_refusal old read ≡ None) → IfErr r (λ e. IsTakeError e (take_refusal old read) old new) → KeepsHeld old new
 take_keeps old new read (Ok told) open_now ok only refused = keeps_taken old new read told open_now only ok
 take_keeps old new read (Err e) open_now ok only refused = keeps_refused old new e (take_refusal old read) refused

@@ -9,7 +9,7 @@ use Rattle.sftp_core.specs.Take.{IsTakeError, Read, TakenFrom, take_refusal}
 use Rattle.sftp_core.specs.declared.errors.TakeError.{TakeError}
 use Rattle.sftp_core.specs.declared.tokens.Taken.{Taken}
 use Rattle.sftp_model.specs.declared.frame_error.FrameError.{FrameError}
-use Rattle.call_state.specs.Keeping.{Keeps, KeepsGrants}
+use Rattle.call_state.specs.Keeping.{KeepsHeld, KeepsGrants}
 use Rattle.bytes.specs.Filled.{Filled}
 use Rattle.call_state.specs.Calls.{CallValue, IsHeld, is_ended}
 use Rattle.call_state.specs.declared.poll.Poll.{Poll}
@@ -24,12 +24,12 @@ use Rattle.sftp_whole.proofs.FsReadLaws.{read_still}
 use Rattle.sftp_file.proofs.Granting.{released_grant, retained_users}
 use Rattle.call_state.proofs.Keeping.{grant_kept, keeps_handed_out, keeps_refused, keeps_taken, still_under_way}
 
-pub handed : (old new : Core) → new ≡ handed_out old → Keeps old new
-handed old new is = subst (λ (x : Core). Keeps old x) (sym is) (keeps_handed_out old)
+pub handed : (old new : Core) → new ≡ handed_out old → KeepsHeld old new
+handed old new is = subst (λ (x : Core). KeepsHeld old x) (sym is) (keeps_handed_out old)
 
 pub came : (old new : Core) (read : Result Read FrameError) (result : Result Taken TakeError) → IsSome (info_of old.phase)
     → IfOk result (λ told. TakenFrom read told old new) → OnOk result (take_refusal old read ≡ None)
-    → IfErr result (λ e. IsTakeError e (take_refusal old read) old new) → Keeps old new
+    → IfErr result (λ e. IsTakeError e (take_refusal old read) old new) → KeepsHeld old new
 came old new read (Ok told) opened ok only refused = keeps_taken old new read told opened only ok
 came old new read (Err e) opened ok only refused = keeps_refused old new e (take_refusal old read) refused
 
@@ -45,10 +45,10 @@ shared_kept a b c d dir other here more same less k =
 
 -- ---- what is given up behind each step
 
-pub read_stays : (old new : Core) (p : Whole) → Keeps old new → IsReadHeld old p → IsReadHeld new p
+pub read_stays : (old new : Core) (p : Whole) → KeepsHeld old new → IsReadHeld old p → IsReadHeld new p
 read_stays old new p k h = read_still old new p k h
 
-pub bytes_stay : (old new : Core) (call : CallValue ReadAllValue) → Keeps old new → is_ended call.stage ≡ false
+pub bytes_stay : (old new : Core) (call : CallValue ReadAllValue) → KeepsHeld old new → is_ended call.stage ≡ false
     → IsHeld reading_all old call → IsHeld reading_all new call
 bytes_stay old new call k on h = (still_under_way reading_all old new call k (record { over = on; held = h })).held
 
@@ -56,6 +56,6 @@ pub bytes_held : (old new : Core) (p q : CallValue ReadAllValue) (before after :
     → ReadsAll old new p q before after result → IsHeld reading_all new q × (q.machine.file ≡ file_at after)
 bytes_held old new p q before after result h = reads_held old new p q before after result h
 
-pub copy_stays : (old new : Core) (call : CallValue CopyValue) → Keeps old new → is_ended call.stage ≡ false
+pub copy_stays : (old new : Core) (call : CallValue CopyValue) → KeepsHeld old new → is_ended call.stage ≡ false
     → IsHeld copying old call → IsHeld copying new call
 copy_stays old new call k on h = (still_under_way copying old new call k (record { over = on; held = h })).held

@@ -2,7 +2,7 @@
 ghost use Rattle.std.specs.Prelude.{◌≡◌, true, IsSome};
 ghost use Rattle.sftp_core.specs.Info.{info_of};
 ghost use Rattle.call_state.specs.Asked.{IsReady};
-ghost use Rattle.call_state.specs.Keeping.{Keeps};
+ghost use Rattle.call_state.specs.Keeping.{KeepsHeld};
 ghost use Rattle.sftp_buffered.specs.Buffered.{CompatValue, IsSound};
 
 mod cases;
@@ -77,7 +77,7 @@ fn is_ready(core: &Core) -> bool
 
 /// Hands out what is queued: whether it is these bytes.
 fn sends(core: &mut Core, bytes: &[u8]) -> bool
-    ensures keeps { Keeps core.old core.new }
+    ensures keeps { KeepsHeld core.old core.new }
     ensures sound { (c : CompatValue) → IsSound core.old c → IsSound core.new c }
 {
     match core.hand_out() {
@@ -108,7 +108,7 @@ fn is_chunk(chunk: &Chunk, bytes: &[u8]) -> bool {
 
 /// Takes a body, once the session is open.
 fn takes(core: &mut Core, body: &[u8]) -> bool
-    ensures keeps { Keeps core.old core.new }
+    ensures keeps { KeepsHeld core.old core.new }
     ensures sound { (c : CompatValue) → IsSound core.old c → IsSound core.new c }
 {
     if core.info().is_none() || core.fault().is_some() {

@@ -4,7 +4,7 @@ ghost use Rattle.std.specs.Prelude.{◌≡◌, true, false, IsSome};
 ghost use Rattle.sftp_core.specs.Info.{info_of};
 ghost use Rattle.call_state.specs.Asked.{IsReady};
 ghost use Rattle.call_state.specs.Calls.{HoldsReady, IsUnderWay};
-ghost use Rattle.call_state.specs.Keeping.{Keeps};
+ghost use Rattle.call_state.specs.Keeping.{KeepsHeld};
 
 mod listing;
 mod names;
@@ -98,7 +98,7 @@ fn from_x(alloc: Global) -> Result<Fs, Fail> {
 /// Whether what is queued is this frame, and this reply was taken.
 pub(crate) fn exchange(core: &mut Core, frame: &[u8], reply: &[u8]) -> bool
     requires { IsSome (info_of core.old.phase) }
-    ensures { Keeps core.old core.new }
+    ensures { KeepsHeld core.old core.new }
 {
     sends(core, frame) && takes(core, reply)
 }
@@ -106,7 +106,7 @@ pub(crate) fn exchange(core: &mut Core, frame: &[u8], reply: &[u8]) -> bool
 /// Whether what is queued is this frame.
 pub(crate) fn sends(core: &mut Core, frame: &[u8]) -> bool
     requires { IsSome (info_of core.old.phase) }
-    ensures keeps { Keeps core.old core.new }
+    ensures keeps { KeepsHeld core.old core.new }
     ensures opened { IsSome (info_of core.new.phase) }
 {
     let Ok(chunk) = core.hand_out() else {
@@ -133,7 +133,7 @@ fn is_frame(pieces: &[Bytes], frame: &[u8]) -> bool {
 /// Whether this body was taken.
 pub(crate) fn takes(core: &mut Core, body: &[u8]) -> bool
     requires { IsSome (info_of core.old.phase) }
-    ensures { Keeps core.old core.new }
+    ensures { KeepsHeld core.old core.new }
 {
     core.fault().is_none() && core.take(body).is_ok()
 }

@@ -5,7 +5,7 @@ ghost use Rattle.std.specs.Prelude.{◌≡◌, false, IfOk, IsSome};
 ghost use Rattle.sftp_core.specs.Info.{info_of};
 ghost use Rattle.call_state.specs.Asked.{IsReady};
 ghost use Rattle.call_state.specs.Calls.{IsUnderWay};
-ghost use Rattle.call_state.specs.Keeping.{Keeps};
+ghost use Rattle.call_state.specs.Keeping.{KeepsHeld};
 ghost use Rattle.sftp_file.specs.Files.{file_at};
 ghost use Rattle.sftp_file.specs.Settles.{settling};
 
@@ -80,7 +80,7 @@ fn answer_on<M: OnFile>(
 /// Sends what is queued, and takes the reply of a row: whether it was the row's request.
 fn exchanged(core: &mut Core, row: &Row) -> bool
     requires { IsSome (info_of core.old.phase) }
-    ensures { Keeps core.old core.new }
+    ensures { KeepsHeld core.old core.new }
 {
     let sent = sends(core, row.sends);
     if !row.reply.is_empty() {

@@ -11,7 +11,7 @@ use Rattle.session_model.specs.declared.event.Event.TheVariants.{Submit, Send, T
 use Rattle.session_model.specs.declared.event.Owner.TheVariants as owner
 use Rattle.session_model.specs.Calls.{Setting, added}
 use Rattle.session_model.specs.Grants.{closed, first_below, is_grant, is_granted, is_orphan, letting_go, orphan}
-use Rattle.session_model.specs.Readings.{Asked, answer, asked, asked_at, bearer, ended, is_at, own}
+use Rattle.session_model.specs.Readings.{AskedRequest, answer, asked, asked_at, bearer, ended, is_at, own}
 use Rattle.session_model.specs.Served.{requests_of}
 use Rattle.session_model.specs.Turns.{ClosesTo, RulesTo, is_full}
 
@@ -30,7 +30,7 @@ GrantsNone (entry.LetGo lane ∷ past) = ⊥
 GrantsNone (entry.Added lane c ∷ past) = ⊥
 GrantsNone (_ ∷ past) = GrantsNone past
 
-pub asked_quiet : (past : List Entry) (place : ℕ) (a : Asked) → GrantsNone past → asked_at past place ≡ Some a → IsQuiet a.request
+pub asked_quiet : (past : List Entry) (place : ℕ) (a : AskedRequest) → GrantsNone past → asked_at past place ≡ Some a → IsQuiet a.request
 asked_quiet [] place a g e = absurd cc
 asked_quiet (entry.Event (Submit by id r) ∷ past) place a g e = by_test (place == asked past) e (λ older. asked_quiet past place a g.1 older)
   where

@@ -47,7 +47,8 @@ use Rattle.sftp_model.specs.declared.request.Request.{Request}
 use Rattle.sftp_model.specs.declared.slot.Move.{Move}
 use Rattle.sftp_model.specs.declared.slot.Move.TheVariants.{Ask, Done}
 use Rattle.sftp_model.specs.declared.slot.Site.{Site}
-use Rattle.plan_model.specs.Moves.{Own, done_by, is_too_long, once_answered, refuses}
+use Rattle.sftp_model.specs.Frames.{is_too_long}
+use Rattle.plan_model.specs.Moves.{Own, done_by, once_answered, refuses}
 use Rattle.plan_model.specs.PathPlans.{from_directory}
 use Rattle.plan_model.specs.declared.call.Call.{Call}
 use Rattle.plan_model.specs.declared.call.Call.TheVariants as call
@@ -58,7 +59,7 @@ use Rattle.session_model.specs.declared.event.Owner.TheVariants as owner
 use Rattle.session_model.specs.declared.turn.Turn.TheVariants as turn
 use Rattle.session_model.specs.Calls.{Setting, calls_of, current, move_at, site_of}
 use Rattle.session_model.specs.Journals.{MayReply, MayTake}
-use Rattle.session_model.specs.Readings.{Asked, answer, asked, asked_at, awaited, bearer, ended, own, sent}
+use Rattle.session_model.specs.Readings.{AskedRequest, answer, asked, asked_at, awaited, bearer, ended, own, sent}
 use Rattle.session_model.specs.Runs.{TurnsTo}
 use Rattle.session_model.specs.Served.{requests_of}
 use Rattle.session_model.specs.Turns.{MovesBy, RulesTo, Stage, TurnTo}
@@ -387,7 +388,7 @@ take_rests s lane calls n before now (g, (r, far)) to = by_test (nat_lt 0 (await
         in omega (arith, lt, le)) may.1.0.2)
     by_test false e = subst (λ (x : Stage). Is lane (λ t. Rests calls t × IsFar calls n t) x.past) (sym e) (g, (r, far))
 
-replies_quiet : (past : List Entry) (o : Option Asked) (place : ℕ) (y : Reply) → GrantsNone past → asked_at past place ≡ o → MayReply o y → is_handle y ≡ false
+replies_quiet : (past : List Entry) (o : Option AskedRequest) (place : ℕ) (y : Reply) → GrantsNone past → asked_at past place ≡ o → MayReply o y → is_handle y ≡ false
 replies_quiet past None place y g is may = absurd may
 replies_quiet past (Some a) place y g is may = asked_quiet past place a g is y may.0
 

@@ -33,7 +33,7 @@ use Rattle.sftp_model.specs.declared.request.Request.TheVariants as request
 use Rattle.machine_model.proofs.LossLaws.{loss_names}
 use Rattle.machine_model.proofs.NameLaws.{names_tell}
 use Rattle.machine_model.proofs.PairLaws.{found_push_here, found_push_old, found_push_other}
-use Rattle.machine_model.specs.Components.{Name, components, is_long, parent_of, same_name}
+use Rattle.machine_model.specs.Components.{Name, components, is_long_name, parent_of, same_name}
 use Rattle.machine_model.specs.FileTree.{
   FileTree,
   after_loss,
@@ -119,7 +119,7 @@ pub data Effect (tree : FileTree) (r : Request) (after : FileTree) : Type 0 wher
 -- ---- each request
 
 new_effect : (tree : FileTree) (r : Request) (name : Name) (x : Answer) → Effect tree r x.1 → Effect tree r (where_new tree name x).1
-new_effect tree r name x e = by_tests (not (is_directory (node_at tree (parent_of name)))) (is_long name)
+new_effect tree r name x e = by_tests (not (is_directory (node_at tree (parent_of name)))) (is_long_name name)
   where
     by_tests : (a b : Bool) → Effect tree r (if a then refuses tree SSH_FX_NO_SUCH_FILE else if b then refuses tree SSH_FX_FAILURE else x).1
     by_tests true b = Same refl

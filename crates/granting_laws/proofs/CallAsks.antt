@@ -41,22 +41,8 @@ use Rattle.sftp_model.specs.declared.slot.Move.TheVariants.{Ask, Done}
 use Rattle.sftp_model.specs.declared.slot.Site.{Site}
 use Rattle.plan_model.specs.CallPlans.{next}
 use Rattle.plan_model.specs.FilePlans.{open_request, opened_file}
-use Rattle.plan_model.specs.Moves.{
-  Answers,
-  Own,
-  ask_path,
-  ask_write,
-  done_by,
-  further,
-  handle_of,
-  is_too_long,
-  on_handle,
-  on_status,
-  once_answered,
-  overflows,
-  refused,
-  refuses,
-}
+use Rattle.sftp_model.specs.Frames.{is_too_long}
+use Rattle.plan_model.specs.Moves.{Answers, Own, ask_path, ask_write, done_by, further, handle_of, on_handle, on_status, once_answered, overflows, refused, refuses}
 use Rattle.plan_model.specs.PathPlans.{from_directory}
 use Rattle.plan_model.specs.TransferPlans.{next_part, part_len, rest_next}
 use Rattle.plan_model.specs.WholePlans.{nowhere, to_replace}
@@ -84,7 +70,7 @@ use Rattle.session_model.specs.declared.event.Owner.{Owner}
 use Rattle.session_model.specs.declared.event.Owner.TheVariants as owner
 use Rattle.session_model.specs.Calls.{Setting, call_at, current, lane_calls, site_of}
 use Rattle.session_model.specs.Journals.{IsJournal}
-use Rattle.session_model.specs.Readings.{Asked, answer, asked, asked_at, ended, is_by, own}
+use Rattle.session_model.specs.Readings.{AskedRequest, answer, asked, asked_at, ended, is_by, own}
 use Rattle.session_model.proofs.CallLaws.{next_submit}
 use Rattle.run_laws.proofs.CallRequests.{move_is}
 use Rattle.run_laws.proofs.LaneCalls.{all_before, all_more, call_stays, each_is, plain_path}
@@ -259,14 +245,14 @@ made_now s past owner.Setup id r lane k j all by = absurd cc
 made_now s past owner.Close id r lane k j all by = absurd cc
 
 -- each request of a lane of such calls is one of its call
-pub made_by : (s : Setting) (past : List Entry) (lane k place : ℕ) (a : Asked) → IsJournal s past → list_all is_plain_call (lane_calls s past lane) ≡ true
+pub made_by : (s : Setting) (past : List Entry) (lane k place : ℕ) (a : AskedRequest) → IsJournal s past → list_all is_plain_call (lane_calls s past lane) ≡ true
     → asked_at past place ≡ Some a → is_by a.by lane k ≡ true → IsMadeBy s past lane k a.request
 made_by s [] lane k place a j all e by = absurd cc
 made_by s (entry.Event (Submit o id r) ∷ past) lane k place a j all e by =
     elim (eqb_tells place (asked past)) [
       | inl t ↦ (let same = some_is (record { by = o; id = id; request = r }) a (rw (t.0) at e) in
-          let m = made_now s past o id r lane k j all (subst (λ (x : Asked). is_by x.by lane k ≡ true) (sym same) by) in
-          subst (λ (x : Asked). IsMadeBy s (entry.Event (Submit o id r) ∷ past) lane k x.request) same (record { c = m.c; is = m.is; asks = m.asks }))
+          let m = made_now s past o id r lane k j all (subst (λ (x : AskedRequest). is_by x.by lane k ≡ true) (sym same) by) in
+          subst (λ (x : AskedRequest). IsMadeBy s (entry.Event (Submit o id r) ∷ past) lane k x.request) same (record { c = m.c; is = m.is; asks = m.asks }))
       | inr t ↦ (let m = made_by s past lane k place a j.1 all (rw (t.0) at e) by in record { c = m.c; is = m.is; asks = m.asks })
     ]
 made_by s (entry.Added l c ∷ past) lane k place a j all e by =

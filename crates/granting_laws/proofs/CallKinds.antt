@@ -16,21 +16,8 @@ use Rattle.sftp_model.specs.declared.slot.Move.TheVariants.{Ask, Done}
 use Rattle.sftp_model.specs.declared.slot.Site.{Site}
 use Rattle.plan_model.specs.CallPlans.{next}
 use Rattle.plan_model.specs.FilePlans.{opened_file}
-use Rattle.plan_model.specs.Moves.{
-  Answers,
-  Own,
-  ask_path,
-  ask_write,
-  done_by,
-  further,
-  is_too_long,
-  on_handle,
-  on_status,
-  once_answered,
-  overflows,
-  refused,
-  refuses,
-}
+use Rattle.sftp_model.specs.Frames.{is_too_long}
+use Rattle.plan_model.specs.Moves.{Answers, Own, ask_path, ask_write, done_by, further, on_handle, on_status, once_answered, overflows, refused, refuses}
 use Rattle.plan_model.specs.TransferPlans.{next_part, part_len, rest_next}
 use Rattle.plan_model.specs.WholePlans.{nowhere, to_replace}
 use Rattle.plan_model.specs.WindowPlans.{

@@ -40,7 +40,7 @@ use Rattle.sftp_model.specs.declared.config.ServerConfig.{ServerConfig}
 use Rattle.sftp_model.specs.declared.request.Request.{Request}
 use Rattle.machine_model.proofs.NameLaws.{names_tell}
 use Rattle.machine_model.proofs.PairLaws.{found_push_here}
-use Rattle.machine_model.specs.Components.{Name, components, is_long, parent_of, same_name}
+use Rattle.machine_model.specs.Components.{Name, components, is_long_name, parent_of, same_name}
 use Rattle.machine_model.specs.FileTree.{FileTree, is_directory, node_at, with_name}
 use Rattle.machine_model.specs.HandleRequests.{Answer, done, refuses, where_new}
 use Rattle.machine_model.specs.NameRequests.{after_mkdir}
@@ -48,7 +48,7 @@ use Rattle.machine_model.specs.TreeAnswers.{apply}
 use Rattle.machine_model.specs.declared.node.Node.{Node}
 use Rattle.machine_model.specs.declared.node.Node.TheVariants as node
 use Rattle.plan_model.proofs.Among.{Among}
-use Rattle.plan_model.specs.Moves.{is_too_long}
+use Rattle.sftp_model.specs.Frames.{is_too_long}
 use Rattle.run_laws.specs.Steps.{Choose, RefusesNone, Step, after, answer_to}
 use Rattle.run_laws.proofs.WriteLaws.{answers_as}
 use Rattle.granting_laws.proofs.Building.{IsBuilding, MakesName, MayBe, effect_keeps, effect_makes, effect_of}
@@ -126,8 +126,8 @@ made_at tree [] none = absurd cc
 made_at tree (part ∷ parts) none =
     found_push_here same_name tree.names (part ∷ parts) node.Directory ((names_tell (part ∷ parts) (part ∷ parts)).1 refl) none
 
-new_made : (tree : FileTree) (name : Name) (x : Answer) → is_directory (node_at tree (parent_of name)) ≡ true → is_long name ≡ false → where_new tree name x ≡ x
-new_made tree name x parent short = by_tests (not (is_directory (node_at tree (parent_of name)))) (is_long name) (ap not parent) short
+new_made : (tree : FileTree) (name : Name) (x : Answer) → is_directory (node_at tree (parent_of name)) ≡ true → is_long_name name ≡ false → where_new tree name x ≡ x
+new_made tree name x parent short = by_tests (not (is_directory (node_at tree (parent_of name)))) (is_long_name name) (ap not parent) short
   where
     by_tests : (a b : Bool) → a ≡ false → b ≡ false → (if a then refuses tree SSH_FX_NO_SUCH_FILE else if b then refuses tree SSH_FX_FAILURE else x) ≡ x
     by_tests true b p q = absurd cc
@@ -135,7 +135,7 @@ new_made tree name x parent short = by_tests (not (is_directory (node_at tree (p
     by_tests false false p q = refl
 
 mkdir_makes : (config : ServerConfig) (tree : FileTree) (s : Step) (path : List ℕ) (name : Name) → s.request ≡ mkdir_of path → components path ≡ name
-    → RefusesNone s.choice → NoFile (node_at tree name) → is_directory (node_at tree (parent_of name)) ≡ true → is_long name ≡ false
+    → RefusesNone s.choice → NoFile (node_at tree name) → is_directory (node_at tree (parent_of name)) ≡ true → is_long_name name ≡ false
     → node_at (answer_to config tree s).1 name ≡ Some node.Directory
 mkdir_makes config tree s path name asks denotes unrefused none parent short = by_old (node_at tree name) refl none
   where

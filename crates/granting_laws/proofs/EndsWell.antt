@@ -37,7 +37,8 @@ use Rattle.machine_model.specs.FileTree.{FileTree, all_bytes}
 use Rattle.machine_model.specs.Limits.{MAX_FILE_LEN, MAX_TOTAL_LEN}
 use Rattle.plan_model.specs.CallPlans.{next}
 use Rattle.plan_model.specs.FilePlans.{open_request}
-use Rattle.plan_model.specs.Moves.{Answers, Own, ask_path, handle_of, is_too_long, refuses}
+use Rattle.sftp_model.specs.Frames.{is_too_long}
+use Rattle.plan_model.specs.Moves.{Answers, Own, ask_path, handle_of, refuses}
 use Rattle.plan_model.specs.PathPlans.{from_directory}
 use Rattle.plan_model.specs.WholePlans.{to_replace}
 use Rattle.plan_model.specs.WindowPlans.{to_read}

@@ -43,11 +43,12 @@ use Rattle.sftp_model.specs.declared.reply.Reply.{Reply}
 use Rattle.sftp_model.specs.declared.reply.Reply.TheVariants as reply
 use Rattle.sftp_model.specs.declared.request.Request.{Request}
 use Rattle.sftp_model.specs.declared.request.Request.TheVariants as request
-use Rattle.machine_model.specs.Components.{Name, components, is_long}
+use Rattle.machine_model.specs.Components.{Name, components, is_long_name}
 use Rattle.machine_model.specs.FileTree.{FileTree, is_directory, node_at}
 use Rattle.machine_model.specs.declared.node.Node.{Node}
 use Rattle.machine_model.specs.declared.node.Node.TheVariants as node
-use Rattle.plan_model.specs.Moves.{Own, is_too_long}
+use Rattle.sftp_model.specs.Frames.{is_too_long}
+use Rattle.plan_model.specs.Moves.{Own}
 use Rattle.plan_model.specs.declared.call.Call.{Call}
 use Rattle.plan_model.specs.declared.call.Call.TheVariants as call
 use Rattle.plan_model.specs.declared.call.Lane.{Lane}
@@ -59,7 +60,7 @@ use Rattle.session_model.specs.declared.turn.Turn.TheVariants as turn
 use Rattle.session_model.specs.Calls.{Setting, lane_calls}
 use Rattle.session_model.specs.Grants.{is_asked_by, is_close}
 use Rattle.session_model.specs.Journals.{MayReply, MayTake}
-use Rattle.session_model.specs.Readings.{Asked, answer, asked, asked_at, is_by, sent, unanswered}
+use Rattle.session_model.specs.Readings.{AskedRequest, answer, asked, asked_at, is_by, sent, unanswered}
 use Rattle.session_model.specs.Runs.{IsRun, Opens, TurnsTo, at_first, queried}
 use Rattle.session_model.specs.Served.{counted, requests_of, requests_sent}
 use Rattle.session_model.specs.Turns.{Stage}
@@ -289,7 +290,7 @@ may_open tree name some short free there = by_node (node_at tree name) refl free
           ap is_directory (there (length name - 1) (omega (arith, some))),
           (let whole : first_parts name (suc (length name - 1)) ≡ name =
               ap (first_parts name) (let same : suc (length name - 1) ≡ length name = omega (arith, some) in same) ∙ take_all (length name) name (omega arith) in
-              ap is_long (sym whole) ∙ short (length name - 1) (omega (arith, some))),
+              ap is_long_name (sym whole) ∙ short (length name - 1) (omega (arith, some))),
         )
 
 pub mkdirs_as : (paths : List (List ℕ)) → mkdirs_of (map call.Mkdir paths) ≡ mkdirs paths
@@ -303,11 +304,11 @@ record AskedBy (lanes : List Lane) (past : List Entry) (lane k : ℕ) (r : Reque
   asks : IsOfCall c r
 
 asked_of : (lanes : List Lane) (s : Setting) (turns : List Turn) (past : List Entry) (config : ServerConfig) (choices : List Choice) (tree left : FileTree)
-    (lane k place : ℕ) (a : Asked) → PlainRunOf lanes s turns past config choices tree left → asked_at past place
+    (lane k place : ℕ) (a : AskedRequest) → PlainRunOf lanes s turns past config choices tree left → asked_at past place
     ≡ Some a → is_asked_by (asked_at past place) lane k ≡ true
     → AskedBy lanes past lane k a.request
 asked_of lanes s turns past config choices tree left lane k place a p at mine =
-    let by : is_by a.by lane k ≡ true = sym (ap (λ (o : Option Asked). is_asked_by o lane k) at) ∙ mine in
+    let by : is_by a.by lane k ≡ true = sym (ap (λ (o : Option AskedRequest). is_asked_by o lane k) at) ∙ mine in
     let all : list_all is_plain_call (lane_calls s past lane) ≡ true =
     subst (λ (calls : List Call). list_all is_plain_call calls ≡ true) (sym (p.are lane)) (p.plain lane) in
     let m : IsMadeBy s past lane k a.request = made_by s past lane k place a (runs_are_journals s turns past p.run) all at by in

@@ -27,7 +27,7 @@ use Rattle.session_model.specs.declared.turn.Turn.{Turn}
 use Rattle.session_model.specs.Calls.{Setting, lane_calls}
 use Rattle.session_model.specs.Grants.{is_asked_by, is_close}
 use Rattle.session_model.specs.Journals.{IsJournal}
-use Rattle.session_model.specs.Readings.{Asked, answer, asked_at, is_by, own, sent}
+use Rattle.session_model.specs.Readings.{AskedRequest, answer, asked_at, is_by, own, sent}
 use Rattle.session_model.proofs.OverLaws.{runs_are_journals}
 use Rattle.run_laws.specs.CallsAmong.{HasEnded, asked_by}
 use Rattle.run_laws.specs.ReadsBack.{call_in}
@@ -259,7 +259,7 @@ who_builds lanes s turns past config choices tree left p x (a, (at, is)) = by_wh
     by_who : WhoAsked past x.place a → Asker lanes past x
     by_who (TheSession asks) = session a.request is asks
     by_who (ACall lane k mine) =
-        let by : is_by a.by lane k ≡ true = sym (ap (λ (o : Option Asked). is_asked_by o lane k) at) ∙ mine in
+        let by : is_by a.by lane k ≡ true = sym (ap (λ (o : Option AskedRequest). is_asked_by o lane k) at) ∙ mine in
         let m : IsMadeBy s past lane k a.request = made_by s past lane k x.place a j (all lane) at by in
         by_call lane k m.c a.request mine (ap (λ (calls : List Call). slice_get calls k) (sym (p.are lane)) ∙ m.is) refl m.asks
 

@@ -20,7 +20,7 @@ use Rattle.session_model.specs.declared.entry.Entry.{Entry}
 use Rattle.session_model.specs.declared.turn.Turn.{Turn}
 use Rattle.session_model.specs.Calls.{Setting, call_at, lane_calls, site_of}
 use Rattle.session_model.specs.Journals.{IsJournal}
-use Rattle.session_model.specs.Readings.{Asked, answer, asked_at, own}
+use Rattle.session_model.specs.Readings.{AskedRequest, answer, asked_at, own}
 use Rattle.session_model.specs.Runs.{IsRun}
 use Rattle.session_model.specs.Served.{Serves}
 use Rattle.session_model.proofs.OverLaws.{runs_are_journals}
@@ -70,7 +70,7 @@ call_passes : (s : Setting) (past : List Entry) (name : Name) (lane k place : �
     → PassesAt s past name place
 call_passes s past name lane k place j one mine spares = by_asked (asked_at past place) refl
   where
-    by_asked : (x : Option Asked) → asked_at past place ≡ x → PassesAt s past name place
+    by_asked : (x : Option AskedRequest) → asked_at past place ≡ x → PassesAt s past name place
     by_asked None none = record {
       avoids = λ b at. absurd (let both : None ≡ Some b = sym none ∙ at in cc);
       writes =

@@ -3,12 +3,11 @@ use Rattle.std.proofs.Common.{◌≡◌, ◌≤◌, ◌+◌, ℕ, false, List, �
 use Rattle.std.proofs.lemmas.Bool.Decides.{nat_tests}
 use Rattle.std.proofs.lemmas.List.{length-append}
 use Rattle.ssh_encoding.specs.Writing.{string, uint32}
-use Rattle.sftp_model.specs.Frames.{attributes, no_attributes, request_body}
+use Rattle.sftp_model.specs.Frames.{attributes, no_attributes, request_body, is_too_long}
 use Rattle.sftp_model.specs.Numbers.{MAX_BODY_LEN}
 use Rattle.sftp_model.specs.declared.flags.OpenFlags.{OpenFlags}
 use Rattle.sftp_wire.proofs.Lengths.{length-attributes, length-string, length-uint32}
 use Rattle.plan_model.specs.FilePlans.{open_request}
-use Rattle.plan_model.specs.Moves.{is_too_long}
 use Rattle.granting_laws.specs.FirstMkdirs.{mkdir_of}
 
 open_length : (flags : OpenFlags) (path : List ℕ) → length (request_body (open_request flags path) 0) ≡ 17 + length path

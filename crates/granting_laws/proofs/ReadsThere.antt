@@ -22,7 +22,7 @@ use Rattle.session_model.specs.declared.entry.Entry.{Entry}
 use Rattle.session_model.specs.declared.turn.Turn.{Turn}
 use Rattle.session_model.specs.Calls.{Setting}
 use Rattle.session_model.specs.Readings.{answer}
-use Rattle.run_laws.specs.CallsAmong.{Gives, HasEnded}
+use Rattle.run_laws.specs.CallsAmong.{GivesContent, HasEnded}
 use Rattle.run_laws.specs.NameCalls.{writes}
 use Rattle.run_laws.specs.ReadsBack.{calls_in}
 use Rattle.run_laws.specs.RoundTrips.{outcome_at}
@@ -74,7 +74,7 @@ run_read_there s turns past config choices tree left claims lane n path bytes p 
     within = run_builds s.lanes s turns past config choices tree left claims p c
 
     -- the bytes, or the bound was reached
-    given : (o : Outcome) → outcome_at past lane n ≡ Some o → Gives o bytes
+    given : (o : Outcome) → outcome_at past lane n ≡ Some o → GivesContent o bytes
     given o e = reads_first s turns past config choices tree left name lane n bytes o p.run rd.some p.well p.serves none
         (one_lanes s.lanes s turns past name lane p.are p.run rd.alone)
         (λ k d below is names. writes_none name d (each_is (λ (d : Call). not (writes name d)) (calls_in s.lanes lane) k d rd.never
@@ -115,6 +115,6 @@ run_read_there s turns past config choices tree left claims lane n path bytes p 
             absurd (rd.unclaimed claim.claim claim.there
             (sound.alone claim.claim.0 name has.file (name_has at claim.claim.0 has.file claim.is) (name_has at name has.file is)))
 
-    by_gives : (o : Outcome) → Stood s past config tree r.steps lane n (call.FsRead path rd.bound) name o → Gives o bytes → o ≡ outcome.Bytes bytes
+    by_gives : (o : Outcome) → Stood s past config tree r.steps lane n (call.FsRead path rd.bound) name o → GivesContent o bytes → o ≡ outcome.Bytes bytes
     by_gives o st (inl got) = got
     by_gives o st (inr up) = absurd (let b = by_open o st in let both : outcome.GivenUp ≡ outcome.Bytes b.0 = sym up ∙ b.1 in cc)

@@ -48,7 +48,7 @@ use Rattle.sftp_model.specs.declared.slot.Move.TheVariants.{Ask, Done}
 use Rattle.sftp_model.specs.declared.slot.Site.{Site}
 use Rattle.machine_model.proofs.LossLaws.{name_has}
 use Rattle.machine_model.specs.Changes.{IsWellFormed, MayStand}
-use Rattle.machine_model.specs.Components.{Name, components, is_long, parent_of}
+use Rattle.machine_model.specs.Components.{Name, components, is_long_name, parent_of}
 use Rattle.machine_model.specs.FileTree.{FileTree, all_bytes, bytes_of, is_directory, is_over, node_at, size_of, with_file}
 use Rattle.machine_model.specs.HandleRequests.{Answer, after_open, grants, held_by, refuses, writes}
 use Rattle.machine_model.specs.Limits.{MAX_FILE_LEN, MAX_TOTAL_LEN}
@@ -138,7 +138,7 @@ open_grants : (tree : FileTree) (handle : List ℕ) (name : Name) → MayOpen tr
     → (after_open tree handle to_replace.0 name (node_at tree name)).0 ≡ reply.Handle handle
 open_grants tree handle name (inl (file, is)) = rw is refl
 open_grants tree handle name (inr (none, parent, short)) =
-    rw none (by_tests (not (is_directory (node_at tree (parent_of name)))) (is_long name) (ap not parent) short)
+    rw none (by_tests (not (is_directory (node_at tree (parent_of name)))) (is_long_name name) (ap not parent) short)
   where
     x : Answer
     x = grants (with_file tree name) handle (held_by to_replace.0 (length tree.files))

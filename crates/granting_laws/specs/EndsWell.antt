@@ -5,7 +5,7 @@ use Rattle.machine_model.specs.FileTree.{FileTree, all_bytes}
 use Rattle.machine_model.specs.Limits.{MAX_FILE_LEN, MAX_TOTAL_LEN}
 use Rattle.plan_model.proofs.Among.{Among}
 use Rattle.plan_model.specs.FilePlans.{open_request}
-use Rattle.plan_model.specs.Moves.{is_too_long}
+use Rattle.sftp_model.specs.Frames.{is_too_long}
 use Rattle.plan_model.specs.WholePlans.{to_replace}
 use Rattle.plan_model.specs.declared.call.Call.TheVariants as call
 use Rattle.plan_model.specs.declared.call.Lane.{Lane}

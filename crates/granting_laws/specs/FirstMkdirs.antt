@@ -1,9 +1,9 @@
 -- A lane that makes directories, one after another, before the other lanes begin.
 use Rattle.std.specs.Prelude.{◌≡◌, ℕ, zero, suc, List, [], ◌∷◌, ◌++◌, length, map, if◌then◌else◌}
-use Rattle.sftp_model.specs.Frames.{no_attributes}
+use Rattle.sftp_model.specs.Frames.{no_attributes, is_too_long}
 use Rattle.sftp_model.specs.declared.request.Request.{Request}
 use Rattle.sftp_model.specs.declared.request.Request.TheVariants as request
-use Rattle.plan_model.specs.Moves.{Own, is_too_long}
+use Rattle.plan_model.specs.Moves.{Own}
 use Rattle.plan_model.specs.declared.call.Call.TheVariants as call
 use Rattle.session_model.specs.declared.entry.Entry.{Entry}
 use Rattle.session_model.specs.declared.turn.Turn.{Turn}

@@ -1,11 +1,11 @@
 -- Names whose directories are made.
 use Rattle.std.specs.Prelude.{◌≡◌, ◌≢◌, ◌<◌, ◌≤◌, ℕ, suc, false, List, [], ◌∷◌, length, take, Option, Some, None}
-use Rattle.machine_model.specs.Components.{Name, components, is_long}
+use Rattle.machine_model.specs.Components.{Name, components, is_long_name}
 use Rattle.machine_model.specs.FileTree.{FileTree, node_at}
 use Rattle.machine_model.specs.declared.node.Node.{Node}
 use Rattle.machine_model.specs.declared.node.Node.TheVariants as node
 use Rattle.plan_model.proofs.Among.{Among}
-use Rattle.plan_model.specs.Moves.{is_too_long}
+use Rattle.sftp_model.specs.Frames.{is_too_long}
 use Rattle.plan_model.specs.declared.call.Call.TheVariants as call
 use Rattle.plan_model.specs.declared.call.Lane.{Lane}
 use Rattle.run_laws.specs.ReadsBack.{call_in}
@@ -37,7 +37,7 @@ NoneFiles tree name = (i : ℕ) → i < length name → NoFile (node_at tree (fi
 
 -- no component of it is long
 abbrev pub NoneLong : Name → Type 0
-NoneLong name = (i : ℕ) → i < length name → is_long (first_parts name (suc i)) ≡ false
+NoneLong name = (i : ℕ) → i < length name → is_long_name (first_parts name (suc i)) ≡ false
 
 -- the MKDIR of a path may be asked, and it makes the directory
 pub record MakesDirectory (path : List ℕ) (name : Name) (i : ℕ) : Type 0 where

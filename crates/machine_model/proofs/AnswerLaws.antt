@@ -41,7 +41,7 @@ use Rattle.sftp_model.specs.Answers.{MayAnswer, IsAfterHello}
 use Rattle.sftp_model.specs.Frames.{reply_body}
 use Rattle.sftp_model.specs.Readings.{has_bit}
 use Rattle.sftp_model.specs.Numbers.{MAX_BODY_LEN, SSH_FX_EOF, SSH_FX_FAILURE, SSH_FX_NO_SUCH_FILE, SSH_FX_OK, SSH_FX_OP_UNSUPPORTED, SSH_FX_PERMISSION_DENIED}
-use Rattle.machine_model.specs.Components.{Name, components, is_long, is_within, parent_of, same_name}
+use Rattle.machine_model.specs.Components.{Name, components, is_long_name, is_within, parent_of, same_name}
 use Rattle.machine_model.specs.FileTree.{
   FileTree,
   bytes_of,
@@ -127,8 +127,8 @@ either tree r false x y h k = k refl
 new : (tree : FileTree) (r : Request) (name : Name) (x : Answer) → IsAfterHello r → IsAnswer tree r x → IsAnswer tree r (where_new tree name x)
 new tree r name x h is =
     either tree r (not (is_directory (node_at tree (parent_of name)))) (refuses tree SSH_FX_NO_SUCH_FILE)
-    (if is_long name then refuses tree SSH_FX_FAILURE else x) (λ t. refusal tree r 2 h refl)
-    (λ t. either tree r (is_long name) (refuses tree SSH_FX_FAILURE) x (λ u. refusal tree r 4 h refl) (λ u. is))
+    (if is_long_name name then refuses tree SSH_FX_FAILURE else x) (λ t. refusal tree r 2 h refl)
+    (λ t. either tree r (is_long_name name) (refuses tree SSH_FX_FAILURE) x (λ u. refusal tree r 4 h refl) (λ u. is))
 
 open_answers : (tree : FileTree) (r : Request) (handle : List ℕ) (flags : ℕ) (name : Name) (n : Option Node)
     → IsAfterHello r → MayAnswer r (reply.Handle handle) → IsAnswer tree r (after_open tree handle flags name n)

@@ -46,14 +46,14 @@ use Rattle.sftp_model.specs.Numbers.{MAX_BODY_LEN, SSH_FX_EOF, SSH_FX_FAILURE, S
 use Rattle.machine_model.proofs.NameLaws.{differ_by}
 use Rattle.machine_model.proofs.PutLaws.{length_put, length_resized}
 use Rattle.machine_model.specs.Changes.{
-  Asks,
+  AsksToOpen,
   ClosedDirectory,
   ClosedFile,
-  Closes,
+  ClosesHandle,
   Created,
   Denotes,
   Granted,
-  Leaves,
+  LeavesChanged,
   Listed,
   Lists,
   MadeDirectory,
@@ -71,7 +71,7 @@ use Rattle.machine_model.specs.Changes.{
   Unchanged,
   makes_or_empties,
 }
-use Rattle.machine_model.specs.Components.{Name, components, is_long, is_within, parent_of, same_name}
+use Rattle.machine_model.specs.Components.{Name, components, is_long_name, is_within, parent_of, same_name}
 use Rattle.machine_model.specs.FileTree.{
   FileTree,
   all_bytes,
@@ -139,7 +139,7 @@ use Rattle.machine_model.specs.declared.node.Node.{Node}
 use Rattle.machine_model.specs.declared.opened.Held.{Held}
 use Rattle.machine_model.specs.declared.opened.Opened.{Opened}
 
-same : (tree : FileTree) (r : Request) (handle : List ℕ) {a : Reply} → is_handle a ≡ false → Leaves tree r handle (a, tree)
+same : (tree : FileTree) (r : Request) (handle : List ℕ) {a : Reply} → is_handle a ≡ false → LeavesChanged tree r handle (a, tree)
 same tree r handle e = record {
   change = Unchanged;
   may = tt;
@@ -150,27 +150,27 @@ same tree r handle e = record {
       λ t. absurd (let both : false ≡ true = sym e ∙ t in cc);
 }
 
-limits_leave : (tree : FileTree) (handle : List ℕ) (limits : Option Limits) → Leaves tree request.LimitsQuery handle (limits_reply limits, tree)
+limits_leave : (tree : FileTree) (handle : List ℕ) (limits : Option Limits) → LeavesChanged tree request.LimitsQuery handle (limits_reply limits, tree)
 limits_leave tree handle None = same tree _ handle refl
 limits_leave tree handle (Some limits) = same tree _ handle refl
 
-either : (tree : FileTree) (r : Request) (handle : List ℕ) (b : Bool) (x y : Answer) → Leaves tree r handle x
-    → Leaves tree r handle y → Leaves tree r handle (if b then x else y)
+either : (tree : FileTree) (r : Request) (handle : List ℕ) (b : Bool) (x y : Answer) → LeavesChanged tree r handle x
+    → LeavesChanged tree r handle y → LeavesChanged tree r handle (if b then x else y)
 either tree r handle true x y h k = h
 either tree r handle false x y h k = k
 
 either_by : (tree : FileTree) (r : Request) (handle : List ℕ) (b : Bool) (x y : Answer)
-    → (b ≡ true → Leaves tree r handle x) → (b ≡ false → Leaves tree r handle y)
-    → Leaves tree r handle (if b then x else y)
+    → (b ≡ true → LeavesChanged tree r handle x) → (b ≡ false → LeavesChanged tree r handle y)
+    → LeavesChanged tree r handle (if b then x else y)
 either_by tree r handle true x y h k = h refl
 either_by tree r handle false x y h k = k refl
 
 new : (tree : FileTree) (r : Request) (handle : List ℕ) (name : Name) (x : Answer) → node_at tree name ≡ None
-    → (MayStand tree name → Leaves tree r handle x) → Leaves tree r handle (where_new tree name x)
+    → (MayStand tree name → LeavesChanged tree r handle x) → LeavesChanged tree r handle (where_new tree name x)
 new tree r handle name x none h =
     either_by tree r handle (not (is_directory (node_at tree (parent_of name)))) (refuses tree SSH_FX_NO_SUCH_FILE)
-    (if is_long name then refuses tree SSH_FX_FAILURE else x) (λ t. same tree r handle refl)
-    (λ t. either_by tree r handle (is_long name) (refuses tree SSH_FX_FAILURE) x (λ v. same tree r handle refl)
+    (if is_long_name name then refuses tree SSH_FX_FAILURE else x) (λ t. same tree r handle refl)
+    (λ t. either_by tree r handle (is_long_name name) (refuses tree SSH_FX_FAILURE) x (λ v. same tree r handle refl)
     (λ v. h (none, not-false (is_directory (node_at tree (parent_of name))) t, v)))
 
 -- a size that isn't over a limit
@@ -179,8 +179,8 @@ within_limit tree file size e = ltb-false MAX_FILE_LEN size (or_parts (nat_lt MA
     (nat_lt MAX_TOTAL_LEN (all_bytes tree - size_of tree file + size)) e).0
 
 open_leaves : (tree : FileTree) (r : Request) (handle : List ℕ) (flags : ℕ) (name : Name) (n : Option Node)
-    → Asks r name → ((file : ℕ) → OpensAsked r (held_by flags file)) → (makes_or_empties flags ≡ true → Denotes r name)
-    → node_at tree name ≡ n → Leaves tree r handle (after_open tree handle flags name n)
+    → AsksToOpen r name → ((file : ℕ) → OpensAsked r (held_by flags file)) → (makes_or_empties flags ≡ true → Denotes r name)
+    → node_at tree name ≡ n → LeavesChanged tree r handle (after_open tree handle flags name n)
 open_leaves tree r handle flags name (Some node.Directory) a h d e = same tree r handle refl
 open_leaves tree r handle flags name (Some (node.File file)) a h d e =
     either tree r handle (creates flags && is_exclusive flags) (refuses tree SSH_FX_FAILURE)
@@ -214,7 +214,7 @@ open_leaves tree r handle flags name None a h d e =
       named = λ t. refl;
     }))
 
-close_leaves : (tree : FileTree) (r : Request) (handle h : List ℕ) (o : Option Opened) → Closes r h → Leaves tree r handle (after_close tree h o)
+close_leaves : (tree : FileTree) (r : Request) (handle h : List ℕ) (o : Option Opened) → ClosesHandle r h → LeavesChanged tree r handle (after_close tree h o)
 close_leaves tree r handle h None c = same tree r handle refl
 close_leaves tree r handle h (Some (opened.File held)) c = record
     { change = ClosedFile h held.file; may = c; checked = tt; is = refl; said = refl; named = λ t. absurd cc }
@@ -222,7 +222,7 @@ close_leaves tree r handle h (Some (opened.Directory entries)) c =
     record { change = ClosedDirectory h; may = c; checked = tt; is = refl; said = refl; named = λ t. absurd cc }
 
 read_leaves : (tree : FileTree) (r : Request) (handle : List ℕ) (cap offset len : ℕ) (held : Option Held)
-    → Leaves tree r handle (after_read tree cap offset len held)
+    → LeavesChanged tree r handle (after_read tree cap offset len held)
 read_leaves tree r handle cap offset len None = same tree r handle refl
 read_leaves tree r handle cap offset len (Some held) =
     let bytes : Answer = (reply.Content (take (capped cap len) (drop offset (bytes_of tree held.file))), tree) in
@@ -233,7 +233,7 @@ read_leaves tree r handle cap offset len (Some held) =
     (either tree r handle (nat_le (size_of tree held.file) offset) (refuses tree SSH_FX_EOF) bytes (same tree r handle refl) (same tree r handle refl)))
 
 writes_leave : (tree : FileTree) (r : Request) (handle : List ℕ) (file offset : ℕ) (piece : List ℕ)
-    → Reaches tree r file → Leaves tree r handle (writes tree file offset piece)
+    → Reaches tree r file → LeavesChanged tree r handle (writes tree file offset piece)
 writes_leave tree r handle file offset piece h =
     either_by tree r handle (is_over tree file (max (size_of tree file) (offset + length piece)))
     (refuses tree SSH_FX_FAILURE) (done (with_bytes tree file (put (bytes_of tree file) offset piece)))
@@ -248,7 +248,7 @@ writes_leave tree r handle file offset piece h =
       named = λ t. absurd cc;
     })
 
-resizes_leave : (tree : FileTree) (r : Request) (handle : List ℕ) (file size : ℕ) → Reaches tree r file → Leaves tree r handle (resizes tree file size)
+resizes_leave : (tree : FileTree) (r : Request) (handle : List ℕ) (file size : ℕ) → Reaches tree r file → LeavesChanged tree r handle (resizes tree file size)
 resizes_leave tree r handle file size h =
     either_by tree r handle (is_over tree file size) (refuses tree SSH_FX_FAILURE)
     (done (with_bytes tree file (resized size (bytes_of tree file)))) (λ t. same tree r handle refl)
@@ -262,36 +262,36 @@ resizes_leave tree r handle file size h =
     })
 
 write_leaves : (tree : FileTree) (r : Request) (handle : List ℕ) (offset : ℕ) (piece : List ℕ) (held : Option Held)
-    → ((h : Held) → held ≡ Some h → Reaches tree r h.file) → Leaves tree r handle (after_write tree offset piece held)
+    → ((h : Held) → held ≡ Some h → Reaches tree r h.file) → LeavesChanged tree r handle (after_write tree offset piece held)
 write_leaves tree r handle offset piece None h = same tree r handle refl
 write_leaves tree r handle offset piece (Some held) h =
     either tree r handle (not held.writable) (refuses tree SSH_FX_PERMISSION_DENIED)
     (writes tree held.file (offset_of tree held offset) piece) (same tree r handle refl)
     (writes_leave tree r handle held.file (offset_of tree held offset) piece (h held refl))
 
-fstat_leaves : (tree : FileTree) (r : Request) (handle : List ℕ) (o : Option Opened) → Leaves tree r handle (after_fstat tree o)
+fstat_leaves : (tree : FileTree) (r : Request) (handle : List ℕ) (o : Option Opened) → LeavesChanged tree r handle (after_fstat tree o)
 fstat_leaves tree r handle None = same tree r handle refl
 fstat_leaves tree r handle (Some (opened.File held)) = same tree r handle refl
 fstat_leaves tree r handle (Some (opened.Directory entries)) = same tree r handle refl
 
 sets_held_leaves : (tree : FileTree) (r : Request) (handle : List ℕ) (held : Held) (size : Option ℕ)
-    → Reaches tree r held.file → Leaves tree r handle (sets_held tree held size)
+    → Reaches tree r held.file → LeavesChanged tree r handle (sets_held tree held size)
 sets_held_leaves tree r handle held None h = same tree r handle refl
 sets_held_leaves tree r handle held (Some size) h =
     either tree r handle (not held.writable) (refuses tree SSH_FX_PERMISSION_DENIED) (resizes tree held.file size)
     (same tree r handle refl) (resizes_leave tree r handle held.file size h)
 
 fsetstat_leaves : (tree : FileTree) (r : Request) (handle : List ℕ) (attrs : FileAttrs) (held : Option Held)
-    → ((h : Held) → held ≡ Some h → Reaches tree r h.file) → Leaves tree r handle (after_fsetstat tree attrs held)
+    → ((h : Held) → held ≡ Some h → Reaches tree r h.file) → LeavesChanged tree r handle (after_fsetstat tree attrs held)
 fsetstat_leaves tree r handle attrs None h = same tree r handle refl
 fsetstat_leaves tree r handle attrs (Some held) h = sets_held_leaves tree r handle held attrs.size (h held refl)
 
-fsync_leaves : (tree : FileTree) (r : Request) (handle : List ℕ) (held : Option Held) → Leaves tree r handle (after_fsync tree held)
+fsync_leaves : (tree : FileTree) (r : Request) (handle : List ℕ) (held : Option Held) → LeavesChanged tree r handle (after_fsync tree held)
 fsync_leaves tree r handle None = same tree r handle refl
 fsync_leaves tree r handle (Some held) = same tree r handle refl
 
 copy_leaves : (tree : FileTree) (r : Request) (handle : List ℕ) (from_offset len to_offset : ℕ) (from to : Option Held)
-    → ((h : Held) → to ≡ Some h → Reaches tree r h.file) → Leaves tree r handle
+    → ((h : Held) → to ≡ Some h → Reaches tree r h.file) → LeavesChanged tree r handle
     (after_copy tree from_offset len to_offset from to)
 copy_leaves tree r handle from_offset len to_offset None to h = same tree r handle refl
 copy_leaves tree r handle from_offset len to_offset (Some from) None h = same tree r handle refl
@@ -301,36 +301,36 @@ copy_leaves tree r handle from_offset len to_offset (Some from) (Some to) h =
     (writes tree to.file (offset_of tree to to_offset) piece) (same tree r handle refl)
     (writes_leave tree r handle to.file (offset_of tree to to_offset) piece (h to refl))
 
-stat_leaves : (tree : FileTree) (r : Request) (handle : List ℕ) (n : Option Node) → Leaves tree r handle (after_stat tree n)
+stat_leaves : (tree : FileTree) (r : Request) (handle : List ℕ) (n : Option Node) → LeavesChanged tree r handle (after_stat tree n)
 stat_leaves tree r handle None = same tree r handle refl
 stat_leaves tree r handle (Some n) = same tree r handle refl
 
 setstat_leaves : (tree : FileTree) (r : Request) (handle : List ℕ) (name : Name) (size : Option ℕ) (n : Node)
-    → Denotes r name → node_at tree name ≡ Some n → Leaves tree r handle (sets_node tree size n)
+    → Denotes r name → node_at tree name ≡ Some n → LeavesChanged tree r handle (sets_node tree size n)
 setstat_leaves tree r handle name None n d e = same tree r handle refl
 setstat_leaves tree r handle name (Some size) node.Directory d e = same tree r handle refl
 setstat_leaves tree r handle name (Some size) (node.File file) d e = resizes_leave tree r handle file size (inr (name, (d, e)))
 
 any_setstat_leaves : (tree : FileTree) (r : Request) (handle : List ℕ) (name : Name) (attrs : FileAttrs)
-    (n : Option Node) → Denotes r name → node_at tree name ≡ n → Leaves tree r handle (after_setstat tree attrs n)
+    (n : Option Node) → Denotes r name → node_at tree name ≡ n → LeavesChanged tree r handle (after_setstat tree attrs n)
 any_setstat_leaves tree r handle name attrs None d e = same tree r handle refl
 any_setstat_leaves tree r handle name attrs (Some n) d e = setstat_leaves tree r handle name attrs.size n d e
 
 remove_leaves : (tree : FileTree) (r : Request) (handle : List ℕ) (name : Name) (n : Option Node) → Denotes r name
-    → node_at tree name ≡ n → Leaves tree r handle (after_remove tree name n)
+    → node_at tree name ≡ n → LeavesChanged tree r handle (after_remove tree name n)
 remove_leaves tree r handle name None d e = same tree r handle refl
 remove_leaves tree r handle name (Some node.Directory) d e = same tree r handle refl
 remove_leaves tree r handle name (Some (node.File file)) d e =
     record { change = RemovedFile name file; may = d; checked = e; is = refl; said = refl; named = λ t. absurd cc }
 
 mkdir_leaves : (tree : FileTree) (r : Request) (handle : List ℕ) (name : Name) (n : Option Node) → Denotes r name
-    → node_at tree name ≡ n → Leaves tree r handle (after_mkdir tree name n)
+    → node_at tree name ≡ n → LeavesChanged tree r handle (after_mkdir tree name n)
 mkdir_leaves tree r handle name None d e = new tree r handle name (done (with_name tree name node.Directory)) e
     (λ u. record { change = MadeDirectory name; may = d; checked = u; is = refl; said = refl; named = λ t. absurd cc })
 mkdir_leaves tree r handle name (Some n) d e = same tree r handle refl
 
 rmdir_leaves : (tree : FileTree) (r : Request) (handle : List ℕ) (name : Name) (n : Option Node) → Denotes r name
-    → node_at tree name ≡ n → Leaves tree r handle (after_rmdir tree name n)
+    → node_at tree name ≡ n → LeavesChanged tree r handle (after_rmdir tree name n)
 rmdir_leaves tree r handle name None d e = same tree r handle refl
 rmdir_leaves tree r handle name (Some (node.File file)) d e = same tree r handle refl
 rmdir_leaves tree r handle name (Some node.Directory) d e =
@@ -340,7 +340,7 @@ rmdir_leaves tree r handle name (Some node.Directory) d e =
     let parts = or_parts (same_name name []) (has_child tree name) t in
     record { change = RemovedDirectory name; may = d; checked = (e, differ_by name [] parts.0, parts.1); is = refl; said = refl; named = λ t. absurd cc })
 
-opendir_leaves : (tree : FileTree) (r : Request) (handle : List ℕ) (name : Name) (n : Option Node) → Leaves tree r handle (after_opendir tree handle name n)
+opendir_leaves : (tree : FileTree) (r : Request) (handle : List ℕ) (name : Name) (n : Option Node) → LeavesChanged tree r handle (after_opendir tree handle name n)
 opendir_leaves tree r handle name None = same tree r handle refl
 opendir_leaves tree r handle name (Some (node.File file)) = same tree r handle refl
 opendir_leaves tree r handle name (Some node.Directory) = record {
@@ -354,7 +354,7 @@ opendir_leaves tree r handle name (Some node.Directory) = record {
 }
 
 readdir_leaves : (tree : FileTree) (r : Request) (handle h : List ℕ) (cap : ℕ) (entries : Option (List NameEntry))
-    → Lists r h → entries_of (opened_at tree h) ≡ entries → Leaves tree r handle (after_readdir tree cap h entries)
+    → Lists r h → entries_of (opened_at tree h) ≡ entries → LeavesChanged tree r handle (after_readdir tree cap h entries)
 readdir_leaves tree r handle h cap None l e = same tree r handle refl
 readdir_leaves tree r handle h cap (Some []) l e = same tree r handle refl
 readdir_leaves tree r handle h cap (Some (first ∷ entries)) l e =
@@ -367,18 +367,18 @@ readdir_leaves tree r handle h cap (Some (first ∷ entries)) l e =
       named = λ t. absurd cc;
     }
 
-realpath_leaves : (tree : FileTree) (r : Request) (handle : List ℕ) (name : Name) → Leaves tree r handle (after_realpath tree name)
+realpath_leaves : (tree : FileTree) (r : Request) (handle : List ℕ) (name : Name) → LeavesChanged tree r handle (after_realpath tree name)
 realpath_leaves tree r handle name =
     either tree r handle (nat_lt MAX_BODY_LEN (length (reply_body (path_reply name) 0))) (refuses tree SSH_FX_FAILURE)
     (let x : Answer = (path_reply name, tree) in x) (same tree r handle refl) (same tree r handle refl)
 
 moved_leaves : (tree : FileTree) (r : Request) (handle : List ℕ) (old to : Name) → Moves r old to → MayMove tree old to
-    → MayStand tree to → Leaves tree r handle (done (with_renamed tree old to))
+    → MayStand tree to → LeavesChanged tree r handle (done (with_renamed tree old to))
 moved_leaves tree r handle old to d m u = record { change = Renamed old to; may = d; checked = (m, u); is = refl; said = refl; named = λ t. absurd cc }
 
 rename_leaves : (tree : FileTree) (r : Request) (handle : List ℕ) (old to : Name) (n there : Option Node)
     → Moves r old to → node_at tree old ≡ n → node_at tree to ≡ there
-    → Leaves tree r handle (after_rename tree old to n there)
+    → LeavesChanged tree r handle (after_rename tree old to n there)
 rename_leaves tree r handle old to None there d e f = same tree r handle refl
 rename_leaves tree r handle old to (Some n) (Some there) d e f = same tree r handle refl
 rename_leaves tree r handle old to (Some n) None d e f =
@@ -389,7 +389,7 @@ rename_leaves tree r handle old to (Some n) None d e f =
 replaces_leaves : (tree : FileTree) (r : Request) (handle : List ℕ) (old to : Name) (n : Node) (there : Option Node)
     → Moves r old to → node_at tree old ≡ Some n → node_at tree to ≡ there → (is_within old to ≡ false)
     × (is_within to old ≡ false)
-    → Leaves tree r handle (replaces tree old to n there)
+    → LeavesChanged tree r handle (replaces tree old to n there)
 replaces_leaves tree r handle old to n None d e f apart = new tree r handle to (done (with_renamed tree old to)) f
     (λ u. moved_leaves tree r handle old to d (n, e, apart.0) u)
 replaces_leaves tree r handle old to node.Directory (Some there) d e f apart = same tree r handle refl
@@ -399,7 +399,7 @@ replaces_leaves tree r handle old to (node.File file) (Some (node.File gone)) d 
 
 posix_leaves : (tree : FileTree) (r : Request) (handle : List ℕ) (old to : Name) (n there : Option Node)
     → Moves r old to → node_at tree old ≡ n → node_at tree to ≡ there
-    → Leaves tree r handle (after_posix_rename tree old to n there)
+    → LeavesChanged tree r handle (after_posix_rename tree old to n there)
 posix_leaves tree r handle old to None there d e f = same tree r handle refl
 posix_leaves tree r handle old to (Some n) there d e f =
     let rest : Answer = if is_within old to || is_within to old then refuses tree SSH_FX_FAILURE else replaces tree old to n there in
@@ -408,10 +408,10 @@ posix_leaves tree r handle old to (Some n) there d e f =
     (λ t. replaces_leaves tree r handle old to n there d e f (or_parts (is_within old to) (is_within to old) t)))
 
 offered : (tree : FileTree) (config : ServerConfig) (r : Request) (handle : List ℕ) (bit : ℕ) (x : Answer)
-    → Leaves tree r handle x → Leaves tree r handle (where_offered tree config bit x)
+    → LeavesChanged tree r handle x → LeavesChanged tree r handle (where_offered tree config bit x)
 offered tree config r handle bit x h = either tree r handle (has_bit config.extensions.0 bit) x (refuses tree SSH_FX_OP_UNSUPPORTED) h (same tree r handle refl)
 
-answered_leaves : (tree : FileTree) (config : ServerConfig) (r : Request) (cap : ℕ) (handle : List ℕ) → Leaves tree r handle (answered tree config r cap handle)
+answered_leaves : (tree : FileTree) (config : ServerConfig) (r : Request) (cap : ℕ) (handle : List ℕ) → LeavesChanged tree r handle (answered tree config r cap handle)
 answered_leaves tree config (request.OpenFile path flags attrs) cap handle =
     open_leaves tree _ handle flags.0 (components path) (node_at tree (components path)) refl (λ file. refl) (λ t. (t, refl)) refl
 answered_leaves tree config (request.Close h) cap handle = close_leaves tree _ handle h (opened_at tree h) refl
@@ -449,7 +449,7 @@ answered_leaves tree config request.LimitsQuery cap handle = limits_leave tree h
 answered_leaves tree config r cap handle = same tree r handle refl
 
 pub apply_leaves : (tree : FileTree) (config : ServerConfig) (r : Request) (choice : Choice) (handle : List ℕ)
-    → Leaves tree r handle (apply tree config r choice handle)
+    → LeavesChanged tree r handle (apply tree config r choice handle)
 apply_leaves tree config r choice handle =
     either tree r handle (choice.refuse == 0) (answered tree config r choice.cap handle) (refuses tree choice.refuse)
     (answered_leaves tree config r choice.cap handle) (same tree r handle refl)

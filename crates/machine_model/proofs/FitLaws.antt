@@ -65,7 +65,7 @@ use Rattle.machine_model.specs.Changes.{
   WasChecked,
   changed,
 }
-use Rattle.machine_model.specs.Components.{Name, is_child, is_long, is_within, last_of, moved_name, same_name}
+use Rattle.machine_model.specs.Components.{Name, is_child, is_long_name, is_within, last_of, moved_name, same_name}
 use Rattle.machine_model.specs.FileTree.{
   FileTree,
   after_loss,
@@ -151,7 +151,7 @@ moved_short old to k new was = by_test (is_within old k)
     by_test true = by_rest (drop (length old) k) refl
     by_test false = was
 
-not_long : (name : Name) → is_long name ≡ false → length (last_of name) ≤ MAX_COMPONENT_LEN
+not_long : (name : Name) → is_long_name name ≡ false → length (last_of name) ≤ MAX_COMPONENT_LEN
 not_long name e = ltb-false MAX_COMPONENT_LEN (length (last_of name)) e
 
 -- ---- sizes

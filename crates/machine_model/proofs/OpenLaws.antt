@@ -10,7 +10,7 @@ use Rattle.machine_model.proofs.ChangeLaws.{apply_leaves}
 use Rattle.machine_model.proofs.LossLaws.{loss_handles, name_has}
 use Rattle.machine_model.proofs.PairLaws.{has_push, has_replaced, has_without}
 use Rattle.machine_model.specs.Changes.{
-  Asks,
+  AsksToOpen,
   Change,
   ClosedDirectory,
   ClosedFile,
@@ -52,9 +52,9 @@ pushed tree handle o h file not held has same = elim (has_push tree.handles (han
 ]
 
 named_not : (tree : FileTree) (r : Request) (name : Name) (file : ℕ) (o : Opened) → IsWellFormed tree
-    → (Asks r name → ⊥) → node_at tree name ≡ Some (node.File file) → OpensNamed tree r o → NotFile file o
+    → (AsksToOpen r name → ⊥) → node_at tree name ≡ Some (node.File file) → OpensNamed tree r o → NotFile file o
 named_not tree r name file (opened.File held) sound avoids e opens = λ same.
-    avoids (subst (Asks r) (sound.alone opens.0 name file (subst (λ (k : ℕ). Has tree.names (opens.0, node.File k)) same
+    avoids (subst (AsksToOpen r) (sound.alone opens.0 name file (subst (λ (k : ℕ). Has tree.names (opens.0, node.File k)) same
     (name_has tree opens.0 held.file opens.1.1)) (name_has tree name file e)) opens.1.0)
 named_not tree r name file (opened.Directory entries) sound avoids e opens = tt
 
@@ -67,7 +67,7 @@ opened_value (opened.File held) = true
 opened_value (opened.Directory entries) = false
 
 opens_by : (tree : FileTree) (r : Request) (handle : List ℕ) (name : Name) (file : ℕ) (c : Change) (h : List ℕ)
-    → IsWellFormed tree → (Asks r name → ⊥) → node_at tree name ≡ Some (node.File file) → MayLead tree r c
+    → IsWellFormed tree → (AsksToOpen r name → ⊥) → node_at tree name ≡ Some (node.File file) → MayLead tree r c
     → Opens (changed tree handle c) h file → Opens tree h file
 opens_by tree r handle name file Unchanged h sound avoids e may o = o
 opens_by tree r handle name file (Rewritten other bytes) h sound avoids e may o = o
@@ -110,7 +110,7 @@ opens_by tree r handle name file (Replaced old to gone) h sound avoids e may o =
 
 -- a request that doesn't ask to open a name opens its file by no further handle
 pub none_opens : (tree : FileTree) (config : ServerConfig) (r : Request) (choice : Choice) (handle : List ℕ)
-    (name : Name) (file : ℕ) (h : List ℕ) → IsWellFormed tree → (Asks r name → ⊥) → node_at tree name
+    (name : Name) (file : ℕ) (h : List ℕ) → IsWellFormed tree → (AsksToOpen r name → ⊥) → node_at tree name
     ≡ Some (node.File file)
     → Opens (apply tree config r choice handle).1 h file → Opens tree h file
 none_opens tree config r choice handle name file h sound avoids e o =

@@ -44,7 +44,7 @@ use Rattle.sftp_model.specs.Readings.{has_bit}
 use Rattle.sftp_model.specs.Numbers.{MAX_BODY_LEN, MAX_HANDLE_LEN, MAX_TRANSFER_LEN, SSH_FX_EOF, SSH_FX_FAILURE, SSH_FX_OP_UNSUPPORTED}
 use Rattle.machine_model.proofs.AnswerLaws.{capped_below}
 use Rattle.machine_model.proofs.FitLaws.{held_entries, take_short, told}
-use Rattle.machine_model.specs.Components.{Name, components, is_long, is_within, parent_of, same_name}
+use Rattle.machine_model.specs.Components.{Name, components, is_long_name, is_within, parent_of, same_name}
 use Rattle.machine_model.specs.FileTree.{
   FileTree,
   bytes_of,
@@ -129,7 +129,7 @@ no_or tree b code y lt h = either b (refuses tree code) y (λ t. code_said tree 
 
 new : (tree : FileTree) (name : Name) (x : Answer) → Says x → Says (where_new tree name x)
 new tree name x h = no_or tree (not (is_directory (node_at tree (parent_of name)))) 2
-    (if is_long name then refuses tree SSH_FX_FAILURE else x) (lit< tt) (no_or tree (is_long name) 4 x (lit< tt) h)
+    (if is_long_name name then refuses tree SSH_FX_FAILURE else x) (lit< tt) (no_or tree (is_long_name name) 4 x (lit< tt) h)
 
 open_said : (tree : FileTree) (handle : List ℕ) (flags : ℕ) (name : Name) (n : Option Node)
     → length handle ≤ MAX_HANDLE_LEN → Says (after_open tree handle flags name n)

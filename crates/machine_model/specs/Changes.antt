@@ -7,7 +7,7 @@ use Rattle.sftp_model.specs.declared.request.Request.TheVariants as request
 use Rattle.machine_model.specs.declared.node.Node.TheVariants as node
 use Rattle.machine_model.specs.declared.opened.Opened.TheVariants as opened
 use Rattle.sftp_model.specs.Answers.{is_handle}
-use Rattle.machine_model.specs.Components.{Name, components, is_long, is_within, parent_of}
+use Rattle.machine_model.specs.Components.{Name, components, is_long_name, is_within, parent_of}
 use Rattle.machine_model.specs.FileTree.{
   FileTree,
   after_loss,
@@ -39,9 +39,9 @@ abbrev pub makes_or_empties : ℕ → Bool
 makes_or_empties flags = creates flags || truncates flags
 
 -- the request is one to open the name
-abbrev pub Asks : Request → Name → Type 0
-Asks (request.OpenFile path flags attrs) name = components path ≡ name
-Asks other name = ⊥
+abbrev pub AsksToOpen : Request → Name → Type 0
+AsksToOpen (request.OpenFile path flags attrs) name = components path ≡ name
+AsksToOpen other name = ⊥
 
 -- the request may make or take away what the name has, or empty it or cut it
 abbrev pub Denotes : Request → Name → Type 0
@@ -70,9 +70,9 @@ WritesTo tree (request.CopyData from from_offset len to to_offset) file = IsOpen
 WritesTo tree other file = ⊥
 
 -- the request closes the handle
-abbrev pub Closes : Request → List ℕ → Type 0
-Closes (request.Close handle) h = handle ≡ h
-Closes other h = ⊥
+abbrev pub ClosesHandle : Request → List ℕ → Type 0
+ClosesHandle (request.Close handle) h = handle ≡ h
+ClosesHandle other h = ⊥
 
 -- the request takes further entries of the handle
 abbrev pub Lists : Request → List ℕ → Type 0
@@ -133,7 +133,8 @@ OpensFile file (opened.Directory entries) = ⊥
 
 -- a file that is opened is one that the name has
 abbrev pub OpensNamed : FileTree → Request → Opened → Type 0
-OpensNamed tree r (opened.File held) = (name : Name) × (Asks r name × (node_at tree name ≡ Some (node.File held.file)))
+OpensNamed tree r (opened.File held) = (name : Name) × (AsksToOpen r name
+    × (node_at tree name ≡ Some (node.File held.file)))
 OpensNamed tree r (opened.Directory entries) = Unit {0}
 
 -- an OPEN has the file open as its flags say
@@ -159,8 +160,8 @@ MayLead tree r (Granted o) = OpensNamed tree r o × OpensAsked r o
 MayLead tree r (Truncated file o) = Reaches tree r file × OpensFile file o × OpensNamed tree r o × OpensAsked r o
 MayLead tree r (Created name o) = Denotes r name × (node_at tree name ≡ None) × OpensFile (length tree.files) o
     × OpensAsked r o
-MayLead tree r (ClosedDirectory h) = Closes r h
-MayLead tree r (ClosedFile h file) = Closes r h
+MayLead tree r (ClosedDirectory h) = ClosesHandle r h
+MayLead tree r (ClosedFile h file) = ClosesHandle r h
 MayLead tree r (Listed h entries) = (old : List NameEntry) × (entries_of (opened_at tree h) ≡ Some old) × Lists r h
 MayLead tree r (MadeDirectory name) = Denotes r name
 MayLead tree r (RemovedDirectory name) = Denotes r name
@@ -173,7 +174,7 @@ MayLead tree r (Replaced old to gone) = Moves r old to
 -- a new name isn't there, its parent is a directory, and its last component isn't long
 abbrev pub MayStand : FileTree → Name → Type 0
 MayStand tree name = (node_at tree name ≡ None) × (is_directory (node_at tree (parent_of name)) ≡ true)
-    × (is_long name ≡ false)
+    × (is_long_name name ≡ false)
 
 -- a directory that is taken away is there, isn't the root, and has nothing in it
 abbrev pub MayGo : FileTree → Name → Type 0
@@ -216,7 +217,7 @@ is_grant (Created name o) = true
 is_grant other = false
 
 -- An answer that leaves what one of the changes leaves, and is a HANDLE, with the granted handle, where that grants it.
-pub record Leaves (tree : FileTree) (r : Request) (handle : List ℕ) (x : Answer) : Type 0 where
+pub record LeavesChanged (tree : FileTree) (r : Request) (handle : List ℕ) (x : Answer) : Type 0 where
   pub change : Change
   pub may : MayLead tree r change
   pub checked : WasChecked tree change

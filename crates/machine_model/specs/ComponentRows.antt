@@ -4,7 +4,7 @@ use Rattle.machine_model.specs.Components.{
   Name,
   components,
   is_child,
-  is_long,
+  is_long_name,
   is_within,
   last_of,
   moved_name,
@@ -99,10 +99,10 @@ no_child = refl
 pub other_child : is_child (one (codes "b")) (two (codes "a") (codes "b")) ≡ false
 other_child = refl
 
-pub at_limit : is_long (two (replicate 300 97) (replicate 255 97)) ≡ false
+pub at_limit : is_long_name (two (replicate 300 97) (replicate 255 97)) ≡ false
 at_limit = refl
 
-pub past_limit : is_long (one (replicate 256 97)) ≡ true
+pub past_limit : is_long_name (one (replicate 256 97)) ≡ true
 past_limit = refl
 
 pub moves : moved_name (one (codes "a")) (two (codes "x") (codes "y")) (two (codes "a") (codes "b"))

@@ -84,8 +84,8 @@ abbrev pub is_child : Name → Name → Bool
 is_child directory name = if length name == length directory + 1 then is_within directory name else false
 
 -- the last component is too long
-abbrev pub is_long : Name → Bool
-is_long name = nat_lt MAX_COMPONENT_LEN (length (last_of name))
+abbrev pub is_long_name : Name → Bool
+is_long_name name = nat_lt MAX_COMPONENT_LEN (length (last_of name))
 
 -- what a name becomes where one is moved: those within the old one move with it
 abbrev pub moved_name : Name → Name → Name → Name

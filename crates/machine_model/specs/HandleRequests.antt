@@ -41,7 +41,7 @@ use Rattle.sftp_model.specs.Numbers.{
   SSH_FXF_EXCL,
 }
 use Rattle.sftp_model.specs.Answers.{status}
-use Rattle.machine_model.specs.Components.{Name, is_long, parent_of}
+use Rattle.machine_model.specs.Components.{Name, is_long_name, parent_of}
 use Rattle.machine_model.specs.FileTree.{
   FileTree,
   after_loss,
@@ -86,7 +86,7 @@ grants tree handle o = (reply.Handle handle, with_handle tree handle o)
 abbrev pub where_new : FileTree → Name → Answer → Answer
 where_new tree name answer =
     if not (is_directory (node_at tree (parent_of name))) then refuses tree SSH_FX_NO_SUCH_FILE
-    else if is_long name then refuses tree SSH_FX_FAILURE
+    else if is_long_name name then refuses tree SSH_FX_FAILURE
     else answer
 
 -- ---- OPEN

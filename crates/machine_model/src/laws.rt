@@ -7,7 +7,7 @@ ghost use Rattle.sftp_model.specs.Numbers.{MAX_BODY_LEN};
 ghost use Rattle.sftp_model.specs.declared.config.Choice.{Choice};
 ghost use Rattle.sftp_model.specs.declared.config.ServerConfig.{ServerConfig};
 ghost use Rattle.sftp_model.specs.declared.request.Request.{Request};
-ghost use Rattle.machine_model.specs.Changes.{Asks, IsWellFormed, Leaves, Opens};
+ghost use Rattle.machine_model.specs.Changes.{AsksToOpen, IsWellFormed, LeavesChanged, Opens};
 ghost use Rattle.machine_model.specs.Components.{Name, is_within};
 ghost use Rattle.machine_model.specs.FileTree.{FileTree, node_at, opened_at};
 ghost use Rattle.machine_model.specs.FirstTree.{FirstFile, first_tree, may_begin};
@@ -33,7 +33,7 @@ pub fn replies_may_answer()
 /// one that was to be granted, exactly where that change grants one.
 pub fn answers_leave_changes()
     ensures { (tree : FileTree) (config : ServerConfig) (r : Request) (choice : Choice)
-        (handle : List ℕ) → Leaves tree r handle (apply tree config r choice handle) }
+        (handle : List ℕ) → LeavesChanged tree r handle (apply tree config r choice handle) }
 {}
 
 /// Where each file has a number that one name has at most, this stays so.
@@ -108,7 +108,7 @@ pub fn handles_open_where_granted()
 pub fn files_open_by_opens()
     ensures { (tree : FileTree) (config : ServerConfig) (r : Request) (choice : Choice)
         (handle : List ℕ) (name : Name) (file : ℕ) (h : List ℕ) → IsWellFormed tree
-        → (Asks r name → ⊥) → node_at tree name ≡ Some (node.File file)
+        → (AsksToOpen r name → ⊥) → node_at tree name ≡ Some (node.File file)
         → Opens (apply tree config r choice handle).1 h file → Opens tree h file }
 {}
 

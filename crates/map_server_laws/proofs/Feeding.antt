@@ -14,15 +14,15 @@ use Rattle.sftp_machine.specs.WaitingFrames.{WaitingFrames, turned}
 use Rattle.sftp_map_server.specs.Serving.{
   Absorbs,
   AllShort,
-  Desk,
-  Gives,
+  ServerState,
+  HandsBytes,
   GivesSome,
   IsServed,
-  Said,
+  Replies,
   Server,
   all_left,
   all_said,
-  behind,
+  after_frames,
   both,
   nothing,
   step,
@@ -37,35 +37,35 @@ short_behind : (xs ys : List (List ℕ)) → AllShort (xs ++ ys) → AllShort ys
 short_behind [] ys s = s
 short_behind (x ∷ xs) ys s = short_behind xs ys s.2
 
-pub all_left-append : (d : Desk) (xs ys : List (List ℕ)) → all_left d (xs ++ ys) ≡ all_left (all_left d xs) ys
+pub all_left-append : (d : ServerState) (xs ys : List (List ℕ)) → all_left d (xs ++ ys) ≡ all_left (all_left d xs) ys
 all_left-append d [] ys = refl
 all_left-append d (x ∷ xs) ys = all_left-append (step d x).1 xs ys
 
-both_assoc : (a b c : Said) → both (both a b) c ≡ both a (both b c)
+both_assoc : (a b c : Replies) → both (both a b) c ≡ both a (both b c)
 both_assoc a b c i = record { at_once = append_assoc a.at_once b.at_once c.at_once i; later = append_assoc a.later b.later c.later i }
 
 pub with_nothing : (o : WaitingFrames) → with_said o nothing ≡ o
 with_nothing o i = record { ready = append-nil o.ready i; waiting = append-nil o.waiting i; picks = o.picks }
 
-pub with_both : (o : WaitingFrames) (a b : Said) → with_said (with_said o a) b ≡ with_said o (both a b)
+pub with_both : (o : WaitingFrames) (a b : Replies) → with_said (with_said o a) b ≡ with_said o (both a b)
 with_both o a b i = record { ready = append_assoc o.ready a.at_once b.at_once i; waiting = append_assoc o.waiting a.later b.later i; picks = o.picks }
 
-pub all_said-append : (d : Desk) (xs ys : List (List ℕ)) → all_said d (xs ++ ys) ≡ both (all_said d xs) (all_said (all_left d xs) ys)
+pub all_said-append : (d : ServerState) (xs ys : List (List ℕ)) → all_said d (xs ++ ys) ≡ both (all_said d xs) (all_said (all_left d xs) ys)
 all_said-append d [] ys = refl
-all_said-append d (x ∷ xs) ys = ap (λ (w : Said). both (step d x).0 w) (all_said-append (step d x).1 xs ys)
+all_said-append d (x ∷ xs) ys = ap (λ (w : Replies). both (step d x).0 w) (all_said-append (step d x).1 xs ys)
     ∙ sym (both_assoc (step d x).0 (all_said (step d x).1 xs) (all_said (all_left (step d x).1 xs) ys))
 
 -- the link is over at none of these bodies
-abbrev pub StaysOpen : Desk → List (List ℕ) → Type 0
+abbrev pub StaysOpen : ServerState → List (List ℕ) → Type 0
 StaysOpen d [] = d.over ≡ false
 StaysOpen d (body ∷ more) = (d.over ≡ false) × StaysOpen (step d body).1 more
 
-stays_at : (d : Desk) (xs ys : List (List ℕ)) → StaysOpen d (xs ++ ys) → (all_left d xs).over ≡ false
+stays_at : (d : ServerState) (xs ys : List (List ℕ)) → StaysOpen d (xs ++ ys) → (all_left d xs).over ≡ false
 stays_at d [] [] s = s
 stays_at d [] (y ∷ ys) s = s.0
 stays_at d (x ∷ xs) ys s = stays_at (step d x).1 xs ys s.1
 
-pub stays_more : (d : Desk) (xs : List (List ℕ)) (y : List ℕ) → StaysOpen d xs → (step (all_left d xs) y).1.over ≡ false → StaysOpen d (xs ++ y ∷ [])
+pub stays_more : (d : ServerState) (xs : List (List ℕ)) (y : List ℕ) → StaysOpen d xs → (step (all_left d xs) y).1.over ≡ false → StaysOpen d (xs ++ y ∷ [])
 stays_more d [] y s e = (s, e)
 stays_more d (x ∷ xs) y s e = (s.0, stays_more (step d x).1 xs y s.1 e)
 
@@ -78,16 +78,16 @@ record Fed (before : Server) (bodies : List (List ℕ)) (tail : List ℕ) (after
   split : bodies ≡ done ++ more
   left : after.input ++ tail ≡ flat_map string more
   part : 0 < missing after.input
-  desk : after.desk ≡ all_left before.desk done
-  output : after.output ≡ with_said before.output (all_said before.desk done)
+  state : after.state ≡ all_left before.state done
+  output : after.output ≡ with_said before.output (all_said before.state done)
 
 -- a server without input, and bodies at which it isn't over
 record Feeds (before : Server) (bodies : List (List ℕ)) : Type 0 where
   input : before.input ≡ []
   short : AllShort bodies
-  stays : StaysOpen before.desk bodies
+  stays : StaysOpen before.state bodies
 
-behind_good : (d : Desk) (rest : List ℕ) → d.over ≡ false → fault_of rest ≡ None → behind d rest ≡ (d, rest)
+behind_good : (d : ServerState) (rest : List ℕ) → d.over ≡ false → fault_of rest ≡ None → after_frames d rest ≡ (d, rest)
 behind_good d rest e f = rw (e, f) refl
 
 fed_more : (a b c : Server) (bodies : List (List ℕ)) (piece tail : List ℕ) → Feeds a bodies
@@ -99,24 +99,24 @@ fed_more a b c bodies piece tail f p q =
     let front = frames_front q.bodies p.more (q.rest ++ tail) q.short short whole in
     let split : bodies ≡ (p.done ++ q.bodies) ++ front.0 = p.split
     ∙ (ap (λ (w : List (List ℕ)). p.done ++ w) front.1 ∙ sym (append_assoc p.done q.bodies front.0)) in
-    let left : all_left b.desk q.bodies ≡ all_left a.desk (p.done ++ q.bodies) =
-    ap (λ (w : Desk). all_left w q.bodies) p.desk ∙ sym (all_left-append a.desk p.done q.bodies) in
-    let still : (all_left b.desk q.bodies).over ≡ false = ap (λ (w : Desk). w.over) left
-    ∙ stays_at a.desk (p.done ++ q.bodies) front.0 (subst (StaysOpen a.desk) split f.stays) in
+    let left : all_left b.state q.bodies ≡ all_left a.state (p.done ++ q.bodies) =
+    ap (λ (w : ServerState). all_left w q.bodies) p.state ∙ sym (all_left-append a.state p.done q.bodies) in
+    let still : (all_left b.state q.bodies).over ≡ false = ap (λ (w : ServerState). w.over) left
+    ∙ stays_at a.state (p.done ++ q.bodies) front.0 (subst (StaysOpen a.state) split f.stays) in
     let good : fault_of q.rest ≡ None = no_faults q.rest tail front.0 (short_behind q.bodies front.0 (subst AllShort front.1 short)) front.2 in
-    let is = behind_good (all_left b.desk q.bodies) q.rest still good in
-    let input : c.input ≡ q.rest = q.input ∙ ap (λ (w : Desk × List ℕ). w.1) is in
+    let is = behind_good (all_left b.state q.bodies) q.rest still good in
+    let input : c.input ≡ q.rest = q.input ∙ ap (λ (w : ServerState × List ℕ). w.1) is in
     record {
       done = p.done ++ q.bodies;
       more = front.0;
       split = split;
       left = ap (λ (w : List ℕ). w ++ tail) input ∙ front.2;
       part = q.part;
-      desk = q.desk ∙ (ap (λ (w : Desk × List ℕ). w.0) is ∙ left);
-      output = q.output ∙ (ap (λ (w : WaitingFrames). with_said w (all_said b.desk q.bodies)) p.output
-          ∙ (with_both a.output (all_said a.desk p.done) (all_said b.desk q.bodies)
-          ∙ ap (λ (w : Said). with_said a.output w) (ap (λ (w : Desk). both (all_said a.desk p.done)
-          (all_said w q.bodies)) p.desk ∙ sym (all_said-append a.desk p.done q.bodies))));
+      state = q.state ∙ (ap (λ (w : ServerState × List ℕ). w.0) is ∙ left);
+      output = q.output ∙ (ap (λ (w : WaitingFrames). with_said w (all_said b.state q.bodies)) p.output
+          ∙ (with_both a.output (all_said a.state p.done) (all_said b.state q.bodies)
+          ∙ ap (λ (w : Replies). with_said a.output w) (ap (λ (w : ServerState). both (all_said a.state p.done)
+          (all_said w q.bodies)) p.state ∙ sym (all_said-append a.state p.done q.bodies))));
     }
 
 part_nothing : (bytes : List ℕ) → bytes ≡ [] → 0 < missing bytes
@@ -131,7 +131,7 @@ fed_none a bodies front tail f none e =
       split = refl;
       left = ap (λ (w : List ℕ). w ++ tail) (f.input ∙ sym none) ∙ e;
       part = part_nothing a.input f.input;
-      desk = refl;
+      state = refl;
       output = sym (with_nothing a.output);
     }
 
@@ -149,35 +149,35 @@ sent_front first now log (Sent piece ∷ group) front tail bodies g e s =
 -- Frames came whole: all are answered.
 pub record FedAll (before : Server) (bodies : List (List ℕ)) (after : Server) : Type 0 where
   pub input : after.input ≡ []
-  pub desk : after.desk ≡ all_left before.desk bodies
-  pub output : after.output ≡ with_said before.output (all_said before.desk bodies)
+  pub state : after.state ≡ all_left before.state bodies
+  pub output : after.output ≡ with_said before.output (all_said before.state bodies)
 
 fed_all : (a b : Server) (bodies done more : List (List ℕ)) → AllShort bodies → bodies ≡ done ++ more → b.input ++ []
     ≡ flat_map string more → 0 < missing b.input
-    → b.desk ≡ all_left a.desk done → b.output ≡ with_said a.output (all_said a.desk done) → FedAll a bodies b
-fed_all a b bodies done [] short split left part desk output =
+    → b.state ≡ all_left a.state done → b.output ≡ with_said a.output (all_said a.state done) → FedAll a bodies b
+fed_all a b bodies done [] short split left part state output =
     let is : bodies ≡ done = split ∙ append-nil done in
     record {
       input = sym (append-nil b.input) ∙ left;
-      desk = desk ∙ ap (all_left a.desk) (sym is);
+      state = state ∙ ap (all_left a.state) (sym is);
       output = output
-          ∙ ap (λ (w : List (List ℕ)). with_said a.output (all_said a.desk w)) (sym is);
+          ∙ ap (λ (w : List (List ℕ)). with_said a.output (all_said a.state w)) (sym is);
     }
-fed_all a b bodies done (body ∷ more) short split left part desk output =
+fed_all a b bodies done (body ∷ more) short split left part state output =
     let s : AllShort (body ∷ more) = short_behind done (body ∷ more) (subst AllShort split short) in
     let none : missing b.input ≡ 0 = ap missing (sym (append-nil b.input) ∙ left) ∙ nothing_missing body (flat_map string more) s.1 in
     absurd (omega (arith, none, part))
 
 pub sent_all : (first now : Server) (log group : List Piece) (bytes : List ℕ) (bodies : List (List ℕ))
     → AllSent group bytes → bytes ≡ flat_map string bodies → IsServed first (group ++ log) now
-    → (mid : Server) × (IsServed first log mid × (mid.input ≡ [] → AllShort bodies → StaysOpen mid.desk bodies → FedAll mid bodies now))
+    → (mid : Server) × (IsServed first log mid × (mid.input ≡ [] → AllShort bodies → StaysOpen mid.state bodies → FedAll mid bodies now))
 sent_all first now log group bytes bodies sent is s =
     let h = sent_front first now log group bytes [] bodies sent (append-nil bytes ∙ is) s in (
       h.0,
       (
         h.1.0,
         λ input short stays. (let f = h.1.1 (record { input = input; short = short; stays = stays }) in
-            fed_all h.0 now bodies f.done f.more short f.split f.left f.part f.desk f.output),
+            fed_all h.0 now bodies f.done f.more short f.split f.left f.part f.state f.output),
       ),
     )
 
@@ -214,7 +214,7 @@ not_none [] y z e = absurd cc
 not_none (v ∷ w) y z e = absurd cc
 
 gives_on : (a b c : Server) (front piece : List ℕ) → BeginsWhole a.output → IsOne (front ++ piece) → Given a front b
-    → Gives b piece c → Given a (front ++ piece) c
+    → HandsBytes b piece c → Given a (front ++ piece) c
 gives_on a b c front [] whole one p q = subst (λ (w : List ℕ). Given a w c) (sym (append-nil front)) (subst (Given a front) (sym q.0) p)
 gives_on a b c front (x ∷ piece) whole one (inl none) q =
     subst (λ (w : List ℕ). Given a (w ++ x ∷ piece) c) (sym none.0) (inr (subst (λ (w : Server). GivesSome w (x ∷ piece) c) none.1 q))
@@ -235,7 +235,7 @@ gives_on a b c front (x ∷ piece) whole one (inr p) q = by_rest b.output.ready 
           waiting = q.waiting ∙ (ap (λ (w : WaitingFrames). w.waiting) same ∙ p.waiting);
           picks = q.picks ∙ (ap (λ (w : WaitingFrames). w.picks) same ∙ p.picks);
           input = q.input ∙ p.input;
-          desk = q.desk ∙ p.desk;
+          state = q.state ∙ p.state;
         })
 
 -- pieces that were got, joined, are at most one frame: they stood at the front of what was given next

@@ -44,29 +44,29 @@ use Rattle.session_model.specs.declared.event.Event.TheVariants.{Submit}
 use Rattle.session_model.specs.declared.entry.Entry.{Entry}
 use Rattle.session_model.specs.declared.entry.Entry.TheVariants as entry
 use Rattle.session_model.specs.Grants.{is_grant, is_granted}
-use Rattle.session_model.specs.Readings.{Asked, answer, asked, count_below, unanswered}
+use Rattle.session_model.specs.Readings.{AskedRequest, answer, asked, count_below, unanswered}
 use Rattle.session_model.specs.Served.{IsNumbered}
 use Rattle.session_model.proofs.CountLaws.{count_none}
 use Rattle.session_model.proofs.RequestLaws.{answer_beyond}
-use Rattle.sftp_map_server.specs.Serving.{Desk, is_query}
+use Rattle.sftp_map_server.specs.Serving.{ServerState, is_query}
 use Rattle.map_server_laws.proofs.Sound.{FitsBy, IsSound}
-use Rattle.map_server_laws.proofs.Replying.{next_desk, reply_to}
-use Rattle.map_server_laws.proofs.Owing.{desk_of, due, due_new, due_old, due_there, query_by, tells_of}
+use Rattle.map_server_laws.proofs.Replying.{next_state, reply_to}
+use Rattle.map_server_laws.proofs.Owing.{state_of, due, due_new, due_old, due_there, query_by, tells_of}
 use Rattle.map_server_laws.proofs.Showing.{AnswersBy}
 use Rattle.map_server_laws.proofs.Serving.{Ran, after_query, called, done_at, fewer, moves, ran_all}
 
 -- the reply came that is due
-abbrev Came : Option Reply → Option (Asked × Reply) → Type 0
+abbrev Came : Option Reply → Option (AskedRequest × Reply) → Type 0
 Came r None = ⊥
 Came r (Some w) = r ≡ Some w.1
 
-came : (o : Option Reply) (w : Option (Asked × Reply)) → o ≢ None → ((v : Asked × Reply) × (w ≡ Some v)) → AnswersBy o w → Came o w
+came : (o : Option Reply) (w : Option (AskedRequest × Reply)) → o ≢ None → ((v : AskedRequest × Reply) × (w ≡ Some v)) → AnswersBy o w → Came o w
 came None w some there by = absurd (some refl)
 came (Some r) None some there by = absurd by
 came (Some r) (Some w) some there by = ap Some by
 
 -- the handle of a HANDLE
-is_number : (at : Desk) (r : Request) (handle : List ℕ) → (done_at at r).0 ≡ reply.Handle handle → handle ≡ numbered_handle at.machine.grants
+is_number : (at : ServerState) (r : Request) (handle : List ℕ) → (done_at at r).0 ≡ reply.Handle handle → handle ≡ numbered_handle at.machine.grants
 is_number at r handle e =
     let l = apply_leaves at.machine.tree at.machine.config r (first_choice at.choices) (numbered_handle at.machine.grants) in
     let granted : is_handle (done_at at r).0 ≡ true = ap is_handle e in
@@ -74,20 +74,20 @@ is_number at r handle e =
     cc same
 
 -- the handles at the first places, and how many were granted there
-record Numbered (d : Desk) (full q : List Entry) : Type 0 where
-  count : (desk_of d q).machine.grants ≡ count_below (is_grant full) (asked q)
+record Numbered (d : ServerState) (full q : List Entry) : Type 0 where
+  count : (state_of d q).machine.grants ≡ count_below (is_grant full) (asked q)
   number : (p : ℕ) (handle : List ℕ) → p < asked q → answer full p ≡ Some (reply.Handle handle) → handle ≡ numbered_handle (count_below (is_grant full) p)
 
 no_handle : (limits : Option Limits) → is_handle (limits_reply limits) ≡ false
 no_handle None = refl
 no_handle (Some l) = refl
 
-said_query : (at : Desk) → reply_to at request.LimitsQuery ≡ limits_reply at.machine.config.limits
+said_query : (at : ServerState) → reply_to at request.LimitsQuery ≡ limits_reply at.machine.config.limits
 unfolding reply_to
 said_query at = refl
 
 -- one request more
-record More (d : Desk) (full q : List Entry) (at now : Desk) : Type 0 where
+record More (d : ServerState) (full q : List Entry) (at now : ServerState) : Type 0 where
   count : now.machine.grants ≡ (if is_grant full (asked q) then 1 else 0) + at.machine.grants
   number : (handle : List ℕ) → answer full (asked q) ≡ Some (reply.Handle handle) → handle ≡ numbered_handle at.machine.grants
 
@@ -98,23 +98,23 @@ counted_so : (b : Bool) (n : ℕ) → (if b then n + 1 else n) ≡ (if b then 1 
 counted_so true n = omega arith
 counted_so false n = omega arith
 
-one_more : (d : Desk) (full q : List Entry) (r : Request) → answer full (asked q) ≡ Some (reply_to (desk_of d q) r)
-    → (b : Bool) → is_query r ≡ b → (b ≡ true → r ≡ request.LimitsQuery) → (desk_of d q).machine.grants < MAX_HANDLES
-    → More d full q (desk_of d q) (next_desk (desk_of d q) r)
+one_more : (d : ServerState) (full q : List Entry) (r : Request) → answer full (asked q) ≡ Some (reply_to (state_of d q) r)
+    → (b : Bool) → is_query r ≡ b → (b ≡ true → r ≡ request.LimitsQuery) → (state_of d q).machine.grants < MAX_HANDLES
+    → More d full q (state_of d q) (next_state (state_of d q) r)
 one_more d full q r e true query is small =
-    let none : is_handle (reply_to (desk_of d q) r) ≡ false = ap (λ (w : Request). is_handle (reply_to (desk_of d q) w))
-    (is refl) ∙ (ap is_handle (said_query (desk_of d q)) ∙ no_handle (desk_of d q).machine.config.limits) in
-    let grant : is_grant full (asked q) ≡ false = grant_is full (asked q) (reply_to (desk_of d q) r) e ∙ none in
+    let none : is_handle (reply_to (state_of d q) r) ≡ false = ap (λ (w : Request). is_handle (reply_to (state_of d q) w))
+    (is refl) ∙ (ap is_handle (said_query (state_of d q)) ∙ no_handle (state_of d q).machine.config.limits) in
+    let grant : is_grant full (asked q) ≡ false = grant_is full (asked q) (reply_to (state_of d q) r) e ∙ none in
     record {
-      count = ap (λ (w : Desk). w.machine.grants) (after_query (desk_of d q) r (is refl))
-          ∙ counted_so false (desk_of d q).machine.grants ∙ ap (λ (b : Bool). (if b then 1 else 0) +
-          (desk_of d q).machine.grants) (sym grant);
-      number = λ handle h. absurd (let same : Some (reply_to (desk_of d q) r) ≡ Some (reply.Handle handle) = sym e ∙ h
-          in let said : reply_to (desk_of d q) r ≡ reply.Handle handle = cc same in let no_way : true ≡ false =
+      count = ap (λ (w : ServerState). w.machine.grants) (after_query (state_of d q) r (is refl))
+          ∙ counted_so false (state_of d q).machine.grants ∙ ap (λ (b : Bool). (if b then 1 else 0) +
+          (state_of d q).machine.grants) (sym grant);
+      number = λ handle h. absurd (let same : Some (reply_to (state_of d q) r) ≡ Some (reply.Handle handle) = sym e ∙ h
+          in let said : reply_to (state_of d q) r ≡ reply.Handle handle = cc same in let no_way : true ≡ false =
           sym (ap is_handle said) ∙ none in cc);
     }
 one_more d full q r e false query is small =
-    let at : Desk = desk_of d q in
+    let at : ServerState = state_of d q in
     let m = moves at r query small in
     let grant : is_grant full (asked q) ≡ is_handle (done_at at r).0 = grant_is full (asked q) (reply_to at r) e ∙ ap is_handle m.said in
     record {
@@ -128,7 +128,7 @@ asks_limits tells owner.Setup r f e = f.0
 asks_limits tells owner.Close r f e = absurd (let no_way : true ≡ false = sym e ∙ ap is_query f.1 in cc)
 asks_limits tells (owner.Call lane call) r f e = absurd (let no_way : true ≡ false = sym e ∙ query_by tells (owner.Call lane call) r f in cc)
 
-numbered_all : (d : Desk) (full q : List Entry) → d.machine.grants ≡ 0 → d.machine.tree.handles ≡ []
+numbered_all : (d : ServerState) (full q : List Entry) → d.machine.grants ≡ 0 → d.machine.tree.handles ≡ []
     → IsSound (tells_of d) q → ((p : ℕ) → p < asked q → Came (answer full p) (due d q p))
     → ((p : ℕ) → p < asked q → AnswersBy (answer full p) (due d q p))
     → called q < MAX_HANDLES → Numbered d full q
@@ -140,11 +140,11 @@ numbered_all d full (entry.Event (Submit by_owner id r) ∷ q) none closed s by 
     let n : Numbered d full q = numbered_all d full q none closed s.2
     (λ p lt. subst (Came (answer full p)) (due_old d q by_owner id p r lt) (by p (omega (arith, lt)))) old_answers
     less in
-    let ran : Ran d full _ (desk_of d q) (called q) = ran_all d full q none closed s.2 old_answers less in
-    let here : answer full (asked q) ≡ Some (reply_to (desk_of d q) r) =
+    let ran : Ran d full _ (state_of d q) (called q) = ran_all d full q none closed s.2 old_answers less in
+    let here : answer full (asked q) ≡ Some (reply_to (state_of d q) r) =
     subst (Came (answer full (asked q))) (due_new d q by_owner id r) (by (asked q) (omega arith)) in
-    let small : (desk_of d q).machine.grants < MAX_HANDLES = let f = ran.few in omega (arith, f, less) in
-    let m : More d full q (desk_of d q) (next_desk (desk_of d q) r) =
+    let small : (state_of d q).machine.grants < MAX_HANDLES = let f = ran.few in omega (arith, f, less) in
+    let m : More d full q (state_of d q) (next_state (state_of d q) r) =
     one_more d full q r here (is_query r) refl (asks_limits (tells_of d) by_owner r s.1) small in
     let next : asked q + 1 ≡ suc (asked q) = omega arith in
     record {
@@ -169,7 +169,7 @@ not_none None e = absurd cc
 not_none (Some r) e = λ is. absurd cc
 
 -- the handles of a journal whose requests are all answered
-pub numbered_by : (d : Desk) (past : List Entry) → d.machine.grants ≡ 0 → d.machine.tree.handles ≡ []
+pub numbered_by : (d : ServerState) (past : List Entry) → d.machine.grants ≡ 0 → d.machine.tree.handles ≡ []
     → IsSound (tells_of d) past → ((p : ℕ) → AnswersBy (answer past p) (due d past p)) → called past < MAX_HANDLES
     → unanswered past ≡ 0 → IsNumbered past
 numbered_by d past none closed s by few over place handle e =

@@ -45,12 +45,12 @@ use Rattle.session_model.specs.declared.entry.Entry.{Entry}
 use Rattle.session_model.specs.declared.entry.Entry.TheVariants as entry
 use Rattle.session_model.specs.Calls.{Setting}
 use Rattle.session_model.specs.Journals.{IsJournal, MayReply}
-use Rattle.session_model.specs.Readings.{Asked, answer, asked_at, awaited, bearer, sent}
+use Rattle.session_model.specs.Readings.{AskedRequest, answer, asked_at, awaited, bearer, sent}
 use Rattle.session_model.specs.Served.{bears_query, is_query, picked, taken, those_below}
 use Rattle.session_model.proofs.CountLaws.{count_some}
 use Rattle.session_model.proofs.JournalLaws.{unanswered_borne}
 use Rattle.session_model.proofs.RequestLaws.{answer_new, answer_other, sent_asked}
-use Rattle.sftp_map_server.specs.Serving.{Desk, Server}
+use Rattle.sftp_map_server.specs.Serving.{ServerState, Server}
 use Rattle.session_driver.specs.ServingLinks.{IsAllowed, Read}
 use Rattle.map_server_laws.proofs.Feeding.{BeginsWhole, still_turned}
 use Rattle.map_server_laws.proofs.Places.{Found, IsBut, first_found, found, map_remove, none_less, one_less}
@@ -92,9 +92,9 @@ turned_picks o none some =
 
 -- The frame that is given next is that of the reply due to a request that was sent and isn't answered. Where the reply is
 -- taken, what is left to be given is owed; and the place is that of the query, or the one that is picked.
-pub record Next (d : Desk) (picks : List ℕ) (past : List Entry) (output : WaitingFrames) : Type 0 where
+pub record Next (d : ServerState) (picks : List ℕ) (past : List Entry) (output : WaitingFrames) : Type 0 where
   pub place : ℕ
-  pub asked : Asked
+  pub asked : AskedRequest
   pub reply : Reply
   pub due : due d past place ≡ Some (asked, reply)
   pub unanswered : answer past place ≡ None
@@ -139,20 +139,20 @@ frame_some : (r : Reply) (id : ℕ) (rest : List ℕ) → 0 < length (reply_fram
 frame_some r id rest = let a = length-append (reply_frame r id) rest in let b = length-string (reply_body r id) in omega (arith, a, b)
 
 -- what there is of an unanswered request that was sent
-record Standing (s : Setting) (d : Desk) (past : List Entry) (p : ℕ) : Type 0 where
-  asked : Asked
+record Standing (s : Setting) (d : ServerState) (past : List Entry) (p : ℕ) : Type 0 where
+  asked : AskedRequest
   reply : Reply
   due : due d past p ≡ Some (asked, reply)
   bears : bearer past asked.id ≡ Some p
 
-standing : (s : Setting) (d : Desk) (past : List Entry) (p : ℕ) → IsJournal s past → p < sent past → answer past p ≡ None → Standing s d past p
+standing : (s : Setting) (d : ServerState) (past : List Entry) (p : ℕ) → IsJournal s past → p < sent past → answer past p ≡ None → Standing s d past p
 standing s d past p j lt none =
     let few = sent_asked past in
     let w = due_there d past p (omega (arith, lt, few)) in
     record { asked = w.0.0; reply = w.0.1; due = w.1; bears = unanswered_borne s past p w.0.0 j (due_asked d past p w.0 w.1) none }
 
 -- the reply to the query is given at once
-at_once_next : (s : Setting) (d : Desk) (picks : List ℕ) (past : List Entry) (output : WaitingFrames) (p : ℕ) (later : List ℕ) → IsJournal s past
+at_once_next : (s : Setting) (d : ServerState) (picks : List ℕ) (past : List Entry) (output : WaitingFrames) (p : ℕ) (later : List ℕ) → IsJournal s past
     → those_below (stands itself past) (sent past) ≡ p ∷ later → output.ready ≡ joined (frames_owed itself d past)
     → output.waiting ≡ frames_owed not d past → output.picks ≡ drop (taken past) picks → Next d picks past output
 at_once_next s d picks past output p later j is ready waits left =
@@ -191,7 +191,7 @@ at_once_next s d picks past output p later j is ready waits left =
     }
 
 -- another reply is picked
-picked_next : (s : Setting) (d : Desk) (picks : List ℕ) (past : List Entry) (output : WaitingFrames) → IsJournal s past
+picked_next : (s : Setting) (d : ServerState) (picks : List ℕ) (past : List Entry) (output : WaitingFrames) → IsJournal s past
     → those_below (stands itself past) (sent past) ≡ [] → 0 < length (those_below (stands not past) (sent past))
     → output.ready ≡ joined (frames_owed itself d past) → output.waiting ≡ frames_owed not d past → output.picks
     ≡ drop (taken past) picks → Next d picks past output
@@ -245,7 +245,7 @@ picked_next s d picks past output j empty some ready waits left =
     }
 
 -- while a request that was sent is unanswered, there is a frame that is given next
-pub next_frame : (s : Setting) (d : Desk) (picks : List ℕ) (past : List Entry) (now : Server) → IsJournal s past
+pub next_frame : (s : Setting) (d : ServerState) (picks : List ℕ) (past : List Entry) (now : Server) → IsJournal s past
     → Owes d picks past now → 0 < awaited past → Next d picks past now.output
 next_frame s d picks past now j o some =
     let q = count_some (λ place. is_none (answer past place)) (sent past) some in
@@ -274,12 +274,12 @@ pub record Ready (good : Read → Type 0) (output : WaitingFrames) : Type 0 wher
   pub reads : reply_at whole.body ≡ Ok read
   pub is_good : good read
 
-pub next_ready : (s : Setting) (d : Desk) (picks : List ℕ) (past : List Entry) (output : WaitingFrames)
+pub next_ready : (s : Setting) (d : ServerState) (picks : List ℕ) (past : List Entry) (output : WaitingFrames)
     → IsJournal s past → IsGood d → IsSound (tells_of d) past → Next d picks past output → Ready (IsAllowed past) output
 next_ready s d picks past output j g sound n =
     let says : Says n.asked n.reply = due_says d past n.place (n.asked, n.reply) g sound n.due in
     let asks : asked_at past n.place ≡ Some n.asked = due_asked d past n.place (n.asked, n.reply) n.due in
-    let may : MayReply (asked_at past n.place) n.reply = subst (λ (a : Option Asked). MayReply a n.reply) (sym asks) (says.may, says.goes) in
+    let may : MayReply (asked_at past n.place) n.reply = subst (λ (a : Option AskedRequest). MayReply a n.reply) (sym asks) (says.may, says.goes) in
     record {
       whole = record { body = reply_body n.reply n.asked.id; rest = n.rest; framed = n.front; some = says.some; short = says.short };
       read = (Some n.asked.id, n.reply);

@@ -57,15 +57,15 @@ use Rattle.sftp_model.specs.Lengths.{offers_limits}
 use Rattle.session_model.specs.declared.event.Owner.{Owner}
 use Rattle.sftp_wire.proofs.Lengths.{lengths}
 use Rattle.session_model.specs.Journals.{goes_on, is_read}
-use Rattle.session_model.specs.Readings.{Asked}
+use Rattle.session_model.specs.Readings.{AskedRequest}
 use Rattle.machine_model.specs.FitTrees.{GivesWithin, IsFit}
 use Rattle.machine_model.specs.HandleRequests.{Answer, capped}
 use Rattle.machine_model.specs.TreeAnswers.{apply, first_choice, limits_reply}
 use Rattle.sftp_machine.specs.MachineState.{MachineState, answer, numbered_handle, with_grant, with_tree}
 use Rattle.sftp_machine.proofs.ReplyLaws.{fit_left, reply_answers, reply_fits, reply_within}
 use Rattle.sftp_map_server.specs.Serving.{
-  Desk,
-  Said,
+  ServerState,
+  Replies,
   at_once,
   gives_within,
   heed,
@@ -76,7 +76,7 @@ use Rattle.sftp_map_server.specs.Serving.{
   nothing,
   over_at,
   respond,
-  spent,
+  after_choice,
   step,
   told_bits,
   version_reply,
@@ -86,24 +86,24 @@ use Rattle.map_server_laws.proofs.Asking.{FitsCall, body_len}
 use Rattle.map_server_laws.proofs.Sound.{FitsBy, by_owner}
 
 -- the reply to a request
-unfoldable pub reply_to : Desk → Request → Reply
+unfoldable pub reply_to : ServerState → Request → Reply
 reply_to d r = if is_query r then limits_reply d.machine.config.limits else (answer d.machine r (first_choice d.choices)).0
 
 -- it is given at once to the query for limits, and waits else
-unfoldable pub said_to : Desk → Request → ℕ → Said
+unfoldable pub said_to : ServerState → Request → ℕ → Replies
 said_to d r id = if is_query r then at_once (reply_frame (reply_to d r) id) else later (reply_frame (reply_to d r) id)
 
 -- and what the request leaves
-unfoldable pub next_desk : Desk → Request → Desk
-next_desk d r = if is_query r then d else spent d (answer d.machine r (first_choice d.choices)).1
+unfoldable pub next_state : ServerState → Request → ServerState
+next_state d r = if is_query r then d else after_choice d (answer d.machine r (first_choice d.choices)).1
 
 -- each choice refuses by a code of four bytes
 abbrev pub AllCodes : List Choice → Type 0
 AllCodes [] = Unit {0}
 AllCodes (c ∷ choices) = (c.refuse < 2 ^ 32) × AllCodes choices
 
--- a desk that was greeted, with choices and limits that fit, and a tree within its bounds
-pub record IsGood (d : Desk) : Type 0 where
+-- a state that was greeted, with choices and limits that fit, and a tree within its bounds
+pub record IsGood (d : ServerState) : Type 0 where
   pub greeted : d.greeted ≡ true
   pub still : d.over ≡ false
   pub codes : AllCodes d.choices
@@ -138,7 +138,7 @@ pub call_after : (r : Request) → FitsCall r → (is_hello r ≡ false) × IsAf
 call_after (request.Init version) f = absurd f.ordinary
 call_after r f = (refl, tt)
 
--- ---- the desk
+-- ---- the state
 
 first_code : (choices : List Choice) → AllCodes choices → (first_choice choices).refuse < 2 ^ 32
 first_code [] c = lit< tt
@@ -156,22 +156,22 @@ config_by true true state x = refl
 config_by true false state x = refl
 config_by false b state x = refl
 
--- what holds of a desk, and of it where a choice more was taken, holds of what a request leaves
-next_by : (P : Desk → Type 0) (d : Desk) (r : Request) → P d → P (spent d (answer d.machine r (first_choice d.choices)).1) → P (next_desk d r)
-unfolding next_desk
+-- what holds of a state, and of it where a choice more was taken, holds of what a request leaves
+next_by : (P : ServerState → Type 0) (d : ServerState) (r : Request) → P d → P (after_choice d (answer d.machine r (first_choice d.choices)).1) → P (next_state d r)
+unfolding next_state
 next_by P d r h k = by_test (is_query r)
   where
-    by_test : (b : Bool) → P (if b then d else spent d (answer d.machine r (first_choice d.choices)).1)
+    by_test : (b : Bool) → P (if b then d else after_choice d (answer d.machine r (first_choice d.choices)).1)
     by_test true = h
     by_test false = k
 
 -- what a server offers stays
-pub next_config : (d : Desk) (r : Request) → (next_desk d r).machine.config ≡ d.machine.config
+pub next_config : (d : ServerState) (r : Request) → (next_state d r).machine.config ≡ d.machine.config
 next_config d r =
     next_by (λ n. n.machine.config ≡ d.machine.config) d r refl
     (config_by _ _ d.machine (apply d.machine.tree d.machine.config r (first_choice d.choices) (numbered_handle d.machine.grants)))
 
-pub next_good : (d : Desk) (r : Request) → IsGood d → IsGood (next_desk d r)
+pub next_good : (d : ServerState) (r : Request) → IsGood d → IsGood (next_state d r)
 next_good d r g =
     next_by IsGood d r g
     (record {
@@ -186,44 +186,44 @@ next_good d r g =
 
 -- ---- steps
 
-respond_call : (d : Desk) (i : Option ℕ) (r : Request) → is_hello r ≡ false → d.greeted ≡ true → is_query r ≡ false
+respond_call : (d : ServerState) (i : Option ℕ) (r : Request) → is_hello r ≡ false → d.greeted ≡ true → is_query r ≡ false
     → gives_within r (first_choice d.choices) ≡ true
-    → respond d i r ≡ (later (reply_frame (answer d.machine r (first_choice d.choices)).0 (id_of i)), spent d (answer d.machine r (first_choice d.choices)).1)
+    → respond d i r ≡ (later (reply_frame (answer d.machine r (first_choice d.choices)).0 (id_of i)), after_choice d (answer d.machine r (first_choice d.choices)).1)
 respond_call d i r a b c w = rw (a, b, c, w) refl
 
 -- a body that is read while the link isn't over
-step_on : (d : Desk) (body : List ℕ) (i : Option ℕ) (r : Request) → d.over ≡ false → request_at body ≡ Ok (i, r) → step d body ≡ respond d i r
+step_on : (d : ServerState) (body : List ℕ) (i : Option ℕ) (r : Request) → d.over ≡ false → request_at body ≡ Ok (i, r) → step d body ≡ respond d i r
 unfolding step
 step_on d body i r still back =
-    ap (λ (b : Bool). if b then (let p : Said × Desk = (nothing, d) in p) else heed d (result_ok (request_at body)))
+    ap (λ (b : Bool). if b then (let p : Replies × ServerState = (nothing, d) in p) else heed d (result_ok (request_at body)))
     still ∙ ap (λ (w : Result (Option ℕ × Request) FrameError). heed d (result_ok w)) back
 
-step_call : (d : Desk) (id : ℕ) (r : Request) → IsGood d → id < 2 ^ 32 → FitsCall r → step d (request_body r id) ≡ (said_to d r id, next_desk d r)
-unfolding reply_to said_to next_desk
+step_call : (d : ServerState) (id : ℕ) (r : Request) → IsGood d → id < 2 ^ 32 → FitsCall r → step d (request_body r id) ≡ (said_to d r id, next_state d r)
+unfolding reply_to said_to next_state
 step_call d id r g lt f =
     let query = call_query r f in
     let back : request_at (request_body r id) ≡ Ok (Some id, r) = request_back r id f.fits lt ∙ ap (λ (i : Option ℕ). Ok (i, r)) (call_id r id f) in
     let n = answer d.machine r (first_choice d.choices) in
-    let is : (later (reply_frame n.0 id), spent d n.1) ≡ (said_to d r id, next_desk d r) = rw query refl in
+    let is : (later (reply_frame n.0 id), after_choice d n.1) ≡ (said_to d r id, next_state d r) = rw query refl in
     step_on d (request_body r id) (Some id) r g.still back ∙ (respond_call d (Some id) r (call_after r f).0 g.greeted
     query (call_within r (first_choice d.choices) f) ∙ is)
 
-step_query : (d : Desk) (id : ℕ) → IsGood d → id < 2 ^ 32 → step d (request_body request.LimitsQuery id)
-    ≡ (said_to d request.LimitsQuery id, next_desk d request.LimitsQuery)
-unfolding reply_to said_to next_desk
+step_query : (d : ServerState) (id : ℕ) → IsGood d → id < 2 ^ 32 → step d (request_body request.LimitsQuery id)
+    ≡ (said_to d request.LimitsQuery id, next_state d request.LimitsQuery)
+unfolding reply_to said_to next_state
 step_query d id g lt =
     step_on d (request_body request.LimitsQuery id) (Some id) request.LimitsQuery g.still (request_back request.LimitsQuery id tt lt)
-    ∙ ap (λ (b : Bool). if b then (let p : Said × Desk = (
+    ∙ ap (λ (b : Bool). if b then (let p : Replies × ServerState = (
       at_once
           (reply_frame (limits_reply d.machine.config.limits) id),
       d,
     ) in p) else (nothing, over_at d)) g.greeted
 
 -- a request that fits is answered
-pub step_fits : (d : Desk) (tells : Bool) (by : Owner) (id : ℕ) (r : Request) → IsGood d → id < 2 ^ 32
-    → FitsBy tells by r → step d (request_body r id) ≡ (said_to d r id, next_desk d r)
+pub step_fits : (d : ServerState) (tells : Bool) (by : Owner) (id : ℕ) (r : Request) → IsGood d → id < 2 ^ 32
+    → FitsBy tells by r → step d (request_body r id) ≡ (said_to d r id, next_state d r)
 step_fits d tells by id r g lt f =
-    by_owner (λ w. step d (request_body w id) ≡ (said_to d w id, next_desk d w)) tells by r f (λ c. step_call d id r g lt c) (λ t. step_query d id g lt)
+    by_owner (λ w. step d (request_body w id) ≡ (said_to d w id, next_state d w)) tells by r f (λ c. step_call d id r g lt c) (λ t. step_query d id g lt)
 
 body_there : (r : Request) (id : ℕ) → 0 < length (request_body r id)
 unfolding request_body
@@ -245,7 +245,7 @@ request_short tells by r id f = by_owner (λ w. (0 < length (request_body w id))
 -- ---- what is said
 
 -- the reply is read as it, and nothing is wrong with it
-pub record Says (a : Asked) (r : Reply) : Type 0 where
+pub record Says (a : AskedRequest) (r : Reply) : Type 0 where
   pub reads : reply_at (reply_body r a.id) ≡ Ok (Some a.id, r)
   pub some : 0 < length (reply_body r a.id)
   pub short : length (reply_body r a.id) ≤ MAX_BODY_LEN
@@ -275,7 +275,7 @@ call_goes : (r : Request) (x : Reply) → FitsCall r → goes_on (expected_of r)
 call_goes request.LimitsQuery x f = absurd f.ordinary
 call_goes r x f = refl
 
-says_call : (d : Desk) (by : Owner) (id : ℕ) (r : Request) → IsGood d → id < 2 ^ 32 → FitsCall r
+says_call : (d : ServerState) (by : Owner) (id : ℕ) (r : Request) → IsGood d → id < 2 ^ 32 → FitsCall r
     → Says (record { by = by; id = id; request = r }) (reply_to d r)
 unfolding reply_to
 says_call d by id r g lt f =
@@ -309,13 +309,13 @@ says_limits (Some limits) by id h t lt =
       goes = ap is_read (limits_back limits h);
     }
 
-says_query : (d : Desk) (by : Owner) (id : ℕ) → IsGood d → is_some d.machine.config.limits ≡ true → id < 2 ^ 32
+says_query : (d : ServerState) (by : Owner) (id : ℕ) → IsGood d → is_some d.machine.config.limits ≡ true → id < 2 ^ 32
     → Says (record { by = by; id = id; request = request.LimitsQuery }) (reply_to d request.LimitsQuery)
 unfolding reply_to
 says_query d by id g t lt = says_limits d.machine.config.limits by id g.limits t lt
 
 -- the reply to a request that fits
-pub says : (d : Desk) (tells : Bool) (by : Owner) (id : ℕ) (r : Request) → IsGood d → is_some d.machine.config.limits
+pub says : (d : ServerState) (tells : Bool) (by : Owner) (id : ℕ) (r : Request) → IsGood d → is_some d.machine.config.limits
     ≡ tells → id < 2 ^ 32 → FitsBy tells by r → Says (record { by = by; id = id; request = r }) (reply_to d r)
 says d tells by id r g t lt f =
     by_owner (λ w. Says (record { by = by; id = id; request = w }) (reply_to d w)) tells by r f
@@ -323,15 +323,15 @@ says d tells by id r g t lt f =
 
 -- ---- the hello
 
--- the desk behind the hello
-abbrev pub greeted_at : Desk → Desk
+-- the state behind the hello
+abbrev pub greeted_at : ServerState → ServerState
 greeted_at d = record { machine = d.machine; choices = d.choices; greeted = true; over = d.over }
 
-pub step_hello : (d : Desk) → d.greeted ≡ false → d.over ≡ false → step d (request_body (request.Init 3) 0)
+pub step_hello : (d : ServerState) → d.greeted ≡ false → d.over ≡ false → step d (request_body (request.Init 3) 0)
     ≡ (at_once (reply_frame (version_reply d.machine.config) 0), greeted_at d)
 step_hello d fresh still =
     step_on d (request_body (request.Init 3) 0) None (request.Init 3) still (request_back (request.Init 3) 0 (lit< tt) (lit< tt))
-    ∙ ap (λ (b : Bool). if b then (let p : Said × Desk = (nothing, over_at d) in p) else
+    ∙ ap (λ (b : Bool). if b then (let p : Replies × ServerState = (nothing, over_at d) in p) else
     (at_once (reply_frame (version_reply d.machine.config) 0), greeted_at d)) fresh
 
 pub hello_short : (0 < length (request_body (request.Init 3) 0)) × (length (request_body (request.Init 3) 0) ≤ MAX_BODY_LEN)

@@ -56,13 +56,13 @@ use Rattle.session_model.specs.declared.event.Owner.TheVariants as owner
 use Rattle.session_model.specs.declared.event.Event.TheVariants.{Submit, Send}
 use Rattle.session_model.specs.declared.entry.Entry.{Entry}
 use Rattle.session_model.specs.declared.entry.Entry.TheVariants as entry
-use Rattle.session_model.specs.Readings.{Asked, asked, asked_at, answer}
+use Rattle.session_model.specs.Readings.{AskedRequest, asked, asked_at, answer}
 use Rattle.session_model.specs.Served.{IsReply, MayGrant, Serves, ServesAll, reply_to_query, requests_of, requests_sent, where_by_setup}
-use Rattle.sftp_map_server.specs.Serving.{Desk, is_query, spent}
+use Rattle.sftp_map_server.specs.Serving.{ServerState, is_query, after_choice}
 use Rattle.map_server_laws.proofs.Asking.{asks_handle}
 use Rattle.map_server_laws.proofs.Sound.{FitsBy, IsSound}
-use Rattle.map_server_laws.proofs.Replying.{call_after, call_query, next_config, next_desk, reply_to}
-use Rattle.map_server_laws.proofs.Owing.{config_at, desk_of, desk_sent, due, due_new, due_old, tells_of}
+use Rattle.map_server_laws.proofs.Replying.{call_after, call_query, next_config, next_state, reply_to}
+use Rattle.map_server_laws.proofs.Owing.{config_at, state_of, state_sent, due, due_new, due_old, tells_of}
 use Rattle.map_server_laws.proofs.Showing.{AnswersBy}
 
 -- ---- handles
@@ -77,7 +77,7 @@ number_one n k a b e = sym (from_be_bytes-to_be_bytes_4 n a) ∙ (ap (from_be_by
 -- ---- one request
 
 -- the definition's answer, with the next number as its handle
-abbrev pub done_at : Desk → Request → Answer
+abbrev pub done_at : ServerState → Request → Answer
 done_at at r = apply at.machine.tree at.machine.config r (first_choice at.choices) (numbered_handle at.machine.grants)
 
 -- the grants behind an answer
@@ -85,7 +85,7 @@ abbrev pub grants_behind : ℕ → Reply → ℕ
 grants_behind n x = if is_handle x then n + 1 else n
 
 -- where it granted the next handle, the one behind it is new, and else all that were
-new_from : (at : Desk) (r : Request) → at.machine.grants < MAX_HANDLES → NewFrom at.machine.grants at.machine.tree
+new_from : (at : ServerState) (r : Request) → at.machine.grants < MAX_HANDLES → NewFrom at.machine.grants at.machine.tree
     → NewFrom (grants_behind at.machine.grants (done_at at r).0) (done_at at r).1
 new_from at r small new k le lt =
     unopened_stays at.machine.tree at.machine.config r (first_choice at.choices) (numbered_handle at.machine.grants)
@@ -163,46 +163,46 @@ serves_more config full mid now left (r ∷ rs) m choices x handle s is may repl
       ),
     )
 
--- The machine's run over these requests gives the replies that were taken, and leaves this desk with at most n grants.
-pub record Ran (d : Desk) (full : List Entry) (rs : List (ℕ × Request)) (at : Desk) (n : ℕ) : Type 0 where
+-- The machine's run over these requests gives the replies that were taken, and leaves this state with at most n grants.
+pub record Ran (d : ServerState) (full : List Entry) (rs : List (ℕ × Request)) (at : ServerState) (n : ℕ) : Type 0 where
   pub serves : ServesAll d.machine.config full d.machine.tree d.choices rs at.machine.tree
   pub left : at.choices ≡ drop (length rs) d.choices
   pub new : NewFrom at.machine.grants at.machine.tree
   pub few : at.machine.grants ≤ n
   pub config : at.machine.config ≡ d.machine.config
 
-is_reply : (o : Option Reply) (a : Asked) (r : Reply) → AnswersBy o (Some (a, r)) → IsReply o r
+is_reply : (o : Option Reply) (a : AskedRequest) (r : Reply) → AnswersBy o (Some (a, r)) → IsReply o r
 is_reply None a r h = tt
 is_reply (Some x) a r h = h
 
--- the desk after a request of the machine
-pub record Moves (at : Desk) (r : Request) : Type 0 where
+-- the state after a request of the machine
+pub record Moves (at : ServerState) (r : Request) : Type 0 where
   pub said : reply_to at r ≡ (done_at at r).0
-  pub tree : (next_desk at r).machine.tree ≡ (done_at at r).1
-  pub grants : (next_desk at r).machine.grants ≡ grants_behind at.machine.grants (done_at at r).0
-  pub choices : (next_desk at r).choices ≡ drop 1 at.choices
+  pub tree : (next_state at r).machine.tree ≡ (done_at at r).1
+  pub grants : (next_state at r).machine.grants ≡ grants_behind at.machine.grants (done_at at r).0
+  pub choices : (next_state at r).choices ≡ drop 1 at.choices
 
-parts : (at : Desk) (r : Request) → is_query r ≡ false → (reply_to at r
-    ≡ (answer_of at.machine r (first_choice at.choices)).0) × (next_desk at r
-    ≡ spent at (answer_of at.machine r (first_choice at.choices)).1)
-unfolding reply_to next_desk
+parts : (at : ServerState) (r : Request) → is_query r ≡ false → (reply_to at r
+    ≡ (answer_of at.machine r (first_choice at.choices)).0) × (next_state at r
+    ≡ after_choice at (answer_of at.machine r (first_choice at.choices)).1)
+unfolding reply_to next_state
 parts at r e = rw e (refl, refl)
 
-pub moves : (at : Desk) (r : Request) → is_query r ≡ false → at.machine.grants < MAX_HANDLES → Moves at r
+pub moves : (at : ServerState) (r : Request) → is_query r ≡ false → at.machine.grants < MAX_HANDLES → Moves at r
 moves at r e lt =
     let f : Follows at.machine (done_at at r) (answer_of at.machine r (first_choice at.choices)) = follows at.machine (done_at at r) lt in
     let is = parts at r e in
     record {
       said = is.0 ∙ f.said;
-      tree = ap (λ (w : Desk). w.machine.tree) is.1 ∙ f.tree;
-      grants = ap (λ (w : Desk). w.machine.grants) is.1 ∙ f.grants;
-      choices = ap (λ (w : Desk). w.choices) is.1;
+      tree = ap (λ (w : ServerState). w.machine.tree) is.1 ∙ f.tree;
+      grants = ap (λ (w : ServerState). w.machine.grants) is.1 ∙ f.grants;
+      choices = ap (λ (w : ServerState). w.choices) is.1;
     }
 
-ran_more : (d : Desk) (full : List Entry) (rs : List (ℕ × Request)) (at : Desk) (n more place : ℕ) (a : Asked)
+ran_more : (d : ServerState) (full : List Entry) (rs : List (ℕ × Request)) (at : ServerState) (n more place : ℕ) (a : AskedRequest)
     (r : Request) → Ran d full rs at n → is_query r ≡ false → n < MAX_HANDLES
     → AnswersBy (answer full place) (Some (a, reply_to at r)) → grants_behind at.machine.grants (done_at at r).0 ≤ more
-    → (next_desk at r).machine.config ≡ at.machine.config → Ran d full (rs ++ (place, r) ∷ []) (next_desk at r) more
+    → (next_state at r).machine.config ≡ at.machine.config → Ran d full (rs ++ (place, r) ∷ []) (next_state at r) more
 ran_more d full rs at n more place a r ran query lt by few config =
     let less : at.machine.grants < MAX_HANDLES = let f = ran.few in omega (arith, f, lt) in
     let m = moves at r query less in
@@ -210,7 +210,7 @@ ran_more d full rs at n more place a r ran query lt by few config =
     let same : done_at at r ≡ apply at.machine.tree d.machine.config r (first_choice at.choices) handle =
     ap (λ (w : ServerConfig). apply at.machine.tree w r (first_choice at.choices) handle) ran.config in
     record {
-      serves = serves_more d.machine.config full at.machine.tree (next_desk at r).machine.tree at.choices rs
+      serves = serves_more d.machine.config full at.machine.tree (next_state at r).machine.tree at.choices rs
           d.machine.tree d.choices (place, r) handle ran.serves ran.left
           (omega arith, ran.new at.machine.grants (omega arith) less)
           (subst (IsReply (answer full place)) (m.said ∙ ap (λ (w : Answer). w.0) same) (is_reply (answer full place) a (reply_to at r) by))
@@ -225,7 +225,7 @@ ran_more d full rs at n more place a r ran query lt by few config =
     }
 
 -- the grants grow by what was asked for alone
-few_more : (at : Desk) (r : Request) (n : ℕ) → IsAfterHello r → at.machine.grants ≤ n → grants_behind at.machine.grants (done_at at r).0 ≤ n + handles_asked r
+few_more : (at : ServerState) (r : Request) (n : ℕ) → IsAfterHello r → at.machine.grants ≤ n → grants_behind at.machine.grants (done_at at r).0 ≤ n + handles_asked r
 few_more at r n after le =
     by_test (asks_handle r) (is_handle (done_at at r).0) (λ e. none_granted r (done_at at r).0 e
     (tree_answers at.machine.tree at.machine.config r (first_choice at.choices) (numbered_handle at.machine.grants)
@@ -237,12 +237,12 @@ few_more at r n after le =
     by_test false true h = absurd (let no_way = h refl in cc)
     by_test false false h = omega (arith, le)
 
-stays : (at : Desk) → next_desk at request.LimitsQuery ≡ at
-unfolding next_desk
+stays : (at : ServerState) → next_state at request.LimitsQuery ≡ at
+unfolding next_state
 stays at = refl
 
-pub after_query : (at : Desk) (r : Request) → r ≡ request.LimitsQuery → next_desk at r ≡ at
-after_query at r e = ap (next_desk at) e ∙ stays at
+pub after_query : (at : ServerState) (r : Request) → r ≡ request.LimitsQuery → next_state at r ≡ at
+after_query at r e = ap (next_state at) e ∙ stays at
 
 pub fewer : (q : List Entry) (by : Owner) (id : ℕ) (r : Request) → called (entry.Event (Submit by id r) ∷ q) < MAX_HANDLES → called q < MAX_HANDLES
 fewer q owner.Setup id r lt = lt
@@ -250,9 +250,9 @@ fewer q owner.Close id r lt = lt
 fewer q (owner.Call lane call) id r lt = let l : called q + handles_asked r < MAX_HANDLES = lt in omega (arith, l)
 
 -- all that was submitted
-pub ran_all : (d : Desk) (full q : List Entry) → d.machine.grants ≡ 0 → d.machine.tree.handles ≡ []
+pub ran_all : (d : ServerState) (full q : List Entry) → d.machine.grants ≡ 0 → d.machine.tree.handles ≡ []
     → IsSound (tells_of d) q → ((p : ℕ) → p < asked q → AnswersBy (answer full p) (due d q p)) → called q < MAX_HANDLES
-    → Ran d full (requests_of q) (desk_of d q) (called q)
+    → Ran d full (requests_of q) (state_of d q) (called q)
 ran_all d full [] none closed s by few =
     record {
       serves = refl;
@@ -267,29 +267,29 @@ ran_all d full (entry.Event (Submit by id r) ∷ q) none closed s by_place few =
     (due_old d q by id p r lt) (by_place p (omega (arith, lt)))) (fewer q by id r few))
     (subst (AnswersBy (answer full (asked q))) (due_new d q by id r) (by_place (asked q) (omega arith))) few
   where
-    by_case : (by : Owner) → FitsBy (tells_of d) by r → Ran d full (requests_of q) (desk_of d q) (called q)
-        → AnswersBy (answer full (asked q)) (Some (record { by = by; id = id; request = r }, reply_to (desk_of d q) r))
+    by_case : (by : Owner) → FitsBy (tells_of d) by r → Ran d full (requests_of q) (state_of d q) (called q)
+        → AnswersBy (answer full (asked q)) (Some (record { by = by; id = id; request = r }, reply_to (state_of d q) r))
         → called (entry.Event (Submit by id r) ∷ q) < MAX_HANDLES
-        → Ran d full (requests_of (entry.Event (Submit by id r) ∷ q)) (next_desk (desk_of d q) r) (called (entry.Event (Submit by id r) ∷ q))
+        → Ran d full (requests_of (entry.Event (Submit by id r) ∷ q)) (next_state (state_of d q) r) (called (entry.Event (Submit by id r) ∷ q))
     by_case owner.Setup f ran by lt =
-        subst (λ (w : List (ℕ × Request)). Ran d full w (next_desk (desk_of d q) r) (called q)) (sym (append-nil (requests_of q)))
-        (subst (λ (w : Desk). Ran d full (requests_of q) w (called q)) (sym (after_query (desk_of d q) r f.0)) ran)
+        subst (λ (w : List (ℕ × Request)). Ran d full w (next_state (state_of d q) r) (called q)) (sym (append-nil (requests_of q)))
+        (subst (λ (w : ServerState). Ran d full (requests_of q) w (called q)) (sym (after_query (state_of d q) r f.0)) ran)
     by_case owner.Close f ran by lt =
-        let few : grants_behind (desk_of d q).machine.grants (done_at (desk_of d q) r).0 ≤ called q + handles_asked r =
-        few_more (desk_of d q) r (called q) (subst IsAfterHello (sym f.1) tt) ran.few in
+        let few : grants_behind (state_of d q).machine.grants (done_at (state_of d q) r).0 ≤ called q + handles_asked r =
+        few_more (state_of d q) r (called q) (subst IsAfterHello (sym f.1) tt) ran.few in
         let none : handles_asked r ≡ 0 = ap handles_asked f.1 in
-        ran_more d full (requests_of q) (desk_of d q) (called q) (called q) (asked q) _ r ran (ap is_query f.1) lt by
-        (omega (arith, few, none)) (next_config (desk_of d q) r)
+        ran_more d full (requests_of q) (state_of d q) (called q) (called q) (asked q) _ r ran (ap is_query f.1) lt by
+        (omega (arith, few, none)) (next_config (state_of d q) r)
     by_case (owner.Call lane call) f ran by lt =
-        ran_more d full (requests_of q) (desk_of d q) (called q) (called q + handles_asked r) (asked q) _ r ran
+        ran_more d full (requests_of q) (state_of d q) (called q) (called q + handles_asked r) (asked q) _ r ran
         (call_query r f) (fewer q (owner.Call lane call) id r lt) by
-        (few_more (desk_of d q) r (called q) (call_after r f).1 ran.few) (next_config (desk_of d q) r)
+        (few_more (state_of d q) r (called q) (call_after r f).1 ran.few) (next_config (state_of d q) r)
 ran_all d full (_ ∷ q) none closed s by few = ran_all d full q none closed s by few
 
 -- and so all that was sent
-ran_sent : (d : Desk) (full q : List Entry) → d.machine.grants ≡ 0 → d.machine.tree.handles ≡ []
+ran_sent : (d : ServerState) (full q : List Entry) → d.machine.grants ≡ 0 → d.machine.tree.handles ≡ []
     → IsSound (tells_of d) q → ((p : ℕ) → p < asked q → AnswersBy (answer full p) (due d q p)) → called q < MAX_HANDLES
-    → ServesAll d.machine.config full d.machine.tree d.choices (requests_sent q) (desk_sent d q).machine.tree
+    → ServesAll d.machine.config full d.machine.tree d.choices (requests_sent q) (state_sent d q).machine.tree
 ran_sent d full [] none closed s by few = refl
 ran_sent d full (entry.Event Send ∷ q) none closed s by few = (ran_all d full q none closed s by few).serves
 ran_sent d full (entry.Event (Submit o id r) ∷ q) none closed s by few =
@@ -298,22 +298,22 @@ ran_sent d full (_ ∷ q) none closed s by few = ran_sent d full q none closed s
 
 -- ---- the limits
 
-said_limits : (at : Desk) → reply_to at request.LimitsQuery ≡ limits_reply at.machine.config.limits
+said_limits : (at : ServerState) → reply_to at request.LimitsQuery ≡ limits_reply at.machine.config.limits
 unfolding reply_to
 said_limits at = refl
 
-due_query : (d : Desk) (past : List Entry) (p : ℕ) (a : Asked) → IsSound (tells_of d) past → asked_at past p ≡ Some a
+due_query : (d : ServerState) (past : List Entry) (p : ℕ) (a : AskedRequest) → IsSound (tells_of d) past → asked_at past p ≡ Some a
     → a.by ≡ owner.Setup → due d past p ≡ Some (a, limits_reply d.machine.config.limits)
 due_query d [] p a s e setup = absurd cc
 due_query d (entry.Event (Submit by id r) ∷ past) p a s e setup =
     elim (eqb_tells p (asked past)) [
       | inl t ↦ (let is : Some (record { by = by; id = id; request = r }) ≡ Some a = rw t.0 at e in
-          let same : (let w : Asked = record { by = by; id = id; request = r } in w) ≡ a = cc is in
-          let query : r ≡ request.LimitsQuery = asks_limits by (ap (λ (w : Asked). w.by) same ∙ setup) s.1 in
-          rw t.0 (ap (λ (w : Reply). let v : Asked × Reply = (record { by = by; id = id; request = r }, w) in Some v)
-          (ap (reply_to (desk_of d past)) query ∙ (said_limits (desk_of d past)
+          let same : (let w : AskedRequest = record { by = by; id = id; request = r } in w) ≡ a = cc is in
+          let query : r ≡ request.LimitsQuery = asks_limits by (ap (λ (w : AskedRequest). w.by) same ∙ setup) s.1 in
+          rw t.0 (ap (λ (w : Reply). let v : AskedRequest × Reply = (record { by = by; id = id; request = r }, w) in Some v)
+          (ap (reply_to (state_of d past)) query ∙ (said_limits (state_of d past)
           ∙ ap (λ (c : ServerConfig). limits_reply c.limits) (config_at d past)))
-          ∙ ap (λ (w : Asked). let v : Asked × Reply = (w, limits_reply d.machine.config.limits) in Some v) same))
+          ∙ ap (λ (w : AskedRequest). let v : AskedRequest × Reply = (w, limits_reply d.machine.config.limits) in Some v) same))
       | inr t ↦ rw t.0 (due_query d past p a s.2 (rw t.0 at e) setup)
     ]
   where
@@ -323,7 +323,7 @@ due_query d (entry.Event (Submit by id r) ∷ past) p a s e setup =
     asks_limits (owner.Call lane call) e f = absurd cc
 due_query d (_ ∷ past) p a s e setup = due_query d past p a s e setup
 
-tells_by : (d : Desk) (past : List Entry) (o : Option Asked) → asked_at past 0 ≡ o → IsSound (tells_of d) past → AnswersBy (answer past 0) (due d past 0)
+tells_by : (d : ServerState) (past : List Entry) (o : Option AskedRequest) → asked_at past 0 ≡ o → IsSound (tells_of d) past → AnswersBy (answer past 0) (due d past 0)
     → IsReply (reply_to_query o (answer past 0)) (limits_reply d.machine.config.limits)
 tells_by d past None e s by = tt
 tells_by d past (Some a) e s by = by_case a.by refl
@@ -335,7 +335,7 @@ tells_by d past (Some a) e s by = by_case a.by refl
     by_case (owner.Call lane call) is = tt
 
 -- a journal whose replies came as they were due is served
-pub serves_by : (d : Desk) (past : List Entry) → d.machine.grants ≡ 0 → d.machine.tree.handles ≡ []
+pub serves_by : (d : ServerState) (past : List Entry) → d.machine.grants ≡ 0 → d.machine.tree.handles ≡ []
     → IsSound (tells_of d) past → ((p : ℕ) → AnswersBy (answer past p) (due d past p)) → called past < MAX_HANDLES
-    → Serves d.machine.config d.choices d.machine.tree past (desk_sent d past).machine.tree
+    → Serves d.machine.config d.choices d.machine.tree past (state_sent d past).machine.tree
 serves_by d past none closed s by few = (ran_sent d past past none closed s (λ p lt. by p) few, tells_by d past (asked_at past 0) refl s (by 0))

@@ -49,13 +49,13 @@ use Rattle.session_model.specs.declared.entry.Entry.{Entry}
 use Rattle.session_model.specs.declared.entry.Entry.TheVariants as entry
 use Rattle.session_model.specs.Calls.{Setting}
 use Rattle.session_model.specs.Journals.{IsJournal, IsNext}
-use Rattle.session_model.specs.Readings.{Asked, answer, asked, awaited, bearer, is_at, sent, unsent_bytes}
+use Rattle.session_model.specs.Readings.{AskedRequest, answer, asked, awaited, bearer, is_at, sent, unsent_bytes}
 use Rattle.session_model.specs.Served.{IsPicked, is_query}
 use Rattle.session_model.specs.Shown.{IsFrameOf, Shows, hello_frame}
 use Rattle.session_model.proofs.CallLaws.{next_take}
 use Rattle.session_model.proofs.CountLaws.{count_pos}
 use Rattle.session_model.proofs.RequestLaws.{answer_beyond, asked_other, sent_asked}
-use Rattle.sftp_map_server.specs.Serving.{AllShort, Desk, GivesSome, IsServed, Said, Server, both, nothing, opened, step, told_bits, version_reply, with_said}
+use Rattle.sftp_map_server.specs.Serving.{AllShort, ServerState, GivesSome, IsServed, Replies, Server, both, nothing, opened, step, told_bits, version_reply, with_said}
 use Rattle.sftp_map_server.proofs.Bounds.{version_within}
 use Rattle.session_driver.specs.ServingLinks.{IsAllowed, IsVersion}
 use Rattle.sftp_map_server.proofs.Strings.{one_string}
@@ -86,42 +86,42 @@ use Rattle.map_server_laws.proofs.Picking.{Next, Ready, next_frame, next_ready}
 
 -- ---- the hello
 
--- the first desk of a server whose choices, limits and extensions fit, and whose tree is within its bounds
-pub record IsFirst (f : Desk) : Type 0 where
+-- the first state of a server whose choices, limits and extensions fit, and whose tree is within its bounds
+pub record IsFirst (f : ServerState) : Type 0 where
   pub fresh : f.greeted ≡ false
   pub good : IsGood (greeted_at f)
   pub known : f.machine.config.extensions.0 < 64
 
 -- behind the hello VERSION is to be given
-pub record Greeted (f : Desk) (picks : List ℕ) (now : Server) : Type 0 where
+pub record Greeted (f : ServerState) (picks : List ℕ) (now : Server) : Type 0 where
   pub input : now.input ≡ []
-  pub desk : now.desk ≡ greeted_at f
+  pub state : now.state ≡ greeted_at f
   pub output : now.output ≡ record { ready = reply_frame (version_reply f.machine.config) 0; waiting = []; picks = picks }
 
 abbrev nothing_waits : List ℕ → WaitingFrames
 nothing_waits picks = record { ready = []; waiting = []; picks = picks }
 
-hello_fed : (f : Desk) (picks : List ℕ) (before now : Server) → IsFirst f → before ≡ opened f picks
+hello_fed : (f : ServerState) (picks : List ℕ) (before now : Server) → IsFirst f → before ≡ opened f picks
     → (before.input ≡ [] → (let b : List (List ℕ) = request_body (request.Init 3) 0 ∷ [] in AllShort b
-    → StaysOpen before.desk b → FedAll before b now)) → Greeted f picks now
+    → StaysOpen before.state b → FedAll before b now)) → Greeted f picks now
 hello_fed f picks before now first is feeds =
     let said = step_hello f first.fresh first.good.still in
-    let here : before.desk ≡ f = ap (λ (w : Server). w.desk) is in
-    let over : (step f (request_body (request.Init 3) 0)).1.over ≡ false = ap (λ (x : Said × Desk). x.1.over) said ∙ first.good.still in
+    let here : before.state ≡ f = ap (λ (w : Server). w.state) is in
+    let over : (step f (request_body (request.Init 3) 0)).1.over ≡ false = ap (λ (x : Replies × ServerState). x.1.over) said ∙ first.good.still in
     let fed = feeds (ap (λ (w : Server). w.input) is) (hello_short.0, hello_short.1, tt)
-    (subst (λ (w : Desk). StaysOpen w (request_body (request.Init 3) 0 ∷ [])) (sym here) (first.good.still, over))
+    (subst (λ (w : ServerState). StaysOpen w (request_body (request.Init 3) 0 ∷ [])) (sym here) (first.good.still, over))
     in
     record {
       input = fed.input;
-      desk = fed.desk ∙ (ap (λ (w : Desk). (step w (request_body (request.Init 3) 0)).1) here ∙ ap (λ (x : Said × Desk). x.1) said);
-      output = fed.output ∙ (ap (λ (w : Server). with_said w.output (both (step w.desk (request_body (request.Init 3) 0)).0 nothing)) is
-          ∙ (ap (λ (x : Said). with_said (nothing_waits picks) x)
+      state = fed.state ∙ (ap (λ (w : ServerState). (step w (request_body (request.Init 3) 0)).1) here ∙ ap (λ (x : Replies × ServerState). x.1) said);
+      output = fed.output ∙ (ap (λ (w : Server). with_said w.output (both (step w.state (request_body (request.Init 3) 0)).0 nothing)) is
+          ∙ (ap (λ (x : Replies). with_said (nothing_waits picks) x)
           (both_nothing (step f (request_body (request.Init 3) 0)).0)
-          ∙ ap (λ (x : Said × Desk). with_said (nothing_waits picks) x.0) said));
+          ∙ ap (λ (x : Replies × ServerState). with_said (nothing_waits picks) x.0) said));
     }
 
 -- the hello was sent
-pub hello_sent : (f : Desk) (picks : List ℕ) (log : List Piece) (now : Server) → IsFirst f → SentOn [] log hello_frame
+pub hello_sent : (f : ServerState) (picks : List ℕ) (log : List Piece) (now : Server) → IsFirst f → SentOn [] log hello_frame
     → IsServed (opened f picks) log now → Greeted f picks now
 hello_sent f picks log now first sent served =
     let h = sent_all (opened f picks) now [] sent.0 hello_frame (request_body (request.Init 3) 0 ∷ []) sent.2
@@ -130,13 +130,13 @@ hello_sent f picks log now first sent served =
     hello_fed f picks h.0 now first h.1.0 h.1.1
 
 -- what is given then is VERSION
-greeted_turned : (f : Desk) (picks : List ℕ) (now : Server) → Greeted f picks now → turned now.output ≡ now.output
+greeted_turned : (f : ServerState) (picks : List ℕ) (now : Server) → Greeted f picks now → turned now.output ≡ now.output
 greeted_turned f picks now g =
     let some : 0 < length (reply_frame (version_reply f.machine.config) 0) = let l =
     length-string (reply_body (version_reply f.machine.config) 0) in omega (arith, l) in
     still_turned now.output (subst (λ (o : WaitingFrames). 0 < length o.ready) (sym g.output) some)
 
-abbrev hello_whole : (f : Desk) (picks : List ℕ) (now : Server) → Greeted f picks now → BeginsWhole now.output
+abbrev hello_whole : (f : ServerState) (picks : List ℕ) (now : Server) → Greeted f picks now → BeginsWhole now.output
 hello_whole f picks now g = record {
   body = reply_body (version_reply f.machine.config) 0;
   rest = [];
@@ -145,7 +145,7 @@ hello_whole f picks now g = record {
   short = version_within f.machine.config 0;
 }
 
-pub hello_ready : (f : Desk) (picks : List ℕ) (log : List Piece) (now : Server) → IsFirst f → SentOn [] log hello_frame
+pub hello_ready : (f : ServerState) (picks : List ℕ) (log : List Piece) (now : Server) → IsFirst f → SentOn [] log hello_frame
     → IsServed (opened f picks) log now → Ready IsVersion now.output
 hello_ready f picks log now first was_sent v =
     record {
@@ -156,11 +156,11 @@ hello_ready f picks log now first was_sent v =
     }
 
 -- and VERSION was got
-record Met (f : Desk) (picks : List ℕ) (hello : Reply) (now : Server) : Type 0 where
+record Met (f : ServerState) (picks : List ℕ) (hello : Reply) (now : Server) : Type 0 where
   owes : Owes (greeted_at f) picks [] now
   version : hello ≡ version_reply f.machine.config
 
-hello_got : (f : Desk) (picks : List ℕ) (mid now : Server) (hello : Reply) (body : List ℕ) → IsFirst f
+hello_got : (f : ServerState) (picks : List ℕ) (mid now : Server) (hello : Reply) (body : List ℕ) → IsFirst f
     → Greeted f picks mid → GivesSome mid (string body) now → length body ≤ MAX_BODY_LEN → reply_at body
     ≡ Ok (None, hello) → Met f picks hello now
 hello_got f picks mid now hello body first greeted gives short reads =
@@ -179,13 +179,13 @@ hello_got f picks mid now hello body first greeted gives short reads =
         waiting = gives.waiting ∙ ap (λ (o : WaitingFrames). o.waiting) is;
         picks_left = gives.picks ∙ ap (λ (o : WaitingFrames). o.picks) is;
         input = gives.input ∙ greeted.input;
-        desk = gives.desk ∙ greeted.desk;
+        state = gives.state ∙ greeted.state;
       };
       version = (one_reply None None hello (version_reply f.machine.config)
           (sym reads ∙ (ap reply_at (sym parts.0) ∙ version_back f.machine.config first.known))).1;
     }
 
-hello_met : (f : Desk) (picks : List ℕ) (hello : Reply) (log : List Piece) (now : Server) → IsFirst f
+hello_met : (f : ServerState) (picks : List ℕ) (hello : Reply) (log : List Piece) (now : Server) → IsFirst f
     → Shows hello [] [] log → IsServed (opened f picks) log now → Met f picks hello now
 hello_met f picks hello log now first sh served =
     let got = sh.1.1.1.1 in
@@ -199,26 +199,26 @@ hello_met f picks hello log now first sh served =
 -- ---- the journal
 
 -- each reply that was taken is the one due to the request that bears its id
-abbrev pub AreDue : Desk → List Entry → Type 0
+abbrev pub AreDue : ServerState → List Entry → Type 0
 AreDue d [] = Unit {0}
-AreDue d (entry.Event (Take id r) ∷ past) = ((p : ℕ) × ((bearer past id ≡ Some p) × ((a : Asked) × (due d past p ≡ Some (a, r))))) × AreDue d past
+AreDue d (entry.Event (Take id r) ∷ past) = ((p : ℕ) × ((bearer past id ≡ Some p) × ((a : AskedRequest) × (due d past p ≡ Some (a, r))))) × AreDue d past
 AreDue d (_ ∷ past) = AreDue d past
 
 -- what a log shows and a server served: what it owes, and the replies that were taken were the ones due, as they were picked
-pub record Served (d : Desk) (picks : List ℕ) (past : List Entry) (now : Server) : Type 0 where
+pub record Served (d : ServerState) (picks : List ℕ) (past : List Entry) (now : Server) : Type 0 where
   pub owes : Owes d picks past now
   pub due : AreDue d past
   pub by_picks : IsPicked picks past
 
 -- a request more leaves what is owed
-submit_owes : (d : Desk) (picks : List ℕ) (past : List Entry) (by : Owner) (id : ℕ) (r : Request) (now : Server)
+submit_owes : (d : ServerState) (picks : List ℕ) (past : List Entry) (by : Owner) (id : ℕ) (r : Request) (now : Server)
     → Owes d picks past now → Owes d picks (entry.Event (Submit by id r) ∷ past) now
 submit_owes d picks past by id r now o = record {
   ready = o.ready ∙ ap joined (sym (frames_stay itself));
   waiting = o.waiting ∙ sym (frames_stay not);
   picks_left = o.picks_left;
   input = o.input;
-  desk = o.desk;
+  state = o.state;
 }
   where
     frames_stay : (test : Bool → Bool) → frames_owed test d (entry.Event (Submit by id r) ∷ past) ≡ frames_owed test d past
@@ -226,12 +226,12 @@ submit_owes d picks past by id r now o = record {
         mapped_same (stands test (entry.Event (Submit by id r) ∷ past)) (stands test past)
         (frame_due d (entry.Event (Submit by id r) ∷ past)) (frame_due d past) (sent past)
         (λ p lt. let few = sent_asked past in let below : p < asked past = omega (arith, lt, few) in (
-          ap (λ (o : Option Asked). is_none (answer past p) && test (is_query o)) (asked_other past by id p r below),
+          ap (λ (o : Option AskedRequest). is_none (answer past p) && test (is_query o)) (asked_other past by id p r below),
           ap framed (due_old d past by id p r below),
         ))
 
 -- the frame that was got is the one that was given next
-take_served : (s : Setting) (d : Desk) (picks : List ℕ) (past : List Entry) (mid now : Server) (body : List ℕ) (id : ℕ)
+take_served : (s : Setting) (d : ServerState) (picks : List ℕ) (past : List Entry) (mid now : Server) (body : List ℕ) (id : ℕ)
     (r : Reply) → IsGood d → IsSound (tells_of d) past → Served d picks past mid → Next d picks past mid.output
     → GivesSome mid (string body) now → length body ≤ MAX_BODY_LEN → reply_at body ≡ Ok (Some id, r) → Served d picks (entry.Event (Take id r) ∷ past) now
 take_served s d picks past mid now body id r g sound v n gives short reads =
@@ -247,7 +247,7 @@ take_served s d picks past mid now body id r g sound v n gives short reads =
         waiting = gives.waiting ∙ n.waiting;
         picks_left = gives.picks ∙ n.picks_left;
         input = gives.input ∙ v.owes.input;
-        desk = gives.desk ∙ v.owes.desk;
+        state = gives.state ∙ v.owes.state;
       };
       due = ((n.place, (n.bears, (n.asked, n.due))), v.due);
       by_picks = (n.by_pick, v.by_picks);
@@ -259,7 +259,7 @@ awaited_some s past id r next =
     let may = (next_take s past id r next).0 in
     count_pos (λ place. is_none (answer past place)) (sent past) may.0 may.1.0.1 (ap (λ (o : Option Reply). is_none o) may.1.0.2)
 
-pub shows_served : (s : Setting) (f : Desk) (picks : List ℕ) (hello : Reply) (past : List Entry) (log : List Piece)
+pub shows_served : (s : Setting) (f : ServerState) (picks : List ℕ) (hello : Reply) (past : List Entry) (log : List Piece)
     (now : Server) → IsFirst f → IsJournal s past → IsSound (tells_of f) past → Shows hello past [] log
     → IsServed (opened f picks) log now → Served (greeted_at f) picks past now
 shows_served s f picks hello [] log now first j sound sh v = record { owes = (hello_met f picks hello log now first sh v).owes; due = tt; by_picks = tt }
@@ -270,7 +270,7 @@ shows_served s f picks hello (entry.Event Send ∷ past) log now first j sound s
     let o = shows_served s f picks hello past sh.0 a.0 first j.1 sound sh.1.0 a.1.0 in
     record { owes = send_owes s (greeted_at f) picks past a.0 now j.1 first.good sound o.owes a.1.1; due = o.due; by_picks = o.by_picks }
 shows_served s f picks hello (entry.Event (Take id r) ∷ past) log now first j sound sh v =
-    let d : Desk = greeted_at f in
+    let d : ServerState = greeted_at f in
     let frame : IsFrameOf (Some id) r sh.1.1.0 = sh.1.1.1.0 in
     let got = sh.1.1.1.1 in
     let bytes : AllGot got.0 (string frame.body) = subst (AllGot got.0) frame.framed got.2 in
@@ -293,7 +293,7 @@ shows_served s f picks hello (_ ∷ past) log now first j sound sh v =
         picks_left = o.owes.picks_left;
         input =
             o.owes.input;
-        desk = o.owes.desk;
+        state = o.owes.state;
       };
       due = o.due;
       by_picks = o.by_picks;
@@ -305,7 +305,7 @@ served_behind first now (Sent bytes ∷ group) log s = served_behind first s.0 g
 served_behind first now (Got bytes ∷ group) log s = served_behind first s.0 group log s.1
 
 -- VERSION tells what the server offers
-pub shows_version : (f : Desk) (picks : List ℕ) (hello : Reply) (past : List Entry) (log : List Piece) (now : Server)
+pub shows_version : (f : ServerState) (picks : List ℕ) (hello : Reply) (past : List Entry) (log : List Piece) (now : Server)
     → IsFirst f → Shows hello past [] log → IsServed (opened f picks) log now → hello ≡ version_reply f.machine.config
 shows_version f picks hello [] log now first sh v = (hello_met f picks hello log now first sh v).version
 shows_version f picks hello (entry.Event Send ∷ past) log now first sh v =
@@ -321,17 +321,17 @@ shows_version f picks hello (_ ∷ past) log now first sh v = shows_version f pi
 -- ---- replies by places
 
 -- the reply that was taken is the one that is due
-abbrev pub AnswersBy : Option Reply → Option (Asked × Reply) → Type 0
+abbrev pub AnswersBy : Option Reply → Option (AskedRequest × Reply) → Type 0
 AnswersBy None w = Unit {0}
 AnswersBy (Some r) None = ⊥
 AnswersBy (Some r) (Some w) = r ≡ w.1
 
-by_take : (b : Bool) (p q : ℕ) (a : Asked) (r : Reply) (o : Option Reply) (f : ℕ → Option (Asked × Reply))
+by_take : (b : Bool) (p q : ℕ) (a : AskedRequest) (r : Reply) (o : Option Reply) (f : ℕ → Option (AskedRequest × Reply))
     → (b ≡ true → p ≡ q) → f p ≡ Some (a, r) → AnswersBy o (f q) → AnswersBy (if b then Some r else o) (f q)
 by_take true p q a r o f same e by = let is : f q ≡ Some (a, r) = ap f (sym (same refl)) ∙ e in subst (AnswersBy (Some r)) (sym is) refl
 by_take false p q a r o f same e by = by
 
-none_by : (w : Option (Asked × Reply)) (o : Option Reply) → o ≡ None → AnswersBy o w
+none_by : (w : Option (AskedRequest × Reply)) (o : Option Reply) → o ≡ None → AnswersBy o w
 none_by w None e = tt
 none_by w (Some r) e = absurd cc
 
@@ -339,7 +339,7 @@ at_is : (n p : ℕ) → is_at (Some n) p ≡ true → n ≡ p
 at_is n p e = elim (eqb_tells n p) [ inl t ↦ t.1 | inr t ↦ absurd (let x : false ≡ true = sym t.0 ∙ e in cc) ]
 
 -- each reply that was taken is the one that the machine's run gives to the request at its place
-pub answers_by : (d : Desk) (past : List Entry) (p : ℕ) → AreDue d past → AnswersBy (answer past p) (due d past p)
+pub answers_by : (d : ServerState) (past : List Entry) (p : ℕ) → AreDue d past → AnswersBy (answer past p) (due d past p)
 answers_by d [] p n = tt
 answers_by d (entry.Event (Submit by id r) ∷ past) p n =
     elim (eqb_tells p (asked past)) [
@@ -354,7 +354,7 @@ answers_by d (_ ∷ past) p n = answers_by d past p n
 
 -- ---- what is given next
 
-pub ready : (s : Setting) (f : Desk) (picks : List ℕ) (hello : Reply) (past : List Entry) (log : List Piece)
+pub ready : (s : Setting) (f : ServerState) (picks : List ℕ) (hello : Reply) (past : List Entry) (log : List Piece)
     (now : Server) → IsFirst f → IsJournal s past → IsSound (tells_of f) past → Shows hello past [] log
     → IsServed (opened f picks) log now → 0 < awaited past → Ready (IsAllowed past) now.output
 ready s f picks hello past log now first j sound sh v some =

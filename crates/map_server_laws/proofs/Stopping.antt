@@ -14,7 +14,7 @@ use Rattle.session_model.specs.declared.entry.Entry.{Entry}
 use Rattle.session_model.specs.Journals.{IsJournal}
 use Rattle.session_model.specs.Settings.{greeting, setting_of}
 use Rattle.session_model.specs.Shown.{Shows}
-use Rattle.sftp_map_server.specs.Serving.{Desk, IsServed, Server, opened, told_bits}
+use Rattle.sftp_map_server.specs.Serving.{ServerState, IsServed, Server, opened, told_bits}
 use Rattle.session_driver.specs.ServingLinks.{GivesGood, IsAllowed, IsOne, IsVersion, Read, ServesLanes}
 use Rattle.map_server_laws.proofs.Feeding.{Given as GivenBy, got_front, still_turned}
 use Rattle.plan_model.specs.Lanes.{are_ok}
@@ -35,7 +35,7 @@ len_some None len = omega arith
 len_some (Some most) len = omega arith
 
 -- each request of a session that the server greeted fits
-pub sound_at : (lanes : List Lane) (options : SftpOptions) (extensions : Extensions) (f : Desk) (picks : List ℕ)
+pub sound_at : (lanes : List Lane) (options : SftpOptions) (extensions : Extensions) (f : ServerState) (picks : List ℕ)
     (past : List Entry) (log : List Piece) (now : Server) → IsFirst f → are_ok lanes ≡ true
     → IsJournal (setting_of lanes options extensions past) past → Shows (greeting extensions) past [] log
     → IsServed (opened f picks) log now → IsSound (tells_of f) past
@@ -91,7 +91,7 @@ good_by good ended mid now bytes none r (inr p) = record {
   whole = λ over. turned_none now.output (none over);
 }
 
-came : (f : Desk) (picks : List ℕ) (good : Read → Type 0) (ended : Bool) (mid after : List Piece) (bytes : List ℕ)
+came : (f : ServerState) (picks : List ℕ) (good : Read → Type 0) (ended : Bool) (mid after : List Piece) (bytes : List ℕ)
     (now : Server) → ((m : Server) → IsServed (opened f picks) mid m → Ready good m.output)
     → IsServed (opened f picks) after now → (ended ≡ true → (turned now.output).ready ≡ []) → GotOn mid after bytes → IsOne bytes → GivesGood good bytes ended
 came f picks good ended mid after bytes now can served none got one =
@@ -100,7 +100,7 @@ came f picks good ended mid after bytes now can served none got one =
     good_by good ended g.0 now bytes none r (g.1.1 r.whole)
 
 -- a server in memory serves
-pub serves_lanes : (given : Given) (f : Desk) (picks : List ℕ) (ended : Bool) (log : List Piece) (now : Server)
+pub serves_lanes : (given : Given) (f : ServerState) (picks : List ℕ) (ended : Bool) (log : List Piece) (now : Server)
     → IsFirst f → are_ok given.lanes ≡ true → IsServed (opened f picks) log now
     → (ended ≡ true → (turned now.output).ready ≡ []) → ServesLanes given log ended
 serves_lanes given f picks ended log now first ok served none = record {

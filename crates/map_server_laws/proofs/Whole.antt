@@ -28,7 +28,7 @@ use Rattle.machine_model.specs.FileTree.{FileTree}
 use Rattle.machine_model.specs.FitTrees.{IsFit}
 use Rattle.machine_model.proofs.FirstFits.{first_fits}
 use Rattle.sftp_machine.specs.MachineState.{MAX_HANDLES}
-use Rattle.sftp_map_server.specs.Serving.{Desk, IsServed, IsServing, Server, Serving, config_of, first_desk, opened, tree_left, version_reply}
+use Rattle.sftp_map_server.specs.Serving.{ServerState, IsServed, IsServing, Server, Serving, config_of, first_state, opened, tree_left, version_reply}
 use Rattle.session_driver.specs.ServingLinks.{ServesLanes}
 use Rattle.map_server_laws.specs.ServedRuns.{IsServedRun}
 use Rattle.sftp_map_server.specs.Unopened.{IsUnopened}
@@ -45,36 +45,36 @@ all_codes : (choices : List Choice) → All (λ choice. FitsNumber choice.refuse
 all_codes [] h = tt
 all_codes (c ∷ choices) h = (h 0 c (omega arith), all_codes choices (λ k d lt. h (suc k) d (omega (arith, lt))))
 
-first_is : (first : Server) → IsUnopened first → IsFirst first.desk
+first_is : (first : Server) → IsUnopened first → IsFirst first.state
 first_is first new =
-    let d : Desk = first_desk new.files new.dirs first.desk.machine.config first.desk.choices in
-    let is : first.desk ≡ d = ap (λ (w : Server). w.desk) new.is in
+    let d : ServerState = first_state new.files new.dirs first.state.machine.config first.state.choices in
+    let is : first.state ≡ d = ap (λ (w : Server). w.state) new.is in
     record {
-      fresh = ap (λ (w : Desk). w.greeted) is;
+      fresh = ap (λ (w : ServerState). w.greeted) is;
       good = record {
         greeted = refl;
-        still = ap (λ (w : Desk). w.over) is;
-        codes = all_codes first.desk.choices new.fits.codes;
+        still = ap (λ (w : ServerState). w.over) is;
+        codes = all_codes first.state.choices new.fits.codes;
         limits = new.fits.limits;
-        fit = subst (λ (w : Desk). IsFit w.machine.tree) (sym is) (first_fits new.files new.dirs new.may);
+        fit = subst (λ (w : ServerState). IsFit w.machine.tree) (sym is) (first_fits new.files new.dirs new.may);
       };
       known = new.fits.known;
     }
 
--- its log is that of a server from this desk on
+-- its log is that of a server from this state on
 served_from : (server : Serving) (new : IsUnopened server.first)
     → IsServing server.first server.now server.log server.ended
-    → IsServed (opened server.first.desk server.first.output.picks) server.log server.now
+    → IsServed (opened server.first.state server.first.output.picks) server.log server.now
 served_from server new serving =
-    let here : server.first ≡ opened server.first.desk server.first.output.picks =
-    new.is ∙ ap (λ (d : Desk). opened d server.first.output.picks) (sym (ap (λ (w : Server). w.desk) new.is)) in
+    let here : server.first ≡ opened server.first.state server.first.output.picks =
+    new.is ∙ ap (λ (d : ServerState). opened d server.first.output.picks) (sym (ap (λ (w : Server). w.state) new.is)) in
     subst (λ (w : Server). IsServed w server.log server.now) here serving.served
 
 -- the server serves the lanes of any session
 pub server_serves : (given : Given) (server : Serving) → are_ok given.lanes ≡ true → IsUnopened server.first
     → IsServing server.first server.now server.log server.ended → ServesLanes given server.log server.ended
 server_serves given server ok new serving =
-    serves_lanes given server.first.desk server.first.output.picks server.ended server.log server.now
+    serves_lanes given server.first.state server.first.output.picks server.ended server.log server.now
     (first_is server.first new) ok (served_from server new serving) serving.end
 
 -- a run stops only for want of memory
@@ -86,7 +86,7 @@ stops_for_memory given turns server e ok new serving ends why =
 
 -- what the replies of a journal are to which the log bears witness
 pub record IsAnswered (first : Server) (past : List Entry) (left : FileTree) : Type 0 where
-  pub serves : Serves first.desk.machine.config first.desk.choices first.desk.machine.tree past left
+  pub serves : Serves first.state.machine.config first.state.choices first.state.machine.tree past left
   pub by_picks : IsPicked first.output.picks past
   pub numbered : unanswered past ≡ 0 → IsNumbered past
 
@@ -94,21 +94,21 @@ pub record IsAnswered (first : Server) (past : List Entry) (left : FileTree) : T
 journal_is_served : (lanes : List Lane) (options : SftpOptions) (extensions : Extensions) (past : List Entry)
     (server : Serving) → IsUnopened server.first → IsServing server.first server.now server.log server.ended
     → are_ok lanes ≡ true → IsJournal (setting_of lanes options extensions past) past → called past < MAX_HANDLES
-    → Shows (greeting extensions) past [] server.log → IsAnswered server.first past server.now.desk.machine.tree
+    → Shows (greeting extensions) past [] server.log → IsAnswered server.first past server.now.state.machine.tree
 journal_is_served lanes options extensions past server new serving ok j few shows =
     let first = first_is server.first new in
-    let f : Desk = server.first.desk in
+    let f : ServerState = server.first.state in
     let picks : List ℕ = server.first.output.picks in
     let served = served_from server new serving in
     let sound = sound_at lanes options extensions f picks past server.log server.now first ok j shows served in
-    let d : Desk = greeted_at f in
+    let d : ServerState = greeted_at f in
     let o = shows_served (setting_of lanes options extensions past) f picks (greeting extensions) past server.log server.now first j sound shows served in
-    let none : d.machine.grants ≡ 0 = ap (λ (w : Server). w.desk.machine.grants) new.is in
-    let closed : d.machine.tree.handles ≡ [] = ap (λ (w : Server). w.desk.machine.tree.handles) new.is in
+    let none : d.machine.grants ≡ 0 = ap (λ (w : Server). w.state.machine.grants) new.is in
+    let closed : d.machine.tree.handles ≡ [] = ap (λ (w : Server). w.state.machine.tree.handles) new.is in
     let by : (p : ℕ) → AnswersBy (answer past p) (due d past p) = λ p. answers_by d past p o.due in
     record {
-      serves = subst (λ (w : Desk). Serves f.machine.config f.choices f.machine.tree past w.machine.tree)
-          (sym o.owes.desk) (serves_by d past none closed sound by few);
+      serves = subst (λ (w : ServerState). Serves f.machine.config f.choices f.machine.tree past w.machine.tree)
+          (sym o.owes.state) (serves_by d past none closed sound by few);
       by_picks = o.by_picks;
       numbered = λ over. numbered_by d past none closed sound by few over;
     }
@@ -124,7 +124,7 @@ pub version_is_told : (given : Given) (version : Option Reply) (s : Setting) (pa
     → IsUnopened server.first → IsServing server.first server.now server.log server.ended
     → IsFixed given version past s → Told (Showing version past) (Some []) (Some server.log) → version ≡ Some (version_reply (config_of server))
 version_is_told given version s past server new serving fixed shown =
-    fixed.1.0 ∙ ap (λ (r : Reply). Some r) (shows_version server.first.desk server.first.output.picks (greeting fixed.0)
+    fixed.1.0 ∙ ap (λ (r : Reply). Some r) (shows_version server.first.state server.first.output.picks (greeting fixed.0)
     past server.log server.now (first_is server.first new) (shown_by given version s past server.log fixed shown)
     (served_from server new serving))
 

@@ -8,6 +8,6 @@ use Rattle.sftp_map_server.specs.Serving.{Server}
 -- The replies of a whole run's journal are those of one sequential run of the file machine, which grants the handles 0,
 -- 1, 2 and so on, and is left with this tree; they were taken in the order that the picks say.
 pub record IsServedRun (first : Server) (past : List Entry) (left : FileTree) : Type 0 where
-  pub serves : Serves first.desk.machine.config first.desk.choices first.desk.machine.tree past left
+  pub serves : Serves first.state.machine.config first.state.choices first.state.machine.tree past left
   pub by_picks : IsPicked first.output.picks past
   pub numbered : IsNumbered past

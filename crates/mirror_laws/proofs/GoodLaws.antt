@@ -48,7 +48,7 @@ use Rattle.sftp_model.specs.declared.options.SftpOptions.{SftpOptions}
 use Rattle.sftp_model.specs.declared.outcome.Outcome.{Outcome}
 use Rattle.sftp_model.specs.declared.outcome.Outcome.TheVariants as outcome
 use Rattle.machine_model.specs.Changes.{IsWellFormed}
-use Rattle.machine_model.specs.Components.{Name, components, is_long, last_of, written}
+use Rattle.machine_model.specs.Components.{Name, components, is_long_name, last_of, written}
 use Rattle.machine_model.specs.FileTree.{FileTree, all_bytes, is_directory, node_at}
 use Rattle.machine_model.specs.FirstTree.{may_be_named, stand_apart}
 use Rattle.machine_model.specs.Limits.{MAX_COMPONENT_LEN, MAX_FILE_LEN, MAX_TOTAL_LEN}
@@ -154,7 +154,7 @@ part_short (part ∷ name) zero all =
     let le : nat_le (length part) MAX_COMPONENT_LEN ≡ true = (and_parts (is_component part) (list_all is_component name) all).0 in grind (arith, nat_tests)
 part_short (part ∷ name) (suc i) all = part_short name i (and_parts (is_component part) (list_all is_component name) all).1
 
-none_long : (name : Name) → list_all is_component name ≡ true → (i : ℕ) → i < length name → is_long (first_parts name (suc i)) ≡ false
+none_long : (name : Name) → list_all is_component name ≡ true → (i : ℕ) → i < length name → is_long_name (first_parts name (suc i)) ≡ false
 none_long name all i lt =
     let le : length (last_of (first_parts name (suc i))) ≤ MAX_COMPONENT_LEN =
     part_short (first_parts name (suc i)) (length (first_parts name (suc i)) - 1) (take_all_pass is_component (suc i) name all) in grind (arith, nat_tests)

@@ -59,9 +59,9 @@ abbrev pub may_be_made : FileTree → Directory → Bool
 may_be_made tree d = not (is_file (node_at tree (components d.path)))
 
 -- A good file of these, over a server that has this tree. One that goes up: the directories that it stands in are there
--- or may be made, no directory has its name, its path fits a frame, and there is room for its bytes, and for those of all
--- files that go up beside all bytes of the server. One that comes down: it is there, its path fits a frame, and it has
--- fewer bytes than the bound.
+-- or may be made, no directory has its name, its path fits a frame, and there is room for its bytes, and for those of
+-- all files that go up beside all bytes of the server. One that comes down: it is there, its path fits a frame, and it
+-- has fewer bytes than the bound.
 abbrev pub is_good_job : FileTree → List Job → Job → Bool
 is_good_job tree jobs (job.Up name content) =
     list_all (may_be_made tree) (parents_of (job.Up name content))

@@ -27,7 +27,8 @@ pub new_is_good : is_good_job some_tree (alone (job.Up (codes "/d/b") [])) (job.
 unfolding components request_body string uint32 attributes
 new_is_good = refl
 
-pub made_is_good : is_good_job some_tree (alone (job.Up (codes "x/y/z") (1 ∷ []))) (job.Up (codes "x/y/z") (1 ∷ [])) ≡ true
+pub made_is_good : is_good_job some_tree (alone (job.Up (codes "x/y/z") (1 ∷ []))) (job.Up (codes "x/y/z") (1 ∷ []))
+    ≡ true
 unfolding components request_body string uint32 attributes
 made_is_good = refl
 
@@ -69,7 +70,8 @@ refused_is_not_copied why says =
     let both : Some (verdict.Refused why) ≡ Some verdict.Copied = says 0 up_a tt refl anew_is_good in cc
 
 pub differs_is_not_copied : CopiesGood (alone up_a) [] some_tree (verdict.Differs ∷ []) → ⊥
-differs_is_not_copied says = let both : Some verdict.Differs ≡ Some verdict.Copied = says 0 up_a tt refl anew_is_good in cc
+differs_is_not_copied says = let both : Some verdict.Differs ≡ Some verdict.Copied = says 0 up_a tt refl anew_is_good in
+    cc
 
 -- and nothing is said where a choice refuses
 pub refused_by_choice : (why : Error)

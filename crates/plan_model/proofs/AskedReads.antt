@@ -15,7 +15,8 @@ use Rattle.sftp_model.specs.declared.slot.Move.{Move}
 use Rattle.sftp_model.specs.declared.slot.Move.TheVariants.{Ask, Wait, Done}
 use Rattle.sftp_model.specs.declared.slot.Site.{Site}
 use Rattle.sftp_model.specs.Answers.{MayAnswer}
-use Rattle.plan_model.specs.Moves.{Answers, Own, once_answered, on_handle, is_too_long, refuses}
+use Rattle.sftp_model.specs.Frames.{is_too_long}
+use Rattle.plan_model.specs.Moves.{Answers, Own, once_answered, on_handle, refuses}
 use Rattle.plan_model.specs.PathPlans.{from_directory}
 use Rattle.plan_model.specs.FilePlans.{open_request}
 use Rattle.plan_model.specs.TransferPlans.{offset_asked}

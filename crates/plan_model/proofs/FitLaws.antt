@@ -7,7 +7,7 @@ use Rattle.sftp_model.specs.declared.request.Request.{Request}
 use Rattle.sftp_model.specs.declared.request.Request.TheVariants as request
 use Rattle.sftp_model.specs.Fits.{FitsHandle, FitsAttributes, FitsRequest, AsksWithinReply}
 use Rattle.sftp_model.specs.Numbers.{MAX_BODY_LEN, MAX_TRANSFER_LEN}
-use Rattle.sftp_model.specs.Frames.{no_attributes, attributes, request_body, of_type, extended, posix_rename_name, hardlink_name, expand_path_name}
+use Rattle.sftp_model.specs.Frames.{no_attributes, attributes, request_body, of_type, extended, posix_rename_name, hardlink_name, expand_path_name, is_too_long}
 use Rattle.sftp_model.specs.declared.slot.Facts.{Facts}
 use Rattle.sftp_model.specs.declared.slot.Move.TheVariants.{Ask}
 use Rattle.sftp_model.specs.declared.slot.Site.{Site}
@@ -15,7 +15,7 @@ use Rattle.plan_model.specs.declared.call.Call.TheVariants as call
 use Rattle.plan_model.specs.declared.call.Call.{Call}
 use Rattle.plan_model.specs.CallPlans.{next}
 use Rattle.plan_model.proofs.CallLaws.{asks_good}
-use Rattle.plan_model.specs.Moves.{Answers, Own, is_too_long, handle_of}
+use Rattle.plan_model.specs.Moves.{Answers, Own, handle_of}
 use Rattle.plan_model.specs.GoodMoves.{Situation, IsHeldHandle, IsGoodAsk, FitsCall, FitsFacts, HandlesFit, WithinRange, closes, situation}
 
 -- ---- a part is no longer than what it stands in

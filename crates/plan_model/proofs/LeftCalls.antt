@@ -18,7 +18,7 @@ use Rattle.plan_model.specs.WindowPlans.{answered_prefix, outside, to_read}
 use Rattle.plan_model.specs.declared.call.Call.TheVariants as call
 use Rattle.plan_model.specs.declared.call.Call.{Call}
 use Rattle.plan_model.specs.CallPlans.{cancelled, next}
-use Rattle.plan_model.specs.Ends.{Leaves}
+use Rattle.plan_model.specs.Ends.{EndsLeaving}
 use Rattle.plan_model.proofs.MoveLaws.{either, at_buffered}
 use Rattle.plan_model.proofs.LeftSites.{
   IsKept,
@@ -57,8 +57,8 @@ ChangesBuffer (call.BufSeek slot position) = Unit {0}
 ChangesBuffer other = ⊥
 
 pub call_leaves : (P : Site → Type 0) (k : IsKept P) (c : Call) (site : Site) (facts : Facts) (own : Own)
-    (answers : Answers) → P site → (ChangesBuffer c → Leaves P (next c site facts own answers))
-    → Leaves P (next c site facts own answers)
+    (answers : Answers) → P site → (ChangesBuffer c → EndsLeaving P (next c site facts own answers))
+    → EndsLeaving P (next c site facts own answers)
 call_leaves P k (call.OpenFile slot flags path) site facts own answers b rest = open_leaves P k slot (flags_of flags) path site own answers b
 call_leaves P k (call.Read slot n) site facts own answers b rest =
     file_leaves P site slot _ b (λ file. was_read_leaves P k facts slot n file site own answers b)
@@ -79,17 +79,17 @@ call_leaves P k (call.SetLen slot n) site facts own answers b rest = set_leaves 
 call_leaves P k (call.SetPerm slot mode) site facts own answers b rest = set_leaves P facts slot _ site own answers b
 call_leaves P k (call.Meta slot) site facts own answers b rest = file_leaves P site slot _ b (λ file. meta_leaves P file site own answers b)
 call_leaves P k (call.Sync slot) site facts own answers b rest = file_leaves P site slot _ b (λ file. sync_leaves P facts file site own answers b)
-call_leaves P k (call.Copy from to n) site facts own answers b rest = either (Leaves P) (from == to) (Done outcome.NoFile site) _ (λ e. b)
+call_leaves P k (call.Copy from to n) site facts own answers b rest = either (EndsLeaving P) (from == to) (Done outcome.NoFile site) _ (λ e. b)
     (λ e. file_leaves P site from _ b (λ source. file_leaves P site to _ b (λ target. copy_leaves P k facts from to n site own answers source target b)))
 call_leaves P k (call.CloneFile from to) site facts own answers b rest =
-    either (Leaves P) (from == to) (Done outcome.NoFile site) _ (λ e. b)
+    either (EndsLeaving P) (from == to) (Done outcome.NoFile site) _ (λ e. b)
     (λ e. file_leaves P site from _ b (λ file. set_file P k site to file b))
 call_leaves P k (call.Close slot) site facts own answers b rest = close_leaves P k slot site own answers (slot_at site slot) b
 call_leaves P k (call.Buffer slot len) site facts own answers b rest =
     file_leaves P site slot _ b (λ file. k.set site slot (Buffered file
     (record { len = len; bytes = []; deferred = []; reading = None })) (refl, refl) b)
 call_leaves P k (call.Unbuffer slot) site facts own answers b rest =
-    at_buffered (Leaves P) (slot_at site slot) site _ (λ o. b) (λ file buffer at. set_file P k site slot file b)
+    at_buffered (EndsLeaving P) (slot_at site slot) site _ (λ o. b) (λ file buffer at. set_file P k site slot file b)
 call_leaves P k (call.BufRead slot n) site facts own answers b rest = rest tt
 call_leaves P k (call.BufWrite slot bytes) site facts own answers b rest = rest tt
 call_leaves P k (call.BufWriteAll slot bytes) site facts own answers b rest = rest tt

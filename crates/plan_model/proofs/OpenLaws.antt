@@ -47,7 +47,7 @@ use Rattle.plan_model.specs.FilePlans.{
   seek_next,
   buffer_next,
 }
-use Rattle.plan_model.specs.GoodMoves.{Situation, IsHeld, HoldsWithin, IsGood, IsBrought, Closes}
+use Rattle.plan_model.specs.GoodMoves.{Situation, IsHeld, HoldsWithin, IsGood, IsBrought, ClosesGrant}
 use Rattle.plan_model.proofs.MoveLaws.{either, answered, replied, by_status, by_attrs, as_begun}
 use Rattle.plan_model.proofs.SlotLaws.{set_has, same_grant}
 use Rattle.plan_model.proofs.PathLaws.{path_good, fitting}
@@ -91,7 +91,7 @@ open_good s slot flags path fits brings = by_own s.own refl
 
 -- ---- close
 
-pub close_good : (s : Situation) (slot : ℕ) → ((handle : List ℕ) → Closes slot s.site s.own s.answers handle
+pub close_good : (s : Situation) (slot : ℕ) → ((handle : List ℕ) → ClosesGrant slot s.site s.own s.answers handle
     → s.closes handle) → IsGood s (close_next slot s.site s.facts s.own s.answers)
 close_good s slot closes = by_slot (slot_at s.site slot) refl
   where

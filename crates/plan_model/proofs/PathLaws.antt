@@ -10,9 +10,10 @@ use Rattle.sftp_model.specs.declared.request.Request.{Request}
 use Rattle.sftp_model.specs.declared.request.Request.TheVariants as request
 use Rattle.sftp_model.specs.declared.slot.Move.TheVariants.{Ask, Done}
 use Rattle.sftp_model.specs.Fits.{FitsAttributes, FitsLong, FitsNumber}
-use Rattle.sftp_model.specs.Frames.{no_attributes}
+use Rattle.sftp_model.specs.Frames.{no_attributes, is_too_long}
 use Rattle.sftp_model.specs.Numbers.{POSIX_RENAME, HARDLINK, EXPAND_PATH}
-use Rattle.plan_model.specs.Moves.{Own, is_too_long, ask_path, refuses, refuses_extension, offers, done_by, told_by}
+use Rattle.plan_model.specs.Moves.{Own, ask_path, refuses, refuses_extension, offers, done_by, told_by}
+use Rattle.sftp_model.specs.Readings.{permission_bits}
 use Rattle.plan_model.specs.PathPlans.{
   from_directory,
   path_done,
@@ -20,7 +21,6 @@ use Rattle.plan_model.specs.PathPlans.{
   path_named,
   named_by,
   set_attributes,
-  permission_bits,
   set_stat_next,
   remove_next,
   mkdir_next,

@@ -44,7 +44,7 @@ use Rattle.plan_model.specs.BufferPlans.{
 use Rattle.plan_model.specs.declared.call.Call.TheVariants as call
 use Rattle.plan_model.specs.declared.call.Call.{Call}
 use Rattle.plan_model.specs.CallPlans.{cancelled, next}
-use Rattle.plan_model.specs.Ends.{Leaves}
+use Rattle.plan_model.specs.Ends.{EndsLeaving}
 use Rattle.plan_model.specs.OwnRequests.{oldest_first, AreAsked}
 use Rattle.plan_model.specs.ReadsUnderWay.{Requests, AreAt, IsReadAt, ReadsStand}
 use Rattle.plan_model.proofs.MoveLaws.{either, by_status, by_content, at_buffered}
@@ -96,9 +96,9 @@ stand_kept requests = record {
 -- what a plan leaves where a slot holds a buffered file
 on_buffer_leaves : (requests : Requests) (site : Site) (slot : ℕ) (go : FileAt → Buffer → Move) → ReadsStand requests site
     → ((file : FileAt) (buffer : Buffer) → SlotStands requests (Buffered file buffer)
-    → Leaves (ReadsStand requests) (go file buffer)) → Leaves (ReadsStand requests)
+    → EndsLeaving (ReadsStand requests) (go file buffer)) → EndsLeaving (ReadsStand requests)
     (on_buffered (slot_at site slot) site go)
-on_buffer_leaves requests site slot go b goes = at_buffered (Leaves (ReadsStand requests)) (slot_at site slot) site go
+on_buffer_leaves requests site slot go b goes = at_buffered (EndsLeaving (ReadsStand requests)) (slot_at site slot) site go
     (λ o. b) (λ file buffer at. goes file buffer (λ p. b.each slot p file buffer at))
 
 -- ---- buf_seek, buf_read
@@ -113,12 +113,12 @@ sought_stands requests file to buffer w = by_same (to == file.offset)
     by_same false = none_reading requests (record file { offset = to }) (sought_buffer file.offset to buffer) refl
 
 filled_stands : (requests : Requests) (slot n : ℕ) (file : FileAt) (buffer : Buffer) (site : Site) (r : Reply)
-    → ReadsStand requests site → Leaves (ReadsStand requests) (was_filled slot n file buffer site r)
+    → ReadsStand requests site → EndsLeaving (ReadsStand requests) (was_filled slot n file buffer site r)
 filled_stands requests slot n file buffer site r b =
     let left : ReadsStand requests (without_reading slot file buffer site) =
     slot_set requests site slot (Buffered file (record buffer { reading = None }))
     (none_reading requests file (record buffer { reading = None }) refl) b in
-    by_content (Leaves (ReadsStand requests)) r (without_reading slot file buffer site)
+    by_content (EndsLeaving (ReadsStand requests)) r (without_reading slot file buffer site)
     (Done outcome.End (without_reading slot file buffer site)) _ (λ o. left) left
     (λ bytes. slot_set requests site slot (Buffered (further file (length (take n bytes)))
     (record buffer { bytes = drop n bytes; reading = None }))
@@ -127,9 +127,9 @@ filled_stands requests slot n file buffer site r b =
 
 fill_stands : (requests : Requests) (slot n : ℕ) (file : FileAt) (buffer : Buffer) (site : Site) (facts : Facts)
     (reading : Option ℕ) (own : Own) (answers : Answers) → ReadsStand requests site
-    → Leaves (ReadsStand requests) (fill_next slot n file buffer site facts reading own answers)
+    → EndsLeaving (ReadsStand requests) (fill_next slot n file buffer site facts reading own answers)
 fill_stands requests slot n file buffer site facts (Some place) own answers b =
-    answered_in (Leaves (ReadsStand requests)) answers place (answers place) _ refl tt
+    answered_in (EndsLeaving (ReadsStand requests)) answers place (answers place) _ refl tt
     (λ r is. filled_stands requests slot n file buffer site r b)
 fill_stands requests slot n file buffer site facts None own answers b =
     once_leaves (ReadsStand requests) (ask_read file (min (max n buffer.len) facts.read_len) site answers) (was_filled slot n file buffer site) own answers
@@ -139,7 +139,7 @@ fill_stands requests slot n file buffer site facts None own answers b =
 from_stands : (requests : Requests) (slot n : ℕ) (file : FileAt) (buffer : Buffer) (site : Site) (facts : Facts)
     (bytes : List ℕ) (own : Own) (answers : Answers) → buffer.bytes ≡ bytes → SlotStands requests (Buffered file buffer)
     → ReadsStand requests site
-    → Leaves (ReadsStand requests) (from_buffer slot n file buffer site facts bytes own answers)
+    → EndsLeaving (ReadsStand requests) (from_buffer slot n file buffer site facts bytes own answers)
 from_stands requests slot n file buffer site facts [] own answers is w b = fill_stands requests slot n file buffer site facts buffer.reading own answers b
 from_stands requests slot n file buffer site facts (c ∷ bytes) own answers is w b =
     slot_set requests site slot (Buffered (further file (length (take n (c ∷ bytes))))
@@ -148,10 +148,10 @@ from_stands requests slot n file buffer site facts (c ∷ bytes) own answers is 
 
 read_stands : (requests : Requests) (slot n : ℕ) (file : FileAt) (buffer : Buffer) (site : Site) (facts : Facts)
     (own : Own) (answers : Answers) → SlotStands requests (Buffered file buffer) → ReadsStand requests site
-    → Leaves (ReadsStand requests) (buf_read_file_next slot n site facts own answers file buffer)
+    → EndsLeaving (ReadsStand requests) (buf_read_file_next slot n site facts own answers file buffer)
 read_stands requests slot n file buffer site facts own answers w b =
-    either (Leaves (ReadsStand requests)) (not file.readable) (refuses kind.NotReadable site) _ (λ e. b)
-    (λ e. either (Leaves (ReadsStand requests)) (n == 0) (Done (outcome.Bytes []) site)
+    either (EndsLeaving (ReadsStand requests)) (not file.readable) (refuses kind.NotReadable site) _ (λ e. b)
+    (λ e. either (EndsLeaving (ReadsStand requests)) (n == 0) (Done (outcome.Bytes []) site)
     (from_buffer slot n file buffer site facts buffer.bytes own answers) (λ z. b)
     (λ z. from_stands requests slot n file buffer site facts buffer.bytes own answers refl w b))
 
@@ -165,22 +165,22 @@ left_deferred requests slot file buffer site writes w b = slot_set requests site
 taken_stands : (requests : Requests) (slot : ℕ) (file : FileAt) (buffer : Buffer) (site : Site) (answers : Answers)
     (writes : List (ℕ × ℕ)) (go : Buffer → Site → Move) → SlotStands requests (Buffered file buffer)
     → ReadsStand requests site
-    → ((freed : Buffer) (left : Site) → ReadsStand requests left → Leaves (ReadsStand requests) (go freed left))
-    → Leaves (ReadsStand requests) (taken_out slot file buffer site answers writes go)
+    → ((freed : Buffer) (left : Site) → ReadsStand requests left → EndsLeaving (ReadsStand requests) (go freed left))
+    → EndsLeaving (ReadsStand requests) (taken_out slot file buffer site answers writes go)
 taken_stands requests slot file buffer site answers [] go w b goes = goes buffer site b
 taken_stands requests slot file buffer site answers (write ∷ writes) go w b goes =
     let left : ReadsStand requests (with_deferred slot file buffer site writes) = left_deferred requests slot file buffer site writes w b in
-    answered_in (Leaves (ReadsStand requests)) answers write.0 (answers write.0) _ refl tt (λ r is.
-    by_status (Leaves (ReadsStand requests)) r (with_deferred slot file buffer site writes) _ (λ o. left)
+    answered_in (EndsLeaving (ReadsStand requests)) answers write.0 (answers write.0) _ refl tt (λ r is.
+    by_status (EndsLeaving (ReadsStand requests)) r (with_deferred slot file buffer site writes) _ (λ o. left)
     (goes (record buffer { deferred = writes }) (with_deferred slot file buffer site writes) left))
 
 capacity_stands : (requests : Requests) (slot : ℕ) (file : FileAt) (buffer : Buffer) (site : Site) (facts : Facts)
     (answers : Answers) (go : Buffer → Site → Move) → SlotStands requests (Buffered file buffer)
     → ReadsStand requests site
-    → ((freed : Buffer) (left : Site) → ReadsStand requests left → Leaves (ReadsStand requests) (go freed left))
-    → Leaves (ReadsStand requests) (with_capacity slot file buffer site facts answers go)
+    → ((freed : Buffer) (left : Site) → ReadsStand requests left → EndsLeaving (ReadsStand requests) (go freed left))
+    → EndsLeaving (ReadsStand requests) (with_capacity slot file buffer site facts answers go)
 capacity_stands requests slot file buffer site facts answers go w b goes =
-    either (Leaves (ReadsStand requests)) (is_full facts buffer)
+    either (EndsLeaving (ReadsStand requests)) (is_full facts buffer)
     (taken_out slot file buffer site answers buffer.deferred go) (go buffer site)
     (λ e. taken_stands requests slot file buffer site answers buffer.deferred go w b goes) (λ e. goes buffer site b)
 
@@ -191,7 +191,7 @@ written_stands requests slot file buffer place n site b = slot_set requests site
 
 send_stands : (requests : Requests) (slot : ℕ) (file : FileAt) (bytes : List ℕ) (facts : Facts) (own : Own)
     (answers : Answers) (buffer : Buffer) (site : Site) → ReadsStand requests site
-    → Leaves (ReadsStand requests) (send_next slot file bytes facts own answers buffer site)
+    → EndsLeaving (ReadsStand requests) (send_next slot file bytes facts own answers buffer site)
 send_stands requests slot file bytes facts [] answers buffer site b =
     write_leaves (ReadsStand requests) file (take (deferrable_len facts bytes buffer) bytes) site answers b
 send_stands requests slot file bytes facts (asked ∷ later) answers buffer site b =
@@ -200,10 +200,10 @@ send_stands requests slot file bytes facts (asked ∷ later) answers buffer site
 rest_stands : (requests : Requests) (slot : ℕ) (bytes : List ℕ) (file : FileAt) (buffer : Buffer) (site : Site)
     (facts : Facts) (own : Own) (answers : Answers) → SlotStands requests (Buffered file buffer)
     → ReadsStand requests site
-    → Leaves (ReadsStand requests) (buffered_rest slot bytes file buffer site facts own answers)
+    → EndsLeaving (ReadsStand requests) (buffered_rest slot bytes file buffer site facts own answers)
 rest_stands requests slot bytes file buffer site facts [] answers w b =
-    either (Leaves (ReadsStand requests)) (length bytes == 0) (Done outcome.Done site) _ (λ z. b)
-    (λ z. either (Leaves (ReadsStand requests)) (not file.writable) (refuses kind.NotWritable site) _ (λ n. b)
+    either (EndsLeaving (ReadsStand requests)) (length bytes == 0) (Done outcome.Done site) _ (λ z. b)
+    (λ z. either (EndsLeaving (ReadsStand requests)) (not file.writable) (refuses kind.NotWritable site) _ (λ n. b)
     (λ n. capacity_stands requests slot file buffer site facts answers (ask_deferred file bytes facts answers) w b
     (λ freed left h. write_leaves (ReadsStand requests) file (take (deferrable_len facts bytes freed) bytes) left
     answers h)))
@@ -218,31 +218,31 @@ rest_stands requests slot bytes file buffer site facts (asked ∷ later) answers
 
 flush_stands : (requests : Requests) (slot : ℕ) (file : FileAt) (buffer : Buffer) (site : Site) (answers : Answers)
     (writes : List (ℕ × ℕ)) → SlotStands requests (Buffered file buffer) → ReadsStand requests site
-    → Leaves (ReadsStand requests) (flush_next slot file buffer site answers writes)
+    → EndsLeaving (ReadsStand requests) (flush_next slot file buffer site answers writes)
 flush_stands requests slot file buffer site answers [] w b = b
 flush_stands requests slot file buffer site answers (write ∷ writes) w b =
     let left : ReadsStand requests (with_deferred slot file buffer site writes) = left_deferred requests slot file buffer site writes w b in
-    answered_in (Leaves (ReadsStand requests)) answers write.0 (answers write.0) _ refl tt
-    (λ r is. by_status (Leaves (ReadsStand requests)) r (with_deferred slot file buffer site writes) _ (λ o. left)
+    answered_in (EndsLeaving (ReadsStand requests)) answers write.0 (answers write.0) _ refl tt
+    (λ r is. by_status (EndsLeaving (ReadsStand requests)) r (with_deferred slot file buffer site writes) _ (λ o. left)
     (flush_stands requests slot file buffer (with_deferred slot file buffer site writes) answers writes w left))
 
 -- ---- the law
 
 pub ended_stand : (requests : Requests) (c : Call) (site : Site) (facts : Facts) (own : Own) (answers : Answers)
-    → ReadsStand requests site → Leaves (ReadsStand requests) (next c site facts own answers)
+    → ReadsStand requests site → EndsLeaving (ReadsStand requests) (next c site facts own answers)
 ended_stand requests c site facts own answers b = call_leaves (ReadsStand requests) (stand_kept requests) c site facts own answers b (of_buffer c)
   where
-    of_buffer : (d : Call) → ChangesBuffer d → Leaves (ReadsStand requests) (next d site facts own answers)
+    of_buffer : (d : Call) → ChangesBuffer d → EndsLeaving (ReadsStand requests) (next d site facts own answers)
     of_buffer (call.BufRead slot n) h = on_buffer_leaves requests site slot _ b
         (λ file buffer w. read_stands requests slot n file buffer site facts own answers w b)
     of_buffer (call.BufWrite slot bytes) h = on_buffer_leaves requests site slot _ b (λ file buffer w.
-        either (Leaves (ReadsStand requests)) (not file.writable) (refuses kind.NotWritable site) _ (λ e. b)
-        (λ e. either (Leaves (ReadsStand requests)) (length bytes == 0) (Done (outcome.Count 0) site) _ (λ z. b)
+        either (EndsLeaving (ReadsStand requests)) (not file.writable) (refuses kind.NotWritable site) _ (λ e. b)
+        (λ e. either (EndsLeaving (ReadsStand requests)) (length bytes == 0) (Done (outcome.Count 0) site) _ (λ z. b)
         (λ z. capacity_stands requests slot file buffer site facts answers _ w b (send_stands requests slot file bytes facts own answers))))
     of_buffer (call.BufWriteAll slot bytes) h = on_buffer_leaves requests site slot _ b
         (λ file buffer w. rest_stands requests slot bytes file buffer site facts own answers w b)
     of_buffer (call.BufFlush slot) h = on_buffer_leaves requests site slot _ b (λ file buffer w.
-        either (Leaves (ReadsStand requests)) (not file.writable) (refuses kind.NotWritable site) _ (λ e. b)
+        either (EndsLeaving (ReadsStand requests)) (not file.writable) (refuses kind.NotWritable site) _ (λ e. b)
         (λ e. flush_stands requests slot file buffer site answers buffer.deferred w b))
     of_buffer (call.BufSeek slot position) h = on_buffer_leaves requests site slot _ b (λ file buffer w.
         seek_leaves (ReadsStand requests) position file.offset site _ b
@@ -253,7 +253,7 @@ ended_stand requests c site facts own answers b = call_leaves (ReadsStand reques
 pub done_stand : (requests : Requests) (c : Call) (site : Site) (facts : Facts) (own : Own) (answers : Answers)
     (o : Outcome) (after : Site) → ReadsStand requests site → next c site facts own answers ≡ Done o after
     → ReadsStand requests after
-done_stand requests c site facts own answers o after b is = subst (Leaves (ReadsStand requests)) is (ended_stand requests c site facts own answers b)
+done_stand requests c site facts own answers o after b is = subst (EndsLeaving (ReadsStand requests)) is (ended_stand requests c site facts own answers b)
 
 -- ---- cancelled
 

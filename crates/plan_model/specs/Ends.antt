@@ -4,6 +4,6 @@ use Rattle.sftp_model.specs.declared.slot.Move.TheVariants.{Done}
 use Rattle.sftp_model.specs.declared.slot.Site.{Site}
 
 -- where the move ends the call, what it leaves is so
-abbrev pub Leaves : (Site → Type 0) → Move → Type 0
-Leaves P (Done ended after) = P after
-Leaves P other = Unit {0}
+abbrev pub EndsLeaving : (Site → Type 0) → Move → Type 0
+EndsLeaving P (Done ended after) = P after
+EndsLeaving P other = Unit {0}

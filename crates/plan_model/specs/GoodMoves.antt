@@ -7,13 +7,13 @@ use Rattle.sftp_model.specs.declared.slot.Facts.{Facts}
 use Rattle.sftp_model.specs.declared.slot.Move.{Move}
 use Rattle.sftp_model.specs.declared.slot.Move.TheVariants.{Ask, Wait, Done}
 use Rattle.sftp_model.specs.Fits.{FitsAttributes, FitsHandle, FitsLong, FitsNumber, FitsSet}
-use Rattle.sftp_model.specs.Frames.{no_attributes}
+use Rattle.sftp_model.specs.Frames.{no_attributes, is_too_long}
 use Rattle.sftp_model.specs.Numbers.{MAX_TRANSFER_LEN}
 use Rattle.sftp_model.specs.declared.slot.Site.{Site}
 use Rattle.sftp_model.specs.declared.slot.Slot.TheVariants.{Empty}
 use Rattle.sftp_model.specs.Slots.{slot_at, with_slot, grant_of, has_grant}
 use Rattle.sftp_model.specs.OpenOptions.{flags_of}
-use Rattle.plan_model.specs.Moves.{Answers, Own, handle_of, is_too_long}
+use Rattle.plan_model.specs.Moves.{Answers, Own, handle_of}
 use Rattle.plan_model.specs.declared.call.Call.TheVariants as call
 use Rattle.plan_model.specs.declared.call.Call.{Call}
 use Rattle.plan_model.specs.CallPlans.{next}
@@ -87,7 +87,7 @@ pub record IsBrought (own : Own) (answers : Answers) (grant : ℕ) : Type 0 wher
   pub came : answers grant ≡ Some (reply.Handle handle)
 
 -- the CLOSE of the grant of a slot that no other slot has, where nothing was asked before
-pub record Closes (slot : ℕ) (site : Site) (own : Own) (answers : Answers) (handle : List ℕ) : Type 0 where
+pub record ClosesGrant (slot : ℕ) (site : Site) (own : Own) (answers : Answers) (handle : List ℕ) : Type 0 where
   pub grant : ℕ
   pub stood : grant_of (slot_at site slot) ≡ Some grant
   pub fresh : own ≡ []
@@ -96,7 +96,7 @@ pub record Closes (slot : ℕ) (site : Site) (own : Own) (answers : Answers) (ha
 
 -- a `close` alone may close
 abbrev pub closes : Call → Site → Own → Answers → List ℕ → Type 0
-closes (call.Close slot) site own answers handle = Closes slot site own answers handle
+closes (call.Close slot) site own answers handle = ClosesGrant slot site own answers handle
 closes other site own answers handle = ⊥
 
 -- the calls with an OPEN or an OPENDIR bring a grant

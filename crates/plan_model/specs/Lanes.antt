@@ -10,8 +10,8 @@ abbrev pub is_slot : ℕ → Bool
 is_slot slot = nat_lt slot 16
 
 -- a number of 64 bits
-abbrev pub is_long : ℕ → Bool
-is_long n = nat_lt n (2 ^ 64)
+abbrev pub fits_u64 : ℕ → Bool
+fits_u64 n = nat_lt n (2 ^ 64)
 
 -- a number of 32 bits
 abbrev pub is_short : ℕ → Bool
@@ -20,7 +20,7 @@ is_short n = nat_lt n (2 ^ 32)
 -- a number of 64 bits, where there is one
 abbrev pub is_some_long : Option ℕ → Bool
 is_some_long None = true
-is_some_long (Some n) = is_long n
+is_some_long (Some n) = fits_u64 n
 
 -- the slots that a call names are there, a bound or a length is not 0, a bound of READs has 32 bits, and a size 64
 abbrev pub is_within : Call → Bool
@@ -31,7 +31,7 @@ is_within (call.Write slot bytes) = is_slot slot
 is_within (call.WriteAll slot bytes) = is_slot slot
 is_within (call.WriteParts slot parts) = is_slot slot
 is_within (call.Seek slot position) = is_slot slot
-is_within (call.SetLen slot n) = is_slot slot && is_long n
+is_within (call.SetLen slot n) = is_slot slot && fits_u64 n
 is_within (call.SetPerm slot perm) = is_slot slot
 is_within (call.Meta slot) = is_slot slot
 is_within (call.Sync slot) = is_slot slot

@@ -31,7 +31,7 @@ use Rattle.sftp_model.specs.declared.slot.Facts.{Facts}
 use Rattle.sftp_model.specs.declared.slot.Move.{Move}
 use Rattle.sftp_model.specs.declared.slot.Move.TheVariants.{Ask, Wait, Done}
 use Rattle.sftp_model.specs.Numbers.{MAX_BODY_LEN, SSH_FX_OK}
-use Rattle.sftp_model.specs.Frames.{request_body}
+use Rattle.sftp_model.specs.Frames.{request_body, is_too_long}
 use Rattle.sftp_model.specs.Readings.{has_bit}
 use Rattle.sftp_model.specs.Answers.{is_end_of_file}
 use Rattle.sftp_model.specs.declared.slot.FileAt.{FileAt}
@@ -81,10 +81,6 @@ once_answered place (Some r) go = go r
 abbrev pub by_reply : Move → (Reply → Move) → Plan
 by_reply first go [] answers = first
 by_reply first go (asked ∷ later) answers = once_answered asked.0 (answers asked.0) go
-
--- whether the body of a request passes the greatest length
-abbrev pub is_too_long : Request → Bool
-is_too_long r = nat_lt MAX_BODY_LEN (length (request_body r 0))
 
 -- a request of one path or two, where it fits a frame
 abbrev pub ask_path : Request → Site → Move

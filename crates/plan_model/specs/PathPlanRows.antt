@@ -7,10 +7,10 @@ use Rattle.sftp_model.specs.declared.reply.Reply.TheVariants as reply
 use Rattle.sftp_model.specs.declared.outcome.Outcome.TheVariants as outcome
 use Rattle.sftp_model.specs.declared.error.IoKind.TheVariants as kind
 use Rattle.sftp_model.specs.declared.slot.Move.TheVariants.{Ask, Wait, Done}
-use Rattle.sftp_model.specs.Frames.{no_attributes, attributes, request_body}
+use Rattle.sftp_model.specs.Frames.{no_attributes, attributes, request_body, is_too_long}
 use Rattle.sftp_model.specs.declared.slot.Site.{Site}
 use Rattle.sftp_model.specs.Slots.{fresh_site}
-use Rattle.plan_model.specs.Moves.{Answers, is_too_long, refuses}
+use Rattle.plan_model.specs.Moves.{Answers, refuses}
 use Rattle.plan_model.specs.PathPlans.{from_directory}
 use Rattle.plan_model.specs.declared.call.Call.TheVariants as call
 use Rattle.plan_model.specs.CallPlans.{cancelled, next}

@@ -1,6 +1,7 @@
 -- The calls on paths that make one request. A relative path is joined to the working directory.
 use Rattle.std.specs.Prelude.{ℕ, List, ◌∷◌, Option, option_map, if◌then◌else◌}
 use Rattle.std.specs.Int.RustNames.{bit_and}
+use Rattle.sftp_model.specs.Readings.{permission_bits}
 use Rattle.sftp_model.specs.declared.file_attrs.FileAttrs.{FileAttrs}
 use Rattle.sftp_model.specs.declared.request.Request.{Request}
 use Rattle.sftp_model.specs.declared.request.Request.TheVariants as request
@@ -24,10 +25,6 @@ from_directory site path = joined_path site.directory path
 
 abbrev pub path_done : Request → Site → Plan
 path_done r site = by_reply (ask_path r site) (done_by site)
-
--- the twelve low bits of a mode
-abbrev pub permission_bits : ℕ → ℕ
-permission_bits mode = bit_and mode 0o7777
 
 -- the attributes that are set: a size and a mode, each where it is given
 abbrev pub set_attributes : Option ℕ → Option ℕ → FileAttrs

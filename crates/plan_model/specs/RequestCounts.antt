@@ -13,7 +13,7 @@ use Rattle.plan_model.specs.BufferPlans.{pending}
 use Rattle.plan_model.specs.declared.call.Call.TheVariants as call
 use Rattle.plan_model.specs.declared.call.Call.{Call}
 use Rattle.plan_model.specs.CallPlans.{next}
-use Rattle.plan_model.specs.Ends.{Leaves}
+use Rattle.plan_model.specs.Ends.{EndsLeaving}
 
 -- where the move asks, the first number is below the second
 abbrev pub AsksBelow : ℕ → ℕ → Move → Type 0
@@ -58,4 +58,4 @@ BuffersWithin facts site = (slot : ℕ) (file : FileAt) (buffer : Buffer) → sl
 
 -- a call that ends leaves its buffers so
 abbrev pub LeavesWithin : Facts → Move → Type 0
-LeavesWithin facts move = Leaves (BuffersWithin facts) move
+LeavesWithin facts move = EndsLeaving (BuffersWithin facts) move

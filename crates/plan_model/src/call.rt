@@ -1,5 +1,5 @@
 ghost use Rattle.std.specs.Prelude.{◌≡◌, ◌+◌, ◌^◌, length, min};
-ghost use Rattle.plan_model.specs.Lanes.{is_long, is_short, is_within, weight};
+ghost use Rattle.plan_model.specs.Lanes.{fits_u64, is_short, is_within, weight};
 
 use sftp_model::{OpenOptions, TryCopy};
 use sftp_values::{ByteText, Items};
@@ -304,8 +304,8 @@ impl TryCopy for Call {
 }
 
 /// Whether a size is one of 64 bits, as each is.
-fn is_long(_n: u64) -> bool
-    ensures { result ≡ is_long _n }
+fn fits_u64(_n: u64) -> bool
+    ensures { result ≡ fits_u64 _n }
 {
     true
 }
@@ -337,7 +337,7 @@ impl Call {
             Call::WriteAll { slot, .. } => *slot < 16,
             Call::WriteParts { slot, .. } => *slot < 16,
             Call::Seek { slot, .. } => *slot < 16,
-            Call::SetLen { slot, n } => *slot < 16 && is_long(*n),
+            Call::SetLen { slot, n } => *slot < 16 && fits_u64(*n),
             Call::SetPerm { slot, .. } => *slot < 16,
             Call::Meta { slot } => *slot < 16,
             Call::Sync { slot } => *slot < 16,
@@ -353,7 +353,7 @@ impl Call {
             Call::BufSeek { slot, .. } => *slot < 16,
             Call::FsRead { bound, .. } => 1 <= *bound && is_short(*bound),
             Call::List { bound, .. } => 1 <= *bound,
-            Call::SetStat { size, .. } => size.is_none_or(is_long),
+            Call::SetStat { size, .. } => size.is_none_or(fits_u64),
             _ => true,
         }
     }

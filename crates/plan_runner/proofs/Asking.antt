@@ -51,7 +51,7 @@ use Rattle.plan_runner.specs.declared.next.EndsBy.TheVariants as by
 use Rattle.plan_runner.specs.declared.next.Next.{Next}
 use Rattle.plan_runner.specs.declared.next.Next.TheVariants as step
 use Rattle.plan_runner.specs.declared.next.Running.TheVariants as running
-use Rattle.plan_runner.specs.Asking.{Asks, AsksOn, HasFile, HasGrant, opened_by}
+use Rattle.plan_runner.specs.Asking.{AwaitsAsked, AsksOn, HasFile, HasGrant, opened_by}
 use Rattle.plan_runner.specs.Sound.{Fits, IsKept}
 
 -- ---- the grants of slots
@@ -96,13 +96,13 @@ gathering_fits handle offset len place slot file got left other may = tt
 
 -- the OPEN of a path
 pub open_asks : (place slot : ℕ) (flags : OpenFlags) (path : List ℕ) (site : Site) (r : Request) → r
-    ≡ open_request flags path → Asks None place site (step.Ask (asked.Plain r) (running.Opening place slot flags))
-open_asks place slot flags path site r is = subst (λ (x : Request). Asks None place site (step.Ask (asked.Plain x) (running.Opening place slot flags))) (sym is)
+    ≡ open_request flags path → AwaitsAsked None place site (step.Ask (asked.Plain r) (running.Opening place slot flags))
+open_asks place slot flags path site r is = subst (λ (x : Request). AwaitsAsked None place site (step.Ask (asked.Plain x) (running.Opening place slot flags))) (sym is)
     (record { call = tt; named = tt; awaits = refl; keeps = λ grant e. absurd cc; fits = λ answers y may. tt })
 
 -- the READ of one `read`
 pub read_asks : (place slot len : ℕ) (file : FileAt) (site : Site) → slot_at site slot ≡ File file
-    → Asks None place site (step.Ask (asked.Read file.grant file.offset len) (running.Reading place slot file len))
+    → AwaitsAsked None place site (step.Ask (asked.Read file.grant file.offset len) (running.Reading place slot file len))
 read_asks place slot len file site at = record {
   call = tt;
   named = inl (file_held site slot file at);
@@ -113,18 +113,18 @@ read_asks place slot len file site at = record {
 
 -- the CLOSE of a grant that some slot had
 pub close_asks : (place grant : ℕ) (site : Site) → has_grant site grant ≡ true
-    → Asks None place site (step.Ask (asked.Close grant) (running.Ending place by.Status))
+    → AwaitsAsked None place site (step.Ask (asked.Close grant) (running.Ending place by.Status))
 close_asks place grant site has = record { call = tt; named = inl has; awaits = refl; keeps = λ grant e. absurd cc; fits = λ answers y may. tt }
 
 -- what may go on with a call may begin one
-pub asks_first : (opened : Option ℕ) (place : ℕ) (site : Site) (n : Next) → AsksOn opened place site n → Asks opened place site n
+pub asks_first : (opened : Option ℕ) (place : ℕ) (site : Site) (n : Next) → AsksOn opened place site n → AwaitsAsked opened place site n
 asks_first opened place site (step.Ask a r) asks = asks.0
 asks_first opened place site (step.Wait r) asks = asks
 asks_first opened place site (step.Done o) asks = tt
 
 -- of what is refused only for want of memory
 pub asks_first_if_ok : (opened : Option ℕ) (place : ℕ) (site : Site) (n : Result Next OutOfMemory)
-    → IfOk n (AsksOn opened place site) → IfOk n (Asks opened place site)
+    → IfOk n (AsksOn opened place site) → IfOk n (AwaitsAsked opened place site)
 asks_first_if_ok opened place site (Ok n) asks = asks_first opened place site n asks
 asks_first_if_ok opened place site (Err e) asks = asks
 

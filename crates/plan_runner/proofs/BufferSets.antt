@@ -33,7 +33,7 @@ use Rattle.sftp_model.specs.declared.slot.Slot.{Slot}
 use Rattle.sftp_model.specs.declared.slot.Slot.TheVariants.{Empty, Buffered}
 use Rattle.sftp_model.specs.Slots.{slot_at, with_slot}
 use Rattle.plan_runner.specs.Seeks.{sought_bytes}
-use Rattle.plan_runner.specs.Sound.{IsWithin, Keeps}
+use Rattle.plan_runner.specs.Sound.{IsWithin, KeepsSite}
 use Rattle.plan_runner.specs.Pending.{Fewer, maybe, slot_times, slots_times, writes_times}
 use Rattle.plan_runner.proofs.Fewer.{set_times}
 use Rattle.plan_runner.proofs.Keeping.{keeps_set, set_count}
@@ -48,8 +48,8 @@ sought_ends from to bytes le = by_order (nat_lt from to) refl
 
 pub keeps_sought : (facts : Facts) (site new : Site) (slot to : ℕ) (file : FileAt) (buffer : Buffer) → slot_at site slot ≡ Buffered file buffer
     → new ≡ with_slot site slot (Buffered (record file { offset = to })
-    (record buffer { bytes = sought_bytes file.offset to buffer.bytes; reading = None })) → Keeps facts site new
-keeps_sought facts site new slot to file buffer here is = subst (λ (s : Site). Keeps facts site s) (sym is) (record {
+    (record buffer { bytes = sought_bytes file.offset to buffer.bytes; reading = None })) → KeepsSite facts site new
+keeps_sought facts site new slot to file buffer here is = subst (λ (s : Site). KeepsSite facts site s) (sym is) (record {
   count = set_count site slot moved;
   limit = λ h. (keeps_set facts site (with_slot site slot moved) slot moved refl (fits (subst (λ (x : Slot). IsWithin facts x) here (h slot)))).limit h;
 })

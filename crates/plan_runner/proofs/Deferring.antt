@@ -72,9 +72,9 @@ use Rattle.plan_runner.specs.declared.next.Running.{Running}
 use Rattle.plan_runner.specs.declared.next.Running.TheVariants as running
 use Rattle.plan_runner.specs.Buffers.{running_after, but_oldest, must_wait, oldest, rest_of, room_made, sent_next, without_oldest}
 use Rattle.plan_runner.specs.Deferrals.{IsDeferral, settled_next, settled_site}
-use Rattle.plan_runner.specs.Runners.{Goes, after, failure_of, filled, once, residual, with_reply}
-use Rattle.plan_runner.specs.Cancelling.{Leaves, left_behind}
-use Rattle.plan_runner.specs.Sound.{AreWithin, HasDone, IsFullAt, IsWithin, Keeps, Sound, Sounds}
+use Rattle.plan_runner.specs.Runners.{RunsByPlan, after, failure_of, filled, once, residual, with_reply}
+use Rattle.plan_runner.specs.Cancelling.{LeavesCancelled, left_behind}
+use Rattle.plan_runner.specs.Sound.{AreWithin, HasDone, IsFullAt, IsWithin, KeepsSite, Sound, Sounds}
 use Rattle.plan_runner.specs.Pending.{Pends, maybe, one, pends, pends_after, slot_times, slots_times, writes_times}
 use Rattle.plan_runner.proofs.Flushes.{keeps_oldest, oldest_less}
 use Rattle.plan_runner.proofs.Going.{goes_as, goes_if_ok, good_goes}
@@ -112,12 +112,12 @@ sent_later slot (Some done) file bytes facts asked later answers buffer site new
 pub settled_goes : (slot : ℕ) (start : Option ℕ) (file : FileAt) (buffer : Buffer) (bytes : List ℕ) (place : ℕ)
     (site new : Site) (facts : Facts) (d : Deferral) (n : Next) → slot < length site.slots
     → IsDeferral slot start file buffer bytes place facts d → n ≡ settled_next d → new ≡ settled_site slot d site
-    → Goes (λ own answers. sent_next slot start file bytes facts own answers buffer site) place bytes new facts n
+    → RunsByPlan (λ own answers. sent_next slot start file bytes facts own answers buffer site) place bytes new facts n
 settled_goes slot start file buffer bytes place site new facts (deferral.Refused o) n lt is to at =
-    subst (λ (m : Next). Goes (λ own answers. sent_next slot start file bytes facts own answers buffer site) place bytes new facts m) (sym to)
+    subst (λ (m : Next). RunsByPlan (λ own answers. sent_next slot start file bytes facts own answers buffer site) place bytes new facts m) (sym to)
     (λ answers. sent_first slot start file bytes facts answers buffer site ∙ (is site answers ∙ ap (λ (s : Site). Done o s) (sym at)))
 settled_goes slot start file buffer bytes place site new facts (deferral.Asked a r held) n lt is to at =
-    subst (λ (m : Next). Goes (λ own answers. sent_next slot start file bytes facts own answers buffer site) place bytes new facts m) (sym to)
+    subst (λ (m : Next). RunsByPlan (λ own answers. sent_next slot start file bytes facts own answers buffer site) place bytes new facts m) (sym to)
     (λ answers. (
       sent_first slot start file bytes facts answers buffer site ∙ is.0 site answers,
       λ later. sent_later slot start file bytes facts (place, filled a answers) later answers buffer site new lt
@@ -176,10 +176,10 @@ pub settled_leaves : (slot : ℕ) (start : Option ℕ) (file : FileAt) (whole bu
     ≡ Buffered file whole
     → freed facts whole ≡ buffer → ((x : Slot) → with_slot site slot x ≡ with_slot old slot x)
     → IsDeferral slot start file buffer bytes place facts d → n ≡ settled_next d → new ≡ settled_site slot d site
-    → Leaves (cancelled_buf_write slot old facts) place bytes new facts n
+    → LeavesCancelled (cancelled_buf_write slot old facts) place bytes new facts n
 settled_leaves slot start file whole buffer bytes place old site new facts (deferral.Refused o) n lt here free same is to at = rw to tt
 settled_leaves slot start file whole buffer bytes place old site new facts (deferral.Asked a r held) n lt here free same is to at =
-    subst (λ (m : Next). Leaves (cancelled_buf_write slot old facts) place bytes new facts m) (sym to) (λ answers later.
+    subst (λ (m : Next). LeavesCancelled (cancelled_buf_write slot old facts) place bytes new facts m) (sym to) (λ answers later.
     from_old answers later ∙ (sym (from_new answers later) ∙ (by_start start answers later
     ∙ ap (λ (x : Running). left_behind x bytes new facts later answers) (sym is.2))))
   where
@@ -243,14 +243,14 @@ pub settled_sound : (slot : ℕ) (start : Option ℕ) (file : FileAt) (buffer : 
     → IsWithin facts (Buffered file buffer) → IsDeferral slot start file buffer bytes place facts d → n ≡ settled_next d
     → new ≡ settled_site slot d site → Sounds bytes facts site new n
 settled_sound slot start file buffer bytes place site new facts (deferral.Refused o) n lt has was is to at =
-    subst (λ (m : Next). Sounds bytes facts site new m) (sym to) (subst (λ (s : Site). Keeps facts site s) (sym at) (keeps_self facts site), tt)
+    subst (λ (m : Next). Sounds bytes facts site new m) (sym to) (subst (λ (s : Site). KeepsSite facts site s) (sym at) (keeps_self facts site), tt)
 settled_sound slot start file buffer bytes place site new facts (deferral.Asked a r held) n lt has was is to at =
     subst (λ (m : Next). Sounds bytes facts site new m) (sym to) (keep, subst (λ (x : Running). Sound x bytes new facts) (sym is.2) (by_start start refl has))
   where
     len : ℕ
     len = deferrable_len facts (rest_of start bytes) buffer
 
-    keep : Keeps facts site new
+    keep : KeepsSite facts site new
     keep = keeps_set facts site new slot (written_slot file buffer place len)
         (at ∙ ap (λ (x : Slot). with_slot site slot x) is.3) (written_within facts file buffer place len (omega arith)
         was)
@@ -303,7 +303,7 @@ pub sent_goes : (slot : ℕ) (start : Option ℕ) (file : FileAt) (buffer : Buff
     ≡ Buffered file buffer
     → must_wait facts.write_limit buffer.deferred ≡ false → IsDeferral slot start file buffer bytes place facts d → n
     ≡ settled_next d → new ≡ settled_site slot d site
-    → Goes (λ own answers. on_buffered (slot_at site slot) site
+    → RunsByPlan (λ own answers. on_buffered (slot_at site slot) site
     (λ f b. with_capacity slot f b site facts answers (sent_next slot start f bytes facts own answers))) place bytes
     new facts n
 sent_goes slot start file buffer bytes place site new facts d n lt here not is to at =
@@ -349,7 +349,7 @@ pub room_goes : (slot : ℕ) (start : Option ℕ) (file : FileAt) (whole : Buffe
     → 1 ≤ length whole.deferred → failure_of r ≡ None → mid ≡ without_oldest old slot (slot_at old slot)
     → IsDeferral slot start file (record whole { deferred = drop 1 whole.deferred }) bytes place facts d → n
     ≡ settled_next d → new ≡ settled_site slot d mid
-    → Goes (after (running.AwaitingRoom slot start) bytes old facts (Some r)) place bytes new facts n
+    → RunsByPlan (after (running.AwaitingRoom slot start) bytes old facts (Some r)) place bytes new facts n
 room_goes slot start file whole bytes place old mid new facts r d n lt here some good freed_at is to at =
     let b : Buffer = record whole { deferred = drop 1 whole.deferred } in
     let same : mid ≡ with_slot old slot (Buffered file b) = without_is slot file whole old mid here freed_at in
@@ -368,7 +368,7 @@ pub room_leaves : (slot : ℕ) (start : Option ℕ) (file : FileAt) (whole : Buf
     → IsFullAt facts (slot_at old slot) → mid ≡ without_oldest old slot (slot_at old slot)
     → IsDeferral slot start file (record whole { deferred = drop 1 whole.deferred }) bytes place facts d → n
     ≡ settled_next d → new ≡ settled_site slot d mid
-    → Leaves (cancelled_buf_write slot old facts) place bytes new facts n
+    → LeavesCancelled (cancelled_buf_write slot old facts) place bytes new facts n
 room_leaves slot start file whole bytes place old mid new facts d n lt here full freed_at is to at =
     let b : Buffer = record whole { deferred = drop 1 whole.deferred } in
     let is_full_there : (pending whole.deferred == facts.write_limit) ≡ true = subst (λ (x : Slot). IsFullAt facts x) here full in
@@ -386,7 +386,7 @@ room_sound slot start file whole bytes place old mid new facts d n lt here has w
     let b : Buffer = record whole { deferred = drop 1 whole.deferred } in
     let same : mid ≡ with_slot old slot (Buffered file b) = without_is slot file whole old mid here freed_at in
     let there : slot_at mid slot ≡ Buffered file b = ap (λ (s : Site). slot_at s slot) same ∙ set_at old slot (Buffered file b) lt in
-    let keep : Keeps facts old mid = keeps_oldest facts old mid slot freed_at in
+    let keep : KeepsSite facts old mid = keeps_oldest facts old mid slot freed_at in
     let s : Sounds bytes facts mid new n = settled_sound slot start file b bytes place mid new facts d n
     (subst (λ (k : ℕ). slot < k) (sym keep.count) lt) has (subst (λ (x : Slot). IsWithin facts x) there
     (keep.limit within slot)) is to at in
@@ -403,7 +403,7 @@ room_pends slot start file whole bytes place old mid new facts r d n lt here fre
     let b : Buffer = record whole { deferred = drop 1 whole.deferred } in
     let same : mid ≡ with_slot old slot (Buffered file b) = without_is slot file whole old mid here freed_at in
     let there : slot_at mid slot ≡ Buffered file b = ap (λ (s : Site). slot_at s slot) same ∙ set_at old slot (Buffered file b) lt in
-    let keep : Keeps facts old mid = keeps_oldest facts old mid slot freed_at in
+    let keep : KeepsSite facts old mid = keeps_oldest facts old mid slot freed_at in
     settled_pends (pends_after (running.AwaitingRoom slot start) old (Some r)) slot start file b bytes place mid new
     facts d n (subst (λ (k : ℕ). slot < k) (sym keep.count) lt) there
     (λ q. oldest_less old mid slot (slot_at old slot) lt refl freed_at q) is to at
@@ -413,10 +413,10 @@ room_pends slot start file whole bytes place old mid new facts r d n lt here fre
 pub begin_goes : (slot : ℕ) (bytes : List ℕ) (file : FileAt) (buffer : Buffer) (place : ℕ) (site new : Site)
     (facts : Facts) (n : Result Next OutOfMemory) → slot_at site slot ≡ Buffered file buffer → not file.writable ≡ false
     → (length bytes == 0) ≡ false
-    → IfOk n (λ x. Goes (λ own answers. on_buffered (slot_at site slot) site
+    → IfOk n (λ x. RunsByPlan (λ own answers. on_buffered (slot_at site slot) site
     (λ f b. with_capacity slot f b site facts answers (sent_next slot None f bytes facts own answers))) place bytes
     new facts x)
-    → IfOk n (λ x. Goes (buf_write_next slot bytes site facts) place bytes new facts x)
+    → IfOk n (λ x. RunsByPlan (buf_write_next slot bytes site facts) place bytes new facts x)
 begin_goes slot bytes file buffer place site new facts n here writable some g =
     goes_if_ok (λ own answers. on_buffered (slot_at site slot) site
     (λ f b. with_capacity slot f b site facts answers (sent_next slot None f bytes facts own answers)))
@@ -432,10 +432,10 @@ begin_goes slot bytes file buffer place site new facts n here writable some g =
 pub rest_goes : (slot done : ℕ) (bytes : List ℕ) (file : FileAt) (buffer : Buffer) (place : ℕ) (site new : Site)
     (facts : Facts) (n : Result Next OutOfMemory) → slot_at site slot ≡ Buffered file buffer
     → (length (drop done bytes) == 0) ≡ false → not file.writable ≡ false
-    → IfOk n (λ x. Goes (λ own answers. on_buffered (slot_at site slot) site
+    → IfOk n (λ x. RunsByPlan (λ own answers. on_buffered (slot_at site slot) site
     (λ f b. with_capacity slot f b site facts answers (sent_next slot (Some done) f bytes facts own answers))) place
     bytes new facts x)
-    → IfOk n (λ x. Goes (buf_write_all_next slot (drop done bytes) site facts) place bytes new facts x)
+    → IfOk n (λ x. RunsByPlan (buf_write_all_next slot (drop done bytes) site facts) place bytes new facts x)
 rest_goes slot done bytes file buffer place site new facts n here some writable g =
     goes_if_ok (λ own answers. on_buffered (slot_at site slot) site
     (λ f b. with_capacity slot f b site facts answers (sent_next slot (Some done) f bytes facts own answers)))

@@ -11,7 +11,7 @@ use Rattle.sftp_model.specs.Slots.{with_slot}
 use Rattle.plan_runner.specs.declared.next.Next.{Next}
 use Rattle.plan_runner.specs.declared.next.Next.TheVariants as step
 use Rattle.plan_runner.specs.Runners.{keep_in}
-use Rattle.plan_runner.specs.Sound.{IsKept, Keeps, Sounds}
+use Rattle.plan_runner.specs.Sound.{IsKept, KeepsSite, Sounds}
 use Rattle.plan_runner.specs.Pending.{Fewer, Pends, one, pends, pends_idle, slot_times, slots_times}
 use Rattle.plan_runner.proofs.Keeping.{set_count}
 
@@ -72,7 +72,7 @@ pub pends_if_ok : (less before : ℕ → ℕ) (place : ℕ) (site : Site) (n : R
 pends_if_ok less before place site (Ok n) le p = pends_less less before place site n le p
 pends_if_ok less before place site (Err e) le p = p
 
-pub sounds_then : (bytes : List ℕ) (facts : Facts) (old mid : Site) (n : Result Next OutOfMemory) → Keeps facts old mid
+pub sounds_then : (bytes : List ℕ) (facts : Facts) (old mid : Site) (n : Result Next OutOfMemory) → KeepsSite facts old mid
     → IfOk n (λ x. Sounds bytes facts mid mid x) → IfOk n (λ x. Sounds bytes facts old mid x)
 sounds_then bytes facts old mid (Ok n) keep s = (keep, s.1)
 sounds_then bytes facts old mid (Err e) keep s = s

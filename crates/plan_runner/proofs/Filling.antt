@@ -53,8 +53,8 @@ use Rattle.plan_runner.specs.declared.next.Next.{Next}
 use Rattle.plan_runner.specs.declared.next.Next.TheVariants as step
 use Rattle.plan_runner.specs.declared.next.Running.TheVariants as running
 use Rattle.plan_runner.specs.Buffers.{reading_in, with_reading}
-use Rattle.plan_runner.specs.Runners.{Goes, once, residual, with_reply}
-use Rattle.plan_runner.specs.Sound.{IsWithin, Keeps}
+use Rattle.plan_runner.specs.Runners.{RunsByPlan, once, residual, with_reply}
+use Rattle.plan_runner.specs.Sound.{IsWithin, KeepsSite}
 use Rattle.plan_runner.specs.Pending.{maybe, slot_times, slots_times, writes_times}
 use Rattle.plan_runner.proofs.SlotSets.{set_at, set_twice}
 use Rattle.plan_runner.proofs.Fewer.{set_times}
@@ -81,7 +81,7 @@ pub fill_asks : (slot n place offset len : ℕ) (file : FileAt) (buffer : Buffer
     → slot < length site.slots → slot_at site slot ≡ Buffered file buffer → buffer.reading ≡ None → new
     ≡ with_reading site slot (slot_at site slot) (Some place)
     → not file.readable ≡ false → overflows file.offset len ≡ false → len ≡ min (max n buffer.len) facts.read_len → offset ≡ file.offset
-    → Goes (λ own answers. on_buffered (slot_at site slot) site
+    → RunsByPlan (λ own answers. on_buffered (slot_at site slot) site
     (λ f b. fill_next slot n f b site facts b.reading own answers)) place [] new facts
     (step.Ask (asked.Read file.grant offset len) (running.FillingBuffer slot n offset true))
 fill_asks slot n place offset len file buffer site new facts lt here none is readable room is_len is_offset =
@@ -128,7 +128,7 @@ fill_asks slot n place offset len file buffer site new facts lt here none is rea
 -- the READ under way is awaited
 pub fill_waits : (slot n place offset p : ℕ) (file : FileAt) (buffer : Buffer) (site : Site) (facts : Facts)
     → slot_at site slot ≡ Buffered file buffer → buffer.reading ≡ Some p
-    → Goes (λ own answers. on_buffered (slot_at site slot) site
+    → RunsByPlan (λ own answers. on_buffered (slot_at site slot) site
     (λ f b. fill_next slot n f b site facts b.reading own answers)) place [] site facts
     (step.Wait (running.FillingBuffer slot n offset false))
 fill_waits slot n place offset p file buffer site facts here some = λ answers later.
@@ -141,9 +141,9 @@ fill_waits slot n place offset p file buffer site facts here some = λ answers l
 pub read_goes : (slot n place : ℕ) (file : FileAt) (buffer : Buffer) (site new : Site) (facts : Facts) (next : Next)
     → slot_at site slot ≡ Buffered file buffer → not file.readable ≡ false → (n == 0) ≡ false
     → (length buffer.bytes == 0) ≡ true
-    → Goes (λ own answers. on_buffered (slot_at site slot) site
+    → RunsByPlan (λ own answers. on_buffered (slot_at site slot) site
     (λ f b. fill_next slot n f b site facts b.reading own answers)) place [] new facts next
-    → Goes (buf_read_next slot n site facts) place [] new facts next
+    → RunsByPlan (buf_read_next slot n site facts) place [] new facts next
 read_goes slot n place file buffer site new facts next here readable some empty g =
     goes_as (λ own answers. on_buffered (slot_at site slot) site
     (λ f b. fill_next slot n f b site facts b.reading own answers)) (buf_read_next slot n site facts) place [] new
@@ -175,8 +175,8 @@ fill_leaves slot place file buffer site new here is =
 pub refilled_keeps : (facts : Facts) (site new : Site) (slot : ℕ) (file moved : FileAt) (buffer : Buffer)
     (bytes : List ℕ) (reading : Option ℕ) → slot_at site slot ≡ Buffered file buffer
     → new ≡ with_slot site slot (Buffered moved (record buffer { bytes = bytes; reading = reading }))
-    → (IsWithin facts (Buffered file buffer) → length bytes ≤ (2 ^ 64 - 1) - moved.offset) → Keeps facts site new
-refilled_keeps facts site new slot file moved buffer bytes reading here is ends = subst (λ (s : Site). Keeps facts site s) (sym is) (record {
+    → (IsWithin facts (Buffered file buffer) → length bytes ≤ (2 ^ 64 - 1) - moved.offset) → KeepsSite facts site new
+refilled_keeps facts site new slot file moved buffer bytes reading here is ends = subst (λ (s : Site). KeepsSite facts site s) (sym is) (record {
   count = set_count site slot set;
   limit = λ h. (keeps_set facts site (with_slot site slot set) slot set refl (fits (subst (λ (x : Slot). IsWithin facts x) here (h slot)))).limit h;
 })

@@ -42,8 +42,8 @@ use Rattle.plan_runner.specs.declared.next.Next.{Next}
 use Rattle.plan_runner.specs.declared.next.Running.TheVariants as running
 use Rattle.plan_runner.specs.Runners.{failure_of, refusal_of}
 use Rattle.plan_runner.specs.Buffers.{but_oldest, flushing, left_flushed, oldest, oldest_in, without_oldest}
-use Rattle.plan_runner.specs.Cancelling.{Leaves, Leaving, left_behind}
-use Rattle.plan_runner.specs.Sound.{IsWithin, Keeps, Sounds}
+use Rattle.plan_runner.specs.Cancelling.{LeavesCancelled, Leaving, left_behind}
+use Rattle.plan_runner.specs.Sound.{IsWithin, KeepsSite, Sounds}
 use Rattle.plan_runner.specs.Pending.{Fewer, Pends, maybe, one, slot_times, slots_times, writes_times}
 use Rattle.plan_runner.proofs.SlotSets.{set_at, set_twice}
 use Rattle.plan_runner.proofs.Fewer.{set_times}
@@ -76,7 +76,7 @@ flush_left slot bytes site left facts r later answers x file buffer (write ∷ w
 pub flush_leaves : (plan : Leaving) (slot place : ℕ) (bytes : List ℕ) (left : Site) (facts : Facts) (n : Next)
     (writes : List (ℕ × ℕ)) → n ≡ flushing slot writes
     → ((later : Own) (answers : Answers) → plan later answers ≡ left_behind (running.Flushing slot) bytes left facts
-    later answers) → Leaves plan place bytes left facts n
+    later answers) → LeavesCancelled plan place bytes left facts n
 flush_leaves plan slot place bytes left facts n [] is same = rw is tt
 flush_leaves plan slot place bytes left facts n (write ∷ writes) is same = rw is (λ answers later. same later answers)
 
@@ -86,7 +86,7 @@ fewer_pending : (writes : List (ℕ × ℕ)) → pending (but_oldest writes) ≤
 fewer_pending [] = omega arith
 fewer_pending (write ∷ writes) = omega arith
 
-pub without_within : (facts : Facts) (site : Site) (slot : ℕ) (x : Slot) → IsWithin facts x → Keeps facts site (without_oldest site slot x)
+pub without_within : (facts : Facts) (site : Site) (slot : ℕ) (x : Slot) → IsWithin facts x → KeepsSite facts site (without_oldest site slot x)
 without_within facts site slot (Buffered file buffer) fits =
     keeps_set facts site (with_deferred slot file buffer site (but_oldest buffer.deferred)) slot
     (Buffered file (record buffer { deferred = but_oldest buffer.deferred })) refl (
@@ -97,8 +97,8 @@ without_within facts site slot (Buffered file buffer) fits =
 without_within facts site slot (File file) fits = keeps_set facts site (with_slot site slot (File file)) slot (File file) refl tt
 without_within facts site slot Empty fits = keeps_set facts site (with_slot site slot Empty) slot Empty refl tt
 
-pub keeps_oldest : (facts : Facts) (site new : Site) (slot : ℕ) → new ≡ without_oldest site slot (slot_at site slot) → Keeps facts site new
-keeps_oldest facts site new slot is = subst (λ (s : Site). Keeps facts site s) (sym is)
+pub keeps_oldest : (facts : Facts) (site new : Site) (slot : ℕ) → new ≡ without_oldest site slot (slot_at site slot) → KeepsSite facts site new
+keeps_oldest facts site new slot is = subst (λ (s : Site). KeepsSite facts site s) (sym is)
     (record {
       count = oldest_count site slot (slot_at site slot);
       limit =
@@ -112,7 +112,7 @@ keeps_oldest facts site new slot is = subst (λ (s : Site). Keeps facts site s) 
 
 -- and the flush can go on
 pub flush_sound : (slot : ℕ) (bytes : List ℕ) (facts : Facts) (old new : Site) (n : Next) (writes : List (ℕ × ℕ)) → n
-    ≡ flushing slot writes → slot < length old.slots → Keeps facts old new → Sounds bytes facts old new n
+    ≡ flushing slot writes → slot < length old.slots → KeepsSite facts old new → Sounds bytes facts old new n
 flush_sound slot bytes facts old new n [] is lt keep = rw is (keep, tt)
 flush_sound slot bytes facts old new n (write ∷ writes) is lt keep = rw is (keep, subst (λ (k : ℕ). slot < k) (sym keep.count) lt)
 

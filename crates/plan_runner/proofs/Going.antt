@@ -43,34 +43,34 @@ use Rattle.plan_model.specs.TransferPlans.{Keeping, missing_next, part_len, rest
 use Rattle.plan_runner.specs.declared.next.Next.{Next}
 use Rattle.plan_runner.specs.declared.next.Next.TheVariants as step
 use Rattle.plan_runner.specs.declared.next.Running.TheVariants as running
-use Rattle.plan_runner.specs.Runners.{Goes, after, content_after, failure_of, filled, keep_in, refusal_of}
+use Rattle.plan_runner.specs.Runners.{RunsByPlan, after, content_after, failure_of, filled, keep_in, refusal_of}
 
 pub goes_as : (p q : Plan) (place : ℕ) (bytes : List ℕ) (site : Site) (facts : Facts) (n : Next)
-    → ((own : Own) (answers : Answers) → q own answers ≡ p own answers) → Goes p place bytes site facts n
-    → Goes q place bytes site facts n
+    → ((own : Own) (answers : Answers) → q own answers ≡ p own answers) → RunsByPlan p place bytes site facts n
+    → RunsByPlan q place bytes site facts n
 goes_as p q place bytes site facts (step.Ask a r) same g = λ answers.
     (same [] answers ∙ (g answers).0, λ later. same ((place, filled a answers) ∷ later) answers ∙ (g answers).1 later)
 goes_as p q place bytes site facts (step.Wait r) same g = λ answers later. same later answers ∙ g answers later
 goes_as p q place bytes site facts (step.Done o) same g = λ answers. same [] answers ∙ g answers
 
 pub goes_if_ok : (p q : Plan) (place : ℕ) (bytes : List ℕ) (site : Site) (facts : Facts) (n : Result Next OutOfMemory)
-    → ((own : Own) (answers : Answers) → q own answers ≡ p own answers) → IfOk n (λ x. Goes p place bytes site facts x)
-    → IfOk n (λ x. Goes q place bytes site facts x)
+    → ((own : Own) (answers : Answers) → q own answers ≡ p own answers) → IfOk n (λ x. RunsByPlan p place bytes site facts x)
+    → IfOk n (λ x. RunsByPlan q place bytes site facts x)
 goes_if_ok p q place bytes site facts (Ok n) same g = goes_as p q place bytes site facts n same g
 goes_if_ok p q place bytes site facts (Err e) same g = g
 
 -- of a file in its slot
 pub on_file_goes : (go : FileAt → Plan) (x : Slot) (file : FileAt) (old : Site) (place : ℕ) (bytes : List ℕ)
-    (site : Site) (facts : Facts) (n : Next) → x ≡ File file → Goes (go file) place bytes site facts n
-    → Goes (λ own answers. on_file x old (λ f. go f own answers)) place bytes site facts n
+    (site : Site) (facts : Facts) (n : Next) → x ≡ File file → RunsByPlan (go file) place bytes site facts n
+    → RunsByPlan (λ own answers. on_file x old (λ f. go f own answers)) place bytes site facts n
 on_file_goes go x file old place bytes site facts n at g = goes_as (go file)
     (λ own answers. on_file x old (λ f. go f own answers)) place bytes site facts n
     (λ own answers. ap (λ y. on_file y old (λ f. go f own answers)) at) g
 
 pub on_file_if_ok : (go : FileAt → Plan) (x : Slot) (file : FileAt) (old : Site) (place : ℕ) (bytes : List ℕ)
     (site : Site) (facts : Facts) (n : Result Next OutOfMemory) → x ≡ File file
-    → IfOk n (λ y. Goes (go file) place bytes site facts y)
-    → IfOk n (λ y. Goes (λ own answers. on_file x old (λ f. go f own answers)) place bytes site facts y)
+    → IfOk n (λ y. RunsByPlan (go file) place bytes site facts y)
+    → IfOk n (λ y. RunsByPlan (λ own answers. on_file x old (λ f. go f own answers)) place bytes site facts y)
 on_file_if_ok go x file old place bytes site facts (Ok n) at g = on_file_goes go x file old place bytes site facts n at g
 on_file_if_ok go x file old place bytes site facts (Err e) at g = g
 
@@ -95,8 +95,8 @@ rest_same keep facts own answers f g b d x y ef eb ex = ap (λ z. rest_next keep
 pub part_goes : (awaited : ℕ) (slot : Option ℕ) (file : FileAt) (done n : ℕ) (r : Reply) (place : ℕ) (bytes : List ℕ)
     (old new : Site) (facts : Facts) (next : Next) → n ≡ part_len facts (drop done bytes)
     → new ≡ keep_in slot (further file n) old → failure_of r ≡ None
-    → Goes (rest_next (keep_in slot) (further file n) (drop (done + n) bytes) new facts) place bytes new facts next
-    → Goes (after (running.Writing awaited slot file done) bytes old facts (Some r)) place bytes new facts next
+    → RunsByPlan (rest_next (keep_in slot) (further file n) (drop (done + n) bytes) new facts) place bytes new facts next
+    → RunsByPlan (after (running.Writing awaited slot file done) bytes old facts (Some r)) place bytes new facts next
 part_goes awaited slot file done n r place bytes old new facts next is at good g =
     let rest : List ℕ = drop done bytes in
     let len : ℕ = part_len facts rest in
@@ -122,8 +122,8 @@ missing_same slot facts own answers file f g a b x y ef ea ex =
 pub content_goes : (slot : ℕ) (file : FileAt) (got all content : List ℕ) (n left rest : ℕ) (place : ℕ) (bytes : List ℕ)
     (old new : Site) (facts : Facts) (next : Next) → n ≡ length content → all ≡ got ++ content → rest
     ≡ left - length content
-    → new ≡ with_slot old slot (File (further file n)) → Goes (missing_next slot (further file n) all rest new facts) place bytes new facts next
-    → Goes (content_after slot file got left content old facts) place bytes new facts next
+    → new ≡ with_slot old slot (File (further file n)) → RunsByPlan (missing_next slot (further file n) all rest new facts) place bytes new facts next
+    → RunsByPlan (content_after slot file got left content old facts) place bytes new facts next
 content_goes slot file got all content n left rest place bytes old new facts next is joined less at g =
     goes_as (missing_next slot (further file n) all rest new facts) (content_after slot file got left content old facts) place bytes new facts next
     (λ own answers. ap (λ k. missing_next slot (further file k) (got ++ content) (left - length content)
@@ -140,8 +140,8 @@ entries_same handle f g a b site own answers ef ea = ap (λ z. entries_next hand
 
 pub names_goes : (awaited grant : ℕ) (got names all : List NameEntry) (bound less : ℕ) (place : ℕ) (bytes : List ℕ)
     (site : Site) (facts : Facts) (next : Next) → (length names == 0) ≡ false → all ≡ got ++ names → less ≡ bound - 1
-    → Goes (λ own answers. entries_next (handle_of (answers grant)) all less site own answers) place bytes site facts next
-    → Goes (after (running.Listing awaited grant got bound) bytes site facts (Some (reply.Names names))) place bytes site facts next
+    → RunsByPlan (λ own answers. entries_next (handle_of (answers grant)) all less site own answers) place bytes site facts next
+    → RunsByPlan (after (running.Listing awaited grant got bound) bytes site facts (Some (reply.Names names))) place bytes site facts next
 names_goes awaited grant got [] all bound less place bytes site facts next some joined is g = absurd cc
 names_goes awaited grant got (entry ∷ entries) all bound less place bytes site facts next some joined is g =
     goes_as (λ own answers. entries_next (handle_of (answers grant)) all less site own answers)

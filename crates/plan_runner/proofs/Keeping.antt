@@ -8,7 +8,7 @@ use Rattle.sftp_model.specs.declared.slot.Slot.{Slot}
 use Rattle.sftp_model.specs.declared.slot.Slot.TheVariants.{Empty, File}
 use Rattle.sftp_model.specs.Slots.{with_slot}
 use Rattle.plan_runner.specs.Runners.{keep_in}
-use Rattle.plan_runner.specs.Sound.{IsKept, IsWithin, Keeps}
+use Rattle.plan_runner.specs.Sound.{IsKept, IsWithin, KeepsSite}
 use Rattle.plan_runner.proofs.SlotSets.{set_at}
 
 set_length : (slots : List Slot) (k : ℕ) (x : Slot) → length (slice_set slots k x) ≡ length slots
@@ -28,23 +28,23 @@ set_within facts (slot ∷ slots) (suc k) x new old (suc i) = set_within facts s
 pub set_count : (site : Site) (k : ℕ) (x : Slot) → length (with_slot site k x).slots ≡ length site.slots
 set_count site k x = set_length site.slots k x
 
-pub keeps_self : (facts : Facts) (site : Site) → Keeps facts site site
+pub keeps_self : (facts : Facts) (site : Site) → KeepsSite facts site site
 keeps_self facts site = record { count = refl; limit = λ h. h }
 
-pub keeps_then : (facts : Facts) (a b c : Site) → Keeps facts a b → Keeps facts b c → Keeps facts a c
+pub keeps_then : (facts : Facts) (a b c : Site) → KeepsSite facts a b → KeepsSite facts b c → KeepsSite facts a c
 keeps_then facts a b c f g = record { count = g.count ∙ f.count; limit = λ h. g.limit (f.limit h) }
 
-pub keeps_set : (facts : Facts) (site new : Site) (k : ℕ) (x : Slot) → new ≡ with_slot site k x → IsWithin facts x → Keeps facts site new
-keeps_set facts site new k x is fits = subst (λ (s : Site). Keeps facts site s) (sym is)
+pub keeps_set : (facts : Facts) (site new : Site) (k : ℕ) (x : Slot) → new ≡ with_slot site k x → IsWithin facts x → KeepsSite facts site new
+keeps_set facts site new k x is fits = subst (λ (s : Site). KeepsSite facts site s) (sym is)
     (record { count = set_length site.slots k x; limit = λ h. set_within facts site.slots k x fits h })
 
-pub keeps_file : (facts : Facts) (site new : Site) (k : ℕ) (file : FileAt) → new ≡ with_slot site k (File file) → Keeps facts site new
+pub keeps_file : (facts : Facts) (site new : Site) (k : ℕ) (file : FileAt) → new ≡ with_slot site k (File file) → KeepsSite facts site new
 keeps_file facts site new k file is = keeps_set facts site new k (File file) is tt
 
 -- a file that stands in its slot, or in none, and was moved
 pub keeps_kept : (facts : Facts) (slot : Option ℕ) (file : FileAt) (offset : ℕ) (old new : Site) → new
-    ≡ keep_in slot (record file { offset = offset }) old → Keeps facts old new
-keeps_kept facts None file offset old new is = subst (λ (s : Site). Keeps facts old s) (sym is) (keeps_self facts old)
+    ≡ keep_in slot (record file { offset = offset }) old → KeepsSite facts old new
+keeps_kept facts None file offset old new is = subst (λ (s : Site). KeepsSite facts old s) (sym is) (keeps_self facts old)
 keeps_kept facts (Some slot) file offset old new is = keeps_file facts old new slot (record file { offset = offset }) is
 
 pub kept_there : (slot : Option ℕ) (file : FileAt) (offset : ℕ) (old new : Site) → IsKept slot file old → new

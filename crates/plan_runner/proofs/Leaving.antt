@@ -15,7 +15,7 @@ use Rattle.plan_runner.specs.declared.next.Asked.TheVariants as asked
 use Rattle.plan_runner.specs.declared.next.Next.{Next}
 use Rattle.plan_runner.specs.declared.next.Next.TheVariants as step
 use Rattle.plan_runner.specs.Runners.{filled, keep_in}
-use Rattle.plan_runner.specs.Cancelling.{AsksOffset, Leaves, left_kept}
+use Rattle.plan_runner.specs.Cancelling.{AsksOffset, LeavesCancelled, left_kept}
 use Rattle.plan_runner.specs.Sound.{IsKept}
 use Rattle.plan_runner.proofs.SlotSets.{set_at, set_twice}
 
@@ -60,7 +60,7 @@ kept_same (Some slot) offset old new facts file asked later answers kept is same
 
 pub leaves_moved : (slot : Option ℕ) (offset : ℕ) (old new : Site) (facts : Facts) (file : FileAt) (place : ℕ)
     (bytes : List ℕ) (n : Next) → IsKept slot file old → new ≡ keep_in slot (record file { offset = offset }) old
-    → AsksOffset n → Leaves (left_kept slot new facts) place bytes new facts n → Leaves (left_kept slot old facts) place bytes new facts n
+    → AsksOffset n → LeavesCancelled (left_kept slot new facts) place bytes new facts n → LeavesCancelled (left_kept slot old facts) place bytes new facts n
 leaves_moved slot offset old new facts file place bytes (step.Ask (asked.Read grant at len) r) kept is asks g =
     λ answers later. kept_same slot offset old new facts file (place, filled (asked.Read grant at len) answers) later
     answers kept is refl ∙ g answers later
@@ -73,7 +73,7 @@ leaves_moved slot offset old new facts file place bytes n kept is asks g = absur
 pub leaves_moved_ok : (slot : Option ℕ) (offset : ℕ) (old new : Site) (facts : Facts) (file : FileAt) (place : ℕ)
     (bytes : List ℕ) (n : Result Next OutOfMemory) → IsKept slot file old → new
     ≡ keep_in slot (record file { offset = offset }) old
-    → IfOk n AsksOffset → IfOk n (λ x. Leaves (left_kept slot new facts) place bytes new facts x)
-    → IfOk n (λ x. Leaves (left_kept slot old facts) place bytes new facts x)
+    → IfOk n AsksOffset → IfOk n (λ x. LeavesCancelled (left_kept slot new facts) place bytes new facts x)
+    → IfOk n (λ x. LeavesCancelled (left_kept slot old facts) place bytes new facts x)
 leaves_moved_ok slot offset old new facts file place bytes (Ok n) kept is asks g = leaves_moved slot offset old new facts file place bytes n kept is asks g
 leaves_moved_ok slot offset old new facts file place bytes (Err e) kept is asks g = g

@@ -11,7 +11,7 @@ use Rattle.plan_runner.specs.declared.next.Running.{Running}
 use Rattle.plan_runner.specs.declared.next.Running.TheVariants as running
 use Rattle.plan_runner.specs.Runners.{awaited}
 use Rattle.plan_runner.specs.Pending.{own_place, reads_under}
-use Rattle.plan_runner.specs.Asking.{Asks, AsksOn, AsksOrDefers, AsksOwn, AwaitsOrDefers, BeginsAsking, GoesOnAsking, IsAmong, OwnOn}
+use Rattle.plan_runner.specs.Asking.{AwaitsAsked, AsksOn, AsksOrDefers, AsksOwn, AwaitsOrDefers, BeginsAsking, GoesOnAsking, IsAmong, OwnOn}
 
 -- a call awaits the reply to its own request, where it has one
 pub own_awaited : (r : Running) (site : Site) (p : ℕ) → own_place (Some r) ≡ Some p → awaited r site ≡ Some p
@@ -56,14 +56,14 @@ own_asks opened place reads old new a r asks = record {
 
 -- ---- what begins a call
 
-pub own_begins : (opened : Option ℕ) (place : ℕ) (old new : Site) (n : Next) → Asks opened place old n → BeginsAsking opened place old new n
+pub own_begins : (opened : Option ℕ) (place : ℕ) (old new : Site) (n : Next) → AwaitsAsked opened place old n → BeginsAsking opened place old new n
 own_begins opened place old new (step.Ask a r) asks = own_asks opened place [] old new a r asks
 own_begins opened place old new (step.Wait r) asks = absurd asks
 own_begins opened place old new (step.Done o) asks = tt
 
 -- of what is refused only for want of memory
 pub own_begins_if_ok : (opened : Option ℕ) (place : ℕ) (old new : Site) (n : Result Next OutOfMemory)
-    → IfOk n (Asks opened place old) → IfOk n (BeginsAsking opened place old new)
+    → IfOk n (AwaitsAsked opened place old) → IfOk n (BeginsAsking opened place old new)
 own_begins_if_ok opened place old new (Ok n) asks = own_begins opened place old new n asks
 own_begins_if_ok opened place old new (Err e) asks = asks
 

@@ -53,7 +53,7 @@ use Rattle.plan_runner.specs.declared.next.Next.TheVariants as step
 use Rattle.plan_runner.specs.declared.next.Running.{Running}
 use Rattle.plan_runner.specs.declared.next.Running.TheVariants as running
 use Rattle.plan_runner.specs.Asking.{GoesOnAsking, IsAmong, ReadsOn}
-use Rattle.plan_runner.specs.Runners.{Goes, Widens, after, idle, place_in, residual, waits}
+use Rattle.plan_runner.specs.Runners.{RunsByPlan, Widens, after, idle, place_in, residual, waits}
 use Rattle.plan_runner.specs.Pending.{Pends, one, pends, reads_times, slots_times, with_reads}
 use Rattle.plan_runner.specs.Sound.{AsksWithin, IsSound, Sounds}
 use Rattle.plan_runner.proofs.Keeping.{keeps_self}
@@ -250,7 +250,7 @@ none_waiting (r ∷ rest) none = absurd cc
 
 pub widened_goes : (grant bound : ℕ) (w : Window) (place : ℕ) (bytes : List ℕ) (site : Site) (facts : Facts) (n : Next)
     → first_of w.waiting ≡ None → Widens (running.ReadingWhole grant bound w) place bytes site facts n
-    → Goes (after (running.ReadingWhole grant bound w) bytes site facts None) place bytes site facts n
+    → RunsByPlan (after (running.ReadingWhole grant bound w) bytes site facts None) place bytes site facts n
 widened_goes grant bound w place bytes site facts (step.Ask a r) none g = λ answers. (
   none_under_way (handle_of (answers grant)) (Some bound) w site facts answers (none_waiting w.waiting none)
       ∙ (sym (move_missing (handle_of (answers grant)) (Some bound) w site facts) ∙ (g answers).0),
@@ -266,7 +266,7 @@ widened_goes grant bound w place bytes site facts (step.Done o) none g =
 pub widened_if_ok : (grant bound : ℕ) (w : Window) (place : ℕ) (bytes : List ℕ) (site : Site) (facts : Facts)
     (n : Result Next OutOfMemory) → first_of w.waiting ≡ None →
     IfOk n (λ x. Widens (running.ReadingWhole grant bound w) place bytes site facts x)
-    → IfOk n (λ x. Goes (after (running.ReadingWhole grant bound w) bytes site facts None) place bytes site facts x)
+    → IfOk n (λ x. RunsByPlan (after (running.ReadingWhole grant bound w) bytes site facts None) place bytes site facts x)
 widened_if_ok grant bound w place bytes site facts (Ok n) none g = widened_goes grant bound w place bytes site facts n none g
 widened_if_ok grant bound w place bytes site facts (Err e) none g = g
 

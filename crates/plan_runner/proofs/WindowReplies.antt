@@ -46,7 +46,7 @@ use Rattle.plan_runner.specs.declared.next.Next.TheVariants as step
 use Rattle.plan_runner.specs.declared.next.Running.{Running}
 use Rattle.plan_runner.specs.declared.next.Running.TheVariants as running
 use Rattle.plan_runner.specs.Asking.{GoesOnAsking, IsAmong, WidensAsking, is_window}
-use Rattle.plan_runner.specs.Runners.{Goes, Widens, after, place_in, refusal_of}
+use Rattle.plan_runner.specs.Runners.{RunsByPlan, Widens, after, place_in, refusal_of}
 use Rattle.plan_runner.specs.Pending.{maybe, pends, reads_times, slots_times, with_reads}
 use Rattle.plan_runner.proofs.Going.{goes_if_ok}
 use Rattle.plan_runner.proofs.WindowMoves.{with_reads_is}
@@ -194,7 +194,7 @@ refusal_is other site = refl
 pub refused_goes : (grant bound : ℕ) (w : Window) (r : ReadAt) (y : Reply) (place : ℕ) (bytes : List ℕ) (site : Site)
     (facts : Facts) → first_of w.waiting ≡ Some r → first_refusal (replies_of w) ≡ None
     → (brings_content y || is_end_of_file y) ≡ false
-    → Goes (after (running.ReadingWhole grant bound w) bytes site facts (Some y)) place bytes site facts (step.Done (refusal_of y))
+    → RunsByPlan (after (running.ReadingWhole grant bound w) bytes site facts (Some y)) place bytes site facts (step.Done (refusal_of y))
 refused_goes grant bound w r y place bytes site facts first none bad =
     λ answers. refused_after (handle_of (answers grant)) (Some bound) w site facts [] answers r y first none bad
     ∙ refusal_is y site
@@ -218,8 +218,8 @@ others_wait r place bytes site facts other = (refl, λ answers. refl)
 
 pub opened_goes : (grant bound : ℕ) (w : Window) (handle : List ℕ) (place : ℕ) (bytes : List ℕ) (site : Site)
     (facts : Facts) (n : Result Next OutOfMemory) → w ≡ empty_window
-    → IfOk n (λ x. Goes (after (running.ReadingWhole grant bound w) bytes site facts None) place bytes site facts x)
-    → IfOk n (λ x. Goes (after (running.OpeningToRead grant bound) bytes site facts (Some (reply.Handle handle))) place bytes site facts x)
+    → IfOk n (λ x. RunsByPlan (after (running.ReadingWhole grant bound w) bytes site facts None) place bytes site facts x)
+    → IfOk n (λ x. RunsByPlan (after (running.OpeningToRead grant bound) bytes site facts (Some (reply.Handle handle))) place bytes site facts x)
 opened_goes grant bound w handle place bytes site facts n is g =
     goes_if_ok (after (running.ReadingWhole grant bound w) bytes site facts None)
     (after (running.OpeningToRead grant bound) bytes site facts (Some (reply.Handle handle))) place bytes site facts
@@ -228,8 +228,8 @@ opened_goes grant bound w handle place bytes site facts n is g =
 
 pub replied_goes : (grant bound : ℕ) (w new : Window) (y : Reply) (place : ℕ) (bytes : List ℕ) (site : Site)
     (facts : Facts) (n : Result Next OutOfMemory) → new ≡ answered_more w y
-    → IfOk n (λ x. Goes (after (running.ReadingWhole grant bound new) bytes site facts None) place bytes site facts x)
-    → IfOk n (λ x. Goes (after (running.ReadingWhole grant bound w) bytes site facts (Some y)) place bytes site facts x)
+    → IfOk n (λ x. RunsByPlan (after (running.ReadingWhole grant bound new) bytes site facts None) place bytes site facts x)
+    → IfOk n (λ x. RunsByPlan (after (running.ReadingWhole grant bound w) bytes site facts (Some y)) place bytes site facts x)
 replied_goes grant bound w new y place bytes site facts n is g =
     goes_if_ok (after (running.ReadingWhole grant bound new) bytes site facts None)
     (after (running.ReadingWhole grant bound w) bytes site facts (Some y)) place bytes site facts n

@@ -112,10 +112,10 @@ pub record AsksOwn (opened : Option ℕ) (place : ℕ) (site : Site) (a : Asked)
   pub fits : (answers : Answers) (y : Reply) → may_answer (filled a answers) y ≡ true → Fits r (Some y)
 
 -- What begins a call, where the site was this one, awaits what it asks.
-abbrev pub Asks : Option ℕ → ℕ → Site → Next → Type 0
-Asks opened place site (step.Ask a r) = AsksOwn opened place site a r
-Asks opened place site (step.Wait r) = ⊥
-Asks opened place site (step.Done o) = Unit {0}
+abbrev pub AwaitsAsked : Option ℕ → ℕ → Site → Next → Type 0
+AwaitsAsked opened place site (step.Ask a r) = AsksOwn opened place site a r
+AwaitsAsked opened place site (step.Wait r) = ⊥
+AwaitsAsked opened place site (step.Done o) = Unit {0}
 
 -- and a call that was begun asks no CLOSE
 abbrev pub AsksOn : Option ℕ → ℕ → Site → Next → Type 0

@@ -60,16 +60,16 @@ left_after (running.Flushing slot) bytes site facts (Some r) later answers =
 left_after other bytes site facts r later answers = left_behind other bytes site facts later answers
 
 -- what a cancelled call leaves where a runner has come so far
-abbrev pub Leaves : Leaving → ℕ → List ℕ → Site → Facts → Next → Type 0
-Leaves leaving place bytes site facts (step.Ask a r) = (answers : Answers) (later : Own)
+abbrev pub LeavesCancelled : Leaving → ℕ → List ℕ → Site → Facts → Next → Type 0
+LeavesCancelled leaving place bytes site facts (step.Ask a r) = (answers : Answers) (later : Own)
     → leaving ((place, filled a answers) ∷ later) answers ≡ left_behind r bytes site facts later answers
-Leaves leaving place bytes site facts (step.Wait r) = (answers : Answers) (later : Own) → leaving later answers
+LeavesCancelled leaving place bytes site facts (step.Wait r) = (answers : Answers) (later : Own) → leaving later answers
     ≡ left_behind r bytes site facts later answers
-Leaves leaving place bytes site facts (step.Done o) = Unit {0}
+LeavesCancelled leaving place bytes site facts (step.Done o) = Unit {0}
 
 -- of what begins a call
 abbrev pub BeginsLeaving : Call → ℕ → Site → Site → Facts → Next → Type 0
-BeginsLeaving c place old new facts n = Leaves (cancelled c old facts) place (bytes_of c) new facts n
+BeginsLeaving c place old new facts n = LeavesCancelled (cancelled c old facts) place (bytes_of c) new facts n
 
 -- a runner that asks, if it does, a READ or a WRITE
 abbrev pub AsksOffset : Next → Type 0

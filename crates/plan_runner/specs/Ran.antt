@@ -27,16 +27,16 @@ use Rattle.plan_runner.specs.Asking.{
   opened_after,
 }
 use Rattle.plan_runner.specs.Buffers.{reading_in}
-use Rattle.plan_runner.specs.Cancelling.{AsksOffset, BeginsLeaving, Leaves, left_after, left_behind, left_kept}
+use Rattle.plan_runner.specs.Cancelling.{AsksOffset, BeginsLeaving, LeavesCancelled, left_after, left_behind, left_kept}
 use Rattle.plan_runner.specs.Pending.{Fewer, Pends, maybe, pends, pends_after, pends_idle, reads_under, slots_times}
-use Rattle.plan_runner.specs.Runners.{Begins, Goes, Widens, after, bytes_of}
-use Rattle.plan_runner.specs.Sound.{IsSound, Keeps, Sounds}
+use Rattle.plan_runner.specs.Runners.{BeginsByPlan, RunsByPlan, Widens, after, bytes_of}
+use Rattle.plan_runner.specs.Sound.{IsSound, KeepsSite, Sounds}
 
 -- a call goes on after the reply that it awaited, if it awaited one: the fields are as those of `Begun`
 pub record Continued (r : Running) (reply : Option Reply) (bytes : List ℕ) (place : ℕ) (old new : Site) (facts : Facts)
     (result : Result Next OutOfMemory) : Type 0 where
-  pub goes : IfOk result (Goes (after r bytes old facts reply) place bytes new facts)
-  pub left : IfOk result (Leaves (left_after r bytes old facts reply) place bytes new facts)
+  pub goes : IfOk result (RunsByPlan (after r bytes old facts reply) place bytes new facts)
+  pub left : IfOk result (LeavesCancelled (left_after r bytes old facts reply) place bytes new facts)
   pub sound : IfOk result (Sounds bytes facts old new)
   pub pends : IfOk result (Pends (pends_after r old reply) place new)
   pub asks : IfOk result (GoesOnAsking (opened_after r reply) place (reads_under (Some r)) old new)
@@ -46,7 +46,7 @@ pub record Continued (r : Running) (reply : Option Reply) (bytes : List ℕ) (pl
 -- a call on a buffered file begins, which may leave replies to its slot
 pub record BegunBuffered (c : Call) (place : ℕ) (old new : Site) (facts : Facts) (result : Result Next OutOfMemory)
     : Type 0 where
-  pub goes : IfOk result (Begins c place old new facts)
+  pub goes : IfOk result (BeginsByPlan c place old new facts)
   pub left : IfOk result (BeginsLeaving c place old new facts)
   pub sound : IfOk result (Sounds (bytes_of c) facts old new)
   pub pends : IfOk result (Pends (pends_idle old) place new)
@@ -56,8 +56,8 @@ pub record BegunBuffered (c : Call) (place : ℕ) (old new : Site) (facts : Fact
 -- a WRITE to the buffered file in a slot, by this plan, at the begin of a call or later
 pub record Defers (plan : Plan) (slot : ℕ) (bytes : List ℕ) (place : ℕ) (old new : Site) (facts : Facts)
     (result : Result Next OutOfMemory) : Type 0 where
-  pub goes : IfOk result (Goes plan place bytes new facts)
-  pub left : IfOk result (Leaves (cancelled_buf_write slot old facts) place bytes new facts)
+  pub goes : IfOk result (RunsByPlan plan place bytes new facts)
+  pub left : IfOk result (LeavesCancelled (cancelled_buf_write slot old facts) place bytes new facts)
   pub sound : IfOk result (Sounds bytes facts old new)
   pub pends : IfOk result (Pends (pends_idle old) place new)
   pub asks : IfOk result (BeginsAsking None place old new)
@@ -67,8 +67,8 @@ pub record Defers (plan : Plan) (slot : ℕ) (bytes : List ℕ) (place : ℕ) (o
 -- a transfer goes on by this plan, whose file stands in a slot or in none; the reply to its own request came
 pub record Transfers (plan : Plan) (slot opened : Option ℕ) (awaited : ℕ → ℕ) (bytes : List ℕ) (place : ℕ)
     (old new : Site) (facts : Facts) (result : Result Next OutOfMemory) : Type 0 where
-  pub goes : IfOk result (Goes plan place bytes new facts)
-  pub left : IfOk result (Leaves (left_kept slot old facts) place bytes new facts)
+  pub goes : IfOk result (RunsByPlan plan place bytes new facts)
+  pub left : IfOk result (LeavesCancelled (left_kept slot old facts) place bytes new facts)
   pub sound : IfOk result (Sounds bytes facts old new)
   pub pends : IfOk result (Pends awaited place new)
   pub asks : IfOk result (AsksOn opened place old)
@@ -77,8 +77,8 @@ pub record Transfers (plan : Plan) (slot opened : Option ℕ) (awaited : ℕ →
 -- a whole read goes on: the grant that it opened, the READs that it had under way, and those after the reply
 pub record ReadsWhole (r : Running) (reply : Option Reply) (opened : Option ℕ) (under on : List ReadAt) (bytes : List ℕ)
     (place : ℕ) (site : Site) (facts : Facts) (result : Result Next OutOfMemory) : Type 0 where
-  pub goes : IfOk result (Goes (after r bytes site facts reply) place bytes site facts)
-  pub left : IfOk result (Leaves (λ own answers. site) place bytes site facts)
+  pub goes : IfOk result (RunsByPlan (after r bytes site facts reply) place bytes site facts)
+  pub left : IfOk result (LeavesCancelled (λ own answers. site) place bytes site facts)
   pub sound : IfOk result (Sounds bytes facts site site)
   pub pends : IfOk result (Pends (pends_after r site reply) place site)
   pub asks : IfOk result (GoesOnAsking opened place under site site)
@@ -89,7 +89,7 @@ pub record DecidesNext (r : Running) (opened : Option ℕ) (under : List ReadAt)
     (site : Site)
     (facts : Facts) (result : Result Next OutOfMemory) : Type 0 where
   pub goes : IfOk result (Widens r place bytes site facts)
-  pub left : IfOk result (Leaves (λ own answers. site) place bytes site facts)
+  pub left : IfOk result (LeavesCancelled (λ own answers. site) place bytes site facts)
   pub sound : IfOk result (IsSound bytes site facts)
   pub pends : IfOk result (Pends (λ q. pends q (Some r) site) place site)
   pub asks : IfOk result (GoesOnAsking opened place under site site)
@@ -99,7 +99,7 @@ pub record DecidesNext (r : Running) (opened : Option ℕ) (under : List ReadAt)
 pub record Meanwhile (r : Running) (bytes : List ℕ) (place : ℕ) (site : Site) (facts : Facts)
     (result : Result Next OutOfMemory) : Type 0 where
   pub goes : IfOk result (Widens r place bytes site facts)
-  pub left : IfOk result (Leaves (left_behind r bytes site facts) place bytes site facts)
+  pub left : IfOk result (LeavesCancelled (left_behind r bytes site facts) place bytes site facts)
   pub sound : IfOk result (IsSound bytes site facts)
   pub pends : IfOk result (Pends (λ q. pends q (Some r) site) place site)
   pub asks : IfOk result (WidensAsking r place site)
@@ -108,7 +108,7 @@ pub record Meanwhile (r : Running) (bytes : List ℕ) (place : ℕ) (site : Site
 -- a reply ends a call on files in slots, as this move says: no reply is awaited more often
 pub record Replied (move : Move) (outcome : Outcome) (old new : Site) : Type 0 where
   pub gives : move ≡ Done outcome new
-  pub sound : (facts : Facts) → Keeps facts old new
+  pub sound : (facts : Facts) → KeepsSite facts old new
   pub fewer : Fewer old new
 
 -- what is asked of a file, which stands in a slot or in none: a READ or a WRITE, by a grant that the lane has
@@ -121,6 +121,6 @@ pub record AsksRest (slot : Option ℕ) (file : FileAt) (place : ℕ) (result : 
 pub record Filled (move : Move) (slot : ℕ) (old new : Site) (result : Result Outcome OutOfMemory) : Type 0 where
   pub gives : IfOk result (λ o. move ≡ Done o new)
   pub err : OnErr result (new ≡ old)
-  pub sound : (facts : Facts) → Keeps facts old new
+  pub sound : (facts : Facts) → KeepsSite facts old new
   pub fewer : IfOk result (λ o. (q : ℕ)
       → slots_times q new.slots ≤ slots_times q old.slots - maybe (reading_in (slot_at old slot)) q)

@@ -225,13 +225,13 @@ residual running bytes site facts later answers = once (awaited running site) an
 -- ---- what a runner does
 
 -- What a runner answers goes by a plan: the request that it asks bears this place.
-abbrev pub Goes : Plan → ℕ → List ℕ → Site → Facts → Next → Type 0
-Goes plan place bytes site facts (step.Ask a r) =
+abbrev pub RunsByPlan : Plan → ℕ → List ℕ → Site → Facts → Next → Type 0
+RunsByPlan plan place bytes site facts (step.Ask a r) =
     (answers : Answers) → (plan [] answers ≡ Ask (filled a answers))
     × ((later : Own) → plan ((place, filled a answers) ∷ later) answers ≡ residual r bytes site facts later answers)
-Goes plan place bytes site facts (step.Wait r) = (answers : Answers) → (later : Own) → plan later answers
+RunsByPlan plan place bytes site facts (step.Wait r) = (answers : Answers) → (later : Own) → plan later answers
     ≡ residual r bytes site facts later answers
-Goes plan place bytes site facts (step.Done o) = (answers : Answers) → plan [] answers ≡ Done o site
+RunsByPlan plan place bytes site facts (step.Done o) = (answers : Answers) → plan [] answers ≡ Done o site
 
 -- What a runner answers while the reply that it awaits is missing: what it asks bears this place, or the plan waits.
 abbrev pub Widens : Running → ℕ → List ℕ → Site → Facts → Next → Type 0
@@ -255,8 +255,8 @@ bytes_of (call.FsWrite path bytes) = bytes
 bytes_of other = []
 
 -- What begins a call goes by its plan. The site was the first one, and is the second.
-abbrev pub Begins : Call → ℕ → Site → Site → Facts → Next → Type 0
-Begins c place old new facts n = Goes (next c old facts) place (bytes_of c) new facts n
+abbrev pub BeginsByPlan : Call → ℕ → Site → Site → Facts → Next → Type 0
+BeginsByPlan c place old new facts n = RunsByPlan (next c old facts) place (bytes_of c) new facts n
 
 -- ---- seeks
 

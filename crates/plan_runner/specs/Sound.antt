@@ -30,7 +30,7 @@ abbrev pub AreWithin : Facts → Site → Type 0
 AreWithin facts site = (k : ℕ) → IsWithin facts (slot_at site k)
 
 -- as many slots, each within its bounds where all were
-pub record Keeps (facts : Facts) (old new : Site) : Type 0 where
+pub record KeepsSite (facts : Facts) (old new : Site) : Type 0 where
   pub count : length new.slots ≡ length old.slots
   pub limit : AreWithin facts old → AreWithin facts new
 
@@ -121,4 +121,4 @@ IsSound bytes site facts (step.Done o) = Unit {0}
 
 -- the site is kept, and the call can go on from it
 abbrev pub Sounds : List ℕ → Facts → Site → Site → Next → Type 0
-Sounds bytes facts old new n = Keeps facts old new × IsSound bytes new facts n
+Sounds bytes facts old new n = KeepsSite facts old new × IsSound bytes new facts n

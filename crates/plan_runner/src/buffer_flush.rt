@@ -4,10 +4,10 @@ ghost use Rattle.sftp_model.specs.Slots.{slot_at};
 ghost use Rattle.sftp_model.specs.declared.slot.Facts.{Facts as FactsValue};
 ghost use Rattle.plan_model.specs.declared.call.Call.TheVariants as call;
 ghost use Rattle.plan_runner.specs.declared.next.Running.TheVariants as running;
-ghost use Rattle.plan_runner.specs.Runners.{Begins, Goes, after};
+ghost use Rattle.plan_runner.specs.Runners.{BeginsByPlan, RunsByPlan, after};
 ghost use Rattle.plan_runner.specs.Buffers.{but_oldest, flushing, without_oldest};
-ghost use Rattle.plan_runner.specs.Cancelling.{BeginsLeaving, Leaves, left_after};
-ghost use Rattle.plan_runner.specs.Sound.{Keeps, Sounds};
+ghost use Rattle.plan_runner.specs.Cancelling.{BeginsLeaving, LeavesCancelled, left_after};
+ghost use Rattle.plan_runner.specs.Sound.{KeepsSite, Sounds};
 ghost use Rattle.plan_runner.specs.Pending.{Fewer, Pends, pends_after, pends_idle};
 ghost use Rattle.plan_runner.specs.Asking.{BeginsAsking, GoesOnAsking};
 
@@ -20,7 +20,7 @@ use sftp_values::Items;
 /// Flushes the buffered file in a slot: awaits the status of each deferred write.
 pub fn begin_buf_flush(slot: u8, place: u64, site: &Site, facts: &Facts) -> Next
     requires { slot < length site.now.slots }
-    ensures goes { Begins (call.BufFlush slot) place site.now site.now facts.now result }
+    ensures goes { BeginsByPlan (call.BufFlush slot) place site.now site.now facts.now result }
     ensures left { BeginsLeaving (call.BufFlush slot) place site.now site.now facts.now result }
     ensures sound { Sounds [] facts.now site.now site.now result }
     ensures pends { Pends (pends_idle site.now) place site.now result }
@@ -63,7 +63,7 @@ pub fn take_oldest(slot: u8, site: &mut Site)
     requires { slot < length site.old.slots }
     ensures after { site.new ≡ without_oldest site.old slot (slot_at site.old slot) }
     ensures fewer { Fewer site.old site.new }
-    ensures keeps { (facts : FactsValue) → Keeps facts site.old site.new }
+    ensures keeps { (facts : FactsValue) → KeepsSite facts site.old site.new }
 {
     match take_slot(site, slot) {
         Slot::Buffered(file, buffer) => {
@@ -96,10 +96,10 @@ pub(crate) fn flush_replied(
 ) -> Next
     requires { slot < length site.old.slots }
     ensures goes { (bytes : List ℕ)
-        → Goes (after (running.Flushing slot) bytes site.old facts.now (Some reply))
+        → RunsByPlan (after (running.Flushing slot) bytes site.old facts.now (Some reply))
         place bytes site.new facts.now result }
     ensures left { (bytes : List ℕ)
-        → Leaves (left_after (running.Flushing slot) bytes site.old facts.now (Some reply))
+        → LeavesCancelled (left_after (running.Flushing slot) bytes site.old facts.now (Some reply))
         place bytes site.new facts.now result }
     ensures sound { (bytes : List ℕ) → Sounds bytes facts.now site.old site.new result }
     ensures pends { Pends (pends_after (running.Flushing slot) site.old (Some reply))

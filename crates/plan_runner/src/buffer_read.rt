@@ -7,8 +7,8 @@ ghost use Rattle.plan_model.specs.Moves.{further, on_buffered};
 ghost use Rattle.plan_model.specs.BufferPlans.{cancelled_buf_read, fill_next, was_filled};
 ghost use Rattle.plan_runner.specs.Ran.{BegunBuffered, Filled};
 ghost use Rattle.plan_runner.specs.Buffers.{with_reading};
-ghost use Rattle.plan_runner.specs.Runners.{Goes};
-ghost use Rattle.plan_runner.specs.Cancelling.{Leaves};
+ghost use Rattle.plan_runner.specs.Runners.{RunsByPlan};
+ghost use Rattle.plan_runner.specs.Cancelling.{LeavesCancelled};
 ghost use Rattle.plan_runner.specs.Sound.{AreWithin, EndsWithin, Sounds, StandsAt};
 ghost use Rattle.plan_runner.specs.Pending.{Pends, pends_idle};
 ghost use Rattle.plan_runner.specs.Asking.{BeginsAsking};
@@ -107,10 +107,10 @@ pub fn begin_buf_read(
 /// Fills the buffer of the file in a slot: by the read under way, or else by one of the call's own.
 fn fill(slot: u8, n: u64, place: u64, site: &mut Site, facts: &Facts) -> Next
     requires { slot < length site.old.slots }
-    ensures goes { Goes (λ own answers. on_buffered (slot_at site.old slot) site.old (λ file buffer.
+    ensures goes { RunsByPlan (λ own answers. on_buffered (slot_at site.old slot) site.old (λ file buffer.
         fill_next slot n file buffer site.old facts.now buffer.reading own answers))
         place [] site.new facts.now result }
-    ensures left { Leaves (cancelled_buf_read slot site.old facts.now)
+    ensures left { LeavesCancelled (cancelled_buf_read slot site.old facts.now)
         place [] site.new facts.now result }
     ensures sound { Sounds [] facts.now site.old site.new result }
     ensures pends { Pends (pends_idle site.old) place site.new result }

@@ -4,9 +4,9 @@ ghost use Rattle.sftp_model.specs.Slots.{slot_at};
 ghost use Rattle.sftp_model.specs.declared.slot.Facts.{Facts as FactsValue};
 ghost use Rattle.plan_model.specs.declared.call.Call.TheVariants as call;
 ghost use Rattle.plan_runner.specs.declared.next.Next.TheVariants as step;
-ghost use Rattle.plan_runner.specs.Runners.{Begins};
+ghost use Rattle.plan_runner.specs.Runners.{BeginsByPlan};
 ghost use Rattle.plan_runner.specs.Seeks.{rebuffered, sought_bytes};
-ghost use Rattle.plan_runner.specs.Sound.{Keeps};
+ghost use Rattle.plan_runner.specs.Sound.{KeepsSite};
 ghost use Rattle.plan_runner.specs.Pending.{Fewer};
 
 use crate::gathering::no_bytes;
@@ -79,9 +79,9 @@ pub fn begin_buf_seek(
 ) -> Result<Outcome, OutOfMemory>
     requires { slot < length site.old.slots }
     ensures goes { (place : ℕ) (facts : FactsValue) → IfOk result (λ o.
-        Begins (call.BufSeek slot position) place site.old site.new facts (step.Done o)) }
+        BeginsByPlan (call.BufSeek slot position) place site.old site.new facts (step.Done o)) }
     ensures err { OnErr result (site.new ≡ site.old) }
-    ensures sound { (facts : FactsValue) → Keeps facts site.old site.new }
+    ensures sound { (facts : FactsValue) → KeepsSite facts site.old site.new }
     ensures pends { Fewer site.old site.new }
 {
     let Slot::Buffered(file, buffer) = slot_of(site, slot) else {

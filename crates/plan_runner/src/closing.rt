@@ -5,11 +5,11 @@ ghost use Rattle.sftp_model.specs.Slots.{has_grant};
 ghost use Rattle.plan_model.specs.declared.call.Call.TheVariants as call;
 ghost use Rattle.plan_model.specs.FilePlans.{close_grant_next};
 ghost use Rattle.plan_runner.specs.Begun.{Begun};
-ghost use Rattle.plan_runner.specs.Runners.{Begins, Goes};
-ghost use Rattle.plan_runner.specs.Cancelling.{BeginsLeaving, Leaves, NeverWaits};
+ghost use Rattle.plan_runner.specs.Runners.{BeginsByPlan, RunsByPlan};
+ghost use Rattle.plan_runner.specs.Cancelling.{BeginsLeaving, LeavesCancelled, NeverWaits};
 ghost use Rattle.plan_runner.specs.Sound.{Sounds};
 ghost use Rattle.plan_runner.specs.Pending.{Pends, pends_idle};
-ghost use Rattle.plan_runner.specs.Asking.{Asks};
+ghost use Rattle.plan_runner.specs.Asking.{AwaitsAsked};
 
 use crate::next::{Asked, EndsBy, Next, Running};
 use crate::site::{holds_grant, set_slot, slot_of};
@@ -32,11 +32,11 @@ pub fn begin_close(slot: u8, place: u64, site: &mut Site, facts: &Facts) -> Next
 /// Closes what no slot has any more.
 fn close_grant(grant: u64, place: u64, site: &Site, facts: &Facts) -> Next
     ensures asks { NeverWaits result }
-    ensures goes { Goes (close_grant_next grant site.now) place [] site.now facts.now result }
-    ensures left { Leaves (λ own answers. site.now) place [] site.now facts.now result }
+    ensures goes { RunsByPlan (close_grant_next grant site.now) place [] site.now facts.now result }
+    ensures left { LeavesCancelled (λ own answers. site.now) place [] site.now facts.now result }
     ensures sound { Sounds [] facts.now site.now site.now result }
     ensures pends { Pends (pends_idle site.now) place site.now result }
-    ensures grants { (old : SiteValue) → has_grant old grant ≡ true → Asks None place old result }
+    ensures grants { (old : SiteValue) → has_grant old grant ≡ true → AwaitsAsked None place old result }
 {
     if holds_grant(site, grant) {
         return Next::Done(Outcome::Done);

@@ -9,7 +9,7 @@ ghost use Rattle.plan_runner.specs.Ran.{Replied};
 ghost use Rattle.plan_runner.specs.Begun.{Begun};
 ghost use Rattle.plan_runner.specs.Sound.{CanMove};
 ghost use Rattle.plan_runner.specs.Pending.{Fewer};
-ghost use Rattle.plan_runner.specs.Asking.{Asks};
+ghost use Rattle.plan_runner.specs.Asking.{AwaitsAsked};
 
 use crate::next::{Asked, EndsBy, Next, Running};
 use crate::replies::{failure, refused, unsupported};

@@ -7,8 +7,8 @@ ghost use Rattle.plan_model.specs.TransferPlans.{missing_next};
 ghost use Rattle.plan_runner.specs.Ran.{Transfers};
 ghost use Rattle.plan_runner.specs.declared.next.Running.TheVariants as running;
 ghost use Rattle.plan_runner.specs.Begun.{Begun};
-ghost use Rattle.plan_runner.specs.Runners.{Goes, after, content_after};
-ghost use Rattle.plan_runner.specs.Cancelling.{AsksOffset, Leaves, left_kept};
+ghost use Rattle.plan_runner.specs.Runners.{RunsByPlan, after, content_after};
+ghost use Rattle.plan_runner.specs.Cancelling.{AsksOffset, LeavesCancelled, left_kept};
 ghost use Rattle.plan_runner.specs.Sound.{CanMove, HasRoom, IsKept, Sounds};
 ghost use Rattle.plan_runner.specs.Pending.{Pends, pends_after, pends_idle};
 ghost use Rattle.plan_runner.specs.Asking.{AsksOn, HasGrant};
@@ -33,9 +33,9 @@ pub fn read_rest(
     facts: &Facts,
 ) -> Next
     ensures goes { (site : SiteValue) (bytes : List ℕ)
-        → Goes (missing_next slot file got left site facts.now) place bytes site facts.now result }
+        → RunsByPlan (missing_next slot file got left site facts.now) place bytes site facts.now result }
     ensures left { (site : SiteValue) (bytes : List ℕ) → IsKept (Some slot) file site
-        → Leaves (left_kept (Some slot) site facts.now) place bytes site facts.now result }
+        → LeavesCancelled (left_kept (Some slot) site facts.now) place bytes site facts.now result }
     ensures sound { (site : SiteValue) (bytes : List ℕ) → IsKept (Some slot) file site
         → Sounds bytes facts.now site site result }
     ensures pends { (site : SiteValue) → Pends (pends_idle site) place site result }

@@ -7,8 +7,8 @@ ghost use Rattle.plan_model.specs.declared.call.Call.TheVariants as call;
 ghost use Rattle.plan_model.specs.FilePlans.{on_seek};
 ghost use Rattle.std.specs.declared.io.traits.SeekFrom.TheVariants as position;
 ghost use Rattle.plan_runner.specs.declared.next.Next.TheVariants as step;
-ghost use Rattle.plan_runner.specs.Runners.{Begins, by_seek};
-ghost use Rattle.plan_runner.specs.Sound.{Keeps};
+ghost use Rattle.plan_runner.specs.Runners.{BeginsByPlan, by_seek};
+ghost use Rattle.plan_runner.specs.Sound.{KeepsSite};
 ghost use Rattle.plan_runner.specs.Pending.{Fewer};
 
 use crate::replies::refused;
@@ -48,8 +48,8 @@ pub fn sought(offset: u64, position: SeekFrom) -> Result<u64, IoKind>
 pub fn begin_seek(slot: u8, position: SeekFrom, site: &mut Site) -> Outcome
     requires { slot < length site.old.slots }
     ensures goes { (place : ℕ) (facts : FactsValue)
-        → Begins (call.Seek slot position) place site.old site.new facts (step.Done result) }
-    ensures sound { (facts : FactsValue) → Keeps facts site.old site.new }
+        → BeginsByPlan (call.Seek slot position) place site.old site.new facts (step.Done result) }
+    ensures sound { (facts : FactsValue) → KeepsSite facts site.old site.new }
     ensures pends { Fewer site.old site.new }
 {
     let Slot::File(file) = slot_of(site, slot) else {
@@ -70,8 +70,8 @@ pub fn begin_clone(from: u8, to: u8, site: &mut Site) -> Outcome
     requires source { from < length site.old.slots }
     requires target { to < length site.old.slots }
     ensures goes { (place : ℕ) (facts : FactsValue)
-        → Begins (call.CloneFile from to) place site.old site.new facts (step.Done result) }
-    ensures sound { (facts : FactsValue) → Keeps facts site.old site.new }
+        → BeginsByPlan (call.CloneFile from to) place site.old site.new facts (step.Done result) }
+    ensures sound { (facts : FactsValue) → KeepsSite facts site.old site.new }
     ensures pends { Fewer site.old site.new }
 {
     if from == to {
@@ -90,8 +90,8 @@ pub fn begin_clone(from: u8, to: u8, site: &mut Site) -> Outcome
 pub fn begin_buffer(alloc: Global, slot: u8, len: u32, site: &mut Site) -> Outcome
     requires { slot < length site.old.slots }
     ensures goes { (place : ℕ) (facts : FactsValue)
-        → Begins (call.Buffer slot len) place site.old site.new facts (step.Done result) }
-    ensures sound { (facts : FactsValue) → Keeps facts site.old site.new }
+        → BeginsByPlan (call.Buffer slot len) place site.old site.new facts (step.Done result) }
+    ensures sound { (facts : FactsValue) → KeepsSite facts site.old site.new }
     ensures pends { Fewer site.old site.new }
 {
     let Slot::File(file) = slot_of(site, slot) else {
@@ -113,8 +113,8 @@ pub fn begin_buffer(alloc: Global, slot: u8, len: u32, site: &mut Site) -> Outco
 pub fn begin_unbuffer(slot: u8, site: &mut Site) -> Outcome
     requires { slot < length site.old.slots }
     ensures goes { (place : ℕ) (facts : FactsValue)
-        → Begins (call.Unbuffer slot) place site.old site.new facts (step.Done result) }
-    ensures sound { (facts : FactsValue) → Keeps facts site.old site.new }
+        → BeginsByPlan (call.Unbuffer slot) place site.old site.new facts (step.Done result) }
+    ensures sound { (facts : FactsValue) → KeepsSite facts site.old site.new }
     ensures pends { Fewer site.old site.new }
 {
     let Slot::Buffered(file, _) = slot_of(site, slot) else {
@@ -128,9 +128,9 @@ pub fn begin_unbuffer(slot: u8, site: &mut Site) -> Outcome
 /// Sets the working directory, to the path as it is. Refused only for want of memory; the site is as it was then.
 pub fn begin_cwd(alloc: Global, path: &[u8], site: &mut Site) -> Result<Outcome, OutOfMemory>
     ensures goes { (place : ℕ) (facts : FactsValue) → IfOk result (λ o.
-        Begins (call.Cwd path.now) place site.old site.new facts (step.Done o)) }
+        BeginsByPlan (call.Cwd path.now) place site.old site.new facts (step.Done o)) }
     ensures err { OnErr result (site.new ≡ site.old) }
-    ensures sound { (facts : FactsValue) → Keeps facts site.old site.new }
+    ensures sound { (facts : FactsValue) → KeepsSite facts site.old site.new }
     ensures pends { Fewer site.old site.new }
 {
     site.directory = RemotePath::new(Vec::from_slice(alloc, path)?);

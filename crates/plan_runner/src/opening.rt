@@ -5,11 +5,11 @@ ghost use Rattle.sftp_model.specs.declared.slot.Facts.{Facts as FactsValue};
 ghost use Rattle.plan_model.specs.declared.call.Call.TheVariants as call;
 ghost use Rattle.plan_model.specs.FilePlans.{open_request, opened, opened_file};
 ghost use Rattle.plan_runner.specs.Begun.{Begun};
-ghost use Rattle.plan_runner.specs.Runners.{Begins};
+ghost use Rattle.plan_runner.specs.Runners.{BeginsByPlan};
 ghost use Rattle.plan_runner.specs.Cancelling.{BeginsLeaving};
-ghost use Rattle.plan_runner.specs.Sound.{Keeps, Sounds};
+ghost use Rattle.plan_runner.specs.Sound.{KeepsSite, Sounds};
 ghost use Rattle.plan_runner.specs.Pending.{Fewer, Pends, pends_idle};
-ghost use Rattle.plan_runner.specs.Asking.{Asks};
+ghost use Rattle.plan_runner.specs.Asking.{AwaitsAsked};
 
 use crate::next::{Asked, Next, Running};
 use crate::replies::{refused, status_refusal};
@@ -83,7 +83,7 @@ pub(crate) fn open_replied(
 ) -> Outcome
     requires { slot < length site.old.slots }
     ensures gives { opened slot flags site.old grant reply ≡ Done result site.new }
-    ensures sound { (facts : FactsValue) → Keeps facts site.old site.new }
+    ensures sound { (facts : FactsValue) → KeepsSite facts site.old site.new }
     ensures fewer { Fewer site.old site.new }
 {
     match reply {

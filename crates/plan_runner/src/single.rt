@@ -2,13 +2,14 @@
 ghost use Rattle.std.specs.Prelude.{◌≡◌, [], Some, None, IfOk};
 ghost use Rattle.sftp_model.specs.declared.slot.Move.TheVariants.{Done};
 ghost use Rattle.sftp_model.specs.declared.slot.Site.{Site as SiteValue};
-ghost use Rattle.plan_model.specs.Moves.{ask_path, by_reply, is_too_long, offers, told_by, done_by};
+ghost use Rattle.sftp_model.specs.Frames.{is_too_long};
+ghost use Rattle.plan_model.specs.Moves.{ask_path, by_reply, offers, told_by, done_by};
 ghost use Rattle.plan_model.specs.PathPlans.{named_by, set_attributes};
-ghost use Rattle.plan_runner.specs.Runners.{Goes, ended_by};
-ghost use Rattle.plan_runner.specs.Cancelling.{Leaves};
+ghost use Rattle.plan_runner.specs.Runners.{RunsByPlan, ended_by};
+ghost use Rattle.plan_runner.specs.Cancelling.{LeavesCancelled};
 ghost use Rattle.plan_runner.specs.Sound.{Sounds};
 ghost use Rattle.plan_runner.specs.Pending.{Pends, pends_idle};
-ghost use Rattle.plan_runner.specs.Asking.{Asks, IsPlain};
+ghost use Rattle.plan_runner.specs.Asking.{AwaitsAsked, IsPlain};
 
 use crate::next::{Asked, EndsBy, Next, Running};
 use crate::replies::{refused, status_refusal};
@@ -49,12 +50,12 @@ pub fn attributes(size: Option<u64>, mode: Option<u32>) -> FileAttrs
 
 /// Asks a request of one path or two, where it fits a frame; its reply ends the call.
 pub fn ask_path(request: Request, by: EndsBy, place: u64, site: &Site, facts: &Facts) -> Next
-    ensures goes { Goes (by_reply (ask_path request site.now) (ended_by by site.now))
+    ensures goes { RunsByPlan (by_reply (ask_path request site.now) (ended_by by site.now))
         place [] site.now facts.now result }
-    ensures left { Leaves (λ own answers. site.now) place [] site.now facts.now result }
+    ensures left { LeavesCancelled (λ own answers. site.now) place [] site.now facts.now result }
     ensures sound { Sounds [] facts.now site.now site.now result }
     ensures pends { Pends (pends_idle site.now) place site.now result }
-    ensures asks { IsPlain request → Asks None place site.now result }
+    ensures asks { IsPlain request → AwaitsAsked None place site.now result }
 {
     if is_too_long(&request) {
         return Next::Done(refused(IoKind::PathTooLong));

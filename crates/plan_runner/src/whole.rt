@@ -9,11 +9,11 @@ ghost use Rattle.plan_model.specs.Moves.{handle_of};
 ghost use Rattle.plan_model.specs.WholePlans.{entries_next, to_replace};
 ghost use Rattle.plan_runner.specs.declared.next.Running.TheVariants as running;
 ghost use Rattle.plan_runner.specs.Begun.{Begun};
-ghost use Rattle.plan_runner.specs.Runners.{Begins, Goes, after};
-ghost use Rattle.plan_runner.specs.Cancelling.{BeginsLeaving, Leaves};
+ghost use Rattle.plan_runner.specs.Runners.{BeginsByPlan, RunsByPlan, after};
+ghost use Rattle.plan_runner.specs.Cancelling.{BeginsLeaving, LeavesCancelled};
 ghost use Rattle.plan_runner.specs.Sound.{Sounds};
 ghost use Rattle.plan_runner.specs.Pending.{Pends, pends_after, pends_idle};
-ghost use Rattle.plan_runner.specs.Asking.{Asks, AsksOn, opened_after};
+ghost use Rattle.plan_runner.specs.Asking.{AwaitsAsked, AsksOn, opened_after};
 
 use crate::next::{Asked, Next, Running};
 use crate::opening::{open_request, opened_file};
@@ -72,9 +72,9 @@ pub(crate) fn whole_opened(
     site: &Site,
     facts: &Facts,
 ) -> Result<Next, OutOfMemory>
-    ensures goes { IfOk result (Goes (after (running.OpeningToWrite grant) bytes.now site.now facts.now (Some reply))
+    ensures goes { IfOk result (RunsByPlan (after (running.OpeningToWrite grant) bytes.now site.now facts.now (Some reply))
         place bytes.now site.now facts.now) }
-    ensures left { IfOk result (Leaves (λ own answers. site.now)
+    ensures left { IfOk result (LeavesCancelled (λ own answers. site.now)
         place bytes.now site.now facts.now) }
     ensures sound { IfOk result (Sounds bytes.now facts.now site.now site.now) }
     ensures pends { IfOk result (Pends (pends_after (running.OpeningToWrite grant) site.now (Some reply)) place site.now) }
@@ -119,9 +119,9 @@ pub fn begin_list(
 /// Asks for further entries of a directory after those that were got; the site may be any.
 fn list_rest(grant: u64, got: Items<NameEntry>, bound: u32, place: u64) -> Next
     ensures goes { (site : SiteValue) (facts : FactsValue) (bytes : List ℕ)
-        → Goes (λ own answers. entries_next (handle_of (answers grant)) got bound site own answers) place bytes site facts result }
+        → RunsByPlan (λ own answers. entries_next (handle_of (answers grant)) got bound site own answers) place bytes site facts result }
     ensures left { (site : SiteValue) (facts : FactsValue) (bytes : List ℕ)
-        → Leaves (λ own answers. site) place bytes site facts result }
+        → LeavesCancelled (λ own answers. site) place bytes site facts result }
     ensures sound { (site : SiteValue) (facts : FactsValue) (bytes : List ℕ)
         → Sounds bytes facts site site result }
     ensures pends { (site : SiteValue) → Pends (pends_idle site) place site result }
@@ -159,9 +159,9 @@ pub(crate) fn directory_opened(
     facts: &Facts,
 ) -> Next
     ensures goes { (bytes : List ℕ)
-        → Goes (after (running.OpeningDirectory grant bound) bytes site.now facts.now (Some reply))
+        → RunsByPlan (after (running.OpeningDirectory grant bound) bytes site.now facts.now (Some reply))
         place bytes site.now facts.now result }
-    ensures left { (bytes : List ℕ) → Leaves (λ own answers. site.now)
+    ensures left { (bytes : List ℕ) → LeavesCancelled (λ own answers. site.now)
         place bytes site.now facts.now result }
     ensures sound { (bytes : List ℕ) → Sounds bytes facts.now site.now site.now result }
     ensures pends { Pends (pends_after (running.OpeningDirectory grant bound) site.now
@@ -201,9 +201,9 @@ fn names_came(
     facts: &Facts,
 ) -> Result<Next, OutOfMemory>
     ensures goes { (bytes : List ℕ)
-        → IfOk result (Goes (after (running.Listing awaited grant got bound) bytes
+        → IfOk result (RunsByPlan (after (running.Listing awaited grant got bound) bytes
         site.now facts.now (Some (reply.Names names))) place bytes site.now facts.now) }
-    ensures left { (bytes : List ℕ) → IfOk result (Leaves (λ own answers. site.now)
+    ensures left { (bytes : List ℕ) → IfOk result (LeavesCancelled (λ own answers. site.now)
         place bytes site.now facts.now) }
     ensures sound { (bytes : List ℕ) → IfOk result (Sounds bytes facts.now site.now site.now) }
     ensures pends { IfOk result (Pends (pends_after (running.Listing awaited grant got bound) site.now
@@ -230,9 +230,9 @@ pub(crate) fn names_replied(
     facts: &Facts,
 ) -> Result<Next, OutOfMemory>
     ensures goes { (bytes : List ℕ)
-        → IfOk result (Goes (after (running.Listing awaited grant got bound) bytes site.now facts.now (Some reply))
+        → IfOk result (RunsByPlan (after (running.Listing awaited grant got bound) bytes site.now facts.now (Some reply))
         place bytes site.now facts.now) }
-    ensures left { (bytes : List ℕ) → IfOk result (Leaves (λ own answers. site.now)
+    ensures left { (bytes : List ℕ) → IfOk result (LeavesCancelled (λ own answers. site.now)
         place bytes site.now facts.now) }
     ensures sound { (bytes : List ℕ) → IfOk result (Sounds bytes facts.now site.now site.now) }
     ensures pends { IfOk result (Pends (pends_after (running.Listing awaited grant got bound) site.now (Some reply)) place site.now) }

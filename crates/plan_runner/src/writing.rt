@@ -6,8 +6,8 @@ ghost use Rattle.plan_model.specs.declared.call.Call.TheVariants as call;
 ghost use Rattle.plan_model.specs.TransferPlans.{joined_parts, part_len, rest_next, was_written};
 ghost use Rattle.plan_runner.specs.declared.next.Running.TheVariants as running;
 ghost use Rattle.plan_runner.specs.Begun.{Begun};
-ghost use Rattle.plan_runner.specs.Runners.{Goes, after, keep_in};
-ghost use Rattle.plan_runner.specs.Cancelling.{Leaves, left_kept};
+ghost use Rattle.plan_runner.specs.Runners.{RunsByPlan, after, keep_in};
+ghost use Rattle.plan_runner.specs.Cancelling.{LeavesCancelled, left_kept};
 ghost use Rattle.plan_runner.specs.Sound.{CanMove, HasSlot, IsKept, Sounds};
 ghost use Rattle.plan_runner.specs.Pending.{Fewer, Pends, pends_after, pends_idle};
 ghost use Rattle.plan_runner.specs.Asking.{opened_after};
@@ -110,9 +110,9 @@ pub fn write_rest(
 ) -> Result<Next, OutOfMemory>
     requires { done ≤ length bytes.now }
     ensures goes { (site : SiteValue)
-        → IfOk result (Goes (rest_next (keep_in slot) file (drop done bytes.now) site facts.now) place bytes.now site facts.now) }
+        → IfOk result (RunsByPlan (rest_next (keep_in slot) file (drop done bytes.now) site facts.now) place bytes.now site facts.now) }
     ensures left { (site : SiteValue) → IsKept slot file site
-        → IfOk result (Leaves (left_kept slot site facts.now) place bytes.now site facts.now) }
+        → IfOk result (LeavesCancelled (left_kept slot site facts.now) place bytes.now site facts.now) }
     ensures sound { (site : SiteValue) → IsKept slot file site
         → IfOk result (Sounds bytes.now facts.now site site) }
     ensures pends { (site : SiteValue) → IfOk result (Pends (pends_idle site) place site) }

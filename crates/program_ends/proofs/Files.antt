@@ -1,5 +1,33 @@
 -- The lines of a server's files and directories, up to one of them.
-use Rattle.std.proofs.Common.{◌≡◌, ◌<◌, ◌≤◌, ℕ, zero, suc, get_or, append-nil, ◌+◌, Bool, true, false, List, [], ◌∷◌, ◌++◌, filter, length, take, refl, ap, sym, ◌∙◌, append_assoc, arith, if◌then◌else◌, add-one}
+use Rattle.std.proofs.Common.{
+  ◌≡◌,
+  ◌<◌,
+  ◌≤◌,
+  ℕ,
+  zero,
+  suc,
+  get_or,
+  append-nil,
+  ◌+◌,
+  Bool,
+  true,
+  false,
+  List,
+  [],
+  ◌∷◌,
+  ◌++◌,
+  filter,
+  length,
+  take,
+  refl,
+  ap,
+  sym,
+  ◌∙◌,
+  append_assoc,
+  arith,
+  if◌then◌else◌,
+  add-one,
+}
 use Rattle.std.specs.Prelude.{Option}
 use Rattle.std.specs.List.{flat_map}
 use Rattle.std.specs.Option.{option_map}

@@ -3,7 +3,7 @@
 use Rattle.std.specs.Prelude.{◌≡◌, ◌≢◌, ◌⊎◌, ◌<◌, ℕ, List, [], Option, None, Result, Ok, Err, IfSome, IfErr}
 use Rattle.sftp_link.specs.Told.{Told, Same, Went, WentLess, ReadUpTo}
 use Rattle.sftp_link.specs.Views.{DialView, LastLink, SinkView, SourceView}
-use Rattle.sftp_map_server.specs.Serving.{Serving, first_desk, opened}
+use Rattle.sftp_map_server.specs.Serving.{Serving, first_state, opened}
 use Rattle.sftp_script.specs.declared.reason.Reason.{Reason}
 use Rattle.sftp_script.specs.declared.script.Script.{Script}
 use Rattle.program_ends.specs.declared.ending.Answered.{Answered}
@@ -115,7 +115,7 @@ Only right_answer right_text answered text = (answered ≡ right_answer) × (tex
 -- the server was made of a script's files and directories, and of its choices and picks
 abbrev pub IsServerOf : Script → Serving → Type 0
 IsServerOf script server =
-    server.first ≡ opened (first_desk script.files script.dirs script.server script.choices) script.picks
+    server.first ≡ opened (first_state script.files script.dirs script.server script.choices) script.picks
 
 -- A value is run whole over a server that is kept, and the text is right for both; what is no value is refused, and
 -- nothing is kept.

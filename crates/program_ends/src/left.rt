@@ -16,7 +16,7 @@ fn write_file_at(
     k: u64,
     out: &mut Vec<u8>,
 ) -> Result<(), OutOfMemory>
-    ensures { OnOk result (out.new.items ≡ out.old.items ++ file_text_of (file_at server.now.now.desk.machine.tree k)) }
+    ensures { OnOk result (out.new.items ≡ out.old.items ++ file_text_of (file_at server.now.now.state.machine.tree k)) }
 {
     match server.file(k) {
         Some((name, content)) => write_file(alloc, name, content, out),
@@ -27,7 +27,7 @@ fn write_file_at(
 /// Appends a line for each file, in the order of the written names by bytes. The error is want of memory.
 #[tactic(auto, using(crate::proofs::Files::file_step, crate::proofs::Files::files_end))]
 pub fn write_files(alloc: Global, server: &MapServer, out: &mut Vec<u8>) -> Result<(), OutOfMemory>
-    ensures { OnOk result (out.new.items ≡ out.old.items ++ file_lines server.now.now.desk.machine.tree) }
+    ensures { OnOk result (out.new.items ≡ out.old.items ++ file_lines server.now.now.state.machine.tree) }
 {
     for k in 0..server.file_count() {
         write_file_at(alloc, server, k, out)?;
@@ -42,7 +42,7 @@ fn write_dir_at(
     k: u64,
     out: &mut Vec<u8>,
 ) -> Result<(), OutOfMemory>
-    ensures { OnOk result (out.new.items ≡ out.old.items ++ dir_text_of (dir_at server.now.now.desk.machine.tree k)) }
+    ensures { OnOk result (out.new.items ≡ out.old.items ++ dir_text_of (dir_at server.now.now.state.machine.tree k)) }
 {
     match server.dir(k) {
         Some(name) => write_dir(alloc, name, out),
@@ -53,7 +53,7 @@ fn write_dir_at(
 /// Appends a line for each directory, in the order of the written names by bytes. The error is want of memory.
 #[tactic(auto, using(crate::proofs::Files::dir_step, crate::proofs::Files::dirs_end))]
 pub fn write_dirs(alloc: Global, server: &MapServer, out: &mut Vec<u8>) -> Result<(), OutOfMemory>
-    ensures { OnOk result (out.new.items ≡ out.old.items ++ dir_lines server.now.now.desk.machine.tree) }
+    ensures { OnOk result (out.new.items ≡ out.old.items ++ dir_lines server.now.now.state.machine.tree) }
 {
     for k in 0..server.dir_count() {
         write_dir_at(alloc, server, k, out)?;

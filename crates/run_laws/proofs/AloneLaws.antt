@@ -42,7 +42,7 @@ use Rattle.sftp_model.specs.declared.slot.Facts.{Facts}
 use Rattle.sftp_model.specs.declared.slot.FileAt.{FileAt}
 use Rattle.sftp_model.specs.declared.slot.Site.{Site}
 use Rattle.sftp_model.specs.declared.slot.Slot.TheVariants.{Buffered}
-use Rattle.machine_model.specs.Changes.{Closes, IsWellFormed}
+use Rattle.machine_model.specs.Changes.{ClosesHandle, IsWellFormed}
 use Rattle.machine_model.specs.FileTree.{FileTree, bytes_of, opened_at, put}
 use Rattle.machine_model.specs.Pairs.{Has}
 use Rattle.machine_model.specs.declared.opened.Opened.TheVariants as opened
@@ -52,14 +52,14 @@ use Rattle.session_model.specs.declared.entry.Entry.{Entry}
 use Rattle.session_model.specs.declared.turn.Turn.{Turn}
 use Rattle.session_model.specs.Calls.{Setting}
 use Rattle.session_model.specs.Grants.{is_asked_by}
-use Rattle.session_model.specs.Readings.{Asked, answer, asked, asked_at, is_by, own, sent}
+use Rattle.session_model.specs.Readings.{AskedRequest, answer, asked, asked_at, is_by, own, sent}
 use Rattle.session_model.specs.Journals.{IsJournal}
 use Rattle.session_model.specs.Runs.{IsRun}
 use Rattle.session_model.proofs.CallsSoFar.{reply_may}
 use Rattle.session_model.proofs.OverLaws.{runs_are_journals}
 use Rattle.run_laws.specs.Bearing.{UsesGrant, grant_at, subject}
 use Rattle.run_laws.specs.CallsAmong.{HasEnded, asked_by}
-use Rattle.run_laws.specs.DeferredWrites.{AllWriteBy, ArePut, StandAlone, WritesAlone, behind, tree_at}
+use Rattle.run_laws.specs.DeferredWrites.{AllWriteBy, ArePut, StandAlone, WritesAlone, place_behind, tree_at}
 use Rattle.run_laws.specs.GrantUses.{WritesBy}
 use Rattle.run_laws.specs.InJournals.{AreBelow}
 use Rattle.run_laws.specs.Steps.{AreServed, RunOf, Step, after, answer_to, asked_in}
@@ -156,7 +156,7 @@ seen_there seen (x ∷ xs) p (inr has) = seen_there (x.place ∷ seen) xs p has
 abbrev Guards : List Entry → ℕ → ℕ → ℕ → List ℕ → List Step → Type 0
 Guards past lane k start h whole =
     (xs ys : List Step) (t : Step) (q : ℕ) → whole ≡ xs ++ t ∷ ys → start ≤ t.place → HasRequest (asked_in ys) q
-    → is_asked_by (asked_at past q) lane k ≡ true → Closes t.request h → ⊥
+    → is_asked_by (asked_at past q) lane k ≡ true → ClosesHandle t.request h → ⊥
 
 -- A call's requests write by a handle: it is that of a grant which was made before the call, and which no other step closes meanwhile.
 guards_of : (s : Setting) (config : ServerConfig) (choices : List Choice) (first now : FileTree) (past : List Entry)
@@ -176,9 +176,9 @@ guards_of s config choices first now past lane k w written h run j asks w_sent b
         run.served (served_use_grants s config choices first past now run j)
         (kinds_as config (answer past) (kinds_of config first run.steps) first run.steps (λ place there. refl) run.distinct run.served)))
 
-    by_grant : (a : Asked) → asked_at past q ≡ Some a → is_by a.by lane k ≡ true → Closes t.request h → ⊥
+    by_grant : (a : AskedRequest) → asked_at past q ≡ Some a → is_by a.by lane k ≡ true → ClosesHandle t.request h → ⊥
     by_grant a at by =
-        subst (λ (x : List ℕ). Closes t.request x → ⊥) (ap handle_of u.came)
+        subst (λ (x : List ℕ). ClosesHandle t.request x → ⊥) (ap handle_of u.came)
         (kept.0 u.grant (seen_there [] xs u.grant seen) (used_there (grant_at s past) u.grant q ys has (grant_of_subject s past q a h at subject_is ∙ u.is))).0
       where
         subject_is : subject a.request ≡ Some h
@@ -190,10 +190,10 @@ guards_of s config choices first now past lane k w written h run j asks w_sent b
         asker : (earlier : ℕ) × (is_asked_by (asked_at past u.grant) lane earlier ≡ true)
         asker = lane_asker past a.by u.grant lane k by u.asker
 
-        not_own : (x : Option Asked) → asked_at past u.grant ≡ x → is_asked_by x lane k ≡ true → ⊥
+        not_own : (x : Option AskedRequest) → asked_at past u.grant ≡ x → is_asked_by x lane k ≡ true → ⊥
         not_own None none own_it = cc
         not_own (Some b) there own_it =
-            writes_no_handle b.request h h (bears u.grant b (ap (λ (o : Option Asked). is_asked_by o lane k) there
+            writes_no_handle b.request h h (bears u.grant b (ap (λ (o : Option AskedRequest). is_asked_by o lane k) there
             ∙ own_it) there) (reply_may s past u.grant (reply.Handle h) b j u.came there)
 
         before : u.grant < w.0
@@ -220,7 +220,7 @@ guards_of s config choices first now past lane k w written h run j asks w_sent b
           ]
         ]
 
-    by_asked : (x : Option Asked) → asked_at past q ≡ x → is_asked_by x lane k ≡ true → Closes t.request h → ⊥
+    by_asked : (x : Option AskedRequest) → asked_at past q ≡ x → is_asked_by x lane k ≡ true → ClosesHandle t.request h → ⊥
     by_asked None none own_it = absurd cc
     by_asked (Some a) at own_it = by_grant a at own_it
 
@@ -246,7 +246,7 @@ alone_by : (config : ServerConfig) (first : FileTree) (past : List Entry) (n m l
     → ((place : ℕ) → HasRequest later place → HasRequest (asked_in steps) place)
     → ((place : ℕ) → HasRequest (asked_in steps) place → is_asked_by (asked_at past place) lane k ≡ true
     → HasRequest later place)
-    → ((a : ℕ × Request) (more : Own) → later ≡ a ∷ more → behind a more ≡ end) → (later ≡ [] → (place : ℕ) → HasRequest (asked_in steps) place → end ≤ place)
+    → ((a : ℕ × Request) (more : Own) → later ≡ a ∷ more → place_behind a more ≡ end) → (later ≡ [] → (place : ℕ) → HasRequest (asked_in steps) place → end ≤ place)
     → ((place : ℕ) → HasRequest (asked_in steps) place → place < end → is_asked_by (asked_at past place) lane k ≡ false
     → LeavesBytes config first whole file place)
     → Guards past lane k start h whole → ((place : ℕ) → HasRequest (asked_in steps) place → start ≤ place)
@@ -273,8 +273,8 @@ alone_by config first past n m lane k file start end h whole xs (t ∷ steps) (a
                 let same : a.0 ≡ place = e in let one : t.place ≡ a.0 = here.1 in omega (arith, lt, same, one))
             | inr there ↦ there
           ])
-          (λ b more same. ap (λ (l : Own). behind a l) (sym same) ∙ ends a later refl)
-          (λ none place has. let last : a.0 + 1 ≡ end = ap (λ (l : Own). behind a l) (sym none) ∙ ends a later refl in
+          (λ b more same. ap (λ (l : Own). place_behind a l) (sym same) ∙ ends a later refl)
+          (λ none place has. let last : a.0 + 1 ≡ end = ap (λ (l : Own). place_behind a l) (sym none) ∙ ends a later refl in
           let lt : t.place < place = above_has t.place place (asked_in steps) rising_t.0 has in let one : t.place
           ≡ a.0 = here.1 in omega (arith, last, lt, one))
           (λ place has lt out. others place (inr has) lt out) guards (λ place has. from place (inr has)) (λ place has. mine place (inr has)) in
@@ -411,7 +411,7 @@ run_flushed s config choices first now turns past lane k slot file buffer bytes 
           ]
         ]
 
-    others : (place : ℕ) → HasRequest (asked_in c.back) place → place < behind w t.written
+    others : (place : ℕ) → HasRequest (asked_in c.back) place → place < place_behind w t.written
         → is_asked_by (asked_at past place) lane k ≡ false → LeavesBytes config first run.steps t.held.file place
     others place has lt out =
         elim (eqb_tells w.0 place) [
@@ -419,9 +419,9 @@ run_flushed s config choices first now turns past lane k slot file buffer bytes 
           | inr e ↦ t.others place (let le : w.0 ≤ place = c.high place has in let ne : w.0 ≢ place = e.1 in omega (arith, le, ne)) lt out
         ]
 
-    alone : AreAlone config t.held.file handle (behind w t.written) (w ∷ t.written) began c.back
+    alone : AreAlone config t.held.file handle (place_behind w t.written) (w ∷ t.written) began c.back
     alone =
-        alone_by config first past (sent past) (asked past) lane k t.held.file w.0 (behind w t.written) handle run.steps
+        alone_by config first past (sent past) (asked past) lane k t.held.file w.0 (place_behind w t.written) handle run.steps
         c.front c.back (w ∷ t.written) began all.rising all.known c.is refl own_rising own_known
         (bear_all past (asked past) lane k handle (w ∷ t.written) own_known mine bears) within
         (λ place has own_it. call_has past lane k place (w ∷ t.written) t.asks own_it)
@@ -430,7 +430,7 @@ run_flushed s config choices first now turns past lane k slot file buffer bytes 
       where
         behind_of : Own → ℕ
         behind_of [] = 0
-        behind_of (a ∷ more) = behind a more
+        behind_of (a ∷ more) = place_behind a more
 
     at_first : tree_at config first run.steps w.0 ≡ began
     at_first = ap (after config first) (ap (filter (λ (x : Step). nat_lt x.place w.0)) c.is
@@ -442,17 +442,17 @@ run_flushed s config choices first now turns past lane k slot file buffer bytes 
     parts : run.steps ≡ (c.front ++ alone.between) ++ alone.rest
     parts = c.is ∙ (ap (λ (l : List Step). c.front ++ l) alone.is ∙ sym (append_assoc c.front alone.between alone.rest))
 
-    low : (place : ℕ) → HasRequest (asked_in (c.front ++ alone.between)) place → place < behind w t.written
+    low : (place : ℕ) → HasRequest (asked_in (c.front ++ alone.between)) place → place < place_behind w t.written
     low place has = elim (has_parts c.front alone.between place has) [
       | inl there ↦ (let lt : place < w.0 = known_has past w.0 place (asked_in c.front) c.low there in
-          let last : w.0 < behind w t.written = (all_behind w t.written own_rising).0 in omega (arith, lt, last))
+          let last : w.0 < place_behind w t.written = (all_behind w t.written own_rising).0 in omega (arith, lt, last))
       | inr more ↦ alone.low place more
     ]
 
-    at_end : tree_at config first run.steps (behind w t.written) ≡ after config began alone.between
+    at_end : tree_at config first run.steps (place_behind w t.written) ≡ after config began alone.between
     at_end =
-        ap (after config first) (ap (filter (λ (x : Step). nat_lt x.place (behind w t.written))) parts
-        ∙ steps_before (behind w t.written) (c.front ++ alone.between) alone.rest low alone.high)
+        ap (after config first) (ap (filter (λ (x : Step). nat_lt x.place (place_behind w t.written))) parts
+        ∙ steps_before (place_behind w t.written) (c.front ++ alone.between) alone.rest low alone.high)
         ∙ after_two config first c.front alone.between
 
     served : AreServed config (answer past) began alone.between

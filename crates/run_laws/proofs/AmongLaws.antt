@@ -38,7 +38,7 @@ use Rattle.session_model.specs.declared.entry.Entry.{Entry}
 use Rattle.session_model.specs.Calls.{Setting}
 use Rattle.session_model.specs.Grants.{is_asked_by}
 use Rattle.session_model.specs.Journals.{IsJournal}
-use Rattle.session_model.specs.Readings.{Asked, answer, asked, asked_at, own}
+use Rattle.session_model.specs.Readings.{AskedRequest, answer, asked, asked_at, own}
 use Rattle.run_laws.specs.Bearing.{used}
 use Rattle.run_laws.specs.CallsAmong.{asked_by}
 use Rattle.run_laws.specs.GrantUses.{AreAmong, IsCallOn, PassesBy}
@@ -133,7 +133,7 @@ with_own_well s past lane n first later grant_of j b well = record { may = may; 
             in own_may place g both.0 (not_first place first.0 both.1) (some_is first.0 g e)
         by_test false is e = well.may place g below e
 
-    closes : (place : ℕ) (a : Asked) (h : List ℕ) → asked_at past place ≡ Some a → a.request ≡ request.Close h
+    closes : (place : ℕ) (a : AskedRequest) (h : List ℕ) → asked_at past place ≡ Some a → a.request ≡ request.Close h
         → with_own past lane n first.0 grant_of place ≡ used s past place h
     closes place a h at close = by_test (is_asked_by (asked_at past place) lane n && not (place == first.0)) refl
       where

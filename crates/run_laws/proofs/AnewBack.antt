@@ -53,7 +53,7 @@ use Rattle.session_model.proofs.OverLaws.{runs_are_journals}
 use Rattle.session_model.proofs.RequestLaws.{sent_asked}
 use Rattle.run_laws.specs.Bearing.{grant_at}
 use Rattle.run_laws.specs.CallsAmong.{GivesUnless, HasEnded, asked_by}
-use Rattle.run_laws.specs.DeferredWrites.{AreWrites, AreWritten, behind, carried, places}
+use Rattle.run_laws.specs.DeferredWrites.{AreWrites, AreWritten, place_behind, carried, places}
 use Rattle.run_laws.specs.GrantUses.{IsCallOn, IsRunOn, PassesBy}
 use Rattle.run_laws.specs.InJournals.{AreBelow, PassesAt, is_elsewhere, is_of_call}
 use Rattle.run_laws.specs.Steps.{AreAllowed, Choose, FeignsNoEnd, Step, asked_in}
@@ -92,7 +92,7 @@ anew_back allowed s config choices first now turns past name lane opener writer 
     by_laid (front allowed config choices first past now n serves among (behind_within (sent past) r read until_sent))
   where
     n : ℕ
-    n = behind r read
+    n = place_behind r read
 
     j : IsJournal s past
     j = runs_are_journals s turns past whole_run

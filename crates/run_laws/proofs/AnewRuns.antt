@@ -26,7 +26,7 @@ use Rattle.session_model.specs.declared.turn.Turn.{Turn}
 use Rattle.session_model.specs.Calls.{Setting}
 use Rattle.session_model.specs.Grants.{is_asked_by, is_one_of}
 use Rattle.session_model.specs.Journals.{IsJournal}
-use Rattle.session_model.specs.Readings.{Asked, answer, asked, asked_at, own, sent}
+use Rattle.session_model.specs.Readings.{AskedRequest, answer, asked, asked_at, own, sent}
 use Rattle.session_model.specs.Runs.{IsRun}
 use Rattle.session_model.specs.Served.{Serves}
 use Rattle.session_model.proofs.OverLaws.{runs_are_journals}
@@ -195,7 +195,7 @@ anew_left s config choices first now turns past name lane opener writer w writte
 
 pub bear_all : (past : List Entry) (n lane writer : ℕ) (h : List ℕ) (requests : Own) → AreKnown past n requests
     → ((place : ℕ) → HasRequest requests place → is_of_call past (lane, writer) place ≡ true)
-    → ((place : ℕ) (a : Asked) → is_of_call past (lane, writer) place ≡ true → asked_at past place ≡ Some a → WritesBy a.request h) → WriteBy h requests
+    → ((place : ℕ) (a : AskedRequest) → is_of_call past (lane, writer) place ≡ true → asked_at past place ≡ Some a → WritesBy a.request h) → WriteBy h requests
 bear_all past n lane writer h [] known mine bears = tt
 bear_all past n lane writer h (r ∷ requests) known mine bears =
     let at : IsAt past r = known.0.1 in (
@@ -214,7 +214,7 @@ writes_close_none r h k w e = subst (λ (q : Request). WritesBy q h) e w
 pub with_call_well : (s : Setting) (past : List Entry) (lane opener writer grant : ℕ) (handle : List ℕ)
     → IsJournal s past → is_asked_by (asked_at past grant) lane opener ≡ true → answer past grant
     ≡ Some (reply.Handle handle)
-    → ((place : ℕ) (a : Asked) → is_of_call past (lane, writer) place ≡ true → asked_at past place ≡ Some a
+    → ((place : ℕ) (a : AskedRequest) → is_of_call past (lane, writer) place ≡ true → asked_at past place ≡ Some a
     → WritesBy a.request handle) → ((place : ℕ) → is_of_call past (lane, writer) place ≡ true → grant < place)
     → ((place : ℕ) → is_of_call past (lane, writer) place ≡ true
     → is_one_of (closed_before s past place) grant ≡ false)
@@ -239,7 +239,7 @@ with_call_well s past lane opener writer grant handle j asker came bears before 
             })
         by_test false out e = UseWell.may (used_well s past j) place g lt e
 
-    closes : (place : ℕ) (a : Asked) (h : List ℕ) → asked_at past place ≡ Some a → a.request ≡ request.Close h
+    closes : (place : ℕ) (a : AskedRequest) (h : List ℕ) → asked_at past place ≡ Some a → a.request ≡ request.Close h
         → with_call past lane writer grant (grant_at s past) place ≡ used s past place h
     closes place a h at close = by_test (is_asked_by (asked_at past place) lane writer) refl
       where
@@ -253,7 +253,7 @@ pub opened_left : (s : Setting) (config : ServerConfig) (choices : List Choice) 
     (turns : List Turn) (past : List Entry) (name : Name) (lane opener writer : ℕ) (w : ℕ × Request) (written : Own)
     (bytes : List ℕ) → IsRun s turns past → Serves config choices first past now → IsWellFormed first
     → (t : LaneOpened s past name lane opener writer w written) → OthersPass s past name lane opener writer
-    → ((place : ℕ) (a : Asked) → is_of_call past (lane, writer) place ≡ true → asked_at past place ≡ Some a
+    → ((place : ℕ) (a : AskedRequest) → is_of_call past (lane, writer) place ≡ true → asked_at past place ≡ Some a
     → WritesBy a.request t.handle) → ((place : ℕ) → is_of_call past (lane, writer) place ≡ true
     → is_one_of (closed_before s past place) w.0 ≡ false)
     → AreFlushed t.handle 0 bytes (answer past) written → HasBytes now name bytes

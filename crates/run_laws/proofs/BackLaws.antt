@@ -32,7 +32,7 @@ use Rattle.session_model.specs.Readings.{answer, asked, asked_at, sent}
 use Rattle.session_model.specs.Served.{Serves}
 use Rattle.session_model.proofs.RequestLaws.{sent_asked}
 use Rattle.run_laws.specs.Bearing.{grant_at}
-use Rattle.run_laws.specs.CallsAmong.{Gives, GivesUnless, HasEnded, asked_by}
+use Rattle.run_laws.specs.CallsAmong.{GivesContent, GivesUnless, HasEnded, asked_by}
 use Rattle.run_laws.specs.GrantUses.{IsCallOn, IsRunOn, PassesBy}
 use Rattle.run_laws.specs.InJournals.{InTurn, is_elsewhere}
 use Rattle.run_laws.specs.Steps.{Step, AreAllowed, FeignsNoEnd, RefuseNone, RefusesNone, asked_in}
@@ -238,7 +238,7 @@ pub unrefused_feigns : (c : Choice) → RefusesNone c → FeignsNoEnd c
 unrefused_feigns c none e = (let both : 0 ≡ 1 = sym none ∙ e in omega (arith, both))
 
 -- no choice refused a request then
-pub gives_all : (ended : Outcome) (bytes : List ℕ) → GivesUnless RefusesNone ended bytes → Gives ended bytes
+pub gives_all : (ended : Outcome) (bytes : List ℕ) → GivesUnless RefusesNone ended bytes → GivesContent ended bytes
 gives_all ended bytes (inl gives) = gives
 gives_all ended bytes (inr by) = absurd (by.refuses by.is)
 
@@ -249,7 +249,7 @@ pub back : (s : Setting) (config : ServerConfig) (choices : List Choice) (first 
     → components (from_directory write_site write_path) ≡ name
     → HasEnded (call.FsWrite write_path bytes) write_site write_facts (w ∷ written) (answer past) outcome.Done
     → components (from_directory read_site read_path) ≡ name → 1 ≤ read_facts.read_len
-    → HasEnded (call.FsRead read_path bound) read_site read_facts (r ∷ read) (answer past) ended → Gives ended bytes
+    → HasEnded (call.FsRead read_path bound) read_site read_facts (r ∷ read) (answer past) ended → GivesContent ended bytes
 back s config choices first now past name n one other w r written read write_path read_path bytes bound write_site
     read_site write_facts read_facts ended j serves none well_formed t denotes wrote denotes' one_at_least did =
     gives_all ended bytes

@@ -16,8 +16,9 @@ use Rattle.sftp_model.specs.declared.slot.Slot.TheVariants.{Empty, File, Buffere
 use Rattle.sftp_model.specs.Slots.{has_grant, slot_at, with_slot}
 use Rattle.machine_model.proofs.NameLaws.{handles_tell}
 use Rattle.plan_model.specs.FilePlans.{close_slot_next, open_request}
-use Rattle.plan_model.specs.GoodMoves.{Closes, IsBrought, IsGoodAsk, IsHeldHandle, Situation, brings, situation}
-use Rattle.plan_model.specs.Moves.{Answers, Own, done_by, handle_of, is_too_long, once_answered, refuses}
+use Rattle.plan_model.specs.GoodMoves.{ClosesGrant, IsBrought, IsGoodAsk, IsHeldHandle, Situation, brings, situation}
+use Rattle.sftp_model.specs.Frames.{is_too_long}
+use Rattle.plan_model.specs.Moves.{Answers, Own, done_by, handle_of, once_answered, refuses}
 use Rattle.plan_model.specs.PathPlans.{from_directory}
 use Rattle.plan_model.specs.WindowPlans.{to_read}
 use Rattle.plan_model.proofs.CallLaws.{asks_good}
@@ -248,7 +249,7 @@ closer_holds s past lane n id g handle j is =
     let mine : Own = own past lane (ended past lane) in
     let site : Site = site_of s past lane in
     let a : AsksClose (current s past lane) site mine (answer past) handle = asks_close (current s past lane) site s.facts mine (answer past) handle may.1 in
-    let w : Closes a.0 site mine (answer past) handle = a.1.1 in
+    let w : ClosesGrant a.0 site mine (answer past) handle = a.1.1 in
     let closes_it : closes s past (closed s past) (owner.Call lane n) ≡ Some w.grant =
     ap (λ (k : ℕ). closes s past (closed s past) (owner.Call lane k)) may.0 ∙ ap (λ x. closed_by x site) a.1.0 ∙ w.stood in
     let same : Some w.grant ≡ Some g = sym closes_it ∙ is in

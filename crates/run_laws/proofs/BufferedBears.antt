@@ -26,7 +26,7 @@ use Rattle.session_model.specs.declared.event.Owner.TheVariants as owner
 use Rattle.session_model.specs.Calls.{Setting, call_at, current, held_by, held_site, site_of}
 use Rattle.session_model.specs.Grants.{closed, holds, is_asked_by, is_grant, is_one_of, is_unended_asker}
 use Rattle.session_model.specs.Journals.{IsJournal}
-use Rattle.session_model.specs.Readings.{Asked, answer, asked, asked_at, ended, is_by, own}
+use Rattle.session_model.specs.Readings.{AskedRequest, answer, asked, asked_at, ended, is_by, own}
 use Rattle.session_model.proofs.CallLaws.{next_submit}
 use Rattle.session_model.proofs.HolderLaws.{slots_owned}
 use Rattle.session_model.proofs.LetGoLaws.{granted_below}
@@ -57,7 +57,7 @@ pub record AsksAt (s : Setting) (past : List Entry) (lane k place : ℕ) (r : Re
   pub now : current s before lane ≡ Some c
   pub asks : next c (site_of s before lane) s.facts (own before lane (ended before lane)) (answer before) ≡ Ask r
 
-pub asks_at : (s : Setting) (past : List Entry) (lane k place : ℕ) (a : Asked) (c : Call) → IsJournal s past → IsPlain past
+pub asks_at : (s : Setting) (past : List Entry) (lane k place : ℕ) (a : AskedRequest) (c : Call) → IsJournal s past → IsPlain past
     → given_call s lane k ≡ Some c → is_of_call past (lane, k) place ≡ true → asked_at past place ≡ Some a
     → AsksAt s past lane k place a.request c
 asks_at s past lane k place a c j p given mine is =
@@ -103,7 +103,7 @@ asks_at s past lane k place a c j p given mine is =
 
 -- it asks an OPEN of its path, with its flags
 pub open_asked : (s : Setting) (past : List Entry) (lane k slot : ℕ) (options : OpenOptions) (path : List ℕ) (place : ℕ)
-    (a : Asked) → IsJournal s past → IsPlain past → given_call s lane k ≡ Some (call.OpenFile slot options path)
+    (a : AskedRequest) → IsJournal s past → IsPlain past → given_call s lane k ≡ Some (call.OpenFile slot options path)
     → is_of_call past (lane, k) place ≡ true → asked_at past place ≡ Some a
     → a.request ≡ open_request (flags_of options) path
 open_asked s past lane k slot options path place a j p given mine is =
@@ -136,7 +136,7 @@ BearsOpen s past grant handle place r =
 pub buffered_bears : (s : Setting) (past : List Entry) (lane k slot : ℕ) (bytes handle : List ℕ) (file : FileAt)
     (buffer : Buffer) → IsJournal s past → IsPlain past → given_call s lane k ≡ Some (call.BufWriteAll slot bytes)
     → slot_at (site_at s past lane k) slot ≡ Buffered file buffer → answer past file.grant ≡ Some (reply.Handle handle)
-    → (place : ℕ) (a : Asked) → is_of_call past (lane, k) place ≡ true → asked_at past place ≡ Some a
+    → (place : ℕ) (a : AskedRequest) → is_of_call past (lane, k) place ≡ true → asked_at past place ≡ Some a
     → BearsOpen s past file.grant handle place a.request
 buffered_bears s past lane k slot bytes handle file buffer j p given stood came place a mine is =
     let t = asks_at s past lane k place a c2 j p given mine is in
@@ -186,13 +186,13 @@ buffered_bears s past lane k slot bytes handle file buffer j p given stood came 
 
 -- so of each place at which the call asks
 pub bears_there : (s : Setting) (past : List Entry) (lane k grant : ℕ) (handle : List ℕ)
-    → ((place : ℕ) (a : Asked) → is_of_call past (lane, k) place ≡ true → asked_at past place ≡ Some a
+    → ((place : ℕ) (a : AskedRequest) → is_of_call past (lane, k) place ≡ true → asked_at past place ≡ Some a
     → BearsOpen s past grant handle place a.request)
     → (place : ℕ) → is_of_call past (lane, k) place ≡ true
     → (grant < place) × (is_one_of (closed_before s past place) grant ≡ false)
 bears_there s past lane k grant handle bears place mine = by_asked (asked_at past place) refl mine
   where
-    by_asked : (x : Option Asked) → asked_at past place ≡ x → is_asked_by x lane k ≡ true
+    by_asked : (x : Option AskedRequest) → asked_at past place ≡ x → is_asked_by x lane k ≡ true
         → (grant < place) × (is_one_of (closed_before s past place) grant ≡ false)
     by_asked None none own_it = absurd cc
     by_asked (Some a) is own_it = let b = bears place a mine is in (b.1, b.2)

@@ -57,7 +57,8 @@ use Rattle.plan_model.specs.declared.call.Call.TheVariants as call
 use Rattle.sftp_model.specs.declared.open_options.OpenOptions.{OpenOptions}
 use Rattle.sftp_model.specs.OpenOptions.{flags_of}
 use Rattle.plan_model.specs.FilePlans.{open_request, opened, opened_file}
-use Rattle.plan_model.specs.Moves.{Answers, Own, Plan, ask_write, further, handle_of, is_too_long, on_buffered, on_file, once_answered, overflows, refuses}
+use Rattle.sftp_model.specs.Frames.{is_too_long}
+use Rattle.plan_model.specs.Moves.{Answers, Own, Plan, ask_write, further, handle_of, on_buffered, on_file, once_answered, overflows, refuses}
 use Rattle.plan_model.specs.OwnRequests.{AreAsked, oldest_first}
 use Rattle.plan_model.proofs.CountLaws.{answered_in, on_granted}
 use Rattle.plan_model.proofs.MoveLaws.{at_buffered, at_file, by_status, either}

@@ -56,7 +56,7 @@ use Rattle.session_model.specs.declared.event.Owner.TheVariants as owner
 use Rattle.session_model.specs.Calls.{GoesByPlan, Setting, call_at, current, lane_calls, move_at, move_of, site_of}
 use Rattle.session_model.specs.Grants.{is_asked_by}
 use Rattle.session_model.specs.Journals.{IsJournal}
-use Rattle.session_model.specs.Readings.{Asked, answer, asked, asked_at, ended, is_by, own}
+use Rattle.session_model.specs.Readings.{AskedRequest, answer, asked, asked_at, ended, is_by, own}
 use Rattle.session_model.proofs.CallLaws.{next_submit}
 use Rattle.session_model.proofs.CallsSoFar.{calls_so_far}
 use Rattle.session_model.proofs.RequestLaws.{asked_other}
@@ -86,21 +86,21 @@ journal_before s [] past j = j
 journal_before s (e ∷ more) past j = journal_before s more past j.1
 
 -- a journal in two parts, where the request at a place is the first entry of the later part
-pub record Split (past : List Entry) (place : ℕ) (a : Asked) : Type 0 where
+pub record Split (past : List Entry) (place : ℕ) (a : AskedRequest) : Type 0 where
   pub more : List Entry
   pub before : List Entry
   pub is : more ++ entry.Event (Submit a.by a.id a.request) ∷ before ≡ past
   pub at : asked before ≡ place
 
-split_later : (past : List Entry) (e : Entry) (place : ℕ) (a : Asked) → Split past place a → Split (e ∷ past) place a
+split_later : (past : List Entry) (e : Entry) (place : ℕ) (a : AskedRequest) → Split past place a → Split (e ∷ past) place a
 split_later past e place a t = record { more = e ∷ t.more; before = t.before; is = ap (λ (l : List Entry). e ∷ l) t.is; at = t.at }
 
-pub split_at : (past : List Entry) (place : ℕ) (a : Asked) → asked_at past place ≡ Some a → Split past place a
+pub split_at : (past : List Entry) (place : ℕ) (a : AskedRequest) → asked_at past place ≡ Some a → Split past place a
 split_at [] place a e = absurd cc
 split_at (entry.Event (Submit by id r) ∷ past) place a e =
     elim (eqb_tells place (asked past)) [
       | inl t ↦ (let same = some_is (record { by = by; id = id; request = r }) a (rw t.0 at e) in
-          record { more = []; before = past; is = ap (λ (x : Asked). entry.Event (Submit x.by x.id x.request) ∷ past) (sym same); at = sym t.1 })
+          record { more = []; before = past; is = ap (λ (x : AskedRequest). entry.Event (Submit x.by x.id x.request) ∷ past) (sym same); at = sym t.1 })
       | inr t ↦ split_later past (entry.Event (Submit by id r)) place a (split_at past place a (rw t.0 at e))
     ]
 split_at (x ∷ past) place a e = split_later past x place a (split_at past place a e)
@@ -111,7 +111,7 @@ asked_grows (entry.Event (Submit by id r) ∷ more) past = let le = asked_grows 
 asked_grows (_ ∷ more) past = asked_grows more past
 
 -- requests stay where they were asked
-asked_stays : (more past : List Entry) (place : ℕ) (a : Asked) → asked_at past place ≡ Some a → asked_at (more ++ past) place ≡ Some a
+asked_stays : (more past : List Entry) (place : ℕ) (a : AskedRequest) → asked_at past place ≡ Some a → asked_at (more ++ past) place ≡ Some a
 asked_stays [] past place a e = e
 asked_stays (entry.Event (Submit by id r) ∷ more) past place a e =
     let le = asked_grows more past in
@@ -131,7 +131,7 @@ used_stays s (_ ∷ more) past place g h lt e = used_stays s more past place g h
 -- the request at a place writes by the handle of a grant that an OPEN of this path was given
 abbrev WritesAt : Setting → List Entry → ℕ → List ℕ → Request → Type 0
 WritesAt s past place path (request.Write h offset content) =
-    (g : ℕ) × ((used s past place h ≡ Some g) × ((b : Asked) × ((asked_at past g ≡ Some b) × (b.request ≡ open_request to_replace path))))
+    (g : ℕ) × ((used s past place h ≡ Some g) × ((b : AskedRequest) × ((asked_at past g ≡ Some b) × (b.request ≡ open_request to_replace path))))
 WritesAt s past place path other = ⊥
 
 -- a call that the lane may make
@@ -226,7 +226,7 @@ asks_next name s past lane id r j w m =
     -- the first request of a whole write is such an OPEN, which stands at its place
     first_open : (path bytes : List ℕ) (first : ℕ × Request) (later : Own) → current s past lane
         ≡ Some (call.FsWrite path bytes) → own past lane k ≡ first ∷ later
-        → (b : Asked) × ((asked_at past first.0 ≡ Some b) × (b.request ≡ open_request to_replace path))
+        → (b : AskedRequest) × ((asked_at past first.0 ≡ Some b) × (b.request ≡ open_request to_replace path))
     first_open path bytes first later is are =
         let plans : GoesByPlan s past lane (call.FsWrite path bytes) = calls_so_far s past lane (call.FsWrite path bytes) j is in
         let f = first_asked (next (call.FsWrite path bytes) site s.facts) plans.requests (answer past) first later plans.so_far.asked (plans.are ∙ are) in
@@ -311,7 +311,7 @@ asked_grow name s more past lane k place r lt a = record {
 }
 
 -- each request of such a lane is one of its call
-pub asked_own : (name : Name) (s : Setting) (past : List Entry) (lane k place : ℕ) (a : Asked) → IsJournal s past
+pub asked_own : (name : Name) (s : Setting) (past : List Entry) (lane k place : ℕ) (a : AskedRequest) → IsJournal s past
     → list_all (may_hold name) (lane_calls s past lane) ≡ true → asked_at past place ≡ Some a
     → is_of_call past (lane, k) place ≡ true → IsAsked name s past lane k place a.request
 asked_own name s past lane k place a j w e mine =
@@ -348,7 +348,7 @@ asked_own name s past lane k place a j w e mine =
     by_owner more before owner.Close id r j w at = absurd cc
 
 -- each request of a lane that keeps off the name keeps off it
-pub off_asked : (name : Name) (s : Setting) (past : List Entry) (lane k place : ℕ) (a : Asked) → IsJournal s past
+pub off_asked : (name : Name) (s : Setting) (past : List Entry) (lane k place : ℕ) (a : AskedRequest) → IsJournal s past
     → all_keep_off name [] (lane_calls s past lane) ≡ true → asked_at past place ≡ Some a
     → is_of_call past (lane, k) place ≡ true → IsOff name a.request
 off_asked name s past lane k place a j off e mine =
@@ -468,14 +468,14 @@ writes_so s past name place (call.BufWriteAll slot bytes) r h grant x spares w u
 writes_so s past name place other r h grant x spares w uses = absurd (x.1 h w)
 
 -- what a call asks that doesn't write the name passes it by
-pub passes_so : (s : Setting) (past : List Entry) (name : Name) (lane k place : ℕ) (a : Asked) → asked_at past place
+pub passes_so : (s : Setting) (past : List Entry) (name : Name) (lane k place : ℕ) (a : AskedRequest) → asked_at past place
     ≡ Some a → (x : IsAsked name s past lane k place a.request) → (MayWrite name x.c → ⊥) → PassesAt s past name place
 passes_so s past name lane k place a e x spares =
     record {
-      avoids = λ b at. subst (λ (y : Asked). Avoids name y.request) (same b at) (avoids_so s past name place x.c a.request x.asks spares);
+      avoids = λ b at. subst (λ (y : AskedRequest). Avoids name y.request) (same b at) (avoids_so s past name place x.c a.request x.asks spares);
       writes = λ b h grant at w uses. writes_so s past name place x.c a.request h grant x.asks spares
-          (subst (λ (y : Asked). WritesBy y.request h) (sym (same b at)) w) uses;
+          (subst (λ (y : AskedRequest). WritesBy y.request h) (sym (same b at)) w) uses;
     }
   where
-    same : (b : Asked) → asked_at past place ≡ Some b → a ≡ b
+    same : (b : AskedRequest) → asked_at past place ≡ Some b → a ≡ b
     same b at = some_is a b (sym e ∙ at)

@@ -6,7 +6,7 @@ use Rattle.sftp_model.specs.declared.config.Choice.{Choice}
 use Rattle.sftp_model.specs.declared.request.Request.{Request}
 use Rattle.plan_model.specs.Moves.{Own}
 use Rattle.session_model.specs.declared.entry.Entry.{Entry}
-use Rattle.session_model.specs.Readings.{Asked, asked_at}
+use Rattle.session_model.specs.Readings.{AskedRequest, asked_at}
 use Rattle.run_laws.specs.CallsAmong.{asked_by}
 use Rattle.run_laws.specs.Steps.{Step, AreDistinct, Choose, HasPlace, asked_in}
 use Rattle.run_laws.proofs.SentLaws.{AllAbove, AreKnown, AreRising, IsAt}
@@ -24,7 +24,7 @@ known_has past n place (r ∷ requests) known (inr h) = known_has past n place r
 -- one request stands at a place
 pub one_at : (past : List Entry) (x y : ℕ × Request) → IsAt past x → IsAt past y → x.0 ≡ y.0 → x.1 ≡ y.1
 one_at past x y at at' same =
-    let one : at.0 ≡ at'.0 = some_is at.0 at'.0 (sym at.1.0 ∙ ap (asked_at past) same ∙ at'.1.0) in sym at.1.1 ∙ ap (λ (a : Asked). a.request) one ∙ at'.1.1
+    let one : at.0 ≡ at'.0 = some_is at.0 at'.0 (sym at.1.0 ∙ ap (asked_at past) same ∙ at'.1.0) in sym at.1.1 ∙ ap (λ (a : AskedRequest). a.request) one ∙ at'.1.1
 
 place_asked : (place : ℕ) (steps : List Step) → HasPlace steps place → HasRequest (asked_in steps) place
 place_asked place [] has = has

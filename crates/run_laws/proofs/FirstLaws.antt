@@ -24,7 +24,7 @@ use Rattle.session_model.specs.Readings.{answer, asked, asked_at, sent}
 use Rattle.session_model.specs.Served.{Serves}
 use Rattle.session_model.proofs.RequestLaws.{sent_asked}
 use Rattle.run_laws.specs.Bearing.{grant_at}
-use Rattle.run_laws.specs.CallsAmong.{Gives, GivesUnless, HasEnded, HasNoFile, IsRefusedBy, asked_by, refusal_of}
+use Rattle.run_laws.specs.CallsAmong.{GivesContent, GivesUnless, HasEnded, HasNoFile, IsRefusedBy, asked_by, refusal_of}
 use Rattle.run_laws.specs.GrantUses.{AllPassBy, IsCallOn, IsRunOn, PassesBy}
 use Rattle.run_laws.specs.InJournals.{AloneOn, is_elsewhere}
 use Rattle.run_laws.specs.Steps.{Step, AreAllowed, Choose, FeignsNoEnd, HasBytes, RefuseNone, RefusesNone, asked_in}
@@ -147,7 +147,7 @@ pub first_read : (s : Setting) (config : ServerConfig) (choices : List Choice) (
     (site : Site) (facts : Facts) (ended : Outcome) → IsJournal s past → Serves config choices first past now
     → RefuseNone choices → IsWellFormed first → HasBytes first name bytes → AloneOn s past name n reader r read
     → components (from_directory site path) ≡ name → 1 ≤ facts.read_len
-    → HasEnded (call.FsRead path bound) site facts (r ∷ read) (answer past) ended → Gives ended bytes
+    → HasEnded (call.FsRead path bound) site facts (r ∷ read) (answer past) ended → GivesContent ended bytes
 first_read s config choices first now past name n reader r read path bytes bound site facts ended j serves none well_formed has t denotes one e =
     gives_all ended bytes (first_read_unless RefusesNone s config choices first now past name n reader r read path bytes
     bound site facts ended unrefused_feigns j serves (none_refused choices none) well_formed has t denotes one e)

@@ -39,7 +39,7 @@ use Rattle.session_model.specs.declared.event.Owner.TheVariants as owner
 use Rattle.session_model.specs.declared.event.Event.TheVariants.{Take}
 use Rattle.session_model.specs.declared.entry.Entry.{Entry}
 use Rattle.session_model.specs.declared.entry.Entry.TheVariants as entry
-use Rattle.session_model.specs.Readings.{Asked, asked, asked_at, answer, bearer, sent, count_below, unanswered}
+use Rattle.session_model.specs.Readings.{AskedRequest, asked, asked_at, answer, bearer, sent, count_below, unanswered}
 use Rattle.session_model.specs.Calls.{Setting}
 use Rattle.session_model.specs.Grants.{is_granted, is_grant}
 use Rattle.session_model.specs.Journals.{IsJournal, MayTake, is_opened, opened}
@@ -71,7 +71,7 @@ pub record Whole (s : Setting) (config : ServerConfig) (choices : List Choice) (
 
 -- ---- the query
 
-tells : (a : Option Asked) (r : Option Reply) (said got : Reply) → is_query a ≡ true → r ≡ Some got → IsReply (reply_to_query a r) said → got ≡ said
+tells : (a : Option AskedRequest) (r : Option Reply) (said got : Reply) → is_query a ≡ true → r ≡ Some got → IsReply (reply_to_query a r) said → got ≡ said
 tells None r said got q e is = absurd cc
 tells (Some a) None said got q e is = absurd cc
 tells (Some a) (Some r) said got q e is = by_owner a.by refl

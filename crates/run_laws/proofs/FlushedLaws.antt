@@ -26,7 +26,7 @@ use Rattle.session_model.specs.declared.event.Event.TheVariants.{End}
 use Rattle.session_model.specs.declared.turn.Turn.{Turn}
 use Rattle.session_model.specs.Calls.{GoesByPlan, Setting, call_at, lane_calls, site_of}
 use Rattle.session_model.specs.Journals.{IsJournal}
-use Rattle.session_model.specs.Readings.{Asked, answer, asked, asked_at, ended, own}
+use Rattle.session_model.specs.Readings.{AskedRequest, answer, asked, asked_at, ended, own}
 use Rattle.session_model.specs.Runs.{IsRun}
 use Rattle.session_model.specs.Served.{Serves}
 use Rattle.session_model.proofs.CallsSoFar.{calls_so_far}
@@ -182,7 +182,7 @@ first_began s past lane n m slot bytes t =
 pub record IsFlushed (s : Setting) (past : List Entry) (name : Name) (lane : ℕ) (n : FlushNumbers) (bytes : List ℕ) : Type 0 where
   pub w : ℕ × Request
   pub opened : LaneOpened s past name lane n.opener n.writer w (own past lane n.writer)
-  pub bears : (place : ℕ) (a : Asked) → is_of_call past (lane, n.writer) place ≡ true → asked_at past place ≡ Some a
+  pub bears : (place : ℕ) (a : AskedRequest) → is_of_call past (lane, n.writer) place ≡ true → asked_at past place ≡ Some a
       → BearsOpen s past w.0 opened.handle place a.request
   pub asked : AreFlushed opened.handle 0 bytes (answer past) (own past lane n.writer)
 
@@ -276,7 +276,7 @@ is_flushed s past name lane n bytes j p own_calls others f =
         }
 
     -- a request of the call that writes
-    bears : (place : ℕ) (a : Asked) → is_of_call past (lane, n.writer) place ≡ true → asked_at past place ≡ Some a
+    bears : (place : ℕ) (a : AskedRequest) → is_of_call past (lane, n.writer) place ≡ true → asked_at past place ≡ Some a
         → BearsOpen s past ba.w.0 ba.handle place a.request
     bears place a mine is =
         subst (λ (g : ℕ). BearsOpen s past g ba.handle place a.request) ba.grant
@@ -290,7 +290,7 @@ pub held_passes : (s : Setting) (past : List Entry) (name : Name) (lane n place 
     → ((c : Call) → call_at s past lane n ≡ Some c → MayWrite name c → ⊥) → PassesAt s past name place
 held_passes s past name lane n place j own_calls mine spares = by_asked (asked_at past place) refl
   where
-    by_asked : (x : Option Asked) → asked_at past place ≡ x → PassesAt s past name place
+    by_asked : (x : Option AskedRequest) → asked_at past place ≡ x → PassesAt s past name place
     by_asked None nothing =
         record {
           avoids = λ b at. absurd (let both : None ≡ Some b = sym nothing ∙ at in cc);

@@ -11,7 +11,7 @@ use Rattle.session_model.specs.declared.event.Owner.TheVariants as owner
 use Rattle.session_model.specs.Calls.{Setting}
 use Rattle.session_model.specs.Grants.{is_asked_by}
 use Rattle.session_model.specs.Journals.{IsJournal}
-use Rattle.session_model.specs.Readings.{Asked, answer, asked_at, sent}
+use Rattle.session_model.specs.Readings.{AskedRequest, answer, asked_at, sent}
 use Rattle.session_model.proofs.RequestLaws.{sent_asked}
 use Rattle.run_laws.specs.Bearing.{Bears, IsOfAsker, UsesGrant, grant_at, grant_with, subject, subject_at, used}
 use Rattle.run_laws.specs.GrantUses.{UseGrants}
@@ -37,7 +37,7 @@ asker_any past (owner.Call lane call) g x = (lane, x.0, x.1)
 asker_any past owner.Setup g x = absurd x
 asker_any past owner.Close g x = x
 
-borne_may : (s : Setting) (past : List Entry) (place g : ℕ) (a : Asked) (h : List ℕ) → IsJournal s past
+borne_may : (s : Setting) (past : List Entry) (place g : ℕ) (a : AskedRequest) (h : List ℕ) → IsJournal s past
     → asked_at past place ≡ Some a → Bears a.request h → used s past place h ≡ Some g → MayBeUsed s past place g
 borne_may s past place g a h j is b uses =
     let u : UsesGrant s past place a.by h = uses_grant s past place a h j is b in
@@ -57,19 +57,19 @@ borne_may s past place g a h j is b uses =
 may_at : (s : Setting) (past : List Entry) (place g : ℕ) → IsJournal s past → grant_at s past place ≡ Some g → MayBeUsed s past place g
 may_at s past place g j e = by_asked (asked_at past place) refl e
   where
-    by_subject : (a : Asked) (o : Option (List ℕ)) → asked_at past place ≡ Some a → subject a.request ≡ o
+    by_subject : (a : AskedRequest) (o : Option (List ℕ)) → asked_at past place ≡ Some a → subject a.request ≡ o
         → grant_with (used s past place) o ≡ Some g → MayBeUsed s past place g
     by_subject a None is of e = absurd cc
     by_subject a (Some h) is of e = borne_may s past place g a h j is (subject_borne a.request h of) e
 
-    by_asked : (x : Option Asked) → asked_at past place ≡ x → grant_with (used s past place) (subject_at x) ≡ Some g → MayBeUsed s past place g
+    by_asked : (x : Option AskedRequest) → asked_at past place ≡ x → grant_with (used s past place) (subject_at x) ≡ Some g → MayBeUsed s past place g
     by_asked None is e = absurd cc
     by_asked (Some a) is e = by_subject a (subject a.request) is refl e
 
 -- the grant of a request is that of its handle
-pub grant_of_subject : (s : Setting) (past : List Entry) (place : ℕ) (a : Asked) (h : List ℕ) → asked_at past place
+pub grant_of_subject : (s : Setting) (past : List Entry) (place : ℕ) (a : AskedRequest) (h : List ℕ) → asked_at past place
     ≡ Some a → subject a.request ≡ Some h → grant_at s past place ≡ used s past place h
-grant_of_subject s past place a h is of = ap (λ (x : Option Asked). grant_with (used s past place) (subject_at x)) is ∙ ap (grant_with (used s past place)) of
+grant_of_subject s past place a h is of = ap (λ (x : Option AskedRequest). grant_with (used s past place) (subject_at x)) is ∙ ap (grant_with (used s past place)) of
 
 pub used_well : (s : Setting) (past : List Entry) → IsJournal s past → UseWell s past (grant_at s past)
 used_well s past j =

@@ -11,7 +11,7 @@ use Rattle.sftp_model.specs.declared.request.Request.{Request}
 use Rattle.machine_model.proofs.ChangeLaws.{apply_leaves}
 use Rattle.machine_model.proofs.NameLaws.{handles_tell}
 use Rattle.machine_model.proofs.PairLaws.{found_push_here}
-use Rattle.machine_model.specs.Changes.{Change, Closes, Created, Granted, MayLead, OpensAsked, Truncated, changed, is_grant}
+use Rattle.machine_model.specs.Changes.{Change, ClosesHandle, Created, Granted, MayLead, OpensAsked, Truncated, changed, is_grant}
 use Rattle.machine_model.specs.FileTree.{FileTree, opened_at}
 use Rattle.machine_model.specs.Pairs.{Has}
 use Rattle.machine_model.specs.declared.opened.Held.{Held}
@@ -46,7 +46,7 @@ record AreLive (answers : Answers) (grant_of : ℕ → Option ℕ) (kind : ℕ �
 keeps_open : (config : ServerConfig) (answers : Answers) (grant_of : ℕ → Option ℕ) (kind : ℕ → Option Held)
     (tree : FileTree) (seen : List ℕ) (s : Step) (steps : List Step)
     → AreLive answers grant_of kind tree seen (s ∷ steps)
-    → UseGrants answers grant_of seen (s ∷ steps) → (g : ℕ) → Has seen g → IsUsed grant_of g steps → Closes s.request (handle_of (answers g)) → ⊥
+    → UseGrants answers grant_of seen (s ∷ steps) → (g : ℕ) → Has seen g → IsUsed grant_of g steps → ClosesHandle s.request (handle_of (answers g)) → ⊥
 keeps_open config answers grant_of kind tree seen s steps live uses g there used closes =
     let closed = uses.1 (handle_of (answers g)) closes in
     let same : closed.0 ≡ g = live.apart closed.0 g (uses.0 closed.0 closed.1.0) there (inl closed.1.0) (inr used) closed.1.1.0 in
@@ -119,7 +119,7 @@ abbrev pub AreKept : Answers → (ℕ → Option ℕ) → List ℕ → List Step
 AreKept answers grant_of seen [] = Unit {0}
 AreKept answers grant_of seen (s ∷ steps) =
     ((g : ℕ) → Has seen g → IsUsed grant_of g steps
-    → (Closes s.request (handle_of (answers g)) → ⊥) × ((other : ℕ) → grant_of s.place ≡ Some other
+    → (ClosesHandle s.request (handle_of (answers g)) → ⊥) × ((other : ℕ) → grant_of s.place ≡ Some other
     → handle_of (answers other) ≡ handle_of (answers g) → other ≡ g))
     × AreKept answers grant_of (s.place ∷ seen) steps
 

@@ -16,7 +16,7 @@ use Rattle.machine_model.specs.Changes.{
   Change,
   ClosedDirectory,
   ClosedFile,
-  Closes,
+  ClosesHandle,
   Created,
   Granted,
   Listed,
@@ -40,9 +40,9 @@ use Rattle.run_laws.specs.Steps.{Step, answer_to}
 handles_kept : (before now : List (List ℕ × Opened)) (h : List ℕ) (o : Option Opened) → now ≡ before → found bytes_eq before h ≡ o → found bytes_eq now h ≡ o
 handles_kept before now h o same e = ap (λ (w : List (List ℕ × Opened)). found bytes_eq w h) same ∙ e
 
-closed_other : (tree : FileTree) (r : Request) (h other : List ℕ) (o : Opened) → (Closes r h → ⊥) → Closes r other
+closed_other : (tree : FileTree) (r : Request) (h other : List ℕ) (o : Opened) → (ClosesHandle r h → ⊥) → ClosesHandle r other
     → opened_at tree h ≡ Some o → opened_at (without_handle tree other) h ≡ Some o
-closed_other tree r h other o keeps closes e = found_without_other bytes_eq handles_tell tree.handles other h (λ same. keeps (subst (Closes r) same closes)) ∙ e
+closed_other tree r h other o keeps closes e = found_without_other bytes_eq handles_tell tree.handles other h (λ same. keeps (subst (ClosesHandle r) same closes)) ∙ e
 
 -- of any change but a taking of entries
 abbrev TakesEntries : Change → Type 0
@@ -50,7 +50,7 @@ TakesEntries (Listed h entries) = Unit {0}
 TakesEntries other = ⊥
 
 opened_stays_by : (tree : FileTree) (r : Request) (handle h : List ℕ) (o : Opened) (c : Change) → (TakesEntries c → ⊥)
-    → (Closes r h → ⊥) → opened_at tree h ≡ Some o → MayLead tree r c → opened_at (changed tree handle c) h ≡ Some o
+    → (ClosesHandle r h → ⊥) → opened_at tree h ≡ Some o → MayLead tree r c → opened_at (changed tree handle c) h ≡ Some o
 opened_stays_by tree r handle h o Unchanged takes keeps e may = e
 opened_stays_by tree r handle h o (Rewritten file bytes) takes keeps e may = e
 opened_stays_by tree r handle h o (Granted new) takes keeps e may = found_push_old bytes_eq tree.handles (handle, new) h o e
@@ -91,7 +91,7 @@ takes (Replaced old to gone) = Leaving (λ t. t)
 
 -- where the request neither closes the handle nor takes entries by it
 pub step_keeps : (config : ServerConfig) (tree : FileTree) (s : Step) (h : List ℕ) (o : Opened)
-    → (Closes s.request h → ⊥) → (Lists s.request h → ⊥) → opened_at tree h ≡ Some o
+    → (ClosesHandle s.request h → ⊥) → (Lists s.request h → ⊥) → opened_at tree h ≡ Some o
     → opened_at (answer_to config tree s).1 h ≡ Some o
 step_keeps config tree s h o keeps unread e =
     let l = apply_leaves tree config s.request s.choice s.handle in ap (λ (w : FileTree). opened_at w h) l.is ∙ by_change l.change (takes l.change) l.may
@@ -151,7 +151,7 @@ same_or_not a b = by_test (bytes_eq a b) refl
 
 -- what a handle has stays of its kind until it is closed
 pub kind_stays : (config : ServerConfig) (tree : FileTree) (s : Step) (h : List ℕ) (k : Option Held)
-    → (Closes s.request h → ⊥) → kind_at (opened_at tree h) ≡ Some k → kind_at (opened_at (answer_to config tree s).1 h)
+    → (ClosesHandle s.request h → ⊥) → kind_at (opened_at tree h) ≡ Some k → kind_at (opened_at (answer_to config tree s).1 h)
     ≡ Some k
 kind_stays config tree s h k keeps e = by_case (opened_at tree h) refl e
   where
@@ -190,7 +190,7 @@ opened_file (Some (opened.Directory entries)) held e = absurd (let both : None �
 
 -- a file that is open stays so until its handle is closed
 pub file_stays : (config : ServerConfig) (tree : FileTree) (s : Step) (h : List ℕ) (held : Held)
-    → (Closes s.request h → ⊥) → opened_at tree h ≡ Some (opened.File held) → opened_at (answer_to config tree s).1 h
+    → (ClosesHandle s.request h → ⊥) → opened_at tree h ≡ Some (opened.File held) → opened_at (answer_to config tree s).1 h
     ≡ Some (opened.File held)
 file_stays config tree s h held keeps e = opened_file (opened_at (answer_to config tree s).1 h) held
     (kind_stays config tree s h (Some held) keeps (ap kind_at e))

@@ -15,10 +15,10 @@ use Rattle.session_model.specs.declared.event.Owner.TheVariants as owner
 use Rattle.session_model.specs.Calls.{Setting}
 use Rattle.session_model.specs.Grants.{is_asked_by, is_close}
 use Rattle.session_model.specs.Journals.{IsJournal}
-use Rattle.session_model.specs.Readings.{Asked, asked, asked_at, ended, is_by, own, sent}
+use Rattle.session_model.specs.Readings.{AskedRequest, asked, asked_at, ended, is_by, own, sent}
 use Rattle.session_model.proofs.CallLaws.{asker_owns, has_place, next_submit, own_fresh}
 use Rattle.run_laws.specs.Bearing.{IsOfAsker, UsesGrant, used}
-use Rattle.run_laws.specs.DeferredWrites.{behind}
+use Rattle.run_laws.specs.DeferredWrites.{place_behind}
 use Rattle.run_laws.specs.GrantUses.{WritesBy}
 use Rattle.run_laws.specs.InJournals.{AloneOn, AreBelow, ComeByOpens, InTurn, IsOfLane, KeepsOff, LaneFirst, LaneInTurn, PassesAt, is_of_call, opens_at}
 use Rattle.run_laws.specs.Sparing.{Avoids}
@@ -51,7 +51,7 @@ in_turn s (entry.Event (Submit by id r) ∷ past) lane c d p q j lt mine mine' =
     there : (place : ℕ) → is_asked_by (asked_at past place) lane c ≡ true → place < asked past
     there place is = by_asked (asked_at past place) refl is
       where
-        by_asked : (x : Option Asked) → asked_at past place ≡ x → is_asked_by x lane c ≡ true → place < asked past
+        by_asked : (x : Option AskedRequest) → asked_at past place ≡ x → is_asked_by x lane c ≡ true → place < asked past
         by_asked None e is = absurd cc
         by_asked (Some a) e is = asked_there past place a e
 
@@ -79,14 +79,14 @@ in_turn s (_ ∷ past) lane c d p q j lt mine mine' = in_turn s past lane c d p 
 -- ---- who asked
 
 -- what the session itself asks passes each name by
-session_request : (s : Setting) (past : List Entry) (place : ℕ) (a : Asked) → IsJournal s past → asked_at past place
+session_request : (s : Setting) (past : List Entry) (place : ℕ) (a : AskedRequest) → IsJournal s past → asked_at past place
     ≡ Some a → ((lane call : ℕ) → a.by ≡ owner.Call lane call → ⊥) → (is_close a.request ≡ true)
     ⊎ (a.request ≡ request.LimitsQuery)
 session_request s [] place a j is no_call = absurd cc
 session_request s (entry.Event (Submit by id r) ∷ past) place a j is no_call =
     elim (eqb_tells place (asked past)) [
       | inl t ↦ (let same = some_is (record { by = by; id = id; request = r }) a (rw t.0 at is) in
-          subst (λ (x : Asked). (is_close x.request ≡ true) ⊎ (x.request ≡ request.LimitsQuery)) same (by_owner by j (ap (λ (x : Asked). x.by) same)))
+          subst (λ (x : AskedRequest). (is_close x.request ≡ true) ⊎ (x.request ≡ request.LimitsQuery)) same (by_owner by j (ap (λ (x : AskedRequest). x.by) same)))
       | inr t ↦ session_request s past place a j.1 (rw t.0 at is) no_call
     ]
   where
@@ -107,11 +107,11 @@ itself : (lane call : ℕ) → ((lane == lane) && (call == call)) ≡ true
 itself lane call = rw (eq-eqb lane lane refl, eq-eqb call call refl) refl
 
 -- the request at a place is one of a call, or passes each name by
-pub data WhoAsked (past : List Entry) (place : ℕ) (a : Asked) : Type 0 where
+pub data WhoAsked (past : List Entry) (place : ℕ) (a : AskedRequest) : Type 0 where
   ACall : (lane call : ℕ) → is_asked_by (asked_at past place) lane call ≡ true → WhoAsked past place a
   TheSession : (is_close a.request ≡ true) ⊎ (a.request ≡ request.LimitsQuery) → WhoAsked past place a
 
-pub who_asked : (s : Setting) (past : List Entry) (place : ℕ) (a : Asked) → IsJournal s past → asked_at past place ≡ Some a → WhoAsked past place a
+pub who_asked : (s : Setting) (past : List Entry) (place : ℕ) (a : AskedRequest) → IsJournal s past → asked_at past place ≡ Some a → WhoAsked past place a
 who_asked s past place a j is = by_owner a.by refl
   where
     by_owner : (o : Owner) → a.by ≡ o → WhoAsked past place a
@@ -133,7 +133,7 @@ one_lane past place l m c d x y = by_asked (asked_at past place) x y
     by_owner owner.Setup x y = absurd cc
     by_owner owner.Close x y = absurd cc
 
-    by_asked : (o : Option Asked) → is_asked_by o l c ≡ true → is_asked_by o m d ≡ true → (l ≡ m) × (c ≡ d)
+    by_asked : (o : Option AskedRequest) → is_asked_by o l c ≡ true → is_asked_by o m d ≡ true → (l ≡ m) × (c ≡ d)
     by_asked None x y = absurd cc
     by_asked (Some a) x y = by_owner a.by x y
 
@@ -147,14 +147,14 @@ off_passes s past name lane call place j off mine =
       writes = λ a h grant is w uses. by_grant a h grant is w uses;
     }
   where
-    by_grant : (a : Asked) (h : List ℕ) (grant : ℕ) → asked_at past place ≡ Some a → WritesBy a.request h
+    by_grant : (a : AskedRequest) (h : List ℕ) (grant : ℕ) → asked_at past place ≡ Some a → WritesBy a.request h
         → used s past place h ≡ Some grant → opens_at name (asked_at past grant) ≡ false
     by_grant a h grant is w uses =
         let u : UsesGrant s past place a.by h = uses_grant s past place a h j is (subject_borne a.request h (writes_subject a.request h w)) in
         let both : Some u.grant ≡ Some grant = sym u.is ∙ uses in
         subst (λ (g : ℕ). opens_at name (asked_at past g) ≡ false) (some_is u.grant grant both) (by_owner a.by u.grant refl u.asker)
       where
-        at_grant : (g earlier : ℕ) → is_asked_by (asked_at past g) lane earlier ≡ true → (x : Option Asked) → asked_at past g ≡ x → opens_at name x ≡ false
+        at_grant : (g earlier : ℕ) → is_asked_by (asked_at past g) lane earlier ≡ true → (x : Option AskedRequest) → asked_at past g ≡ x → opens_at name x ≡ false
         at_grant g earlier theirs None e = refl
         at_grant g earlier theirs (Some b) e = (off g earlier b e theirs).1
 
@@ -170,17 +170,17 @@ off_passes s past name lane call place j off mine =
 
 -- ---- two calls of a lane
 
-pub all_behind : (r : ℕ × Request) (later : Own) → AreRising (r ∷ later) → AreBelow (behind r later) (r ∷ later)
+pub all_behind : (r : ℕ × Request) (later : Own) → AreRising (r ∷ later) → AreBelow (place_behind r later) (r ∷ later)
 all_behind r [] rising = (omega arith, tt)
-all_behind r (a ∷ later) rising = (let more = all_behind a later rising.1 in let lt : a.0 < behind a later = more.0 in
+all_behind r (a ∷ later) rising = (let more = all_behind a later rising.1 in let lt : a.0 < place_behind a later = more.0 in
     let step : r.0 < a.0 = rising.0.0 in (omega (arith, lt, step), more))
 
-pub behind_within : (n : ℕ) (r : ℕ × Request) (later : Own) → AreBelow n (r ∷ later) → behind r later ≤ n
+pub behind_within : (n : ℕ) (r : ℕ × Request) (later : Own) → AreBelow n (r ∷ later) → place_behind r later ≤ n
 behind_within n r [] below = (let lt : r.0 < n = below.0 in omega (arith, lt))
 behind_within n r (a ∷ later) below = behind_within n a later below.1
 
 -- one of them stands just before that place
-last_of : (r : ℕ × Request) (later : Own) → (place : ℕ) × (HasRequest (r ∷ later) place × (behind r later ≡ place + 1))
+last_of : (r : ℕ × Request) (later : Own) → (place : ℕ) × (HasRequest (r ∷ later) place × (place_behind r later ≡ place + 1))
 last_of r [] = (r.0, (inl refl, refl))
 last_of r (a ∷ later) = let l = last_of a later in (l.0, (inr l.1.0, l.1.1))
 
@@ -195,12 +195,12 @@ pub place_passes : (s : Setting) (past : List Entry) (name : Name) (lane place :
     → PassesAt s past name place
 place_passes s past name lane place j t mine_passes = by_asked (asked_at past place) refl
   where
-    by_who : (a : Asked) → asked_at past place ≡ Some a → WhoAsked past place a → PassesAt s past name place
+    by_who : (a : AskedRequest) → asked_at past place ≡ Some a → WhoAsked past place a → PassesAt s past name place
     by_who a is (TheSession asks) =
         record {
-          avoids = λ b at. subst (λ (x : Asked). Avoids name x.request) (some_is a b (sym is ∙ at)) (harmless name a.request asks).0;
+          avoids = λ b at. subst (λ (x : AskedRequest). Avoids name x.request) (some_is a b (sym is ∙ at)) (harmless name a.request asks).0;
           writes = λ b h grant at w uses. absurd ((harmless name a.request asks).1 h
-              (subst (λ (x : Asked). WritesBy x.request h) (some_is b a (sym at ∙ is)) w));
+              (subst (λ (x : AskedRequest). WritesBy x.request h) (some_is b a (sym at ∙ is)) w));
         }
     by_who a is (ACall l c mine) =
         elim (eqb_tells l lane) [
@@ -208,7 +208,7 @@ place_passes s past name lane place j t mine_passes = by_asked (asked_at past pl
           | inr u ↦ off_passes s past name l c place j (t.others l u.1) mine
         ]
 
-    by_asked : (x : Option Asked) → asked_at past place ≡ x → PassesAt s past name place
+    by_asked : (x : Option AskedRequest) → asked_at past place ≡ x → PassesAt s past name place
     by_asked None none = record {
       avoids = λ b at. absurd (let both : None ≡ Some b = sym none ∙ at in cc);
       writes =
@@ -230,17 +230,17 @@ lane_comes s past name lane n j t place a lt is plain = by_who (who_asked s past
 
 -- none of the requests of a later call stands within those of a call
 pub not_after : (s : Setting) (past : List Entry) (lane later c place : ℕ) (r : ℕ × Request) (read : Own) → IsJournal s past
-    → own past lane later ≡ r ∷ read → place < behind r read → is_asked_by (asked_at past place) lane c ≡ true
+    → own past lane later ≡ r ∷ read → place < place_behind r read → is_asked_by (asked_at past place) lane c ≡ true
     → later < c → ⊥
 not_after s past lane later c place r read j asks lt mine high =
     let last = last_of r read in
     let late : last.0 < place = in_turn s past lane later c last.0 place j high (has_call past lane later last.0 (r ∷ read) asks last.1.0) mine in
-    let end : behind r read ≡ last.0 + 1 = last.1.1 in omega (arith, late, end, lt)
+    let end : place_behind r read ≡ last.0 + 1 = last.1.1 in omega (arith, late, end, lt)
 
 pub lane_in_turn : (s : Setting) (past : List Entry) (name : Name) (lane one : ℕ) (w : ℕ × Request) (written : Own)
     (later : ℕ) (r : ℕ × Request) (read : Own) → IsJournal s past
     → LaneInTurn s past name lane one w written later r read
-    → AreBelow (sent past) (r ∷ read) → InTurn s past name (behind r read) (lane, one) w written (lane, later) r read
+    → AreBelow (sent past) (r ∷ read) → InTurn s past name (place_behind r read) (lane, one) w written (lane, later) r read
 lane_in_turn s past name lane one w written later r read j t were_sent =
     record {
       asks = t.asks;
@@ -250,12 +250,12 @@ lane_in_turn s past name lane one w written later r read j t were_sent =
           (inl refl)));
       until = all_behind r read (subst AreRising t.asks_then (own_listed past lane later).0);
       were_sent = behind_within (sent past) r read were_sent;
-      by_opens = lane_comes s past name lane (behind r read) j t.lanes;
+      by_opens = lane_comes s past name lane (place_behind r read) j t.lanes;
       others_pass = λ place above lt out out'. place_passes s past name lane place j t.lanes (λ c mine. within place c above lt out out' mine);
     }
   where
     -- the lane's requests from the first of the one call to the last of the other are those of the two calls and of those between
-    within : (place c : ℕ) → w.0 < place → place < behind r read → is_of_call past (lane, one) place ≡ false
+    within : (place c : ℕ) → w.0 < place → place < place_behind r read → is_of_call past (lane, one) place ≡ false
         → is_of_call past (lane, later) place ≡ false → is_asked_by (asked_at past place) lane c ≡ true
         → PassesAt s past name place
     within place c above lt out out' mine =
@@ -278,17 +278,17 @@ lane_in_turn s past name lane one w written later r read j t were_sent =
 
 pub lane_first : (s : Setting) (past : List Entry) (name : Name) (lane later : ℕ) (r : ℕ × Request) (read : Own)
     → IsJournal s past → LaneFirst s past name lane later r read → AreBelow (sent past) (r ∷ read)
-    → AloneOn s past name (behind r read) (lane, later) r read
+    → AloneOn s past name (place_behind r read) (lane, later) r read
 lane_first s past name lane later r read j t were_sent =
     record {
       asks = t.asks;
       until = all_behind r read (subst AreRising t.asks (own_listed past lane later).0);
       were_sent = behind_within (sent past) r read were_sent;
-      by_opens = lane_comes s past name lane (behind r read) j t.lanes;
+      by_opens = lane_comes s past name lane (place_behind r read) j t.lanes;
       others_pass = λ place lt out. place_passes s past name lane place j t.lanes (λ c mine. within place c lt out mine);
     }
   where
-    within : (place c : ℕ) → place < behind r read → is_of_call past (lane, later) place ≡ false
+    within : (place c : ℕ) → place < place_behind r read → is_of_call past (lane, later) place ≡ false
         → is_asked_by (asked_at past place) lane c ≡ true → PassesAt s past name place
     within place c lt out mine =
         elim (eqb_tells c later) [

@@ -65,7 +65,8 @@ use Rattle.machine_model.specs.declared.node.Node.{Node}
 use Rattle.machine_model.specs.declared.node.Node.TheVariants as node
 use Rattle.machine_model.specs.declared.opened.Opened.TheVariants as opened
 use Rattle.plan_model.specs.declared.call.Call.TheVariants as call
-use Rattle.plan_model.specs.Moves.{Answers, Own, handle_of, is_too_long, on_handle, once_answered, refused}
+use Rattle.sftp_model.specs.Frames.{is_too_long}
+use Rattle.plan_model.specs.Moves.{Answers, Own, handle_of, on_handle, once_answered, refused}
 use Rattle.plan_model.specs.PathPlans.{from_directory}
 use Rattle.plan_model.specs.WholePlans.{entries_next, list_next, on_names}
 use Rattle.session_model.specs.Served.{IsReply}

@@ -41,12 +41,13 @@ use Rattle.sftp_model.specs.declared.request.Request.TheVariants as request
 use Rattle.sftp_model.specs.declared.slot.Facts.{Facts}
 use Rattle.sftp_model.specs.declared.slot.Move.TheVariants.{Ask, Done}
 use Rattle.sftp_model.specs.declared.slot.Site.{Site}
-use Rattle.machine_model.specs.Changes.{Closes, Lists}
+use Rattle.machine_model.specs.Changes.{ClosesHandle, Lists}
 use Rattle.machine_model.specs.FileTree.{FileTree}
 use Rattle.machine_model.specs.Pairs.{Has}
 use Rattle.machine_model.specs.TreeAnswers.{apply, first_choice}
 use Rattle.plan_model.specs.declared.call.Call.TheVariants as call
-use Rattle.plan_model.specs.Moves.{Answers, Own, handle_of, is_too_long}
+use Rattle.sftp_model.specs.Frames.{is_too_long}
+use Rattle.plan_model.specs.Moves.{Answers, Own, handle_of}
 use Rattle.plan_model.specs.PathPlans.{from_directory}
 use Rattle.plan_model.specs.WholePlans.{entries_next}
 use Rattle.session_model.specs.declared.entry.Entry.{Entry}
@@ -56,7 +57,7 @@ use Rattle.session_model.specs.declared.turn.Turn.{Turn}
 use Rattle.session_model.specs.Calls.{Setting}
 use Rattle.session_model.specs.Grants.{is_asked_by, is_close}
 use Rattle.session_model.specs.Journals.{IsJournal}
-use Rattle.session_model.specs.Readings.{Asked, answer, asked, asked_at, is_by, own, sent}
+use Rattle.session_model.specs.Readings.{AskedRequest, answer, asked, asked_at, is_by, own, sent}
 use Rattle.session_model.specs.Runs.{IsRun}
 use Rattle.session_model.specs.Served.{Serves, ServesAll, requests_sent}
 use Rattle.session_model.proofs.OverLaws.{runs_are_journals}
@@ -99,7 +100,7 @@ lane_asker past owner.Setup g l c mine asker = absurd cc
 lane_asker past owner.Close g l c mine asker = absurd cc
 
 -- Between two requests of a call, a READDIR by what its first one brought is its own.
-readdir_is_own : (s : Setting) (past : List Entry) (lane k p q : ℕ) (first : ℕ × Request) (later : Own) (a : Asked)
+readdir_is_own : (s : Setting) (past : List Entry) (lane k p q : ℕ) (first : ℕ × Request) (later : Own) (a : AskedRequest)
     (h : List ℕ) → IsJournal s past → own past lane k ≡ first ∷ later → first.0 < p → p < q
     → is_asked_by (asked_at past q) lane k ≡ true → asked_at past p ≡ Some a → a.request ≡ request.Readdir h
     → used s past p h ≡ Some first.0 → is_asked_by (asked_at past p) lane k ≡ false → ⊥
@@ -205,7 +206,7 @@ listing_stands chosen s config past lane k n m first all h (t ∷ steps) (a ∷ 
             ]),
       )
       | inr apart ↦ inr (
-        subst (λ (w : List ℕ). Closes t.request w → ⊥) (ap handle_of came) (guarded apart.1).0,
+        subst (λ (w : List ℕ). ClosesHandle t.request w → ⊥) (ap handle_of came) (guarded apart.1).0,
         λ lists. other_lists apart.1 (lists_is t.request h lists),
         listing_stands chosen s config past lane k n m first all h steps (a ∷ later) (t.place ∷ seen)
             (answer_to config tree t).1 j own_is came (inr there) kept.1 honest.1 rising.1 known.1
@@ -232,7 +233,7 @@ listing_stands chosen s config past lane k n m first all h (t ∷ steps) (a ∷ 
         let lt : a.0 < t.place = above_has a.0 t.place later rising'.0 has in let low : t.place < a.0 =
         above_has t.place a.0 (asked_in steps) rising.0 (behind apart) in omega (arith, lt, low)
 
-    guarded : t.place ≢ a.0 → (Closes t.request (handle_of (answer past first.0)) → ⊥)
+    guarded : t.place ≢ a.0 → (ClosesHandle t.request (handle_of (answer past first.0)) → ⊥)
         × ((other : ℕ) → grant_of t.place ≡ Some other → handle_of (answer past other) ≡ handle_of (answer past first.0)
         → other ≡ first.0)
     guarded apart = kept.0 first.0 there (used_there grant_of first.0 a.0 steps (behind apart)

@@ -16,7 +16,7 @@ use Rattle.session_model.specs.declared.entry.Entry.{Entry}
 use Rattle.session_model.specs.declared.turn.Turn.{Turn}
 use Rattle.session_model.specs.Calls.{Setting, site_of}
 use Rattle.session_model.specs.Journals.{IsJournal}
-use Rattle.session_model.specs.Readings.{Asked, answer, asked_at, outcomes_below, own}
+use Rattle.session_model.specs.Readings.{AskedRequest, answer, asked_at, outcomes_below, own}
 use Rattle.session_model.specs.Runs.{IsRun}
 use Rattle.session_model.specs.Served.{Serves}
 use Rattle.session_model.specs.Settings.{setting_of}
@@ -72,7 +72,7 @@ writes_by_grant lanes options extensions past lane k bytes j p f =
     s : Setting
     s = setting_of lanes options extensions past
 
-    bears : (place : ℕ) (a : Asked) → is_of_call past (lane, k) place ≡ true → asked_at past place ≡ Some a
+    bears : (place : ℕ) (a : AskedRequest) → is_of_call past (lane, k) place ≡ true → asked_at past place ≡ Some a
         → BearsOpen s past f.file.grant f.handle place a.request
     bears place a mine is =
         buffered_bears s past lane k f.slot bytes f.handle f.file f.buffer j p f.writes f.there f.came place a mine is

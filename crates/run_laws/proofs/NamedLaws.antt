@@ -8,13 +8,13 @@ use Rattle.sftp_model.specs.declared.flags.OpenFlags.{OpenFlags}
 use Rattle.sftp_model.specs.declared.request.Request.{Request}
 use Rattle.sftp_model.specs.declared.request.Request.TheVariants as request
 use Rattle.machine_model.proofs.NameLaws.{names_tell}
-use Rattle.machine_model.specs.Changes.{Asks}
+use Rattle.machine_model.specs.Changes.{AsksToOpen}
 use Rattle.machine_model.specs.Components.{Name, components}
 use Rattle.machine_model.specs.FileTree.{FileTree}
 use Rattle.session_model.specs.declared.entry.Entry.{Entry}
 use Rattle.session_model.specs.Calls.{Setting}
 use Rattle.session_model.specs.Journals.{IsJournal}
-use Rattle.session_model.specs.Readings.{Asked, answer, asked, asked_at, sent}
+use Rattle.session_model.specs.Readings.{AskedRequest, answer, asked, asked_at, sent}
 use Rattle.session_model.proofs.RequestLaws.{sent_asked}
 use Rattle.run_laws.specs.Bearing.{UsesGrant, grant_at, subject}
 use Rattle.run_laws.specs.CallsAmong.{asked_by}
@@ -40,7 +40,7 @@ pub passes_by : (s : Setting) (past : List Entry) (name : Name) (grant_of : ℕ 
     → IsAt past (asked_by t) → grant_of t.place ≡ grant_at s past t.place → PassesAt s past name t.place
     → PassesBy (answer past) grant_of (is_elsewhere past name) name t
 passes_by s past name grant_of t j at same p =
-    let a : Asked = at.0 in (
+    let a : AskedRequest = at.0 in (
       subst (Avoids name) at.1.1 (p.avoids a at.1.0),
       λ h w.
           (let writes : WritesBy a.request h = subst (λ (r : Request). WritesBy r h) (sym at.1.1) w in
@@ -64,7 +64,7 @@ open_of_it name (request.OpenFile path flags attrs) e = record
     { path = path; flags = flags; attrs = attrs; is = refl; denotes = (names_tell (components path) name).0 e }
 open_of_it name other e = absurd cc
 
-asks_open : (name : Name) (r : Request) → Asks r name → is_open_of name r ≡ true
+asks_open : (name : Name) (r : Request) → AsksToOpen r name → is_open_of name r ≡ true
 asks_open name (request.OpenFile path flags attrs) e = (names_tell (components path) name).1 e
 asks_open name other e = absurd e
 

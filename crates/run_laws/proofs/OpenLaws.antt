@@ -17,7 +17,7 @@ use Rattle.machine_model.proofs.LossLaws.{name_has}
 use Rattle.machine_model.proofs.NameLaws.{handles_tell, names_tell}
 use Rattle.machine_model.proofs.PairLaws.{found_push_here}
 use Rattle.machine_model.specs.Changes.{IsWellFormed}
-use Rattle.machine_model.specs.Components.{Name, components, is_long, parent_of, same_name}
+use Rattle.machine_model.specs.Components.{Name, components, is_long_name, parent_of, same_name}
 use Rattle.machine_model.specs.FileTree.{FileTree, is_directory, node_at, opened_at, with_bytes, with_file, with_handle}
 use Rattle.machine_model.specs.HandleRequests.{Answer, after_open, grants, held_by, refuses, where_new}
 use Rattle.machine_model.specs.TreeAnswers.{apply}
@@ -25,7 +25,8 @@ use Rattle.machine_model.specs.declared.node.Node.{Node}
 use Rattle.machine_model.specs.declared.node.Node.TheVariants as node
 use Rattle.machine_model.specs.declared.opened.Opened.{Opened}
 use Rattle.plan_model.specs.FilePlans.{open_request}
-use Rattle.plan_model.specs.Moves.{ask_path, is_too_long}
+use Rattle.sftp_model.specs.Frames.{is_too_long}
+use Rattle.plan_model.specs.Moves.{ask_path}
 use Rattle.plan_model.specs.WholePlans.{to_replace}
 use Rattle.plan_model.specs.WindowPlans.{to_read}
 use Rattle.run_laws.specs.CallsAmong.{HasNoFile, IsOpenTo, ToRead, ToWrite, refusal_of}
@@ -50,7 +51,7 @@ step_opens config tree s flags path asks unrefused = ap (λ (w : Request). apply
 
 -- a name that is to be made was made, where its handle was granted
 new_is : (tree : FileTree) (name : Name) (x : Answer) (h : List ℕ) → (where_new tree name x).0 ≡ reply.Handle h → where_new tree name x ≡ x
-new_is tree name x h e = by_tests (not (is_directory (node_at tree (parent_of name)))) (is_long name) e
+new_is tree name x h e = by_tests (not (is_directory (node_at tree (parent_of name)))) (is_long_name name) e
   where
     by_tests : (a b : Bool) → (if a then refuses tree SSH_FX_NO_SUCH_FILE else if b then refuses tree SSH_FX_FAILURE else x).0 ≡ reply.Handle h
         → (if a then refuses tree SSH_FX_NO_SUCH_FILE else if b then refuses tree SSH_FX_FAILURE else x) ≡ x

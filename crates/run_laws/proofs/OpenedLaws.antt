@@ -58,7 +58,7 @@ use Rattle.session_model.specs.declared.entry.Entry.{Entry}
 use Rattle.session_model.specs.Calls.{Setting}
 use Rattle.session_model.specs.Grants.{is_asked_by, is_one_of}
 use Rattle.session_model.specs.Journals.{IsJournal}
-use Rattle.session_model.specs.Readings.{Asked, answer, asked_at, sent}
+use Rattle.session_model.specs.Readings.{AskedRequest, answer, asked_at, sent}
 use Rattle.session_model.proofs.RequestLaws.{sent_asked}
 use Rattle.run_laws.specs.Bearing.{grant_at}
 use Rattle.run_laws.specs.CallsAmong.{ToWrite}
@@ -87,7 +87,7 @@ file_as r (opened.Directory entries) held e opens = absurd cc
 
 -- what a request opened that a HANDLE answered is open as it asked
 kinds_asked : (config : ServerConfig) (answers : Answers) (past : List Entry) (n : ℕ) (tree : FileTree)
-    (steps : List Step) (place : ℕ) (h : List ℕ) (a : Asked) (held : Held) → AreServed config answers tree steps
+    (steps : List Step) (place : ℕ) (h : List ℕ) (a : AskedRequest) (held : Held) → AreServed config answers tree steps
     → AreKnown past n (asked_in steps) → answers place ≡ Some (reply.Handle h) → asked_at past place ≡ Some a
     → kinds_of config tree steps place ≡ Some held → OpensAs a.request held
 kinds_asked config answers past n tree [] place h a held served known came at e = absurd cc
@@ -100,7 +100,7 @@ kinds_asked config answers past n tree (s ∷ steps) place h a held served known
           let is : kind_of o.0 ≡ Some held = ap (λ (x : Option Opened). inside (kind_at x)) (sym o.1) ∙ kind in
           let mine : IsAt past (s.place, s.request) = known.0.1 in
           let one : mine.0 ≡ a = some_is mine.0 a (sym mine.1.0 ∙ (ap (asked_at past) t.1 ∙ at)) in
-          subst (λ (r : Request). OpensAs r held) (sym mine.1.1 ∙ ap (λ (x : Asked). x.request) one)
+          subst (λ (r : Request). OpensAs r held) (sym mine.1.1 ∙ ap (λ (x : AskedRequest). x.request) one)
           (file_as s.request o.0 held is o.2))
       | inr t ↦ kinds_asked config answers past n (answer_to config tree s).1 steps place h a held served.2 known.1 came at (rw t.0 at e)
     ]
@@ -181,7 +181,7 @@ finds_open config answers grant_of kind past n tree (s ∷ steps) place g h part
       | inl t ↦
           (let mine : IsAt past (s.place, s.request) = known.0.1 in
           let one : mine.0 ≡ asks.0 = some_is mine.0 asks.0 (sym mine.1.0 ∙ (ap (asked_at past) t.1 ∙ asks.1.0)) in
-          let write : s.request ≡ request.Write h offset part = sym mine.1.1 ∙ (ap (λ (x : Asked). x.request) one ∙ asks.1.1) in
+          let write : s.request ≡ request.Write h offset part = sym mine.1.1 ∙ (ap (λ (x : AskedRequest). x.request) one ∙ asks.1.1) in
           let answer_is = reply_is (answers s.place) (reply.Status SSH_FX_OK message language) (answer_to config tree s).0 (ap answers t.1 ∙ said) served.1 in
           let is : answer_to config tree s ≡ after_write tree offset part (file_of (opened_at tree h)) =
           ap (λ (w : Request). apply tree config w s.choice s.handle) write
@@ -229,7 +229,7 @@ pub record WritesByGrant (s : Setting) (past : List Entry) (lane k g : ℕ) (han
   pub bears : AllWriteBy past lane k handle
   pub before : (place : ℕ) → is_of_call past (lane, k) place ≡ true → g < place
   pub unclosed : (place : ℕ) → is_of_call past (lane, k) place ≡ true → is_one_of (closed_before s past place) g ≡ false
-  pub plain : (a : Asked) (held : Held) → asked_at past g ≡ Some a → OpensAs a.request held → held.append ≡ false
+  pub plain : (a : AskedRequest) (held : Held) → asked_at past g ≡ Some a → OpensAs a.request held → held.append ≡ false
 
 -- what the handle of such a call had as a request of it came that was answered by a STATUS 0
 pub opened_to_write : (s : Setting) (config : ServerConfig) (choices : List Choice) (first now : FileTree)
@@ -274,7 +274,7 @@ opened_to_write s config choices first now past lane k g place offset handle par
         around config first past (sent past) run.steps r.xs r.ys r.t r.is all.rising all.known in
         ap (tree_at config first run.steps) (sym r.at) ∙ trees.came
 
-    by_asked : (x : Option Asked) → asked_at past g ≡ x → is_asked_by x lane b.opener ≡ true → r.held.append ≡ false
+    by_asked : (x : Option AskedRequest) → asked_at past g ≡ x → is_asked_by x lane b.opener ≡ true → r.held.append ≡ false
     by_asked None none own_it = absurd cc
     by_asked (Some a) at own_it =
         b.plain a r.held at (kinds_asked config (answer past) past (sent past) first run.steps g handle a r.held run.served

@@ -13,7 +13,7 @@ use Rattle.session_model.specs.declared.event.Owner.TheVariants as owner
 use Rattle.session_model.specs.Calls.{Setting, current, site_of}
 use Rattle.session_model.specs.Grants.{is_asked_by}
 use Rattle.session_model.specs.Journals.{IsJournal}
-use Rattle.session_model.specs.Readings.{Asked, answer, asked, asked_at, ended, is_by, own}
+use Rattle.session_model.specs.Readings.{AskedRequest, answer, asked, asked_at, ended, is_by, own}
 use Rattle.session_model.proofs.CallLaws.{asker_owns, has_place, next_submit}
 use Rattle.session_model.proofs.HolderLaws.{own_asked}
 use Rattle.session_model.proofs.PlannedLaws.{asks_close}
@@ -84,14 +84,14 @@ closing_first s past (owner.Call l c) id lane n h first later j test is =
 closing_first s past owner.Setup id lane n h first later j test is = absurd cc
 closing_first s past owner.Close id lane n h first later j test is = absurd cc
 
-pub close_is_first : (s : Setting) (past : List Entry) (lane n place : ℕ) (a : Asked) (h : List ℕ) (first : ℕ × Request)
+pub close_is_first : (s : Setting) (past : List Entry) (lane n place : ℕ) (a : AskedRequest) (h : List ℕ) (first : ℕ × Request)
     (later : Own) → IsJournal s past → own past lane n ≡ first ∷ later → is_asked_by (asked_at past place) lane n ≡ true
     → asked_at past place ≡ Some a → a.request ≡ request.Close h → place ≡ first.0
 close_is_first s [] lane n place a h first later j is mine at closes = absurd cc
 close_is_first s (entry.Event (Submit by id q) ∷ past) lane n place a h first later j is mine at closes =
     elim (eqb_tells place (asked past)) [
       | inl t ↦ (let same = some_is (record { by = by; id = id; request = q }) a (rw t.0 at at) in
-          let request_is : q ≡ request.Close h = ap (λ (x : Asked). x.request) same ∙ closes in
+          let request_is : q ≡ request.Close h = ap (λ (x : AskedRequest). x.request) same ∙ closes in
           let test : is_by by lane n ≡ true = rw t.0 at mine in
           let here : own past lane n ++ (asked past, q) ∷ [] ≡ first ∷ later = rw test at is in
           t.1 ∙ closing_first s past by id lane n h first later (subst (λ (r : Request). IsJournal s (entry.Event (Submit by id r) ∷ past)) request_is j) test

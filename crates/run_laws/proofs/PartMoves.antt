@@ -57,6 +57,7 @@ use Rattle.plan_model.specs.FilePlans.{
   opened_file,
   set_next,
 }
+use Rattle.sftp_model.specs.Frames.{is_too_long}
 use Rattle.plan_model.specs.Moves.{
   Answers,
   Own,
@@ -76,7 +77,6 @@ use Rattle.plan_model.specs.Moves.{
   refuses,
   refuses_extension,
   told_by,
-  is_too_long,
 }
 use Rattle.plan_model.specs.PathPlans.{named_by, path_done, path_named, path_told}
 use Rattle.plan_model.specs.TransferPlans.{Keeping, missing_next, next_part, part_len, read_first, rest_next, was_read, was_written, write_first}

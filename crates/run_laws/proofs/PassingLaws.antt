@@ -41,7 +41,7 @@ use Rattle.machine_model.proofs.NameLaws.{handles_tell}
 use Rattle.machine_model.proofs.OpenLaws.{none_opens}
 use Rattle.machine_model.proofs.PairLaws.{Tells, found_has}
 use Rattle.machine_model.specs.Changes.{
-  Asks,
+  AsksToOpen,
   Change,
   ClosedFile,
   Created,
@@ -54,7 +54,7 @@ use Rattle.machine_model.specs.Changes.{
   WritesTo,
   changed,
 }
-use Rattle.machine_model.specs.Components.{Name, components, is_long, parent_of}
+use Rattle.machine_model.specs.Components.{Name, components, is_long_name, parent_of}
 use Rattle.machine_model.specs.FileTree.{
   FileTree,
   after_loss,
@@ -131,7 +131,7 @@ open_node tree handle flags name (Some (node.File old)) file is e = by_tests (cr
     by_tests true b e = inl e
     by_tests false true e = inl (sym (at_found tree (with_handle (with_bytes tree old []) handle (held_by flags old)) name refl) ∙ e)
     by_tests false false e = inl (sym (at_found tree (with_handle tree handle (held_by flags old)) name refl) ∙ e)
-open_node tree handle flags name None file is e = by_tests (not (creates flags)) (not (is_directory (node_at tree (parent_of name)))) (is_long name) e
+open_node tree handle flags name None file is e = by_tests (not (creates flags)) (not (is_directory (node_at tree (parent_of name)))) (is_long_name name) e
   where
     by_tests : (a b c : Bool) → node_at (if a then refuses tree 2 else if b then refuses tree 2 else if c then
         refuses tree 4 else grants (with_file tree name) handle (held_by flags (length tree.files))).1 name
@@ -184,7 +184,7 @@ none_has {K} {V} same tells (p ∷ pairs) key v e (inr h) = by_test (same p.0 ke
 
 -- a step that avoids the name opens another file
 opens_other : (config : ServerConfig) (tree : FileTree) (name : Name) (s : Step) (h : List ℕ) (held : Held)
-    → IsWellFormed tree → Avoids name s.request → (Asks s.request name → ⊥) → opened_at tree h ≡ None
+    → IsWellFormed tree → Avoids name s.request → (AsksToOpen s.request name → ⊥) → opened_at tree h ≡ None
     → opened_at (answer_to config tree s).1 h ≡ Some (opened.File held) → node_at (answer_to config tree s).1 name ≡ Some (node.File held.file) → ⊥
 opens_other config tree name s h held well_formed avoids asks none now at =
     let before : node_at tree name ≡ Some (node.File held.file) = sym (node_stays tree config s.request s.choice s.handle name avoids) ∙ at in
@@ -224,7 +224,7 @@ other_on config elsewhere name tree s file (inr own) lt other at =
     ]
 
 elsewhere_avoids : (name : Name) (elsewhere : ℕ → Bool) (s : Step) (g : ℕ) → IsOnName name elsewhere s → s.place ≡ g
-    → elsewhere g ≡ true → Avoids name s.request × (Asks s.request name → ⊥)
+    → elsewhere g ≡ true → Avoids name s.request × (AsksToOpen s.request name → ⊥)
 elsewhere_avoids name elsewhere s g (inl avoids) here away = avoids
 elsewhere_avoids name elsewhere s g (inr own) here away = absurd (let both : false ≡ true = sym own.5 ∙ (ap elsewhere here ∙ away) in cc)
 

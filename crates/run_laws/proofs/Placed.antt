@@ -12,7 +12,7 @@ use Rattle.session_model.specs.declared.event.Event.TheVariants.{Submit, Send, T
 use Rattle.session_model.specs.declared.entry.Entry.{Entry}
 use Rattle.session_model.specs.declared.entry.Entry.TheVariants as entry
 use Rattle.session_model.specs.Readings.{
-  Asked,
+  AskedRequest,
   asked,
   asked_at,
   bearer,
@@ -113,7 +113,7 @@ placed_sent (entry.Event Send ∷ past) = placed_asked past
 placed_sent (_ ∷ past) = placed_sent past
 
 -- a request under its place
-abbrev under : ℕ → Option Asked → Option Asked
+abbrev under : ℕ → Option AskedRequest → Option AskedRequest
 under place None = None
 under place (Some a) = Some (record { by = a.by; id = place; request = a.request })
 
@@ -129,7 +129,7 @@ placed_asked_at (_ ∷ past) place = placed_asked_at past place
 pub placed_query : (past : List Entry) (place : ℕ) → is_query (asked_at (placed past) place) ≡ is_query (asked_at past place)
 placed_query past place = ap is_query (placed_asked_at past place) ∙ same (asked_at past place)
   where
-    same : (a : Option Asked) → is_query (under place a) ≡ is_query a
+    same : (a : Option AskedRequest) → is_query (under place a) ≡ is_query a
     same None = refl
     same (Some a) = refl
 
@@ -194,7 +194,7 @@ placed_move s past lane = λ i. move_at (placed_current s past lane i) (placed_s
 placed_asker : (past : List Entry) (lane place : ℕ) → is_unended_asker (placed past) lane place ≡ is_unended_asker past lane place
 placed_asker past lane place = (λ i. is_asked_by (placed_asked_at past place i) lane (placed_ended past lane i)) ∙ same (asked_at past place)
   where
-    same : (a : Option Asked) → is_asked_by (under place a) lane (ended past lane) ≡ is_asked_by a lane (ended past lane)
+    same : (a : Option AskedRequest) → is_asked_by (under place a) lane (ended past lane) ≡ is_asked_by a lane (ended past lane)
     same None = refl
     same (Some a) = refl
 

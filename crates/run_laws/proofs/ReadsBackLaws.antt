@@ -59,7 +59,7 @@ use Rattle.run_laws.proofs.UsedLaws.{some_is}
 use Rattle.run_laws.specs.Flushes.{FlushNumbers, FlushesLast, IsAloneBut, is_one_of_four}
 use Rattle.run_laws.specs.LeavesFiles.{LeavesFiles}
 use Rattle.run_laws.specs.NameCalls.{all_keep_off, may_own, none_writes, writes}
-use Rattle.run_laws.specs.ReadsBack.{GotBytes, IsAlone, Reads, ReadsBack, WritesLast, calls_in, outcome_in}
+use Rattle.run_laws.specs.ReadsBack.{GotBytes, IsAlone, ReadsNamed, ReadsBack, WritesLast, calls_in, outcome_in}
 use Rattle.run_laws.specs.RoundTrips.{HasGot, HasRead, HasWritten, IsOneLanes, NoneWrites, WritesWhole, outcome_at}
 use Rattle.run_laws.proofs.CallRequests.{MayWrite, held_still, may_hold, own_held, own_writes}
 use Rattle.run_laws.proofs.FlushedLaws.{FlushedCalls, flush_left}
@@ -164,7 +164,7 @@ one_lanes lanes s turns past name lane are run alone =
     }
 
 has_read : (lanes : List Lane) (s : Setting) (past : List Entry) (name : Name) (lane reader : ℕ) (ended : Outcome)
-    → AreHandedIn lanes s past → Reads lanes (outcomes_below past (length lanes)) name lane reader ended
+    → AreHandedIn lanes s past → ReadsNamed lanes (outcomes_below past (length lanes)) name lane reader ended
     → HasRead s past name lane reader ended
 has_read lanes s past name lane reader ended are r =
     record {

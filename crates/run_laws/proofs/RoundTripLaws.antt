@@ -44,7 +44,8 @@ use Rattle.machine_model.specs.FileTree.{FileTree, bytes_of, node_at}
 use Rattle.machine_model.specs.declared.node.Node.{Node}
 use Rattle.machine_model.specs.declared.node.Node.TheVariants as node
 use Rattle.plan_model.specs.FilePlans.{open_request}
-use Rattle.plan_model.specs.Moves.{Own, ask_path, is_too_long, refuses}
+use Rattle.sftp_model.specs.Frames.{is_too_long}
+use Rattle.plan_model.specs.Moves.{Own, ask_path, refuses}
 use Rattle.plan_model.specs.PathPlans.{from_directory}
 use Rattle.plan_model.specs.WholePlans.{to_replace}
 use Rattle.plan_model.specs.WindowPlans.{to_read}
@@ -58,7 +59,7 @@ use Rattle.session_model.specs.Readings.{answer, own}
 use Rattle.session_model.specs.Runs.{IsRun}
 use Rattle.session_model.specs.Served.{Serves}
 use Rattle.session_model.proofs.OverLaws.{runs_are_journals}
-use Rattle.run_laws.specs.CallsAmong.{Gives, GivesUnless, HasEnded, HasNoFile, IsRefusedBy, refusal_of}
+use Rattle.run_laws.specs.CallsAmong.{GivesContent, GivesUnless, HasEnded, HasNoFile, IsRefusedBy, refusal_of}
 use Rattle.run_laws.specs.FilesLeft.{IsUntouched, LaneLast}
 use Rattle.run_laws.specs.InJournals.{IsOfLane, KeepsOff, LaneFirst, LaneInTurn, PassesAt, is_of_call}
 use Rattle.run_laws.specs.Steps.{AreAllowed, FeignNoEnd, FeignsNoEnd, HasBytes, RefuseNone, RefusesNone}
@@ -342,7 +343,7 @@ got_first s turns past config choices tree left name lane reader got run some we
 pub reads_back : (s : Setting) (turns : List Turn) (past : List Entry) (config : ServerConfig) (choices : List Choice)
     (tree left : FileTree) (name : Name) (lane writer reader : ℕ) (bytes : List ℕ) (ended : Outcome)
     → IsRun s turns past → 1 ≤ s.facts.read_len → IsWellFormed tree → Serves config choices tree past left → RefuseNone choices → IsOneLanes s past name lane
-    → HasWritten s past name lane writer reader bytes → HasRead s past name lane reader ended → Gives ended bytes
+    → HasWritten s past name lane writer reader bytes → HasRead s past name lane reader ended → GivesContent ended bytes
 reads_back s turns past config choices tree left name lane writer reader bytes ended run some well served none one w r =
     gives_all ended bytes
     (back_by RefusesNone s turns past config choices tree left name lane writer reader r.path bytes r.bound ended
@@ -353,7 +354,7 @@ pub reads_first : (s : Setting) (turns : List Turn) (past : List Entry) (config 
     (tree left : FileTree) (name : Name) (lane reader : ℕ) (bytes : List ℕ) (ended : Outcome)
     → IsRun s turns past → 1 ≤ s.facts.read_len → IsWellFormed tree → Serves config choices tree past left
     → RefuseNone choices → IsOneLanes s past name lane → NoneWrites s past name lane reader
-    → HasBytes tree name bytes → HasRead s past name lane reader ended → Gives ended bytes
+    → HasBytes tree name bytes → HasRead s past name lane reader ended → GivesContent ended bytes
 reads_first s turns past config choices tree left name lane reader bytes ended run some well served none one before has r =
     gives_all ended bytes
     (first_by RefusesNone s turns past config choices tree left name lane reader r.path bytes r.bound ended

@@ -22,7 +22,7 @@ use Rattle.session_model.specs.Readings.{answer, sent}
 use Rattle.session_model.specs.Runs.{IsRun}
 use Rattle.session_model.specs.Served.{Serves}
 use Rattle.session_model.proofs.OverLaws.{runs_are_journals}
-use Rattle.run_laws.specs.CallsAmong.{Gives, GivesUnless, HasEnded, HasNoFile, IsRefusedBy, refusal_of}
+use Rattle.run_laws.specs.CallsAmong.{GivesContent, GivesUnless, HasEnded, HasNoFile, IsRefusedBy, refusal_of}
 use Rattle.run_laws.specs.InJournals.{AreBelow, LaneFirst, LaneInTurn}
 use Rattle.run_laws.specs.Steps.{AreAllowed, FeignsNoEnd, HasBytes, RefuseNone}
 use Rattle.run_laws.proofs.LaneBackLaws.{lane_back, lane_back_unless, lane_reads, lane_reads_unless, lane_refused, lane_refused_unless}
@@ -87,7 +87,7 @@ pub run_back : (s : Setting) (config : ServerConfig) (choices : List Choice) (fi
     → components (from_directory write_site write_path) ≡ name
     → HasEnded (call.FsWrite write_path bytes) write_site write_facts (w ∷ written) (answer past) outcome.Done
     → components (from_directory read_site read_path) ≡ name → 1 ≤ read_facts.read_len
-    → HasEnded (call.FsRead read_path bound) read_site read_facts (r ∷ read) (answer past) ended → Gives ended bytes
+    → HasEnded (call.FsRead read_path bound) read_site read_facts (r ∷ read) (answer past) ended → GivesContent ended bytes
 run_back s config choices first now turns past name lane writer reader w r written read write_path read_path bytes bound
     write_site read_site write_facts read_facts ended run serves none well_formed t denotes wrote denotes' one did =
     lane_back s config choices first now past name lane writer reader w r written read write_path read_path bytes bound
@@ -99,7 +99,7 @@ pub run_reads : (s : Setting) (config : ServerConfig) (choices : List Choice) (f
     (site : Site) (facts : Facts) (ended : Outcome) → IsRun s turns past → Serves config choices first past now
     → RefuseNone choices → IsWellFormed first → HasBytes first name bytes → LaneFirst s past name lane reader r read
     → components (from_directory site path) ≡ name → 1 ≤ facts.read_len
-    → HasEnded (call.FsRead path bound) site facts (r ∷ read) (answer past) ended → Gives ended bytes
+    → HasEnded (call.FsRead path bound) site facts (r ∷ read) (answer past) ended → GivesContent ended bytes
 run_reads s config choices first now turns past name lane reader r read path bytes bound site facts ended run serves none well_formed has t denotes one did =
     lane_reads s config choices first now past name lane reader r read path bytes bound site facts ended
     (runs_are_journals s turns past run) serves none well_formed has t

@@ -12,7 +12,7 @@ use Rattle.session_model.specs.declared.event.Event.TheVariants.{Send, Submit}
 use Rattle.session_model.specs.declared.event.Owner.{Owner}
 use Rattle.session_model.specs.declared.event.Owner.TheVariants as owner
 use Rattle.session_model.specs.Grants.{is_asked_by}
-use Rattle.session_model.specs.Readings.{Asked, asked, asked_at, sent}
+use Rattle.session_model.specs.Readings.{AskedRequest, asked, asked_at, sent}
 use Rattle.session_model.specs.Served.{counted, requests_of, requests_sent}
 use Rattle.session_model.proofs.RequestLaws.{asked_new, asked_other, sent_asked}
 use Rattle.run_laws.proofs.ServedSteps.{HasRequest}
@@ -30,7 +30,7 @@ AreRising (r ∷ requests) = AllAbove r.0 requests × AreRising requests
 
 -- the request at the place is this one
 abbrev pub IsAt : List Entry → ℕ × Request → Type 0
-IsAt past r = (a : Asked) × ((asked_at past r.0 ≡ Some a) × (a.request ≡ r.1))
+IsAt past r = (a : AskedRequest) × ((asked_at past r.0 ≡ Some a) × (a.request ≡ r.1))
 
 -- each stands at its place, below n
 abbrev pub AreKnown : List Entry → ℕ → Own → Type 0

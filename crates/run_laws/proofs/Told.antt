@@ -39,7 +39,7 @@ use Rattle.sftp_model.specs.Answers.{is_handle}
 use Rattle.sftp_model.specs.Numbers.{SSH_FX_OK}
 use Rattle.machine_model.specs.declared.node.Node.{Node}
 use Rattle.machine_model.specs.declared.node.Node.TheVariants as node
-use Rattle.machine_model.specs.Components.{Name, components, is_long, parent_of}
+use Rattle.machine_model.specs.Components.{Name, components, is_long_name, parent_of}
 use Rattle.machine_model.specs.FileTree.{FileTree, is_directory, node_at}
 use Rattle.machine_model.specs.HandleRequests.{Answer, after_open, creates, is_exclusive, truncates}
 use Rattle.machine_model.specs.NameRequests.{after_opendir}
@@ -66,7 +66,7 @@ open_agrees tree h k flags name (Some (node.File file)) =
     either (creates flags && is_exclusive flags) _ _ _ _ (inl refl) (either (truncates flags) _ _ _ _ (inr refl) (inr refl))
 open_agrees tree h k flags name None =
     either (not (creates flags)) _ _ _ _ (inl refl) (either (not (is_directory (node_at tree (parent_of name)))) _ _ _ _
-    (inl refl) (either (is_long name) _ _ _ _ (inl refl) (inr refl)))
+    (inl refl) (either (is_long_name name) _ _ _ _ (inl refl) (inr refl)))
 
 opendir_agrees : (tree : FileTree) (h k : List ℕ) (name : Name) (n : Option Node) → Agrees (after_opendir tree h name n) (after_opendir tree k name n)
 opendir_agrees tree h k name None = inl refl

@@ -4,14 +4,14 @@ use Rattle.std.specs.Prelude.{◌⊎◌}
 use Rattle.sftp_model.specs.declared.reply.Reply.TheVariants as reply
 use Rattle.sftp_model.specs.declared.request.Request.{Request}
 use Rattle.sftp_model.specs.declared.request.Request.TheVariants as request
-use Rattle.machine_model.specs.Changes.{Closes}
+use Rattle.machine_model.specs.Changes.{ClosesHandle}
 use Rattle.machine_model.specs.Pairs.{Has}
 use Rattle.plan_model.specs.Moves.{Own, handle_of}
 use Rattle.session_model.specs.declared.entry.Entry.{Entry}
 use Rattle.session_model.specs.Calls.{Setting}
 use Rattle.session_model.specs.Grants.{is_asked_by, is_close, is_one_of}
 use Rattle.session_model.specs.Journals.{IsJournal}
-use Rattle.session_model.specs.Readings.{Asked, answer, asked, asked_at}
+use Rattle.session_model.specs.Readings.{AskedRequest, answer, asked, asked_at}
 use Rattle.run_laws.specs.Bearing.{Bears, used}
 use Rattle.run_laws.specs.GrantUses.{IsUsed, UseGrants}
 use Rattle.run_laws.specs.Steps.{Step, asked_in}
@@ -32,7 +32,7 @@ pub record MayBeUsed (s : Setting) (past : List Entry) (place g : ℕ) : Type 0 
 -- Each request is said to use a grant that it may use, and each CLOSE the one that it closes.
 pub record UseWell (s : Setting) (past : List Entry) (grant_of : ℕ → Option ℕ) : Type 0 where
   pub may : (place g : ℕ) → place < asked past → grant_of place ≡ Some g → MayBeUsed s past place g
-  pub closes : (place : ℕ) (a : Asked) (h : List ℕ) → asked_at past place ≡ Some a → a.request ≡ request.Close h → grant_of place ≡ used s past place h
+  pub closes : (place : ℕ) (a : AskedRequest) (h : List ℕ) → asked_at past place ≡ Some a → a.request ≡ request.Close h → grant_of place ≡ used s past place h
 
 pub above_has : (n place : ℕ) (requests : Own) → AllAbove n requests → HasRequest requests place → n < place
 above_has n place [] above has = absurd has
@@ -47,7 +47,7 @@ used_behind past n m g grant_of [] above known used = absurd used
 used_behind past n m g grant_of (s ∷ steps) above known (inl here) = (s.place, (above.0, (known.0.0, here)))
 used_behind past n m g grant_of (s ∷ steps) above known (inr more) = used_behind past n m g grant_of steps above.1 known.1 more
 
-closes_is : (r : Request) (h : List ℕ) → Closes r h → r ≡ request.Close h
+closes_is : (r : Request) (h : List ℕ) → ClosesHandle r h → r ≡ request.Close h
 closes_is (request.Close handle) h e = ap (λ (w : List ℕ). request.Close w) e
 closes_is other h e = absurd e
 
@@ -66,7 +66,7 @@ use_grants s past n grant_of seen (first ∷ steps) j le well all = (
       ]),
   λ h closes.
       (let is : first.request ≡ request.Close h = closes_is first.request h closes in
-      let a : Asked = all.known.0.1.0 in
+      let a : AskedRequest = all.known.0.1.0 in
       let request_is : a.request ≡ request.Close h = all.known.0.1.1.1 ∙ is in
       let u = uses_grant s past first.place a h j all.known.0.1.1.0 (subst (λ (r : Request). Bears r h) (sym request_is) refl) in (
         u.grant,

@@ -45,7 +45,7 @@ use Rattle.session_model.specs.declared.event.Owner.TheVariants as owner
 use Rattle.session_model.specs.Calls.{Setting, current, held_site, site_of}
 use Rattle.session_model.specs.Grants.{closed, closes, holds, is_asked_by, is_close, is_grant, is_granted, is_one_of, is_unended_asker, with_closed}
 use Rattle.session_model.specs.Journals.{IsJournal, MayReply}
-use Rattle.session_model.specs.Readings.{Asked, answer, asked, asked_at, ended, is_by, own}
+use Rattle.session_model.specs.Readings.{AskedRequest, answer, asked, asked_at, ended, is_by, own}
 use Rattle.session_model.proofs.CallLaws.{asker_owns, has_place, next_submit, next_take}
 use Rattle.session_model.proofs.ClosedLaws.{gone_loose}
 use Rattle.session_model.proofs.HolderLaws.{slots_owned}
@@ -148,14 +148,14 @@ uses_new s past by id r place h j test here b =
 pub some_is : {X : Type 0} (x y : X) → (◌≡◌ {A = Option X} (Some x) (Some y)) → x ≡ y
 some_is x y e = cc
 
-pub uses_grant : (s : Setting) (past : List Entry) (place : ℕ) (a : Asked) (h : List ℕ) → IsJournal s past
+pub uses_grant : (s : Setting) (past : List Entry) (place : ℕ) (a : AskedRequest) (h : List ℕ) → IsJournal s past
     → asked_at past place ≡ Some a → Bears a.request h → UsesGrant s past place a.by h
 uses_grant s [] place a h j is b = absurd cc
 uses_grant s (entry.Event (Submit by id r) ∷ past) place a h j is b =
     elim (eqb_tells place (asked past)) [
       | inl t ↦ (let same = some_is (record { by = by; id = id; request = r }) a (rw t.0 at is) in
-          subst (λ (o : Owner). UsesGrant s (entry.Event (Submit by id r) ∷ past) place o h) (ap (λ (x : Asked). x.by) same)
-          (uses_new s past by id r place h j t.0 t.1 (subst (λ (q : Request). Bears q h) (sym (ap (λ (x : Asked). x.request) same)) b)))
+          subst (λ (o : Owner). UsesGrant s (entry.Event (Submit by id r) ∷ past) place o h) (ap (λ (x : AskedRequest). x.by) same)
+          (uses_new s past by id r place h j t.0 t.1 (subst (λ (q : Request). Bears q h) (sym (ap (λ (x : AskedRequest). x.request) same)) b)))
       | inr t ↦ (let old = uses_grant s past place a h j.1 (rw t.0 at is) b in
           record {
             grant = old.grant;
@@ -190,20 +190,20 @@ new_closed false x y gone g closes is = absurd cc
 new_closed true x y gone g closes is = ap (λ (w : Option ℕ). is_one_of (w ∷ gone) g) is ∙ or_left (g == g) (is_one_of gone g) (eq-eqb g g refl)
 
 -- a grant of which a request is the CLOSE has one
-pub close_counts : (s : Setting) (past : List Entry) (place g : ℕ) (a : Asked) (h : List ℕ) → asked_at past place
+pub close_counts : (s : Setting) (past : List Entry) (place g : ℕ) (a : AskedRequest) (h : List ℕ) → asked_at past place
     ≡ Some a → is_close a.request ≡ true → used s past place h ≡ Some g → is_one_of (closed s past) g ≡ true
 close_counts s [] place g a h is closes uses = absurd cc
 close_counts s (entry.Event (Submit by id r) ∷ past) place g a h is closes_it uses =
     elim (eqb_tells place (asked past)) [
       | inl t ↦ (let same = some_is (record { by = by; id = id; request = r }) a (rw t.0 at is) in
           new_closed (is_close r) (closes s past (closed s past) by) (used_by s past by h) (closed s past) g
-          (ap (λ (x : Asked). is_close x.request) same ∙ closes_it) (rw t.0 at uses))
+          (ap (λ (x : AskedRequest). is_close x.request) same ∙ closes_it) (rw t.0 at uses))
       | inr t ↦ stays_closed (is_close r) (closes s past (closed s past) by) (closed s past) g
           (close_counts s past place g a h (rw t.0 at is) closes_it (rw t.0 at uses))
     ]
 close_counts s (_ ∷ past) place g a h is closes_it uses = close_counts s past place g a h is closes_it uses
 
-pub asked_there : (past : List Entry) (place : ℕ) (a : Asked) → asked_at past place ≡ Some a → place < asked past
+pub asked_there : (past : List Entry) (place : ℕ) (a : AskedRequest) → asked_at past place ≡ Some a → place < asked past
 asked_there past place a is = elim (cases_lt place (asked past))
     [ inl lt ↦ lt | inr le ↦ absurd (let none : asked_at past place ≡ None = asked_beyond past place le in cc) ]
 
@@ -214,14 +214,14 @@ closed_before s (entry.Event (Submit by id r) ∷ past) place = if place == aske
 closed_before s (_ ∷ past) place = closed_before s past place
 
 -- a grant whose handle a request bears had none then
-pub open_used : (s : Setting) (past : List Entry) (place g : ℕ) (a : Asked) (h : List ℕ) → IsJournal s past
+pub open_used : (s : Setting) (past : List Entry) (place g : ℕ) (a : AskedRequest) (h : List ℕ) → IsJournal s past
     → asked_at past place ≡ Some a → Bears a.request h → used s past place h ≡ Some g
     → is_one_of (closed_before s past place) g ≡ false
 open_used s [] place g a h j is b uses = absurd cc
 open_used s (entry.Event (Submit by id r) ∷ past) place g a h j is b uses =
     elim (eqb_tells place (asked past)) [
       | inl t ↦ rw t.0 (let same = some_is (record { by = by; id = id; request = r }) a (rw t.0 at is) in
-          let x : BearsGrant s past by r h = bears_grant s past by id r h j (subst (λ (w : Request). Bears w h) (sym (ap (λ (y : Asked). y.request) same)) b) in
+          let x : BearsGrant s past by r h = bears_grant s past by id r h j (subst (λ (w : Request). Bears w h) (sym (ap (λ (y : AskedRequest). y.request) same)) b) in
           let both : Some x.grant ≡ Some g = sym x.is ∙ (rw t.0 at uses) in
           subst (λ (k : ℕ). is_one_of (closed s past) k ≡ false) (some_is x.grant g both) x.unclosed)
       | inr t ↦ rw t.0 (open_used s past place g a h j.1 (rw t.0 at is) b (rw t.0 at uses))
@@ -229,7 +229,7 @@ open_used s (entry.Event (Submit by id r) ∷ past) place g a h j is b uses =
 open_used s (_ ∷ past) place g a h j is b uses = open_used s past place g a h j.1 is b uses
 
 -- and the CLOSE of a grant that had none then doesn't stand before
-pub open_last : (s : Setting) (past : List Entry) (p q g : ℕ) (b : Asked) (k : List ℕ) → p < asked past
+pub open_last : (s : Setting) (past : List Entry) (p q g : ℕ) (b : AskedRequest) (k : List ℕ) → p < asked past
     → is_one_of (closed_before s past p) g ≡ false → asked_at past q ≡ Some b → is_close b.request ≡ true
     → used s past q k ≡ Some g → p ≤ q
 open_last s [] p q g b k below unclosed at closes_it uses = absurd cc

@@ -9,7 +9,7 @@ use Rattle.sftp_model.specs.declared.config.ServerConfig.{ServerConfig}
 use Rattle.sftp_model.specs.declared.request.Request.{Request}
 use Rattle.sftp_model.specs.declared.request.Request.TheVariants as request
 use Rattle.machine_model.proofs.LossLaws.{name_has}
-use Rattle.machine_model.specs.Changes.{Closes, IsWellFormed}
+use Rattle.machine_model.specs.Changes.{ClosesHandle, IsWellFormed}
 use Rattle.machine_model.specs.Components.{Name}
 use Rattle.machine_model.specs.FileTree.{FileTree, bytes_of, is_over, opened_at, put, resized, size_of, with_bytes}
 use Rattle.machine_model.specs.HandleRequests.{Answer, done, refuses, writes}
@@ -103,7 +103,7 @@ step_writes config tree name h bytes part offset s well_formed has asks unrefuse
 -- ---- what stays open
 
 pub step_open : (way : Held → Type 0) (config : ServerConfig) (name : Name) (handle bytes : List ℕ) (tree : FileTree)
-    (s : Step) → IsWellFormed tree → Spares tree name s.request → (Closes s.request handle → ⊥)
+    (s : Step) → IsWellFormed tree → Spares tree name s.request → (ClosesHandle s.request handle → ⊥)
     → IsOpenTo way tree name handle bytes → IsOpenTo way (answer_to config tree s).1 name handle bytes
 step_open way config name handle bytes tree s well_formed spares keeps has =
     record {

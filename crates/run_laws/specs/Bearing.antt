@@ -31,7 +31,7 @@ use Rattle.session_model.specs.declared.event.Owner.{Owner}
 use Rattle.session_model.specs.declared.event.Owner.TheVariants as owner
 use Rattle.session_model.specs.Calls.{Setting}
 use Rattle.session_model.specs.Grants.{closed, closes, first_below, holds, is_asked_by, is_close, is_one_of, orphan}
-use Rattle.session_model.specs.Readings.{Asked, answer, asked, asked_at, own}
+use Rattle.session_model.specs.Readings.{AskedRequest, answer, asked, asked_at, own}
 
 -- ---- handles
 
@@ -114,7 +114,7 @@ pub record UsesGrant (s : Setting) (past : List Entry) (place : ℕ) (by : Owner
 
 -- the request at a place bears the handle of the grant
 pub record UsesAt (s : Setting) (past : List Entry) (place g : ℕ) : Type 0 where
-  pub a : Asked
+  pub a : AskedRequest
   pub handle : List ℕ
   pub at : asked_at past place ≡ Some a
   pub bears : Bears a.request handle
@@ -122,7 +122,7 @@ pub record UsesAt (s : Setting) (past : List Entry) (place g : ℕ) : Type 0 whe
 
 -- the request at a place is the CLOSE of the grant
 pub record ClosesAt (s : Setting) (past : List Entry) (place g : ℕ) : Type 0 where
-  pub a : Asked
+  pub a : AskedRequest
   pub handle : List ℕ
   pub at : asked_at past place ≡ Some a
   pub closes : a.request ≡ request.Close handle
@@ -142,7 +142,7 @@ subject (request.Fsync handle) = Some handle
 subject (request.CopyData from from_offset len to to_offset) = Some to
 subject other = None
 
-abbrev pub subject_at : Option Asked → Option (List ℕ)
+abbrev pub subject_at : Option AskedRequest → Option (List ℕ)
 subject_at None = None
 subject_at (Some a) = subject a.request
 

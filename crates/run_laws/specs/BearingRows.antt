@@ -13,7 +13,7 @@ use Rattle.session_model.specs.declared.entry.Entry.{Entry}
 use Rattle.session_model.specs.declared.event.Owner.TheVariants as owner
 use Rattle.session_model.specs.Calls.{Setting}
 use Rattle.session_model.specs.Journals.{IsJournal}
-use Rattle.session_model.specs.Readings.{Asked}
+use Rattle.session_model.specs.Readings.{AskedRequest}
 use Rattle.session_model.specs.RowWords.{end, granted, handle, ok, open_of, send, setting_with, submit, take, to_read}
 use Rattle.run_laws.specs.Bearing.{Bears, BearsGrant, ClosesAt, UsesAt, UsesGrant, grant_at, used, used_now}
 
@@ -121,7 +121,7 @@ read_again_is = (
 
 -- ---- whose handles its requests bear
 
-abbrev asked_for : ℕ → ℕ → ℕ → Request → Asked
+abbrev asked_for : ℕ → ℕ → ℕ → Request → AskedRequest
 asked_for lane call id r = record { by = owner.Call lane call; id = id; request = r }
 
 pub first_read_uses : UsesAt reads_twice read_again 2 0

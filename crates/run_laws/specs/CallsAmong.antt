@@ -10,7 +10,7 @@ use Rattle.sftp_model.specs.declared.request.Request.{Request}
 use Rattle.sftp_model.specs.declared.slot.Facts.{Facts}
 use Rattle.sftp_model.specs.declared.slot.Move.TheVariants.{Done}
 use Rattle.sftp_model.specs.declared.slot.Site.{Site}
-use Rattle.machine_model.specs.Changes.{Closes, Lists}
+use Rattle.machine_model.specs.Changes.{ClosesHandle, Lists}
 use Rattle.machine_model.specs.Components.{Name}
 use Rattle.machine_model.specs.FileTree.{FileTree, bytes_of, node_at, opened_at}
 use Rattle.machine_model.specs.declared.node.Node.{Node}
@@ -47,7 +47,7 @@ Stand config name handle [] tree steps = AllSpare config name tree steps
 Stand config name handle (asked ∷ later) tree [] = ⊥
 Stand config name handle (asked ∷ later) tree (s ∷ steps) =
     ((s.place ≡ asked.0) × (s.request ≡ asked.1) × Stand config name handle later (answer_to config tree s).1 steps)
-    ⊎ (Spares tree name s.request × (Closes s.request handle → ⊥)
+    ⊎ (Spares tree name s.request × (ClosesHandle s.request handle → ⊥)
     × Stand config name handle (asked ∷ later) (answer_to config tree s).1 steps)
 
 -- A call opens a name by the first step, and its further requests bear the handle that this was granted: they stand
@@ -67,7 +67,7 @@ StandListing choices config handle (asked ∷ later) tree [] = ⊥
 StandListing choices config handle (asked ∷ later) tree (s ∷ steps) =
     ((s.place ≡ asked.0) × (s.request ≡ asked.1) × choices s.choice
     × StandListing choices config handle later (answer_to config tree s).1 steps)
-    ⊎ ((Closes s.request handle → ⊥) × (Lists s.request handle → ⊥)
+    ⊎ ((ClosesHandle s.request handle → ⊥) × (Lists s.request handle → ⊥)
     × StandListing choices config handle (asked ∷ later) (answer_to config tree s).1 steps)
 
 -- A call opens a directory by the first step, and its further requests bear the handle that this was granted: they
@@ -103,8 +103,8 @@ pub record IsOpenTo (way : Held → Type 0) (tree : FileTree) (name : Name) (han
 -- ---- what a whole read gives
 
 -- a whole read ends with the bytes, or has reached its bound
-abbrev pub Gives : Outcome → List ℕ → Type 0
-Gives ended bytes = (ended ≡ outcome.Bytes bytes) ⊎ (ended ≡ outcome.GivenUp)
+abbrev pub GivesContent : Outcome → List ℕ → Type 0
+GivesContent ended bytes = (ended ≡ outcome.Bytes bytes) ⊎ (ended ≡ outcome.GivenUp)
 
 -- a request of it was refused by one of these choices
 pub record IsRefusedBy (allowed : Choice → Type 0) (ended : Outcome) : Type 0 where
@@ -115,7 +115,7 @@ pub record IsRefusedBy (allowed : Choice → Type 0) (ended : Outcome) : Type 0 
 
 -- a whole read ends so, unless a request of it was refused by one of these choices
 abbrev pub GivesUnless : (Choice → Type 0) → Outcome → List ℕ → Type 0
-GivesUnless allowed ended bytes = Gives ended bytes ⊎ IsRefusedBy allowed ended
+GivesUnless allowed ended bytes = GivesContent ended bytes ⊎ IsRefusedBy allowed ended
 
 -- what an OPEN to read refuses
 abbrev pub refusal_of : Option Node → ℕ

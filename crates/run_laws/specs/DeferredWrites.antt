@@ -12,14 +12,14 @@ use Rattle.sftp_model.specs.declared.slot.Facts.{Facts}
 use Rattle.sftp_model.specs.declared.slot.FileAt.{FileAt}
 use Rattle.sftp_model.specs.declared.slot.Site.{Site}
 use Rattle.sftp_model.specs.declared.slot.Slot.TheVariants.{Buffered}
-use Rattle.machine_model.specs.Changes.{Closes}
+use Rattle.machine_model.specs.Changes.{ClosesHandle}
 use Rattle.machine_model.specs.FileTree.{FileTree, bytes_of, opened_at, put}
 use Rattle.machine_model.specs.declared.opened.Held.{Held}
 use Rattle.machine_model.specs.declared.opened.Opened.TheVariants as opened
 use Rattle.plan_model.specs.declared.call.Call.TheVariants as call
 use Rattle.plan_model.specs.Moves.{Answers, Own}
 use Rattle.session_model.specs.declared.entry.Entry.{Entry}
-use Rattle.session_model.specs.Readings.{Asked, answer, asked_at, own}
+use Rattle.session_model.specs.Readings.{AskedRequest, answer, asked_at, own}
 use Rattle.run_laws.specs.CallsAmong.{HasEnded, ToWrite}
 use Rattle.run_laws.specs.GrantUses.{WritesBy}
 use Rattle.run_laws.specs.InJournals.{is_of_call}
@@ -62,7 +62,7 @@ StandAlone config file handle (asked ∷ later) tree [] = ⊥
 StandAlone config file handle (asked ∷ later) tree (s ∷ steps) =
     ((s.place ≡ asked.0) × (s.request ≡ asked.1) × WritesBy asked.1 handle
     × StandAlone config file handle later (answer_to config tree s).1 steps)
-    ⊎ ((bytes_of (answer_to config tree s).1 file ≡ bytes_of tree file) × (Closes s.request handle → ⊥)
+    ⊎ ((bytes_of (answer_to config tree s).1 file ≡ bytes_of tree file) × (ClosesHandle s.request handle → ⊥)
     × StandAlone config file handle (asked ∷ later) (answer_to config tree s).1 steps)
 
 -- ---- in journals
@@ -89,20 +89,21 @@ abbrev pub tree_at : ServerConfig → FileTree → List Step → ℕ → FileTre
 tree_at config first steps place = after config first (filter (λ s. nat_lt s.place place) steps)
 
 -- the place behind these requests
-abbrev pub behind : ℕ × Request → Own → ℕ
-behind r [] = r.0 + 1
-behind r (a ∷ later) = behind a later
+abbrev pub place_behind : ℕ × Request → Own → ℕ
+place_behind r [] = r.0 + 1
+place_behind r (a ∷ later) = place_behind a later
 
 -- each request of the call writes by the handle
 abbrev pub AllWriteBy : List Entry → ℕ → ℕ → List ℕ → Type 0
-AllWriteBy past lane k handle = (place : ℕ) (a : Asked) → is_of_call past (lane, k) place ≡ true → asked_at past place
+AllWriteBy past lane k handle = (place : ℕ) (a : AskedRequest) → is_of_call past (lane, k) place ≡ true
+    → asked_at past place
     ≡ Some a → WritesBy a.request handle
 
 -- From the first of these requests of a call up to the last of them each request of others leaves the bytes of the
 -- file.
 abbrev pub OthersLeave : ServerConfig → FileTree → List Entry → List Step → ℕ × ℕ → ℕ × Request → Own → ℕ → Type 0
 OthersLeave config first past steps c w written file =
-    (place : ℕ) → w.0 < place → place < behind w written → is_of_call past c place ≡ false
+    (place : ℕ) → w.0 < place → place < place_behind w written → is_of_call past c place ≡ false
     → bytes_of (tree_at config first steps (place + 1)) file ≡ bytes_of (tree_at config first steps place) file
 
 -- A handle had a file open to be written, and not to append, as the first of a call's requests came. Up to the last of
@@ -122,5 +123,5 @@ pub record WritesAlone (config : ServerConfig) (first : FileTree) (past : List E
 abbrev pub ArePut : (config : ServerConfig) (first : FileTree) (past : List Entry) (steps : List Step) (lane k : ℕ)
     (handle : List ℕ) → WritesAlone config first past steps lane k handle → ℕ → List ℕ → Type 0
 ArePut config first past steps lane k handle t offset bytes =
-    bytes_of (tree_at config first steps (behind t.w t.written)) t.held.file
+    bytes_of (tree_at config first steps (place_behind t.w t.written)) t.held.file
     ≡ put (bytes_of (tree_at config first steps t.w.0) t.held.file) offset bytes

@@ -9,7 +9,7 @@ use Rattle.plan_model.specs.Moves.{Own}
 use Rattle.plan_model.specs.WholePlans.{to_replace}
 use Rattle.session_model.specs.declared.entry.Entry.{Entry}
 use Rattle.session_model.specs.Calls.{Setting}
-use Rattle.session_model.specs.Readings.{Asked, answer, asked_at, own}
+use Rattle.session_model.specs.Readings.{AskedRequest, answer, asked_at, own}
 use Rattle.run_laws.specs.Bearing.{grant_at}
 use Rattle.run_laws.specs.GrantUses.{WritesBy}
 use Rattle.run_laws.specs.InJournals.{IsOfLane, PassesAt, is_of_call}
@@ -41,7 +41,8 @@ pub record LaneAnew (s : Setting) (past : List Entry) (name : Name) (lane opener
   pub came : answer past w.0 ≡ Some (reply.Handle handle)
   pub in_turn : opener < writer
   pub asks : own past lane writer ≡ written
-  pub bears : (place : ℕ) (a : Asked) → is_of_call past (lane, writer) place ≡ true → asked_at past place ≡ Some a
+  pub bears : (place : ℕ) (a : AskedRequest) → is_of_call past (lane, writer) place ≡ true → asked_at past place
+      ≡ Some a
       → WritesBy a.request handle
   pub uses : (place : ℕ) → is_of_call past (lane, writer) place ≡ true → grant_at s past place ≡ Some w.0
   pub others : (place call : ℕ) → opener < call → call ≢ writer → is_of_call past (lane, call) place ≡ true

@@ -8,7 +8,7 @@ use Rattle.sftp_model.specs.declared.flags.OpenFlags.{OpenFlags}
 use Rattle.sftp_model.specs.declared.reply.Reply.TheVariants as reply
 use Rattle.sftp_model.specs.declared.request.Request.{Request}
 use Rattle.sftp_model.specs.declared.request.Request.TheVariants as request
-use Rattle.machine_model.specs.Changes.{Asks, Closes}
+use Rattle.machine_model.specs.Changes.{AsksToOpen, ClosesHandle}
 use Rattle.machine_model.specs.Components.{Name, components}
 use Rattle.machine_model.specs.FileTree.{FileTree}
 use Rattle.machine_model.specs.Pairs.{Has}
@@ -30,7 +30,7 @@ abbrev pub UseGrants : Answers → (ℕ → Option ℕ) → List ℕ → List St
 UseGrants answers grant_of seen [] = Unit {0}
 UseGrants answers grant_of seen (s ∷ steps) =
     ((g : ℕ) → grant_of s.place ≡ Some g → Has seen g)
-    × ((h : List ℕ) → Closes s.request h → (g : ℕ) × ((grant_of s.place ≡ Some g)
+    × ((h : List ℕ) → ClosesHandle s.request h → (g : ℕ) × ((grant_of s.place ≡ Some g)
     × ((handle_of (answers g) ≡ h) × (IsUsed grant_of g steps → ⊥))))
     × (IsUsed grant_of s.place steps → (h : List ℕ) × (answers s.place ≡ Some (reply.Handle h)))
     × UseGrants answers grant_of (s.place ∷ seen) steps
@@ -64,7 +64,7 @@ AllPassBy answers grant_of elsewhere name (s ∷ steps) = PassesBy answers grant
 -- The step avoids the name and doesn't open it; or it is an OPEN of the name, whose grant is no other name's.
 abbrev pub IsOnName : Name → (ℕ → Bool) → Step → Type 0
 IsOnName name elsewhere s =
-    (Avoids name s.request × (Asks s.request name → ⊥))
+    (Avoids name s.request × (AsksToOpen s.request name → ⊥))
     ⊎ ((path : List ℕ) × (flags : OpenFlags) × (attrs : FileAttrs) × (s.request ≡ request.OpenFile path flags attrs)
     × (components path ≡ name) × (elsewhere s.place ≡ false))
 

@@ -39,7 +39,7 @@ use Rattle.session_model.specs.declared.entry.Entry.{Entry}
 use Rattle.session_model.specs.declared.event.Owner.TheVariants as owner
 use Rattle.session_model.specs.Calls.{Setting}
 use Rattle.session_model.specs.Journals.{IsJournal}
-use Rattle.session_model.specs.Readings.{Asked, answer, asked_at}
+use Rattle.session_model.specs.Readings.{AskedRequest, answer, asked_at}
 use Rattle.session_model.proofs.RequestLaws.{asked_beyond}
 use Rattle.session_model.specs.RowWords.{
   end,
@@ -164,15 +164,16 @@ made_then_read_is_unrefused = record {
 
 -- ---- what its requests have to do with the name
 
-abbrev the_open : ℕ → ℕ → ℕ → Request → Asked
+abbrev the_open : ℕ → ℕ → ℕ → Request → AskedRequest
 the_open lane call id r = record { by = owner.Call lane call; id = id; request = r }
 
 -- what stands at a place is this
-is_this : (P : Request → Type 0) (x a : Asked) → (◌≡◌ {A = Option Asked} (Some x) (Some a)) → P x.request → P a.request
-is_this P x a e p = (let same : x ≡ a = cc in subst (λ (w : Asked). P w.request) same p)
+is_this : (P : Request → Type 0) (x a : AskedRequest) → (◌≡◌ {A = Option AskedRequest} (Some x) (Some a)) → P x.request
+    → P a.request
+is_this P x a e p = (let same : x ≡ a = cc in subst (λ (w : AskedRequest). P w.request) same p)
 
 -- nothing stands behind the last request
-nothing_there : (place : ℕ) (a : Asked) → asked_at made_then_read (suc (suc (suc place))) ≡ Some a → ⊥
+nothing_there : (place : ℕ) (a : AskedRequest) → asked_at made_then_read (suc (suc (suc place))) ≡ Some a → ⊥
 nothing_there place a at = (let none : asked_at made_then_read (suc (suc (suc place))) ≡ None =
     asked_beyond made_then_read (suc (suc (suc place))) (omega arith) in cc)
 
@@ -232,7 +233,7 @@ pub lane_keeps_not_off : KeepsOff made_then_read name 0 → ⊥
 unfolding components
 lane_keeps_not_off off = (let both : true ≡ false = (off 0 0 (the_open 0 0 0 makes) refl refl).1 in cc)
 
-own_come_by_opens : (place call : ℕ) (a : Asked) → asked_at made_then_read place ≡ Some a
+own_come_by_opens : (place call : ℕ) (a : AskedRequest) → asked_at made_then_read place ≡ Some a
     → is_of_call made_then_read (0, call) place ≡ true → is_open_of name a.request ≡ false → Avoids name a.request
 own_come_by_opens zero call a at mine plain = come_by_opens 0 a (omega arith) at plain
 own_come_by_opens (suc zero) call a at mine plain = come_by_opens 1 a (omega arith) at plain

@@ -7,7 +7,7 @@ use Rattle.plan_model.specs.Moves.{Own}
 use Rattle.session_model.specs.declared.entry.Entry.{Entry}
 use Rattle.session_model.specs.Calls.{Setting}
 use Rattle.session_model.specs.Grants.{is_asked_by}
-use Rattle.session_model.specs.Readings.{Asked, asked_at, own, sent}
+use Rattle.session_model.specs.Readings.{AskedRequest, asked_at, own, sent}
 use Rattle.run_laws.specs.Bearing.{used}
 use Rattle.run_laws.specs.GrantUses.{WritesBy}
 use Rattle.run_laws.specs.Sparing.{Avoids}
@@ -19,22 +19,23 @@ abbrev pub is_open_of : Name → Request → Bool
 is_open_of name (request.OpenFile path flags attrs) = same_name (components path) name
 is_open_of name other = false
 
-abbrev pub opens_at : Name → Option Asked → Bool
+abbrev pub opens_at : Name → Option AskedRequest → Bool
 opens_at name None = false
 opens_at name (Some a) = is_open_of name a.request
 
 -- The request at a place passes the name by: it avoids the name, and doesn't write by the handle that an OPEN of the
 -- name was granted.
 pub record PassesAt (s : Setting) (past : List Entry) (name : Name) (place : ℕ) : Type 0 where
-  pub avoids : (a : Asked) → asked_at past place ≡ Some a → Avoids name a.request
-  pub writes : (a : Asked) (h : List ℕ) (grant : ℕ) → asked_at past place ≡ Some a → WritesBy a.request h
+  pub avoids : (a : AskedRequest) → asked_at past place ≡ Some a → Avoids name a.request
+  pub writes : (a : AskedRequest) (h : List ℕ) (grant : ℕ) → asked_at past place ≡ Some a → WritesBy a.request h
       → used s past place h ≡ Some grant → opens_at name (asked_at past grant) ≡ false
 
 -- ---- requests
 
 -- the requests below a place come to the name by OPENs of it: each other one avoids it
 abbrev pub ComeByOpens : List Entry → Name → ℕ → Type 0
-ComeByOpens past name n = (place : ℕ) (a : Asked) → place < n → asked_at past place ≡ Some a → is_open_of name a.request
+ComeByOpens past name n = (place : ℕ) (a : AskedRequest) → place < n → asked_at past place ≡ Some a
+    → is_open_of name a.request
     ≡ false → Avoids name a.request
 
 -- each of these requests stands below a place
@@ -81,13 +82,14 @@ pub record AloneOn (s : Setting) (past : List Entry) (name : Name) (n : ℕ) (on
 -- the lane keeps off the name: each request of its calls avoids it and is no OPEN of it
 abbrev pub KeepsOff : List Entry → Name → ℕ → Type 0
 KeepsOff past name lane =
-    (place call : ℕ) (a : Asked) → asked_at past place ≡ Some a → is_of_call past (lane, call) place ≡ true
+    (place call : ℕ) (a : AskedRequest) → asked_at past place ≡ Some a → is_of_call past (lane, call) place ≡ true
     → Avoids name a.request × (is_open_of name a.request ≡ false)
 
 -- A name that is one lane's: all other lanes keep off it, and the lane's own requests come to it by OPENs of it.
 pub record IsOfLane (past : List Entry) (name : Name) (lane : ℕ) : Type 0 where
   pub others : (other : ℕ) → other ≢ lane → KeepsOff past name other
-  pub by_opens : (place call : ℕ) (a : Asked) → asked_at past place ≡ Some a → is_of_call past (lane, call) place ≡ true
+  pub by_opens : (place call : ℕ) (a : AskedRequest) → asked_at past place ≡ Some a → is_of_call past (lane, call) place
+      ≡ true
       → is_open_of name a.request ≡ false → Avoids name a.request
 
 -- Two calls of a lane to whom the name is, by their numbers, with their requests. What calls between the two ask passes

@@ -15,7 +15,7 @@ use Rattle.plan_model.specs.PathPlans.{from_directory}
 use Rattle.session_model.specs.declared.entry.Entry.{Entry}
 use Rattle.session_model.specs.declared.event.Owner.TheVariants as owner
 use Rattle.session_model.specs.Calls.{Setting, site_of}
-use Rattle.session_model.specs.Readings.{Asked, asked_at, ended}
+use Rattle.session_model.specs.Readings.{AskedRequest, asked_at, ended}
 use Rattle.session_model.specs.Served.{ServesAll, requests_sent}
 use Rattle.run_laws.specs.Steps.{FeignNoEnd}
 
@@ -46,7 +46,7 @@ site_at s (e ∷ past) lane k = if ended (e ∷ past) lane == k then site_of s (
 pub record IsListed (s : Setting) (config : ServerConfig) (choices : List Choice) (first : FileTree) (past : List Entry)
     (lane k : ℕ) (path : List ℕ) (names : List NameEntry) : Type 0 where
   pub place : ℕ
-  pub asked : Asked
+  pub asked : AskedRequest
   pub stands : asked_at past place ≡ Some asked
   pub by : asked.by ≡ owner.Call lane k
   pub asks : asked.request ≡ request.Opendir (from_directory (site_at s past lane k) path)

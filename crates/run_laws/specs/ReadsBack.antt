@@ -27,7 +27,7 @@ use Rattle.plan_model.specs.declared.call.Call.{Call}
 use Rattle.plan_model.specs.declared.call.Call.TheVariants as call
 use Rattle.plan_model.specs.declared.call.Lane.{Lane}
 use Rattle.session_model.specs.Calls.{calls_of}
-use Rattle.run_laws.specs.CallsAmong.{Gives, HasNoFile, refusal_of}
+use Rattle.run_laws.specs.CallsAmong.{GivesContent, HasNoFile, refusal_of}
 use Rattle.run_laws.specs.Steps.{FeignNoEnd, HasBytes, RefuseNone}
 use Rattle.run_laws.specs.NameCalls.{all_keep_off, may_own, none_writes}
 use Rattle.run_laws.specs.RoundTrips.{passes_length}
@@ -56,7 +56,8 @@ pub record IsAlone (lanes : List Lane) (name : Name) (lane : ℕ) : Type 0 where
 
 -- A call of a lane reads the name's file as a whole, by a path that fits a frame, and it ended so, and wasn't
 -- cancelled.
-pub record Reads (lanes : List Lane) (outcomes : List (List Outcome)) (name : Name) (lane reader : ℕ) (ended : Outcome)
+pub record ReadsNamed (lanes : List Lane) (outcomes : List (List Outcome)) (name : Name) (lane reader : ℕ)
+    (ended : Outcome)
     : Type 0 where
   pub path : List ℕ
   pub bound : ℕ
@@ -96,15 +97,15 @@ pub record ReadsBack (lanes : List Lane) (choices : List Choice) (tree : FileTre
     Type 0 where
   pub written : (name : Name) (lane writer reader : ℕ) (bytes : List ℕ) (ended : Outcome) → RefuseNone choices
       → IsAlone lanes name lane
-      → WritesLast lanes outcomes name lane writer reader bytes → Reads lanes outcomes name lane reader ended
-      → Gives ended bytes
+      → WritesLast lanes outcomes name lane writer reader bytes → ReadsNamed lanes outcomes name lane reader ended
+      → GivesContent ended bytes
   pub there : (name : Name) (lane reader : ℕ) (bytes : List ℕ) (ended : Outcome) → RefuseNone choices
       → IsAlone lanes name lane
       → none_writes name (take reader (calls_in lanes lane)) ≡ true → HasBytes tree name bytes
-      → Reads lanes outcomes name lane reader ended → Gives ended bytes
+      → ReadsNamed lanes outcomes name lane reader ended → GivesContent ended bytes
   pub absent : (name : Name) (lane reader : ℕ) (ended : Outcome) → RefuseNone choices → IsAlone lanes name lane
       → none_writes name (take reader (calls_in lanes lane)) ≡ true → HasNoFile (node_at tree name)
-      → Reads lanes outcomes name lane reader ended
+      → ReadsNamed lanes outcomes name lane reader ended
       → ended ≡ outcome.Refused (error.SftpError (refusal_of (node_at tree name)) [] [])
   pub got_written : (name : Name) (lane writer reader : ℕ) (bytes got : List ℕ) → FeignNoEnd choices
       → IsAlone lanes name lane

@@ -17,7 +17,7 @@ use Rattle.run_laws.specs.ReadBackRows.{name}
 use Rattle.run_laws.specs.Steps.{HasBytes, RefuseNone}
 use Rattle.run_laws.specs.Flushes.{FlushNumbers, FlushesLast, IsAloneBut, is_one_of_four}
 use Rattle.run_laws.specs.NameCalls.{all_keep_off, may_own}
-use Rattle.run_laws.specs.ReadsBack.{GotBytes, IsAlone, Reads, WritesLast, call_in, calls_in}
+use Rattle.run_laws.specs.ReadsBack.{GotBytes, IsAlone, ReadsNamed, WritesLast, call_in, calls_in}
 use Rattle.run_laws.specs.RoundTripRows.{left_there}
 use Rattle.run_laws.specs.RoundTripRun.{no_such_file, writes_then_reads, written_then_read}
 
@@ -49,7 +49,7 @@ pub writes_last : WritesLast lanes outcomes name 0 0 1 (codes "hi")
 unfolding components
 writes_last = record { path = codes "a"; is = refl; denotes = refl; ends = refl; earlier = omega arith; last = refl }
 
-pub reads : Reads lanes outcomes name 0 1 (outcome.Bytes (codes "hi"))
+pub reads : ReadsNamed lanes outcomes name 0 1 (outcome.Bytes (codes "hi"))
 unfolding components request_body string uint32 attributes
 reads = record {
   path = codes "a";

@@ -5,9 +5,9 @@ use Rattle.sftp_model.specs.declared.config.Choice.{Choice}
 use Rattle.sftp_model.specs.declared.outcome.Outcome.{Outcome}
 use Rattle.machine_model.specs.Components.{Name}
 use Rattle.plan_model.specs.declared.call.Lane.{Lane}
-use Rattle.run_laws.specs.CallsAmong.{Gives}
+use Rattle.run_laws.specs.CallsAmong.{GivesContent}
 use Rattle.run_laws.specs.Flushes.{FlushNumbers, FlushesLast, IsAloneBut}
-use Rattle.run_laws.specs.ReadsBack.{GotBytes, Reads}
+use Rattle.run_laws.specs.ReadsBack.{GotBytes, ReadsNamed}
 use Rattle.run_laws.specs.Steps.{FeignNoEnd, RefuseNone}
 
 -- What a whole run over a file machine gives, by the outcomes of its lanes, where a name is one lane's alone but for
@@ -18,8 +18,8 @@ pub record ReadsFlushed (lanes : List Lane) (choices : List Choice) (outcomes : 
   pub flushed : (name : Name) (lane : ℕ) (n : FlushNumbers) (reader : ℕ) (bytes : List ℕ) (ended : Outcome)
       → RefuseNone choices
       → IsAloneBut lanes name lane n
-      → FlushesLast lanes outcomes name lane n reader bytes → Reads lanes outcomes name lane reader ended
-      → Gives ended bytes
+      → FlushesLast lanes outcomes name lane n reader bytes → ReadsNamed lanes outcomes name lane reader ended
+      → GivesContent ended bytes
   pub got_flushed : (name : Name) (lane : ℕ) (n : FlushNumbers) (reader : ℕ) (bytes got : List ℕ) → FeignNoEnd choices
       → IsAloneBut lanes name lane n
       → FlushesLast lanes outcomes name lane n reader bytes → GotBytes lanes outcomes name lane reader got → got ≡ bytes

@@ -13,7 +13,7 @@ use Rattle.machine_model.specs.RowWords.{config}
 use Rattle.machine_model.specs.declared.node.Node.TheVariants as node
 use Rattle.session_model.specs.declared.event.Owner.TheVariants as owner
 use Rattle.session_model.specs.Calls.{lane_calls}
-use Rattle.session_model.specs.Readings.{Asked, asked_at}
+use Rattle.session_model.specs.Readings.{AskedRequest, asked_at}
 use Rattle.session_model.specs.RowWords.{open_of}
 use Rattle.session_model.specs.Runs.{IsRun}
 use Rattle.session_model.specs.Served.{Serves}
@@ -206,10 +206,11 @@ is_served = (
 -- ---- the lane
 
 -- what stands at a place is this
-is_this : (P : Request → Type 0) (x a : Asked) → (◌≡◌ {A = Option Asked} (Some x) (Some a)) → P x.request → P a.request
-is_this P x a e p = (let same : x ≡ a = cc in subst (λ (w : Asked). P w.request) same p)
+is_this : (P : Request → Type 0) (x a : AskedRequest) → (◌≡◌ {A = Option AskedRequest} (Some x) (Some a)) → P x.request
+    → P a.request
+is_this P x a e p = (let same : x ≡ a = cc in subst (λ (w : AskedRequest). P w.request) same p)
 
-abbrev last_asked : Asked
+abbrev last_asked : AskedRequest
 last_asked = record { by = owner.Call 1 0; id = 0; request = open_of (codes "b") }
 
 other_avoids : Avoids name (open_of (codes "b"))

@@ -10,7 +10,7 @@ ghost use Rattle.session_model.specs.declared.event.Event.TheVariants.{Submit};
 ghost use Rattle.session_model.specs.declared.event.Owner.{Owner};
 ghost use Rattle.session_model.specs.Calls.{Setting};
 ghost use Rattle.session_model.specs.Journals.{IsJournal};
-ghost use Rattle.session_model.specs.Readings.{Asked, answer, asked_at, own, sent};
+ghost use Rattle.session_model.specs.Readings.{AskedRequest, answer, asked_at, own, sent};
 ghost use Rattle.session_model.specs.Runs.{IsRun};
 ghost use Rattle.session_model.specs.declared.turn.Turn.{Turn};
 ghost use Rattle.run_laws.specs.InJournals.{AreBelow};
@@ -28,7 +28,7 @@ pub fn requests_bear_held_handles()
 /// In a run so far each request that bears a handle bears that of an earlier request that this HANDLE answered, and which
 /// a call of its lane asked.
 pub fn handles_are_those_of_grants()
-    ensures { (s : Setting) (past : List Entry) (place : ℕ) (a : Asked) (handle : List ℕ) → IsJournal s past
+    ensures { (s : Setting) (past : List Entry) (place : ℕ) (a : AskedRequest) (handle : List ℕ) → IsJournal s past
         → asked_at past place ≡ Some a → Bears a.request handle → UsesGrant s past place a.by handle }
 {}
 

@@ -31,7 +31,7 @@ ghost use Rattle.session_model.specs.Calls.{Setting, current, site_of};
 ghost use Rattle.session_model.specs.Journals.{IsJournal};
 ghost use Rattle.session_model.specs.Readings.{answer, ended, last_cancel, own};
 ghost use Rattle.session_model.specs.Served.{Serves};
-ghost use Rattle.run_laws.specs.CallsAmong.{Gives, HasEnded, HasNoFile, StandsOnDirectory, StandsOnName, ToWrite, asked_by, refusal_of};
+ghost use Rattle.run_laws.specs.CallsAmong.{GivesContent, HasEnded, HasNoFile, StandsOnDirectory, StandsOnName, ToWrite, asked_by, refusal_of};
 ghost use Rattle.run_laws.specs.DeferredWrites.{AreWrites, AreWritten, StandAlone, carried, places};
 ghost use Rattle.run_laws.specs.GrantUses.{AllPassBy, IsCallOn, IsRunOn};
 ghost use Rattle.run_laws.specs.Steps.{Step, after, AllSpare, AreServed, Choose, FeignsNoEnd, HasBytes, IsAnyChoice, RefusesNone, RunOf};
@@ -104,7 +104,7 @@ pub fn whole_reads_give_the_file()
         → components (from_directory site path) ≡ name
         → StandsOnName config answers name later tree first steps
         → HasEnded (call.FsRead path bound) site facts (asked_by first ∷ later) answers ended
-        → Gives ended bytes }
+        → GivesContent ended bytes }
     ensures refused { (config : ServerConfig) (answers : Answers) (name : Name) (path : List ℕ) (bound : ℕ)
         (site : Site) (facts : Facts) (later : Own) (ended : Outcome) (tree : FileTree) (first : Step)
         (steps : List Step) → Choose RefusesNone (first ∷ steps) → HasNoFile (node_at tree name)
@@ -130,7 +130,7 @@ pub fn writes_are_read_back()
         → components (from_directory read_site read_path) ≡ name → 1 ≤ read_facts.read_len
         → IsCallOn answers grant_of elsewhere name read r rest
         → HasEnded (call.FsRead read_path bound) read_site read_facts (asked_by r ∷ read) answers ended
-        → Gives ended bytes }
+        → GivesContent ended bytes }
 {}
 
 /// A whole read before which each step of the run passes its name by gives what the name had at first: the bytes of its
@@ -144,7 +144,7 @@ pub fn reads_give_what_was_there()
         → AllPassBy answers grant_of elsewhere name before
         → components (from_directory site path) ≡ name → 1 ≤ facts.read_len
         → IsCallOn answers grant_of elsewhere name read r rest
-        → HasEnded (call.FsRead path bound) site facts (asked_by r ∷ read) answers ended → Gives ended bytes }
+        → HasEnded (call.FsRead path bound) site facts (asked_by r ∷ read) answers ended → GivesContent ended bytes }
     ensures refused { (config : ServerConfig) (answers : Answers) (grant_of : ℕ → Option ℕ) (elsewhere : ℕ → Bool)
         (name : Name) (tree : FileTree) (before rest : List Step) (r : Step) (path : List ℕ) (bound : ℕ)
         (site : Site) (facts : Facts) (read : Own) (ended : Outcome)

@@ -20,7 +20,7 @@ ghost use Rattle.session_model.specs.Runs.{IsRun};
 ghost use Rattle.session_model.specs.Served.{Serves};
 ghost use Rattle.session_model.specs.declared.turn.Turn.{Turn};
 ghost use Rattle.run_laws.specs.Bearing.{grant_at};
-ghost use Rattle.run_laws.specs.CallsAmong.{Gives, HasEnded, HasNoFile, refusal_of};
+ghost use Rattle.run_laws.specs.CallsAmong.{GivesContent, HasEnded, HasNoFile, refusal_of};
 ghost use Rattle.run_laws.specs.DeferredWrites.{AllWriteBy, ArePut, IsFlushedWrite, WritesAlone};
 ghost use Rattle.run_laws.specs.FilesLeft.{IsUntouched, LaneAnew, LaneLast, LaneNever};
 ghost use Rattle.run_laws.specs.GrantUses.{IsRunOn};
@@ -47,7 +47,7 @@ pub fn served_writes_are_read_back()
         (name : Name) (n : ℕ) (writer reader : ℕ × ℕ) (w r : ℕ × Request) (written read : Own) (bytes : List ℕ)
         (ended : Outcome) → IsJournal s past → ServesUnrefused config choices first past now
         → InTurn s past name n writer w written reader r read → IsWholeWrite past name (w ∷ written) bytes
-        → IsWholeRead past name (r ∷ read) ended → Gives ended bytes }
+        → IsWholeRead past name (r ∷ read) ended → GivesContent ended bytes }
 {}
 
 /// In a journal that a file machine serves whose choices refuse nothing, a call read a name as a whole, and each request
@@ -58,7 +58,7 @@ pub fn served_reads_give_what_was_there()
         (past : List Entry) (name : Name) (n : ℕ) (reader : ℕ × ℕ) (r : ℕ × Request) (read : Own) (bytes : List ℕ)
         (ended : Outcome) → IsJournal s past → ServesUnrefused config choices first past now
         → HasBytes first name bytes → AloneOn s past name n reader r read → IsWholeRead past name (r ∷ read) ended
-        → Gives ended bytes }
+        → GivesContent ended bytes }
     ensures refused { (s : Setting) (config : ServerConfig) (choices : List Choice) (first now : FileTree)
         (past : List Entry) (name : Name) (n : ℕ) (reader : ℕ × ℕ) (r : ℕ × Request) (read : Own) (ended : Outcome)
         → IsJournal s past → ServesUnrefused config choices first past now → HasNoFile (node_at first name)
@@ -82,7 +82,7 @@ pub fn lanes_read_what_they_wrote()
         (name : Name) (lane writer reader : ℕ) (w r : ℕ × Request) (written read : Own) (bytes : List ℕ)
         (ended : Outcome) → IsJournal s past → ServesUnrefused config choices first past now
         → LaneInTurn s past name lane writer w written reader r read → AreBelow (sent past) (r ∷ read)
-        → IsWholeWrite past name (w ∷ written) bytes → IsWholeRead past name (r ∷ read) ended → Gives ended bytes }
+        → IsWholeWrite past name (w ∷ written) bytes → IsWholeRead past name (r ∷ read) ended → GivesContent ended bytes }
 {}
 
 /// A lane reads what was there. In a journal that a file machine serves whose choices refuse nothing, a call of a lane
@@ -93,7 +93,7 @@ pub fn lanes_read_what_was_there()
         (past : List Entry) (name : Name) (lane reader : ℕ) (r : ℕ × Request) (read : Own) (bytes : List ℕ)
         (ended : Outcome) → IsJournal s past → ServesUnrefused config choices first past now
         → HasBytes first name bytes → LaneFirst s past name lane reader r read → AreBelow (sent past) (r ∷ read)
-        → IsWholeRead past name (r ∷ read) ended → Gives ended bytes }
+        → IsWholeRead past name (r ∷ read) ended → GivesContent ended bytes }
     ensures refused { (s : Setting) (config : ServerConfig) (choices : List Choice) (first now : FileTree)
         (past : List Entry) (name : Name) (lane reader : ℕ) (r : ℕ × Request) (read : Own) (ended : Outcome)
         → IsJournal s past → ServesUnrefused config choices first past now → HasNoFile (node_at first name)
@@ -111,7 +111,7 @@ pub fn runs_read_what_they_wrote()
         (past : List Entry) (name : Name) (lane writer reader : ℕ) (w r : ℕ × Request) (written read : Own)
         (bytes : List ℕ) (ended : Outcome) → IsRun s turns past → ServesUnrefused config choices first past now
         → LaneInTurn s past name lane writer w written reader r read → IsWholeWrite past name (w ∷ written) bytes
-        → IsWholeRead past name (r ∷ read) ended → Gives ended bytes }
+        → IsWholeRead past name (r ∷ read) ended → GivesContent ended bytes }
 {}
 
 /// In a whole run that a file machine serves whose choices refuse nothing, a call of a lane read a name as a whole and
@@ -123,7 +123,7 @@ pub fn runs_read_what_was_there()
         (turns : List Turn) (past : List Entry) (name : Name) (lane reader : ℕ) (r : ℕ × Request) (read : Own)
         (bytes : List ℕ) (ended : Outcome) → IsRun s turns past → ServesUnrefused config choices first past now
         → HasBytes first name bytes → LaneFirst s past name lane reader r read
-        → IsWholeRead past name (r ∷ read) ended → Gives ended bytes }
+        → IsWholeRead past name (r ∷ read) ended → GivesContent ended bytes }
     ensures refused { (s : Setting) (config : ServerConfig) (choices : List Choice) (first now : FileTree)
         (turns : List Turn) (past : List Entry) (name : Name) (lane reader : ℕ) (r : ℕ × Request) (read : Own)
         (ended : Outcome) → IsRun s turns past → ServesUnrefused config choices first past now

@@ -18,7 +18,7 @@ ghost use Rattle.session_model.specs.Readings.{outcomes_below};
 ghost use Rattle.session_model.specs.Runs.{IsRun};
 ghost use Rattle.session_model.specs.Served.{Serves};
 ghost use Rattle.session_model.specs.Settings.{setting_of};
-ghost use Rattle.run_laws.specs.CallsAmong.{Gives, HasNoFile, refusal_of};
+ghost use Rattle.run_laws.specs.CallsAmong.{GivesContent, HasNoFile, refusal_of};
 ghost use Rattle.run_laws.specs.InJournals.{KeepsOff};
 ghost use Rattle.run_laws.specs.Steps.{HasBytes, RefuseNone};
 ghost use Rattle.run_laws.specs.KeepsFiles.{KeepsFiles};
@@ -44,7 +44,7 @@ pub fn lanes_read_back_what_they_wrote()
         (config : ServerConfig) (choices : List Choice) (tree left : FileTree) (name : Name) (lane writer reader : ℕ) (bytes : List ℕ) (ended : Outcome)
         → IsRun s turns past → 1 ≤ s.facts.read_len → IsWellFormed tree → Serves config choices tree past left
         → RefuseNone choices → IsOneLanes s past name lane
-        → HasWritten s past name lane writer reader bytes → HasRead s past name lane reader ended → Gives ended bytes }
+        → HasWritten s past name lane writer reader bytes → HasRead s past name lane reader ended → GivesContent ended bytes }
 {}
 
 /// In such a run, a read of the lane before which no call of it wrote the name's file ended with what the name had before
@@ -54,7 +54,7 @@ pub fn lanes_read_back_what_was_there()
         (config : ServerConfig) (choices : List Choice) (tree left : FileTree) (name : Name) (lane reader : ℕ) (bytes : List ℕ) (ended : Outcome)
         → IsRun s turns past → 1 ≤ s.facts.read_len → IsWellFormed tree → Serves config choices tree past left
         → RefuseNone choices → IsOneLanes s past name lane → NoneWrites s past name lane reader
-        → HasBytes tree name bytes → HasRead s past name lane reader ended → Gives ended bytes }
+        → HasBytes tree name bytes → HasRead s past name lane reader ended → GivesContent ended bytes }
     ensures refused { (s : Setting) (turns : List Turn) (past : List Entry)
         (config : ServerConfig) (choices : List Choice) (tree left : FileTree) (name : Name) (lane reader : ℕ) (ended : Outcome)
         → IsRun s turns past → 1 ≤ s.facts.read_len → IsWellFormed tree → Serves config choices tree past left

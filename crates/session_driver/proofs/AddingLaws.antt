@@ -7,17 +7,17 @@ use Rattle.sftp_link.specs.Views.{LinkView}
 use Rattle.plan_model.specs.declared.call.Call.{Call}
 use Rattle.session_model.specs.Turns.{Stage}
 use Rattle.session_driver.specs.Adding.{AddsTo, added_to, call_of}
-use Rattle.session_driver.specs.Logs.{Keeps}
+use Rattle.session_driver.specs.Logs.{KeepsTrace}
 use Rattle.session_driver.specs.Ongoing.{At, EndsLane, IsReady, Nothing, Ongoing, Part, at, lane_of}
 use Rattle.session_driver.specs.RunsSoFar.{RoundsSoFar}
-use Rattle.session_driver.specs.Session.{IsUnmoved, Seen, Stays}
+use Rattle.session_driver.specs.Session.{IsUnmoved, Seen, StaysInPhase}
 use Rattle.session_driver.proofs.Joining.{join, quiet, stays_hold, stays_self}
 
 abbrev pub adding : ℕ → Call → Part
 adding lane call = record { whole = λ s a b. b ≡ added_to a lane call; so_far = Nothing }
 
-add_keeps : (lane : ℕ) (call : Call) (a b : Stage) → b ≡ added_to a lane call → (log : List Piece) → Keeps a.past b.past log log
-add_keeps lane call a b is log = subst (λ (w : Stage). Keeps a.past w.past log log) (sym is) (λ hello first shown. shown)
+add_keeps : (lane : ℕ) (call : Call) (a b : Stage) → b ≡ added_to a lane call → (log : List Piece) → KeepsTrace a.past b.past log log
+add_keeps lane call a b is log = subst (λ (w : Stage). KeepsTrace a.past w.past log log) (sym is) (λ hello first shown. shown)
 
 pub add_on : {S : Type 0} (lane : ℕ) (call : Call) (a b : Seen) (x : LinkView S) → AddsTo lane call a b
     → IsReady (at a x) → Ongoing (adding lane call) (at a x) (at b x) (Ok tt)
@@ -33,6 +33,6 @@ call_is lane call {a = a} {b = b} {c = c} added went =
 -- there was no memory for the call
 pub unmoved_self : (a b : Seen) → b ≡ a → IsUnmoved a b
 unmoved_self a b same = record {
-  holds = stays_hold a b (subst (λ (w : Seen). Stays a w) (sym same) (stays_self a));
+  holds = stays_hold a b (subst (λ (w : Seen). StaysInPhase a w) (sym same) (stays_self a));
   past = ap (λ (w : Seen). w.stage.past) same;
 }

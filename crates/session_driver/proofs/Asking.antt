@@ -20,7 +20,7 @@ use Rattle.sftp_model.specs.ReplyReadings.{reply_at}
 use Rattle.sftp_link.specs.Told.{Told, GotAll}
 use Rattle.sftp_link.specs.Views.{LinkView}
 use Rattle.session_exchange.specs.Causes.{Caused, SentBy}
-use Rattle.session_driver.specs.Logs.{Keeps, Showing, by_send, even}
+use Rattle.session_driver.specs.Logs.{KeepsTrace, Showing, by_send, even}
 use Rattle.session_driver.specs.Ongoing.{HasStopped, MayAsk, StoppedAs, StoppedOpen, at}
 use Rattle.session_exchange.specs.Reading.{IsFramePrefix, ReadFails}
 use Rattle.session_driver.specs.Refusals.{refuses}
@@ -158,7 +158,7 @@ module _ {S : Type 0} where
 
   -- it was sent
   asked_on : (a b : Seen) (x y : LinkView S) (bytes : List ℕ) (u : Unit {0}) → IsQueried a b → bytes ≡ unsent_bytes a.stage.past
-      → SentBy bytes x y (Ok u) → Told (Keeps a.stage.past b.stage.past) x.log y.log
+      → SentBy bytes x y (Ok u) → Told (KeepsTrace a.stage.past b.stage.past) x.log y.log
   asked_on a b x y bytes u is same by = keeps_sent a.stage.past b.stage.past bytes x.log y.log (ap (λ (v : Seen). v.stage.past) is) same by.log
 
   -- and no reply came

@@ -42,7 +42,7 @@ use Rattle.sftp_model.specs.declared.reply.Reply.TheVariants as reply
 use Rattle.sftp_model.specs.declared.request.Request.TheVariants as request
 use Rattle.sftp_model.specs.declared.slot.Move.{Move}
 use Rattle.sftp_model.specs.Answers.{allows, may_answer}
-use Rattle.sftp_model.specs.ReplyReadings.{limits_at}
+use Rattle.sftp_model.specs.ReplyReadings.{limits_at, limits_in}
 use Rattle.sftp_core.specs.declared.errors.TakeError.{TakeError}
 use Rattle.sftp_core.specs.declared.errors.TakeError.TheVariants as take
 use Rattle.sftp_model.specs.declared.options.SftpOptions.{SftpOptions}
@@ -59,26 +59,8 @@ use Rattle.sftp_core.proofs.Counts.{count_len}
 use Rattle.sftp_core.specs.Table.{Places, all_sent, brings, count, is_sent, is_waiting, sent_place}
 use Rattle.sftp_core.proofs.Sent.{get_sent}
 use Rattle.sftp_core.proofs.Elsewhere.{put_here, put_elsewhere, gone_here, gone_elsewhere}
-use Rattle.sftp_core.specs.Take.{
-  Read,
-  TakenFrom,
-  greeted,
-  taken_as,
-  limits_in,
-  opened,
-  wrong_at,
-  wrong_limits,
-  wrong_content,
-  or_else,
-  take_refusal,
-  Refused,
-  First,
-  IsFirst,
-  IsTakeError,
-  fault_of,
-  taken,
-  take_leaves,
-}
+use Rattle.ssh_encoding.specs.Writing.{or_else}
+use Rattle.sftp_core.specs.Take.{Read, TakenFrom, greeted, taken_as, opened, wrong_at, wrong_limits, wrong_content, take_refusal, Refused, First, IsFirst, IsTakeError, fault_of, taken, take_leaves}
 use Rattle.sftp_core.specs.declared.info.Info.{Info}
 use Rattle.sftp_model.specs.declared.error.Fault.{Fault}
 use Rattle.session_driver.specs.Refusals.{refuses, refuses_reply, awaited_at, sent_at}

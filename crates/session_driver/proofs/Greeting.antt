@@ -22,20 +22,20 @@ use Rattle.session_driver.specs.Ongoing.{StoppedAtHello, at}
 use Rattle.session_exchange.specs.Reading.{IsFramePrefix, ReadFails}
 use Rattle.session_driver.specs.Refusals.{refuses_hello}
 use Rattle.session_exchange.specs.Refusals.{error_of}
-use Rattle.session_driver.specs.Session.{Holds, HasRefused, IsFresh, IsGreeted, IsQueried, IsUnmoved, Seen}
+use Rattle.session_driver.specs.Session.{KeepsMade, HasRefused, IsFresh, IsGreeted, IsQueried, IsUnmoved, Seen}
 use Rattle.session_driver.proofs.Joining.{holds_on}
 use Rattle.session_exchange.proofs.Joining.{end_told}
 use Rattle.session_driver.proofs.Stopping.{hello_refused, hello_unbegun, hello_unread, hello_unsent, refused_ahead}
 
 -- ---- what the opening leaves of a session
 
-opening_holds : (a b : Seen) (phase : Phase) (stage : Stage) → b ≡ record a { phase = phase; stage = stage; work = b.work } → Holds a b
+opening_holds : (a b : Seen) (phase : Phase) (stage : Stage) → b ≡ record a { phase = phase; stage = stage; work = b.work } → KeepsMade a b
 opening_holds a b phase stage e = e ∙ (λ i. record a { phase = (sym e i).phase; stage = (sym e i).stage; work = b.work })
 
-pub greeted_holds : (a b : Seen) → IsGreeted a b → Holds a b
+pub greeted_holds : (a b : Seen) → IsGreeted a b → KeepsMade a b
 greeted_holds a b e = opening_holds a b Greeted a.stage e
 
-pub queried_holds : (a b : Seen) → IsQueried a b → Holds a b
+pub queried_holds : (a b : Seen) → IsQueried a b → KeepsMade a b
 queried_holds a b e = opening_holds a b Queried (record { past = entry.Event Send ∷ a.stage.past; begun = a.stage.begun }) e
 
 -- nothing had happened, and nothing has but the hello

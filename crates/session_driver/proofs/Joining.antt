@@ -8,8 +8,8 @@ use Rattle.sftp_link.specs.Views.{LinkView}
 use Rattle.session_model.specs.declared.entry.Entry.{Entry}
 use Rattle.session_model.specs.Calls.{Setting}
 use Rattle.session_driver.specs.declared.session.Phase.TheVariants.{Open}
-use Rattle.session_driver.specs.Session.{Seen, Holds, IsLater, IsUnmoved, Stays, Continues}
-use Rattle.session_driver.specs.Logs.{Keeps, even}
+use Rattle.session_driver.specs.Session.{Seen, KeepsMade, IsLater, IsUnmoved, StaysInPhase, Continues}
+use Rattle.session_driver.specs.Logs.{KeepsTrace, even}
 use Rattle.session_driver.specs.Ongoing.{At, at, IsReady, Part, Went, MayStop, StoppedAs, Stopped, Ongoing}
 use Rattle.session_exchange.proofs.Joining.{caused_on, caused_self}
 use Rattle.session_driver.proofs.Journals.{later_self, later_on}
@@ -17,27 +17,27 @@ use Rattle.session_driver.proofs.Stopping.{keeps_on, stops_here, stops_behind, k
 
 -- ---- a session goes on
 
-pub stays_self : (a : Seen) → Stays a a
+pub stays_self : (a : Seen) → StaysInPhase a a
 stays_self a = refl
 
-pub stays_on : (a b c : Seen) → Stays a b → Stays b c → Stays a c
+pub stays_on : (a b c : Seen) → StaysInPhase a b → StaysInPhase b c → StaysInPhase a c
 stays_on a b c l m = m ∙ ap (λ (w : Seen). record w { stage = c.stage; work = c.work }) l
 
-pub setting_stays : (a b : Seen) → Stays a b → b.setting ≡ a.setting
+pub setting_stays : (a b : Seen) → StaysInPhase a b → b.setting ≡ a.setting
 setting_stays a b l = ap (λ (w : Seen). w.setting) l
 
-pub phase_stays : (a b : Seen) → Stays a b → a.phase ≡ Open → b.phase ≡ Open
+pub phase_stays : (a b : Seen) → StaysInPhase a b → a.phase ≡ Open → b.phase ≡ Open
 phase_stays a b l was = ap (λ (w : Seen). w.phase) l ∙ was
 
-pub stays_hold : (a b : Seen) → Stays a b → Holds a b
+pub stays_hold : (a b : Seen) → StaysInPhase a b → KeepsMade a b
 stays_hold a b l =
     let same = ap (λ (w : Seen). w.phase) l in
     l ∙ (λ i. record a { phase = sym same i; stage = b.stage; work = b.work })
 
-pub holds_on : (a b c : Seen) → Holds a b → Holds b c → Holds a c
+pub holds_on : (a b c : Seen) → KeepsMade a b → KeepsMade b c → KeepsMade a c
 holds_on a b c l m = m ∙ ap (λ (w : Seen). record w { phase = c.phase; stage = c.stage; work = c.work }) l
 
-pub holds_self : (a : Seen) → Holds a a
+pub holds_self : (a : Seen) → KeepsMade a a
 holds_self a = refl
 
 -- ---- parts
@@ -118,7 +118,7 @@ module _ {S : Type 0} where
 
   -- nothing was moved over the link
   pub quiet : (p : Part) (before now : Seen) (link : LinkView S) (x : Unit {0}) → p.whole before.setting before.stage now.stage → Continues before now
-      → ((log : List Piece) → Keeps before.stage.past now.stage.past log log) → IsReady (at before link) → Ongoing p (at before link) (at now link) (Ok x)
+      → ((log : List Piece) → KeepsTrace before.stage.past now.stage.past log log) → IsReady (at before link) → Ongoing p (at before link) (at now link) (Ok x)
   quiet p before now link x whole goes keeps ready =
       record {
         went = record {

@@ -24,7 +24,7 @@ use Rattle.session_model.specs.Runs.{LetGoTo}
 use Rattle.session_driver.specs.RunsSoFar.{TurnSoFar, LetGoSoFar}
 use Rattle.session_driver.specs.declared.session.Stepped.{Stepped}
 use Rattle.session_driver.specs.declared.session.Stepped.TheVariants as stepped
-use Rattle.session_driver.specs.Session.{Seen, HasRefused, IsLater, Stays, Continues, StepsTo, Cancels, Takes, LetsGo, HandsOut}
+use Rattle.session_driver.specs.Session.{Seen, HasRefused, IsLater, StaysInPhase, Continues, StepsTo, Cancels, TakesAndSettles, LetsGo, HandsOut}
 use Rattle.session_exchange.specs.Causes.{Caused, SentBy}
 use Rattle.session_driver.specs.Refusals.{refuses}
 use Rattle.session_exchange.specs.Refusals.{error_of}
@@ -53,14 +53,14 @@ later_same : (s : Setting) (before now : Stage) → now ≡ before → IsLater s
 later_same s before now same = subst (λ (w : Stage). IsLater s before.past w.past) (sym same) (later_self s before.past)
 
 pub flush_none : {S : Type 0} (a now : Seen) (x : LinkView S) (u : Unit {0}) → HandsOut a.setting a.stage None now.stage
-    → Stays a now → IsReady (at a x) → Ongoing flushing (at a x) (at now x) (Ok u)
+    → StaysInPhase a now → IsReady (at a x) → Ongoing flushing (at a x) (at now x) (Ok u)
 flush_none a now x u out stays ready =
     quiet flushing a now x u (match_false _ _ _ out.0 out.1) (record
     { stays = stays; later = later_same a.setting a.stage now.stage out.1 }) (same_keep a.stage now.stage out.1)
     ready
 
 pub flush_sent : {S : Type 0} (a mid now : Seen) (x y : LinkView S) (sent bytes : List ℕ) (v u : Unit {0})
-    → IsReady (at a x) → HandsOut a.setting a.stage (Some bytes) mid.stage → Stays a mid → now ≡ mid → sent ≡ bytes
+    → IsReady (at a x) → HandsOut a.setting a.stage (Some bytes) mid.stage → StaysInPhase a mid → now ≡ mid → sent ≡ bytes
     → SentBy sent x y (Ok v) → Ongoing flushing (at a x) (at now y) (Ok u)
 flush_sent a mid now x y sent bytes v u ready out stays is same by =
     subst (λ (w : Seen). Ongoing flushing (at a x) (at w y) (Ok u)) (sym is)
@@ -77,7 +77,7 @@ flush_sent a mid now x y sent bytes v u ready out stays is same by =
     })
 
 pub flush_unsent : {S : Type 0} (a now : Seen) (x y : LinkView S) (sent bytes : List ℕ) (e : Error)
-    → HandsOut a.setting a.stage (Some bytes) now.stage → Stays a now → sent ≡ bytes
+    → HandsOut a.setting a.stage (Some bytes) now.stage → StaysInPhase a now → sent ≡ bytes
     → SentBy {T = Unit {0}} sent x y (Err e) → Ongoing flushing (at a x) (at now y) (Err e)
 flush_unsent a now x y sent bytes e out stays same by =
     record {
@@ -193,10 +193,10 @@ half_cancel s lane event a b t past is =
 -- ---- a take
 
 abbrev pub taking : List ℕ → Part
-taking body = record { whole = λ s a b. (nat_lt 0 (awaited a.past) ≡ true) × Takes s (reply_at body) a b; so_far = Nothing }
+taking body = record { whole = λ s a b. (nat_lt 0 (awaited a.past) ≡ true) × TakesAndSettles s (reply_at body) a b; so_far = Nothing }
 
 pub taken_on : {S R : Type 0} (a b : Seen) (x y : LinkView S) (r : R) (body bytes : List ℕ) → IsReady (at a x)
-    → nat_lt 0 (awaited a.stage.past) ≡ true → Takes a.setting (reply_at body) a.stage b.stage → Continues a b
+    → nat_lt 0 (awaited a.stage.past) ≡ true → TakesAndSettles a.setting (reply_at body) a.stage b.stage → Continues a b
     → bytes ≡ string body → length body ≤ 1048575 → Told (GotAll bytes) x.log y.log → Caused x y (Ok r) → Ongoing (taking body) (at a x) (at b y) (Ok tt)
 taken_on a b x y r body bytes ready some t goes framed short got caused =
     record {
@@ -212,12 +212,12 @@ taken_on a b x y r body bytes ready some t goes framed short got caused =
     }
 
 pub take_settles : (s : Setting) (body : List ℕ) (a b c : Stage) → (nat_lt 0 (awaited a.past) ≡ true)
-    × Takes s (reply_at body) a b → Settled s b c → TurnTo s turn.Take a c
+    × TakesAndSettles s (reply_at body) a b → Settled s b c → TurnTo s turn.Take a c
 take_settles s body a b c t settled =
     match_true _ _ _ t.0 (settled.begun ∙ t.1.1.1.2, (t.1.0, (t.1.1.0, (t.1.1.1.1, (b.past, (t.1.1.1.3, settled.sends))))))
 
 pub half_take : (s : Setting) (body : List ℕ) (a b : Stage) → (nat_lt 0 (awaited a.past) ≡ true)
-    × Takes s (reply_at body) a b → (past : List Entry) → past ≡ b.past → TurnSoFar s turn.Take a past
+    × TakesAndSettles s (reply_at body) a b → (past : List Entry) → past ≡ b.past → TurnSoFar s turn.Take a past
 half_take s body a b t past is =
     inr (record { now = b; event = match_true _ _ _ t.0 (t.1.1.1.2, (t.1.0, (t.1.1.0, (t.1.1.1.1, t.1.1.1.3)))); is = sym is })
 

@@ -26,24 +26,24 @@ use Rattle.session_model.specs.Turns.{Stage, ClosesTo, SettlesTo}
 use Rattle.session_model.specs.Shown.{Shows, hello_frame}
 use Rattle.session_driver.specs.declared.session.Phase.{Phase}
 use Rattle.session_driver.specs.declared.session.Stepped.{Stepped}
-use Rattle.session_driver.specs.Session.{Begins, Given, IsLater, IsSoFar, StepsTo, Cancels, Takes, Tells}
+use Rattle.session_driver.specs.Session.{BeginsWithQuery, Given, IsLater, IsSoFar, StepsTo, Cancels, TakesAndSettles, Tells}
 use Rattle.session_exchange.specs.Causes.{EndCause, IsUnsent}
 use Rattle.session_driver.specs.Refusals.{Notes, refuses, refuses_hello}
 use Rattle.session_exchange.specs.Refusals.{error_of}
 use Rattle.session_exchange.specs.Reading.{IsFramePrefix, ReadFails}
-use Rattle.session_driver.specs.Logs.{Keeps, Showing, StopsAt, EndsAs, Behind, SentPart, HelloStops, BehindHello, IsAhead, even, by_fault}
+use Rattle.session_driver.specs.Logs.{KeepsTrace, Showing, StopsAt, EndsAs, Behind, SentPart, HelloStops, BehindHello, IsAhead, even, by_fault}
 use Rattle.session_driver.specs.Ongoing.{At, HasStopped, StopsShown}
 use Rattle.session_model.specs.Settings.{greeting}
 
 -- ---- a run goes on
 
-pub keeps_self : (past : List Entry) (x : Option (List Piece)) → Told (Keeps past past) x x
+pub keeps_self : (past : List Entry) (x : Option (List Piece)) → Told (KeepsTrace past past) x x
 keeps_self past x = told_self _ x (λ p hello first shown. shown)
 
-pub keeps_on : (a b c : List Entry) (x y z : Option (List Piece)) → Told (Keeps a b) x y → Told (Keeps b c) y z → Told (Keeps a c) x z
+pub keeps_on : (a b c : List Entry) (x y z : Option (List Piece)) → Told (KeepsTrace a b) x y → Told (KeepsTrace b c) y z → Told (KeepsTrace a c) x z
 keeps_on a b c x y z k m = told_on _ _ _ x y z k m (λ p q r f g hello first shown. g hello first (f hello first shown))
 
-pub keeps_quietly : (a b : List Entry) (x : Option (List Piece)) → ((log : List Piece) → Keeps a b log log) → Told (Keeps a b) x x
+pub keeps_quietly : (a b : List Entry) (x : Option (List Piece)) → ((log : List Piece) → KeepsTrace a b log log) → Told (KeepsTrace a b) x x
 keeps_quietly a b x quiet = told_self _ x quiet
 
 -- a CLOSE by rule is not in the log
@@ -55,11 +55,11 @@ closes_keep s before (e ∷ past) hello first log (inr c) shown =
     let rest : Shows hello past first log = closes_keep s before past hello first log c.1 shown in
     subst (λ (w : Entry). Shows hello (w ∷ past) first log) (sym c.0.1.1.1.1) rest
 
-pub same_keep : (before now : Stage) → now ≡ before → (log : List Piece) → Keeps before.past now.past log log
+pub same_keep : (before now : Stage) → now ≡ before → (log : List Piece) → KeepsTrace before.past now.past log log
 same_keep before now same log hello first shown = subst (λ (w : Stage). Shows hello w.past first log) (sym same) shown
 
 pub step_keeps : (s : Setting) (lane : ℕ) (before now : Stage) (m : Option Move) (event : Stepped)
-    → StepsTo s lane before now m event → (log : List Piece) → Keeps before.past now.past log log
+    → StepsTo s lane before now m event → (log : List Piece) → KeepsTrace before.past now.past log log
 step_keeps s lane before now None event t log hello first shown = same_keep before now t.1 log hello first shown
 step_keeps s lane before now (Some (Wait place)) event t log hello first shown = subst (λ (w : Stage). Shows hello w.past first log) (sym t.1) shown
 step_keeps s lane before now (Some (Ask r)) event t log hello first shown =
@@ -69,22 +69,22 @@ step_keeps s lane before now (Some (Done o site)) event t log hello first shown 
 
 cancels_keep : (s : Setting) (lane : ℕ) (before now : Stage) (b event : Bool) (Begun : Type 0) → MatchBool b
     ((event ≡ true) × Begun × SettlesTo s (cancelled_end (entry.Event (Cancel lane) ∷ before.past) lane ∷ entry.Event (Cancel lane) ∷ before.past) now.past)
-    ((event ≡ false) × (now ≡ before)) → (log : List Piece) → Keeps before.past now.past log log
+    ((event ≡ false) × (now ≡ before)) → (log : List Piece) → KeepsTrace before.past now.past log log
 cancels_keep s lane before now true event Begun t log hello first shown =
     closes_keep s (cancelled_end (entry.Event (Cancel lane) ∷ before.past) lane ∷ entry.Event (Cancel lane) ∷ before.past) now.past hello first log t.2.0 shown
 cancels_keep s lane before now false event Begun t log hello first shown = same_keep before now t.1 log hello first shown
 
 pub cancel_keeps : (s : Setting) (lane : ℕ) (before now : Stage) (event : Bool) → Cancels s lane before now event
-    → (log : List Piece) → Keeps before.past now.past log log
+    → (log : List Piece) → KeepsTrace before.past now.past log log
 cancel_keeps s lane before now event t = cancels_keep s lane before now _ event _ t
 
 pub let_go_keeps : (s : Setting) (lane : ℕ) (before now : List Entry) → SettlesTo s (entry.LetGo lane ∷ before) now
-    → (log : List Piece) → Keeps before now log log
+    → (log : List Piece) → KeepsTrace before now log log
 let_go_keeps s lane before now t log hello first shown = closes_keep s (entry.LetGo lane ∷ before) now hello first log t.0 shown
 
 -- a reply was got and taken
-pub keeps_taken : (s : Setting) (before now : Stage) (body bytes : List ℕ) (x y : Option (List Piece)) → Takes s (reply_at body) before now
-    → bytes ≡ string body → length body ≤ 1048575 → Told (GotAll bytes) x y → Told (Keeps before.past now.past) x y
+pub keeps_taken : (s : Setting) (before now : Stage) (body bytes : List ℕ) (x y : Option (List Piece)) → TakesAndSettles s (reply_at body) before now
+    → bytes ≡ string body → length body ≤ 1048575 → Told (GotAll bytes) x y → Told (KeepsTrace before.past now.past) x y
 keeps_taken s before now body bytes x y t framed short got =
     told_as _ _ x y got
     (λ p q g hello first shown.
@@ -96,7 +96,7 @@ keeps_taken s before now body bytes x y t framed short got =
 pub stops_here : (ended : Bool) (past : List Entry) (x : Option (List Piece)) → Told (StopsAt past ended error.OutOfMemory past) x x
 stops_here ended past x = told_self _ x (λ p hello first shown. (p, (shown, inl (inl refl))))
 
-pub stops_behind : (ended : Bool) (e : Error) (a b now : List Entry) (x y z : Option (List Piece)) → Told (Keeps a b) x y
+pub stops_behind : (ended : Bool) (e : Error) (a b now : List Entry) (x y z : Option (List Piece)) → Told (KeepsTrace a b) x y
     → Told (StopsAt now ended e b) y z → Told (StopsAt now ended e a) x z
 stops_behind ended e a b now x y z k m = told_on _ _ _ x y z k m (λ p q r f g hello first shown. g hello first (f hello first shown))
 
@@ -263,7 +263,7 @@ hello_unbegun ended x = told_self _ x (λ p. inl (tt, inl refl))
 
 -- the log shows VERSION and the journal that has gone on
 pub shows_on : (version now_version : Option Reply) (a b : List Entry) (x y z : Option (List Piece)) → now_version
-    ≡ version → Told (Showing version a) x y → Told (Keeps a b) y z → Told (Showing now_version b) x z
+    ≡ version → Told (Showing version a) x y → Told (KeepsTrace a b) y z → Told (Showing now_version b) x z
 shows_on version now_version a b x y z same shows keeps = subst (λ (v : Option Reply). Told (Showing v b) x z) (sym same) (shown_on version shows)
   where
     shown_on : (v : Option Reply) → Told (Showing v a) x y → Told (Showing v b) x z
@@ -318,7 +318,7 @@ stopped_as_well such other before now e is (inr w) = inr (record {
 
 -- the query for limits was sent
 pub keeps_sent : (past now : List Entry) (bytes : List ℕ) (x y : Option (List Piece)) → now ≡ entry.Event Send ∷ past
-    → bytes ≡ unsent_bytes past → Told (SentAll bytes) x y → Told (Keeps past now) x y
+    → bytes ≡ unsent_bytes past → Told (SentAll bytes) x y → Told (KeepsTrace past now) x y
 keeps_sent past now bytes x y is same told =
     told_as _ _ x y told
     (λ p q sent hello first shown. subst (λ (w : List Entry). Shows hello w first q) (sym is) (p, (shown, subst (λ (w : List ℕ). SentOn p q w) same sent)))
@@ -326,13 +326,13 @@ keeps_sent past now bytes x y is same told =
 -- its reply was got and taken
 pub keeps_told : (before now : List Entry) (body bytes : List ℕ) (x y : Option (List Piece))
     → Tells (reply_at body) before now → bytes ≡ string body → length body ≤ 1048575 → Told (GotAll bytes) x y
-    → Told (Keeps before now) x y
+    → Told (KeepsTrace before now) x y
 keeps_told before now body bytes x y t framed short told =
     told_as _ _ x y told
     (λ p q got hello first shown.
     subst (λ (w : List Entry). Shows hello w first q) (sym t.1.1.2)
     (p, (shown, (bytes, (record { body = body; framed = framed; short = short; reads = t.1.1.0 }, got)))))
 
-pub asked_awaits : (phase : Phase) (past now : List Entry) → Begins true phase past → now ≡ entry.Event Send ∷ past → 0 < awaited now
+pub asked_awaits : (phase : Phase) (past now : List Entry) → BeginsWithQuery true phase past → now ≡ entry.Event Send ∷ past → 0 < awaited now
 asked_awaits phase past now begins is =
     subst (λ (w : List Entry). 0 < awaited w) (sym (is ∙ ap (λ (w : List Entry). entry.Event Send ∷ w) begins.1.1.1)) (omega arith)

@@ -32,8 +32,8 @@ use Rattle.session_driver.specs.Refusals.{refuses, refuses_hello}
 use Rattle.session_exchange.specs.Refusals.{error_of}
 
 -- whatever the log showed before, it shows the journal that has gone on
-abbrev pub Keeps : List Entry → List Entry → List Piece → List Piece → Type 0
-Keeps past now before after = (hello : Reply) (first : List Piece) → Shows hello past first before
+abbrev pub KeepsTrace : List Entry → List Entry → List Piece → List Piece → Type 0
+KeepsTrace past now before after = (hello : Reply) (first : List Piece) → Shows hello past first before
     → Shows hello now first after
 
 -- the log shows VERSION, where it was taken, and the journal

@@ -43,9 +43,9 @@ use Rattle.session_driver.specs.RunsSoFar.{
   DrainsSoFar,
 }
 use Rattle.session_driver.specs.declared.session.Phase.TheVariants.{Open}
-use Rattle.session_driver.specs.Session.{Seen, Flushed, Holds, IsFixed, IsLater, IsSoFar, Stays}
+use Rattle.session_driver.specs.Session.{Seen, Flushed, KeepsMade, IsFixed, IsLater, IsSoFar, StaysInPhase}
 use Rattle.session_exchange.specs.Causes.{Caused}
-use Rattle.session_driver.specs.Logs.{Behind, Ends, HasRun, HelloStops, IsAhead, Keeps, Showing, StopsAt}
+use Rattle.session_driver.specs.Logs.{Behind, Ends, HasRun, HelloStops, IsAhead, KeepsTrace, Showing, StopsAt}
 
 -- ---- where a run stands
 
@@ -129,8 +129,8 @@ draining = record { whole = Drained; so_far = DrainsSoFar }
 pub record Went {Service : Type 0} (p : Part) (before now : At Service) : Type 0 where
   pub whole : p.whole before.seen.setting before.seen.stage now.seen.stage
   pub later : IsLater before.seen.setting before.seen.stage.past now.seen.stage.past
-  pub stays : Stays before.seen now.seen
-  pub log : Told (Keeps before.seen.stage.past now.seen.stage.past) before.link.log now.link.log
+  pub stays : StaysInPhase before.seen now.seen
+  pub log : Told (KeepsTrace before.seen.stage.past now.seen.stage.past) before.link.log now.link.log
   pub ready : IsReady now
 
 -- what the journal may be where a part was stopped
@@ -145,7 +145,7 @@ pub record StoppedAs {Service : Type 0} (such : List Entry → Type 0) (before n
     pub past : List Entry
     pub is : such past
     pub ahead : IsAhead e past now.seen.stage.past
-    pub holds : Holds before.seen now.seen
+    pub holds : KeepsMade before.seen now.seen
     pub log : Told (StopsAt past now.link.ended e before.seen.stage.past) before.link.log now.link.log
 
 -- a part was stopped
@@ -170,7 +170,7 @@ pub record MayAsk (before : Seen) (past : List Entry) : Type 0 where
 -- VERSION was not taken: the log shows a part of the hello, or the hello and what came then
 pub record StoppedAtHello {Service : Type 0} (before now : At Service) (e : Error) : Type 0 where
   pub ahead : IsAhead e [] now.seen.stage.past
-  pub holds : Holds before.seen now.seen
+  pub holds : KeepsMade before.seen now.seen
   pub log : Told (HelloStops now.link.ended e) before.link.log now.link.log
 
 -- the log shows VERSION, which the session tells, this journal, and then a part

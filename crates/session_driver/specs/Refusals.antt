@@ -8,7 +8,7 @@ use Rattle.sftp_model.specs.declared.reply.Reply.{Reply}
 use Rattle.sftp_model.specs.Answers.{expected_of, may_answer}
 use Rattle.session_model.specs.declared.entry.Entry.{Entry}
 use Rattle.session_model.specs.declared.entry.Entry.TheVariants as entry
-use Rattle.session_model.specs.Readings.{Asked, asked_at, awaiting, sent}
+use Rattle.session_model.specs.Readings.{AskedRequest, asked_at, awaiting, sent}
 use Rattle.sftp_core.specs.declared.errors.TakeError.{TakeError}
 use Rattle.sftp_core.specs.declared.errors.TakeError.TheVariants as take
 use Rattle.sftp_core.specs.Take.{fault_of, unread, wrong_version, wrong_limits}
@@ -29,18 +29,18 @@ refuses_limits expected.Limits r = wrong_limits r
 refuses_limits other r = None
 
 -- the reply is one that may answer the request under its id
-abbrev pub refuses_reply : ℕ → Reply → Option Asked → Option TakeError
+abbrev pub refuses_reply : ℕ → Reply → Option AskedRequest → Option TakeError
 refuses_reply id r None = Some (take.InvalidResponseId id)
 refuses_reply id r (Some a) = if may_answer a.request r then refuses_limits (expected_of a.request) r else
     Some (take.InvalidResponse (Some id))
 
 -- the request at this place, where it was sent
-abbrev pub sent_at : List Entry → Option ℕ → Option Asked
+abbrev pub sent_at : List Entry → Option ℕ → Option AskedRequest
 sent_at past None = None
 sent_at past (Some place) = if nat_lt place (sent past) then asked_at past place else None
 
 -- the sent, unanswered request that bears the id
-abbrev pub awaited_at : List Entry → ℕ → Option Asked
+abbrev pub awaited_at : List Entry → ℕ → Option AskedRequest
 awaited_at past id = sent_at past (awaiting past id)
 
 abbrev pub refuses : List Entry → Result (Option ℕ × Reply) FrameError → Option TakeError

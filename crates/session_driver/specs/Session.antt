@@ -85,9 +85,9 @@ IsLater s before (e ∷ past) = (before ≡ e ∷ past) ⊎ (IsNext s past e × 
 -- ---- the opening
 
 -- VERSION was read: the query for limits stands in the journal where the server offers to tell them
-abbrev pub Begins : Bool → Phase → List Entry → Type 0
-Begins false phase past = (phase ≡ Open) × (past ≡ [])
-Begins true phase past = (phase ≡ Asking) × ((id : ℕ) × (IsFree [] id
+abbrev pub BeginsWithQuery : Bool → Phase → List Entry → Type 0
+BeginsWithQuery false phase past = (phase ≡ Open) × (past ≡ [])
+BeginsWithQuery true phase past = (phase ≡ Asking) × ((id : ℕ) × (IsFree [] id
     × (past ≡ entry.Event (Submit owner.Setup id request.LimitsQuery) ∷ [])))
 
 -- the setting is what the lanes, the options, VERSION and the limits fix
@@ -104,7 +104,7 @@ pub record IsWelcomed (given : Given) (asks : Bool) (now : Seen) : Type 0 where
   pub extensions : Extensions
   pub told : now.version ≡ Some (greeting extensions)
   pub asked : asks ≡ offers_limits extensions
-  pub begins : Begins asks now.phase now.stage.past
+  pub begins : BeginsWithQuery asks now.phase now.stage.past
   pub begun : now.stage.begun ≡ at_rest.begun
   pub later : IsLater now.setting [] now.stage.past
   pub fixed : IsFixed given now.version now.stage.past now.setting
@@ -161,26 +161,26 @@ abbrev pub IsQueried : Seen → Seen → Type 0
 IsQueried before now = now ≡ queried_with before now.work
 
 -- what the session was made of, what its lanes go by, and VERSION are what they were, also after a refusal
-abbrev pub Holds : Seen → Seen → Type 0
-Holds before now = now ≡ record before { phase = now.phase; stage = now.stage; work = now.work }
+abbrev pub KeepsMade : Seen → Seen → Type 0
+KeepsMade before now = now ≡ record before { phase = now.phase; stage = now.stage; work = now.work }
 
 -- a call was refused for want of memory: also the journal is as before
 pub record IsUnmoved (before now : Seen) : Type 0 where
-  pub holds : Holds before now
+  pub holds : KeepsMade before now
   pub past : now.stage.past ≡ before.stage.past
 
 -- a frame was refused: the journal is as before, or has the fault that was kept
 pub record HasRefused (e : TakeError) (before now : Seen) : Type 0 where
-  pub holds : Holds before now
+  pub holds : KeepsMade before now
   pub past : Notes e before.stage.past now.stage.past
 
 -- only the journal went on, and what is left to do may be less
-abbrev pub Stays : Seen → Seen → Type 0
-Stays before now = now ≡ record before { stage = now.stage; work = now.work }
+abbrev pub StaysInPhase : Seen → Seen → Type 0
+StaysInPhase before now = now ≡ record before { stage = now.stage; work = now.work }
 
 -- only the journal went on, by entries that may come next
 pub record Continues (before now : Seen) : Type 0 where
-  pub stays : Stays before now
+  pub stays : StaysInPhase before now
   pub later : IsLater before.setting before.stage.past now.stage.past
 
 -- ---- calls of an open session
@@ -214,8 +214,8 @@ LetsGo s lane before now =
     × SettlesTo s (entry.LetGo lane ∷ before.past) now.past) (now ≡ before)
 
 -- a body is a reply that may be taken, it is taken, and the CLOSEs that are due then
-abbrev pub Takes : Setting → Result (Option ℕ × Reply) FrameError → Stage → Stage → Type 0
-Takes s body_reads before now =
+abbrev pub TakesAndSettles : Setting → Result (Option ℕ × Reply) FrameError → Stage → Stage → Type 0
+TakesAndSettles s body_reads before now =
     (id : ℕ) × ((r : Reply)
     × ((body_reads ≡ Ok (Some id, r)) × MayTake before.past id r × (now.begun ≡ before.begun)
     × SettlesTo s (entry.Event (Take id r) ∷ before.past) now.past))

@@ -3,7 +3,7 @@ ghost use Rattle.std.specs.Prelude.{◌<◌, ◌^◌, ◌-◌, true, IfErr, OnOk
 ghost use Rattle.sftp_link.specs.Told.{Told};
 ghost use Rattle.session_driver.specs.Session.{IsFresh, IsOpened, IsWelcomed, OpensOn};
 ghost use Rattle.session_exchange.specs.Causes.{Caused};
-ghost use Rattle.session_driver.specs.Logs.{Keeps, Showing};
+ghost use Rattle.session_driver.specs.Logs.{KeepsTrace, Showing};
 ghost use Rattle.session_driver.specs.Ongoing.{HasStopped, MayAsk, StoppedAs, StoppedAtHello, at};
 ghost use Rattle.session_driver.specs.RunsSoFar.{OpensSoFar};
 
@@ -47,7 +47,7 @@ fn ask_limits<X: RunsLanes, L: Link>(
     requires welcomed { IsWelcomed (X.seen session.old).given true (X.seen session.old) }
     requires count { (L.LinkState.state link.old).faults < 2 ^ 64 - 1 }
     ensures opens { OnOk result (OpensOn (X.seen session.old) (X.seen session.new)) }
-    ensures log { OnOk result (Told (Keeps (X.seen session.old).stage.past (X.seen session.new).stage.past) (L.LinkState.state link.old).log (L.LinkState.state link.new).log) }
+    ensures log { OnOk result (Told (KeepsTrace (X.seen session.old).stage.past (X.seen session.new).stage.past) (L.LinkState.state link.old).log (L.LinkState.state link.new).log) }
     ensures stops { IfErr result (StoppedAs (MayAsk (X.seen session.old)) (at (X.seen session.old) (L.LinkState.state link.old)) (at (X.seen session.new) (L.LinkState.state link.new))) }
     ensures caused { Caused (L.LinkState.state link.old) (L.LinkState.state link.new) result }
 {

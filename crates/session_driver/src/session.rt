@@ -6,7 +6,7 @@ ghost use Rattle.session_model.specs.Calls.{current, move_of};
 ghost use Rattle.session_model.specs.Readings.{awaited, unanswered, unsent_bytes, was_let_go};
 ghost use Rattle.session_model.specs.Shown.{hello_frame};
 ghost use Rattle.session_model.specs.Turns.{is_full};
-ghost use Rattle.session_driver.specs.Session.{Seen, Continues, HasRefused, IsUnmoved, Stays, IsLater, Greets, Limited, StepsTo, Cancels, Takes, HandsOut, LetsGo, IsGreeted, IsQueried, is_event, LessBy, at_rest};
+ghost use Rattle.session_driver.specs.Session.{Seen, Continues, HasRefused, IsUnmoved, StaysInPhase, IsLater, Greets, Limited, StepsTo, Cancels, TakesAndSettles, HandsOut, LetsGo, IsGreeted, IsQueried, is_event, LessBy, at_rest};
 ghost use Rattle.sftp_core.specs.Take.{IsFirst};
 ghost use Rattle.session_driver.specs.Refusals.{refuses, refuses_hello};
 
@@ -112,7 +112,7 @@ pub trait RunsLanes {
     fn hand_out(&mut self) -> Result<Option<Chunk>, OutOfMemory>
         requires open { (seen self.old).phase ≡ Phase.Open }
         ensures ok { IfOk result (λ chunk. HandsOut (seen self.old).setting (seen self.old).stage (option_map joined chunk) (seen self.new).stage) }
-        ensures stays { OnOk result (Stays (seen self.old) (seen self.new)) }
+        ensures stays { OnOk result (StaysInPhase (seen self.old) (seen self.new)) }
         ensures work { OnOk result ((seen self.new).work ≡ (seen self.old).work) }
         ensures left { OnErr result (IsUnmoved (seen self.old) (seen self.new)) };
 
@@ -123,7 +123,7 @@ pub trait RunsLanes {
     /// Takes the body of one frame. Refused by the first thing that is wrong with it, or for want of memory.
     fn take(&mut self, body: &[u8]) -> Result<(), TakeError>
         requires open { (seen self.old).phase ≡ Phase.Open }
-        ensures ok { OnOk result (Takes (seen self.old).setting (reply_at body.now) (seen self.old).stage (seen self.new).stage) }
+        ensures ok { OnOk result (TakesAndSettles (seen self.old).setting (reply_at body.now) (seen self.old).stage (seen self.new).stage) }
         ensures goes { OnOk result (Continues (seen self.old) (seen self.new)) }
         ensures work { OnOk result ((seen self.new).work < (seen self.old).work) }
         ensures refused { IfErr result (λ e. IsFirst e (refuses (seen self.old).stage.past (reply_at body.now))) }

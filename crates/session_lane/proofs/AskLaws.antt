@@ -43,7 +43,7 @@ use Rattle.session_laws.proofs.PlaceLaws.{push_self}
 use Rattle.session_laws.specs.Rest.{opened_in}
 use Rattle.session_lane.specs.Tokens.{IsFilledBy, Spent, grants_with}
 use Rattle.session_lane.specs.Turning.{
-  Asks,
+  AsksOrCloses,
   ClosesNothing,
   HoldsNamed,
   IsActive,
@@ -71,14 +71,14 @@ no_close a other = tt
 
 plainly : (old new : Core) (tickets now : List Ticketed) (grants : List Held) (place id : ℕ) (a : Asked) (r : Request)
     → IsNoClose a → Submits old new tickets now grants grants place a id r
-    → Asks old new tickets now grants grants place a id r
+    → AsksOrCloses old new tickets now grants grants place a id r
 plainly old new tickets now grants place id (ask.Close g) r other x = absurd other
 plainly old new tickets now grants place id a r other x = x
 
 pub submits : (old new : Core) (tickets now : List Ticketed) (grants : List Held) (place t id : ℕ) (a : Asked)
     (r : Request) → IsNoClose a → IsFilledBy grants a r → is_close r ≡ false → id ≡ t → at old t ≡ None → new
     ≡ queued_last old t r true
-    → now ≡ tickets ++ (record { place = place; ticket = t }) ∷ [] → Asks old new tickets now grants grants place a id r
+    → now ≡ tickets ++ (record { place = place; ticket = t }) ∷ [] → AsksOrCloses old new tickets now grants grants place a id r
 submits old new tickets now grants place t id a r other filled plain same free core pushed =
     plainly old new tickets now grants place id a r other
     (record {

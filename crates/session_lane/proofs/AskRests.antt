@@ -53,7 +53,7 @@ use Rattle.plan_model.specs.Moves.{handle_of}
 use Rattle.plan_runner.specs.Pending.{own_place, reads_under}
 use Rattle.session_model.specs.declared.event.Owner.TheVariants as owner
 use Rattle.session_model.specs.declared.entry.Entry.{Entry}
-use Rattle.session_model.specs.Readings.{Asked, answer, asked, asked_at, awaiting, ended}
+use Rattle.session_model.specs.Readings.{AskedRequest, answer, asked, asked_at, awaiting, ended}
 use Rattle.session_model.specs.Calls.{Setting}
 use Rattle.session_model.specs.Grants.{is_asked_by}
 use Rattle.session_model.specs.Ids.{IdState, Free, Pending, Replied, id_state}
@@ -84,7 +84,7 @@ use Rattle.session_laws.proofs.CountedLaws.{counted_ask, counted_close, released
 use Rattle.session_lane.specs.Tokens.{Bears}
 use Rattle.session_lane.specs.Turning.{Releases, Submits}
 use Rattle.session_lane.specs.Holding.{TurnTied}
-use Rattle.session_lane.specs.Rests.{Asked as IsAsked}
+use Rattle.session_lane.specs.Rests.{AskedOwn as IsAsked}
 use Rattle.session_lane.specs.declared.lane.Moved.TheVariants as moved
 use Rattle.session_lane.proofs.Holding.{with_here}
 
@@ -170,14 +170,14 @@ released_under s past core new lanes lane g id tickets now grants held q h count
 
 -- the reply to the first READ under way fits a whole read
 pub window_fits : (past : List Entry) (r : Running) (site : Site) → is_window r ≡ true → ((x : ReadAt) → IsAmong x (reads_under (Some r)) → IsReadAt past x)
-    → (p : ℕ) (a : Asked) (y : Reply) → awaited r site ≡ Some p → asked_at past p ≡ Some a → may_answer a.request y ≡ true → Fits r (Some y)
+    → (p : ℕ) (a : AskedRequest) (y : Reply) → awaited r site ≡ Some p → asked_at past p ≡ Some a → may_answer a.request y ≡ true → Fits r (Some y)
 window_fits past (running.ReadingWhole grant bound window) site is reads p a y looks there may = by_waiting window.waiting refl
   where
     of_read : (x : ReadAt) (z : Reply) → may_answer a.request z ≡ true → place_in (Some x) ≡ Some p → IsReadAt past x → FitsRead x z
     of_read x (reply.Content bytes) may at t =
         (let here : x.place ≡ p = cc in
-        let same : t.asked ≡ a = (let e : ◌≡◌ {A = Option Asked} (Some t.asked) (Some a) = sym t.here ∙ (ap (asked_at past) here ∙ there) in cc) in
-        let is_read : a.request ≡ request.Read t.handle x.offset x.len = ap (λ (b : Asked). b.request) (sym same) ∙ t.reads in
+        let same : t.asked ≡ a = (let e : ◌≡◌ {A = Option AskedRequest} (Some t.asked) (Some a) = sym t.here ∙ (ap (asked_at past) here ∙ there) in cc) in
+        let is_read : a.request ≡ request.Read t.handle x.offset x.len = ap (λ (b : AskedRequest). b.request) (sym same) ∙ t.reads in
         (content_fits (request.Read t.handle x.offset x.len) bytes (ap (λ (q : Request). may_answer q (reply.Content bytes)) (sym is_read) ∙ may)).1)
     of_read x z may at t = tt
 
@@ -231,7 +231,7 @@ asks_new past core new lane id tickets v opened reads old a r q u x stood others
     now : List Entry
     now = own_request past lane id q ∷ past
 
-    is_new : Asked
+    is_new : AskedRequest
     is_new = record { by = owner.Call lane (ended past lane); id = id; request = q }
 
     new_ticket : (o : Option ℕ) → own_place (Some r) ≡ o → AwaitsOrDefers o (asked past) a
@@ -265,15 +265,15 @@ asks_new past core new lane id tickets v opened reads old a r q u x stood others
       | inr new ↦ new_read z a refl new
     ]
 
-    fits : LooksAtOwn (asked past) v.site a r → (p : ℕ) (b : Asked) (y : Reply) → p ≡ asked past → asked_at now p
+    fits : LooksAtOwn (asked past) v.site a r → (p : ℕ) (b : AskedRequest) (y : Reply) → p ≡ asked past → asked_at now p
         ≡ Some b → may_answer b.request y ≡ true → Fits r (Some y)
     fits own p b y place there may =
-        (let here : ◌≡◌ {A = Option Asked} (Some is_new) (Some b) =
+        (let here : ◌≡◌ {A = Option AskedRequest} (Some is_new) (Some b) =
         sym (asked_new past (owner.Call lane (ended past lane)) id q) ∙ (ap (asked_at now) (sym place) ∙ there) in
-        let is : q ≡ b.request = (let one : (◌≡◌ {A = Asked} is_new b) = cc in ap (λ (z : Asked). z.request) one) in
+        let is : q ≡ b.request = (let one : (◌≡◌ {A = AskedRequest} is_new b) = cc in ap (λ (z : AskedRequest). z.request) one) in
         own.fits (answer past) y (u.answers y (ap (λ (z : Request). may_answer z y) is ∙ may)))
 
-    fits_by : (p : ℕ) (b : Asked) (y : Reply) → awaited r v.site ≡ Some p → asked_at now p ≡ Some b
+    fits_by : (p : ℕ) (b : AskedRequest) (y : Reply) → awaited r v.site ≡ Some p → asked_at now p ≡ Some b
         → may_answer b.request y ≡ true → LooksAtOwn (asked past) v.site a r ⊎ (is_window r ≡ true) → Fits r (Some y)
     fits_by p b y looks there may (inl own) = fits own p b y (own.looks p looks) there may
     fits_by p b y looks there may (inr window) = window_fits now r v.site window standing p b y looks there may

@@ -7,12 +7,12 @@ use Rattle.sftp_model.specs.declared.slot.Facts.{Facts}
 use Rattle.sftp_model.specs.declared.slot.Site.{Site}
 use Rattle.plan_runner.specs.declared.next.Next.{Next}
 use Rattle.plan_runner.specs.declared.next.Next.TheVariants as step
-use Rattle.plan_runner.specs.Asking.{Asks, BeginsAsking, OwnOn}
+use Rattle.plan_runner.specs.Asking.{AwaitsAsked, BeginsAsking, OwnOn}
 use Rattle.plan_runner.specs.Begun.{Begun}
 use Rattle.plan_runner.proofs.OwnAsking.{own_begins}
-use Rattle.plan_runner.specs.Runners.{Begins, Goes, bytes_of}
-use Rattle.plan_runner.specs.Cancelling.{BeginsLeaving, Leaves}
-use Rattle.plan_runner.specs.Sound.{Keeps, Sounds}
+use Rattle.plan_runner.specs.Runners.{BeginsByPlan, RunsByPlan, bytes_of}
+use Rattle.plan_runner.specs.Cancelling.{BeginsLeaving, LeavesCancelled}
+use Rattle.plan_runner.specs.Sound.{KeepsSite, Sounds}
 use Rattle.plan_runner.specs.Pending.{Fewer, Pends, pends_idle}
 use Rattle.plan_model.specs.declared.call.Call.{Call}
 use Rattle.session_lane.specs.Turning.{Began}
@@ -20,11 +20,11 @@ use Rattle.plan_model.specs.CallPlans.{cancelled, next}
 
 -- where it asks, waits or ends
 pub begun : (c : Call) (p : Call) (place : ℕ) (old new : Site) (facts : Facts) (n : Next) → c ≡ p
-    → Begins p place old new facts n → BeginsLeaving p place old new facts n → Sounds (bytes_of p) facts old new n
+    → BeginsByPlan p place old new facts n → BeginsLeaving p place old new facts n → Sounds (bytes_of p) facts old new n
     → Pends (pends_idle old) place new n → Began c facts place old new n
 begun c p place old new facts n is goes left sound pends = record {
-  goes = subst (λ (q : Call). Goes (next q old facts) place (bytes_of q) new facts n) (sym is) goes;
-  left = subst (λ (q : Call). Leaves (cancelled q old facts) place (bytes_of q) new facts n) (sym is) left;
+  goes = subst (λ (q : Call). RunsByPlan (next q old facts) place (bytes_of q) new facts n) (sym is) goes;
+  left = subst (λ (q : Call). LeavesCancelled (cancelled q old facts) place (bytes_of q) new facts n) (sym is) left;
   sound = subst (λ (q : Call). Sounds (bytes_of q) facts old new n) (sym is) sound;
   pends = pends;
 }
@@ -37,7 +37,7 @@ begun_if c p place old new facts (Ok n) is b = begun c p place old new facts n i
 
 -- where it ends at once
 pub begun_local : (c : Call) (p : Call) (place : ℕ) (old new : Site) (facts : Facts) (o : Outcome) → c ≡ p
-    → Begins p place old new facts (step.Done o) → Keeps facts old new → Fewer old new
+    → BeginsByPlan p place old new facts (step.Done o) → KeepsSite facts old new → Fewer old new
     → Began c facts place old new (step.Done o)
 begun_local c p place old new facts o is goes keeps fewer = begun c p place old new facts (step.Done o) is goes tt (keeps, tt) fewer.each
 
@@ -48,7 +48,7 @@ asks_if p place old new facts (Err e) b = b
 asks_if p place old new facts (Ok n) b = own_begins None place old new n b.asks
 
 -- and awaits just what it asks
-pub own_first : (place : ℕ) (site : Site) (n : Next) → Asks None place site n → OwnOn place n
+pub own_first : (place : ℕ) (site : Site) (n : Next) → AwaitsAsked None place site n → OwnOn place n
 own_first place site (step.Ask a r) asks = asks.awaits
 own_first place site (step.Wait r) asks = asks
 own_first place site (step.Done o) asks = tt

@@ -54,7 +54,7 @@ use Rattle.session_laws.specs.Rest.{AtRest, Counted, IsTransferAt, LaneAsks, awa
 use Rattle.session_laws.proofs.AskedLaws.{asks_on}
 use Rattle.plan_runner.specs.declared.next.Running.{Running}
 use Rattle.session_lane.specs.Holding.{TurnTied}
-use Rattle.session_lane.specs.Rests.{Ended, Goes, Waits}
+use Rattle.session_lane.specs.Rests.{Ended, GoesWithoutEntry, Waits}
 use Rattle.plan_model.specs.declared.call.Call.{Call}
 use Rattle.session_lane.specs.Turning.{TurnWaits}
 use Rattle.session_lane.specs.declared.lane.Moved.TheVariants as moved
@@ -177,7 +177,7 @@ pub goes_rest : (s : Setting) (past : List Entry) (core c new : Core) (lanes : �
     (lane : ℕ) (now : LaneValue) (r : Running) → AtRest s past core lanes begun → lane < length s.lanes
     → Midway past core c → new ≡ c → now.running ≡ Some r → LaneAsks past lane now
     → TurnTied s past new (with_lane lanes lane) lane now moved.Went → Spends s past new (with_lane lanes lane now)
-    → Goes s past core new (with_lane lanes lane now) begun
+    → GoesWithoutEntry s past core new (with_lane lanes lane now) begun
 goes_rest s past core c new lanes begun lane now r h there m same was asks t spent =
     let b = h.between in
     record {

@@ -11,7 +11,7 @@ use Rattle.sftp_core.specs.declared.place.Place.TheVariants.{Waiting, Answered, 
 use Rattle.sftp_model.specs.declared.slot.Facts.{Facts}
 use Rattle.sftp_model.specs.declared.slot.Site.{Site}
 use Rattle.plan_runner.specs.Pending.{Fewer, own_place}
-use Rattle.plan_runner.specs.Sound.{Keeps as Stays}
+use Rattle.plan_runner.specs.Sound.{KeepsSite as Stays}
 use Rattle.session_laws.specs.Ends.{Dropped, GivesUp, Kept, Polled}
 use Rattle.session_laws.specs.Lanes.{Held, LaneValue, Ticketed, ticket_places}
 use Rattle.session_laws.specs.Places.{IsAbove, IsRising, is_in}

@@ -79,7 +79,7 @@ use Rattle.session_laws.proofs.PollLaws.{among_other, among_self, now_places}
 use Rattle.session_laws.proofs.SameLaws.{Same, lane_same}
 use Rattle.session_laws.proofs.SessionLaws.{table_kept, table_with}
 use Rattle.session_laws.proofs.TableLaws.{ask_tabled}
-use Rattle.session_lane.specs.Holding.{Holds}
+use Rattle.session_lane.specs.Holding.{HoldsLane}
 use Rattle.session_model.specs.declared.event.Owner.TheVariants as owner
 use Rattle.session_model.specs.declared.entry.Entry.TheVariants as entry
 
@@ -101,13 +101,13 @@ with_again lanes lane u v = λ i w. by_test (lane == w) w i
 
 -- what a lane goes on with is left out,
 pub holds_of : (s : Setting) (past : List Entry) (core : Core) (lanes : ℕ → LaneValue) (lane : ℕ) (dues : List ℕ)
-    → SessionTied s past core lanes dues → lane < length s.lanes → Holds s past core lanes lane dues
+    → SessionTied s past core lanes dues → lane < length s.lanes → HoldsLane s past core lanes lane dues
 holds_of s past core lanes lane dues h there = (let l : LaneTied s past lane (lanes lane) dues = h.each lane there in
     record { work = h.work; table = h.table; ends = l.ends; holds = l.holds; others = λ w lt ne. h.each w lt })
 
 -- and comes back
 pub tied_of : (s : Setting) (past : List Entry) (core : Core) (lanes : ℕ → LaneValue) (lane : ℕ) (dues : List ℕ)
-    → Holds s past core lanes lane dues → LaneGoes s past lane (lanes lane).running (lanes lane).site
+    → HoldsLane s past core lanes lane dues → LaneGoes s past lane (lanes lane).running (lanes lane).site
     (ticket_places (lanes lane).tickets)
     → SessionTied s past core lanes dues
 tied_of s past core lanes lane dues h goes =
@@ -124,7 +124,7 @@ tied_of s past core lanes lane dues h goes =
 pub holds_with : (s : Setting) (now : List Entry) (core : Core) (lanes : ℕ → LaneValue) (lane : ℕ) (v : LaneValue) (dues : List ℕ) → CoreTied s now core
     → Tabled now (among now (tickets_of (with_lane lanes lane v))) (among now (grants_of (with_lane lanes lane v)))
     (at core) → v.ended ≡ ended now lane → LaneHolds s now lane v.tickets v.grants dues
-    → ((w : ℕ) → w < length s.lanes → lane ≢ w → LaneTied s now w (lanes w) dues) → Holds s now core (with_lane lanes lane v) lane dues
+    → ((w : ℕ) → w < length s.lanes → lane ≢ w → LaneTied s now w (lanes w) dues) → HoldsLane s now core (with_lane lanes lane v) lane dues
 holds_with s now core lanes lane v dues work table ends holds others =
     record {
       work = work;
@@ -136,9 +136,9 @@ holds_with s now core lanes lane v dues work table ends holds others =
 
 -- its machine is elsewhere
 pub holds_set : (s : Setting) (past : List Entry) (core : Core) (lanes : ℕ → LaneValue) (lane : ℕ) (v : LaneValue)
-    (dues : List ℕ) → Holds s past core lanes lane dues → v.tickets ≡ (lanes lane).tickets → v.grants
+    (dues : List ℕ) → HoldsLane s past core lanes lane dues → v.tickets ≡ (lanes lane).tickets → v.grants
     ≡ (lanes lane).grants → v.ended ≡ (lanes lane).ended
-    → Holds s past core (with_lane lanes lane v) lane dues
+    → HoldsLane s past core (with_lane lanes lane v) lane dues
 holds_set s past core lanes lane v dues h et eg ee =
     holds_with s past core lanes lane v dues h.work (table_kept past lanes lane v (at core) (ap ticket_places et) (ap grant_places eg) h.table) (ee ∙ h.ends)
     (subst (λ (ts : List Ticketed). LaneHolds s past lane ts v.grants dues) (sym et)
@@ -160,9 +160,9 @@ bare_grants past core lanes s id w table none l = free_bare_grants past (tickets
 
 -- the lane's machine asked something else than a CLOSE
 pub request_holds : (s : Setting) (past : List Entry) (core : Core) (lanes : ℕ → LaneValue) (lane id : ℕ) (q : Request)
-    (r : Running) (site : Site) → Holds s past core lanes lane [] → IsJournal s (own_request past lane id q ∷ past)
+    (r : Running) (site : Site) → HoldsLane s past core lanes lane [] → IsJournal s (own_request past lane id q ∷ past)
     → is_close q ≡ false → at core id ≡ None
-    → Holds s (own_request past lane id q ∷ past) (queued_last core id q true)
+    → HoldsLane s (own_request past lane id q ∷ past) (queued_last core id q true)
     (with_lane lanes lane (asking_lane (lanes lane) (asked past) id (lanes lane).grants r site)) lane []
 request_holds s past core lanes lane id q r site h j plain none =
     let o : Owner = owner.Call lane (ended past lane) in
@@ -223,8 +223,8 @@ other_end s past lane w o ne =
 
 -- the grants of the lane that no slot has any more are due
 pub end_holding : (s : Setting) (past : List Entry) (core : Core) (lanes : ℕ → LaneValue) (lane : ℕ) (o : Outcome)
-    (site : Site) → Holds s past core lanes lane [] → IsJournal s (entry.Event (End lane (ended past lane) o) ∷ past)
-    → Holds s (entry.Event (End lane (ended past lane) o) ∷ past) core (with_lane lanes lane (ended_lane (lanes lane) site)) lane
+    (site : Site) → HoldsLane s past core lanes lane [] → IsJournal s (entry.Event (End lane (ended past lane) o) ∷ past)
+    → HoldsLane s (entry.Event (End lane (ended past lane) o) ∷ past) core (with_lane lanes lane (ended_lane (lanes lane) site)) lane
     (loose_of (site_of s (entry.Event (End lane (ended past lane) o) ∷ past) lane) (grant_places (lanes lane).grants))
 end_holding s past core lanes lane o site h j =
     let now : List Entry = entry.Event (End lane (ended past lane) o) ∷ past in

@@ -27,7 +27,7 @@ use Rattle.session_laws.proofs.SessionLaws.{same_places, table_with}
 use Rattle.session_laws.proofs.TableLaws.{polled_plain}
 use Rattle.session_laws.proofs.TurnLaws.{brings_none}
 use Rattle.session_lane.specs.Tokens.{grants_with}
-use Rattle.session_lane.specs.Holding.{Holds}
+use Rattle.session_lane.specs.Holding.{HoldsLane}
 use Rattle.session_lane.proofs.Holding.{holds_with}
 use Rattle.sftp_model.specs.declared.reply.Reply.TheVariants as reply
 
@@ -60,7 +60,7 @@ plain_polled : (s : Setting) (past : List Entry) (c : Core) (lanes : ℕ → Lan
     (t : Ticketed) (y : Reply) (v : LaneValue) → SessionTied s past c lanes dues → lane < length s.lanes
     → slice_get (lanes lane).tickets k ≡ Some t
     → reply_in (at c t.ticket) ≡ Some y → is_handle y ≡ false → v.tickets ≡ without k (lanes lane).tickets → v.grants
-    ≡ (lanes lane).grants → v.ended ≡ (lanes lane).ended → Holds s past (after_poll c t.ticket)
+    ≡ (lanes lane).grants → v.ended ≡ (lanes lane).ended → HoldsLane s past (after_poll c t.ticket)
     (with_lane lanes lane v) lane dues
 plain_polled s past c lanes dues lane k t y v h there at_k came plain et eg ee =
     let old : LaneValue = lanes lane in
@@ -85,7 +85,7 @@ plain_polled s past c lanes dues lane k t y v h there at_k came plain et eg ee =
     let grants_same : grants_of lanes ≡ with_places (grants_of lanes) lane (grants_of lanes lane) =
     λ i w. same_places (grants_of lanes) lane (grants_of lanes lane) refl w i in
     let is : after_poll c t.ticket ≡ now = polled_is c t.ticket y came ∙ ap (given_leaves c t.ticket) (brings_none y plain) in
-    subst (λ (x : Core). Holds s past x (with_lane lanes lane v) lane dues) (sym is)
+    subst (λ (x : Core). HoldsLane s past x (with_lane lanes lane v) lane dues) (sym is)
     (holds_with s past now lanes lane v dues (core_removed s past c t.ticket h.work)
     (table_with past lanes lane v (without k (ticket_places old.tickets)) (grants_of lanes lane) (at now)
     (sym (ap ticket_places et ∙ ticket_without old.tickets k)) (sym (ap grant_places eg))
@@ -104,7 +104,7 @@ handle_polled : (s : Setting) (past : List Entry) (c : Core) (lanes : ℕ → La
     → reply_in (at c t.ticket) ≡ Some (reply.Handle handle) → is_unended_asker past lane t.place ≡ true → v.tickets
     ≡ without k (lanes lane).tickets → v.grants ≡ (lanes lane).grants ++ brought t handle ∷ [] → v.ended
     ≡ (lanes lane).ended
-    → Holds s past (after_poll c t.ticket) (with_lane lanes lane v) lane []
+    → HoldsLane s past (after_poll c t.ticket) (with_lane lanes lane v) lane []
 handle_polled s past c lanes lane k t handle v h there j at_k came asker et eg ee =
     let old : LaneValue = lanes lane in
     let l : LaneTied s past lane old [] = h.each lane there in
@@ -123,7 +123,7 @@ handle_polled s past c lanes lane k t handle v h there j at_k came asker et eg e
       holder = λ out. holder;
       newer = handles_are_newer s past lane t.place old [] l j has (ap is_granted got.1.1) asker;
     } in
-    subst (λ (x : Core). Holds s past x (with_lane lanes lane v) lane []) (sym (polled_is c t.ticket (reply.Handle handle) came))
+    subst (λ (x : Core). HoldsLane s past x (with_lane lanes lane v) lane []) (sym (polled_is c t.ticket (reply.Handle handle) came))
     (holds_with s past now lanes lane v [] (core_placed s past c t.ticket (Granted handle 1) h.work)
     (table_with past lanes lane v (without k (ticket_places old.tickets)) (grant_places old.grants ++ t.place ∷ [])
     (at now) (sym (ap ticket_places et ∙ ticket_without old.tickets k))
@@ -142,7 +142,7 @@ pub polled_holds : (s : Setting) (past : List Entry) (c : Core) (lanes : ℕ →
     (y : Reply) → SessionTied s past c lanes [] → lane < length s.lanes → IsJournal s past
     → slice_get (lanes lane).tickets k ≡ Some t
     → reply_in (at c t.ticket) ≡ Some y → (is_handle y ≡ true → is_unended_asker past lane t.place ≡ true)
-    → Holds s past (after_poll c t.ticket) (with_lane lanes lane (polled_lane (lanes lane) k t y)) lane []
+    → HoldsLane s past (after_poll c t.ticket) (with_lane lanes lane (polled_lane (lanes lane) k t y)) lane []
 polled_holds s past c lanes lane k t (reply.Handle handle) h there j at_k came asker =
     handle_polled s past c lanes lane k t handle (polled_lane (lanes lane) k t (reply.Handle handle)) h there j at_k came (asker refl) refl refl refl
 polled_holds s past c lanes lane k t y h there j at_k came asker =

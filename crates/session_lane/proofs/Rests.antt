@@ -32,9 +32,9 @@ use Rattle.plan_runner.specs.Sound.{Fits, Sound, StandsAt}
 use Rattle.plan_runner.specs.Pending.{own_place, reads_under}
 use Rattle.plan_model.specs.declared.call.Call.{Call}
 use Rattle.session_model.specs.declared.entry.Entry.{Entry}
-use Rattle.session_model.specs.Readings.{Asked, answer, asked, asked_at}
+use Rattle.session_model.specs.Readings.{AskedRequest, answer, asked, asked_at}
 use Rattle.session_model.specs.Calls.{Setting, site_of}
-use Rattle.session_model.specs.Ids.{IdState, Free, Pending, Replied, Reads, id_state}
+use Rattle.session_model.specs.Ids.{IdState, Free, Pending, Replied, ReadsId, id_state}
 use Rattle.session_model.specs.Journals.{IsJournal}
 use Rattle.session_model.proofs.CallsSoFar.{reply_may}
 use Rattle.session_model.proofs.IdLaws.{reads}
@@ -78,7 +78,7 @@ use Rattle.session_lane.specs.Turning.{
   Widening,
 }
 use Rattle.session_lane.specs.Holding.{TurnTied}
-use Rattle.session_lane.specs.Rests.{IsSmall, Leaves, TurnsLeaveRest}
+use Rattle.session_lane.specs.Rests.{IsSmall, LeavesLane, TurnsLeaveRest}
 use Rattle.session_lane.specs.declared.lane.Moved.{Moved}
 use Rattle.session_lane.specs.declared.lane.Moved.TheVariants as moved
 use Rattle.session_lane.proofs.AskLaws.{held_after, held_on, widens_on, widens_others}
@@ -102,7 +102,7 @@ all_allowed : (s : Setting) (past : List Entry) (w g : ℕ → Bool) (table : �
     → Tabled past w g table → IsAllowed (table id)
 all_allowed s past w g table id j t = subst IsAllowed (sym (t id)) (by_state (id_state past id) (reads past id))
   where
-    by_state : (x : IdState) → Reads past id x → IsAllowed (stand w g x)
+    by_state : (x : IdState) → ReadsId past id x → IsAllowed (stand w g x)
     by_state Free is = tt
     by_state (Pending p a b) is = tt
     by_state (Replied p a r) is = by_places (w p) (g p) (expected_of a.request) r (reply_may s past p r a j is.1 is.2)
@@ -152,7 +152,7 @@ others_left past lane k q v r a rise was looks here p has = elim (a.only p (in_l
 looking_asks : (past : List Entry) (lane : ℕ) (now : LaneValue) (r : Running) → now.running ≡ Some r
     → own_place (Some r) ≡ None → ((p : ℕ) → is_in p (ticket_places now.tickets) ≡ true → IsTransferAt past p)
     → ((g : ℕ) → opened_by r ≡ Some g → is_in g (grant_places now.grants) ≡ true) → ((x : ReadAt) → IsAmong x (reads_under (Some r)) → IsReadAt past x)
-    → ((p : ℕ) (a : Asked) (y : Reply) → awaited r now.site ≡ Some p → asked_at past p ≡ Some a → may_answer a.request y
+    → ((p : ℕ) (a : AskedRequest) (y : Reply) → awaited r now.site ≡ Some p → asked_at past p ≡ Some a → may_answer a.request y
     ≡ true → Fits r (Some y)) → LaneAsks past lane now
 looking_asks past lane now r was deferred others keeps reads fits =
     record {
@@ -165,7 +165,7 @@ looking_asks past lane now r was deferred others keeps reads fits =
     }
 
 -- the READ that was under way before the call fits: it was asked where the file stands
-under_way_fits : (s : Setting) (past : List Entry) (lane p : ℕ) (r : Running) (bytes : List ℕ) (a : Asked) (y : Reply)
+under_way_fits : (s : Setting) (past : List Entry) (lane p : ℕ) (r : Running) (bytes : List ℕ) (a : AskedRequest) (y : Reply)
     → IsJournal s past → Sound r bytes (site_of s past lane) s.facts → own_place (Some r) ≡ None
     → awaited r (site_of s past lane) ≡ Some p
     → asked_at past p ≡ Some a → may_answer a.request y ≡ true → (is_window r ≡ true → ⊥) → Fits r (Some y)
@@ -188,7 +188,7 @@ under_way_fits s past lane p other bytes a y j sound deferred looks there may no
 -- whatever reply comes, or the one to a READ of a whole read
 waited_fits : (past : List Entry) (r : Running) (site : Site) → ((y : Reply) → Fits r (Some y)) ⊎ (is_window r ≡ true)
     → ((x : ReadAt) → IsAmong x (reads_under (Some r)) → IsReadAt past x)
-    → (p : ℕ) (a : Asked) (y : Reply) → awaited r site ≡ Some p → asked_at past p ≡ Some a → may_answer a.request y ≡ true → Fits r (Some y)
+    → (p : ℕ) (a : AskedRequest) (y : Reply) → awaited r site ≡ Some p → asked_at past p ≡ Some a → may_answer a.request y ≡ true → Fits r (Some y)
 waited_fits past r site (inl all) reads p a y looks there may = all y
 waited_fits past r site (inr window) reads p a y looks there may = window_fits past r site window reads p a y looks there may
 
@@ -204,10 +204,10 @@ settles_on : (s : Setting) (past : List Entry) (core c new : Core) (lanes : ℕ 
     → GoesOnAsking opened (asked past) reads old now.site n → ((x : ReadAt) → IsAmong x reads → IsReadAt past x)
     → now.ended ≡ (lanes lane).ended → Settles c new tickets now.tickets grants now.grants now.running (asked past) n m
     → TurnTied s past new (with_lane lanes lane) lane now m → SpendsOn s past new lanes lane now m
-    → Leaves s past core new lanes begun lane now m
+    → LeavesLane s past core new lanes begun lane now m
 settles_on s past core c new lanes begun lane now tickets grants opened reads old (step.Wait r) m h there small mid
     bears others held asks stood same settles t ids =
-    subst (λ (x : Moved). Leaves s past core new lanes begun lane now x) (sym settles.2)
+    subst (λ (x : Moved). LeavesLane s past core new lanes begun lane now x) (sym settles.2)
     (goes_rest s past core c new lanes begun lane now r h there mid settles.0.core settles.1
     (looking_asks past lane now r settles.1 asks.0.deferred (λ q has. others q
     (ap (λ (ts : List Ticketed). is_in q (ticket_places ts)) (sym settles.0.pushed) ∙ has))
@@ -256,7 +256,7 @@ begins_on : (s : Setting) (past : List Entry) (core new : Core) (lanes : ℕ →
     → now.ended ≡ (lanes lane).ended → (lanes lane).running ≡ None
     → Settles core new (lanes lane).tickets now.tickets (lanes lane).grants now.grants now.running (asked past) n m
     → TurnTied s past new (with_lane lanes lane) lane now m → SpendsOn s past new lanes lane now m
-    → Leaves s past core new lanes begun lane now m
+    → LeavesLane s past core new lanes begun lane now m
 begins_on s past core new lanes begun lane now m n h there small asks same idle settles t ids =
     let b = h.between in
     let v : LaneValue = lanes lane in
@@ -277,13 +277,13 @@ begins_waiting : (s : Setting) (past : List Entry) (core new : Core) (lanes : �
     → Looks None [] now.site r → now.site ≡ (lanes lane).site → Sound r (bytes_of c) now.site s.facts
     → Settles core new (lanes lane).tickets now.tickets (lanes lane).grants now.grants now.running (asked past)
     (step.Wait r) m → TurnTied s past new (with_lane lanes lane) lane now m
-    → SpendsOn s past new lanes lane now m → Leaves s past core new lanes begun lane now m
+    → SpendsOn s past new lanes lane now m → LeavesLane s past core new lanes begun lane now m
 begins_waiting s past core new lanes begun lane c now m r h there idle looks same sound settles t ids =
     let b = h.between in
     let v : LaneValue = lanes lane in
     let ties = subst (λ (o : Option Running). AtTied s past lane o v.site) idle (b.tied.each lane there).goes.runs in
     let is : now.site ≡ site_of s past lane = same ∙ ties.1 in
-    subst (λ (x : Moved). Leaves s past core new lanes begun lane now x) (sym settles.2)
+    subst (λ (x : Moved). LeavesLane s past core new lanes begun lane now x) (sym settles.2)
     (goes_rest s past core core new lanes begun lane now r h there (midway_self past core b.counted) settles.0.core settles.1
     (looking_asks past lane now r settles.1 looks.deferred (λ q has. others_all past lane v (b.asks lane there)
     (ap own_place idle) q (ap (λ (ts : List Ticketed). is_in q (ticket_places ts)) (sym settles.0.pushed) ∙ has))
@@ -300,7 +300,7 @@ begins_rest : (s : Setting) (past : List Entry) (core new : Core) (lanes : ℕ �
     → BeginsAsking None (asked past) (lanes lane).site now.site n → now.ended ≡ (lanes lane).ended
     → (lanes lane).running ≡ None → Settles core new (lanes lane).tickets now.tickets (lanes lane).grants now.grants
     now.running (asked past) n m → TurnTied s past new (with_lane lanes lane) lane now m
-    → SpendsOn s past new lanes lane now m → Leaves s past core new lanes begun lane now m
+    → SpendsOn s past new lanes lane now m → LeavesLane s past core new lanes begun lane now m
 begins_rest s past core new lanes begun lane c now (moved.Asked id q) (step.Ask (ask.Close g) r) h there small ran asks same idle settles t ids =
     let b = h.between in
     let v : LaneValue = lanes lane in
@@ -323,7 +323,7 @@ begins_rest s past core new lanes begun lane c now m (step.Done o) h there small
 replied_rests : (s : Setting) (past : List Entry) (core new : Core) (lanes : ℕ → LaneValue) (begun : ℕ → Bool)
     (lane : ℕ) (c : Call) (now : LaneValue) (m : Moved) → AtRest s past core lanes begun → lane < length s.lanes
     → IsSmall m → TurnReplied c s.facts (asked past) core new (lanes lane) now m
-    → TurnTied s past new (with_lane lanes lane) lane now m → SpendsOn s past new lanes lane now m → Leaves s past core new lanes begun lane now m
+    → TurnTied s past new (with_lane lanes lane) lane now m → SpendsOn s past new lanes lane now m → LeavesLane s past core new lanes begun lane now m
 replied_rests s past core new lanes begun lane c now m h there small x t ids =
     let b = h.between in
     let v : LaneValue = lanes lane in
@@ -355,7 +355,7 @@ replied_rests s past core new lanes begun lane c now m h there small x t ids =
 unreplied_rests : (s : Setting) (past : List Entry) (core new : Core) (lanes : ℕ → LaneValue) (begun : ℕ → Bool)
     (lane : ℕ) (c : Call) (now : LaneValue) (m : Moved) → AtRest s past core lanes begun → lane < length s.lanes
     → IsSmall m → TurnUnreplied c s.facts (asked past) core new (lanes lane) now m
-    → TurnTied s past new (with_lane lanes lane) lane now m → SpendsOn s past new lanes lane now m → Leaves s past core new lanes begun lane now m
+    → TurnTied s past new (with_lane lanes lane) lane now m → SpendsOn s past new lanes lane now m → LeavesLane s past core new lanes begun lane now m
 unreplied_rests s past core new lanes begun lane c now m h there small x t ids =
     let b = h.between in
     let v : LaneValue = lanes lane in
@@ -373,7 +373,7 @@ unreplied_rests s past core new lanes begun lane c now m h there small x t ids =
 widened_rests : (s : Setting) (past : List Entry) (core new : Core) (lanes : ℕ → LaneValue) (begun : ℕ → Bool)
     (lane : ℕ) (c : Call) (now : LaneValue) (m : Moved) → AtRest s past core lanes begun → lane < length s.lanes
     → IsSmall m → TurnWidens c s.facts (asked past) core new (lanes lane) now m
-    → TurnTied s past new (with_lane lanes lane) lane now m → SpendsOn s past new lanes lane now m → Leaves s past core new lanes begun lane now m
+    → TurnTied s past new (with_lane lanes lane) lane now m → SpendsOn s past new lanes lane now m → LeavesLane s past core new lanes begun lane now m
 widened_rests s past core new lanes begun lane c now m h there small x t ids =
     let b = h.between in
     let v : LaneValue = lanes lane in
@@ -404,7 +404,7 @@ turns_leave s past core new lanes begun lane c now m h there is few small turned
     ids : SpendsOn s past new lanes lane now m
     ids = turn_spends s past core new lanes begun lane c now m h there is few (moves m tied) turned
 
-    by_turn : Turned c s.facts (asked past) core new (lanes lane) now m → Leaves s past core new lanes begun lane now m
+    by_turn : Turned c s.facts (asked past) core new (lanes lane) now m → LeavesLane s past core new lanes begun lane now m
     by_turn (Begun x) = begins_rest s past core new lanes begun lane c now m x.answer h there small x.ran x.asks x.ended x.was x.settles tied ids
     by_turn (Replied x) = replied_rests s past core new lanes begun lane c now m h there small x tied ids
     by_turn (Unreplied x) = unreplied_rests s past core new lanes begun lane c now m h there small x tied ids
@@ -412,5 +412,5 @@ turns_leave s past core new lanes begun lane c now m h there is few small turned
     by_turn (StillWaiting x) =
         subst (λ (y : Moved). TurnWaits c s.facts core new (lanes lane) now y
         → TurnTied s past new (with_lane lanes lane) lane now y → SpendsOn s past new lanes lane now y
-        → Leaves s past core new lanes begun lane now y) (sym x.is)
+        → LeavesLane s past core new lanes begun lane now y) (sym x.is)
         (λ w t ids. waits_rest s past core new lanes begun lane c now h there w t ids) x tied ids

@@ -14,12 +14,12 @@ use Rattle.session_model.specs.declared.entry.Entry.{Entry}
 use Rattle.session_model.specs.Readings.{answer, asked, ended, last_cancel}
 use Rattle.session_model.specs.Calls.{Setting, site_of}
 use Rattle.session_model.specs.Grants.{is_close, is_grant}
-use Rattle.session_model.specs.Ids.{Reads}
+use Rattle.session_model.specs.Ids.{ReadsId}
 use Rattle.session_model.specs.Journals.{IsJournal}
 use Rattle.session_model.proofs.IdLaws.{reads}
 use Rattle.session_laws.specs.Changes.{asking_lane, ended_lane, with_lane}
 use Rattle.session_laws.specs.Dues.{Dues, loose_of}
-use Rattle.session_laws.specs.Going.{GoesOn}
+use Rattle.session_laws.specs.Going.{LaneGoesOn}
 use Rattle.session_laws.specs.Lanes.{Held, LaneGoes, LaneHolds, LaneValue, SessionTied, Ticketed, grant_places, ticket_places}
 use Rattle.session_laws.specs.Places.{is_in}
 use Rattle.session_laws.specs.Running.{IsFilled, own_request}
@@ -27,7 +27,7 @@ use Rattle.session_laws.proofs.CloseLaws.{grant_state}
 use Rattle.session_laws.proofs.EndHolds.{end_dues}
 use Rattle.session_laws.proofs.HoldLaws.{ticket_push}
 use Rattle.session_lane.specs.Tokens.{Bears}
-use Rattle.session_lane.specs.Holding.{Holds, TurnTied}
+use Rattle.session_lane.specs.Holding.{HoldsLane, TurnTied}
 use Rattle.session_lane.specs.declared.lane.Moved.TheVariants as moved
 use Rattle.session_lane.proofs.Holding.{end_holding, holds_set, request_holds, tied_of, with_here}
 use Rattle.sftp_model.specs.declared.reply.Reply.TheVariants as reply
@@ -36,7 +36,7 @@ use Rattle.session_model.specs.declared.entry.Entry.TheVariants as entry
 
 -- a lane that goes on with its value is tied
 pub tied_at : (s : Setting) (past : List Entry) (core : Core) (lanes : ℕ → LaneValue) (lane : ℕ) (v : LaneValue)
-    (dues : List ℕ) → Holds s past core (with_lane lanes lane v) lane dues
+    (dues : List ℕ) → HoldsLane s past core (with_lane lanes lane v) lane dues
     → LaneGoes s past lane v.running v.site (ticket_places v.tickets)
     → SessionTied s past core (with_lane lanes lane v) dues
 tied_at s past core lanes lane v dues h goes =
@@ -49,7 +49,7 @@ pub bears : (s : Setting) (past : List Entry) (lane : ℕ) (ts : List Ticketed) 
     (answers : Answers) → LaneHolds s past lane ts gs dues → Extends (answer past) answers → Bears gs answers
 bears s past lane ts gs dues answers l more k g got =
     (let state = grant_state past gs k g l.held got in
-    more g.place (reply.Handle g.grant.handle) (subst (Reads past g.grant.id) state.1 (reads past g.grant.id)).1)
+    more g.place (reply.Handle g.grant.handle) (subst (ReadsId past g.grant.id) state.1 (reads past g.grant.id)).1)
 
 -- so the request that a lane filled is the one that the journal says
 pub filled_for : (s : Setting) (past : List Entry) (lane : ℕ) (ts : List Ticketed) (gs : List Held) (dues : List ℕ)
@@ -64,7 +64,7 @@ filled_for s past lane ts gs dues a q l is =
 
 -- it awaits another reply
 pub wait_tied : (s : Setting) (past : List Entry) (c new : Core) (lanes : ℕ → LaneValue) (lane : ℕ) (now : LaneValue)
-    (r : Running) → Holds s past c lanes lane [] → new ≡ c → now.tickets ≡ (lanes lane).tickets → now.grants
+    (r : Running) → HoldsLane s past c lanes lane [] → new ≡ c → now.tickets ≡ (lanes lane).tickets → now.grants
     ≡ (lanes lane).grants → now.ended ≡ (lanes lane).ended
     → now.running ≡ Some r → LaneGoes s past lane (Some r) now.site (ticket_places (lanes lane).tickets) → SessionTied s past new (with_lane lanes lane now) []
 wait_tied s past c new lanes lane now r h ec et eg ee er goes =
@@ -75,10 +75,10 @@ wait_tied s past c new lanes lane now r h ec et eg ee er goes =
 
 -- it ends
 pub done_tied : (s : Setting) (past : List Entry) (c new : Core) (lanes : ℕ → LaneValue) (lane : ℕ) (now : LaneValue)
-    (o : Outcome) → Holds s past c lanes lane [] → Dues s past [] → IsJournal s past → last_cancel past ≡ None
+    (o : Outcome) → HoldsLane s past c lanes lane [] → Dues s past [] → IsJournal s past → last_cancel past ≡ None
     → ((p : ℕ) → is_in p (ticket_places (lanes lane).tickets) ≡ true → is_grant past p ≡ false) → new ≡ c → now.tickets
     ≡ (lanes lane).tickets → now.grants ≡ (lanes lane).grants → now.ended ≡ (lanes lane).ended
-    → GoesOn s past lane (ticket_places (lanes lane).tickets) now.site (step.Done o) → TurnTied s past new (with_lane lanes lane) lane now (moved.Ended o)
+    → LaneGoesOn s past lane (ticket_places (lanes lane).tickets) now.site (step.Done o) → TurnTied s past new (with_lane lanes lane) lane now (moved.Ended o)
 done_tied s past c new lanes lane now o h d j calm none ec et eg ee goes =
     let v : LaneValue = lanes lane in
     let same : ended_lane v now.site ≡ ended_lane now now.site =
@@ -100,11 +100,11 @@ done_tied s past c new lanes lane now o h d j calm none ec et eg ee goes =
 
 -- it asks something else than a CLOSE
 pub ask_tied : (s : Setting) (past : List Entry) (c new : Core) (lanes : ℕ → LaneValue) (lane id : ℕ) (now : LaneValue)
-    (a : Asked) (r : Running) (q : Request) → Holds s past c lanes lane [] → is_close q ≡ false
+    (a : Asked) (r : Running) (q : Request) → HoldsLane s past c lanes lane [] → is_close q ≡ false
     → ((answers : Answers) → Bears (lanes lane).grants answers → q ≡ filled a answers) → at c id ≡ None → new
     ≡ queued_last c id q true → now.tickets ≡ (lanes lane).tickets
     ++ (record { place = asked past; ticket = id }) ∷ [] → now.grants ≡ (lanes lane).grants
-    → now.ended ≡ (lanes lane).ended → now.running ≡ Some r → GoesOn s past lane (ticket_places (lanes lane).tickets)
+    → now.ended ≡ (lanes lane).ended → now.running ≡ Some r → LaneGoesOn s past lane (ticket_places (lanes lane).tickets)
     now.site (step.Ask a r) → TurnTied s past new (with_lane lanes lane) lane now (moved.Asked id q)
 ask_tied s past c new lanes lane id now a r q h plain is free ec et eg ee er goes =
     let v : LaneValue = lanes lane in

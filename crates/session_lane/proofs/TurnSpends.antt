@@ -40,7 +40,7 @@ use Rattle.plan_model.specs.declared.call.Call.{Call}
 use Rattle.session_model.specs.declared.event.Event.TheVariants.{End}
 use Rattle.session_model.specs.declared.entry.Entry.{Entry}
 use Rattle.session_model.specs.declared.entry.Entry.TheVariants as entry
-use Rattle.session_model.specs.Readings.{Asked, answer, asked, asked_at, ended, own}
+use Rattle.session_model.specs.Readings.{AskedRequest, answer, asked, asked_at, ended, own}
 use Rattle.session_model.specs.Calls.{Setting, current, move_at, move_of, site_of}
 use Rattle.session_model.specs.Grants.{is_asked_by, is_grant, is_granted}
 use Rattle.session_model.specs.Journals.{IsJournal}
@@ -61,7 +61,7 @@ use Rattle.session_laws.proofs.BudgetLaws.{spending_end, spending_mine, spending
 use Rattle.session_laws.proofs.KeptLaws.{kept_ask, kept_polled, kept_released}
 use Rattle.session_lane.specs.Rests.{AsksFew}
 use Rattle.session_lane.specs.Turning.{
-  Asks,
+  AsksOrCloses,
   IsActive,
   Settles,
   TurnBegins,
@@ -111,21 +111,21 @@ AskMoves s past lane other = Unit {0}
 -- ---- what the core keeps
 
 submits_kept : (old new : Core) (tickets now : List Ticketed) (grants held : List Held) (place : ℕ) (a : Ask_of)
-    (id : ℕ) (q : Request) → IsNoClose a → Asks old new tickets now grants held place a id q → kept new ≤ kept old + 1
+    (id : ℕ) (q : Request) → IsNoClose a → AsksOrCloses old new tickets now grants held place a id q → kept new ≤ kept old + 1
 submits_kept old new tickets now grants held place (ask.Close g) id q plain x = absurd plain
 submits_kept old new tickets now grants held place other id q plain x = subst (λ (y : Core). kept y ≤ kept old + 1) (sym x.core) (kept_ask old id q true)
 
 asks_kept : (old new : Core) (tickets now : List Ticketed) (grants held : List Held) (place : ℕ) (a : Ask_of) (id : ℕ)
     (q : Request) → ((k : ℕ) (h : Held) → slice_get grants k ≡ Some h → at old h.grant.id
     ≡ Some (Granted h.grant.handle 1))
-    → Asks old new tickets now grants held place a id q → kept new ≤ kept old + 1
+    → AsksOrCloses old new tickets now grants held place a id q → kept new ≤ kept old + 1
 asks_kept old new tickets now grants held place (ask.Close g) id q stands x =
     (let same = kept_released old x.grant (stands x.k (record { place = g; grant = x.grant }) x.here) in let is = ap kept x.core in omega (arith, same, is))
 asks_kept old new tickets now grants held place other id q stands x = submits_kept old new tickets now grants held place other id q tt x
 
 -- ---- a HANDLE comes to the first request of its call
 
-only_one : (s : Setting) (past : List Entry) (lane p : ℕ) (a : Asked) → IsJournal s past → asked_at past p ≡ Some a
+only_one : (s : Setting) (past : List Entry) (lane p : ℕ) (a : AskedRequest) → IsJournal s past → asked_at past p ≡ Some a
     → is_grant past p ≡ true → is_asked_by (asked_at past p) lane (ended past lane) ≡ true
     → IsLast (own past lane (ended past lane)) p → length (own past lane (ended past lane)) ≡ 1
 only_one s past lane p a j there grant mine last = by_front last.front refl

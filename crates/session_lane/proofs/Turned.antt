@@ -14,7 +14,7 @@ use Rattle.plan_model.specs.Moves.{Plan, handle_of}
 use Rattle.plan_runner.specs.Cancelling.{Leaving}
 use Rattle.plan_runner.specs.declared.next.Next.{Next}
 use Rattle.plan_runner.specs.declared.next.Running.{Running}
-use Rattle.plan_runner.specs.Runners.{Goes, awaited, bytes_of, filled, waits}
+use Rattle.plan_runner.specs.Runners.{RunsByPlan, awaited, bytes_of, filled, waits}
 use Rattle.plan_model.specs.declared.call.Call.{Call}
 use Rattle.session_model.specs.declared.entry.Entry.{Entry}
 use Rattle.session_model.specs.Readings.{answer, asked, last_cancel}
@@ -23,7 +23,7 @@ use Rattle.session_model.specs.Grants.{is_grant, is_granted}
 use Rattle.session_model.specs.Journals.{IsJournal}
 use Rattle.session_laws.specs.Changes.{asking_lane, with_lane}
 use Rattle.session_laws.specs.Dues.{Dues}
-use Rattle.session_laws.specs.Going.{GoesOn, MachineStep, MachineWidens}
+use Rattle.session_laws.specs.Going.{LaneGoesOn, MachineStep, MachineWidens}
 use Rattle.session_laws.specs.Lanes.{CoreTied, Held, LaneGoes, LaneTied, LaneValue, MayGoOn as MayRun, SessionTied, Ticketed, ticket_places}
 use Rattle.session_laws.specs.Places.{IsRising, is_in, without}
 use Rattle.session_laws.specs.Running.{own_request}
@@ -39,7 +39,7 @@ use Rattle.session_lane.specs.Turning.{
   ClosesNothing,
   IsOpen,
   IsSoundRun,
-  Ran,
+  AnswersByPlan,
   Releases,
   Settles,
   TurnReplied,
@@ -52,7 +52,7 @@ use Rattle.session_lane.specs.Turning.{
   Widened,
   Widening,
 }
-use Rattle.session_lane.specs.Holding.{HandlesAreAwaited, Holds, LanesMayTurn, TurnTied, TurnsKeep}
+use Rattle.session_lane.specs.Holding.{HandlesAreAwaited, HoldsLane, LanesMayTurn, TurnTied, TurnsKeep}
 use Rattle.session_lane.specs.declared.lane.Moved.{Moved}
 use Rattle.session_lane.specs.declared.lane.Moved.TheVariants as moved
 use Rattle.session_lane.proofs.AskLaws.{closes_nothing, widens_on}
@@ -67,16 +67,16 @@ use Rattle.plan_model.specs.CallPlans.{next}
 
 -- the clauses of a machine's answer, by the journal
 step_of : (s : Setting) (past : List Entry) (c : Call) (plan : Plan) (leave : Leaving) (before : ℕ → ℕ) (old new : Site)
-    (n : Next) → Ran c s.facts (asked past) plan leave before old new n
+    (n : Next) → AnswersByPlan c s.facts (asked past) plan leave before old new n
     → MachineStep s past c plan leave before old new n
 step_of s past c plan leave before old new n ran = record { goes = ran.goes; left = ran.left; sound = ran.sound; pends = ran.pends }
 
 -- ---- a machine's answer that asks no CLOSE
 
 settled : (s : Setting) (past : List Entry) (c new : Core) (lanes : ℕ → LaneValue) (lane : ℕ) (now : LaneValue)
-    (n : Next) (m : Moved) → Holds s past c lanes lane [] → Dues s past [] → IsJournal s past → last_cancel past ≡ None
+    (n : Next) (m : Moved) → HoldsLane s past c lanes lane [] → Dues s past [] → IsJournal s past → last_cancel past ≡ None
     → ((p : ℕ) → is_in p (ticket_places (lanes lane).tickets) ≡ true → is_grant past p ≡ false) → now.ended
-    ≡ (lanes lane).ended → GoesOn s past lane (ticket_places (lanes lane).tickets) now.site n → ClosesNothing n
+    ≡ (lanes lane).ended → LaneGoesOn s past lane (ticket_places (lanes lane).tickets) now.site n → ClosesNothing n
     → Settles c new (lanes lane).tickets now.tickets (lanes lane).grants now.grants now.running (asked past) n m
     → TurnTied s past new (with_lane lanes lane) lane now m
 settled s past c new lanes lane now (step.Wait r) m h d j calm none ee goes on is =
@@ -98,9 +98,9 @@ settled s past c new lanes lane now (step.Ask a r) (moved.Asked id q) h d j calm
 close_begun : (s : Setting) (past : List Entry) (c new : Core) (lanes : ℕ → LaneValue) (lane g id : ℕ) (call : Call)
     (now : LaneValue) (r : Running) (q : Request) → SessionTied s past c lanes [] → lane < length s.lanes
     → current s past lane ≡ Some call → (lanes lane).running ≡ None
-    → Goes (next call (lanes lane).site s.facts) (asked past) (bytes_of call) now.site s.facts
+    → RunsByPlan (next call (lanes lane).site s.facts) (asked past) (bytes_of call) now.site s.facts
     (step.Ask (ask.Close g) r) → now.ended ≡ (lanes lane).ended → now.running ≡ Some r
-    → GoesOn s past lane (ticket_places (lanes lane).tickets) now.site (step.Ask (ask.Close g) r)
+    → LaneGoesOn s past lane (ticket_places (lanes lane).tickets) now.site (step.Ask (ask.Close g) r)
     → Releases c new (lanes lane).tickets now.tickets (lanes lane).grants now.grants (asked past) g id q
     → TurnTied s past new (with_lane lanes lane) lane now (moved.Asked id q)
 close_begun s past c new lanes lane g id call now r q h there is idle plan ee er goes x =
@@ -149,7 +149,7 @@ begun_by : (s : Setting) (past : List Entry) (c new : Core) (lanes : ℕ → Lan
     → last_cancel past ≡ None → Dues s past []
     → current s past lane ≡ Some call → HandlesAreAwaited past lane (lanes lane) → now.ended ≡ (lanes lane).ended
     → (lanes lane).running ≡ None → Began call s.facts (asked past) (lanes lane).site now.site n
-    → GoesOn s past lane (ticket_places (lanes lane).tickets) now.site n
+    → LaneGoesOn s past lane (ticket_places (lanes lane).tickets) now.site n
     → Settles c new (lanes lane).tickets now.tickets (lanes lane).grants now.grants now.running (asked past) n m
     → TurnTied s past new (with_lane lanes lane) lane now m
 begun_by s past c new lanes lane call now (step.Ask (ask.Close g) r) (moved.Asked id q) h there j calm d is only ee idle ran goes settles =
@@ -205,11 +205,11 @@ replied_by s past core new lanes lane call now m h there j calm d is only x =
     let after : ℕ → LaneValue = with_lane lanes lane u in
     let got : answer past t.place ≡ Some x.reply = sym (replies_agree s past core lanes [] lane k t h there x.spent.here) ∙ x.spent.came in
     let has : is_in t.place (ticket_places v.tickets) ≡ true = at_in (ticket_places v.tickets) k t.place (ticket_index v.tickets k t x.spent.here) in
-    let p : Holds s past (after_poll core t.ticket) after lane [] =
+    let p : HoldsLane s past (after_poll core t.ticket) after lane [] =
     polled_holds s past core lanes lane k t x.reply h there j x.spent.here x.spent.came
     (λ e. (only t.place has (ap is_granted got ∙ e)).0) in
-    let goes : GoesOn s past lane (ticket_places u.tickets) now.site x.answer =
-    subst (λ (ps : List ℕ). GoesOn s past lane ps now.site x.answer) (sym (ticket_without v.tickets k))
+    let goes : LaneGoesOn s past lane (ticket_places u.tickets) now.site x.answer =
+    subst (λ (ps : List ℕ). LaneGoesOn s past lane ps now.site x.answer) (sym (ticket_without v.tickets k))
     (reply_lane s past lane k v [] call x.running t x.reply now.site x.answer l is x.was x.spent.here x.looks got
     (step_of s past call _ _ _ v.site now.site x.answer x.ran)) in
     let settles : Settles (after_poll core t.ticket) new u.tickets now.tickets u.grants now.grants now.running (asked past) x.answer m =
@@ -224,7 +224,7 @@ replied_by s past core new lanes lane call now m h there j calm d is only x =
     (settled s past (after_poll core t.ticket) new after lane now x.answer m p d j calm
     (subst (λ (y : LaneValue). (q : ℕ) → is_in q (ticket_places y.tickets) ≡ true → is_grant past q ≡ false) here none)
     (x.ended ∙ ap (λ (y : LaneValue). y.ended) here)
-    (subst (λ (y : LaneValue). GoesOn s past lane (ticket_places y.tickets) now.site x.answer) here goes) (closes_nothing _ _ _ _ _ x.answer x.asks)
+    (subst (λ (y : LaneValue). LaneGoesOn s past lane (ticket_places y.tickets) now.site x.answer) here goes) (closes_nothing _ _ _ _ _ x.answer x.asks)
     (subst (λ (y : LaneValue). Settles (after_poll core t.ticket) new y.tickets now.tickets y.grants now.grants
     now.running (asked past) x.answer m) here settles))
 
@@ -268,8 +268,8 @@ widened_by : (s : Setting) (past : List Entry) (core new : Core) (lanes : ℕ �
 widened_by s past core new lanes lane call now m h there j calm d is only x =
     let v : LaneValue = lanes lane in
     let missing : answer past x.ticket.place ≡ None = sym (replies_agree s past core lanes [] lane x.k x.ticket h there x.here) ∙ x.missing in
-    let goes : GoesOn s past lane (ticket_places v.tickets) now.site x.answer =
-    subst (λ (y : Site). GoesOn s past lane (ticket_places v.tickets) y x.answer) (sym x.site)
+    let goes : LaneGoesOn s past lane (ticket_places v.tickets) now.site x.answer =
+    subst (λ (y : Site). LaneGoesOn s past lane (ticket_places v.tickets) y x.answer) (sym x.site)
     (widen_lane s past lane x.ticket.place v [] call x.running x.answer (h.each lane there) is x.was x.looks missing
     (widens_of s past call x.running v.site x.answer x.ran)) in
     settled s past core new lanes lane now x.answer m (holds_of s past core lanes lane [] h there) d j calm

@@ -28,7 +28,7 @@ use Rattle.session_laws.specs.Lanes.{
 use Rattle.session_laws.specs.Places.{is_in}
 use Rattle.session_laws.specs.Running.{own_request}
 use Rattle.session_laws.specs.Tables.{Tabled}
-use Rattle.session_lane.specs.Tokens.{AreGrants, AreTickets}
+use Rattle.session_lane.specs.Tokens.{AreGrants, AreCounted}
 use Rattle.session_lane.specs.Turning.{HasAwaited, IsOpen, IsSafe, Turned}
 use Rattle.plan_model.specs.declared.call.Call.{Call}
 use Rattle.sftp_model.specs.declared.slot.Facts.{Facts}
@@ -37,7 +37,8 @@ use Rattle.session_lane.specs.declared.lane.Moved.TheVariants as moved
 use Rattle.session_model.specs.declared.entry.Entry.TheVariants as entry
 
 -- The core and what the lanes hold is what the journal says, and of the other lanes what they go on with too.
-pub record Holds (s : Setting) (past : List Entry) (core : Core) (lanes : ℕ → LaneValue) (lane : ℕ) (dues : List ℕ) :
+pub record HoldsLane (s : Setting) (past : List Entry) (core : Core) (lanes : ℕ → LaneValue) (lane : ℕ) (dues : List ℕ)
+    :
     Type 0 where
   pub work : CoreTied s past core
   pub table : Tabled past (among past (tickets_of lanes)) (among past (grants_of lanes)) (at core)
@@ -86,7 +87,7 @@ TurnsKeep = (s : Setting) (past : List Entry) (core new : Core) (lanes : ℕ →
 
 -- what a turn of a lane asks for
 pub record MayGoOn (c : Call) (facts : Facts) (core : Core) (v : LaneValue) : Type 0 where
-  pub counted : AreTickets core v.tickets
+  pub counted : AreCounted core v.tickets
   pub held : AreGrants core v.grants
   pub ready : IsOpen core
   pub safe : IsSafe c facts v.running v.site

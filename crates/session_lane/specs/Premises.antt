@@ -14,14 +14,14 @@ use Rattle.plan_runner.specs.Sound.{AreWithin, AsksWithin, Fits}
 use Rattle.session_laws.specs.Lanes.{LaneValue, ticket_places}
 use Rattle.session_laws.specs.Places.{IsRising, is_in}
 use Rattle.session_lane.specs.declared.tokens.Tokens.{Tokens}
-use Rattle.session_lane.specs.Tokens.{AreGrants, AreTickets}
+use Rattle.session_lane.specs.Tokens.{AreGrants, AreCounted}
 use Rattle.session_lane.specs.Turning.{AllFit, AllInRange, HasAwaited, HasDeferred, HoldsNamed, IsOpen, IsSafe}
 
 -- A turn of a lane: its call is within its ranges, the core counts what the lane holds, is open and has an id to spare,
 -- and the call may go on by what came.
 pub record MayTurn (c : Call) (facts : Facts) (core : Core) (v : LaneValue) : Type 0 where
   pub within : is_within c ≡ true
-  pub counted : AreTickets core v.tickets
+  pub counted : AreCounted core v.tickets
   pub held : AreGrants core v.grants
   pub ready : IsOpen core
   pub few : fin.len core.table < MAX_IDS
@@ -36,7 +36,7 @@ pub record MayGiveUp (core : Core) (v : LaneValue) : Type 0 where
   pub begun : is_some v.running ≡ true
   pub awaits : HasAwaited v
   pub deferred : HasDeferred v.site v.tickets
-  pub counted : AreTickets core v.tickets
+  pub counted : AreCounted core v.tickets
   pub rising : IsRising (ticket_places v.tickets)
   pub unfailed : core.fault ≡ None
   pub few : v.ended < 2 ^ 31
@@ -62,7 +62,7 @@ pub record CanSubmit (core : Core) (tokens : Tokens) : Type 0 where
 
 -- the ticket of a place is polled: it is there, the core counts it, and there is room for a grant
 pub record CanPoll (core : Core) (tokens : Tokens) (place : ℕ) : Type 0 where
-  pub counted : AreTickets core tokens.tickets.items
+  pub counted : AreCounted core tokens.tickets.items
   pub awaited : is_in place (ticket_places tokens.tickets.items) ≡ true
   pub unfailed : core.fault ≡ None
   pub room : vec_len tokens.grants < vec_capacity tokens.grants

@@ -35,13 +35,14 @@ pub record Waits (s : Setting) (past : List Entry) (core new : Core) (lanes : �
   pub unanswered : 0 < unanswered past
 
 -- the call went on without an entry
-pub record Goes (s : Setting) (past : List Entry) (core new : Core) (lanes : ℕ → LaneValue) (begun : ℕ → Bool) : Type 0
+pub record GoesWithoutEntry (s : Setting) (past : List Entry) (core new : Core) (lanes : ℕ → LaneValue)
+    (begun : ℕ → Bool) : Type 0
   where
     pub rest : AtRest s past new lanes begun
     pub work : weigh new ≤ weigh core
 
 -- a request was submitted
-pub record Asked (s : Setting) (past : List Entry) (core new : Core) (lanes : ℕ → LaneValue) (begun : ℕ → Bool)
+pub record AskedOwn (s : Setting) (past : List Entry) (core new : Core) (lanes : ℕ → LaneValue) (begun : ℕ → Bool)
     (lane id : ℕ) (r : Request) : Type 0 where
   pub move : move_of s past lane ≡ Some (Ask r)
   pub free : IsFree past id
@@ -60,12 +61,15 @@ pub record Ended (s : Setting) (past : List Entry) (core new : Core) (lanes : �
   pub work : weigh new ≤ weigh core
 
 -- What a turn was is the lane's move. `now` is the lane behind it, which has one more call behind it where one ended.
-abbrev pub Leaves : Setting → List Entry → Core → Core → (ℕ → LaneValue) → (ℕ → Bool) → ℕ → LaneValue → Moved → Type 0
-Leaves s past core new lanes begun lane now moved.Waits = Waits s past core new (with_lane lanes lane now) begun lane
-Leaves s past core new lanes begun lane now moved.Went = Goes s past core new (with_lane lanes lane now) begun
-Leaves s past core new lanes begun lane now (moved.Asked id r) =
-    Asked s past core new (with_lane lanes lane now) begun lane id r
-Leaves s past core new lanes begun lane now (moved.Ended o) =
+abbrev pub LeavesLane : Setting → List Entry → Core → Core → (ℕ → LaneValue) → (ℕ → Bool) → ℕ → LaneValue → Moved
+    → Type 0
+LeavesLane s past core new lanes begun lane now moved.Waits =
+    Waits s past core new (with_lane lanes lane now) begun lane
+LeavesLane s past core new lanes begun lane now moved.Went =
+    GoesWithoutEntry s past core new (with_lane lanes lane now) begun
+LeavesLane s past core new lanes begun lane now (moved.Asked id r) =
+    AskedOwn s past core new (with_lane lanes lane now) begun lane id r
+LeavesLane s past core new lanes begun lane now (moved.Ended o) =
     Ended s past core new (with_lane lanes lane (ended_lane now now.site)) begun lane now o
 
 -- ids have at most 32 bits
@@ -84,7 +88,7 @@ TurnsLeaveRest = (s : Setting) (past : List Entry) (core new : Core) (lanes : �
     (lane : ℕ) (c : Call) (now : LaneValue) (m : Moved) → AtRest s past core lanes begun → lane < length s.lanes
     → current s past lane ≡ Some c
     → AsksFew s past lane c → IsSmall m → Turned c s.facts (asked past) core new (lanes lane) now m
-    → Leaves s past core new lanes begun lane now m
+    → LeavesLane s past core new lanes begun lane now m
 
 -- what a turn asks for of what its call awaits
 pub record AwaitsReplies (core : Core) (v : LaneValue) : Type 0 where

@@ -34,8 +34,8 @@ use Rattle.session_laws.specs.Places.{is_in, without}
 use Rattle.session_laws.specs.Running.{grants_named}
 
 -- each ticket is one that the core counts
-abbrev pub AreTickets : Core → List Ticketed → Type 0
-AreTickets core tickets = (k : ℕ) (t : Ticketed) → slice_get tickets k ≡ Some t → is_ticket (at core t.ticket) ≡ true
+abbrev pub AreCounted : Core → List Ticketed → Type 0
+AreCounted core tickets = (k : ℕ) (t : Ticketed) → slice_get tickets k ≡ Some t → is_ticket (at core t.ticket) ≡ true
 
 -- each grant has one user in the core
 abbrev pub AreGrants : Core → List Held → Type 0

@@ -28,8 +28,8 @@ use Rattle.plan_model.specs.TransferPlans.{joined_parts}
 use Rattle.plan_runner.specs.declared.next.Asked.{Asked}
 use Rattle.plan_runner.specs.declared.next.Next.{Next}
 use Rattle.plan_runner.specs.declared.next.Running.{Running}
-use Rattle.plan_runner.specs.Runners.{Goes, Widens, after, awaited, bytes_of, idle, waits as plan_waits}
-use Rattle.plan_runner.specs.Cancelling.{Leaves, Leaving, left_after, left_behind}
+use Rattle.plan_runner.specs.Runners.{RunsByPlan, Widens, after, awaited, bytes_of, idle, waits as plan_waits}
+use Rattle.plan_runner.specs.Cancelling.{LeavesCancelled, Leaving, left_after, left_behind}
 use Rattle.plan_runner.specs.Sound.{AreWithin, AsksWithin, Fits, IsSound, Sound, Sounds}
 use Rattle.plan_runner.specs.Pending.{Pends, pends, pends_after, pends_idle, reads_under, slots_times}
 use Rattle.plan_runner.specs.Asking.{
@@ -70,27 +70,29 @@ joined_of other = []
 
 -- The clauses of a machine's answer, where its request would bear this place. The site was the first one, and is the
 -- second.
-pub record Ran (c : Call) (facts : Facts) (place : ℕ) (plan : Plan) (leave : Leaving) (before : ℕ → ℕ) (old new : Site)
+pub record AnswersByPlan (c : Call) (facts : Facts) (place : ℕ) (plan : Plan) (leave : Leaving) (before : ℕ → ℕ)
+    (old new : Site)
     (n : Next) : Type 0 where
-  pub goes : Goes plan place (bytes_of c) new facts n
-  pub left : Leaves leave place (bytes_of c) new facts n
+  pub goes : RunsByPlan plan place (bytes_of c) new facts n
+  pub left : LeavesCancelled leave place (bytes_of c) new facts n
   pub sound : Sounds (bytes_of c) facts old new n
   pub pends : Pends before place new n
 
 -- where its call begins
 abbrev pub Began : Call → Facts → ℕ → Site → Site → Next → Type 0
-Began c facts place old new n = Ran c facts place (next c old facts) (cancelled c old facts) (pends_idle old) old new n
+Began c facts place old new n = AnswersByPlan c facts place (next c old facts) (cancelled c old facts) (pends_idle old)
+    old new n
 
 -- and where it goes on after the reply that it awaited, if it awaited one
 abbrev pub WentOn : Running → Option Reply → Call → Facts → ℕ → Site → Site → Next → Type 0
 WentOn r reply c facts place old new n =
-    Ran c facts place (after r (bytes_of c) old facts reply) (left_after r (bytes_of c) old facts reply)
+    AnswersByPlan c facts place (after r (bytes_of c) old facts reply) (left_after r (bytes_of c) old facts reply)
     (pends_after r old reply) old new n
 
 -- and where it answers while the reply that it awaits is missing; the site stays
 pub record Widened (r : Running) (c : Call) (facts : Facts) (place : ℕ) (site : Site) (n : Next) : Type 0 where
   pub goes : Widens r place (bytes_of c) site facts n
-  pub left : Leaves (left_behind r (bytes_of c) site facts) place (bytes_of c) site facts n
+  pub left : LeavesCancelled (left_behind r (bytes_of c) site facts) place (bytes_of c) site facts n
   pub sound : IsSound (bytes_of c) site facts n
   pub pends : Pends (λ q. pends q (Some r) site) place site n
 
@@ -118,9 +120,11 @@ pub record Releases (old new : Core) (tickets now : List Ticketed) (grants held 
   pub pushed : now ≡ tickets ++ record { place = place; ticket = id } ∷ []
   pub kept : held ≡ without k grants
 
-abbrev pub Asks : Core → Core → List Ticketed → List Ticketed → List Held → List Held → ℕ → Asked → ℕ → Request → Type 0
-Asks old new tickets now grants held place (asked.Close g) id r = Releases old new tickets now grants held place g id r
-Asks old new tickets now grants held place a id r = Submits old new tickets now grants held place a id r
+abbrev pub AsksOrCloses : Core → Core → List Ticketed → List Ticketed → List Held → List Held → ℕ → Asked → ℕ → Request
+    → Type 0
+AsksOrCloses old new tickets now grants held place (asked.Close g) id r =
+    Releases old new tickets now grants held place g id r
+AsksOrCloses old new tickets now grants held place a id r = Submits old new tickets now grants held place a id r
 
 -- a machine may answer this: what it asks bears handles of these grants
 abbrev pub MayAsk : List Held → Next → Type 0
@@ -147,10 +151,10 @@ pub record IsOpen (core : Core) : Type 0 where
 abbrev pub SettlesAsk : Core → Core → List Ticketed → List Ticketed → List Held → List Held → Option Running → ℕ → Asked
     → Running → Moved → Type 0
 SettlesAsk old new tickets now grants held running place a r (moved.Asked id q) =
-    Asks old new tickets now grants held place a id q × (running ≡ Some r)
+    AsksOrCloses old new tickets now grants held place a id q × (running ≡ Some r)
 SettlesAsk old new tickets now grants held running place a r other = ⊥
 
-pub record Stays (old new : Core) (tickets now : List Ticketed) (grants held : List Held) : Type 0 where
+pub record StaysSame (old new : Core) (tickets now : List Ticketed) (grants held : List Held) : Type 0 where
   pub core : new ≡ old
   pub pushed : now ≡ tickets
   pub kept : held ≡ grants
@@ -159,15 +163,16 @@ abbrev pub Settles : Core → Core → List Ticketed → List Ticketed → List 
     → Moved → Type 0
 Settles old new tickets now grants held running place (step.Ask a r) m =
     SettlesAsk old new tickets now grants held running place a r m
-Settles old new tickets now grants held running place (step.Wait r) m = Stays old new tickets now grants held
+Settles old new tickets now grants held running place (step.Wait r) m = StaysSame old new tickets now grants held
     × (running ≡ Some r) × (m ≡ moved.Went)
-Settles old new tickets now grants held running place (step.Done o) m = Stays old new tickets now grants held
+Settles old new tickets now grants held running place (step.Done o) m = StaysSame old new tickets now grants held
     × (running ≡ None) × (m ≡ moved.Ended o)
 
 -- the same while a reply is missing, where a call that waits goes on with what it went on with
 abbrev pub SettlesMeanwhile : Core → Core → List Ticketed → List Ticketed → List Held → List Held → Option Running → ℕ
     → Next → Moved → Type 0
-SettlesMeanwhile old new tickets now grants held running place (step.Wait r) m = Stays old new tickets now grants held
+SettlesMeanwhile old new tickets now grants held running place (step.Wait r) m =
+    StaysSame old new tickets now grants held
     × (running ≡ Some r) × (m ≡ moved.Waits)
 SettlesMeanwhile old new tickets now grants held running place n m =
     Settles old new tickets now grants held running place n m
@@ -216,8 +221,8 @@ abbrev pub IsSafeBy : Option Running → Site → Type 0
 IsSafeBy running site = (c : Call) × ((facts : Facts) × IsSafe c facts running site)
 
 -- what its call leaves that is cancelled here, by the replies that the core has, is what the lane's slots have then
-abbrev pub LeavesBehind : Core → LaneValue → LaneValue → Type 0
-LeavesBehind core v now =
+abbrev pub LeavesCancelled : Core → LaneValue → LaneValue → Type 0
+LeavesCancelled core v now =
     (r : Running) (bytes : List ℕ) (facts : Facts) (answers : Answers) → v.running ≡ Some r
     → TellReplies core v.tickets answers → left_behind r bytes v.site facts [] answers ≡ now.site
 

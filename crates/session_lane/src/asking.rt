@@ -9,7 +9,7 @@ ghost use Rattle.session_lane.specs.Tokens.{AreGrants, IsFilledBy, NamesHeld};
 ghost use Rattle.plan_runner.specs.Asking.{IsNoClose, IsOfCall};
 ghost use Rattle.session_lane.specs.Rests.{IsSmall};
 ghost use Rattle.session_lane.specs.Premises.{CanSubmit};
-ghost use Rattle.session_lane.specs.Turning.{Asks, IsOpen, MayAsk, Releases, Settles, SettlesMeanwhile};
+ghost use Rattle.session_lane.specs.Turning.{AsksOrCloses, IsOpen, MayAsk, Releases, Settles, SettlesMeanwhile};
 ghost use Rattle.session_model.specs.Grants.{is_close};
 
 use crate::lane::Moved;
@@ -120,7 +120,7 @@ fn ask(
     requires call { IsOfCall asked }
     ensures err { OnErr result (core.new ≡ core.old) }
     ensures small { IfOk result (λ p. p.0 < 2 ^ 32) }
-    ensures asked { IfOk result (λ p. Asks core.old core.new tokens.old.tickets.items tokens.new.tickets.items tokens.old.grants.items tokens.new.grants.items place asked p.0 p.1) }
+    ensures asked { IfOk result (λ p. AsksOrCloses core.old core.new tokens.old.tickets.items tokens.new.tickets.items tokens.old.grants.items tokens.new.grants.items place asked p.0 p.1) }
 {
     if let Asked::Close { grant } = asked {
         return Ok(close(core, grant, place, tokens));

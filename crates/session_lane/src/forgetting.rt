@@ -5,7 +5,7 @@ ghost use Rattle.sftp_core.specs.Core.{abandoned};
 ghost use Rattle.plan_runner.specs.Pending.{slots_times};
 ghost use Rattle.session_laws.specs.Changes.{spent_lane};
 ghost use Rattle.session_laws.specs.Lanes.{Ticketed};
-ghost use Rattle.session_lane.specs.Tokens.{AreTickets, slot_awaits};
+ghost use Rattle.session_lane.specs.Tokens.{AreCounted, slot_awaits};
 
 use crate::lane::LaneState;
 use crate::tokens::Awaited;
@@ -61,7 +61,7 @@ impl LaneState {
 
     /// Drops the ticket at an index: its reply is nobody's.
     pub fn forget(&mut self, core: &mut Core, k: usize)
-        requires counted { AreTickets core.old self.old.tickets }
+        requires counted { AreCounted core.old self.old.tickets }
         requires within { k < length self.old.tickets }
         ensures core { (t : Ticketed) → slice_get self.old.tickets k ≡ Some t → core.new ≡ abandoned core.old t.ticket }
         ensures lane { self.new ≡ spent_lane self.old k self.old.running self.old.site }

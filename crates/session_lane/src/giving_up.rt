@@ -5,13 +5,13 @@ ghost use Rattle.sftp_model.specs.declared.slot.Facts.{Facts as FactsValue};
 ghost use Rattle.plan_model.specs.Moves.{Answers};
 ghost use Rattle.plan_model.specs.BufferPlans.{cancelled_buf_flush};
 ghost use Rattle.plan_runner.specs.Pending.{Fewer, own_place};
-ghost use Rattle.plan_runner.specs.Sound.{Keeps};
+ghost use Rattle.plan_runner.specs.Sound.{KeepsSite};
 ghost use Rattle.session_laws.specs.Ends.{GivesUp};
 ghost use Rattle.session_laws.specs.Changes.{ended_lane, let_go_lane};
 ghost use Rattle.session_laws.specs.Lanes.{ticket_places};
 ghost use Rattle.session_laws.specs.Places.{IsRising, is_in};
 ghost use Rattle.session_lane.specs.Premises.{MayGiveUp};
-ghost use Rattle.session_lane.specs.Tokens.{AreTickets, TellReplies};
+ghost use Rattle.session_lane.specs.Tokens.{AreCounted, TellReplies};
 ghost use Rattle.session_lane.specs.Turning.{HasAwaited, HasDeferred, IsSafeBy, LeavesBehind};
 
 use crate::lane::LaneState;
@@ -28,11 +28,11 @@ use std::mem;
 /// cancelled flush leaves.
 fn take_good(core: &Core, tokens: &Tokens, slot: u8, site: &mut Site)
     requires slot { slot < length site.old.slots }
-    requires counted { AreTickets core.now tokens.now.tickets.items }
+    requires counted { AreCounted core.now tokens.now.tickets.items }
     requires deferred { HasDeferred site.old tokens.now.tickets.items }
     ensures leaves { (facts : FactsValue) (answers : Answers) → TellReplies core.now tokens.now.tickets.items answers → cancelled_buf_flush slot site.old facts [] answers ≡ site.new }
     ensures fewer { Fewer site.old site.new }
-    ensures keeps { (facts : FactsValue) → Keeps facts site.old site.new }
+    ensures keeps { (facts : FactsValue) → KeepsSite facts site.old site.new }
 {
     while let Some(place) = oldest_deferred(site, slot) {
         if !tokens.is_good(core, place) {

@@ -6,7 +6,7 @@ ghost use Rattle.session_laws.specs.Lanes.{Ticketed, Held, ticket_places, grant_
 ghost use Rattle.session_laws.specs.Places.{IsRising, is_in};
 ghost use Rattle.plan_model.specs.Moves.{Answers};
 ghost use Rattle.plan_model.specs.BufferPlans.{is_good};
-ghost use Rattle.session_lane.specs.Tokens.{AreGrants, AreTickets, IsGivenUp, IsGrantAt, Spent, TellReplies};
+ghost use Rattle.session_lane.specs.Tokens.{AreGrants, AreCounted, IsGivenUp, IsGrantAt, Spent, TellReplies};
 ghost use Rattle.session_lane.specs.Premises.{CanPoll, LeavesTokens};
 ghost use Rattle.session_lane.specs.Turning.{IsOpen};
 
@@ -113,7 +113,7 @@ impl Tokens {
 
     /// Whether the reply to the request at a place came, and is a STATUS of OK.
     pub(crate) fn is_good(&self, core: &Core, place: u64) -> bool
-        requires counted { AreTickets core.now self.now.tickets.items }
+        requires counted { AreCounted core.now self.now.tickets.items }
         requires awaited { is_in place (ticket_places self.now.tickets.items) ≡ true }
         ensures { (answers : Answers) → TellReplies core.now self.now.tickets.items answers → result ≡ is_good (answers place) }
     {

@@ -11,7 +11,7 @@ use Rattle.session_model.specs.declared.entry.Entry.{Entry}
 use Rattle.session_model.specs.Readings.{asked, bearer, ended}
 use Rattle.session_model.specs.Calls.{Setting}
 use Rattle.session_model.specs.Grants.{closed, closes, is_close, is_one_of}
-use Rattle.session_model.specs.Ids.{Reads, id_state}
+use Rattle.session_model.specs.Ids.{ReadsId, id_state}
 use Rattle.session_model.specs.Journals.{IsJournal}
 use Rattle.session_model.proofs.IdLaws.{reads}
 use Rattle.session_laws.specs.Lanes.{
@@ -90,7 +90,7 @@ close_request_tied s past core now lanes lane id g k handle q r site h there j c
     let mine : is_in g gs ≡ true = at_in gs k g at_k in
     let state = grant_state past v.grants k it l.holds.held got in
     let borne : place_of (id_state past id) ≡ Some g = ap place_of state.1 in
-    let bears : bearer past id ≡ Some g = (subst (Reads past id) state.1 (reads past id)).0 in
+    let bears : bearer past id ≡ Some g = (subst (ReadsId past id) state.1 (reads past id)).0 in
     let left : grant_places (without k v.grants) ≡ without k gs = grant_without v.grants k in
     let more : closed s (own_request past lane id q ∷ past) ≡ Some g ∷ closed s past = closed_one s past lane id g q close is in
     let other : (w : ℕ) → lane ≢ w → (ps : List ℕ) → AllOf past w ps → is_in g ps ≡ false = λ w ne ps all.

@@ -13,7 +13,7 @@ use Rattle.plan_window.specs.declared.window.ReadAt.{ReadAt}
 use Rattle.session_model.specs.declared.event.Owner.{Owner}
 use Rattle.session_model.specs.declared.event.Owner.TheVariants as owner
 use Rattle.session_model.specs.declared.entry.Entry.{Entry}
-use Rattle.session_model.specs.Readings.{Asked, answer, asked, asked_at, ended, own}
+use Rattle.session_model.specs.Readings.{AskedRequest, answer, asked, asked_at, ended, own}
 use Rattle.session_model.specs.Calls.{Setting, current, held_site, site_of}
 use Rattle.session_model.specs.Grants.{holds, is_asked_by, is_grant, is_granted, is_held, is_unended_asker}
 use Rattle.session_model.specs.Journals.{IsJournal}
@@ -93,14 +93,14 @@ granted_own s past lane p v j a has grant = elim (a.only p has) [
 ]
 
 -- and so is one that a HANDLE may come for
-pub handled_own : (past : List Entry) (lane p : ℕ) (v : LaneValue) (x : Asked) (r : Reply) → LaneAsks past lane v
+pub handled_own : (past : List Entry) (lane p : ℕ) (v : LaneValue) (x : AskedRequest) (r : Reply) → LaneAsks past lane v
     → is_in p (ticket_places v.tickets) ≡ true → asked_at past p ≡ Some x → may_answer x.request r ≡ true → is_handle r
     ≡ true → own_place v.running ≡ Some p
 handled_own past lane p v x r a has is may brought = elim (a.only p has) [
   | inl mine ↦ mine
-  | inr t ↦ absurd (let both : ◌≡◌ {A = Option Asked} (Some x) (Some t.asked) = sym is ∙ t.here in
+  | inr t ↦ absurd (let both : ◌≡◌ {A = Option AskedRequest} (Some x) (Some t.asked) = sym is ∙ t.here in
       let same : x ≡ t.asked = cc in
-      let plain : is_handle r ≡ false = transfer_plain t.asked.request r t.transfers (ap (λ (y : Asked). may_answer y.request r) (sym same) ∙ may) in
+      let plain : is_handle r ≡ false = transfer_plain t.asked.request r t.transfers (ap (λ (y : AskedRequest). may_answer y.request r) (sym same) ∙ may) in
       let clash : false ≡ true = sym plain ∙ brought in cc)
 ]
 
@@ -137,7 +137,7 @@ idle_asks past lane v idle all =
 -- the lane that asked for a place has it among these
 pub record IsAmong (past : List Entry) (places : ℕ → List ℕ) (p : ℕ) : Type 0 where
   pub lane : ℕ
-  pub request : Asked
+  pub request : AskedRequest
   pub at : asked_at past p ≡ Some request
   pub mine : is_of request.by lane ≡ true
   pub here : is_in p (places lane) ≡ true
@@ -148,18 +148,18 @@ among_where past places p e = by_state (asked_at past p) refl e
     is_self : (l : ℕ) → (l == l) ≡ true
     is_self l = eq-eqb l l refl
 
-    by_who : (a : Asked) → asked_at past p ≡ Some a → (o : Owner) → a.by ≡ o → by_owner o (λ l. is_in p (places l)) ≡ true → IsAmong past places p
+    by_who : (a : AskedRequest) → asked_at past p ≡ Some a → (o : Owner) → a.by ≡ o → by_owner o (λ l. is_in p (places l)) ≡ true → IsAmong past places p
     by_who a at (owner.Call l c) is here = record { lane = l; request = a; at = at; mine = ap (λ (x : Owner). is_of x l) is ∙ is_self l; here = here }
     by_who a at owner.Setup is here = absurd cc
     by_who a at owner.Close is here = absurd cc
 
-    by_state : (x : Option Asked) → asked_at past p ≡ x → by_asker x (λ l. is_in p (places l)) ≡ true → IsAmong past places p
+    by_state : (x : Option AskedRequest) → asked_at past p ≡ x → by_asker x (λ l. is_in p (places l)) ≡ true → IsAmong past places p
     by_state None at here = absurd cc
     by_state (Some a) at here = by_who a at a.by refl here
 
 -- a lane's call holds the HANDLE that it awaits
 pub wanted_held : (s : Setting) (past : List Entry) (core : Core) (lanes : ℕ → LaneValue) (dues : List ℕ) (p : ℕ)
-    (x : Asked) (r : Reply) → IsJournal s past → SessionTied s past core lanes dues
+    (x : AskedRequest) (r : Reply) → IsJournal s past → SessionTied s past core lanes dues
     → ((lane : ℕ) → lane < length s.lanes → LaneAsks past lane (lanes lane))
     → asked_at past p ≡ Some x → may_answer x.request r ≡ true → is_handle r ≡ true → among past (tickets_of lanes) p ≡ true → is_held s past p ≡ true
 wanted_held s past core lanes dues p x r j h asks is may brought wanted =

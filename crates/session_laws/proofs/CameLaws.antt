@@ -22,7 +22,7 @@ use Rattle.session_model.specs.declared.event.Owner.TheVariants as owner
 use Rattle.session_model.specs.declared.event.Event.TheVariants.{Submit}
 use Rattle.session_model.specs.declared.entry.Entry.{Entry}
 use Rattle.session_model.specs.declared.entry.Entry.TheVariants as entry
-use Rattle.session_model.specs.Readings.{Asked, answer, asked, asked_at, bearer, ended, last_cancel, own}
+use Rattle.session_model.specs.Readings.{AskedRequest, answer, asked, asked_at, bearer, ended, last_cancel, own}
 use Rattle.session_model.specs.Calls.{Setting, current, move_at, move_of, site_of}
 use Rattle.session_model.specs.Grants.{orphan}
 use Rattle.session_model.specs.Journals.{IsJournal, IsNext, MayCome, MustClose, cancelled_end, goes_on, is_opened, opened}
@@ -92,13 +92,13 @@ submit_came s past owner.Close id r next = by_what (last_cancel past) (orphan s 
     by_what None (Some g) h = let is : entry.Event (Submit owner.Close id r) ≡ _ = h.1.1 in ap (λ x. is_limits (expected_of (asked_in x))) is
     by_what (Some lane) g h = absurd cc
 
-pub came_by : (s : Setting) (past : List Entry) (p : ℕ) (a : Asked) → IsJournal s past → asked_at past p ≡ Some a → CameBy s p a.by a.request
+pub came_by : (s : Setting) (past : List Entry) (p : ℕ) (a : AskedRequest) → IsJournal s past → asked_at past p ≡ Some a → CameBy s p a.by a.request
 came_by s [] p a j e = absurd cc
 came_by s (entry.Event (Submit by id r) ∷ past) p a j e =
     elim (eqb_tells p (asked past)) [
       | inl t ↦ (let is : Some (record { by = by; id = id; request = r }) ≡ Some a = rw t.0 at e in
           let same : record { by = by; id = id; request = r } ≡ a = cc in
-          subst (λ (x : Asked). CameBy s p x.by x.request) same (subst (λ (k : ℕ). CameBy s k by r) (sym t.1) (submit_came s past by id r j.0)))
+          subst (λ (x : AskedRequest). CameBy s p x.by x.request) same (subst (λ (k : ℕ). CameBy s k by r) (sym t.1) (submit_came s past by id r j.0)))
       | inr t ↦ came_by s past p a j.1 (rw t.0 at e)
     ]
 came_by s (_ ∷ past) p a j e = came_by s past p a j.1 e
@@ -111,7 +111,7 @@ limits_goes expected.Limits r h = absurd cc
 limits_goes other r h = refl
 
 -- the query for limits was answered, so it isn't awaited
-pub no_limits : (s : Setting) (past : List Entry) (p : ℕ) (a : Asked) → opened s past ≡ true → answer past p ≡ None
+pub no_limits : (s : Setting) (past : List Entry) (p : ℕ) (a : AskedRequest) → opened s past ≡ true → answer past p ≡ None
     → (by : Owner) → CameBy s p by a.request → is_limits (expected_of a.request) ≡ false
 no_limits s past p a ready none (owner.Call lane c) came = came
 no_limits s past p a ready none owner.Close came = came

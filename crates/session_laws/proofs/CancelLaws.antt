@@ -7,7 +7,7 @@ use Rattle.plan_model.specs.OwnRequests.{Extends}
 use Rattle.plan_model.specs.Moves.{Own}
 use Rattle.plan_runner.specs.declared.next.Running.{Running}
 use Rattle.plan_runner.specs.declared.next.Next.{Next}
-use Rattle.plan_runner.specs.Cancelling.{left_behind, Leaves, Leaving}
+use Rattle.plan_runner.specs.Cancelling.{left_behind, LeavesCancelled, Leaving}
 use Rattle.plan_runner.specs.Runners.{bytes_of, filled}
 use Rattle.plan_model.specs.declared.call.Call.{Call}
 use Rattle.session_model.specs.declared.entry.Entry.{Entry}
@@ -34,7 +34,7 @@ cancel_by s past now lane running site ec es eo grows tied c is answers known la
 
 pub cancel_steps : (s : Setting) (past : List Entry) (lane : ℕ) (running : Option Running) (site later : Site)
     (c : Call) (leave : Leaving) (n : Next) → CancelTied s past lane running site → current s past lane ≡ Some c
-    → LeavesFrom past running c site s.facts leave → Leaves leave (asked past) (bytes_of c) later s.facts n → CancelSteps s past lane n later
+    → LeavesFrom past running c site s.facts leave → LeavesCancelled leave (asked past) (bytes_of c) later s.facts n → CancelSteps s past lane n later
 cancel_steps s past lane running site later c leave (step.Ask a r) tied is from leaves = λ id stays d same answers known more.
     (let q : Request = filled a (answer past) in
     let new : ℕ × Request = (asked past, q) in

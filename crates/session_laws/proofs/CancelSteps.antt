@@ -38,7 +38,7 @@ use Rattle.plan_runner.specs.Cancelling.{left_behind}
 use Rattle.plan_runner.specs.Runners.{bytes_of}
 use Rattle.plan_runner.specs.Pending.{Fewer, one, own_place, pends, reads_under, slots_times, with_one, with_reads}
 use Rattle.plan_window.specs.declared.window.ReadAt.{ReadAt}
-use Rattle.plan_runner.specs.Sound.{Keeps as Stays}
+use Rattle.plan_runner.specs.Sound.{KeepsSite as Stays}
 use Rattle.plan_model.specs.declared.call.Call.{Call}
 use Rattle.session_model.specs.declared.event.Event.TheVariants.{Cancel}
 use Rattle.session_model.specs.declared.entry.Entry.{Entry}

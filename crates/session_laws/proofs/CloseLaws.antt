@@ -11,10 +11,10 @@ use Rattle.plan_runner.specs.declared.next.Running.{Running}
 use Rattle.session_model.specs.declared.event.Owner.{Owner}
 use Rattle.session_model.specs.declared.event.Event.TheVariants.{Submit}
 use Rattle.session_model.specs.declared.entry.Entry.{Entry}
-use Rattle.session_model.specs.Readings.{Asked, answer, asked, bearer}
+use Rattle.session_model.specs.Readings.{AskedRequest, answer, asked, bearer}
 use Rattle.session_model.specs.Calls.{Setting}
 use Rattle.session_model.specs.Grants.{closed, is_one_of, orphan}
-use Rattle.session_model.specs.Ids.{Replied, id_state, Reads}
+use Rattle.session_model.specs.Ids.{Replied, id_state, ReadsId}
 use Rattle.session_model.proofs.IdLaws.{reads}
 use Rattle.session_model.specs.Journals.{IsJournal, close_of}
 use Rattle.session_model.proofs.LetGoLaws.{Leaves, close_leaves}
@@ -65,10 +65,10 @@ grant_without (x ∷ xs) zero = refl
 grant_without (x ∷ xs) (suc k) = ap (λ (l : List ℕ). x.place ∷ l) (grant_without xs k)
 
 pub grant_state : (past : List Entry) (gs : List Held) (k : ℕ) (h : Held) → GrantsTied past gs → slice_get gs k ≡ Some h
-    → (a : Asked) × (id_state past h.grant.id ≡ Replied h.place a (reply.Handle h.grant.handle))
+    → (a : AskedRequest) × (id_state past h.grant.id ≡ Replied h.place a (reply.Handle h.grant.handle))
 grant_state past [] k h all got = absurd cc
 grant_state past (x ∷ xs) zero h all got = (let same : x ≡ h = cc in
-    subst (λ (y : Held). (a : Asked) × (id_state past y.grant.id ≡ Replied y.place a (reply.Handle y.grant.handle)))
+    subst (λ (y : Held). (a : AskedRequest) × (id_state past y.grant.id ≡ Replied y.place a (reply.Handle y.grant.handle)))
     same all.0)
 grant_state past (x ∷ xs) (suc k) h all got = grant_state past xs k h all.1 got
 
@@ -181,7 +181,7 @@ close_tied s past core now lanes dues rest g id k lane handle h j due fewer ther
     let borne : place_of (id_state past id) ≡ Some g = ap place_of state.1 in
     let left : grant_places (without k v.grants) ≡ without k gs = grant_without v.grants k in
     let out : is_in g (grant_places (without k v.grants)) ≡ false = ap (is_in g) left ∙ without_self gs k g l.holds.held_rise at_k in
-    let bears : bearer past id ≡ Some g = (subst (Reads past id) state.1 (reads past id)).0 in
+    let bears : bearer past id ≡ Some g = (subst (ReadsId past id) state.1 (reads past id)).0 in
     let w : ℕ → Bool = among past (tickets_of lanes) in
     let v_now : ℕ → Bool = among e (with_places (tickets_of lanes) lane (tickets_of lanes lane)) in
     let g_now : ℕ → Bool = among e (with_places (grants_of lanes) lane (without k gs)) in

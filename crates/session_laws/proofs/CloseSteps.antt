@@ -30,7 +30,7 @@ use Rattle.session_laws.proofs.SessionLaws.{each_with}
 use Rattle.session_laws.proofs.TurnLaws.{closed_keeps}
 use Rattle.session_laws.specs.Rest.{Counted, LaneAsks, opened_in, weigh, AtRest, Between}
 use Rattle.session_laws.specs.Budgets.{Spends}
-use Rattle.session_laws.specs.Ends.{close_entry, let_go, Closes}
+use Rattle.session_laws.specs.Ends.{close_entry, let_go, ClosesDue}
 use Rattle.session_laws.proofs.AskedLaws.{asks_on}
 use Rattle.session_laws.proofs.BudgetLaws.{spends_with}
 use Rattle.session_laws.proofs.KeptLaws.{kept_let_go}
@@ -38,7 +38,7 @@ use Rattle.session_laws.proofs.CountedLaws.{counted_let_go, weigh_let_go}
 use Rattle.sftp_model.specs.declared.request.Request.TheVariants as request
 use Rattle.session_model.specs.declared.event.Owner.TheVariants as owner
 use Rattle.session_model.specs.declared.entry.Entry.TheVariants as entry
-use Rattle.plan_runner.specs.Sound.{Keeps as Stays}
+use Rattle.plan_runner.specs.Sound.{KeepsSite as Stays}
 
 -- ---- what a lane awaits
 
@@ -125,7 +125,7 @@ pub due_closed : (s : Setting) (past : List Entry) (core : Core) (lanes : ℕ �
     (lane k : ℕ) (g : Held) (rest : List ℕ) → Between s past core lanes begun (g.place ∷ rest) → letting_go s past
     ≡ None → lane < length s.lanes
     → slice_get (lanes lane).grants k ≡ Some g → g.grant.id < 2 ^ 32 → opened_in (lanes lane).running ≢ Some g.place
-    → Closes s past core lanes begun lane k g rest
+    → ClosesDue s past core lanes begun lane k g rest
 due_closed s past core lanes begun lane k g rest b letting there got small apart =
     let due : orphan s past ≡ Some g.place = orphan_first s past g.place rest letting b.due in
     let c : Closing s past core lanes begun lane k g = closing s past core lanes (g.place ∷ rest) begun lane k g b.good

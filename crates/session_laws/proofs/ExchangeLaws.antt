@@ -17,10 +17,10 @@ use Rattle.session_model.specs.declared.event.Event.TheVariants.{Send, Submit, T
 use Rattle.session_model.specs.declared.event.Owner.TheVariants as owner
 use Rattle.session_model.specs.declared.entry.Entry.{Entry}
 use Rattle.session_model.specs.declared.entry.Entry.TheVariants as entry
-use Rattle.session_model.specs.Readings.{Asked, asked_at, awaiting, sent, asked}
+use Rattle.session_model.specs.Readings.{AskedRequest, asked_at, awaiting, sent, asked}
 use Rattle.session_model.specs.Calls.{Setting}
 use Rattle.session_model.specs.Grants.{is_held, orphan}
-use Rattle.session_model.specs.Ids.{IdState, Free, Pending, Replied, Reads, id_state}
+use Rattle.session_model.specs.Ids.{IdState, Free, Pending, Replied, ReadsId, id_state}
 use Rattle.session_model.specs.Journals.{IsFree, IsJournal, IsNext, MayTake, MustClose, close_of, goes_on, opened}
 use Rattle.session_model.specs.Steady.{Good}
 use Rattle.session_model.proofs.CallLaws.{due_next, may_next}
@@ -41,12 +41,12 @@ use Rattle.session_laws.proofs.CameLaws.{borne_small, came_by, limits_goes, no_l
 use Rattle.session_laws.proofs.CountedLaws.{counted_send, counted_take, counted_take_drop, weigh_send, weigh_take}
 use Rattle.std.specs.Prelude.{◌⊎◌}
 use Rattle.session_laws.specs.Rest.{AtRest}
-use Rattle.session_laws.specs.Exchanges.{IsAwaited, Sends, Takes}
+use Rattle.session_laws.specs.Exchanges.{IsAwaited, SendsQueue, TakesAndCloses}
 
 -- ---- what was queued is sent
 
 pub sends_keep : (s : Setting) (past : List Entry) (core : Core) (lanes : ℕ → LaneValue) (begun : ℕ → Bool)
-    → AtRest s past core lanes begun → sent past < asked past → Sends s past core lanes begun
+    → AtRest s past core lanes begun → sent past < asked past → SendsQueue s past core lanes begun
 sends_keep s past core lanes begun h some =
     let e : Entry = entry.Event Send in
     let b = h.between in
@@ -73,7 +73,7 @@ sends_keep s past core lanes begun h some =
 -- The last request under the id was sent and has no reply; places that pass are wanted.
 pub record Pends (past : List Entry) (wanted_at : ℕ → Bool) (id : ℕ) (kind : Expected) (wanted : Bool) : Type 0 where
   pub place : ℕ
-  pub asked : Asked
+  pub asked : AskedRequest
   pub state : id_state past id ≡ Pending place asked true
   pub kind_is : kind ≡ expected_of asked.request
   pub wanted_is : wanted ≡ wanted_at place
@@ -104,7 +104,7 @@ pends_by past w g table id kind wanted t here = by_state (id_state past id) refl
 pub may_take : (s : Setting) (past : List Entry) (w : ℕ → Bool) (id : ℕ) (r : Reply) (kind : Expected) (wanted : Bool)
     → IsJournal s past → opened s past ≡ true → Pends past w id kind wanted → allows kind r ≡ true → MayTake past id r
 may_take s past w id r kind wanted run ready p allowed =
-    let read = subst (Reads past id) p.state (reads past id) in
+    let read = subst (ReadsId past id) p.state (reads past id) in
     let there : asked_at past p.place ≡ Some p.asked = read.3 in
     let below : p.place < sent past = (let is = read.2 in grind (arith, nat_tests)) in
     let may : may_answer p.asked.request r ≡ true = ap (λ e. allows e r) (sym p.kind_is) ∙ allowed in
@@ -120,7 +120,7 @@ plain_handle other e none = absurd cc
 
 pub replies_keep : (s : Setting) (past : List Entry) (core : Core) (lanes : ℕ → LaneValue) (begun : ℕ → Bool) (id : ℕ)
     (r : Reply) → AtRest s past core lanes begun → (x : IsAwaited core id r) → (x.wanted ≡ true) ⊎ (brings r ≡ None)
-    → Takes s past core lanes begun id r (entry.Event (Take id r) ∷ past)
+    → TakesAndCloses s past core lanes begun id r (entry.Event (Take id r) ∷ past)
 replies_keep s past core lanes begun id r h x how =
     let e : Entry = entry.Event (Take id r) in
     let b = h.between in
@@ -130,7 +130,7 @@ replies_keep s past core lanes begun id r h x how =
     let next : IsNext s past e = may_next s past e b.good.calm h.settled (may, b.good.unkept) in
     let wanted : is_handle r ≡ true → w p.place ≡ true = λ brought. elim how
     [ inl is ↦ sym p.wanted_is ∙ is | inr none ↦ absurd (plain_handle r brought none) ] in
-    let there : asked_at past p.place ≡ Some p.asked = (subst (Reads past id) p.state (reads past id)).3 in
+    let there : asked_at past p.place ≡ Some p.asked = (subst (ReadsId past id) p.state (reads past id)).3 in
     let allowed : may_answer p.asked.request r ≡ true = ap (λ y. allows y r) (sym p.kind_is) ∙ x.allowed in
     let due : Dues s (e ∷ past) [] =
     taken_dues s past id p.place p.asked true r p.state (λ brought. wanted_held s past core lanes [] p.place p.asked r
@@ -158,7 +158,7 @@ replies_keep s past core lanes begun id r h x how =
 pub unwanted_closed : (s : Setting) (past : List Entry) (core : Core) (lanes : ℕ → LaneValue) (begun : ℕ → Bool)
     (id : ℕ) (handle : List ℕ) → AtRest s past core lanes begun → (x : IsAwaited core id (reply.Handle handle))
     → x.wanted ≡ false
-    → Takes s past core lanes begun id (reply.Handle handle) (entry.Event (Submit owner.Close id (request.Close handle))
+    → TakesAndCloses s past core lanes begun id (reply.Handle handle) (entry.Event (Submit owner.Close id (request.Close handle))
     ∷ entry.Event (Take id (reply.Handle handle)) ∷ past)
 unwanted_closed s past core lanes begun id handle h x unwanted =
     let r : Reply = reply.Handle handle in
@@ -172,7 +172,7 @@ unwanted_closed s past core lanes begun id handle h x unwanted =
     let may : MayTake past id r = may_take s past w id r x.kind x.wanted b.good.run b.good.ready p x.allowed in
     let next : IsNext s past e = may_next s past e b.good.calm h.settled (may, b.good.unkept) in
     let good : Good s mid begun = good_plain s past begun e b.good next tt in
-    let read = subst (Reads past id) p.state (reads past id) in
+    let read = subst (ReadsId past id) p.state (reads past id) in
     let none_wants : w p.place ≡ false = sym p.wanted_is ∙ unwanted in
     let unheld : is_held s past p.place ≡ false = unwanted_unheld s past core lanes [] p.place b.good.run b.tied read.1 none_wants in
     let loose : Dues s mid (p.place ∷ []) = unheld_dues s past id p.place p.asked true r b.good.run p.state refl unheld b.due in

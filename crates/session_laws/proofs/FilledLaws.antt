@@ -6,7 +6,7 @@ use Rattle.sftp_model.specs.declared.reply.Reply.{Reply}
 use Rattle.sftp_model.specs.declared.slot.Move.TheVariants.{Ask}
 use Rattle.sftp_model.specs.declared.slot.Site.{Site}
 use Rattle.sftp_model.specs.Slots.{grant_of, slot_at}
-use Rattle.plan_model.specs.GoodMoves.{Closes}
+use Rattle.plan_model.specs.GoodMoves.{ClosesGrant}
 use Rattle.plan_model.specs.Moves.{Answers, handle_of}
 use Rattle.plan_model.specs.OwnRequests.{Extends}
 use Rattle.plan_runner.specs.declared.next.Asked.{Asked}
@@ -14,7 +14,7 @@ use Rattle.plan_runner.specs.declared.next.Running.{Running}
 use Rattle.session_model.specs.Readings.{answer, asked, ended}
 use Rattle.session_model.specs.Calls.{site_of, Setting, current}
 use Rattle.session_model.specs.Grants.{closed_by, is_granted, closed, closes}
-use Rattle.session_model.specs.Ids.{Reads}
+use Rattle.session_model.specs.Ids.{ReadsId}
 use Rattle.session_model.proofs.IdLaws.{reads}
 use Rattle.session_model.proofs.PlannedLaws.{AsksClose, asks_close}
 use Rattle.session_laws.specs.Lanes.{AtTied, Held, LaneTied, LaneValue, grant_places}
@@ -26,7 +26,7 @@ use Rattle.sftp_model.specs.declared.request.Request.TheVariants as request
 use Rattle.plan_runner.specs.declared.next.Asked.TheVariants as asked
 use Rattle.plan_model.specs.CallPlans.{next}
 use Rattle.sftp_core.specs.Core.{at}
-use Rattle.plan_runner.specs.Runners.{Goes, bytes_of}
+use Rattle.plan_runner.specs.Runners.{RunsByPlan, bytes_of}
 use Rattle.plan_model.specs.declared.call.Call.{Call}
 use Rattle.session_model.specs.declared.entry.Entry.{Entry}
 use Rattle.plan_runner.specs.declared.next.Next.TheVariants as step
@@ -37,7 +37,7 @@ pub handles_agree : (s : Setting) (past : List Entry) (lane k : ℕ) (v : LaneVa
     → LaneTied s past lane v dues → slice_get v.grants k ≡ Some g → answer past g.place
     ≡ Some (reply.Handle g.grant.handle)
 handles_agree s past lane k v dues g l got = (let state = grant_state past v.grants k g l.holds.held got in
-    (subst (Reads past g.grant.id) state.1 (reads past g.grant.id)).1)
+    (subst (ReadsId past g.grant.id) state.1 (reads past g.grant.id)).1)
 
 -- what has come is the same later
 same_later : (known answers : Answers) (g : ℕ) → is_granted (known g) ≡ true → Extends known answers → answers g ≡ known g
@@ -98,14 +98,14 @@ one_handle g p = if p == g then Some (reply.Handle (1 ∷ [])) else None
 pub closes_agree :
     (s : Setting) (past : List Entry) (lane g : ℕ) (v : LaneValue) (dues : List ℕ) (c : Call) (r : Running)
     (site : Site) → LaneTied s past lane v dues → current s past lane ≡ Some c → v.running ≡ None
-    → Goes (next c v.site s.facts) (asked past) (bytes_of c) site s.facts (step.Ask (asked.Close g) r)
+    → RunsByPlan (next c v.site s.facts) (asked past) (bytes_of c) site s.facts (step.Ask (asked.Close g) r)
     → closes s past (closed s past) (owner.Call lane (ended past lane)) ≡ Some g
 closes_agree s past lane g v dues c r site l is none goes =
     let answers : Answers = one_handle g in
     let asks : next c v.site s.facts [] answers ≡ Ask (request.Close (handle_of (answers g))) = (goes answers).0 in
     let a : AsksClose (Some c) v.site [] answers (handle_of (answers g)) =
     asks_close (Some c) v.site s.facts [] answers (handle_of (answers g)) (ap (λ m. Some m) asks) in
-    let w : Closes a.0 v.site [] answers (handle_of (answers g)) = a.1.1 in
+    let w : ClosesGrant a.0 v.site [] answers (handle_of (answers g)) = a.1.1 in
     let same : w.grant ≡ g = the_one w.grant w.bears in
     let at_site : v.site ≡ site_of s past lane = at_rest v.running l.goes.runs none in
     ap (λ x. closed_by x (site_of s past lane)) (is ∙ a.1.0) ∙

@@ -25,7 +25,7 @@ use Rattle.session_laws.proofs.KeptLaws.{kept_abandoned}
 use Rattle.session_laws.proofs.CountedLaws.{counted_drop, weigh_drop}
 use Rattle.session_laws.proofs.TransferLaws.{transfer_ungranted}
 use Rattle.plan_runner.specs.Pending.{slots_times}
-use Rattle.plan_runner.specs.Sound.{Keeps as Stays}
+use Rattle.plan_runner.specs.Sound.{KeepsSite as Stays}
 use Rattle.session_model.specs.Calls.{Setting}
 use Rattle.session_laws.specs.Ends.{Forgets}
 

@@ -7,7 +7,7 @@ use Rattle.sftp_core.specs.declared.place.Place.{Place}
 use Rattle.session_model.specs.declared.entry.Entry.{Entry}
 use Rattle.session_model.specs.Readings.{answer}
 use Rattle.session_model.specs.Grants.{is_grant, is_granted}
-use Rattle.session_model.specs.Ids.{Reads, IdState, Free, Pending, Replied, id_state}
+use Rattle.session_model.specs.Ids.{ReadsId, IdState, Free, Pending, Replied, id_state}
 use Rattle.session_model.proofs.IdLaws.{reads}
 use Rattle.session_laws.specs.Changes.{IsBare}
 use Rattle.session_laws.specs.Places.{is_in}
@@ -54,7 +54,7 @@ pub free_bare_grants : (past : List Entry) (tickets grants : ℕ → List ℕ) (
     → ((g : ℕ) → is_in g (grants lane) ≡ true → is_in g (tickets lane) ≡ false) → IsBare past id (grants lane)
 free_bare_grants past tickets grants table id lane t none all granted apart p at = by_test (is_in p (grants lane)) refl
   where
-    by_state : (x : IdState) → Reads past id x → place_of x ≡ Some p → stand (among past tickets) (among past grants) x
+    by_state : (x : IdState) → ReadsId past id x → place_of x ≡ Some p → stand (among past tickets) (among past grants) x
         ≡ None → among past tickets p ≡ false → among past grants p ≡ true → is_grant past p ≡ true → ⊥
     by_state Free r at h none_of some_of got = absurd cc
     by_state (Pending q a was_sent) r at h none_of some_of got = absurd cc

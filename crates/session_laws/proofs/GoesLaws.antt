@@ -19,10 +19,10 @@ use Rattle.session_model.specs.Readings.{answer, asked, ended, last_cancel, own}
 use Rattle.session_model.specs.Calls.{Setting, current, site_left, site_of}
 use Rattle.session_model.proofs.CallLaws.{end_own, end_site, ended_end, site_end}
 use Rattle.session_model.specs.Journals.{IsJournal}
-use Rattle.session_laws.specs.Running.{Steps, CancelSteps, CancelTied, IsFilled, request_of, IsFrom, LeavesFrom, RunTied, leaving}
+use Rattle.session_laws.specs.Running.{StepsByMove, CancelSteps, CancelTied, IsFilled, request_of, IsFrom, LeavesFrom, RunTied, leaving}
 use Rattle.session_laws.specs.Places.{is_in, IsRising, without}
 use Rattle.session_laws.specs.Lanes.{LaneGoes, tickets_for}
-use Rattle.session_laws.specs.Going.{GoesOn, MachineStep, MachineWidens}
+use Rattle.session_laws.specs.Going.{LaneGoesOn, MachineStep, MachineWidens}
 use Rattle.session_laws.proofs.CancelLaws.{cancel_leaves, cancel_idle, cancel_steps}
 use Rattle.session_laws.proofs.PendLaws.{awaits_step, polled_has}
 use Rattle.session_laws.proofs.RunningLaws.{from_none, from_reply, steps, tied_idle, widens}
@@ -41,7 +41,7 @@ no_none x c a b = absurd cc
 -- the machine awaits another reply
 pub wait_goes : (s : Setting) (past : List Entry) (lane place : ℕ) (c : Call) (old site : Site) (tickets : List ℕ)
     (before : ℕ → ℕ) (r : Running) → current s past lane ≡ Some c → length old.slots ≡ 16 → AreWithin s.facts old
-    → Steps s past lane (step.Wait r) site → CancelSteps s past lane (step.Wait r) site
+    → StepsByMove s past lane (step.Wait r) site → CancelSteps s past lane (step.Wait r) site
     → Sounds (bytes_of c) s.facts old site (step.Wait r) → Pends before place site (step.Wait r)
     → is_in place tickets ≡ false → ((q : ℕ) → before q ≤ tickets_for tickets q)
     → LaneGoes s past lane (Some r) site tickets
@@ -58,7 +58,7 @@ wait_goes s past lane place c old site tickets before r is sixteen within runs l
 pub ask_goes : (s : Setting) (past : List Entry) (lane id : ℕ) (c : Call) (old site : Site) (tickets : List ℕ)
     (before : ℕ → ℕ) (a : Asked) (r : Running) → current s past lane ≡ Some c → length old.slots ≡ 16
     → AreWithin s.facts old
-    → Steps s past lane (step.Ask a r) site → CancelSteps s past lane (step.Ask a r) site
+    → StepsByMove s past lane (step.Ask a r) site → CancelSteps s past lane (step.Ask a r) site
     → Sounds (bytes_of c) s.facts old site (step.Ask a r) → Pends before (asked past) site (step.Ask a r)
     → is_in (asked past) tickets ≡ false → ((p : ℕ) → before p ≤ tickets_for tickets p)
     → IsFilled a (answer past) → LaneGoes s (request_of past lane id a ∷ past) lane (Some r) site (tickets ++ asked past ∷ [])
@@ -75,7 +75,7 @@ ask_goes s past lane id c old site tickets before a r is sixteen within runs lea
 pub done_goes : (s : Setting) (past : List Entry) (lane : ℕ) (o : Outcome) (c : Call) (old site : Site)
     (tickets : List ℕ) (before : ℕ → ℕ) → IsJournal s past → last_cancel past ≡ None → length old.slots ≡ 16
     → AreWithin s.facts old
-    → Steps s past lane (step.Done o) site → Sounds (bytes_of c) s.facts old site (step.Done o)
+    → StepsByMove s past lane (step.Done o) site → Sounds (bytes_of c) s.facts old site (step.Done o)
     → Pends before (asked past) site (step.Done o) → is_in (asked past) tickets ≡ false
     → ((p : ℕ) → before p ≤ tickets_for tickets p)
     → LaneGoes s (entry.Event (End lane (ended past lane) o) ∷ past) lane None site tickets
@@ -125,9 +125,9 @@ cancelled_goes s past lane o running old site c tickets j tied is left sixteen w
 -- what the lane's machine answered makes of the lane
 answer_goes : (s : Setting) (past : List Entry) (lane : ℕ) (c : Call) (old site : Site) (tickets : List ℕ)
     (before : ℕ → ℕ) (n : Next) → current s past lane ≡ Some c → length old.slots ≡ 16 → AreWithin s.facts old
-    → is_in (asked past) tickets ≡ false → ((q : ℕ) → before q ≤ tickets_for tickets q) → Steps s past lane n site
+    → is_in (asked past) tickets ≡ false → ((q : ℕ) → before q ≤ tickets_for tickets q) → StepsByMove s past lane n site
     → CancelSteps s past lane n site → Sounds (bytes_of c) s.facts old site n → Pends before (asked past) site n
-    → GoesOn s past lane tickets site n
+    → LaneGoesOn s past lane tickets site n
 answer_goes s past lane c old site tickets before (step.Ask a r) is sixteen within new all st left sounds pend = (
   st.0,
   λ id stays. ask_goes s past lane id c old site tickets before a r is sixteen within st left sounds pend new
@@ -144,7 +144,7 @@ machine_goes : (s : Setting) (past : List Entry) (lane : ℕ) (c : Call) (runnin
     → RunTied s past lane running old → CancelTied s past lane running old → length old.slots ≡ 16
     → AreWithin s.facts old → IsFrom past running c old s.facts plan → LeavesFrom past running c old s.facts leave
     → is_in (asked past) tickets ≡ false → ((q : ℕ) → before q ≤ tickets_for tickets q)
-    → MachineStep s past c plan leave before old site n → GoesOn s past lane tickets site n
+    → MachineStep s past c plan leave before old site n → LaneGoesOn s past lane tickets site n
 machine_goes s past lane c running old site tickets plan leave before n is runs cancels sixteen within from leaves_from new all a =
     answer_goes s past lane c old site tickets before n is sixteen within new all
     (steps s past lane running old site c plan n runs is from a.goes)
@@ -153,7 +153,7 @@ machine_goes s past lane c running old site tickets plan leave before n is runs 
 -- The lane's next call begins.
 pub begin_goes : (s : Setting) (past : List Entry) (lane : ℕ) (c : Call) (old site : Site) (tickets : List ℕ) (n : Next)
     → current s past lane ≡ Some c → LaneGoes s past lane None old tickets → is_in (asked past) tickets ≡ false
-    → MachineStep s past c (next c old s.facts) (cancelled c old s.facts) (pends_idle old) old site n → GoesOn s past lane tickets site n
+    → MachineStep s past c (next c old s.facts) (cancelled c old s.facts) (pends_idle old) old site n → LaneGoesOn s past lane tickets site n
 begin_goes s past lane c old site tickets n is l new a =
     machine_goes s past lane c None old site tickets (next c old s.facts) (cancelled c old s.facts) (pends_idle old) n
     is (tied_idle s past lane old l.runs.0 l.runs.1) (cancel_idle s past lane old l.runs.0 l.runs.1) l.sixteen
@@ -165,7 +165,7 @@ pub reply_goes : (s : Setting) (past : List Entry) (lane k p : ℕ) (c : Call) (
     (tickets : List ℕ) (n : Next) → current s past lane ≡ Some c → LaneGoes s past lane (Some r) old tickets
     → IsRising tickets → slice_get tickets k ≡ Some p → awaited r old ≡ Some p → answer past p ≡ Some y → is_in (asked past) tickets ≡ false
     → MachineStep s past c (after r (bytes_of c) old s.facts (Some y)) (left_after r (bytes_of c) old s.facts (Some y))
-    (pends_after r old (Some y)) old site n → GoesOn s past lane (without k tickets) site n
+    (pends_after r old (Some y)) old site n → LaneGoesOn s past lane (without k tickets) site n
 reply_goes s past lane k p c r y old site tickets n is l rising at awaits got new a =
     machine_goes s past lane c (Some r) old site (without k tickets) (after r (bytes_of c) old s.facts (Some y))
     (left_after r (bytes_of c) old s.facts (Some y)) (pends_after r old (Some y)) n is l.runs.0 l.runs.1 l.sixteen
@@ -179,7 +179,7 @@ pub unreplied_goes : (s : Setting) (past : List Entry) (lane : ℕ) (c : Call) (
     (tickets : List ℕ) (n : Next) → current s past lane ≡ Some c → LaneGoes s past lane (Some r) old tickets
     → awaited r old ≡ None → is_in (asked past) tickets ≡ false
     → MachineStep s past c (after r (bytes_of c) old s.facts None) (left_after r (bytes_of c) old s.facts None)
-    (pends_after r old None) old site n → GoesOn s past lane tickets site n
+    (pends_after r old None) old site n → LaneGoesOn s past lane tickets site n
 unreplied_goes s past lane c r old site tickets n is l awaits new a =
     machine_goes s past lane c (Some r) old site tickets (after r (bytes_of c) old s.facts None)
     (left_after r (bytes_of c) old s.facts None) (pends_after r old None) n is l.runs.0 l.runs.1 l.sixteen l.within
@@ -188,7 +188,7 @@ unreplied_goes s past lane c r old site tickets n is l awaits new a =
 -- A call answers while the reply that it awaits is missing.
 pub widen_goes : (s : Setting) (past : List Entry) (lane p : ℕ) (c : Call) (r : Running) (site : Site)
     (tickets : List ℕ) (n : Next) → current s past lane ≡ Some c → LaneGoes s past lane (Some r) site tickets
-    → awaited r site ≡ Some p → answer past p ≡ None → is_in (asked past) tickets ≡ false → MachineWidens s past c r site n → GoesOn s past lane tickets site n
+    → awaited r site ≡ Some p → answer past p ≡ None → is_in (asked past) tickets ≡ false → MachineWidens s past c r site n → LaneGoesOn s past lane tickets site n
 widen_goes s past lane p c r site tickets n is l awaits none new a =
     answer_goes s past lane c site site tickets (λ q. pends q (Some r) site) n is l.sixteen l.within new l.awaits
     (widens s past lane r site c p n l.runs.0 is awaits none a.goes)

@@ -16,7 +16,7 @@ use Rattle.plan_model.specs.declared.call.Call.{Call}
 use Rattle.session_model.specs.declared.event.Owner.{Owner}
 use Rattle.session_model.specs.declared.event.Event.TheVariants.{Submit, Take}
 use Rattle.session_model.specs.declared.entry.Entry.{Entry}
-use Rattle.session_model.specs.Readings.{Asked, answer, asked, asked_at, ended, is_by, own}
+use Rattle.session_model.specs.Readings.{AskedRequest, answer, asked, asked_at, ended, is_by, own}
 use Rattle.session_model.specs.Calls.{Setting, current, move_at, site_of}
 use Rattle.session_model.specs.Grants.{is_asked_by, is_grant, is_granted, is_unended_asker}
 use Rattle.session_model.specs.Journals.{IsJournal, MayReply}
@@ -49,7 +49,7 @@ handle_expected expected.Status (reply.Handle handle) is may = absurd cc
 handle_expected e other is may = absurd cc
 
 -- the request of a grant asks for a handle
-pub grant_expected : (s : Setting) (past : List Entry) (p : ℕ) (a : Asked) → IsJournal s past → is_grant past p ≡ true
+pub grant_expected : (s : Setting) (past : List Entry) (p : ℕ) (a : AskedRequest) → IsJournal s past → is_grant past p ≡ true
     → asked_at past p ≡ Some a → expected_of a.request ≡ expected.Handle
 grant_expected s [] p a j grant is = absurd cc
 grant_expected s (entry.Event (Submit by id r) ∷ past) p a j grant is = elim (eqb_tells p (asked past)) [
@@ -63,7 +63,7 @@ grant_expected s (entry.Event (Take id r) ∷ past) p a j grant is =
       | inl t ↦ (let came : answer (entry.Event (Take id r) ∷ past) p ≡ Some r =
           ap (answer (entry.Event (Take id r) ∷ past)) (sym t.1) ∙ answer_new past id may.0 r may.1.0.0 in
           let brought : is_handle r ≡ true = sym (ap is_granted came) ∙ grant in
-          let replies : MayReply (Some a) r = subst (λ (o : Option Asked). MayReply o r) (ap (asked_at past) t.1 ∙ is) may.1.1 in
+          let replies : MayReply (Some a) r = subst (λ (o : Option AskedRequest). MayReply o r) (ap (asked_at past) t.1 ∙ is) may.1.1 in
           handle_expected (expected_of a.request) r brought replies.0)
       | inr t ↦ grant_expected s past p a j.1 (sym (ap is_granted (answer_other past id may.0 p r may.1.0.0 t.1)) ∙ grant) is
     ]
@@ -103,7 +103,7 @@ handle_first s past lane n id r j e = by_call (current s past lane) (next_submit
         (asks_good c (site_of s past lane) s.facts mine (answer past) r (handle_within c (site_of s past lane) s.facts mine (answer past) r e asks) asks)
 
 -- a call's request for a handle stands before its others
-pub first_stands : (s : Setting) (past : List Entry) (lane c p q : ℕ) (a : Asked) → IsJournal s past → asked_at past p
+pub first_stands : (s : Setting) (past : List Entry) (lane c p q : ℕ) (a : AskedRequest) → IsJournal s past → asked_at past p
     ≡ Some a → expected_of a.request ≡ expected.Handle → is_asked_by (asked_at past p) lane c ≡ true
     → is_asked_by (asked_at past q) lane c ≡ true → p ≤ q
 first_stands s [] lane c p q a j is e x y = absurd cc
@@ -119,8 +119,8 @@ first_stands s (entry.Event (Submit o id r) ∷ past) lane c p q a j is e x y = 
   ]
 ]
   where
-    the_request : (b : Asked) → (◌≡◌ {A = Option Asked} (Some b) (Some a)) → expected_of b.request ≡ expected.Handle
-    the_request b same = (let one : b ≡ a = cc in ap (λ (z : Asked). expected_of z.request) one ∙ e)
+    the_request : (b : AskedRequest) → (◌≡◌ {A = Option AskedRequest} (Some b) (Some a)) → expected_of b.request ≡ expected.Handle
+    the_request b same = (let one : b ≡ a = cc in ap (λ (z : AskedRequest). expected_of z.request) one ∙ e)
 
     both : (m n k : ℕ) → ((m == lane) && (n == k)) ≡ true → (m ≡ lane) × (n ≡ k)
     both m n k h = elim (eqb_tells m lane) [
@@ -144,7 +144,7 @@ first_stands s (_ ∷ past) lane c p q a j is e x y = first_stands s past lane c
 -- ---- the grants of a lane
 
 -- the call of a lane that asked for a place
-call_of : (past : List Entry) (lane g : ℕ) → ((a : Asked) × ((asked_at past g ≡ Some a) × (is_of a.by lane ≡ true)))
+call_of : (past : List Entry) (lane g : ℕ) → ((a : AskedRequest) × ((asked_at past g ≡ Some a) × (is_of a.by lane ≡ true)))
     → (c : ℕ) × (is_asked_by (asked_at past g) lane c ≡ true)
 call_of past lane g mine = by_who mine.0.by refl mine.1.1
   where

@@ -32,7 +32,7 @@ use Rattle.sftp_model.specs.declared.reply.Reply.{Reply}
 use Rattle.sftp_model.specs.Slots.{has_grant}
 use Rattle.session_model.specs.declared.event.Owner.{Owner}
 use Rattle.session_model.specs.declared.entry.Entry.{Entry}
-use Rattle.session_model.specs.Readings.{Asked, answer, asked_at, ended, is_by, own}
+use Rattle.session_model.specs.Readings.{AskedRequest, answer, asked_at, ended, is_by, own}
 use Rattle.session_model.specs.Calls.{Setting, current, held_site, site_of}
 use Rattle.session_model.specs.Grants.{closed, holds, is_asked_by, is_grant, is_granted, is_held, is_one_of, is_unended_asker}
 use Rattle.session_model.proofs.GrantLaws.{any_passes}
@@ -78,11 +78,11 @@ of_without past lane [] k all = tt
 of_without past lane (x ∷ xs) zero all = all.1
 of_without past lane (x ∷ xs) (suc k) all = (all.0, of_without past lane xs k all.1)
 
-pub of_in : (past : List Entry) (lane : ℕ) (ps : List ℕ) (p : ℕ) → AllOf past lane ps → is_in p ps ≡ true → (a : Asked)
+pub of_in : (past : List Entry) (lane : ℕ) (ps : List ℕ) (p : ℕ) → AllOf past lane ps → is_in p ps ≡ true → (a : AskedRequest)
     × ((asked_at past p ≡ Some a) × (is_of a.by lane ≡ true))
 of_in past lane [] p all e = absurd cc
 of_in past lane (h ∷ hs) p all e = elim (eqb_tells h p) [
-  | inl t ↦ subst (λ (n : ℕ). (a : Asked) × ((asked_at past n ≡ Some a) × (is_of a.by lane ≡ true))) t.1 all.0
+  | inl t ↦ subst (λ (n : ℕ). (a : AskedRequest) × ((asked_at past n ≡ Some a) × (is_of a.by lane ≡ true))) t.1 all.0
   | inr t ↦ of_in past lane hs p all.1 (rw t.0 at e)
 ]
 
@@ -95,21 +95,21 @@ is_lane owner.Setup m n x y = absurd cc
 is_lane owner.Close m n x y = absurd cc
 
 -- one lane asked for a place
-pub one_lane : (past : List Entry) (p m n : ℕ) → ((a : Asked) × ((asked_at past p ≡ Some a) × (is_of a.by m ≡ true)))
-    → ((a : Asked) × ((asked_at past p ≡ Some a) × (is_of a.by n ≡ true))) → m ≡ n
+pub one_lane : (past : List Entry) (p m n : ℕ) → ((a : AskedRequest) × ((asked_at past p ≡ Some a) × (is_of a.by m ≡ true)))
+    → ((a : AskedRequest) × ((asked_at past p ≡ Some a) × (is_of a.by n ≡ true))) → m ≡ n
 one_lane past p m n x y = (let same : x.0 ≡ y.0 = some_asked x.0 y.0 (sym x.1.0 ∙ y.1.0) in
-    is_lane y.0.by m n (ap (λ (a : Asked). is_of a.by m) (sym same) ∙ x.1.1) y.1.1)
+    is_lane y.0.by m n (ap (λ (a : AskedRequest). is_of a.by m) (sym same) ∙ x.1.1) y.1.1)
   where
-    some_asked : (a b : Asked) → (◌≡◌ {A = Option Asked} (Some a) (Some b)) → a ≡ b
+    some_asked : (a b : AskedRequest) → (◌≡◌ {A = Option AskedRequest} (Some a) (Some b)) → a ≡ b
     some_asked a b e = cc
 
 pub of_push : (past : List Entry) (lane : ℕ) (ps : List ℕ) (p : ℕ) → AllOf past lane ps
-    → ((a : Asked) × ((asked_at past p ≡ Some a) × (is_of a.by lane ≡ true))) → AllOf past lane (ps ++ p ∷ [])
+    → ((a : AskedRequest) × ((asked_at past p ≡ Some a) × (is_of a.by lane ≡ true))) → AllOf past lane (ps ++ p ∷ [])
 of_push past lane [] p all new = (new, tt)
 of_push past lane (h ∷ hs) p all new = (all.0, of_push past lane hs p all.1 new)
 
 held_push : (past : List Entry) (gs : List Held) (g : Held) → GrantsTied past gs
-    → ((a : Asked) × (id_state past g.grant.id ≡ Replied g.place a (reply.Handle g.grant.handle)))
+    → ((a : AskedRequest) × (id_state past g.grant.id ≡ Replied g.place a (reply.Handle g.grant.handle)))
     → GrantsTied past (gs ++ g ∷ [])
 held_push past [] g all new = (new, tt)
 held_push past (h ∷ hs) g all new = (all.0, held_push past hs g all.1 new)
@@ -212,7 +212,7 @@ holder_asked s past g w j h = elim (or_cases (has_grant (held_site s past w) g) 
   | inr asks ↦ (ended past w, asks)
 ]
 
-pub one_asker : (a : Asked) (l w c : ℕ) → is_of a.by l ≡ true → is_by a.by w c ≡ true → w ≡ l
+pub one_asker : (a : AskedRequest) (l w c : ℕ) → is_of a.by l ≡ true → is_by a.by w c ≡ true → w ≡ l
 one_asker a l w c x y = by_who a.by x y
   where
     two : (m n : ℕ) (b : Bool) → (m == n) ≡ b → b ≡ true → m ≡ n
@@ -281,7 +281,7 @@ are_grants_with s past lane p ts gs j there h has grant mine newer only =
       rising = push_rising (grant_places gs) p h.held_rise newer;
     }
   where
-    by_asker_of : (g w : ℕ) → ((a : Asked) × ((asked_at past g ≡ Some a) × (is_of a.by lane ≡ true))) → holds s past g w ≡ true → w ≡ lane
+    by_asker_of : (g w : ℕ) → ((a : AskedRequest) × ((asked_at past g ≡ Some a) × (is_of a.by lane ≡ true))) → holds s past g w ≡ true → w ≡ lane
     by_asker_of g w own_of holder = (let who = holder_asked s past g w j holder in
         one_asker own_of.0 lane w who.0 own_of.1.1 (ap (λ x. is_asked_by x w who.0) (sym own_of.1.0) ∙ who.1))
 

@@ -50,7 +50,7 @@ use Rattle.plan_runner.specs.Cancelling.{left_after}
 use Rattle.plan_runner.specs.Sound.{AreWithin}
 use Rattle.session_model.specs.declared.event.Event.TheVariants.{Cancel, End}
 use Rattle.session_model.specs.Journals.{IsJournal}
-use Rattle.session_laws.specs.Going.{GoesOn, MachineStep, MachineWidens}
+use Rattle.session_laws.specs.Going.{LaneGoesOn, MachineStep, MachineWidens}
 use Rattle.sftp_model.specs.declared.reply.Reply.TheVariants as reply
 use Rattle.session_model.specs.declared.entry.Entry.TheVariants as entry
 use Rattle.plan_model.specs.CallPlans.{cancelled, next}
@@ -125,7 +125,7 @@ goes_with s past lane v dues x l is = subst (λ (r : Option Running). LaneGoes s
 pub begin_lane : (s : Setting) (past : List Entry) (lane : ℕ) (v : LaneValue) (dues : List ℕ) (c : Call) (site : Site)
     (n : Next) → LaneTied s past lane v dues → current s past lane ≡ Some c → v.running ≡ None
     → MachineStep s past c (next c v.site s.facts) (cancelled c v.site s.facts) (pends_idle v.site) v.site site n
-    → GoesOn s past lane (ticket_places v.tickets) site n
+    → LaneGoesOn s past lane (ticket_places v.tickets) site n
 begin_lane s past lane v dues c site n l is none a =
     begin_goes s past lane c v.site site (ticket_places v.tickets) n is (goes_with s past lane v dues None l none)
     (new_place past lane (ticket_places v.tickets) l.holds.tied_of) a
@@ -137,7 +137,7 @@ pub reply_lane : (s : Setting) (past : List Entry) (lane k : ℕ) (v : LaneValue
     → slice_get v.tickets k ≡ Some t → awaited r v.site ≡ Some t.place → answer past t.place ≡ Some y
     → MachineStep s past c (after r (bytes_of c) v.site s.facts (Some y))
     (left_after r (bytes_of c) v.site s.facts (Some y)) (pends_after r v.site (Some y)) v.site site n
-    → GoesOn s past lane (without k (ticket_places v.tickets)) site n
+    → LaneGoesOn s past lane (without k (ticket_places v.tickets)) site n
 reply_lane s past lane k v dues c r t y site n l is running at_k awaits got a =
     reply_goes s past lane k t.place c r y v.site site (ticket_places v.tickets) n is
     (goes_with s past lane v dues (Some r) l running) l.holds.tied_rise (ticket_index v.tickets k t at_k) awaits got
@@ -149,7 +149,7 @@ pub unreplied_lane :
     (site : Site) (n : Next) → LaneTied s past lane v dues → current s past lane ≡ Some c → v.running ≡ Some r
     → awaited r v.site ≡ None → MachineStep s past c (after r (bytes_of c) v.site s.facts None)
     (left_after r (bytes_of c) v.site s.facts None) (pends_after r v.site None) v.site site n
-    → GoesOn s past lane (ticket_places v.tickets) site n
+    → LaneGoesOn s past lane (ticket_places v.tickets) site n
 unreplied_lane s past lane v dues c r site n l is running awaits a =
     unreplied_goes s past lane c r v.site site (ticket_places v.tickets) n is
     (goes_with s past lane v dues (Some r) l running) awaits
@@ -159,7 +159,7 @@ unreplied_lane s past lane v dues c r site n l is running awaits a =
 pub widen_lane : (s : Setting) (past : List Entry) (lane p : ℕ) (v : LaneValue) (dues : List ℕ) (c : Call) (r : Running)
     (n : Next) → LaneTied s past lane v dues → current s past lane ≡ Some c → v.running ≡ Some r → awaited r v.site
     ≡ Some p
-    → answer past p ≡ None → MachineWidens s past c r v.site n → GoesOn s past lane (ticket_places v.tickets) v.site n
+    → answer past p ≡ None → MachineWidens s past c r v.site n → LaneGoesOn s past lane (ticket_places v.tickets) v.site n
 widen_lane s past lane p v dues c r n l is running awaits none a =
     widen_goes s past lane p c r v.site (ticket_places v.tickets) n is (goes_with s past lane v dues (Some r) l running)
     awaits none (new_place past lane (ticket_places v.tickets) l.holds.tied_of) a

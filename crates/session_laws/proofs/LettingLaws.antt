@@ -12,7 +12,7 @@ use Rattle.session_model.specs.Calls.{Setting, site_of}
 use Rattle.session_model.specs.Grants.{is_one_of, closed, orphan, orphan_at, first_let_go, grant_or}
 use Rattle.session_model.specs.Journals.{close_of}
 use Rattle.session_model.proofs.LetGoLaws.{close_leaves}
-use Rattle.session_laws.specs.Letting.{Letting, Stays}
+use Rattle.session_laws.specs.Letting.{Letting, StaysOrCloses}
 use Rattle.session_laws.proofs.GoneLaws.{closed_own}
 use Rattle.session_model.specs.declared.entry.Entry.TheVariants as entry
 
@@ -28,7 +28,7 @@ more_gone : (more gone : List (Option ℕ)) (g : ℕ) → is_one_of gone g ≡ t
 more_gone [] gone g e = e
 more_gone (x ∷ more) gone g e = either_true (is_at x g) (is_one_of (more ++ gone) g) (more_gone more gone g e)
 
-skip_slot : (gone : List (Option ℕ)) (slot : Slot) (rest : List Slot) → Stays gone slot rest → first_let_go gone (slot ∷ rest) ≡ first_let_go gone rest
+skip_slot : (gone : List (Option ℕ)) (slot : Slot) (rest : List Slot) → StaysOrCloses gone slot rest → first_let_go gone (slot ∷ rest) ≡ first_let_go gone rest
 skip_slot gone slot rest stays = by_grant (grant_of slot) (λ g e. stays g e)
   where
     by_grant : (x : Option ℕ) → ((g : ℕ) → x ≡ Some g → (list_any (slot_has g) rest || is_one_of gone g) ≡ true)
@@ -48,7 +48,7 @@ letting_orphan s past site rest l = ap (orphan_at s past (closed s past)) l.lett
 
 -- a slot whose grant stays is passed
 pub letting_skip : (s : Setting) (past : List Entry) (site : Site) (slot : Slot) (rest : List Slot)
-    → Letting s past site (slot ∷ rest) → Stays (closed s past) slot rest → Letting s past site rest
+    → Letting s past site (slot ∷ rest) → StaysOrCloses (closed s past) slot rest → Letting s past site rest
 letting_skip s past site slot rest l stays =
     record {
       letting = l.letting;

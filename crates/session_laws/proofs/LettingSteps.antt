@@ -39,7 +39,7 @@ use Rattle.session_laws.proofs.CloseSteps.{Closing, closed_spends, closing}
 use Rattle.session_laws.proofs.TransferLaws.{transfer_on}
 use Rattle.session_model.specs.declared.entry.Entry.TheVariants as entry
 use Rattle.sftp_core.specs.Core.{Core}
-use Rattle.plan_runner.specs.Sound.{Keeps as Stays}
+use Rattle.plan_runner.specs.Sound.{KeepsSite as Stays}
 use Rattle.session_model.specs.Readings.{was_let_go}
 
 -- ---- a lane without a call

@@ -6,7 +6,7 @@ use Rattle.sftp_model.specs.declared.request.Request.{Request}
 use Rattle.session_model.specs.declared.event.Owner.{Owner}
 use Rattle.session_model.specs.declared.event.Event.TheVariants.{Submit}
 use Rattle.session_model.specs.declared.entry.Entry.{Entry}
-use Rattle.session_model.specs.Readings.{Asked, asked, asked_at, ended, is_by, own}
+use Rattle.session_model.specs.Readings.{AskedRequest, asked, asked_at, ended, is_by, own}
 use Rattle.session_model.specs.Calls.{Setting}
 use Rattle.session_model.proofs.CallLaws.{has_place, asker_owns, next_submit, own_fresh}
 use Rattle.session_model.specs.Grants.{is_asked_by, is_unended_asker}
@@ -71,11 +71,11 @@ pub of_below : (past : List Entry) (lane : ℕ) (ps : List ℕ) → AllOf past l
 of_below past lane [] all = tt
 of_below past lane (p ∷ ps) all = (there past p all.0.0 all.0.1.0, of_below past lane ps all.1)
   where
-    there : (past : List Entry) (p : ℕ) (a : Asked) → asked_at past p ≡ Some a → p < asked past
+    there : (past : List Entry) (p : ℕ) (a : AskedRequest) → asked_at past p ≡ Some a → p < asked past
     there past p a e = elim (leb_tells (asked past) p) [
       | inl t ↦
           absurd (let none : asked_at past p ≡ None = asked_beyond past p t.1 in
-          let clash : ◌≡◌ {A = Option Asked} None (Some a) = sym none ∙ e in cc)
+          let clash : ◌≡◌ {A = Option AskedRequest} None (Some a) = sym none ∙ e in cc)
       | inr t ↦ omega (arith, t)
     ]
 

@@ -9,8 +9,8 @@ use Rattle.sftp_core.specs.declared.place.Place.TheVariants.{Granted}
 use Rattle.sftp_core.specs.Core.{reply_in, is_ticket}
 use Rattle.session_model.specs.declared.event.Owner.{Owner}
 use Rattle.session_model.specs.declared.entry.Entry.{Entry}
-use Rattle.session_model.specs.Readings.{Asked, answer, asked_at}
-use Rattle.session_model.specs.Ids.{IdState, Free, Pending, Replied, id_state, Reads}
+use Rattle.session_model.specs.Readings.{AskedRequest, answer, asked_at}
+use Rattle.session_model.specs.Ids.{IdState, Free, Pending, Replied, id_state, ReadsId}
 use Rattle.session_model.proofs.IdLaws.{reads}
 use Rattle.session_laws.specs.Places.{IsRising, is_in, without, with_places}
 use Rattle.session_laws.specs.Tables.{Tabled, place_of, replied, stand}
@@ -36,10 +36,10 @@ gave false false e r y h = absurd cc
 -- a reply that the core has for the ticket of a place
 pub came_answer : (past : List Entry) (w g : ℕ → Bool) (table : ℕ → Option Place) (id p : ℕ) (y : Reply)
     → Tabled past w g table → place_of (id_state past id) ≡ Some p → reply_in (table id) ≡ Some y
-    → (a : Asked) × ((id_state past id ≡ Replied p a y) × (answer past p ≡ Some y))
+    → (a : AskedRequest) × ((id_state past id ≡ Replied p a y) × (answer past p ≡ Some y))
 came_answer past w g table id p y t at has = by_state (id_state past id) (reads past id) at (ap reply_in (sym (t id)) ∙ has)
   where
-    by_state : (x : IdState) → Reads past id x → place_of x ≡ Some p → reply_in (stand w g x) ≡ Some y → (a : Asked)
+    by_state : (x : IdState) → ReadsId past id x → place_of x ≡ Some p → reply_in (stand w g x) ≡ Some y → (a : AskedRequest)
         × ((x ≡ Replied p a y) × (answer past p ≡ Some y))
     by_state Free r at has = absurd cc
     by_state (Pending q a was_sent) r at has = absurd cc
@@ -53,7 +53,7 @@ pub missing_answer : (past : List Entry) (w g : ℕ → Bool) (table : ℕ → O
     → place_of (id_state past id) ≡ Some p → w p ≡ true → reply_in (table id) ≡ None → answer past p ≡ None
 missing_answer past w g table id p t at wanted none = by_state (id_state past id) (reads past id) at (ap reply_in (sym (t id)) ∙ none)
   where
-    by_state : (x : IdState) → Reads past id x → place_of x ≡ Some p → reply_in (stand w g x) ≡ None → answer past p ≡ None
+    by_state : (x : IdState) → ReadsId past id x → place_of x ≡ Some p → reply_in (stand w g x) ≡ None → answer past p ≡ None
     by_state Free r at none = absurd cc
     by_state (Pending q a was_sent) r at none = (let same : q ≡ p = cc in ap (answer past) (sym same) ∙ r.1)
     by_state (Replied q a z) r at none =
@@ -72,7 +72,7 @@ ticket_counts past w g table id p t at wanted = ap is_ticket (t id) ∙ by_state
     by_state (Replied q a z) at = (let same : q ≡ p = cc in let here : w q ≡ true = ap w same ∙ wanted in rw here refl)
 
 -- and a grant alike
-pub grant_counts : (past : List Entry) (w g : ℕ → Bool) (table : ℕ → Option Place) (id p : ℕ) (a : Asked)
+pub grant_counts : (past : List Entry) (w g : ℕ → Bool) (table : ℕ → Option Place) (id p : ℕ) (a : AskedRequest)
     (handle : List ℕ) → Tabled past w g table → id_state past id ≡ Replied p a (reply.Handle handle) → w p ≡ false → g p
     ≡ true → table id ≡ Some (Granted handle 1)
 grant_counts past w g table id p a handle t at none some = t id ∙ ap (stand w g) at ∙ polled_handle w g p a handle none some
@@ -93,12 +93,12 @@ among_other past places lane q now same = by_state (asked_at past q)
     by_who owner.Setup = refl
     by_who owner.Close = refl
 
-    by_state : (x : Option Asked) → by_asker x (λ l. is_in q (places l)) ≡ by_asker x (λ l. is_in q (if lane == l then now else places l))
+    by_state : (x : Option AskedRequest) → by_asker x (λ l. is_in q (places l)) ≡ by_asker x (λ l. is_in q (if lane == l then now else places l))
     by_state None = refl
     by_state (Some a) = by_who a.by
 
 -- a place that the lane asked for is among its own
-pub among_self : (past : List Entry) (places : ℕ → List ℕ) (lane p : ℕ) (a : Asked) → asked_at past p ≡ Some a
+pub among_self : (past : List Entry) (places : ℕ → List ℕ) (lane p : ℕ) (a : AskedRequest) → asked_at past p ≡ Some a
     → is_of a.by lane ≡ true → among past places p ≡ is_in p (places lane)
 among_self past places lane p a at mine = ap (λ x. by_asker x (λ l. is_in p (places l))) at ∙ by_who a.by mine
   where
@@ -117,7 +117,7 @@ now_places places lane now = elim (eqb_tells lane lane) [ inl t ↦ rw t.0 refl 
 -- ---- a ticket is spent
 
 -- A reply that brings no handle was polled, or a ticket was dropped: the ticket at index k is gone.
-pub spent_tabled : (past : List Entry) (tickets grants : ℕ → List ℕ) (lane k id p : ℕ) (a : Asked)
+pub spent_tabled : (past : List Entry) (tickets grants : ℕ → List ℕ) (lane k id p : ℕ) (a : AskedRequest)
     (table now : ℕ → Option Place) → asked_at past p ≡ Some a → is_of a.by lane ≡ true → IsRising (tickets lane)
     → slice_get (tickets lane) k ≡ Some p
     → place_of (id_state past id) ≡ Some p
@@ -131,7 +131,7 @@ spent_tabled past tickets grants lane k id p a table now at mine rising here bor
     (λ q ne. (among_other past tickets lane q (without k (tickets lane)) (without_other (tickets lane) k p q here ne), refl)) t
 
 -- what is wanted no more
-pub spent_unwanted : (past : List Entry) (tickets : ℕ → List ℕ) (lane k p : ℕ) (a : Asked) → asked_at past p ≡ Some a
+pub spent_unwanted : (past : List Entry) (tickets : ℕ → List ℕ) (lane k p : ℕ) (a : AskedRequest) → asked_at past p ≡ Some a
     → is_of a.by lane ≡ true → IsRising (tickets lane) → slice_get (tickets lane) k ≡ Some p
     → among past (with_places tickets lane (without k (tickets lane))) p ≡ false
 spent_unwanted past tickets lane k p a at mine rising here =
@@ -140,7 +140,7 @@ spent_unwanted past tickets lane k p a at mine rising here =
     ∙ without_self (tickets lane) k p rising here)
 
 -- A HANDLE was polled: the ticket is gone, and its place has a grant.
-pub granted_tabled : (past : List Entry) (tickets grants : ℕ → List ℕ) (lane k id p : ℕ) (a b : Asked) (handle : List ℕ)
+pub granted_tabled : (past : List Entry) (tickets grants : ℕ → List ℕ) (lane k id p : ℕ) (a b : AskedRequest) (handle : List ℕ)
     (table now : ℕ → Option Place) → asked_at past p ≡ Some a → is_of a.by lane ≡ true → IsRising (tickets lane)
     → slice_get (tickets lane) k ≡ Some p
     → id_state past id ≡ Replied p b (reply.Handle handle) → now id ≡ Some (Granted handle 1) → ((i : ℕ) → i ≢ id → now i ≡ table i)

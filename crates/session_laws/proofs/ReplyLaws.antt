@@ -11,9 +11,9 @@ use Rattle.sftp_core.proofs.Elsewhere.{gone_elsewhere, gone_here, put_elsewhere,
 use Rattle.plan_model.specs.Moves.{handle_of}
 use Rattle.session_model.specs.declared.event.Event.TheVariants.{Cancel, End, Submit, Take}
 use Rattle.session_model.specs.declared.entry.Entry.{Entry}
-use Rattle.session_model.specs.Readings.{Asked, answer, ended}
+use Rattle.session_model.specs.Readings.{AskedRequest, answer, ended}
 use Rattle.session_model.specs.Calls.{Setting, site_of}
-use Rattle.session_model.specs.Ids.{Pending, Reads, id_state}
+use Rattle.session_model.specs.Ids.{Pending, ReadsId, id_state}
 use Rattle.session_model.specs.Journals.{close_of, IsJournal}
 use Rattle.session_model.proofs.IdLaws.{reads}
 use Rattle.session_model.proofs.RequestLaws.{answer_new}
@@ -49,14 +49,14 @@ use Rattle.session_laws.specs.Letting.{Letting}
 -- ---- replies
 
 -- what stands under a request that waits
-waiting_is : (s : Setting) (past : List Entry) (c : Core) (lanes : ℕ → LaneValue) (dues : List ℕ) (id p : ℕ) (a : Asked)
+waiting_is : (s : Setting) (past : List Entry) (c : Core) (lanes : ℕ → LaneValue) (dues : List ℕ) (id p : ℕ) (a : AskedRequest)
     (b : Bool) → SessionTied s past c lanes dues → id_state past id ≡ Pending p a b
     → at c id ≡ Some (Waiting (expected_of a.request) b (among past (tickets_of lanes) p))
 waiting_is s past c lanes dues id p a b h is = h.table id ∙ ap (stand (among past (tickets_of lanes)) (among past (grants_of lanes))) is
 
 -- A reply was taken: a HANDLE only for a call that waits for it.
 pub taken_keeps :
-    (s : Setting) (past : List Entry) (core : Core) (lanes : ℕ → LaneValue) (id p : ℕ) (a : Asked) (b : Bool)
+    (s : Setting) (past : List Entry) (core : Core) (lanes : ℕ → LaneValue) (id p : ℕ) (a : AskedRequest) (b : Bool)
     (r : Reply)
     → SessionTied s past core lanes [] → IsJournal s past → id_state past id ≡ Pending p a b
     → (is_handle r ≡ true → among past (tickets_of lanes) p ≡ true)
@@ -70,7 +70,7 @@ taken_keeps s past c lanes id p a b r h j is wanted = by_wanted (among past (tic
     e = expected_of a.request
 
     no_grant : among past (grants_of lanes) p ≡ false
-    no_grant = pending_ungranted s past c lanes [] p j (subst (Reads past id) is (reads past id)).1 h
+    no_grant = pending_ungranted s past c lanes [] p j (subst (ReadsId past id) is (reads past id)).1 h
 
     plain : (x : Bool) → is_handle r ≡ x → among past (tickets_of lanes) p ≡ false → is_handle r ≡ false
     plain true e none = absurd (let clash : false ≡ true = sym none ∙ wanted e in cc)
@@ -92,7 +92,7 @@ taken_keeps s past c lanes id p a b r h j is wanted = by_wanted (among past (tic
         (gone_here c.table id ∙ sym (rw (w, no_grant) refl)) (λ i ne. gone_elsewhere c.table id i ne))
 
 -- A HANDLE was taken that no lane wants, and its CLOSE was queued.
-pub unwanted_keeps : (s : Setting) (past : List Entry) (core : Core) (lanes : ℕ → LaneValue) (id p : ℕ) (a : Asked)
+pub unwanted_keeps : (s : Setting) (past : List Entry) (core : Core) (lanes : ℕ → LaneValue) (id p : ℕ) (a : AskedRequest)
     (b : Bool) (handle : List ℕ)
     → SessionTied s past core lanes [] → IsJournal s (close_of (entry.Event (Take id (reply.Handle handle)) ∷ past) p id
     ∷ entry.Event (Take id (reply.Handle handle)) ∷ past) → id_state past id ≡ Pending p a b
@@ -102,7 +102,7 @@ pub unwanted_keeps : (s : Setting) (past : List Entry) (core : Core) (lanes : �
 unwanted_keeps s past c lanes id p a b handle h j is unwanted due =
     let r : Reply = reply.Handle handle in
     let mid : List Entry = entry.Event (Take id r) ∷ past in
-    let read = subst (Reads past id) is (reads past id) in
+    let read = subst (ReadsId past id) is (reads past id) in
     let e : Expected = expected_of a.request in
     let close : Request = request.Close handle in
     let no_grant : among past (grants_of lanes) p ≡ false = pending_ungranted s past c lanes [] p j.1.1 read.1 h in

@@ -1,7 +1,7 @@
 -- Which grants are due behind each step of a session.
 use Rattle.std.proofs.Common.{[], ◌∷◌, ◌++◌, subst}
 use Rattle.session_model.specs.declared.event.Event.TheVariants.{Cancel, Send, End, Take}
-use Rattle.session_model.specs.Ids.{Reads, Pending, id_state}
+use Rattle.session_model.specs.Ids.{ReadsId, Pending, id_state}
 use Rattle.session_model.proofs.IdLaws.{reads}
 use Rattle.session_laws.specs.Lanes.{grant_places, LaneValue, SessionTied, ticket_places}
 use Rattle.session_laws.proofs.SessionLaws.{added_same, cancel_same}
@@ -21,7 +21,7 @@ use Rattle.sftp_model.specs.Answers.{is_handle}
 use Rattle.sftp_core.specs.Core.{Core}
 use Rattle.plan_model.specs.declared.call.Call.{Call}
 use Rattle.session_model.specs.declared.entry.Entry.{Entry}
-use Rattle.session_model.specs.Readings.{Asked, ended}
+use Rattle.session_model.specs.Readings.{AskedRequest, ended}
 use Rattle.session_model.specs.Calls.{Setting, site_of}
 use Rattle.session_model.specs.Grants.{IsSettled, is_grant, is_held, is_unended_asker}
 use Rattle.session_model.specs.Journals.{IsJournal}
@@ -34,16 +34,16 @@ pub none_due_is_settled : (s : Setting) (past : List Entry) → (IsSettled s pas
 none_due_is_settled s past = (settled_dues s past, dues_settled s past)
 
 -- A reply that was taken leaves nothing due, unless it is a HANDLE that no lane holds.
-pub taken_dues : (s : Setting) (past : List Entry) (id p : ℕ) (a : Asked) (b : Bool) (r : Reply) → id_state past id
+pub taken_dues : (s : Setting) (past : List Entry) (id p : ℕ) (a : AskedRequest) (b : Bool) (r : Reply) → id_state past id
     ≡ Pending p a b → (is_handle r ≡ true → is_held s past p ≡ true) → Dues s past []
     → Dues s (entry.Event (Take id r) ∷ past) []
-taken_dues s past id p a b r is held d = take_held s past id p r (subst (Reads past id) is (reads past id)).0 held d
+taken_dues s past id p a b r is held d = take_held s past id p r (subst (ReadsId past id) is (reads past id)).0 held d
 
 -- A HANDLE that no lane holds is due.
-pub unheld_dues : (s : Setting) (past : List Entry) (id p : ℕ) (a : Asked) (b : Bool) (r : Reply) → IsJournal s past
+pub unheld_dues : (s : Setting) (past : List Entry) (id p : ℕ) (a : AskedRequest) (b : Bool) (r : Reply) → IsJournal s past
     → id_state past id ≡ Pending p a b → is_handle r ≡ true → is_held s past p ≡ false → Dues s past []
     → Dues s (entry.Event (Take id r) ∷ past) (p ∷ [])
-unheld_dues s past id p a b r j is came unheld d = (let read = subst (Reads past id) is (reads past id) in
+unheld_dues s past id p a b r j is came unheld d = (let read = subst (ReadsId past id) is (reads past id) in
     take_loose s past id p r j read.0 read.1 came unheld d)
 
 -- The end of a call leaves due the grants of its lane that no slot has any more, where none of the lane's tickets has a

@@ -9,7 +9,7 @@ use Rattle.plan_model.specs.Moves.{Answers, Plan, Own}
 use Rattle.plan_model.specs.OwnRequests.{Extends}
 use Rattle.plan_runner.specs.declared.next.Running.{Running}
 use Rattle.plan_runner.specs.declared.next.Next.{Next}
-use Rattle.plan_runner.specs.Runners.{residual, after, awaited, filled, Goes, Widens, bytes_of, idle}
+use Rattle.plan_runner.specs.Runners.{residual, after, awaited, filled, RunsByPlan, Widens, bytes_of, idle}
 use Rattle.plan_runner.proofs.GoingLaws.{residual_came, residual_missing, residual_none}
 use Rattle.plan_model.specs.declared.call.Call.{Call}
 use Rattle.session_model.specs.declared.event.Owner.{Owner}
@@ -18,7 +18,7 @@ use Rattle.session_model.specs.declared.entry.Entry.{Entry}
 use Rattle.session_model.specs.Readings.{asked, answer, ended, own, is_by}
 use Rattle.session_model.specs.Calls.{Setting, current, site_of, move_of, move_at}
 use Rattle.session_model.proofs.CallLaws.{own_submit, own_other}
-use Rattle.session_laws.specs.Running.{RunTied, IsFrom, Steps, remaining, request_of}
+use Rattle.session_laws.specs.Running.{RunTied, IsFrom, StepsByMove, remaining, request_of}
 use Rattle.plan_runner.specs.declared.next.Next.TheVariants as step
 use Rattle.session_model.specs.declared.entry.Entry.TheVariants as entry
 use Rattle.plan_model.specs.CallPlans.{next}
@@ -75,8 +75,8 @@ from_none past running c site facts at answers known later = residual_none runni
 -- an Ask, a wait for another reply, and an end, once for all calls
 pub steps : (s : Setting) (past : List Entry) (lane : ℕ) (running : Option Running) (site later : Site) (c : Call)
     (plan : Plan) (n : Next) → RunTied s past lane running site → current s past lane ≡ Some c
-    → IsFrom past running c site s.facts plan → Goes plan (asked past) (bytes_of c) later s.facts n
-    → Steps s past lane n later
+    → IsFrom past running c site s.facts plan → RunsByPlan plan (asked past) (bytes_of c) later s.facts n
+    → StepsByMove s past lane n later
 steps s past lane running site later c plan (step.Ask a r) tied is from goes =
     let now : Answers = answer past in (
       move_left s past lane running site c tied is ∙ ap (λ m. Some m) (from now (extends_self now) [] ∙ (goes now).0),
@@ -114,7 +114,7 @@ waits s past lane running site c p tied is at none =
 pub widens : (s : Setting) (past : List Entry) (lane : ℕ) (running : Running) (site : Site) (c : Call) (p : ℕ)
     (n : Next) → RunTied s past lane (Some running) site → current s past lane ≡ Some c → awaited running site ≡ Some p
     → answer past p ≡ None
-    → Widens running (asked past) (bytes_of c) site s.facts n → Steps s past lane n site
+    → Widens running (asked past) (bytes_of c) site s.facts n → StepsByMove s past lane n site
 widens s past lane running site c p (step.Ask a r) tied is at none goes =
     let now : Answers = answer past in (
       waits s past lane running site c p tied is at none ∙ ap (λ m. Some m) (goes now).0,

@@ -5,7 +5,7 @@ use Rattle.sftp_model.specs.declared.reply.Reply.{Reply}
 use Rattle.sftp_model.specs.declared.slot.Site.{Site}
 use Rattle.plan_runner.specs.declared.next.Running.{Running}
 use Rattle.session_model.specs.declared.entry.Entry.{Entry}
-use Rattle.session_model.specs.Readings.{Asked, answer, asked_at, ended, own}
+use Rattle.session_model.specs.Readings.{AskedRequest, answer, asked_at, ended, own}
 use Rattle.session_model.specs.Calls.{Setting, current, site_of}
 use Rattle.session_model.specs.Grants.{any_below, is_held, closed, holds, is_asked_by, is_granted, is_one_of}
 use Rattle.session_model.specs.Ids.{Replied, id_state}
@@ -34,7 +34,7 @@ use Rattle.sftp_model.specs.declared.reply.Reply.TheVariants as reply
 -- what the journal says of a lane stays
 pub record Same (s : Setting) (past now : List Entry) (w : ℕ) : Type 0 where
   pub places : (i : ℕ) → place_of (id_state now i) ≡ place_of (id_state past i)
-  pub brought : (i p : ℕ) (a : Asked) (handle : List ℕ) → id_state past i ≡ Replied p a (reply.Handle handle)
+  pub brought : (i p : ℕ) (a : AskedRequest) (handle : List ℕ) → id_state past i ≡ Replied p a (reply.Handle handle)
       → id_state now i ≡ Replied p a (reply.Handle handle)
   pub asks : (p : ℕ) → asked_at now p ≡ asked_at past p
   pub answers : (p : ℕ) → answer now p ≡ answer past p
@@ -51,7 +51,7 @@ tickets_same past now [] same all = tt
 tickets_same past now (t ∷ ts) same all = (same t.ticket ∙ all.0, tickets_same past now ts same all.1)
 
 pub grants_same : (past now : List Entry) (gs : List Held) →
-    ((i p : ℕ) (a : Asked) (handle : List ℕ) → id_state past i ≡ Replied p a (reply.Handle handle) → id_state now i
+    ((i p : ℕ) (a : AskedRequest) (handle : List ℕ) → id_state past i ≡ Replied p a (reply.Handle handle) → id_state now i
     ≡ Replied p a (reply.Handle handle))
     → GrantsTied past gs → GrantsTied now gs
 grants_same past now [] same all = tt

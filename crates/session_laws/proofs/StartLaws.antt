@@ -9,7 +9,7 @@ use Rattle.plan_model.specs.declared.call.Call.{Call}
 use Rattle.session_model.specs.declared.event.Owner.{Owner}
 use Rattle.session_model.specs.declared.event.Event.TheVariants.{Send, Submit, Take}
 use Rattle.session_model.specs.declared.entry.Entry.{Entry}
-use Rattle.session_model.specs.Readings.{answer, Asked, asked, asked_at, bearer, ended, is_at, is_by, own}
+use Rattle.session_model.specs.Readings.{answer, AskedRequest, asked, asked_at, bearer, ended, is_at, is_by, own}
 use Rattle.session_model.specs.Calls.{Setting}
 use Rattle.session_model.specs.Grants.{is_asked_by, is_granted, holds}
 use Rattle.session_model.specs.Ids.{id_state}
@@ -38,11 +38,11 @@ unbegun_setup s past id r u =
       ungranted = u.ungranted;
     }
   where
-    by_place : (p lane : ℕ) (a : Asked) (b : Bool) → (if b then
+    by_place : (p lane : ℕ) (a : AskedRequest) (b : Bool) → (if b then
         Some (record { by = owner.Setup; id = id; request = r }) else asked_at past p) ≡ Some a → is_of a.by lane
         ≡ false
-    by_place p lane a true is = (let same : (let x : Asked = record { by = owner.Setup; id = id; request = r } in x)
-        ≡ a = cc in ap (λ (x : Asked). is_of x.by lane) (sym same))
+    by_place p lane a true is = (let same : (let x : AskedRequest = record { by = owner.Setup; id = id; request = r } in x)
+        ≡ a = cc in ap (λ (x : AskedRequest). is_of x.by lane) (sym same))
     by_place p lane a false is = u.asks p lane a is
 
 pub unbegun_send : (s : Setting) (past : List Entry) → Unbegun s past → Unbegun s (entry.Event Send ∷ past)
@@ -105,7 +105,7 @@ start_tied s past core u work t =
     asker owner.Setup lane c e = absurd cc
     asker owner.Close lane c e = absurd cc
 
-    by_asked : (p lane c : ℕ) (x : Option Asked) → asked_at past p ≡ x → is_asked_by x lane c ≡ true → ⊥
+    by_asked : (p lane c : ℕ) (x : Option AskedRequest) → asked_at past p ≡ x → is_asked_by x lane c ≡ true → ⊥
     by_asked p lane c None is e = absurd cc
     by_asked p lane c (Some a) is e = (let clash : false ≡ true = sym (u.asks p lane a is) ∙ asker a.by lane c e in absurd cc)
 

@@ -12,8 +12,8 @@ use Rattle.sftp_core.specs.Table.{sent_place}
 use Rattle.session_model.specs.declared.event.Owner.{Owner}
 use Rattle.session_model.specs.declared.event.Event.TheVariants.{Submit, Send, Take}
 use Rattle.session_model.specs.declared.entry.Entry.{Entry}
-use Rattle.session_model.specs.Readings.{Asked, asked, bearer}
-use Rattle.session_model.specs.Ids.{IdState, Free, Pending, Replied, id_state, now_sent, now_replied, Reads}
+use Rattle.session_model.specs.Readings.{AskedRequest, asked, bearer}
+use Rattle.session_model.specs.Ids.{IdState, Free, Pending, Replied, id_state, now_sent, now_replied, ReadsId}
 use Rattle.session_model.proofs.IdLaws.{reads}
 use Rattle.session_model.proofs.RequestLaws.{bearer_one, bearer_below}
 use Rattle.session_laws.specs.Tables.{Tabled, place_of, replied, stand}
@@ -27,7 +27,7 @@ stand_same w v g h (Pending place a was_sent) same = ap (λ b. Some (Waiting (ex
 stand_same w v g h (Replied place a r) same = ap (λ b. replied b (g place) (expected_of a.request) r)
     (same place refl).0 ∙ ap (λ b. replied (v place) b (expected_of a.request) r) (same place refl).1
 
-borne : (past : List Entry) (id p : ℕ) (x : IdState) → Reads past id x → place_of x ≡ Some p → bearer past id ≡ Some p
+borne : (past : List Entry) (id p : ℕ) (x : IdState) → ReadsId past id x → place_of x ≡ Some p → bearer past id ≡ Some p
 borne past id p Free s e = absurd cc
 borne past id p (Pending place a was_sent) s e = s.0 ∙ e
 borne past id p (Replied place a r) s e = s.0 ∙ e
@@ -50,7 +50,7 @@ ask_tabled past w v g h table now by id r here elsewhere same t i = elim (eqb_te
 
 -- ---- a reply
 
-pub take_tabled : (past : List Entry) (w g : ℕ → Bool) (table now : ℕ → Option Place) (id p : ℕ) (a : Asked) (b : Bool) (r : Reply)
+pub take_tabled : (past : List Entry) (w g : ℕ → Bool) (table now : ℕ → Option Place) (id p : ℕ) (a : AskedRequest) (b : Bool) (r : Reply)
     → id_state past id ≡ Pending p a b → now id ≡ replied (w p) (g p) (expected_of a.request) r → ((i : ℕ) → i ≢ id → now i ≡ table i)
     → Tabled past w g table → Tabled (entry.Event (Take id r) ∷ past) w g now
 take_tabled past w g table now id p a b r is here elsewhere t i = elim (eqb_tells id i) [
@@ -70,15 +70,15 @@ spend_tabled past w v g h table now id p at here elsewhere same t i = elim (eqb_
 ]
 
 -- a polled reply: a HANDLE is a grant of the lane then, and any other is gone
-pub polled_handle : (v h : ℕ → Bool) (p : ℕ) (a : Asked) (handle : List ℕ) → v p ≡ false → h p ≡ true
+pub polled_handle : (v h : ℕ → Bool) (p : ℕ) (a : AskedRequest) (handle : List ℕ) → v p ≡ false → h p ≡ true
     → stand v h (Replied p a (reply.Handle handle)) ≡ Some (Granted handle 1)
 polled_handle v h p a handle none some = rw (none, some) refl
 
-pub polled_plain : (v h : ℕ → Bool) (p : ℕ) (a : Asked) (r : Reply) → v p ≡ false → h p ≡ false → stand v h (Replied p a r) ≡ None
+pub polled_plain : (v h : ℕ → Bool) (p : ℕ) (a : AskedRequest) (r : Reply) → v p ≡ false → h p ≡ false → stand v h (Replied p a r) ≡ None
 polled_plain v h p a r none no_grant = rw (none, no_grant) refl
 
 -- a ticket that is dropped before its reply came: the reply is wanted no more
-pub dropped_waits : (v h : ℕ → Bool) (p : ℕ) (a : Asked) (b : Bool) → v p ≡ false → stand v h (Pending p a b) ≡ Some (Waiting (expected_of a.request) b false)
+pub dropped_waits : (v h : ℕ → Bool) (p : ℕ) (a : AskedRequest) (b : Bool) → v p ≡ false → stand v h (Pending p a b) ≡ Some (Waiting (expected_of a.request) b false)
 dropped_waits v h p a b none = rw none refl
 
 -- ---- a hand-out

@@ -14,7 +14,7 @@ use Rattle.plan_model.specs.declared.call.Call.{Call}
 use Rattle.session_model.specs.declared.event.Owner.{Owner}
 use Rattle.session_model.specs.declared.event.Event.TheVariants.{Submit, Take}
 use Rattle.session_model.specs.declared.entry.Entry.{Entry}
-use Rattle.session_model.specs.Readings.{Asked, answer, asked, asked_at, bearer, ended, own}
+use Rattle.session_model.specs.Readings.{AskedRequest, answer, asked, asked_at, bearer, ended, own}
 use Rattle.session_model.specs.Calls.{Setting, current, move_at, site_of}
 use Rattle.session_model.specs.Grants.{closed, is_grant, is_granted, is_held, is_one_of}
 use Rattle.session_model.specs.Journals.{IsJournal}
@@ -81,11 +81,11 @@ moves_called : (c : Option Call) (site : Site) (facts : Facts) (mine : Own) (ans
 moves_called None site facts mine answers m e none = absurd cc
 moves_called (Some c) site facts mine answers m e none = absurd cc
 
-asker_is : (m : ℕ) (a b : Asked) → (◌≡◌ {A = Option Asked} (Some a) (Some b)) → is_of b.by m ≡ true → is_of a.by m ≡ true
-asker_is m a b same e = (let is : a ≡ b = cc in ap (λ (x : Asked). is_of x.by m) is ∙ e)
+asker_is : (m : ℕ) (a b : AskedRequest) → (◌≡◌ {A = Option AskedRequest} (Some a) (Some b)) → is_of b.by m ≡ true → is_of a.by m ≡ true
+asker_is m a b same e = (let is : a ≡ b = cc in ap (λ (x : AskedRequest). is_of x.by m) is ∙ e)
 
 -- a lane that asked for a request is there
-pub asker_there : (s : Setting) (past : List Entry) (p l : ℕ) (a : Asked) → IsJournal s past → asked_at past p ≡ Some a
+pub asker_there : (s : Setting) (past : List Entry) (p l : ℕ) (a : AskedRequest) → IsJournal s past → asked_at past p ≡ Some a
     → is_of a.by l ≡ true → l < length s.lanes
 asker_there s [] p l a j is mine = absurd cc
 asker_there s (entry.Event (Submit (owner.Call m c) id r) ∷ past) p l a j is mine = elim (eqb_tells p (asked past)) [
@@ -109,19 +109,19 @@ asker_there s (_ ∷ past) p l a j is mine = asker_there s past p l a j.1 is min
 
 -- where each lane that asked for a place has it not among these, nobody has
 pub among_none : (past : List Entry) (places : ℕ → List ℕ) (p : ℕ)
-    → ((a : Asked) (l : ℕ) → asked_at past p ≡ Some a → is_of a.by l ≡ true → is_in p (places l) ≡ false)
+    → ((a : AskedRequest) (l : ℕ) → asked_at past p ≡ Some a → is_of a.by l ≡ true → is_in p (places l) ≡ false)
     → among past places p ≡ false
 among_none past places p away = by_state (asked_at past p) refl
   where
     self : (l : ℕ) → (l == l) ≡ true
     self l = elim (eqb_tells l l) [ inl t ↦ t.0 | inr t ↦ absurd (t.1 refl) ]
 
-    by_who : (a : Asked) → asked_at past p ≡ Some a → (o : Owner) → a.by ≡ o → by_owner o (λ l. is_in p (places l)) ≡ false
+    by_who : (a : AskedRequest) → asked_at past p ≡ Some a → (o : Owner) → a.by ≡ o → by_owner o (λ l. is_in p (places l)) ≡ false
     by_who a is (owner.Call l c) e = away a l is (ap (λ (x : Owner). is_of x l) e ∙ self l)
     by_who a is owner.Setup e = refl
     by_who a is owner.Close e = refl
 
-    by_state : (x : Option Asked) → asked_at past p ≡ x → by_asker x (λ l. is_in p (places l)) ≡ false
+    by_state : (x : Option AskedRequest) → asked_at past p ≡ x → by_asker x (λ l. is_in p (places l)) ≡ false
     by_state None is = refl
     by_state (Some a) is = by_who a is a.by refl
 

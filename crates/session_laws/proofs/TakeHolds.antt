@@ -10,12 +10,12 @@ use Rattle.sftp_core.specs.Core.{Core, at}
 use Rattle.plan_runner.specs.declared.next.Running.{Running}
 use Rattle.session_model.specs.declared.event.Event.TheVariants.{Take}
 use Rattle.session_model.specs.declared.entry.Entry.{Entry}
-use Rattle.session_model.specs.Readings.{Asked, answer, bearer, ended, own}
+use Rattle.session_model.specs.Readings.{AskedRequest, answer, bearer, ended, own}
 use Rattle.session_model.specs.Calls.{Setting, current, held_site, site_of}
 use Rattle.session_model.specs.Grants.{holds, is_grant, is_granted, is_unended_asker}
 use Rattle.session_model.proofs.HolderLaws.{slots_owned}
 use Rattle.session_model.proofs.PlannedLaws.{held_less}
-use Rattle.session_model.specs.Ids.{IdState, Free, Pending, Replied, id_state, now_replied, Reads}
+use Rattle.session_model.specs.Ids.{IdState, Free, Pending, Replied, id_state, now_replied, ReadsId}
 use Rattle.session_model.proofs.IdLaws.{reads}
 use Rattle.session_model.specs.Journals.{IsJournal}
 use Rattle.session_model.proofs.RequestLaws.{answer_other}
@@ -54,12 +54,12 @@ tied_taken : (past : List Entry) (id : ℕ) (r : Reply) (ts : List Ticketed) →
 tied_taken past id r [] all = tt
 tied_taken past id r (t ∷ ts) all = (place_taken r (id == t.ticket) (id_state past t.ticket) ∙ all.0, tied_taken past id r ts all.1)
 
-held_taken : (past : List Entry) (id p : ℕ) (a : Asked) (b : Bool) (r : Reply) (gs : List Held) → id_state past id
+held_taken : (past : List Entry) (id p : ℕ) (a : AskedRequest) (b : Bool) (r : Reply) (gs : List Held) → id_state past id
     ≡ Pending p a b → GrantsTied past gs → GrantsTied (entry.Event (Take id r) ∷ past) gs
 held_taken past id p a b r [] is all = tt
 held_taken past id p a b r (g ∷ gs) is all = ((all.0.0, stays), held_taken past id p a b r gs is all.1)
   where
-    clash : (x y : IdState) (q : ℕ) (c : Asked) (z : Reply) → x ≡ Pending p a b → y ≡ Replied q c z → x ≡ y → ⊥
+    clash : (x y : IdState) (q : ℕ) (c : AskedRequest) (z : Reply) → x ≡ Pending p a b → y ≡ Replied q c z → x ≡ y → ⊥
     clash x y q c z ex ey e = (let no_way : Pending p a b ≡ Replied q c z = sym ex ∙ (e ∙ ey) in absurd cc)
 
     stays : id_state (entry.Event (Take id r) ∷ past) g.grant.id ≡ Replied g.place all.0.0 (reply.Handle g.grant.handle)
@@ -69,13 +69,13 @@ held_taken past id p a b r (g ∷ gs) is all = ((all.0.0, stays), held_taken pas
     ]
 
 -- a reply to a request that waited, also one that nobody wants any more
-pub take_holds : (s : Setting) (past : List Entry) (lane id p : ℕ) (a : Asked) (b : Bool) (r : Reply)
+pub take_holds : (s : Setting) (past : List Entry) (lane id p : ℕ) (a : AskedRequest) (b : Bool) (r : Reply)
     (ts : List Ticketed) (gs : List Held) (dues : List ℕ) → IsJournal s past → id_state past id ≡ Pending p a b
     → LaneHolds s past lane ts gs []
     → LaneHolds s (entry.Event (Take id r) ∷ past) lane ts gs dues
 take_holds s past lane id p a b r ts gs dues j is h =
     let now : List Entry = entry.Event (Take id r) ∷ past in
-    let read = subst (Reads past id) is (reads past id) in
+    let read = subst (ReadsId past id) is (reads past id) in
     let here : bearer past id ≡ Some p = read.0 in
     let waited : answer past p ≡ None = read.1 in
     let other : (q : ℕ) → q ≢ p → answer now q ≡ answer past q = λ q ne. answer_other past id p q r here (λ e. ne (sym e)) in
@@ -115,7 +115,7 @@ take_holds s past lane id p a b r ts gs dues j is h =
 
 -- A reply was taken. What is due then is the caller's.
 pub take_tied : (s : Setting) (past : List Entry) (core now : Core) (lanes : ℕ → LaneValue) (dues : List ℕ) (id p : ℕ)
-    (a : Asked) (b : Bool) (r : Reply) → IsJournal s past → id_state past id ≡ Pending p a b
+    (a : AskedRequest) (b : Bool) (r : Reply) → IsJournal s past → id_state past id ≡ Pending p a b
     → SessionTied s past core lanes []
     → CoreTied s (entry.Event (Take id r) ∷ past) now
     → at now id ≡ replied (among past (tickets_of lanes) p) (among past (grants_of lanes) p) (expected_of a.request) r
@@ -140,7 +140,7 @@ take_tied s past core now lanes dues id p a b r j is h work here elsewhere =
     }
   where
     stays : (q : ℕ) (y : Reply) → answer past q ≡ Some y → answer (entry.Event (Take id r) ∷ past) q ≡ Some y
-    stays q y got = (let read = subst (Reads past id) is (reads past id) in
+    stays q y got = (let read = subst (ReadsId past id) is (reads past id) in
         answer_other past id p q r read.0 (λ same. (let clash : ◌≡◌ {A = Option Reply} None (Some y) = sym read.1
         ∙ (ap (answer past) same ∙ got) in absurd cc)) ∙ got)
 

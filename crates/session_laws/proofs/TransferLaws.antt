@@ -8,7 +8,7 @@ use Rattle.sftp_model.specs.declared.request.Request.{Request}
 use Rattle.sftp_model.specs.declared.request.Request.TheVariants as request
 use Rattle.sftp_model.specs.Answers.{allows, is_handle, may_answer}
 use Rattle.session_model.specs.declared.entry.Entry.{Entry}
-use Rattle.session_model.specs.Readings.{Asked, answer, asked, asked_at}
+use Rattle.session_model.specs.Readings.{AskedRequest, answer, asked, asked_at}
 use Rattle.session_model.specs.Calls.{Setting}
 use Rattle.session_model.specs.Grants.{is_grant, is_granted}
 use Rattle.session_model.specs.Journals.{IsJournal}
@@ -19,10 +19,10 @@ use Rattle.session_laws.specs.Rest.{IsTransferAt, is_transfer}
 -- ---- its place
 
 -- what was asked stands below
-pub place_below : (past : List Entry) (p : ℕ) (a : Asked) → asked_at past p ≡ Some a → p < asked past
+pub place_below : (past : List Entry) (p : ℕ) (a : AskedRequest) → asked_at past p ≡ Some a → p < asked past
 place_below past p a is = elim (cases_lt p (asked past)) [
   | inl lt ↦ lt
-  | inr le ↦ absurd (let none : asked_at past p ≡ None = asked_beyond past p le in let clash : ◌≡◌ {A = Option Asked} None (Some a) = sym none ∙ is in cc)
+  | inr le ↦ absurd (let none : asked_at past p ≡ None = asked_beyond past p le in let clash : ◌≡◌ {A = Option AskedRequest} None (Some a) = sym none ∙ is in cc)
 ]
 
 -- the request stays at its place

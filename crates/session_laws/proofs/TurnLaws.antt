@@ -33,10 +33,10 @@ use Rattle.plan_model.specs.Moves.{handle_of}
 use Rattle.plan_runner.specs.declared.next.Running.{Running}
 use Rattle.session_model.specs.declared.event.Event.TheVariants.{Submit, Send}
 use Rattle.session_model.specs.declared.entry.Entry.{Entry}
-use Rattle.session_model.specs.Readings.{asked, Asked, answer, asked_at, ended}
+use Rattle.session_model.specs.Readings.{asked, AskedRequest, answer, asked_at, ended}
 use Rattle.session_model.specs.Calls.{Setting}
 use Rattle.session_model.specs.Grants.{closed, holds, is_one_of, is_grant, is_granted, closes, is_asked_by, is_close, is_unended_asker, orphan}
-use Rattle.session_model.specs.Ids.{IdState, Free, Pending, Replied, Reads, id_state}
+use Rattle.session_model.specs.Ids.{IdState, Free, Pending, Replied, ReadsId, id_state}
 use Rattle.session_model.specs.Journals.{close_of, IsJournal}
 use Rattle.session_model.proofs.IdLaws.{reads}
 use Rattle.session_laws.specs.Lanes.{
@@ -95,7 +95,7 @@ brings_none other plain = refl
 
 -- the lane asked for what it has a ticket of
 asked_it : (s : Setting) (past : List Entry) (lane k : ℕ) (v : LaneValue) (dues : List ℕ) (t : Ticketed)
-    → LaneTied s past lane v dues → slice_get v.tickets k ≡ Some t → (a : Asked)
+    → LaneTied s past lane v dues → slice_get v.tickets k ≡ Some t → (a : AskedRequest)
     × ((asked_at past t.place ≡ Some a) × (is_of a.by lane ≡ true))
 asked_it s past lane k v dues t l at_k = of_in past lane (ticket_places v.tickets) t.place l.holds.tied_of
     (at_in (ticket_places v.tickets) k t.place (ticket_index v.tickets k t at_k))
@@ -243,7 +243,7 @@ dropped_keeps s past c lanes dues lane k t running site h there at_k plain done 
         (subst (λ (x : List ℕ). LaneGoes s past lane running site x) (sym (ticket_without (lanes lane).tickets k))
         goes)
 
-    by_state : (x : IdState) → id_state past t.ticket ≡ x → Reads past t.ticket x → place_of x ≡ Some t.place
+    by_state : (x : IdState) → id_state past t.ticket ≡ x → ReadsId past t.ticket x → place_of x ≡ Some t.place
         → SessionTied s past (abandoned c t.ticket) (with_lane lanes lane (spent_lane (lanes lane) k running site)) dues
     by_state Free is read at_place = absurd cc
     by_state (Pending p a b) is read at_place =
@@ -345,7 +345,7 @@ pub closing_work : (s : Setting) (past : List Entry) (c : Core) (lanes : ℕ →
 closing_work s past c lanes dues lane g k grant h there got =
     let l : LaneTied s past lane (lanes lane) dues = h.each lane there in
     let state = grant_state past (lanes lane).grants k (record { place = g; grant = grant }) l.holds.held got in
-    let same : handle_of (answer past g) ≡ grant.handle = ap handle_of (subst (Reads past grant.id) state.1 (reads past grant.id)).1 in
+    let same : handle_of (answer past g) ≡ grant.handle = ap handle_of (subst (ReadsId past grant.id) state.1 (reads past grant.id)).1 in
     subst (λ (x : List ℕ). CoreTied s (entry.Event (Submit owner.Close grant.id (request.Close x)) ∷ past) (closing_core c grant.id grant.handle)) (sym same)
     (core_placed s (entry.Event (Submit owner.Close grant.id (request.Close grant.handle)) ∷ past)
     (queued_last c grant.id (request.Close grant.handle) true) grant.id

@@ -25,7 +25,7 @@ use Rattle.plan_runner.specs.declared.next.Running.{Running}
 use Rattle.plan_model.specs.declared.call.Call.{Call}
 use Rattle.session_model.specs.declared.event.Event.TheVariants.{Send, Submit, Take}
 use Rattle.session_model.specs.declared.entry.Entry.{Entry}
-use Rattle.session_model.specs.Readings.{Asked, answer, asked_at, ended, own}
+use Rattle.session_model.specs.Readings.{AskedRequest, answer, asked_at, ended, own}
 use Rattle.session_model.specs.Calls.{Setting, site_of}
 use Rattle.session_model.specs.Grants.{closed, holds, is_grant, is_one_of}
 use Rattle.session_model.specs.Ids.{Replied, id_state}
@@ -87,7 +87,7 @@ granted_lane v k t handle running site = record {
 -- The handle came for a request that stands behind those of the lane's grants. The lane holds the grant, or it is due.
 pub record Brought (s : Setting) (past : List Entry) (lane : ℕ) (gs : List Held) (dues : List ℕ) (t : Ticketed)
     (handle : List ℕ) : Type 0 where
-  pub asked : Asked
+  pub asked : AskedRequest
   pub came : id_state past t.ticket ≡ Replied t.place asked (reply.Handle handle)
   pub got : answer past t.place ≡ Some (reply.Handle handle)
   pub unclosed : is_one_of (closed s past) t.place ≡ false
@@ -169,7 +169,7 @@ fresh_lane = record { running = None; site = fresh_site; tickets = []; grants = 
 pub record Unbegun (s : Setting) (past : List Entry) : Type 0 where
   pub ends : (lane : ℕ) → ended past lane ≡ 0
   pub owns : (lane : ℕ) → own past lane 0 ≡ []
-  pub asks : (p lane : ℕ) (a : Asked) → asked_at past p ≡ Some a → is_of a.by lane ≡ false
+  pub asks : (p lane : ℕ) (a : AskedRequest) → asked_at past p ≡ Some a → is_of a.by lane ≡ false
   pub site : (lane : ℕ) → site_of s past lane ≡ fresh_site
   pub ungranted : (g : ℕ) → is_grant past g ≡ false
 

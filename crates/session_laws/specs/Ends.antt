@@ -30,7 +30,7 @@ use Rattle.sftp_core.specs.Grant.{GrantValue}
 use Rattle.plan_runner.specs.declared.next.Running.{Running}
 use Rattle.plan_runner.specs.Cancelling.{left_behind}
 use Rattle.plan_runner.specs.Pending.{Fewer, own_place}
-use Rattle.plan_runner.specs.Sound.{Keeps as Stays}
+use Rattle.plan_runner.specs.Sound.{KeepsSite as Stays}
 use Rattle.plan_runner.specs.Runners.{bytes_of}
 use Rattle.plan_model.specs.declared.call.Call.{Call}
 use Rattle.session_model.specs.declared.event.Event.TheVariants.{Cancel, Submit}
@@ -62,7 +62,7 @@ abbrev pub let_go : Core → GrantValue → Core
 let_go core grant = abandoned (released core grant) grant.id
 
 -- The grant at index k of a lane, which is due next, is closed.
-pub record Closes (s : Setting) (past : List Entry) (core : Core) (lanes : ℕ → LaneValue) (begun : ℕ → Bool)
+pub record ClosesDue (s : Setting) (past : List Entry) (core : Core) (lanes : ℕ → LaneValue) (begun : ℕ → Bool)
     (lane k : ℕ) (g : Held) (rest : List ℕ) : Type 0 where
   pub due : orphan s past ≡ Some g.place
   pub must : MustClose past g.place (close_entry g.grant)
@@ -107,7 +107,7 @@ pub record Polls (core new : Core) (v now : LaneValue) : Type 0 where
   pub lane : now ≡ ended_lane (granted_lane v k ticket handle None v.site) v.site
 
 -- the call awaited no reply to a request of its own: all tickets stay, and the slots await no more than before
-pub record Keeps (core new : Core) (v now : LaneValue) : Type 0 where
+pub record KeepsTickets (core new : Core) (v now : LaneValue) : Type 0 where
   pub none : own_place v.running ≡ None
   pub left : new ≡ core
   pub lane : now ≡ ended_lane v now.site
@@ -118,7 +118,7 @@ pub record Keeps (core new : Core) (v now : LaneValue) : Type 0 where
 pub data GivesUp (core new : Core) (v now : LaneValue) : Type 0 where
   Dropped : Drops core new v now → GivesUp core new v now
   Polled : Polls core new v now → GivesUp core new v now
-  Kept : Keeps core new v now → GivesUp core new v now
+  Kept : KeepsTickets core new v now → GivesUp core new v now
 
 -- what the lane's call leaves that is cancelled from here is what its slots have then
 abbrev pub LeavesSite : List Entry → Setting → Call → LaneValue → LaneValue → Type 0

@@ -17,7 +17,8 @@ use Rattle.session_laws.specs.Lanes.{LaneValue}
 use Rattle.session_laws.specs.Rest.{AtRest, weigh}
 
 -- What was queued is sent.
-pub record Sends (s : Setting) (past : List Entry) (core : Core) (lanes : ℕ → LaneValue) (begun : ℕ → Bool) : Type 0
+pub record SendsQueue (s : Setting) (past : List Entry) (core : Core) (lanes : ℕ → LaneValue) (begun : ℕ → Bool) : Type
+    0
   where
     pub next : IsNext s past (entry.Event Send)
     pub rest : AtRest s (entry.Event Send ∷ past) (handed_out core) lanes begun
@@ -31,7 +32,8 @@ pub record IsAwaited (core : Core) (id : ℕ) (r : Reply) : Type 0 where
   pub allowed : allows kind r ≡ true
 
 -- A reply was taken, and the CLOSE that is due then was queued, if one is: the journal went on to `now`.
-pub record Takes (s : Setting) (past : List Entry) (core : Core) (lanes : ℕ → LaneValue) (begun : ℕ → Bool) (id : ℕ)
+pub record TakesAndCloses (s : Setting) (past : List Entry) (core : Core) (lanes : ℕ → LaneValue) (begun : ℕ → Bool)
+    (id : ℕ)
     (r : Reply) (now : List Entry) : Type 0 where
   pub may : MayTake past id r
   pub next : IsNext s past (entry.Event (Take id r))

@@ -5,8 +5,8 @@ use Rattle.sftp_model.specs.declared.slot.Site.{Site}
 use Rattle.plan_model.specs.Moves.{Plan}
 use Rattle.plan_runner.specs.declared.next.Next.{Next}
 use Rattle.plan_runner.specs.declared.next.Running.{Running}
-use Rattle.plan_runner.specs.Runners.{Goes, Widens, bytes_of, filled}
-use Rattle.plan_runner.specs.Cancelling.{Leaves, Leaving, left_behind}
+use Rattle.plan_runner.specs.Runners.{RunsByPlan, Widens, bytes_of, filled}
+use Rattle.plan_runner.specs.Cancelling.{LeavesCancelled, Leaving, left_behind}
 use Rattle.plan_runner.specs.Sound.{IsSound, Sounds}
 use Rattle.plan_runner.specs.Pending.{Pends, pends}
 use Rattle.plan_model.specs.declared.call.Call.{Call}
@@ -24,8 +24,8 @@ use Rattle.session_model.specs.declared.entry.Entry.TheVariants as entry
 -- more than what was awaited before and its own request. The lane's site was the first one, and is the second.
 pub record MachineStep (s : Setting) (past : List Entry) (c : Call) (plan : Plan) (leave : Leaving) (before : ℕ → ℕ)
     (old new : Site) (n : Next) : Type 0 where
-  pub goes : Goes plan (asked past) (bytes_of c) new s.facts n
-  pub left : Leaves leave (asked past) (bytes_of c) new s.facts n
+  pub goes : RunsByPlan plan (asked past) (bytes_of c) new s.facts n
+  pub left : LeavesCancelled leave (asked past) (bytes_of c) new s.facts n
   pub sound : Sounds (bytes_of c) s.facts old new n
   pub pends : Pends before (asked past) new n
 
@@ -33,19 +33,19 @@ pub record MachineStep (s : Setting) (past : List Entry) (c : Call) (plan : Plan
 pub record MachineWidens (s : Setting) (past : List Entry) (c : Call) (running : Running) (site : Site) (n : Next) :
     Type 0 where
   pub goes : Widens running (asked past) (bytes_of c) site s.facts n
-  pub left : Leaves (left_behind running (bytes_of c) site s.facts) (asked past) (bytes_of c) site s.facts n
+  pub left : LeavesCancelled (left_behind running (bytes_of c) site s.facts) (asked past) (bytes_of c) site s.facts n
   pub sound : IsSound (bytes_of c) site s.facts n
   pub pends : Pends (λ q. pends q (Some running) site) (asked past) site n
 
 -- A request is the lane's move, and the lane goes on from it; an end alike. Where the machine waits for another reply
 -- the lane goes on without an entry. Tickets of these places are left.
-abbrev pub GoesOn : Setting → List Entry → ℕ → List ℕ → Site → Next → Type 0
-GoesOn s past lane tickets site (step.Ask a r) =
+abbrev pub LaneGoesOn : Setting → List Entry → ℕ → List ℕ → Site → Next → Type 0
+LaneGoesOn s past lane tickets site (step.Ask a r) =
     (move_of s past lane ≡ Some (Ask (filled a (answer past))))
     × ((id : ℕ) → IsFilled a (answer past) → LaneGoes s (request_of past lane id a ∷ past) lane (Some r) site
     (tickets ++ asked past ∷ []))
-GoesOn s past lane tickets site (step.Wait r) = LaneGoes s past lane (Some r) site tickets
-GoesOn s past lane tickets site (step.Done o) =
+LaneGoesOn s past lane tickets site (step.Wait r) = LaneGoes s past lane (Some r) site tickets
+LaneGoesOn s past lane tickets site (step.Done o) =
     (move_of s past lane ≡ Some (Done o site))
     × (IsJournal s past → last_cancel past ≡ None → LaneGoes s (entry.Event (End lane (ended past lane) o) ∷ past) lane
     None site tickets)

@@ -29,7 +29,7 @@ use Rattle.plan_runner.specs.Pending.{pends}
 use Rattle.plan_model.specs.declared.call.Call.{Call}
 use Rattle.session_model.specs.declared.event.Owner.{Owner}
 use Rattle.session_model.specs.declared.entry.Entry.{Entry}
-use Rattle.session_model.specs.Readings.{Asked, answer, asked_at, ended, own, unsent}
+use Rattle.session_model.specs.Readings.{AskedRequest, answer, asked_at, ended, own, unsent}
 use Rattle.session_model.specs.Calls.{Setting, current, site_of}
 use Rattle.session_model.specs.Grants.{closed, holds as is_holder, is_asked_by, is_grant, is_one_of}
 use Rattle.session_model.specs.Ids.{Replied, id_state}
@@ -84,13 +84,15 @@ TicketsTied past (t ∷ ts) = (place_of (id_state past t.ticket) ≡ Some t.plac
 -- the last request under the grant's id brought its handle
 abbrev pub GrantsTied : List Entry → List Held → Type 0
 GrantsTied past [] = Unit {0}
-GrantsTied past (g ∷ gs) = ((a : Asked) × (id_state past g.grant.id ≡ Replied g.place a (reply.Handle g.grant.handle)))
+GrantsTied past (g ∷ gs) = ((a : AskedRequest) × (id_state past g.grant.id
+    ≡ Replied g.place a (reply.Handle g.grant.handle)))
     × GrantsTied past gs
 
 -- the lane asked for each of these
 abbrev pub AllOf : List Entry → ℕ → List ℕ → Type 0
 AllOf past lane [] = Unit {0}
-AllOf past lane (p ∷ ps) = ((a : Asked) × ((asked_at past p ≡ Some a) × (is_of a.by lane ≡ true))) × AllOf past lane ps
+AllOf past lane (p ∷ ps) = ((a : AskedRequest) × ((asked_at past p ≡ Some a) × (is_of a.by lane ≡ true)))
+    × AllOf past lane ps
 
 -- The tickets and grants of a lane, where these grants are due for their CLOSE.
 pub record LaneHolds (s : Setting) (past : List Entry) (lane : ℕ) (tickets : List Ticketed) (grants : List Held)
@@ -154,7 +156,7 @@ by_owner (owner.Call l c) f = f l
 by_owner owner.Setup f = false
 by_owner owner.Close f = false
 
-abbrev pub by_asker : Option Asked → (ℕ → Bool) → Bool
+abbrev pub by_asker : Option AskedRequest → (ℕ → Bool) → Bool
 by_asker None f = false
 by_asker (Some a) f = by_owner a.by f
 

@@ -9,8 +9,9 @@ use Rattle.session_model.specs.Calls.{Setting}
 use Rattle.session_model.specs.Grants.{closed, first_let_go, is_one_of, letting_go}
 
 -- the grant of a slot stays open, or has its CLOSE: a later slot has it, or it is among these
-abbrev pub Stays : List (Option ℕ) → Slot → List Slot → Type 0
-Stays gone slot rest = (g : ℕ) → grant_of slot ≡ Some g → (list_any (slot_has g) rest || is_one_of gone g) ≡ true
+abbrev pub StaysOrCloses : List (Option ℕ) → Slot → List Slot → Type 0
+StaysOrCloses gone slot rest = (g : ℕ) → grant_of slot ≡ Some g → (list_any (slot_has g) rest || is_one_of gone g)
+    ≡ true
 
 -- The lane is let go; of its slots these are left.
 pub record Letting (s : Setting) (past : List Entry) (site : Site) (rest : List Slot) : Type 0 where

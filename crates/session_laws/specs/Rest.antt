@@ -31,7 +31,7 @@ use Rattle.plan_runner.specs.Pending.{own_place, reads_under}
 use Rattle.plan_window.specs.declared.window.ReadAt.{ReadAt}
 use Rattle.plan_runner.specs.Sound.{Fits}
 use Rattle.session_model.specs.declared.entry.Entry.{Entry}
-use Rattle.session_model.specs.Readings.{Asked, asked_at, awaited, unanswered}
+use Rattle.session_model.specs.Readings.{AskedRequest, asked_at, awaited, unanswered}
 use Rattle.session_model.specs.Calls.{Setting}
 use Rattle.session_model.specs.Grants.{is_asked_by, orphan}
 use Rattle.session_model.specs.Steady.{Good}
@@ -76,13 +76,13 @@ is_transfer other = false
 
 -- such a request stands at the place
 pub record IsTransferAt (past : List Entry) (p : ℕ) : Type 0 where
-  pub asked : Asked
+  pub asked : AskedRequest
   pub here : asked_at past p ≡ Some asked
   pub transfers : is_transfer asked.request ≡ true
 
 -- the READ stands at its place, from its offset on and as long
 pub record IsReadAt (past : List Entry) (x : ReadAt) : Type 0 where
-  pub asked : Asked
+  pub asked : AskedRequest
   pub here : asked_at past x.place ≡ Some asked
   pub handle : List ℕ
   pub reads : asked.request ≡ request.Read handle x.offset x.len
@@ -93,7 +93,7 @@ pub record LaneAsks (past : List Entry) (lane : ℕ) (v : LaneValue) : Type 0 wh
   pub current : (p : ℕ) → own_place v.running ≡ Some p → is_asked_by (asked_at past p) lane v.ended ≡ true
   pub only : (p : ℕ) → is_in p (ticket_places v.tickets) ≡ true → (own_place v.running ≡ Some p) ⊎ IsTransferAt past p
   pub keeps : (g : ℕ) → opened_in v.running ≡ Some g → is_in g (grant_places v.grants) ≡ true
-  pub fits : (p : ℕ) (a : Asked) (y : Reply) → awaited_in v.running v.site ≡ Some p → asked_at past p ≡ Some a
+  pub fits : (p : ℕ) (a : AskedRequest) (y : Reply) → awaited_in v.running v.site ≡ Some p → asked_at past p ≡ Some a
       → may_answer a.request y ≡ true → RunFits v.running y
   pub reads : (x : ReadAt) → IsAmong x (reads_under v.running) → IsReadAt past x
 

@@ -87,12 +87,12 @@ LeavesFrom past running c site facts leave =
     ≡ leave later answers
 
 -- What a machine answers is the lane's move, and the lane's call goes by what remains of its plan then.
-abbrev pub Steps : Setting → List Entry → ℕ → Next → Site → Type 0
-Steps s past lane (step.Ask a r) site =
+abbrev pub StepsByMove : Setting → List Entry → ℕ → Next → Site → Type 0
+StepsByMove s past lane (step.Ask a r) site =
     (move_of s past lane ≡ Some (Ask (filled a (answer past))))
     × ((id : ℕ) → IsFilled a (answer past) → RunTied s (request_of past lane id a ∷ past) lane (Some r) site)
-Steps s past lane (step.Wait r) site = RunTied s past lane (Some r) site
-Steps s past lane (step.Done o) site = move_of s past lane ≡ Some (Done o site)
+StepsByMove s past lane (step.Wait r) site = RunTied s past lane (Some r) site
+StepsByMove s past lane (step.Done o) site = move_of s past lane ≡ Some (Done o site)
 
 -- and it leaves what a cancelled call leaves
 abbrev pub CancelSteps : Setting → List Entry → ℕ → Next → Site → Type 0

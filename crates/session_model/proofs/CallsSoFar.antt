@@ -42,7 +42,7 @@ use Rattle.session_model.specs.declared.event.Owner.TheVariants as owner
 use Rattle.session_model.specs.declared.event.Event.TheVariants.{Submit, Take, End}
 use Rattle.session_model.specs.declared.entry.Entry.{Entry}
 use Rattle.session_model.specs.declared.entry.Entry.TheVariants as entry
-use Rattle.session_model.specs.Readings.{Asked, asked, asked_at, answer, is_by, own, ended}
+use Rattle.session_model.specs.Readings.{AskedRequest, asked, asked_at, answer, is_by, own, ended}
 use Rattle.session_model.specs.Calls.{Setting, added, calls_of, current, site_of, move_at, move_of, GoesByPlan}
 use Rattle.session_model.specs.Journals.{IsJournal, MayReply}
 use Rattle.session_model.proofs.AllClosedLaws.{asker_called}
@@ -56,9 +56,9 @@ use Rattle.plan_model.specs.CallPlans.{next}
 -- each of these requests stands at its place in the journal
 abbrev Stand : List Entry → Own → Type 0
 Stand past [] = Unit {0}
-Stand past (a ∷ requests) = ((x : Asked) × ((asked_at past a.0 ≡ Some x) × (x.request ≡ a.1))) × Stand past requests
+Stand past (a ∷ requests) = ((x : AskedRequest) × ((asked_at past a.0 ≡ Some x) × (x.request ≡ a.1))) × Stand past requests
 
-asked_below : (past : List Entry) (place : ℕ) (x : Asked) → asked_at past place ≡ Some x → place < asked past
+asked_below : (past : List Entry) (place : ℕ) (x : AskedRequest) → asked_at past place ≡ Some x → place < asked past
 asked_below past place x is = elim (cases_lt place (asked past))
     [ inl lt ↦ lt | inr le ↦ absurd (let none : asked_at past place ≡ None = asked_beyond past place le in cc) ]
 
@@ -71,7 +71,7 @@ stand_submit past by id r (a ∷ requests) st =
 -- ---- replies
 
 -- a reply that was taken may answer its request
-pub reply_may : (s : Setting) (past : List Entry) (place : ℕ) (q : Reply) (x : Asked) → IsJournal s past
+pub reply_may : (s : Setting) (past : List Entry) (place : ℕ) (q : Reply) (x : AskedRequest) → IsJournal s past
     → answer past place ≡ Some q → asked_at past place ≡ Some x → may_answer x.request q ≡ true
 reply_may s [] place q x j got is = absurd cc
 reply_may s (entry.Event (Submit by id r) ∷ past) place q x j got is =
@@ -85,7 +85,7 @@ reply_may s (entry.Event (Take id r) ∷ past) place q x j got is =
       | inl t ↦ (let here : answer (entry.Event (Take id r) ∷ past) place ≡ Some r =
           ap (answer (entry.Event (Take id r) ∷ past)) (sym t.1) ∙ answer_new past id may.0 r may.1.0.0 in
           let same : r ≡ q = cc in
-          let replies : MayReply (Some x) r = subst (λ (o : Option Asked). MayReply o r) (ap (asked_at past) t.1 ∙ is) may.1.1 in
+          let replies : MayReply (Some x) r = subst (λ (o : Option AskedRequest). MayReply o r) (ap (asked_at past) t.1 ∙ is) may.1.1 in
           ap (may_answer x.request) (sym same) ∙ replies.0)
       | inr t ↦ reply_may s past place q x j.1 (sym (answer_other past id may.0 place r may.1.0.0 t.1) ∙ got) is
     ]

@@ -40,7 +40,7 @@ use Rattle.sftp_model.specs.declared.slot.Slot.{Slot}
 use Rattle.sftp_model.specs.declared.slot.Slot.TheVariants.{Empty, File, Buffered}
 use Rattle.sftp_model.specs.Slots.{slot_has, has_grant}
 use Rattle.plan_model.specs.Moves.{Own, handle_of}
-use Rattle.plan_model.specs.GoodMoves.{Closes}
+use Rattle.plan_model.specs.GoodMoves.{ClosesGrant}
 use Rattle.plan_model.proofs.SlotLaws.{slot_held}
 use Rattle.session_model.specs.declared.event.Owner.{Owner}
 use Rattle.session_model.specs.declared.event.Owner.TheVariants as owner
@@ -207,7 +207,7 @@ call_closing s past lane c id handle j gone =
     let site : Site = site_of s past lane in
     let a : AsksClose (current s past lane) site (own past lane n) (answer past) handle =
     asks_close (current s past lane) site s.facts (own past lane n) (answer past) handle may.1 in
-    let w : Closes a.0 site (own past lane n) (answer past) handle = a.1.1 in
+    let w : ClosesGrant a.0 site (own past lane n) (answer past) handle = a.1.1 in
     let g : ℕ = w.grant in
     let stood : has_grant site g ≡ true = slot_held site.slots a.0 g w.stood in
     let o : IsOwned past lane g = slots_owned s past lane g j.1 stood in

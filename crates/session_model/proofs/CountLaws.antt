@@ -35,7 +35,7 @@ use Rattle.session_model.specs.declared.event.Owner.{Owner}
 use Rattle.session_model.specs.declared.event.Event.TheVariants.{Submit, Send, Take}
 use Rattle.session_model.specs.declared.entry.Entry.{Entry}
 use Rattle.session_model.specs.declared.entry.Entry.TheVariants as entry
-use Rattle.session_model.specs.Readings.{Asked, asked, asked_at, answer, sent, count_below, unanswered_below, unanswered, awaited}
+use Rattle.session_model.specs.Readings.{AskedRequest, asked, asked_at, answer, sent, count_below, unanswered_below, unanswered, awaited}
 use Rattle.session_model.specs.Calls.{Setting}
 use Rattle.session_model.specs.Journals.{IsJournal, IsAwaited, MayTake}
 use Rattle.session_model.proofs.RequestLaws.{sent_asked, answer_beyond, answer_new, answer_other}
@@ -127,7 +127,7 @@ awaited_send past = refl
 pub some_unanswered : (past : List Entry) (p : ℕ) → p < asked past → answer past p ≡ None → 0 < unanswered past
 some_unanswered past p lt none = count_pos (λ place. is_none (answer past place)) (asked past) p lt (ap (λ (a : Option Reply). is_none a) none)
 
-asked_below : (past : List Entry) (place : ℕ) → place < asked past → (a : Asked) × (asked_at past place ≡ Some a)
+asked_below : (past : List Entry) (place : ℕ) → place < asked past → (a : AskedRequest) × (asked_at past place ≡ Some a)
 asked_below [] place lt = absurd (omega arith)
 asked_below (entry.Event (Submit by id r) ∷ past) place lt =
     elim (eqb_tells place (asked past)) [

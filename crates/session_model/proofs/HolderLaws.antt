@@ -48,7 +48,7 @@ use Rattle.session_model.specs.declared.event.Owner.TheVariants as owner
 use Rattle.session_model.specs.declared.event.Event.TheVariants.{Submit, Take, Cancel, End}
 use Rattle.session_model.specs.declared.entry.Entry.{Entry}
 use Rattle.session_model.specs.declared.entry.Entry.TheVariants as entry
-use Rattle.session_model.specs.Readings.{Asked, asked, asked_at, answer, is_by, own, ended, last_cancel}
+use Rattle.session_model.specs.Readings.{AskedRequest, asked, asked_at, answer, is_by, own, ended, last_cancel}
 use Rattle.session_model.specs.Calls.{Setting, added, calls_of, call_at, current, left_by, site_of, site_left, held_by, held_site, move_at, move_of}
 use Rattle.session_model.specs.Grants.{is_granted, is_grant, is_asked_by, is_unended_asker, holds, orphan}
 use Rattle.session_model.specs.Journals.{IsJournal, IsNext, MayCome, MustClose, cancelled_end}
@@ -161,7 +161,7 @@ ended_has s past lane call o g j h =
 
 -- ---- askers
 
-asked_one : (a : Option Asked) (l m c d : ℕ) → is_asked_by a l c ≡ true → is_asked_by a m d ≡ true → (l ≡ m) × (c ≡ d)
+asked_one : (a : Option AskedRequest) (l m c d : ℕ) → is_asked_by a l c ≡ true → is_asked_by a m d ≡ true → (l ≡ m) × (c ≡ d)
 asked_one None l m c d e f = absurd cc
 asked_one (Some a) l m c d e f = by_owner a.by e f
   where

@@ -9,7 +9,7 @@ use Rattle.session_model.specs.declared.event.Owner.TheVariants as owner
 use Rattle.session_model.specs.declared.event.Event.TheVariants.{Submit, Take}
 use Rattle.session_model.specs.declared.entry.Entry.{Entry}
 use Rattle.session_model.specs.declared.entry.Entry.TheVariants as entry
-use Rattle.session_model.specs.Readings.{Asked, asked, asked_at, bearer, answer, is_at, awaiting, last_cancel}
+use Rattle.session_model.specs.Readings.{AskedRequest, asked, asked_at, bearer, answer, is_at, awaiting, last_cancel}
 use Rattle.session_model.specs.Calls.{Setting}
 use Rattle.session_model.specs.Grants.{orphan}
 use Rattle.session_model.specs.Journals.{IsJournal, IsNext, IsFree, MayCome, MustClose, cancelled_end}
@@ -41,7 +41,7 @@ still_none true r old e = absurd cc
 still_none false r old e = e
 
 -- an unanswered request is the last that bears its id
-pub unanswered_borne : (s : Setting) (past : List Entry) (p : ℕ) (a : Asked) → IsJournal s past → asked_at past p
+pub unanswered_borne : (s : Setting) (past : List Entry) (p : ℕ) (a : AskedRequest) → IsJournal s past → asked_at past p
     ≡ Some a → answer past p ≡ None → bearer past a.id ≡ Some p
 unanswered_borne s [] p a j e none = absurd cc
 unanswered_borne s (entry.Event (Submit by i r) ∷ past) p a j e none =
@@ -57,7 +57,7 @@ unanswered_borne s (entry.Event (Submit by i r) ∷ past) p a j e none =
           ])
     ]
   where
-    id_of : Option Asked → ℕ
+    id_of : Option AskedRequest → ℕ
     id_of None = 0
     id_of (Some a) = a.id
 unanswered_borne s (entry.Event (Take id r) ∷ past) p a j e none =
@@ -65,7 +65,7 @@ unanswered_borne s (entry.Event (Take id r) ∷ past) p a j e none =
 unanswered_borne s (_ ∷ past) p a j e none = unanswered_borne s past p a j.1 e none
 
 -- no two unanswered requests bear one id
-pub unanswered_apart : (s : Setting) (past : List Entry) (p q : ℕ) (a b : Asked) → IsJournal s past → asked_at past p ≡ Some a → answer past p ≡ None
+pub unanswered_apart : (s : Setting) (past : List Entry) (p q : ℕ) (a b : AskedRequest) → IsJournal s past → asked_at past p ≡ Some a → answer past p ≡ None
     → asked_at past q ≡ Some b → answer past q ≡ None → a.id ≡ b.id → p ≡ q
 unanswered_apart s past p q a b j e none f no_reply same =
     let first : bearer past b.id ≡ Some p = subst (λ (k : ℕ). bearer past k ≡ Some p) same (unanswered_borne s past p a j e none) in

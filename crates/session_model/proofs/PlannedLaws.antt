@@ -44,7 +44,7 @@ use Rattle.sftp_model.specs.Fits.{FitsLong, FitsNumber, FitsSet}
 use Rattle.sftp_model.specs.Slots.{slot_at, with_slot, slot_has, has_grant}
 use Rattle.plan_model.specs.Moves.{Answers, Own, once_answered, done_by}
 use Rattle.plan_model.specs.FilePlans.{close_slot_next}
-use Rattle.plan_model.specs.GoodMoves.{FitsCall, WithinRange, ReadsWithin, IsBrought, Closes, brings, closes}
+use Rattle.plan_model.specs.GoodMoves.{FitsCall, WithinRange, ReadsWithin, IsBrought, ClosesGrant, brings, closes}
 use Rattle.plan_model.proofs.CallLaws.{asks_good, done_holds}
 use Rattle.plan_model.proofs.CancelLaws.{cancelled_holds}
 use Rattle.plan_model.proofs.MoveLaws.{by_status}
@@ -53,7 +53,7 @@ use Rattle.sftp_model.specs.declared.open_options.OpenOptions.{OpenOptions}
 use Rattle.sftp_model.specs.OpenOptions.{flags_of}
 use Rattle.plan_model.specs.declared.call.Call.{Call}
 use Rattle.plan_model.specs.declared.call.Call.TheVariants as call
-use Rattle.plan_model.specs.Lanes.{is_long, is_short, is_slot, is_some_long, is_within}
+use Rattle.plan_model.specs.Lanes.{fits_u64, is_short, is_slot, is_some_long, is_within}
 use Rattle.session_model.specs.Calls.{held_by, move_at}
 use Rattle.plan_model.specs.CallPlans.{cancelled, next}
 
@@ -77,7 +77,7 @@ flags_fit o =
     let m = making_le o.create_new (o.create && o.truncate) o.create in
     omega (arith, r, w, a, m)
 
-long_fits : (n : ℕ) → is_long n ≡ true → FitsLong n
+long_fits : (n : ℕ) → fits_u64 n ≡ true → FitsLong n
 long_fits n e = grind (arith, nat_tests)
 
 short_fits : (n : ℕ) → is_short n ≡ true → FitsNumber n
@@ -89,7 +89,7 @@ size_fits (Some n) e = long_fits n e
 
 pub planned_fits : (c : Call) → is_within c ≡ true → FitsCall c
 planned_fits (call.OpenFile slot flags path) e = flags_fit flags
-planned_fits (call.SetLen slot n) e = long_fits n (and_parts (is_slot slot) (is_long n) e).1
+planned_fits (call.SetLen slot n) e = long_fits n (and_parts (is_slot slot) (fits_u64 n) e).1
 planned_fits (call.SetStat path size perm) e = size_fits size e
 planned_fits (call.FsRead path bound) e = short_fits bound (and_parts (nat_le 1 bound) (is_short bound) e).1
 planned_fits other e = tt
@@ -184,7 +184,7 @@ close_within other site facts own answers handle is = tt
 
 -- a call that asks for a CLOSE: a `close` whose slot alone has the grant
 abbrev pub AsksClose : Option Call → Site → Own → Answers → List ℕ → Type 0
-AsksClose c site own answers handle = (slot : ℕ) × ((c ≡ Some (call.Close slot)) × Closes slot site own answers handle)
+AsksClose c site own answers handle = (slot : ℕ) × ((c ≡ Some (call.Close slot)) × ClosesGrant slot site own answers handle)
 
 pub asks_close : (c : Option Call) (site : Site) (facts : Facts) (own : Own) (answers : Answers) (handle : List ℕ)
     → move_at c site facts own answers ≡ Some (Ask (request.Close handle)) → AsksClose c site own answers handle

@@ -42,7 +42,7 @@ use Rattle.sftp_model.specs.declared.slot.Site.{Site}
 use Rattle.sftp_model.specs.declared.slot.Slot.TheVariants.{Empty, Buffered}
 use Rattle.sftp_model.specs.Answers.{MayAnswer, may_answer}
 use Rattle.sftp_model.specs.Slots.{fresh_site, slot_at}
-use Rattle.plan_model.specs.Ends.{Leaves}
+use Rattle.plan_model.specs.Ends.{EndsLeaving}
 use Rattle.plan_model.specs.Moves.{Own}
 use Rattle.plan_model.specs.ReadsUnderWay.{Requests, AreAt, IsReadAt, ReadsStand}
 use Rattle.plan_model.proofs.ReadEnds.{ended_stand, cancelled_stand}
@@ -52,7 +52,7 @@ use Rattle.session_model.specs.declared.event.Owner.{Owner}
 use Rattle.session_model.specs.declared.event.Event.TheVariants.{Submit, End}
 use Rattle.session_model.specs.declared.entry.Entry.{Entry}
 use Rattle.session_model.specs.declared.entry.Entry.TheVariants as entry
-use Rattle.session_model.specs.Readings.{Asked, asked, asked_at, answer, is_by, own, ended, last_cancel}
+use Rattle.session_model.specs.Readings.{AskedRequest, asked, asked_at, answer, is_by, own, ended, last_cancel}
 use Rattle.session_model.specs.Calls.{Setting, call_at, current, left_by, site_left, site_of}
 use Rattle.session_model.specs.Journals.{IsJournal}
 use Rattle.session_model.specs.Submitted.{submitted, submitted_at}
@@ -117,7 +117,7 @@ empty_at (suc n) (suc k) = empty_at n k
 fresh_stand : (requests : Requests) (directory : List ℕ) → ReadsStand requests (record { slots = fresh_site.slots; directory = directory })
 fresh_stand requests directory = record { each = λ k p file buffer is reading. absurd (let none = sym (empty_at 16 k) ∙ is in cc none) }
 
-moved_stand : (requests : Requests) (site : Site) (m : Move) → ReadsStand requests site → Leaves (ReadsStand requests) m → ReadsStand requests (left_by m site)
+moved_stand : (requests : Requests) (site : Site) (m : Move) → ReadsStand requests site → EndsLeaving (ReadsStand requests) m → ReadsStand requests (left_by m site)
 moved_stand requests site (Done o after) was leaves = leaves
 moved_stand requests site other was leaves = was
 
@@ -167,7 +167,7 @@ some_request : (a b : Request) → (let x : Option Request = Some a in x) ≡ So
 some_request a b e = cc
 
 -- the bytes of a DATA that may answer it end within the range of offsets
-pub read_fits : (s : Setting) (past : List Entry) (lane k p : ℕ) (file : FileAt) (buffer : Buffer) (a : Asked)
+pub read_fits : (s : Setting) (past : List Entry) (lane k p : ℕ) (file : FileAt) (buffer : Buffer) (a : AskedRequest)
     (bytes : List ℕ) → IsJournal s past → slot_at (site_of s past lane) k ≡ Buffered file buffer → buffer.reading
     ≡ Some p
     → asked_at past p ≡ Some a → may_answer a.request (reply.Content bytes) ≡ true → length bytes ≤ (2 ^ 64 - 1) - file.offset

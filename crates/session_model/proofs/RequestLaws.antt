@@ -33,7 +33,7 @@ use Rattle.session_model.specs.declared.event.Owner.{Owner}
 use Rattle.session_model.specs.declared.event.Event.TheVariants.{Submit, Send, Take}
 use Rattle.session_model.specs.declared.entry.Entry.{Entry}
 use Rattle.session_model.specs.declared.entry.Entry.TheVariants as entry
-use Rattle.session_model.specs.Readings.{Asked, asked, asked_at, bearer, answer, is_at, awaiting, still_open, sent}
+use Rattle.session_model.specs.Readings.{AskedRequest, asked, asked_at, bearer, answer, is_at, awaiting, still_open, sent}
 use Rattle.session_model.specs.Journals.{MayTake}
 
 -- ---- places
@@ -94,7 +94,7 @@ bearer_one (entry.Event (Submit by k r) ∷ past) i j p e f =
 bearer_one (_ ∷ past) i j p e f = bearer_one past i j p e f
 
 -- the request that bears an id was submitted under it
-pub bearer_asked : (past : List Entry) (id p : ℕ) → bearer past id ≡ Some p → (a : Asked) × ((asked_at past p ≡ Some a) × (a.id ≡ id))
+pub bearer_asked : (past : List Entry) (id p : ℕ) → bearer past id ≡ Some p → (a : AskedRequest) × ((asked_at past p ≡ Some a) × (a.id ≡ id))
 bearer_asked [] id p e = absurd cc
 bearer_asked (entry.Event (Submit by i r) ∷ past) id p e =
     elim (eqb_tells i id) [

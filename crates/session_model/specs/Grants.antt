@@ -34,7 +34,7 @@ use Rattle.session_model.specs.declared.event.Owner.TheVariants as owner
 use Rattle.session_model.specs.declared.event.Event.TheVariants.{Submit}
 use Rattle.session_model.specs.declared.entry.Entry.{Entry}
 use Rattle.session_model.specs.declared.entry.Entry.TheVariants as entry
-use Rattle.session_model.specs.Readings.{Asked, asked, asked_at, answer, is_at, is_by, ended}
+use Rattle.session_model.specs.Readings.{AskedRequest, asked, asked_at, answer, is_at, is_by, ended}
 use Rattle.session_model.specs.Calls.{Setting, call_at, site_of, held_site}
 use Rattle.std.proofs.Common.{◌≡◌, ℕ, Bool, true, false, List, [], ◌∷◌, Option, Some, None, if◌then◌else◌}
 
@@ -50,7 +50,7 @@ abbrev pub is_grant : List Entry → ℕ → Bool
 is_grant past place = is_granted (answer past place)
 
 -- the request is one of this call
-abbrev pub is_asked_by : Option Asked → ℕ → ℕ → Bool
+abbrev pub is_asked_by : Option AskedRequest → ℕ → ℕ → Bool
 is_asked_by None lane call = false
 is_asked_by (Some a) lane call = is_by a.by lane call
 

@@ -4,13 +4,13 @@ use Rattle.sftp_model.specs.declared.reply.Reply.{Reply}
 use Rattle.session_model.specs.declared.event.Event.TheVariants.{Submit, Send, Take}
 use Rattle.session_model.specs.declared.entry.Entry.{Entry}
 use Rattle.session_model.specs.declared.entry.Entry.TheVariants as entry
-use Rattle.session_model.specs.Readings.{Asked, asked, asked_at, bearer, answer, sent}
+use Rattle.session_model.specs.Readings.{AskedRequest, asked, asked_at, bearer, answer, sent}
 
 -- the last request under an id, by its place: it waits, and was sent or wasn't, or it has a reply
 pub data IdState : Type 0 where
   Free : IdState
-  Pending : ℕ → Asked → Bool → IdState
-  Replied : ℕ → Asked → Reply → IdState
+  Pending : ℕ → AskedRequest → Bool → IdState
+  Replied : ℕ → AskedRequest → Reply → IdState
 
 -- all that waits is sent
 abbrev pub now_sent : IdState → IdState
@@ -34,10 +34,10 @@ id_state (entry.Event (Take i r) ∷ past) id = if i == id then now_replied r (i
 id_state (_ ∷ past) id = id_state past id
 
 -- the state is what the readings of the journal say of the id
-abbrev pub Reads : List Entry → ℕ → IdState → Type 0
-Reads past id Free = bearer past id ≡ None
-Reads past id (Pending place a was_sent) =
+abbrev pub ReadsId : List Entry → ℕ → IdState → Type 0
+ReadsId past id Free = bearer past id ≡ None
+ReadsId past id (Pending place a was_sent) =
     (bearer past id ≡ Some place) × (answer past place ≡ None) × (was_sent ≡ nat_lt place (sent past))
     × (asked_at past place ≡ Some a)
-Reads past id (Replied place a r) = (bearer past id ≡ Some place) × (answer past place ≡ Some r)
+ReadsId past id (Replied place a r) = (bearer past id ≡ Some place) × (answer past place ≡ Some r)
     × (asked_at past place ≡ Some a)

@@ -40,7 +40,7 @@ use Rattle.session_model.specs.declared.entry.Entry.{Entry}
 use Rattle.session_model.specs.declared.entry.Entry.TheVariants as entry
 use Rattle.plan_model.specs.Lanes.{is_within}
 use Rattle.session_model.specs.Readings.{
-  Asked,
+  AskedRequest,
   asked,
   asked_at,
   answer,
@@ -79,7 +79,7 @@ goes_on expected.Limits r = brings_limits r
 goes_on other r = true
 
 -- the reply may answer the request, and the session goes on with it
-abbrev pub MayReply : Option Asked → Reply → Type 0
+abbrev pub MayReply : Option AskedRequest → Reply → Type 0
 MayReply None r = ⊥
 MayReply (Some a) r = (may_answer a.request r ≡ true) × (goes_on (expected_of a.request) r ≡ true)
 

@@ -25,7 +25,7 @@ use Rattle.std.specs.List.{flat_map}
 use Rattle.sftp_model.specs.declared.request.Request.{Request}
 use Rattle.sftp_model.specs.declared.outcome.Outcome.{Outcome}
 use Rattle.sftp_model.specs.declared.reply.Reply.{Reply}
-use Rattle.sftp_model.specs.Frames.{request_frame}
+use Rattle.sftp_model.specs.Frames.{request_frame, frames_of}
 use Rattle.plan_model.specs.Moves.{Own}
 use Rattle.session_model.specs.declared.event.Owner.{Owner}
 use Rattle.session_model.specs.declared.event.Owner.TheVariants as owner
@@ -49,13 +49,13 @@ asked (entry.Event (Submit by id r) ∷ past) = asked past + 1
 asked (_ ∷ past) = asked past
 
 -- a request that was submitted: on whose behalf, and under which id
-pub record Asked : Type 0 where
+pub record AskedRequest : Type 0 where
   pub by : Owner
   pub id : ℕ
   pub request : Request
 
 -- the request at a place
-abbrev pub asked_at : List Entry → ℕ → Option Asked
+abbrev pub asked_at : List Entry → ℕ → Option AskedRequest
 asked_at [] place = None
 asked_at (entry.Event (Submit by id r) ∷ past) place = if place == asked past then
     Some (record { by = by; id = id; request = r }) else asked_at past place
@@ -90,10 +90,6 @@ unsent [] = []
 unsent (entry.Event Send ∷ past) = []
 unsent (entry.Event (Submit by id r) ∷ past) = unsent past ++ (id, r) ∷ []
 unsent (_ ∷ past) = unsent past
-
--- the frames of these requests
-abbrev pub frames_of : List (ℕ × Request) → List ℕ
-frames_of requests = flat_map (λ p. request_frame p.1 p.0) requests
 
 -- the frames of the unsent requests
 abbrev pub unsent_bytes : List Entry → List ℕ

@@ -42,7 +42,7 @@ use Rattle.session_model.specs.declared.event.Owner.TheVariants as owner
 use Rattle.session_model.specs.declared.event.Event.TheVariants.{Submit, Send, Take}
 use Rattle.session_model.specs.declared.entry.Entry.{Entry}
 use Rattle.session_model.specs.declared.entry.Entry.TheVariants as entry
-use Rattle.session_model.specs.Readings.{Asked, asked, asked_at, bearer, answer, sent, count_below}
+use Rattle.session_model.specs.Readings.{AskedRequest, asked, asked_at, bearer, answer, sent, count_below}
 use Rattle.session_model.specs.Grants.{is_grant}
 
 -- ---- requests
@@ -95,7 +95,7 @@ where_by_setup owner.Close r = None
 where_by_setup (owner.Call lane call) r = None
 
 -- the reply to a request, where it is the query for limits
-abbrev pub reply_to_query : Option Asked → Option Reply → Option Reply
+abbrev pub reply_to_query : Option AskedRequest → Option Reply → Option Reply
 reply_to_query None r = None
 reply_to_query (Some a) r = where_by_setup a.by r
 
@@ -117,7 +117,7 @@ is_setup owner.Close = false
 is_setup (owner.Call lane call) = false
 
 -- the query for limits
-abbrev pub is_query : Option Asked → Bool
+abbrev pub is_query : Option AskedRequest → Bool
 is_query None = false
 is_query (Some a) = is_setup a.by
 

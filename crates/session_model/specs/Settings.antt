@@ -9,7 +9,7 @@ use Rattle.sftp_model.specs.declared.reply.Reply.{Reply}
 use Rattle.sftp_model.specs.declared.reply.Reply.TheVariants as reply
 use Rattle.sftp_model.specs.Lengths.{session_lengths}
 use Rattle.sftp_model.specs.declared.slot.Facts.{Facts}
-use Rattle.sftp_model.specs.ReplyReadings.{limits_at}
+use Rattle.sftp_model.specs.ReplyReadings.{limits_at, limits_in}
 use Rattle.plan_model.specs.declared.call.Lane.{Lane}
 use Rattle.session_model.specs.declared.entry.Entry.{Entry}
 use Rattle.session_model.specs.Readings.{answer}
@@ -30,13 +30,9 @@ facts_of options extensions limits =
       read_window = min 64 (max 1 options.read_window);
     }
 
-abbrev pub read_limits : Result Limits FrameError → Option Limits
-read_limits (Ok limits) = Some limits
-read_limits (Err e) = None
-
 abbrev pub limits_of : Option Reply → Option Limits
-limits_of (Some (reply.Extended content)) = read_limits (limits_at content)
-limits_of other = None
+limits_of (Some r) = limits_in r
+limits_of None = None
 
 -- the limits that a session was told: those of the reply to its first request, where the server offers them
 abbrev pub limits_told : Bool → Option Reply → Option Limits

@@ -12,9 +12,9 @@ ghost use Rattle.plan_model.specs.declared.call.Call.{Call};
 ghost use Rattle.session_model.specs.declared.entry.Entry.{Entry};
 ghost use Rattle.session_model.specs.declared.entry.Entry.TheVariants as entry;
 ghost use Rattle.session_model.specs.declared.event.Event.TheVariants.{Take};
-ghost use Rattle.session_model.specs.Readings.{Asked, answer, asked_at, bearer};
+ghost use Rattle.session_model.specs.Readings.{AskedRequest, answer, asked_at, bearer};
 ghost use Rattle.session_model.specs.Calls.{Setting, current, GoesByPlan, site_of};
-ghost use Rattle.session_model.specs.Ids.{id_state, Reads};
+ghost use Rattle.session_model.specs.Ids.{id_state, ReadsId};
 ghost use Rattle.session_model.specs.Journals.{IsJournal, IsOver, MayTake};
 ghost use Rattle.session_model.specs.Grants.{IsSettled};
 ghost use Rattle.session_model.specs.Grants.{orphan, is_grant, is_held, is_one_of, closed};
@@ -35,16 +35,16 @@ pub fn replies_stay()
 pub fn ids_name_requests()
     ensures one_id { (past : List Entry) (i j place : ℕ) → bearer past i ≡ Some place
         → bearer past j ≡ Some place → i ≡ j }
-    ensures borne { (s : Setting) (past : List Entry) (place : ℕ) (a : Asked) → IsJournal s past
+    ensures borne { (s : Setting) (past : List Entry) (place : ℕ) (a : AskedRequest) → IsJournal s past
         → asked_at past place ≡ Some a → answer past place ≡ None → bearer past a.id ≡ Some place }
-    ensures apart { (s : Setting) (past : List Entry) (p q : ℕ) (a b : Asked) → IsJournal s past
+    ensures apart { (s : Setting) (past : List Entry) (p q : ℕ) (a b : AskedRequest) → IsJournal s past
         → asked_at past p ≡ Some a → answer past p ≡ None → asked_at past q ≡ Some b
         → answer past q ≡ None → a.id ≡ b.id → p ≡ q }
 {}
 
 /// What the recursion over a journal says of an id is what the journal's readings say.
 pub fn ids_are_read()
-    ensures { (past : List Entry) (id : ℕ) → Reads past id (id_state past id) }
+    ensures { (past : List Entry) (id : ℕ) → ReadsId past id (id_state past id) }
 {}
 
 /// In a run so far the current call of a lane goes by its plan: each of its requests was what the plan asked, when
@@ -90,7 +90,7 @@ pub fn handles_are_closed()
 pub fn reads_under_way_fit()
     ensures stand { (s : Setting) (past : List Entry) (lane : ℕ) → IsJournal s past
         → ReadsStand (submitted_at past) (site_of s past lane) }
-    ensures fits { (s : Setting) (past : List Entry) (lane k p : ℕ) (file : FileAt) (buffer : Buffer) (a : Asked)
+    ensures fits { (s : Setting) (past : List Entry) (lane k p : ℕ) (file : FileAt) (buffer : Buffer) (a : AskedRequest)
         (bytes : List ℕ) → IsJournal s past → slot_at (site_of s past lane) k ≡ Buffered file buffer
         → buffer.reading ≡ Some p → asked_at past p ≡ Some a → may_answer a.request (Content bytes) ≡ true
         → length bytes ≤ (2 ^ 64 - 1) - file.offset }

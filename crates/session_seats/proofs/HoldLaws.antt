@@ -42,7 +42,7 @@ use Rattle.session_seats.specs.declared.view.SeatName.{SeatName}
 use Rattle.session_seats.specs.declared.view.Sight.{Sight}
 use Rattle.session_seats.specs.declared.view.Claim.{Claim}
 use Rattle.session_seats.specs.declared.view.View.{View}
-use Rattle.session_seats.specs.Sights.{Shown, stamp, receipt, own, made_on, made_from, name_at, IsOf, lane_of, AllNamed, FitsStage, Later, Stays, Rises}
+use Rattle.session_seats.specs.Sights.{Shown, stamp, receipt, own, made_on, made_from, name_at, IsOf, lane_of, AllNamed, FitsStage, Later, StaysThere, Rises}
 use Rattle.session_seats.specs.Rules.{Kept, MayRelease, Took, acquired, first, grown, holding, let_out, newer, released, sees}
 use Rattle.session_seats.specs.Holds.{
   claim_of,
@@ -54,7 +54,7 @@ use Rattle.session_seats.specs.Holds.{
   CanRelease,
   Releases,
   Hold,
-  Goes,
+  GoesByEntries,
   Allowance,
   HasUsers,
   NamesLane,
@@ -150,7 +150,7 @@ module _ {S : Type 0} (shown : S → Shown) (m p : Me S View) (h : HasTaken show
   abbrev y : Shown
   y = shown h.value
 
-  module _ (more : List Entry) (goes : Goes (λ e. only e && is_of lane e) needs more y (shown z)) where
+  module _ (more : List Entry) (goes : GoesByEntries (λ e. only e && is_of lane e) needs more y (shown z)) where
     may_release : NamesLane (claim_of m) lane → needs.tells ≤ (claim_of m).unwritten → needs.leaves ≤ (claim_of m).share → MayRelease mine y.users (shown z)
     may_release names tells leaves =
         let f = still_found (claim_of m) h.now lane names h.took.later in
@@ -167,7 +167,7 @@ module _ {S : Type 0} (shown : S → Shown) (m p : Me S View) (h : HasTaken show
           seated = goes.seated ∙ h.took.shows.seated;
           lanes = goes.lanes ∙ sym (ap (λ (s : Sight). s.lanes) seen);
           options = goes.options ∙ sym (ap (λ (s : Sight). s.options) seen);
-          version = subst (λ (s : Sight). Stays s.version (shown z).version) (sym seen) goes.version;
+          version = subst (λ (s : Sight). StaysThere s.version (shown z).version) (sym seen) goes.version;
           rises = subst (λ (s : Sight). Rises s.counts (shown z).counts) (sym seen) goes.rises;
           written = omega arith;
           users_are = omega arith;
@@ -203,7 +203,7 @@ module _ {S : Type 0} (shown : S → Shown) (m p : Me S View) (h : HasTaken show
               (later_now h.now (shown z) (number_of m) (newer (shown z) h.now.log)
               (goes.lanes ∙ sym (ap (λ (s : Sight). s.lanes) h.took.shows.told))
               (goes.options ∙ sym (ap (λ (s : Sight). s.options) h.took.shows.told))
-              (subst (λ (s : Sight). Stays s.version (shown z).version) (sym h.took.shows.told) goes.version)
+              (subst (λ (s : Sight). StaysThere s.version (shown z).version) (sym h.took.shows.told) goes.version)
               (subst (λ (s : Sight). Rises s.counts (shown z).counts) (sym h.took.shows.told) goes.rises));
           did = did;
         }
@@ -217,7 +217,7 @@ share_sum share mine before after leaves now is within most users sum = omega (a
 -- the share that is counted beside the users is that of the claim
 pub shares_after : {S : Type 0} (shown : S → Shown) (m p : Me S View) (h : HasTaken shown m p) (z : S) (test : Entry → Bool)
     (needs : Allowance)
-    (more : List Entry) → Goes test needs more (shown h.value) (shown z) → needs.leaves ≤ (claim_of m).share
+    (more : List Entry) → GoesByEntries test needs more (shown h.value) (shown z) → needs.leaves ≤ (claim_of m).share
     → (n : Me S View) → Releases shown (p.0, (0, z) ∷ rest p.1) n → (share before after : ℕ) → share ≡ (claim_of m).share
     → before ≡ (shown h.value).users → after ≡ (shown z).users → after - (before - share) ≡ (claim_of n).share
 shares_after shown m p h z test needs more goes leaves n rel share before after is was are =

@@ -50,7 +50,7 @@ use Rattle.session_seats.specs.declared.view.Sight.{Sight}
 use Rattle.session_seats.specs.declared.view.Stamp.{Stamp}
 use Rattle.session_seats.specs.declared.view.Claim.{Claim}
 use Rattle.session_seats.specs.declared.view.View.{View}
-use Rattle.session_seats.specs.Sights.{stamp, receipt, entries, own, made_on, gave, name_at, seat_name, AllNamed, Grows, Stays, Rises, Later}
+use Rattle.session_seats.specs.Sights.{stamp, receipt, entries, own, made_on, gave, name_at, seat_name, AllNamed, Grows, StaysThere, Rises, Later}
 use Rattle.session_seats.specs.Rules.{shares, unwritten, total}
 
 pub not_true : (b : Bool) → (b ≡ true → ⊥) → b ≡ false
@@ -70,13 +70,13 @@ module _ {A : Type 0} where
   pub grows_on : (xs ys zs : List A) → Grows xs ys → Grows ys zs → Grows xs zs
   grows_on xs ys zs p q = (q.0 ++ p.0, q.1 ∙ ap (λ (l : List A). q.0 ++ l) p.1 ∙ sym (append_assoc q.0 p.0 xs))
 
-  pub stays_same : (v : Option A) → Stays v v
+  pub stays_same : (v : Option A) → StaysThere v v
   stays_same None = tt
   stays_same (Some x) = refl
 
-  pub stays_on : (a b c : Option A) → Stays a b → Stays b c → Stays a c
+  pub stays_on : (a b c : Option A) → StaysThere a b → StaysThere b c → StaysThere a c
   stays_on None b c p q = tt
-  stays_on (Some x) b c p q = subst (λ (o : Option A). Stays o c) p q
+  stays_on (Some x) b c p q = subst (λ (o : Option A). StaysThere o c) p q
 
   pub length_more : (more xs : List A) → length (more ++ xs) - length xs ≡ length more
   length_more more xs = omega (arith, length-append more xs)

@@ -50,7 +50,7 @@ use Rattle.session_seats.specs.Sights.{
   Seated,
   Later,
   Rises,
-  Stays,
+  StaysThere,
 }
 use Rattle.session_seats.specs.declared.view.Receipt.{Receipt}
 use Rattle.session_seats.specs.Rules.{Took, sees, Kept, grown, newer, MayRelease, next_lane, first_share, seating, giver, fresh, newcomer}
@@ -106,7 +106,7 @@ look_can shown m p h z is =
         seated = ap (λ (x : Shown). x.seated) is ∙ h.took.shows.seated;
         lanes = sym (ap (λ (s : Sight). s.lanes) told);
         options = sym (ap (λ (s : Sight). s.options) told);
-        version = subst (λ (s : Sight). Stays s.version (shown z).version) (sym told) (stays_same (shown z).version);
+        version = subst (λ (s : Sight). StaysThere s.version (shown z).version) (sym told) (stays_same (shown z).version);
         rises = subst (λ (s : Sight). Rises s.counts (shown z).counts) (sym told) (rises_none (shown z).counts);
         written = omega arith;
         users_are = omega arith;
@@ -183,8 +183,8 @@ module _ {S : Type 0} (shown : S → Shown) (m p : Me S View) (h : HasTaken show
           seated = omega arith;
           lanes = ap (λ (x : Shown). x.lanes) is ∙ sym (ap (λ (s : Sight). s.lanes) told);
           options = ap (λ (x : Shown). x.options) is ∙ sym (ap (λ (s : Sight). s.options) told);
-          version = subst (λ (s : Sight). Stays s.version (shown z).version) (sym told)
-              (subst (Stays y.version) (sym (ap (λ (x : Shown). x.version) is)) (stays_same y.version));
+          version = subst (λ (s : Sight). StaysThere s.version (shown z).version) (sym told)
+              (subst (StaysThere y.version) (sym (ap (λ (x : Shown). x.version) is)) (stays_same y.version));
           rises = counts;
           written = omega arith;
           users_are = omega arith;

@@ -42,7 +42,7 @@ use Rattle.session_seats.specs.declared.view.Stamp.{Stamp}
 use Rattle.session_seats.specs.declared.view.Sight.{Sight}
 use Rattle.session_seats.specs.declared.view.Claim.{Claim}
 use Rattle.session_seats.specs.declared.view.View.{View}
-use Rattle.session_seats.specs.Sights.{Made, Shown, stamp, sight_of, seat_name, entries, own, gave, Stays, Rises, Later, Lawful, AllNamed}
+use Rattle.session_seats.specs.Sights.{Made, Shown, stamp, sight_of, seat_name, entries, own, gave, StaysThere, Rises, Later, Lawful, AllNamed}
 use Rattle.session_seats.specs.Rules.{
   view,
   no_counts,
@@ -266,7 +266,7 @@ module _ (now : Sight) (y : Shown) (n : ℕ) (es : List Entry) where
   abbrev pub later_log : Sight
   later_log = sight_of y (map (stamp n) es ++ now.log) now.seats
 
-  module _ (lanes : y.lanes ≡ now.lanes) (options : y.options ≡ now.options) (version : Stays now.version y.version) (rises : Rises now.counts y.counts) where
+  module _ (lanes : y.lanes ≡ now.lanes) (options : y.options ≡ now.options) (version : StaysThere now.version y.version) (rises : Rises now.counts y.counts) where
     pub later_now : Later now later_log
     later_now = record { log = (map (stamp n) es, refl); seats = grows_none now.seats; lanes = lanes; options = options; version = version; counts = rises }
 

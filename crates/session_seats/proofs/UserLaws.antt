@@ -6,7 +6,7 @@ use Rattle.session_seats.specs.declared.view.Claim.{Claim}
 use Rattle.session_seats.specs.declared.view.Receipt.{Receipt}
 use Rattle.session_seats.specs.declared.view.Sight.{Sight}
 use Rattle.session_seats.specs.declared.view.View.{View}
-use Rattle.session_seats.specs.Sights.{Shown, stamp, sight_of, own, FitsStage, Later, Stays, one_if}
+use Rattle.session_seats.specs.Sights.{Shown, stamp, sight_of, own, FitsStage, Later, StaysThere, one_if}
 use Rattle.session_seats.specs.Rules.{sees, grown, newer, MayRelease}
 use Rattle.session_seats.specs.Holds.{claim_of, number_of, sight_by, seat_with, HasTaken, CanRelease, Releases, NamesLane}
 use Rattle.session_seats.specs.Users.{with_users, at_stage, Leaves, Raises}
@@ -59,8 +59,8 @@ module _ {S : Type 0} (shown : S → Shown) (m p : Me S View) (h : HasTaken show
           seated = ap (λ (x : Shown). x.seated) is ∙ h.took.shows.seated;
           lanes = ap (λ (x : Shown). x.lanes) is ∙ sym (ap (λ (s : Sight). s.lanes) told);
           options = ap (λ (x : Shown). x.options) is ∙ sym (ap (λ (s : Sight). s.options) told);
-          version = subst (λ (s : Sight). Stays s.version (shown z).version) (sym told)
-              (subst (Stays y.version) (sym (ap (λ (x : Shown). x.version) is)) (stays_same y.version));
+          version = subst (λ (s : Sight). StaysThere s.version (shown z).version) (sym told)
+              (subst (StaysThere y.version) (sym (ap (λ (x : Shown). x.version) is)) (stays_same y.version));
           rises = record { handed = omega arith; written = omega arith; taken = omega arith; stage = omega arith };
           written = omega arith;
           users_are = omega arith;

@@ -41,7 +41,7 @@ use Rattle.session_seats.specs.Sights.{
   FitsStage,
   Later,
   Rises,
-  Stays,
+  StaysThere,
 }
 use Rattle.session_seats.specs.Rules.{view, no_counts, first, sees, grown, Took, MayRelease}
 
@@ -91,13 +91,13 @@ HasUsers may y = (may.leaves ≤ y.users) × FitsStage y.counts.stage y.users
 
 -- The journal goes on by these entries, the newest first, which pass the test. What was told stays, no count falls, and
 -- users and written frames are within the allowance.
-pub record Goes (test : Entry → Bool) (may : Allowance) (more : List Entry) (old new : Shown) : Type 0 where
+pub record GoesByEntries (test : Entry → Bool) (may : Allowance) (more : List Entry) (old new : Shown) : Type 0 where
   pub past : new.past ≡ more ++ old.past
   pub passes : list_all test more ≡ true
   pub seated : new.seated ≡ old.seated
   pub lanes : new.lanes ≡ old.lanes
   pub options : new.options ≡ old.options
-  pub version : Stays old.version new.version
+  pub version : StaysThere old.version new.version
   pub rises : Rises old.counts new.counts
   pub written : old.counts.handed + new.counts.written ≤ may.tells + new.counts.handed + old.counts.written
   pub users : old.users ≤ may.leaves + new.users
@@ -105,7 +105,7 @@ pub record Goes (test : Entry → Bool) (may : Allowance) (more : List Entry) (o
 
 -- the journal goes on by some such entries
 abbrev pub GoesBy : (Entry → Bool) → Allowance → Shown → Shown → Type 0
-GoesBy test may old new = (more : List Entry) × Goes test may more old new
+GoesBy test may old new = (more : List Entry) × GoesByEntries test may more old new
 
 -- ---- tokens
 
@@ -178,7 +178,7 @@ module _ {S : Type 0} (shown : S → Shown) where
   -- what an event did in one hold: the entries pass its test, and where memory was there the seat has a receipt of each
   pub record Applied {X E : Type 0} (test : Entry → Bool) (needs : Allowance) (Does : S → S → Type 0)
       (copied : Result X E) (old new : List Receipt) (y z : S) (more : List Entry) : Type 0 where
-    pub goes : Goes test needs more (shown y) (shown z)
+    pub goes : GoesByEntries test needs more (shown y) (shown z)
     pub does : Does y z
     pub kept : OnOk copied (new ≡ old ++ made_on (length (shown y).past) more)
 

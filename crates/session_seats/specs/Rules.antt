@@ -48,7 +48,7 @@ use Rattle.session_seats.specs.Sights.{
   AllNamed,
   Later,
   Rises,
-  Stays,
+  StaysThere,
 }
 
 abbrev pub claim : ℕ → ℕ → ℕ → Sight → Claim
@@ -231,7 +231,7 @@ pub record MayRelease (c : Claim) (users : ℕ) (y : Shown) : Type 0 where
   pub seated : y.seated ≡ lanes_in c.sight.seats
   pub lanes : y.lanes ≡ c.sight.lanes
   pub options : y.options ≡ c.sight.options
-  pub version : Stays c.sight.version y.version
+  pub version : StaysThere c.sight.version y.version
   pub rises : Rises c.sight.counts y.counts
   pub written : c.sight.counts.handed + y.counts.written ≤ c.unwritten + y.counts.handed + c.sight.counts.written
   pub users_are : users ≤ c.share + y.users

@@ -174,9 +174,9 @@ abbrev pub Grows : {A : Type 0} → List A → List A → Type 0
 Grows {A} before now = (more : List A) × (now ≡ more ++ before)
 
 -- what is there stays
-abbrev pub Stays : {A : Type 0} → Option A → Option A → Type 0
-Stays None now = Unit {0}
-Stays (Some x) now = now ≡ Some x
+abbrev pub StaysThere : {A : Type 0} → Option A → Option A → Type 0
+StaysThere None now = Unit {0}
+StaysThere (Some x) now = now ≡ Some x
 
 pub record Rises (before now : Counts) : Type 0 where
   pub handed : before.handed ≤ now.handed
@@ -190,5 +190,5 @@ pub record Later (before now : Sight) : Type 0 where
   pub seats : Grows before.seats now.seats
   pub lanes : now.lanes ≡ before.lanes
   pub options : now.options ≡ before.options
-  pub version : Stays before.version now.version
+  pub version : StaysThere before.version now.version
   pub counts : Rises before.counts now.counts

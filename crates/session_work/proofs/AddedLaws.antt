@@ -26,7 +26,7 @@ use Rattle.session_laws.specs.Rest.{AtRest}
 use Rattle.session_laws.proofs.AskedLaws.{asks_on}
 use Rattle.session_driver.specs.Adding.{with_call}
 use Rattle.session_work.specs.Adding.{AddsIn, added_in}
-use Rattle.session_work.specs.Working.{Contents, Stands, Works, lane_in}
+use Rattle.session_work.specs.Working.{LanesValue, Stands, Works, lane_in}
 use Rattle.session_work.proofs.AddedSpends.{added_spends}
 use Rattle.session_work.proofs.CallsLaws.{call_within}
 
@@ -99,7 +99,7 @@ added_calls s past lanes lane call lt are w =
       | inr t ↦ ap calls_of (get_there lanes lane w _ t.1) ∙ are w ∙ sym (added_other s past lane w call t.1)
     ]
 
-added_stands : (s : Setting) (c : Contents) (lane : ℕ) (call : Call) → Stands s c → lane < length c.calls
+added_stands : (s : Setting) (c : LanesValue) (lane : ℕ) (call : Call) → Stands s c → lane < length c.calls
     → are_ok (with_call c.calls lane call) ≡ true → Stands s (added_in c lane call)
 added_stands s c lane call t lt ok =
     record {
@@ -147,7 +147,7 @@ added_rest s past core lanes begun lane call h next =
       settled = none_next s (e ∷ past) refl due;
     }
 
-pub adds : (s : Setting) (c : Contents) (lane : ℕ) (call : Call) → Works s c → lane < length c.calls
+pub adds : (s : Setting) (c : LanesValue) (lane : ℕ) (call : Call) → Works s c → lane < length c.calls
     → was_let_go c.past lane ≡ false → are_ok (with_call c.calls lane call) ≡ true
     → AddsIn s lane call c (added_in c lane call)
 adds s c lane call w lt held ok =

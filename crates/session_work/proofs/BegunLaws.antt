@@ -6,7 +6,7 @@ use Rattle.session_model.specs.Turns.{begun_but, begun_with}
 use Rattle.session_laws.specs.Changes.{with_lane}
 use Rattle.session_laws.specs.Lanes.{LaneValue}
 use Rattle.session_laws.specs.Rest.{begun_of}
-use Rattle.session_work.specs.Noting.{KeepsOthers, OthersRun}
+use Rattle.session_work.specs.Noting.{KeepsOtherLanes, OthersRun}
 use Rattle.session_work.specs.Working.{lane_in}
 use Rattle.session_work.proofs.Contents.{lane_set, set_here, state_at}
 
@@ -16,7 +16,7 @@ pub begun_at : (states : List LaneValue) (lane : ℕ) (v : LaneValue) (b : Bool)
 begun_at states lane v b lt value runs = ap (λ (y : LaneValue). is_some y.running) (sym (state_at states lane v lt value)) ∙ runs
 
 -- the others are as they were
-pub others_kept : (states : List LaneValue) (lane : ℕ) (now : LaneValue) → lane < length states → KeepsOthers lane states (slice_set states lane now)
+pub others_kept : (states : List LaneValue) (lane : ℕ) (now : LaneValue) → lane < length states → KeepsOtherLanes lane states (slice_set states lane now)
 others_kept states lane now lt begun others w ne =
     others w ne ∙ sym (ap (λ (f : ℕ → LaneValue). is_some (f w).running) (lane_set states lane now lt) ∙ other)
   where

@@ -10,10 +10,10 @@ use Rattle.plan_model.specs.declared.call.Lane.{Lane}
 use Rattle.session_model.specs.Readings.{ended}
 use Rattle.session_model.specs.Calls.{Setting, calls_of, current}
 use Rattle.plan_model.specs.Lanes.{is_within, weight, lane_weight, are_ok}
-use Rattle.session_work.specs.Working.{Contents, Stands}
+use Rattle.session_work.specs.Working.{LanesValue, Stands}
 
 -- the current call of a lane is that of its calls which has not ended
-pub current_is : (s : Setting) (c : Contents) (lane : ℕ) → Stands s c → current s c.past lane
+pub current_is : (s : Setting) (c : LanesValue) (lane : ℕ) → Stands s c → current s c.past lane
     ≡ slice_get (calls_of (slice_get c.calls lane)) (ended c.past lane)
 current_is s c lane t = ap (λ (calls : List Call). slice_get calls (ended c.past lane)) (sym (t.calls lane))
 

@@ -49,16 +49,16 @@ use Rattle.session_laws.specs.Ends.{Cancels as IsCancelled, GivesUp, Dropped, Ke
 use Rattle.session_laws.specs.Rest.{Between}
 use Rattle.session_laws.proofs.CancelSteps.{cancels_keep}
 use Rattle.session_work.specs.Closing.{Closing, IsClosed}
-use Rattle.session_work.specs.Working.{CancelsIn, Contents, Works, lane_in}
+use Rattle.session_work.specs.Working.{CancelsIn, LanesValue, Works, lane_in}
 use Rattle.session_work.proofs.CallsLaws.{calls_few, current_is}
 use Rattle.session_work.proofs.Contents.{lane_set, set_here, state_at}
-use Rattle.session_lane.specs.Tokens.{AreTickets}
+use Rattle.session_lane.specs.Tokens.{AreCounted}
 use Rattle.session_lane.specs.Turning.{HasAwaited, HasDeferred, IsSafeBy, LeavesBehind}
 use Rattle.session_lane.proofs.Turned.{lanes_may}
 
 -- ---- nothing is cancelled
 
-none_current : (s : Setting) (c : Contents) (lane : ℕ) → Works s c → length c.states ≤ lane → current s c.past lane ≡ None
+none_current : (s : Setting) (c : LanesValue) (lane : ℕ) → Works s c → length c.states ≤ lane → current s c.past lane ≡ None
 none_current s c lane w out =
     (let none : slice_get c.calls lane ≡ None = beyond c.calls lane
     (let count = w.stands.count in let lanes = w.stands.lanes in omega (arith, out, count, lanes)) in
@@ -78,7 +78,7 @@ not_both true false X Y how y = y
 not_both true true X Y (inl e) y = absurd cc
 not_both true true X Y (inr e) y = absurd cc
 
-pub cancels_nothing : (s : Setting) (lane : ℕ) (c : Contents) → Works s c → (length c.states ≤ lane) ⊎ (c.begun lane ≡ false) → CancelsIn s lane c c false
+pub cancels_nothing : (s : Setting) (lane : ℕ) (c : LanesValue) → Works s c → (length c.states ≤ lane) ⊎ (c.begun lane ≡ false) → CancelsIn s lane c c false
 cancels_nothing s lane c w how = record {
   cancels = not_both (is_some (current s c.past lane)) (c.begun lane) _ _
       (either how) (refl, refl);
@@ -92,7 +92,7 @@ cancels_nothing s lane c w how = record {
 
 -- ---- a begun call
 
-current_begun : (s : Setting) (lane : ℕ) (c : Contents) → Works s c → lane < length s.lanes
+current_begun : (s : Setting) (lane : ℕ) (c : LanesValue) → Works s c → lane < length s.lanes
     → is_some (lane_in c.states lane).running ≡ true → (call : Call) × (current s c.past lane ≡ Some call)
 current_begun s lane c w there runs = by_running (lane_in c.states lane).running refl runs
   where
@@ -107,7 +107,7 @@ current_begun s lane c w there runs = by_running (lane_in c.states lane).running
         let at = subst (λ (x : Option Running). AtTied s c.past lane x (lane_in c.states lane).site) is goes.runs in some_call (current s c.past lane) at.2)
 
 -- what it leaves is what its slots have, since the core has the replies of the journal
-leaves_site : (s : Setting) (lane : ℕ) (c : Contents) (call : Call) (now : LaneValue) → Works s c
+leaves_site : (s : Setting) (lane : ℕ) (c : LanesValue) (call : Call) (now : LaneValue) → Works s c
     → lane < length s.lanes → LeavesBehind c.core (lane_in c.states lane) now
     → LeavesSite c.past s call (lane_in c.states lane) now
 leaves_site s lane c call now w there behind r runs =
@@ -120,17 +120,17 @@ gives_idle core new v now (Polled x) = ap (λ (y : LaneValue). y.running) x.lane
 gives_idle core new v now (Kept x) = ap (λ (y : LaneValue). y.running) x.lane
 
 -- the lanes once a call was cancelled, before its grants are closed
-abbrev pub cancelled_in : Contents → ℕ → Core → LaneValue → Contents
+abbrev pub cancelled_in : LanesValue → ℕ → Core → LaneValue → LanesValue
 cancelled_in c lane new now = record c { core = new; past = cancelled_past c.past lane; states = slice_set c.states lane now; begun = begun_but c.begun lane }
 
 -- the grants of its lane that no slot has are to be closed
-pub record Cancelling (s : Setting) (lane : ℕ) (c : Contents) (new : Core) (now : LaneValue) : Type 0 where
+pub record Cancelling (s : Setting) (lane : ℕ) (c : LanesValue) (new : Core) (now : LaneValue) : Type 0 where
   pub call : Call
   pub is : current s c.past lane ≡ Some call
   pub cancelled : IsCancelled s c.past new (lane_in c.states) c.begun lane now
   pub closing : Closing s (cancelled_past c.past lane) lane (cancelled_in c lane new now)
 
-pub cancelling : (s : Setting) (lane : ℕ) (c : Contents) (new : Core) (now : LaneValue) → Works s c
+pub cancelling : (s : Setting) (lane : ℕ) (c : LanesValue) (new : Core) (now : LaneValue) → Works s c
     → lane < length s.lanes → c.begun lane ≡ true → is_some (lane_in c.states lane).running ≡ true
     → GivesUp c.core new (lane_in c.states lane) now → LeavesBehind c.core (lane_in c.states lane) now
     → Cancelling s lane c new now
@@ -174,7 +174,7 @@ both_true true false X Y ea eb x = absurd cc
 both_true false b X Y ea eb x = absurd cc
 
 -- and once they are closed, the call was cancelled
-pub cancels_call : (s : Setting) (lane : ℕ) (c last : Contents) (new : Core) (now : LaneValue) → c.begun lane ≡ true
+pub cancels_call : (s : Setting) (lane : ℕ) (c last : LanesValue) (new : Core) (now : LaneValue) → c.begun lane ≡ true
     → Cancelling s lane c new now → IsClosed s (cancelled_past c.past lane) (cancelled_in c lane new now) last
     → CancelsIn s lane c last true
 cancels_call s lane c last new now begun x closed =
@@ -187,7 +187,7 @@ cancels_call s lane c last new now begun x closed =
 
 -- ---- what a call of the code asks for
 
-pub there_of : (s : Setting) (c : Contents) (lane : ℕ) → Works s c → lane < length c.states → lane < length s.lanes
+pub there_of : (s : Setting) (c : LanesValue) (lane : ℕ) → Works s c → lane < length c.states → lane < length s.lanes
 there_of s c lane w lt = (let count = w.stands.count in omega (arith, lt, count))
 
 -- what is given up of the lane at hand
@@ -195,12 +195,12 @@ pub record MayCancel (core : Core) (v : LaneValue) : Type 0 where
   pub safe : IsSafeBy v.running v.site
   pub awaits : HasAwaited v
   pub deferred : HasDeferred v.site v.tickets
-  pub counted : AreTickets core v.tickets
+  pub counted : AreCounted core v.tickets
   pub rising : IsRising (ticket_places v.tickets)
   pub unfailed : core.fault ≡ None
   pub few : v.ended < 2 ^ 31
 
-pub may_cancel : (s : Setting) (lane : ℕ) (c : Contents) (v : LaneValue) → Works s c → lane < length c.states
+pub may_cancel : (s : Setting) (lane : ℕ) (c : LanesValue) (v : LaneValue) → Works s c → lane < length c.states
     → is_some (lane_in c.states lane).running ≡ true → v ≡ slice_index_or c.states lane v → MayCancel c.core v
 may_cancel s lane c v w lt runs value =
     (let there = there_of s c lane w lt in
@@ -228,7 +228,7 @@ may_cancel s lane c v w lt runs value =
     lane_at None n call e = absurd cc
     lane_at (Some l) n call e = (l, refl)
 
-    ends_few : (s : Setting) (c : Contents) (lane : ℕ) (call : Call) → Works s c → lane < length s.lanes
+    ends_few : (s : Setting) (c : LanesValue) (lane : ℕ) (call : Call) → Works s c → lane < length s.lanes
         → current s c.past lane ≡ Some call → (lane_in c.states lane).ended < 2 ^ 31
     ends_few s c lane call w there is =
         (let got : slice_get (calls_of (slice_get c.calls lane)) (ended c.past lane) ≡ Some call = sym (current_is s c lane w.stands) ∙ is in

@@ -18,7 +18,7 @@ use Rattle.session_laws.specs.Ends.{close_entry, let_go}
 use Rattle.session_laws.specs.Rest.{Between, opened_in, weigh}
 use Rattle.session_laws.proofs.CloseSteps.{due_closed, none_due_rests}
 use Rattle.session_work.specs.Closing.{Closing, IsClosed, closed_in}
-use Rattle.session_work.specs.Working.{Contents, Stands, lane_in, lanes_left}
+use Rattle.session_work.specs.Working.{LanesValue, Stands, lane_in, lanes_left}
 use Rattle.session_work.proofs.Contents.{lane_set, set_here}
 use Rattle.session_work.proofs.Remaining.{close_left}
 
@@ -35,7 +35,7 @@ fewer_grants (x ∷ xs) zero lt = omega arith
 fewer_grants (x ∷ xs) (suc k) lt = (let less = fewer_grants xs k (omega (arith, lt)) in omega (arith, less))
 
 -- what stands behind an entry that a lane's value changed with
-stands_on : (s : Setting) (c : Contents) (lane k : ℕ) (g : Held) → Stands s c → Stands s (closed_in c lane k g)
+stands_on : (s : Setting) (c : LanesValue) (lane k : ℕ) (g : Held) → Stands s c → Stands s (closed_in c lane k g)
 stands_on s c lane k g t =
     record {
       calls = t.calls;
@@ -47,20 +47,20 @@ stands_on s c lane k g t =
       lanes = t.lanes;
     }
 
-pub there_in : (s : Setting) (before : List Entry) (lane : ℕ) (c : Contents) → Closing s before lane c → lane < length c.states
+pub there_in : (s : Setting) (before : List Entry) (lane : ℕ) (c : LanesValue) → Closing s before lane c → lane < length c.states
 there_in s before lane c h = (let there = h.there in let count = h.stands.count in omega (arith, there, count))
 
 -- One grant is closed.
-pub record Goes (s : Setting) (before : List Entry) (lane : ℕ) (old new : Contents) : Type 0 where
+pub record Goes (s : Setting) (before : List Entry) (lane : ℕ) (old new : LanesValue) : Type 0 where
   pub closing : Closing s before lane new
   pub begun : new.begun ≡ old.begun
   pub left : lanes_left new.facts new.past new.calls 0 ≡ lanes_left old.facts old.past old.calls 0
   pub work : weigh new.core ≤ weigh old.core
 
-pub goes_self : (s : Setting) (before : List Entry) (lane : ℕ) (c : Contents) → Closing s before lane c → Goes s before lane c c
+pub goes_self : (s : Setting) (before : List Entry) (lane : ℕ) (c : LanesValue) → Closing s before lane c → Goes s before lane c c
 goes_self s before lane c h = record { closing = h; begun = refl; left = refl; work = omega arith }
 
-pub goes_next : (s : Setting) (before : List Entry) (lane k : ℕ) (c : Contents) (g : Held) → Closing s before lane c
+pub goes_next : (s : Setting) (before : List Entry) (lane k : ℕ) (c : LanesValue) (g : Held) → Closing s before lane c
     → slice_get (lane_in c.states lane).grants k ≡ Some g
     → loose_of (lane_in c.states lane).site (grant_places (lane_in c.states lane).grants)
     ≡ g.place ∷ loose_of (lane_in c.states lane).site (grant_places (without k (lane_in c.states lane).grants))
@@ -93,7 +93,7 @@ goes_next s before lane k c g h here first small =
       work = (let less = x.work in omega (arith, less));
     }
 
-pub goes_on : (s : Setting) (before : List Entry) (lane : ℕ) (a b c : Contents) → Goes s before lane a b → Goes s before lane b c → Goes s before lane a c
+pub goes_on : (s : Setting) (before : List Entry) (lane : ℕ) (a b c : LanesValue) → Goes s before lane a b → Goes s before lane b c → Goes s before lane a c
 goes_on s before lane a b c x y =
     record {
       closing = y.closing;
@@ -104,7 +104,7 @@ goes_on s before lane a b c x y =
     }
 
 -- none is left: the session is at rest
-pub closed_all : (s : Setting) (before : List Entry) (lane : ℕ) (old new : Contents) → Goes s before lane old new
+pub closed_all : (s : Setting) (before : List Entry) (lane : ℕ) (old new : LanesValue) → Goes s before lane old new
     → loose_of (lane_in new.states lane).site (grant_places (lane_in new.states lane).grants) ≡ []
     → IsClosed s before old new
 closed_all s before lane old new x none =
@@ -125,11 +125,11 @@ closed_all s before lane old new x none =
 -- ---- what a call of the code asks for
 
 -- the core counts one user of each grant of the lane
-pub grants_in : (s : Setting) (before : List Entry) (lane : ℕ) (c : Contents) → Closing s before lane c → AreGrants c.core (lane_in c.states lane).grants
+pub grants_in : (s : Setting) (before : List Entry) (lane : ℕ) (c : LanesValue) → Closing s before lane c → AreGrants c.core (lane_in c.states lane).grants
 grants_in s before lane c h k g got = grants_count s c.past c.core (lane_in c.states) _ lane k g h.between.tied h.there got
 
 -- there are no more requests than entries
-pub counted_in : (s : Setting) (c : Contents) (journal : List Entry) → Stands s c → c.past ≡ reverse journal → c.asked ≤ length journal
+pub counted_in : (s : Setting) (c : LanesValue) (journal : List Entry) → Stands s c → c.past ≡ reverse journal → c.asked ≤ length journal
 counted_in s c journal t is =
     (let few = few_asked c.past in
     let same : length c.past ≡ length journal = ap length is ∙ length-reverse journal in
@@ -137,7 +137,7 @@ counted_in s c journal t is =
     omega (arith, few, same, asked_is))
 
 -- the grants of the lane behind a CLOSE
-pub grants_left : (c : Contents) (lane k : ℕ) (g : Held) → lane < length c.states
+pub grants_left : (c : LanesValue) (lane k : ℕ) (g : Held) → lane < length c.states
     → k < length (lane_in c.states lane).grants → length (lane_in (closed_in c lane k g).states lane).grants + 1
     ≡ length (lane_in c.states lane).grants
 grants_left c lane k g lt within =

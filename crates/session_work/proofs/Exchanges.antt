@@ -51,31 +51,32 @@ use Rattle.session_model.specs.declared.event.Owner.TheVariants as owner
 use Rattle.session_model.specs.declared.event.Event.TheVariants.{Submit, Send, Take}
 use Rattle.session_model.specs.declared.entry.Entry.{Entry}
 use Rattle.session_model.specs.declared.entry.Entry.TheVariants as entry
-use Rattle.session_model.specs.Readings.{asked, frames_of, sent, unsent, unsent_bytes}
+use Rattle.sftp_model.specs.Frames.{frames_of}
+use Rattle.session_model.specs.Readings.{asked, sent, unsent, unsent_bytes}
 use Rattle.plan_model.specs.declared.call.Call.{Call}
 use Rattle.session_model.specs.Calls.{Setting, added, calls_of}
 use Rattle.session_driver.proofs.Journals.{later_on, later_self}
-use Rattle.session_laws.specs.Exchanges.{IsAwaited, Takes}
+use Rattle.session_laws.specs.Exchanges.{IsAwaited, TakesAndCloses}
 use Rattle.session_laws.specs.Rest.{weigh}
 use Rattle.session_laws.proofs.ExchangeLaws.{replies_keep, sends_keep, unwanted_closed}
-use Rattle.session_work.specs.Working.{Contents, HandsIn, TakesIn, Works, lane_in, lanes_left}
+use Rattle.session_work.specs.Working.{LanesValue, HandsIn, TakesIn, Works, lane_in, lanes_left}
 use Rattle.session_work.proofs.Counting.{unsent_count}
 use Rattle.session_work.proofs.Entries.{pushed}
 use Rattle.session_work.proofs.LeftLaws.{closes_later, closes_left, lanes_same}
 
 -- ---- what is handed out
 
-pub hands_nothing : (s : Setting) (c : Contents) → Works s c → length c.core.queue ≡ 0 → HandsIn s c c None
+pub hands_nothing : (s : Setting) (c : LanesValue) → Works s c → length c.core.queue ≡ 0 → HandsIn s c c None
 hands_nothing s c w empty =
     let none : length (unsent c.past) ≡ 0 = ap length (sym w.rest.between.tied.work.queue) ∙ empty in
     let all = unsent_count c.past in
     record { hands = ((let same : sent c.past ≡ asked c.past = omega (arith, none, all) in grind (arith, nat_tests)), refl); work = refl; working = w }
 
 -- what stands in the journal behind a Send
-abbrev pub sent_in : Contents → Core → List Entry → Contents
+abbrev pub sent_in : LanesValue → Core → List Entry → LanesValue
 sent_in c new now = record c { core = new; past = now }
 
-hands_unsent : (s : Setting) (c : Contents) → Works s c → length c.core.queue ≢ 0
+hands_unsent : (s : Setting) (c : LanesValue) → Works s c → length c.core.queue ≢ 0
     → HandsIn s c (sent_in c (handed_out c.core) (entry.Event Send ∷ c.past)) (Some (unsent_bytes c.past))
 hands_unsent s c w some =
     let left : length (unsent c.past) ≢ 0 = λ none. some (ap length w.rest.between.tied.work.queue ∙ none) in
@@ -105,13 +106,13 @@ hands_unsent s c w some =
     less zero a b some sum = absurd (some refl)
     less (suc n) a b some sum = omega (arith, sum)
 
-pub hands_all : (s : Setting) (c : Contents) (new : Core) (now : List Entry) (bytes : List ℕ) → Works s c
+pub hands_all : (s : Setting) (c : LanesValue) (new : Core) (now : List Entry) (bytes : List ℕ) → Works s c
     → length c.core.queue ≢ 0 → new ≡ handed_out c.core → now ≡ entry.Event Send ∷ c.past → bytes
     ≡ frames_of c.core.queue
     → HandsIn s c (sent_in c new now) (Some bytes)
 hands_all s c new now bytes w some new_is now_is bytes_is =
     subst (λ (b : List ℕ). HandsIn s c (sent_in c new now) (Some b)) (sym (bytes_is ∙ ap frames_of w.rest.between.tied.work.queue))
-    (subst (λ (x : Contents). HandsIn s c x (Some (unsent_bytes c.past))) (λ i. sent_in c (sym new_is i) (sym now_is i)) (hands_unsent s c w some))
+    (subst (λ (x : LanesValue). HandsIn s c x (Some (unsent_bytes c.past))) (λ i. sent_in c (sym new_is i) (sym now_is i)) (hands_unsent s c w some))
 
 -- ---- what an open core answers
 
@@ -144,7 +145,7 @@ is_answer : (read : Result Read FrameError) (told : Taken) (old new : Core) (inf
 is_answer read told old new info open_now t right =
     answering read told old new info open_now t.reading.0 t.reading.1 t.reads t.tells t.leaves (ap (take_refusal old) (sym t.reads) ∙ right)
 
-answer_is : (read : Result Read FrameError) (id : ℕ) (r : Reply) (s : Setting) (c : Contents) (new : Core) → Works s c
+answer_is : (read : Result Read FrameError) (id : ℕ) (r : Reply) (s : Setting) (c : LanesValue) (new : Core) → Works s c
     → TakenFrom read (taken_of.Answer id r) c.core new → take_refusal c.core read ≡ None
     → Answering read id r c.core new
 answer_is read id r s c new w t right = is_answer read (taken_of.Answer id r) c.core new w.rest.between.tied.work.info w.rest.between.tied.work.phase t right
@@ -179,12 +180,12 @@ less_work : (before after now old : ℕ) → after ≡ before → now < old → 
 less_work before after now old same lt = omega (arith, same, lt)
 
 -- what stands in the journal behind a reply, with so many requests
-abbrev taken_to : Contents → ℕ → Reply → List Entry → ℕ → Contents
+abbrev taken_to : LanesValue → ℕ → Reply → List Entry → ℕ → LanesValue
 taken_to c id r now n = record c { core = take_leaves c.core id r (at c.core id); past = now; asked = n }
 
 -- the CLOSEs that are due behind a reply are of no lane's call
-take_by : (s : Setting) (c : Contents) (id : ℕ) (r : Reply) (now : List Entry) (n : ℕ) → Works s c
-    → Takes s c.past c.core (lane_in c.states) c.begun id r now → n ≡ asked now
+take_by : (s : Setting) (c : LanesValue) (id : ℕ) (r : Reply) (now : List Entry) (n : ℕ) → Works s c
+    → TakesAndCloses s c.past c.core (lane_in c.states) c.begun id r now → n ≡ asked now
     → ((lane : ℕ) → added now lane ≡ added c.past lane)
     → TakesIn s (Ok (Some id, r)) c (taken_to c id r now n)
 take_by s c id r now n w x counts same_added =
@@ -212,7 +213,7 @@ take_by s c id r now n w x counts same_added =
           (weigh (take_leaves c.core id r (at c.core id))) (weigh c.core) left x.work;
     }
 
-take_kept : (s : Setting) (c : Contents) (id : ℕ) (r : Reply) → Works s c → (x : IsAwaited c.core id r)
+take_kept : (s : Setting) (c : LanesValue) (id : ℕ) (r : Reply) → Works s c → (x : IsAwaited c.core id r)
     → (x.wanted ≡ true) ⊎ (brings r ≡ None) → TakesIn s (Ok (Some id, r)) c
     (taken_to c id r (entry.Event (Take id r) ∷ c.past) c.asked)
 take_kept s c id r w x how =
@@ -223,7 +224,7 @@ take_kept s c id r w x how =
 abbrev closed_to : List Entry → ℕ → Reply → List ℕ → List Entry
 closed_to past id r handle = entry.Event (Submit owner.Close id (request.Close handle)) ∷ entry.Event (Take id r) ∷ past
 
-take_dropped : (s : Setting) (c : Contents) (id : ℕ) (h : List ℕ) → Works s c → (x : IsAwaited c.core id (reply.Handle h)) → x.wanted ≡ false
+take_dropped : (s : Setting) (c : LanesValue) (id : ℕ) (h : List ℕ) → Works s c → (x : IsAwaited c.core id (reply.Handle h)) → x.wanted ≡ false
     → TakesIn s (Ok (Some id, reply.Handle h)) c (taken_to c id (reply.Handle h) (closed_to c.past id (reply.Handle h) h) (c.asked + 1))
 take_dropped s c id h w x unwanted =
     take_by s c id (reply.Handle h) (closed_to c.past id (reply.Handle h) h) (c.asked + 1) w
@@ -243,7 +244,7 @@ counted_by true n = n + 1
 counted_by false n = n
 
 -- what the journal notes of a reply: the reply, and the CLOSE that was queued
-take_noted : (s : Setting) (c : Contents) (id : ℕ) (r : Reply) (before : ℕ) (old mid now : List Entry) (closed : Bool)
+take_noted : (s : Setting) (c : LanesValue) (id : ℕ) (r : Reply) (before : ℕ) (old mid now : List Entry) (closed : Bool)
     → Works s c → IsAwaited c.core id r → length c.core.queue ≡ before → c.past ≡ reverse old → mid ≡ old
     ++ entry.Event (Take id r) ∷ []
     → (length (take_leaves c.core id r (at c.core id)).queue ≡ before → (closed ≡ false) × (now ≡ mid))
@@ -307,7 +308,7 @@ take_noted s c id r before old mid now closed w x count past_is mid_is none clos
     by_wanted false is = by_brought is (brings r) refl
 
 -- a body that an open core took
-pub take_told : (s : Setting) (c : Contents) (read : Result Read FrameError) (id : ℕ) (r : Reply) (new : Core)
+pub take_told : (s : Setting) (c : LanesValue) (read : Result Read FrameError) (id : ℕ) (r : Reply) (new : Core)
     (before : ℕ) (old mid now : List Entry) (closed : Bool) → Works s c
     → TakenFrom read (taken_of.Answer id r) c.core new
     → take_refusal c.core read ≡ None → length c.core.queue ≡ before → c.past ≡ reverse old → mid ≡ old

@@ -18,7 +18,7 @@ use Rattle.session_model.specs.Readings.{ended, own}
 use Rattle.session_laws.specs.Lanes.{AtTied, LaneValue}
 use Rattle.session_laws.specs.Budgets.{CallSpends, budget, budget_of, budgets, in_hand, kept, total}
 use Rattle.session_laws.proofs.BudgetLaws.{hand_within}
-use Rattle.session_work.specs.Working.{Contents, Works, lane_in}
+use Rattle.session_work.specs.Working.{LanesValue, Works, lane_in}
 use Rattle.session_work.proofs.CallsLaws.{weighs_few}
 use Rattle.session_work.proofs.Remaining.{drop_at}
 
@@ -86,7 +86,7 @@ total_within s past lanes xs (suc n) are fit runs le =
     omega (arith, before, here, one, weighs))
 
 -- the ids of a session are few
-pub few_ids : (s : Setting) (c : Contents) → Works s c → kept c.core < MAX_IDS
+pub few_ids : (s : Setting) (c : LanesValue) → Works s c → kept c.core < MAX_IDS
 few_ids s c w =
     (let b = w.rest.between in
     let few = b.spends.few in

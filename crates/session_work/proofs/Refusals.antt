@@ -16,15 +16,15 @@ use Rattle.sftp_core.specs.declared.phase.Phase.{Phase}
 use Rattle.sftp_core.specs.declared.place.Place.{Place}
 use Rattle.sftp_core.specs.declared.place.Place.TheVariants.{Waiting}
 use Rattle.session_model.specs.declared.entry.Entry.{Entry}
-use Rattle.session_model.specs.Readings.{Asked, asked_at, awaiting, sent}
+use Rattle.session_model.specs.Readings.{AskedRequest, asked_at, awaiting, sent}
 use Rattle.session_model.specs.Calls.{Setting}
-use Rattle.session_model.specs.Ids.{IdState, Free, Pending, Replied, Reads, id_state}
+use Rattle.session_model.specs.Ids.{IdState, Free, Pending, Replied, ReadsId, id_state}
 use Rattle.session_model.specs.Journals.{IsJournal, opened}
 use Rattle.session_model.proofs.IdLaws.{IsFreeState, reads, free_state, pending_state}
 use Rattle.session_driver.specs.Refusals.{awaited_at, refuses, refuses_limits, refuses_reply, sent_at}
 use Rattle.session_laws.specs.Tables.{Tabled, replied, stand}
 use Rattle.session_laws.proofs.CameLaws.{came_by, is_limits, no_limits}
-use Rattle.session_work.specs.Working.{Contents, Works}
+use Rattle.session_work.specs.Working.{LanesValue, Works}
 
 limits_named : (e : Expected) (r : Reply) → is_limits e ≡ false → refuses_limits e r ≡ None
 limits_named expected.Limits r h = absurd cc
@@ -52,7 +52,7 @@ none_awaited : (past : List Entry) (id : ℕ) (r : Reply) → awaiting past id �
 none_awaited past id r none = ap (λ (p : Option ℕ). refuses_reply id r (sent_at past p)) none
 
 -- the request that bears the id was sent, or wasn't
-pending_wrong : (past : List Entry) (id p : ℕ) (a : Asked) (was_sent live : Bool) (r : Reply) → awaiting past id
+pending_wrong : (past : List Entry) (id p : ℕ) (a : AskedRequest) (was_sent live : Bool) (r : Reply) → awaiting past id
     ≡ Some p → was_sent ≡ nat_lt p (sent past) → asked_at past p ≡ Some a → is_limits (expected_of a.request) ≡ false
     → wrong_at id r (Some (Waiting (expected_of a.request) was_sent live)) ≡ refuses_reply id r (awaited_at past id)
 pending_wrong past id p a was_sent live r awaits sent_is there plain =
@@ -83,12 +83,12 @@ wrong_is s past w g table id r run ready t = ap (wrong_at id r) (t id) ∙ by_st
     by_state (Replied p a y) is =
         wrong_again (w p) (g p) (expected_of a.request) y id r ∙ sym (none_awaited past id r (free_state past id (subst IsFreeState (sym is) tt)))
     by_state (Pending p a b) is =
-        let read = subst (Reads past id) is (reads past id) in
+        let read = subst (ReadsId past id) is (reads past id) in
         pending_wrong past id p a b (w p) r (pending_state past id p a b is) read.2 read.3
         (no_limits s past p a ready read.1 a.by (came_by s past p a run read.3))
 
 -- an open core refuses what the journal refuses
-refusal_is : (s : Setting) (c : Contents) → Works s c → (read : Result Read FrameError) → take_refusal c.core read ≡ refuses c.past read
+refusal_is : (s : Setting) (c : LanesValue) → Works s c → (read : Result Read FrameError) → take_refusal c.core read ≡ refuses c.past read
 refusal_is s c w (Err e) = refl
 refusal_is s c w (Ok (None, r)) = ap (λ (x : Phase). wrong_in c.core x None r) w.rest.between.tied.work.phase
 refusal_is s c w (Ok (Some id, r)) =
@@ -100,6 +100,6 @@ first_by e None refusal old new h = tt
 first_by e (Some fault) refusal old new h = h.0
 
 -- an error of an open core is the first thing that is wrong by the journal, or want of memory
-pub first_is : (s : Setting) (c : Contents) (read : Result Read FrameError) (e : TakeError) (new : Core) → Works s c
+pub first_is : (s : Setting) (c : LanesValue) (read : Result Read FrameError) (e : TakeError) (new : Core) → Works s c
     → IsTakeError e (take_refusal c.core read) c.core new → IsFirst e (refuses c.past read)
 first_is s c read e new w h = subst (IsFirst e) (refusal_is s c w read) (first_by e (fault_of e) (take_refusal c.core read) c.core new h)

@@ -22,7 +22,7 @@ use Rattle.session_lane.specs.Premises.{MayTurn}
 use Rattle.session_lane.specs.Rests.{AwaitsReplies, IsSmall}
 use Rattle.session_lane.specs.Holding.{MayGoOn}
 use Rattle.session_lane.specs.Tokens.{grants_with}
-use Rattle.session_lane.specs.Turning.{AllInRange, Asks, IsOpen, IsSafe, Settles, Turned, Begun, Replied, Unreplied, Waiting, Widening}
+use Rattle.session_lane.specs.Turning.{AllInRange, AsksOrCloses, IsOpen, IsSafe, Settles, Turned, Begun, Replied, Unreplied, Waiting, Widening}
 use Rattle.session_lane.specs.declared.lane.Moved.{Moved}
 use Rattle.session_lane.specs.declared.lane.Moved.TheVariants as moved
 use Rattle.session_lane.proofs.Awaiting.{lanes_await}
@@ -32,7 +32,7 @@ use Rattle.session_lane.proofs.Turned.{lanes_may}
 use Rattle.session_lane.proofs.WentLaws.{went_few}
 use Rattle.session_laws.specs.Rest.{awaited_in}
 use Rattle.session_work.specs.Noting.{Turning, call_in, is_went, turned_in, turns_left}
-use Rattle.session_work.specs.Working.{Contents, Works, lane_in}
+use Rattle.session_work.specs.Working.{LanesValue, Works, lane_in}
 use Rattle.session_work.proofs.CallsLaws.{call_within}
 use Rattle.session_work.proofs.ClosingLaws.{fewer_grants}
 use Rattle.session_work.proofs.Contents.{state_at}
@@ -55,7 +55,7 @@ without_short : (gs : List Held) (k : ℕ) (g : Held) → slice_get gs k ≡ Som
 without_short gs k g here = (let less = fewer_grants gs k (slice_get_within gs k g here) in omega (arith, less))
 
 asked_short : (core new : Core) (tickets now : List Ticketed) (gs held : List Held) (place : ℕ) (a : Asked) (id : ℕ)
-    (r : _) → Asks core new tickets now gs held place a id r → length held ≤ length gs
+    (r : _) → AsksOrCloses core new tickets now gs held place a id r → length held ≤ length gs
 asked_short core new tickets now gs held place (ask.Close g) id r x =
     subst (λ (hs : List Held). length hs ≤ length gs) (sym x.kept)
     (without_short gs x.k (record { place = g; grant = x.grant }) x.here)
@@ -99,13 +99,13 @@ turned_grants c facts place core new v now m (Waiting x) = (let same : length no
 -- ---- the lane before it
 
 -- what a turn asks for
-pub record TurnsByPlan (s : Setting) (c : Contents) (lane : ℕ) (call : Call) : Type 0 where
+pub record TurnsByPlan (s : Setting) (c : LanesValue) (lane : ℕ) (call : Call) : Type 0 where
   pub call_within : is_within call ≡ true
   pub goes : MayGoOn call s.facts c.core (lane_in c.states lane)
   pub replies : AwaitsReplies c.core (lane_in c.states lane)
   pub range : AllInRange call s.facts c.core (lane_in c.states lane).tickets (lane_in c.states lane).running (lane_in c.states lane).site
 
-pub may_turn : (s : Setting) (c : Contents) (lane : ℕ) (call : Call) → Works s c → AtCall c lane call → TurnsByPlan s c lane call
+pub may_turn : (s : Setting) (c : LanesValue) (lane : ℕ) (call : Call) → Works s c → AtCall c lane call → TurnsByPlan s c lane call
 may_turn s c lane call w a =
     (let there = there_at s c lane call w a in
     let is = current_at s c lane call w a in
@@ -118,7 +118,7 @@ may_turn s c lane call w a =
 
 -- ---- the turn that is to be noted
 
-pub turning : (s : Setting) (c : Contents) (lane : ℕ) (call : Call) (new : Core) (now : LaneValue) (m : Moved)
+pub turning : (s : Setting) (c : LanesValue) (lane : ℕ) (call : Call) (new : Core) (now : LaneValue) (m : Moved)
     → Works s c → call_in c.calls c.states lane ≡ Some call → Turned call c.facts c.asked c.core new
     (lane_in c.states lane) now m → IsSmall m
     → Turning s lane c (turned_in c lane new now) m
@@ -146,7 +146,7 @@ turning s c lane call new now m w calls t small =
 -- ---- what a call of the code asks for
 
 -- the lane at hand may have its turn
-pub may_have : (s : Setting) (c : Contents) (lane : ℕ) (call : Call) (v : LaneValue) → Works s c
+pub may_have : (s : Setting) (c : LanesValue) (lane : ℕ) (call : Call) (v : LaneValue) → Works s c
     → call_in c.calls c.states lane ≡ Some call → v ≡ slice_index_or c.states lane v → MayTurn call c.facts c.core v
 may_have s c lane call v w some value =
     (let a = at_call c lane call some in
@@ -175,14 +175,14 @@ turned_ok c facts place core new v now u (Ok m) is t = subst (λ (y : LaneValue)
 turned_ok c facts place core new v now u (Err e) is t = tt
 
 -- unless it was refused it is to be noted
-pub turning_ok : {E : Type 0} (s : Setting) (c : Contents) (lane : ℕ) (call : Call) (new : Core) (now : LaneValue)
+pub turning_ok : {E : Type 0} (s : Setting) (c : LanesValue) (lane : ℕ) (call : Call) (new : Core) (now : LaneValue)
     (r : Result Moved E) → Works s c → call_in c.calls c.states lane ≡ Some call
     → IfOk r (λ m. Turned call c.facts c.asked c.core new (lane_in c.states lane) now m) → IfOk r IsSmall → IfOk r (Turning s lane c (turned_in c lane new now))
 turning_ok s c lane call new now (Ok m) w calls t small = turning s c lane call new now m w calls t small
 turning_ok s c lane call new now (Err e) w calls t small = tt
 
 -- the core has no fault, also where it was refused
-pub turned_unfailed : {E : Type 0} (s : Setting) (c now : Contents) (lane : ℕ) (r : Result Moved E)
+pub turned_unfailed : {E : Type 0} (s : Setting) (c now : LanesValue) (lane : ℕ) (r : Result Moved E)
     → IfOk r (Turning s lane c now) → OnErr r (IsOpen now.core) → now.core.fault ≡ None
 turned_unfailed s c now lane (Ok m) t left = turning_unfailed s lane c now m t
 turned_unfailed s c now lane (Err e) t left = left.unfailed

@@ -13,26 +13,26 @@ use Rattle.session_driver.specs.declared.session.Stepped.{Stepped}
 use Rattle.session_laws.specs.Changes.{spent_lane}
 use Rattle.session_laws.specs.Lanes.{LaneValue, Ticketed}
 use Rattle.session_laws.proofs.LaneLaws.{tickets_count}
-use Rattle.session_lane.specs.Tokens.{AreTickets}
+use Rattle.session_lane.specs.Tokens.{AreCounted}
 use Rattle.session_laws.specs.Rest.{AtRest, begun_of, weigh}
 use Rattle.session_laws.proofs.ForgetLaws.{unawaited_forgotten}
 use Rattle.session_work.specs.Closing.{IsClosed}
 use Rattle.session_work.specs.Letting.{IsLetGo}
-use Rattle.session_work.specs.Noting.{amid, turned_in}
-use Rattle.session_work.specs.Working.{Contents, StepsIn, Unnoted, Works, lane_in, lanes_left, work_in}
+use Rattle.session_work.specs.Noting.{with_begun, turned_in}
+use Rattle.session_work.specs.Working.{LanesValue, StepsIn, Unnoted, Works, lane_in, lanes_left, work_in}
 use Rattle.session_work.proofs.BegunLaws.{begun_same}
 use Rattle.session_work.proofs.CancellingLaws.{there_of}
 use Rattle.session_work.proofs.ClosingLaws.{fewer_grants}
 use Rattle.session_work.proofs.Contents.{lane_set, set_here, state_at}
 
-pub unnoted_self : (s : Setting) (c : Contents) → Works s c → Unnoted s c c
+pub unnoted_self : (s : Setting) (c : LanesValue) → Works s c → Unnoted s c c
 unnoted_self s c w = record { works = w; same = refl; work = omega arith }
 
-pub unnoted_on : (s : Setting) (a b c : Contents) → Unnoted s a b → Unnoted s b c → Unnoted s a c
+pub unnoted_on : (s : Setting) (a b c : LanesValue) → Unnoted s a b → Unnoted s b c → Unnoted s a c
 unnoted_on s a b c x y =
     record {
       works = y.works;
-      same = y.same ∙ ap (λ (z : Contents). record z { core = c.core; states = c.states }) x.same;
+      same = y.same ∙ ap (λ (z : LanesValue). record z { core = c.core; states = c.states }) x.same;
       work = (let first = x.work in let second = y.work in omega (arith, first, second));
     }
 
@@ -46,10 +46,10 @@ less_on true old mid new le less = omega (arith, le, less)
 less_on false old mid new le less = omega (arith, le, less)
 
 -- a step from behind it is a step from before it
-pub steps_from : (s : Setting) (lane : ℕ) (old mid new : Contents) (event : Stepped) → Unnoted s old mid
+pub steps_from : (s : Setting) (lane : ℕ) (old mid new : LanesValue) (event : Stepped) → Unnoted s old mid
     → StepsIn s lane mid new event → StepsIn s lane old new event
 steps_from s lane old mid new event u h =
-    let x : StepsIn s lane (record old { core = mid.core; states = mid.states }) new event = subst (λ (y : Contents). StepsIn s lane y new event) u.same h in
+    let x : StepsIn s lane (record old { core = mid.core; states = mid.states }) new event = subst (λ (y : LanesValue). StepsIn s lane y new event) u.same h in
     record {
       steps = x.steps;
       later = x.later;
@@ -60,24 +60,24 @@ steps_from s lane old mid new event u h =
       waits = x.waits;
     }
 
-pub closed_on : (s : Setting) (before : List Entry) (old mid new : Contents) → IsClosed s before old mid → Unnoted s mid new → IsClosed s before old new
+pub closed_on : (s : Setting) (before : List Entry) (old mid new : LanesValue) → IsClosed s before old mid → Unnoted s mid new → IsClosed s before old new
 closed_on s before old mid new x u =
     record {
       works = u.works;
-      closes = subst (λ (y : Contents). ClosesTo s before y.past) (sym u.same) x.closes;
-      later = subst (λ (y : Contents). IsLater s before y.past) (sym u.same) x.later;
-      begun = ap (λ (y : Contents). y.begun) u.same ∙ x.begun;
-      left = ap (λ (y : Contents). lanes_left y.facts y.past y.calls 0) u.same ∙ x.left;
+      closes = subst (λ (y : LanesValue). ClosesTo s before y.past) (sym u.same) x.closes;
+      later = subst (λ (y : LanesValue). IsLater s before y.past) (sym u.same) x.later;
+      begun = ap (λ (y : LanesValue). y.begun) u.same ∙ x.begun;
+      left = ap (λ (y : LanesValue). lanes_left y.facts y.past y.calls 0) u.same ∙ x.left;
       work = (let first = x.work in let second = u.work in omega (arith, first, second));
     }
 
-pub let_go_on : (s : Setting) (before : List Entry) (old mid new : Contents) → IsLetGo s before old mid → Unnoted s mid new → IsLetGo s before old new
+pub let_go_on : (s : Setting) (before : List Entry) (old mid new : LanesValue) → IsLetGo s before old mid → Unnoted s mid new → IsLetGo s before old new
 let_go_on s before old mid new x u =
     record {
       works = u.works;
-      closes = subst (λ (y : Contents). ClosesTo s before y.past) (sym u.same) x.closes;
-      later = subst (λ (y : Contents). IsLater s before y.past) (sym u.same) x.later;
-      begun = ap (λ (y : Contents). y.begun) u.same ∙ x.begun;
+      closes = subst (λ (y : LanesValue). ClosesTo s before y.past) (sym u.same) x.closes;
+      later = subst (λ (y : LanesValue). IsLater s before y.past) (sym u.same) x.later;
+      begun = ap (λ (y : LanesValue). y.begun) u.same ∙ x.begun;
     }
 
 -- ---- tickets
@@ -86,7 +86,7 @@ let_go_on s before old mid new x u =
 abbrev pub forgot : LaneValue → ℕ → LaneValue
 forgot v k = spent_lane v k None v.site
 
-ticket_forgotten : (s : Setting) (lane k : ℕ) (c : Contents) (t : Ticketed) → Works s c → lane < length c.states
+ticket_forgotten : (s : Setting) (lane k : ℕ) (c : LanesValue) (t : Ticketed) → Works s c → lane < length c.states
     → (lane_in c.states lane).running ≡ None → slice_get (lane_in c.states lane).tickets k ≡ Some t
     → slots_times t.place (lane_in c.states lane).site.slots ≡ 0 → Unnoted s c (turned_in c lane (abandoned c.core t.ticket) (forgot (lane_in c.states lane) k))
 ticket_forgotten s lane k c t w lt idle here none =
@@ -138,7 +138,7 @@ forgot_is : (core new : Core) (v now : LaneValue) (k : ℕ) → HasForgotten cor
 forgot_is core new v now k x idle = x.lane ∙ ap (λ (r : _). spent_lane v k r v.site) idle
 
 -- it leaves no entry,
-forgets_turned : (s : Setting) (lane k : ℕ) (c : Contents) (new : Core) (now : LaneValue) → Works s c
+forgets_turned : (s : Setting) (lane k : ℕ) (c : LanesValue) (new : Core) (now : LaneValue) → Works s c
     → lane < length c.states → (lane_in c.states lane).running ≡ None
     → HasForgotten c.core new (lane_in c.states lane) now k → Unnoted s c (turned_in c lane new now)
 forgets_turned s lane k c new now w lt idle x =
@@ -146,31 +146,31 @@ forgets_turned s lane k c new now w lt idle x =
     let none : Ticketed = record { place = 0; ticket = 0 } in
     let t : Ticketed = slice_index_or v.tickets k none in
     let here : slice_get v.tickets k ≡ Some t = slice_get-get_or v.tickets k none x.within in
-    subst (λ (y : Contents). Unnoted s c y) (λ i. turned_in c lane (sym (x.left t here) i)
+    subst (λ (y : LanesValue). Unnoted s c y) (λ i. turned_in c lane (sym (x.left t here) i)
     (sym (forgot_is c.core new v now k x idle) i)) (ticket_forgotten s lane k c t w lt idle here
     (x.unawaited t here))
 
 -- and the lanes that run a call are those that ran one,
-pub forgets_unnoted : (s : Setting) (lane k : ℕ) (c : Contents) (new : Core) (now : LaneValue) → Works s c
+pub forgets_unnoted : (s : Setting) (lane k : ℕ) (c : LanesValue) (new : Core) (now : LaneValue) → Works s c
     → lane < length c.states → (lane_in c.states lane).running ≡ None
     → HasForgotten c.core new (lane_in c.states lane) now k → c.begun ≡ begun_of (lane_in c.states)
-    → Unnoted s c (amid (begun_of (lane_in (slice_set c.states lane now))) (turned_in c lane new now))
+    → Unnoted s c (with_begun (begun_of (lane_in (slice_set c.states lane now))) (turned_in c lane new now))
 forgets_unnoted s lane k c new now w lt idle x are =
     let none : is_some now.running ≡ is_some (lane_in c.states lane).running =
     ap (λ (y : LaneValue). is_some y.running) (forgot_is c.core new (lane_in c.states lane) now k x idle)
     ∙ sym (ap is_some idle) in
-    subst (λ (b : ℕ → Bool). Unnoted s c (amid b (turned_in c lane new now)))
+    subst (λ (b : ℕ → Bool). Unnoted s c (with_begun b (turned_in c lane new now)))
     (are ∙ sym (begun_same c.states lane now lt none)) (forgets_turned s lane k c new now w lt idle x)
 
 -- the lane runs no call then,
-pub forgets_idle : (lane k : ℕ) (c : Contents) (new : Core) (now : LaneValue) → lane < length c.states
+pub forgets_idle : (lane k : ℕ) (c : LanesValue) (new : Core) (now : LaneValue) → lane < length c.states
     → (lane_in c.states lane).running ≡ None → HasForgotten c.core new (lane_in c.states lane) now k
     → (lane_in (slice_set c.states lane now) lane).running ≡ None
 forgets_idle lane k c new now lt idle x = ap (λ (y : LaneValue). y.running)
     (set_here c.states lane now lt ∙ forgot_is c.core new (lane_in c.states lane) now k x idle)
 
 -- and has a ticket less
-pub forgets_less : (lane k : ℕ) (c : Contents) (new : Core) (now : LaneValue) → lane < length c.states
+pub forgets_less : (lane k : ℕ) (c : LanesValue) (new : Core) (now : LaneValue) → lane < length c.states
     → HasForgotten c.core new (lane_in c.states lane) now k → length
     (lane_in (slice_set c.states lane now) lane).tickets < length (lane_in c.states lane).tickets
 forgets_less lane k c new now lt x =
@@ -179,5 +179,5 @@ forgets_less lane k c new now lt x =
     omega (arith, less, same))
 
 -- the core counts each ticket of the lane
-pub tickets_in : (s : Setting) (lane : ℕ) (c : Contents) → Works s c → lane < length c.states → AreTickets c.core (lane_in c.states lane).tickets
+pub tickets_in : (s : Setting) (lane : ℕ) (c : LanesValue) → Works s c → lane < length c.states → AreCounted c.core (lane_in c.states lane).tickets
 tickets_in s lane c w lt k t got = tickets_count s c.past c.core (lane_in c.states) [] lane k t w.rest.between.tied (there_of s c lane w lt) got

@@ -12,10 +12,10 @@ use Rattle.session_laws.specs.Ends.{close_entry, let_go}
 use Rattle.session_laws.specs.Rest.{Between, weigh}
 use Rattle.session_lane.specs.Tokens.{AreGrants}
 use Rattle.session_work.specs.declared.lanes.Lanes.{Lanes}
-use Rattle.session_work.specs.Working.{Contents, Stands, Works, contents_of, lane_in, lanes_left}
+use Rattle.session_work.specs.Working.{LanesValue, Stands, Works, contents_of, lane_in, lanes_left}
 
 -- the grant at an index of a lane's was closed
-abbrev pub closed_in : Contents → ℕ → ℕ → Held → Contents
+abbrev pub closed_in : LanesValue → ℕ → ℕ → Held → LanesValue
 closed_in c lane k g =
     record {
       calls = c.calls;
@@ -35,13 +35,13 @@ pub record CanClose (lane k : ℕ) (w : Lanes) : Type 0 where
   pub counted : w.asked ≤ vec_len w.journal
   pub room : vec_len w.journal < vec_capacity w.journal
 
-pub record HasClosed (old new : Contents) (lane k : ℕ) (g : Held) : Type 0 where
+pub record HasClosed (old new : LanesValue) (lane k : ℕ) (g : Held) : Type 0 where
   pub is : new ≡ closed_in old lane k g
   pub small : g.grant.id < 2 ^ 32
 
 -- A lane runs no call, and those of its grants are due that no slot has; the journal went on from `before` by CLOSEs of
 -- grants that were due.
-pub record Closing (s : Setting) (before : List Entry) (lane : ℕ) (c : Contents) : Type 0 where
+pub record Closing (s : Setting) (before : List Entry) (lane : ℕ) (c : LanesValue) : Type 0 where
   pub stands : Stands s c
   pub there : lane < length s.lanes
   pub plain : letting_go s c.past ≡ None
@@ -55,7 +55,7 @@ abbrev pub IsClosing : ℕ → Lanes → Type 0
 IsClosing lane w = (s : Setting) × ((before : List Entry) × Closing s before lane (contents_of w))
 
 -- they are closed: the session is at rest, and there is no more to do than before
-pub record IsClosed (s : Setting) (before : List Entry) (old new : Contents) : Type 0 where
+pub record IsClosed (s : Setting) (before : List Entry) (old new : LanesValue) : Type 0 where
   pub works : Works s new
   pub closes : ClosesTo s before new.past
   pub later : IsLater s before new.past
@@ -63,5 +63,5 @@ pub record IsClosed (s : Setting) (before : List Entry) (old new : Contents) : T
   pub left : lanes_left new.facts new.past new.calls 0 ≡ lanes_left old.facts old.past old.calls 0
   pub work : weigh new.core ≤ weigh old.core
 
-abbrev pub Closed : Setting → List Entry → ℕ → Contents → Contents → Type 0
+abbrev pub Closed : Setting → List Entry → ℕ → LanesValue → LanesValue → Type 0
 Closed s before lane old new = Closing s before lane old → IsClosed s before old new

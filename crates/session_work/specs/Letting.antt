@@ -9,11 +9,11 @@ use Rattle.session_model.specs.Turns.{ClosesTo}
 use Rattle.session_driver.specs.Session.{IsLater}
 use Rattle.session_laws.specs.Ends.{LettingGo}
 use Rattle.session_work.specs.declared.lanes.Lanes.{Lanes}
-use Rattle.session_work.specs.Working.{Contents, IsWorking, Stands, Works, contents_of, lane_in, past_of}
+use Rattle.session_work.specs.Working.{LanesValue, IsWorking, Stands, Works, contents_of, lane_in, past_of}
 
 -- A lane is being let go, and of the slots that it had these are left; the journal went on from `before` by CLOSEs of
 -- grants that were to be closed.
-pub record Letting (s : Setting) (before : List Entry) (lane : ℕ) (c : Contents) (rest : List Slot) : Type 0 where
+pub record Letting (s : Setting) (before : List Entry) (lane : ℕ) (c : LanesValue) (rest : List Slot) : Type 0 where
   pub stands : Stands s c
   pub there : lane < length s.lanes
   pub idle : (lane_in c.states lane).running ≡ None
@@ -25,7 +25,7 @@ abbrev pub IsLetting : ℕ → Lanes → List Slot → Type 0
 IsLetting lane w rest = (s : Setting) × ((before : List Entry) × Letting s before lane (contents_of w) rest)
 
 -- a lane is noted as let go, and nothing else has changed
-abbrev pub gone_in : Contents → ℕ → Contents
+abbrev pub gone_in : LanesValue → ℕ → LanesValue
 gone_in c lane = record c { past = entry.LetGo lane ∷ c.past }
 
 -- the lane has no call left, and was not let go
@@ -34,11 +34,11 @@ IsDone lane w = (s : Setting) × (IsWorking s w × ((current s (past_of w) lane 
     × (was_let_go (past_of w) lane ≡ false)))
 
 -- its slots are passed: the session is at rest
-pub record IsLetGo (s : Setting) (before : List Entry) (old new : Contents) : Type 0 where
+pub record IsLetGo (s : Setting) (before : List Entry) (old new : LanesValue) : Type 0 where
   pub works : Works s new
   pub closes : ClosesTo s before new.past
   pub later : IsLater s before new.past
   pub begun : new.begun ≡ old.begun
 
-abbrev pub LetGo : Setting → List Entry → ℕ → Contents → Contents → List Slot → Type 0
+abbrev pub LetGo : Setting → List Entry → ℕ → LanesValue → LanesValue → List Slot → Type 0
 LetGo s before lane old new rest = Letting s before lane old rest → IsLetGo s before old new

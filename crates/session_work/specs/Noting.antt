@@ -35,12 +35,12 @@ use Rattle.session_driver.specs.declared.session.Stepped.{Stepped}
 use Rattle.session_laws.specs.Changes.{ended_lane}
 use Rattle.session_laws.specs.Lanes.{LaneValue}
 use Rattle.session_laws.specs.Rest.{awaited_in}
-use Rattle.session_lane.specs.Rests.{IsSmall, Leaves}
+use Rattle.session_lane.specs.Rests.{IsSmall, LeavesLane}
 use Rattle.session_lane.specs.declared.lane.Moved.{Moved}
 use Rattle.session_lane.specs.declared.lane.Moved.TheVariants as moved
 use Rattle.session_work.specs.declared.lanes.Lanes.{Lanes}
 use Rattle.session_work.specs.SoFar.{HasRoom}
-use Rattle.session_work.specs.Working.{Contents, StepsIn, Works, contents_of, lane_in}
+use Rattle.session_work.specs.Working.{LanesValue, StepsIn, Works, contents_of, lane_in}
 
 -- ---- the call of a lane
 
@@ -56,7 +56,7 @@ call_in lanes states lane = call_by (slice_get lanes lane) (slice_get states lan
 -- ---- entries
 
 -- a request of a lane's call was submitted
-abbrev pub asked_in : Contents → ℕ → ℕ → ℕ → Request → Contents
+abbrev pub asked_in : LanesValue → ℕ → ℕ → ℕ → Request → LanesValue
 asked_in c lane n id r =
     record c {
       past = entry.Event (Submit (owner.Call lane n) id r) ∷ c.past;
@@ -66,7 +66,7 @@ asked_in c lane n id r =
     }
 
 -- a lane's call ended
-abbrev pub ended_in : Contents → ℕ → ℕ → Outcome → Contents
+abbrev pub ended_in : LanesValue → ℕ → ℕ → Outcome → LanesValue
 ended_in c lane n o =
     record c {
       past = entry.Event (End lane n o) ∷ c.past;
@@ -77,28 +77,28 @@ ended_in c lane n o =
 -- ---- in the midst of a step
 
 -- these lanes were begun before it
-abbrev pub amid : (ℕ → Bool) → Contents → Contents
-amid begun c = record c { begun = begun }
+abbrev pub with_begun : (ℕ → Bool) → LanesValue → LanesValue
+with_begun begun c = record c { begun = begun }
 
 -- the lanes but the one that is stepped run a call where they were begun
 abbrev pub OthersRun : (ℕ → Bool) → ℕ → List LaneValue → Type 0
 OthersRun begun lane states = (w : ℕ) → lane ≢ w → begun w ≡ is_some (lane_in states w).running
 
-abbrev pub KeepsOthers : ℕ → List LaneValue → List LaneValue → Type 0
-KeepsOthers lane before now = (begun : ℕ → Bool) → OthersRun begun lane before → OthersRun begun lane now
+abbrev pub KeepsOtherLanes : ℕ → List LaneValue → List LaneValue → Type 0
+KeepsOtherLanes lane before now = (begun : ℕ → Bool) → OthersRun begun lane before → OthersRun begun lane now
 
 -- the session is at rest, but for a lane that may run a call which was not begun
 abbrev pub IsAmid : Lanes → Type 0
-IsAmid w = (s : Setting) × ((begun : ℕ → Bool) × Works s (amid begun (contents_of w)))
+IsAmid w = (s : Setting) × ((begun : ℕ → Bool) × Works s (with_begun begun (contents_of w)))
 
 -- ---- a turn that was not noted yet
 
 -- the lane had its turn: it has another value, and the core is another
-abbrev pub turned_in : Contents → ℕ → Core → LaneValue → Contents
+abbrev pub turned_in : LanesValue → ℕ → Core → LaneValue → LanesValue
 turned_in c lane new now = record c { core = new; states = slice_set c.states lane now }
 
 -- A lane of a session at rest had this turn, which the journal doesn't show yet.
-pub record Turning (s : Setting) (lane : ℕ) (old c : Contents) (m : Moved) : Type 0 where
+pub record Turning (s : Setting) (lane : ℕ) (old c : LanesValue) (m : Moved) : Type 0 where
   pub works : Works s old
   pub there : lane < length s.lanes
   pub call : Call
@@ -108,7 +108,7 @@ pub record Turning (s : Setting) (lane : ℕ) (old c : Contents) (m : Moved) : T
   pub is : c ≡ turned_in old lane new now
   pub small : IsSmall m
   pub same : now.ended ≡ (lane_in old.states lane).ended
-  pub leaves : Leaves s old.past old.core new (lane_in old.states) old.begun lane now m
+  pub leaves : LeavesLane s old.past old.core new (lane_in old.states) old.begun lane now m
 
 -- whether it went on without an entry
 abbrev pub is_went : Moved → Bool
@@ -116,7 +116,7 @@ is_went moved.Went = true
 is_went other = false
 
 abbrev pub IsTurning : ℕ → Lanes → Moved → Type 0
-IsTurning lane w m = (s : Setting) × ((old : Contents) × (Turning s lane old (amid old.begun (contents_of w)) m
+IsTurning lane w m = (s : Setting) × ((old : LanesValue) × (Turning s lane old (with_begun old.begun (contents_of w)) m
     × OthersRun old.begun lane w.states.items))
 
 -- the turn of the lane's call with this number may be noted: it was not one without an entry, and there is room for the
@@ -128,7 +128,7 @@ pub record CanNote (lane call : ℕ) (m : Moved) (w : Lanes) : Type 0 where
   pub room : vec_len w.journal + length (lane_in w.states.items lane).grants + 1 < vec_capacity w.journal
 
 -- the lane has a call
-abbrev pub HasCall : Contents → ℕ → Type 0
+abbrev pub HasCall : LanesValue → ℕ → Type 0
 HasCall c lane = call_in c.calls c.states lane ≢ None
 
 -- how many turns without an entry the lane may still have: each spends a ticket, but the first that awaits a reply
@@ -147,9 +147,9 @@ pub record HasTurned (lane : ℕ) (old new : Lanes) (m : Moved) : Type 0 where
   pub number : (lane_in new.states.items lane).ended ≡ (lane_in old.states.items lane).ended
   pub fewer : is_went m ≡ true → turns_left (lane_in new.states.items lane) < turns_left (lane_in old.states.items lane)
   pub room : vec_len new.journal + length (lane_in new.states.items lane).grants + 1 < vec_capacity new.journal
-  pub others : KeepsOthers lane old.states.items new.states.items
+  pub others : KeepsOtherLanes lane old.states.items new.states.items
 
 -- behind its note it is a step
-abbrev pub Noted : Setting → ℕ → Contents → Lanes → Contents → Moved → Stepped → Type 0
-Noted s lane old w new m event = Turning s lane old (amid old.begun (contents_of w)) m
+abbrev pub Noted : Setting → ℕ → LanesValue → Lanes → LanesValue → Moved → Stepped → Type 0
+Noted s lane old w new m event = Turning s lane old (with_begun old.begun (contents_of w)) m
     → OthersRun old.begun lane w.states.items → StepsIn s lane old new event

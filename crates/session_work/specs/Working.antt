@@ -38,7 +38,7 @@ use Rattle.plan_model.specs.Lanes.{are_ok}
 use Rattle.session_model.specs.Readings.{asked, ended, own, unanswered}
 use Rattle.session_model.specs.Turns.{Stage}
 use Rattle.session_driver.specs.declared.session.Stepped.{Stepped}
-use Rattle.session_driver.specs.Session.{IsLater, StepsTo, Cancels, LetsGo, Takes, HandsOut, LessBy, is_event}
+use Rattle.session_driver.specs.Session.{IsLater, StepsTo, Cancels, LetsGo, TakesAndSettles, HandsOut, LessBy, is_event}
 use Rattle.session_laws.specs.Changes.{fresh_lane}
 use Rattle.session_laws.specs.Lanes.{LaneValue}
 use Rattle.session_laws.specs.Rest.{AtRest, begun_of, weigh}
@@ -46,7 +46,7 @@ use Rattle.session_work.specs.declared.lanes.Lanes.{Lanes}
 
 -- what the lanes work with: their calls, the core, the facts that plans go by, the journal with its newest entry first,
 -- how many requests it has, what each lane holds and awaits, and which were begun
-pub record Contents : Type 0 where
+pub record LanesValue : Type 0 where
   pub calls : List Lane
   pub core : Core
   pub facts : Facts
@@ -60,7 +60,7 @@ abbrev pub lane_in : List LaneValue → ℕ → LaneValue
 lane_in states lane = slice_index_or states lane fresh_lane
 
 -- Between two steps the lanes that were begun are those that run a call.
-abbrev pub contents_of : Lanes → Contents
+abbrev pub contents_of : Lanes → LanesValue
 contents_of w =
     record {
       calls = w.calls;
@@ -76,7 +76,7 @@ contents_of w =
 abbrev pub past_of : Lanes → List Entry
 past_of w = reverse w.journal.items
 
-abbrev pub stage_in : Contents → Stage
+abbrev pub stage_in : LanesValue → Stage
 stage_in c = record { past = c.past; begun = c.begun }
 
 abbrev pub stage_of : Lanes → Stage
@@ -99,7 +99,7 @@ abbrev pub lanes_left : Facts → List Entry → List Lane → ℕ → ℕ
 lanes_left facts past [] n = 0
 lanes_left facts past (lane ∷ lanes) n = lane_left facts past lane n + lanes_left facts past lanes (suc n)
 
-abbrev pub work_in : Contents → ℕ
+abbrev pub work_in : LanesValue → ℕ
 work_in c = lanes_left c.facts c.past c.calls 0 + weigh c.core
 
 abbrev pub work_of : Lanes → ℕ
@@ -109,7 +109,7 @@ work_of w = work_in (contents_of w)
 
 -- The lanes of a session with this setting, whatever is due: the calls of each are those that were handed in and then
 -- those that were added.
-pub record Stands (s : Setting) (c : Contents) : Type 0 where
+pub record Stands (s : Setting) (c : LanesValue) : Type 0 where
   pub lanes : length c.calls ≡ length s.lanes
   pub calls : (lane : ℕ) → calls_of (slice_get c.calls lane) ≡ lane_calls s c.past lane
   pub ok : are_ok c.calls ≡ true
@@ -119,7 +119,7 @@ pub record Stands (s : Setting) (c : Contents) : Type 0 where
   pub count : length c.states ≡ length s.lanes
 
 -- the lanes of an open session at rest
-pub record Works (s : Setting) (c : Contents) : Type 0 where
+pub record Works (s : Setting) (c : LanesValue) : Type 0 where
   pub stands : Stands s c
   pub rest : AtRest s c.past c.core (lane_in c.states) c.begun
 
@@ -137,24 +137,24 @@ pub record IsIdleIn (lane : ℕ) (w : Lanes) : Type 0 where
   pub idle : (lane_in w.states.items lane).running ≡ None
 
 -- Nothing was noted: core and lanes are others, and the session is at rest as before.
-pub record Unnoted (s : Setting) (old new : Contents) : Type 0 where
+pub record Unnoted (s : Setting) (old new : LanesValue) : Type 0 where
   pub works : Works s new
   pub same : new ≡ record old { core = new.core; states = new.states }
   pub work : weigh new.core ≤ weigh old.core
 
 -- ---- calls
 
-pub record StepsIn (s : Setting) (lane : ℕ) (old new : Contents) (event : Stepped) : Type 0 where
+pub record StepsIn (s : Setting) (lane : ℕ) (old new : LanesValue) (event : Stepped) : Type 0 where
   pub steps : StepsTo s lane (stage_in old) (stage_in new) (move_of s old.past lane) event
   pub later : IsLater s old.past new.past
   pub working : Works s new
   pub less : LessBy (is_event event) (work_in old) (work_in new)
   pub waits : is_event event ≡ false → current s old.past lane ≢ None → 0 < unanswered new.past
 
-abbrev pub Steps : Setting → ℕ → Lanes → Lanes → Stepped → Type 0
-Steps s lane old new event = StepsIn s lane (contents_of old) (contents_of new) event
+abbrev pub StepsLane : Setting → ℕ → Lanes → Lanes → Stepped → Type 0
+StepsLane s lane old new event = StepsIn s lane (contents_of old) (contents_of new) event
 
-pub record CancelsIn (s : Setting) (lane : ℕ) (old new : Contents) (event : Bool) : Type 0 where
+pub record CancelsIn (s : Setting) (lane : ℕ) (old new : LanesValue) (event : Bool) : Type 0 where
   pub cancels : Cancels s lane (stage_in old) (stage_in new) event
   pub later : IsLater s old.past new.past
   pub working : Works s new
@@ -162,7 +162,7 @@ pub record CancelsIn (s : Setting) (lane : ℕ) (old new : Contents) (event : Bo
 abbrev pub CancelsLane : Setting → ℕ → Lanes → Lanes → Bool → Type 0
 CancelsLane s lane old new event = CancelsIn s lane (contents_of old) (contents_of new) event
 
-pub record LetsGoIn (s : Setting) (lane : ℕ) (old new : Contents) : Type 0 where
+pub record LetsGoIn (s : Setting) (lane : ℕ) (old new : LanesValue) : Type 0 where
   pub lets_go : LetsGo s lane (stage_in old) (stage_in new)
   pub later : IsLater s old.past new.past
   pub working : Works s new
@@ -170,7 +170,7 @@ pub record LetsGoIn (s : Setting) (lane : ℕ) (old new : Contents) : Type 0 whe
 abbrev pub LetsLaneGo : Setting → ℕ → Lanes → Lanes → Type 0
 LetsLaneGo s lane old new = LetsGoIn s lane (contents_of old) (contents_of new)
 
-pub record HandsIn (s : Setting) (old new : Contents) (bytes : Option (List ℕ)) : Type 0 where
+pub record HandsIn (s : Setting) (old new : LanesValue) (bytes : Option (List ℕ)) : Type 0 where
   pub hands : HandsOut s (stage_in old) bytes (stage_in new)
   pub work : work_in new ≡ work_in old
   pub working : Works s new
@@ -178,11 +178,12 @@ pub record HandsIn (s : Setting) (old new : Contents) (bytes : Option (List ℕ)
 abbrev pub HandsAll : Setting → Lanes → Lanes → Option (List ℕ) → Type 0
 HandsAll s old new bytes = HandsIn s (contents_of old) (contents_of new) bytes
 
-pub record TakesIn (s : Setting) (body_reads : Result (Option ℕ × Reply) FrameError) (old new : Contents) : Type 0 where
-  pub takes : Takes s body_reads (stage_in old) (stage_in new)
-  pub later : IsLater s old.past new.past
-  pub working : Works s new
-  pub less : work_in new < work_in old
+pub record TakesIn (s : Setting) (body_reads : Result (Option ℕ × Reply) FrameError) (old new : LanesValue) : Type 0
+  where
+    pub takes : TakesAndSettles s body_reads (stage_in old) (stage_in new)
+    pub later : IsLater s old.past new.past
+    pub working : Works s new
+    pub less : work_in new < work_in old
 
 abbrev pub TakesBody : Setting → Result (Option ℕ × Reply) FrameError → Lanes → Lanes → Type 0
 TakesBody s body_reads old new = TakesIn s body_reads (contents_of old) (contents_of new)

@@ -3,12 +3,12 @@ ghost use Rattle.std.specs.Prelude.{◌≡◌, ◌<◌, ◌≤◌, ◌^◌, ◌�
 ghost use Rattle.std.specs.Option.{option_copied};
 ghost use Rattle.session_model.specs.Calls.{Setting};
 ghost use Rattle.session_laws.specs.Rest.{begun_of};
-ghost use Rattle.session_work.specs.Noting.{CanNote, Noted, amid, asked_in, call_in, ended_in};
+ghost use Rattle.session_work.specs.Noting.{CanNote, Noted, with_begun, asked_in, call_in, ended_in};
 ghost use Rattle.session_work.specs.SoFar.{HasOneMore};
 ghost use Rattle.session_model.specs.declared.entry.Entry.TheVariants as entry;
 ghost use Rattle.session_model.specs.declared.event.Event.TheVariants.{End};
 ghost use Rattle.session_work.specs.Reports.{HasReports, LeavesReports, ended_past};
-ghost use Rattle.session_work.specs.Working.{Contents, contents_of, lane_in, past_of};
+ghost use Rattle.session_work.specs.Working.{LanesValue, contents_of, lane_in, past_of};
 
 use crate::closing::add_entry;
 use crate::lanes::Lanes;
@@ -56,7 +56,7 @@ impl Lanes {
     fn note_asked(&mut self, lane: u32, call: u32, id: u32, request: Request)
         requires journal { vec_len self.old.journal < vec_capacity self.old.journal }
         requires counted { self.old.asked ≤ vec_len self.old.journal }
-        ensures noted { contents_of self.new ≡ amid (begun_of (lane_in self.new.states.items)) (asked_in (contents_of self.old) lane call id request) }
+        ensures noted { contents_of self.new ≡ with_begun (begun_of (lane_in self.new.states.items)) (asked_in (contents_of self.old) lane call id request) }
         ensures reports { LeavesReports self.old self.new }
         ensures one { HasOneMore self.old self.new }
     {
@@ -76,7 +76,7 @@ impl Lanes {
         requires there { lane < length self.old.states.items }
         requires few { (lane_in self.old.states.items lane).ended < 2 ^ 31 }
         requires room { vec_len self.old.journal < vec_capacity self.old.journal }
-        ensures noted { contents_of self.new ≡ amid (begun_of (lane_in self.new.states.items)) (ended_in (contents_of self.old) lane call outcome) }
+        ensures noted { contents_of self.new ≡ with_begun (begun_of (lane_in self.new.states.items)) (ended_in (contents_of self.old) lane call outcome) }
         ensures reports { HasReports (entry.Event (End lane call outcome) ∷ past_of self.old) self.old self.new }
         ensures one { HasOneMore self.old self.new }
     {
@@ -94,7 +94,7 @@ impl Lanes {
     /// What a lane's turn was is noted, and the grants are closed that are due then.
     pub(crate) fn note(&mut self, lane: u32, call: u32, moved: Moved) -> Stepped
         requires { CanNote lane call moved self.old }
-        ensures noted { (s : Setting) (old : Contents) → Noted s lane old self.old (contents_of self.new) moved result }
+        ensures noted { (s : Setting) (old : LanesValue) → Noted s lane old self.old (contents_of self.new) moved result }
         ensures reports { HasReports (ended_past lane call moved (past_of self.old)) self.old self.new }
         ensures room { vec_len self.new.journal < vec_capacity self.new.journal }
     {

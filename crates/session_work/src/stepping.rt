@@ -2,9 +2,9 @@
 ghost use Rattle.std.specs.Prelude.{◌≡◌, ◌+◌, ℕ, Bool, length, IfOk, OnErr};
 ghost use Rattle.session_model.specs.Calls.{Setting};
 ghost use Rattle.session_lane.specs.declared.lane.Moved.{Moved as MovedValue};
-ghost use Rattle.session_work.specs.Noting.{CanTurn, HasTurned, Turning, amid, is_went};
+ghost use Rattle.session_work.specs.Noting.{CanTurn, HasTurned, Turning, with_begun, is_went};
 ghost use Rattle.session_work.specs.SoFar.{HasRoom, IsIntact, IsLeft};
-ghost use Rattle.session_work.specs.Working.{IsOpened, IsWorking, Steps, Works, contents_of};
+ghost use Rattle.session_work.specs.Working.{IsOpened, IsWorking, StepsLane, Works, contents_of};
 
 use crate::lanes::Lanes;
 use crate::noting::current_call;
@@ -35,7 +35,7 @@ impl Lanes {
     /// One turn of a lane that has a call. Refused for want of memory. It notes nothing.
     fn turn(&mut self, alloc: Global, lane: u32) -> Result<Moved, OutOfMemory>
         requires { CanTurn lane self.old }
-        ensures turned { (s : Setting) (begun : ℕ → Bool) → Works s (amid begun (contents_of self.old)) → IfOk result (Turning s lane (amid begun (contents_of self.old)) (amid begun (contents_of self.new))) }
+        ensures turned { (s : Setting) (begun : ℕ → Bool) → Works s (with_begun begun (contents_of self.old)) → IfOk result (Turning s lane (with_begun begun (contents_of self.old)) (with_begun begun (contents_of self.new))) }
         ensures leaves { IfOk result (HasTurned lane self.old self.new) }
         ensures left { IsLeft self.old self.new }
         ensures room { HasRoom self.new }
@@ -52,7 +52,7 @@ impl Lanes {
     pub fn step(&mut self, alloc: Global, lane: u32) -> Result<Stepped, OutOfMemory>
         requires opened { IsOpened self.old }
         requires intact { IsIntact (length self.old.calls) self.old }
-        ensures steps { (s : Setting) → IsWorking s self.old → IfOk result (λ event. Steps s lane self.old self.new event) }
+        ensures steps { (s : Setting) → IsWorking s self.old → IfOk result (λ event. StepsLane s lane self.old self.new event) }
         ensures left { OnErr result (IsLeft self.old self.new) }
         ensures intact { IsIntact (length self.old.calls) self.new }
     {

@@ -14,7 +14,7 @@ use Rattle.sftp_buffered.specs.declared.file.ReadUnderWay.{ReadUnderWay}
 use Rattle.sftp_buffered.specs.Buffered.{CompatValue}
 use Rattle.sftp_buffered.specs.Steps.{
   LooksAtOldest,
-  behind,
+  after_written,
   deferring,
   freed,
   freed_core,
@@ -63,7 +63,7 @@ refused_oldest old new p q r value came bad is left core =
 -- the parts of a send, put together
 pub sent_by : (full : Bool) (parts : List (List ℕ)) (old middle freer new : Core) (p a b q : CompatValue) (n ticket : ℕ) → p.file.offset + n < 2 ^ 64
     → Submitted old (parts_of p parts) ticket middle → a ≡ deferring p n ticket → b ≡ freed full a → freer ≡ freed_core full middle a
-    → q ≡ behind b n → new ≡ read_dropped freer b.reading → Sent full parts old new p q n
+    → q ≡ after_written b n → new ≡ read_dropped freer b.reading → Sent full parts old new p q n
 sent_by full parts old middle freer new p a b q n ticket fits submitted pushed made core left dropped =
     let way : b ≡ freed full (deferring p n ticket) = made ∙ ap (freed full) pushed in
     record {
@@ -71,7 +71,7 @@ sent_by full parts old middle freer new p a b q n ticket fits submitted pushed m
       ticket = ticket;
       middle = middle;
       submitted = submitted;
-      left = left ∙ ap (λ (x : CompatValue). behind x n) way;
+      left = left ∙ ap (λ (x : CompatValue). after_written x n) way;
       core = dropped ∙ ((λ i. read_dropped (core i) (way i).reading)
           ∙ ((λ i. read_dropped (freed_core full middle (pushed i)) (freed full (deferring p n ticket)).reading)
           ∙ ap (λ (r : Option ReadUnderWay). read_dropped (freed_core full middle (deferring p n ticket)) r) (freed_reading full (deferring p n ticket))));

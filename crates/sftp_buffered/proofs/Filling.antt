@@ -52,9 +52,9 @@ use Rattle.sftp_model.specs.declared.slot.Site.{Site}
 use Rattle.plan_model.specs.Moves.{Answers, Plan, on_content, once_answered, overflows, refuses}
 use Rattle.sftp_core.specs.Core.{Core, after_poll, at, reply_in}
 use Rattle.sftp_core.proofs.Elsewhere.{poll_elsewhere}
-use Rattle.call_state.specs.Asked.{Holds, Submitted}
+use Rattle.call_state.specs.Asked.{HoldsTicket, Submitted}
 use Rattle.call_state.specs.Calls.{IsUnfinished}
-use Rattle.call_state.specs.Keeping.{Keeps}
+use Rattle.call_state.specs.Keeping.{KeepsHeld}
 use Rattle.call_state.specs.declared.asking.Asking.TheVariants.{Whole}
 use Rattle.call_state.specs.declared.poll.Poll.{Poll}
 use Rattle.call_state.specs.declared.poll.Poll.TheVariants as poll
@@ -183,7 +183,7 @@ rising_elsewhere from [] to h = tt
 rising_elsewhere from (d ∷ ds) to h =
     (let below : d.place + 1 ≤ to = rising_below (d.place + 1) ds to h.1 in λ same. omega (arith, below, same), rising_elsewhere (d.place + 1) ds to h.1)
 
-held_all : (old new : Core) (ds : List DeferredWrite) → Keeps old new → AreHeld old ds → AreHeld new ds
+held_all : (old new : Core) (ds : List DeferredWrite) → KeepsHeld old new → AreHeld old ds → AreHeld new ds
 held_all old new [] k held = tt
 held_all old new (d ∷ ds) k held = (k.holds d.ticket expected.Status held.0, held.1, held_all old new ds k held.2)
 
@@ -259,7 +259,7 @@ appended_deferred (reply.Extended content) c = refl
 
 took_sound : (old new : Core) (p q : CompatValue) (value : Result (Unit {0}) Error) → IsSound old p → TookRead old new p q value → IsSound new q
 took_sound old new p q value s t =
-    let read : Holds old t.read.ticket (expected.Content t.read.len) = subst (IsHeldRead old) t.under_way s.held.read in
+    let read : HoldsTicket old t.read.ticket (expected.Content t.read.len) = subst (IsHeldRead old) t.under_way s.held.read in
     let writes : AreHeld (after_poll old t.read.ticket) p.deferred =
     held_but old (after_poll old t.read.ticket) t.read.ticket p.deferred
     (λ k. poll_elsewhere old t.read.ticket old.fault (at old t.read.ticket) k)
@@ -295,7 +295,7 @@ fills_sound len old new p q result s (inr e) = awaits_sound old new p q result s
 
 took_others : (old new : Core) (p q : CompatValue) (value : Result (Unit {0}) Error) → IsSound old p → TookRead old new p q value → LeavesOthers old new p
 took_others old new p q value s t =
-    let read : Holds old t.read.ticket (expected.Content t.read.len) = subst (IsHeldRead old) t.under_way s.held.read in
+    let read : HoldsTicket old t.read.ticket (expected.Content t.read.len) = subst (IsHeldRead old) t.under_way s.held.read in
     subst (λ (x : Core). LeavesOthers old x p) (sym t.core)
     (others_polled old t.read.ticket p read.counted (λ other apart. subst (IsOther other) t.under_way apart.read))
 

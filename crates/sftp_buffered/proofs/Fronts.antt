@@ -3,16 +3,16 @@ use Rattle.std.proofs.Common.{◌≡◌, ◌∙◌, ap, subst, List, [], ◌∷�
 use Rattle.std.specs.Option.{option_to_list}
 use Rattle.sftp_model.specs.declared.answers.Expected.TheVariants as expected
 use Rattle.sftp_core.specs.Core.{Core, after_poll, at, reply_in}
-use Rattle.call_state.specs.Asked.{Holds}
+use Rattle.call_state.specs.Asked.{HoldsTicket}
 use Rattle.sftp_buffered.specs.declared.file.DeferredWrite.{DeferredWrite}
 use Rattle.sftp_buffered.specs.Buffered.{AreHeld}
 use Rattle.sftp_buffered.specs.Steps.{HasReply, oldest_polled, oldest_reply}
 use Rattle.sftp_buffered.proofs.Replies.{status_plain}
 
 -- its ticket is held
-pub held_oldest : (core : Core) (ds : List DeferredWrite) (d : DeferredWrite) → slice_get ds 0 ≡ Some d → AreHeld core ds → Holds core d.ticket expected.Status
+pub held_oldest : (core : Core) (ds : List DeferredWrite) (d : DeferredWrite) → slice_get ds 0 ≡ Some d → AreHeld core ds → HoldsTicket core d.ticket expected.Status
 held_oldest core [] d e held = absurd cc
-held_oldest core (x ∷ ds) d e held = (let same : x ≡ d = cc in subst (λ (y : DeferredWrite). Holds core y.ticket expected.Status) same held.0)
+held_oldest core (x ∷ ds) d e held = (let same : x ≡ d = cc in subst (λ (y : DeferredWrite). HoldsTicket core y.ticket expected.Status) same held.0)
 
 pub taken_front : (ds rest : List DeferredWrite) (r : Option DeferredWrite) (d : DeferredWrite) → ds ≡ option_to_list r
     ++ rest → r ≡ Some d → slice_get ds 0 ≡ Some d

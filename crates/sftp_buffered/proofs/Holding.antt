@@ -29,7 +29,7 @@ use Rattle.sftp_model.specs.declared.slot.Facts.{Facts}
 use Rattle.sftp_model.specs.declared.answers.Expected.{Expected}
 use Rattle.sftp_model.specs.declared.answers.Expected.TheVariants as expected
 use Rattle.call_state.proofs.Keeping.{holds_still, submitted_holds, submitted_keeps}
-use Rattle.call_state.specs.Asked.{Holds, Submitted, queued_by}
+use Rattle.call_state.specs.Asked.{HoldsTicket, Submitted, queued_by}
 use Rattle.call_state.specs.declared.asking.Asking.{Asking}
 use Rattle.call_state.specs.declared.asking.Asking.TheVariants.{Whole, Parts}
 use Rattle.sftp_core.specs.Core.{Core, after_poll, at, reply_in}
@@ -43,7 +43,7 @@ use Rattle.sftp_buffered.specs.Steps.{deferring, freed, freed_core, oldest_len, 
 use Rattle.sftp_buffered.specs.Writes.{IsDeferred}
 
 -- a free id is none that is held
-pub not_free : (core : Core) (q ticket : ℕ) (kind : Expected) → Holds core q kind → at core ticket ≡ None → q ≡ ticket → ⊥
+pub not_free : (core : Core) (q ticket : ℕ) (kind : Expected) → HoldsTicket core q kind → at core ticket ≡ None → q ≡ ticket → ⊥
 not_free core q ticket kind h free same =
     (let clash : Some kind ≡ None = sym h.expects ∙ (ap (λ (k : ℕ). expected_at (at core k)) same ∙ ap expected_at free) in cc)
 
@@ -53,7 +53,7 @@ queued_apart core ticket (Parts handle offset parts) q h = put_elsewhere core.ta
 
 -- a submit leaves what is held
 pub submit_leaves : (old new : Core) (asking : Asking) (ticket q : ℕ) (kind : Expected)
-    → Submitted old asking ticket new → Holds old q kind → at new q ≡ at old q
+    → Submitted old asking ticket new → HoldsTicket old q kind → at new q ≡ at old q
 submit_leaves old new asking ticket q kind s h =
     ap (λ (c : Core). at c q) s.queued ∙ queued_apart old ticket asking q (not_free old q ticket kind h s.free)
 
@@ -73,7 +73,7 @@ apart_last ticket [] last apart new = (new, tt)
 apart_last ticket (d ∷ ds) last apart new = (apart.0, apart_last ticket ds last apart.1 new)
 
 pub held_last : (old new : Core) (asking : Asking) (ds : List DeferredWrite) (last : DeferredWrite) → Submitted old asking last.ticket new
-    → Holds new last.ticket expected.Status → AreHeld old ds → AreHeld new (ds ++ last ∷ [])
+    → HoldsTicket new last.ticket expected.Status → AreHeld old ds → AreHeld new (ds ++ last ∷ [])
 held_last old new asking [] last s here held = (here, tt, tt)
 held_last old new asking (d ∷ ds) last s here held = (
   (submitted_keeps old new asking last.ticket s).holds d.ticket expected.Status held.0,
@@ -82,7 +82,7 @@ held_last old new asking (d ∷ ds) last s here held = (
 )
 
 -- a READ under way is no deferred write
-pub other_kind : (core : Core) (q t len : ℕ) → Holds core q (expected.Content len) → Holds core t expected.Status → q ≡ t → ⊥
+pub other_kind : (core : Core) (q t len : ℕ) → HoldsTicket core q (expected.Content len) → HoldsTicket core t expected.Status → q ≡ t → ⊥
 other_kind core q t len read write same =
     (let clash : Some (expected.Content len) ≡ Some expected.Status = sym read.expects ∙ (ap (λ (k : ℕ). expected_at (at core k)) same ∙ write.expects) in cc)
 

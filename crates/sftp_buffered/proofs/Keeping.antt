@@ -7,8 +7,8 @@ use Rattle.sftp_model.specs.declared.reply.Reply.TheVariants as reply
 use Rattle.plan_model.specs.Moves.{Answers, handle_of}
 use Rattle.sftp_core.specs.Core.{Core, IsGrant, abandoned, after_poll, at, released, reply_in, retained}
 use Rattle.sftp_core.specs.Grant.{GrantValue}
-use Rattle.call_state.specs.Asked.{Holds}
-use Rattle.call_state.specs.Keeping.{Keeps}
+use Rattle.call_state.specs.Asked.{HoldsTicket}
+use Rattle.call_state.specs.Keeping.{KeepsHeld}
 use Rattle.call_state.proofs.Keeping.{cancelled_on, polled_on, released_holds, retained_holds}
 use Rattle.sftp_buffered.specs.declared.file.DeferredWrite.{DeferredWrite}
 use Rattle.sftp_buffered.specs.declared.file.ReadUnderWay.{ReadUnderWay}
@@ -45,18 +45,18 @@ EachRead P (Some r) = P r.ticket
 
 -- each ticket that is held stays so, of those that pass
 held_of : (P : ℕ → Type 0) (old new : Core) (ds : List DeferredWrite)
-    → ((ticket : ℕ) (kind : Expected) → P ticket → Holds old ticket kind → Holds new ticket kind)
+    → ((ticket : ℕ) (kind : Expected) → P ticket → HoldsTicket old ticket kind → HoldsTicket new ticket kind)
     → Each P ds → AreHeld old ds → AreHeld new ds
 held_of P old new [] keeps own held = tt
 held_of P old new (d ∷ ds) keeps own held = (keeps d.ticket expected.Status own.0 held.0, held.1, held_of P old new ds keeps own.1 held.2)
 
 read_of : (P : ℕ → Type 0) (old new : Core) (r : Option ReadUnderWay)
-    → ((ticket : ℕ) (kind : Expected) → P ticket → Holds old ticket kind → Holds new ticket kind)
+    → ((ticket : ℕ) (kind : Expected) → P ticket → HoldsTicket old ticket kind → HoldsTicket new ticket kind)
     → EachRead P r → IsHeldRead old r → IsHeldRead new r
 read_of P old new None keeps own held = tt
 read_of P old new (Some r) keeps own held = keeps r.ticket (expected.Content r.len) own held
 
-sound_of : (P : ℕ → Type 0) (old new : Core) (c : CompatValue) → ((ticket : ℕ) (kind : Expected) → P ticket → Holds old ticket kind → Holds new ticket kind)
+sound_of : (P : ℕ → Type 0) (old new : Core) (c : CompatValue) → ((ticket : ℕ) (kind : Expected) → P ticket → HoldsTicket old ticket kind → HoldsTicket new ticket kind)
     → Each P c.deferred → EachRead P c.reading → IsSound old c → IsSound new c
 sound_of P old new c keeps writes read s =
     record {
@@ -76,7 +76,7 @@ read_passes : (r : Option ReadUnderWay) → EachRead (λ ticket. Unit {0}) r
 read_passes None = tt
 read_passes (Some r) = tt
 
-pub kept_sound : (old new : Core) (c : CompatValue) → Keeps old new → IsSound old c → IsSound new c
+pub kept_sound : (old new : Core) (c : CompatValue) → KeepsHeld old new → IsSound old c → IsSound new c
 kept_sound old new c k s = sound_of (λ ticket. Unit {0}) old new c (λ ticket kind own h. k.holds ticket kind h) (all_pass c.deferred) (read_passes c.reading) s
 
 pub released_sound : (core : Core) (grant : GrantValue) (c : CompatValue) → IsGrant core grant → IsSound core c → IsSound (released core grant) c

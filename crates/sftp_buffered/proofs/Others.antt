@@ -37,7 +37,7 @@ use Rattle.sftp_core.specs.Core.{Core, abandon_leaves, abandoned, after_poll, at
 use Rattle.sftp_core.specs.Table.{brings}
 use Rattle.sftp_core.proofs.Elsewhere.{abandon_phase, poll_phase}
 use Rattle.call_state.specs.Asked.{Submitted, queued_by}
-use Rattle.call_state.specs.Keeping.{Keeps}
+use Rattle.call_state.specs.Keeping.{KeepsHeld}
 use Rattle.call_state.specs.declared.asking.Asking.{Asking}
 use Rattle.call_state.specs.declared.asking.Asking.TheVariants.{Whole, Parts}
 use Rattle.call_state.specs.declared.poll.Poll.TheVariants as poll
@@ -101,7 +101,7 @@ others_both a b d c h k =
 
 pub others_submitted : (old new : Core) (asking : Asking) (ticket : ℕ) (c : CompatValue) → Submitted old asking ticket new → LeavesOthers old new c
 others_submitted old new asking ticket c s =
-    let k : Keeps old new = submitted_keeps old new asking ticket s in
+    let k : KeepsHeld old new = submitted_keeps old new asking ticket s in
     record {
       holds = λ other kind apart h. k.holds other kind h;
       grants = k.grants;

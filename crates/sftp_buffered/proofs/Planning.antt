@@ -66,13 +66,13 @@ use Rattle.sftp_buffered.proofs.Holding.{counted_less, freed_core_deferring, fre
 use Rattle.sftp_buffered.specs.declared.file.DeferredWrite.{DeferredWrite}
 use Rattle.sftp_buffered.specs.declared.window.Window.{Window}
 use Rattle.sftp_buffered.specs.Buffered.{AreTold, CompatValue, Defers, IsCounted, IsSound, buffer_of, lane_of, write_of, writes_of}
-use Rattle.sftp_buffered.specs.Polls.{Asks, Polls, Waits}
+use Rattle.sftp_buffered.specs.Polls.{AsksAndEnds, Polls, Waits}
 use Rattle.sftp_buffered.specs.Steps.{
   IsLeft,
   IsRestOf,
   LooksAtOldest,
   WasRefused,
-  behind,
+  after_written,
   deferring,
   freed,
   freed_core,
@@ -226,7 +226,7 @@ writes_last (x ∷ ds) d = ap (λ (ws : List (ℕ × ℕ)). write_of x ∷ ws) (
 lane_behind : (c : CompatValue) (n ticket : ℕ) (facts : Facts) (bytes : List ℕ) (asked : Request) (answers : Answers)
     → deferrable_len facts bytes (buffer_of c) ≡ n
     → send_next 0 (file_at c.file) bytes facts ((c.place, asked) ∷ []) answers (buffer_of c) (lane_of c)
-    ≡ Done (outcome.Count n) (lane_of (behind (deferring c n ticket) n))
+    ≡ Done (outcome.Count n) (lane_of (after_written (deferring c n ticket) n))
 lane_behind c n ticket facts bytes asked answers is =
     let last : DeferredWrite = record { place = c.place; len = n; ticket = ticket } in
     let site : ℕ → List (ℕ × ℕ) → Site = λ k ws. record {
@@ -290,8 +290,8 @@ part_long facts bytes c parts n h = length-take-le n bytes (short_is n (room_of 
 sent_asks : (Cut : Asking → Type 0) (plan : Plan) (facts : Facts) (bytes : List ℕ) (answers : Answers) (old middle between new : Core) (p c q : CompatValue)
     (parts : List (List ℕ)) (n ticket : ℕ) → GoesAs plan facts bytes answers c
     → IsPartOf facts bytes c parts n → c.file.offset + n < 2 ^ 64 → Submitted old (parts_of c parts) ticket middle
-    → Cut (parts_of c parts) → IsRestOf middle between p c → q ≡ behind (deferring c n ticket) n → new ≡ read_dropped between c.reading
-    → Asks plan (outcome.Count n) Cut answers old new p q
+    → Cut (parts_of c parts) → IsRestOf middle between p c → q ≡ after_written (deferring c n ticket) n → new ≡ read_dropped between c.reading
+    → AsksAndEnds plan (outcome.Count n) Cut answers old new p q
 sent_asks Cut plan facts bytes answers old middle between new p c q parts n ticket g h fits submitted cut stays left core =
     let asked : Request = request.Write c.file.grant.handle c.file.offset (joined parts) in
     record {
@@ -347,11 +347,11 @@ goes_as false c facts bytes answers core may some counted is d good = room_goes_
 polls_sent : (Cut : Asking → Type 0) (full : Bool) (plan : Plan) (facts : Facts) (bytes : List ℕ) (answers : Answers) (old new : Core)
     (p q : CompatValue) (parts : List (List ℕ)) (n : ℕ) → GoesAs plan facts bytes answers (freed full p)
     → IsPartOf facts bytes (freed full p) parts n → (full ≡ true → is_good (oldest_reply old p.deferred) ≡ true)
-    → Cut (parts_of p parts) → Sent full parts old new p q n → Asks plan (outcome.Count n) Cut answers old new p q
+    → Cut (parts_of p parts) → Sent full parts old new p q n → AsksAndEnds plan (outcome.Count n) Cut answers old new p q
 polls_sent Cut true plan facts bytes answers old new p q parts n g h good cut s =
     sent_asks Cut plan facts bytes answers old s.middle (oldest_polled s.middle p.deferred) new p (without_oldest p) q
     parts n s.ticket g h s.fits s.submitted cut
-    (rest_freed true s.middle p) (s.left ∙ ap (λ (x : CompatValue). behind x n) (freed_deferring true old p n s.ticket good))
+    (rest_freed true s.middle p) (s.left ∙ ap (λ (x : CompatValue). after_written x n) (freed_deferring true old p n s.ticket good))
     (s.core ∙ ap (λ (x : Core). read_dropped x p.reading) (freed_core_deferring true old s.middle p n s.ticket good))
 polls_sent Cut false plan facts bytes answers old new p q parts n g h good cut s =
     sent_asks Cut plan facts bytes answers old s.middle s.middle new p p q parts n s.ticket g h s.fits s.submitted cut
@@ -390,7 +390,7 @@ polls_result : (Cut : Asking → Type 0) (full : Bool) (plan : Plan) (facts : Fa
     → IfErr result (Unsent full n old new p q)
     → Polls {V = ℕ} (Waits plan answers old (IsLeft old new p q)) (IsLeft old new p q) Cut plan (λ k. outcome.Count k) answers old new p q (poll.Ready result)
 polls_result Cut full plan facts bytes answers old new p q parts n (Ok k) g h good cut ok err =
-    inr (subst (λ (x : ℕ). Asks plan (outcome.Count x) Cut answers old new p q) (sym ok.0)
+    inr (subst (λ (x : ℕ). AsksAndEnds plan (outcome.Count x) Cut answers old new p q) (sym ok.0)
     (polls_sent Cut full plan facts bytes answers old new p q parts n g h good cut ok.1))
 polls_result Cut full plan facts bytes answers old new p q parts n (Err e) g h good cut ok err =
     polls_unsent Cut full plan facts bytes answers old new p q parts n e g h (freed_file full p) err

@@ -39,7 +39,7 @@ use Rattle.sftp_model.specs.declared.error.IoKind.TheVariants as kind
 use Rattle.plan_model.specs.BufferPlans.{is_good, pending}
 use Rattle.sftp_core.specs.Core.{Core, abandoned, after_poll, at}
 use Rattle.sftp_core.proofs.Elsewhere.{abandon_elsewhere, poll_elsewhere}
-use Rattle.call_state.specs.Asked.{Holds, Submitted}
+use Rattle.call_state.specs.Asked.{HoldsTicket, Submitted}
 use Rattle.call_state.specs.declared.poll.Poll.TheVariants as poll
 use Rattle.call_state.proofs.Keeping.{holds_still, submitted_holds}
 use Rattle.sftp_buffered.specs.declared.file.DeferredWrite.{DeferredWrite}
@@ -48,7 +48,7 @@ use Rattle.sftp_buffered.specs.Buffered.{AreApart, AreHeld, AreRising, CompatVal
 use Rattle.sftp_buffered.specs.Steps.{
   IsLeft,
   LooksAtOldest,
-  behind,
+  after_written,
   deferring,
   freed,
   freed_core,
@@ -139,7 +139,7 @@ held_more old new parts c n ticket s h =
 -- ---- the READ dropped
 
 pub apart_read : (core : Core) (r : ReadUnderWay) (ds : List DeferredWrite)
-    → Holds core r.ticket (expected.Content r.len) → AreHeld core ds → AreApart r.ticket ds
+    → HoldsTicket core r.ticket (expected.Content r.len) → AreHeld core ds → AreApart r.ticket ds
 apart_read core r [] read held = tt
 apart_read core r (d ∷ ds) read held = (other_kind core r.ticket d.ticket r.len read held.0, apart_read core r ds read held.2)
 
@@ -154,7 +154,7 @@ ends_behind offset n kept xs fits ends = (let len : length (drop n xs) ≡ lengt
 less_left : (n most : ℕ) (xs : List ℕ) → length xs ≤ most → length (drop n xs) ≤ most
 less_left n most xs fits = (let len : length (drop n xs) ≡ length xs - n = length-drop n xs in omega (arith, len, fits))
 
-counted_behind : (c : CompatValue) (n ticket : ℕ) → c.file.offset + n < 2 ^ 64 → IsCounted c → IsCounted (behind (deferring c n ticket) n)
+counted_behind : (c : CompatValue) (n ticket : ℕ) → c.file.offset + n < 2 ^ 64 → IsCounted c → IsCounted (after_written (deferring c n ticket) n)
 counted_behind c n ticket fits k =
     record {
       pending = ap (λ (m : ℕ). m + n) k.pending ∙ sym (pending_last c.deferred (record { place = c.place; len = n; ticket = ticket }));
@@ -174,14 +174,14 @@ sound_sent full parts old new p q n sound good s =
     held_freed full s.middle a (held_more old s.middle parts p n s.ticket s.submitted sound.held) in
     let read : IsHeldRead (freed_core full s.middle a) p.reading =
     subst (λ (r : Option ReadUnderWay). IsHeldRead (freed_core full s.middle a) r) (freed_reading full a) h.read in
-    let held : IsHeld (read_dropped (freed_core full s.middle a) p.reading) (behind (freed full a) n) =
+    let held : IsHeld (read_dropped (freed_core full s.middle a) p.reading) (after_written (freed full a) n) =
     record { writes = held_dropped (freed_core full s.middle a) p.reading (freed full a).deferred read h.writes; read = tt } in
     let fits : (freed full p).file.offset + n < 2 ^ 64 = subst (λ f. f.offset + n < 2 ^ 64) (sym (freed_file full p)) s.fits in
-    let counted : IsCounted (behind (freed full a) n) =
-    subst (λ (x : CompatValue). IsCounted (behind x n)) (sym (freed_deferring full old p n s.ticket good))
+    let counted : IsCounted (after_written (freed full a) n) =
+    subst (λ (x : CompatValue). IsCounted (after_written x n)) (sym (freed_deferring full old p n s.ticket good))
     (counted_behind (freed full p) n s.ticket fits (counted_freed full p sound.counted)) in
     record {
-      held = subst (λ (x : CompatValue). IsHeld new x) (sym s.left) (subst (λ (x : Core). IsHeld x (behind (freed full a) n)) (sym s.core) held);
+      held = subst (λ (x : CompatValue). IsHeld new x) (sym s.left) (subst (λ (x : Core). IsHeld x (after_written (freed full a) n)) (sym s.core) held);
       counted = subst (λ (x : CompatValue). IsCounted x) (sym s.left) counted;
     }
 

@@ -7,14 +7,14 @@ use Rattle.sftp_model.specs.declared.error.Error.TheVariants as error
 use Rattle.sftp_model.specs.declared.outcome.Outcome.{Outcome}
 use Rattle.plan_model.specs.Moves.{Answers, Plan}
 use Rattle.sftp_core.specs.Core.{Core}
-use Rattle.call_state.specs.Asked.{Holds}
+use Rattle.call_state.specs.Asked.{HoldsTicket}
 use Rattle.call_state.specs.declared.asking.Asking.{Asking}
 use Rattle.call_state.specs.declared.poll.Poll.{Poll}
 use Rattle.call_state.specs.declared.poll.Poll.TheVariants as poll
 use Rattle.sftp_buffered.specs.declared.file.DeferredWrite.{DeferredWrite}
 use Rattle.sftp_buffered.specs.Buffered.{AreApart, CompatValue, Defers, IsApart, IsSound}
 use Rattle.sftp_buffered.specs.Flushes.{FlushesTo, flush_plan}
-use Rattle.sftp_buffered.specs.Polls.{AnyCut, Asks, Polls, Waits}
+use Rattle.sftp_buffered.specs.Polls.{AnyCut, AsksAndEnds, Polls, Waits}
 use Rattle.sftp_buffered.specs.Reads.{Begun, ReadsTo}
 use Rattle.sftp_buffered.specs.Seeks.{Seeks}
 use Rattle.sftp_buffered.specs.Steps.{IsLeft}
@@ -32,7 +32,7 @@ apart_left ticket old new p q l apart = subst (IsApart ticket) (sym l.same) apar
 
 -- the ticket of a WRITE that was submitted was free
 apart_asks : (ticket : ℕ) (kind : Expected) (plan : Plan) (o : Outcome) (Cut : Asking → Type 0) (answers : Answers) (old new : Core) (p q : CompatValue)
-    → Holds old ticket kind → IsApart ticket p → Asks plan o Cut answers old new p q → IsApart ticket q
+    → HoldsTicket old ticket kind → IsApart ticket p → AsksAndEnds plan o Cut answers old new p q → IsApart ticket q
 apart_asks ticket kind plan o Cut answers old new p q held apart a =
     let rest : IsApart ticket a.rest = apart_rest ticket a.middle a.between p a.rest a.stays apart in
     subst (IsApart ticket) (sym a.left) (record {
@@ -43,7 +43,7 @@ apart_asks ticket kind plan o Cut answers old new p q held apart a =
 
 apart_polls : {V : Type 0} (ticket : ℕ) (kind : Expected) (Pending Left : Type 0) (Cut : Asking → Type 0) (plan : Plan)
     (o : V → Outcome) (answers : Answers) (old new : Core) (p q : CompatValue) (result : Poll (Result V Error))
-    → (Pending → IsApart ticket q) → (Left → IsApart ticket q) → Holds old ticket kind → IsApart ticket p
+    → (Pending → IsApart ticket q) → (Left → IsApart ticket q) → HoldsTicket old ticket kind → IsApart ticket p
     → Polls Pending Left Cut plan o answers old new p q result → IsApart ticket q
 apart_polls ticket kind Pending Left Cut plan o answers old new p q poll.Pending pending left held apart h = pending h
 apart_polls ticket kind Pending Left Cut plan o answers old new p q (poll.Ready (Err error.OutOfMemory)) pending left held apart h = left h
@@ -55,7 +55,7 @@ apart_polls ticket kind Pending Left Cut plan o answers old new p q (poll.Ready 
 apart_polls ticket kind Pending Left Cut plan o answers old new p q (poll.Ready (Err e)) pending left held apart h = apart_rest ticket old new p q h.rest apart
 
 pub writes_apart : (Cut : Asking → Type 0) (bytes : List ℕ) (old new : Core) (p q : CompatValue) (result : Poll (Result ℕ Error)) (ticket : ℕ) (kind : Expected)
-    → IsSound old p → Holds old ticket kind → IsApart ticket p → Writes Cut bytes old new p q result → IsApart ticket q
+    → IsSound old p → HoldsTicket old ticket kind → IsApart ticket p → Writes Cut bytes old new p q result → IsApart ticket q
 writes_apart Cut bytes old new p q result ticket kind s held apart w =
     let told : (answers : Answers) × Defers old p answers = replies_told old p s in
     apart_polls ticket kind _ _ Cut (write_plan bytes old p) _ told.0 old new p q result
@@ -63,7 +63,7 @@ writes_apart Cut bytes old new p q result ticket kind s held apart w =
     held apart (w.polled told.0 told.1)
 
 pub flushes_apart : (old new : Core) (p q : CompatValue) (result : Poll (Result (Unit {0}) Error)) (ticket : ℕ)
-    (kind : Expected) → IsSound old p → Holds old ticket kind → IsApart ticket p → FlushesTo old new p q result
+    (kind : Expected) → IsSound old p → HoldsTicket old ticket kind → IsApart ticket p → FlushesTo old new p q result
     → IsApart ticket q
 flushes_apart old new p q result ticket kind s held apart f =
     let told : (answers : Answers) × Defers old p answers = replies_told old p s in
@@ -72,18 +72,18 @@ flushes_apart old new p q result ticket kind s held apart f =
     (λ left. apart_rest ticket old new p q left.rest apart) held apart (f.polled told.0 told.1)
 
 apart_begun : (ticket : ℕ) (kind : Expected) (plan : Plan) (answers : Answers) (old new : Core) (p q : CompatValue)
-    → Holds old ticket kind → IsApart ticket p → Begun plan answers old new p q → IsApart ticket q
+    → HoldsTicket old ticket kind → IsApart ticket p → Begun plan answers old new p q → IsApart ticket q
 apart_begun ticket kind plan answers old new p q held apart b =
     subst (IsApart ticket) (sym b.left) (record { writes = apart.writes; read = not_free old ticket b.ticket kind held b.submitted.free })
 
-apart_pending : (ticket : ℕ) (kind : Expected) (plan : Plan) (answers : Answers) (old new : Core) (p q : CompatValue) → Holds old ticket kind → IsApart ticket p
+apart_pending : (ticket : ℕ) (kind : Expected) (plan : Plan) (answers : Answers) (old new : Core) (p q : CompatValue) → HoldsTicket old ticket kind → IsApart ticket p
     → Waits plan answers old (IsLeft old new p q) ⊎ Begun plan answers old new p q → IsApart ticket q
 apart_pending ticket kind plan answers old new p q held apart (inl w) = apart_left ticket old new p q w.left apart
 apart_pending ticket kind plan answers old new p q held apart (inr b) = apart_begun ticket kind plan answers old new p q held apart b
 
 pub reads_apart : {V : Type 0} (plan : Plan) (o : V → Outcome) (old new : Core) (p q : CompatValue)
     (result : Poll (Result V Error)) (ticket : ℕ) (kind : Expected)
-    → IsSound old p → Holds old ticket kind → IsApart ticket p → ReadsTo plan o old new p q result → IsApart ticket q
+    → IsSound old p → HoldsTicket old ticket kind → IsApart ticket p → ReadsTo plan o old new p q result → IsApart ticket q
 reads_apart plan o old new p q result ticket kind s held apart r =
     let told : (answers : Answers) × Defers old p answers = replies_told old p s in
     apart_polls ticket kind _ _ AnyCut plan o told.0 old new p q result

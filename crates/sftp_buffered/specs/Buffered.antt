@@ -8,7 +8,7 @@ use Rattle.sftp_model.specs.declared.slot.Slot.TheVariants as slots
 use Rattle.plan_model.specs.Moves.{Answers, handle_of}
 use Rattle.plan_model.specs.BufferPlans.{pending}
 use Rattle.sftp_core.specs.Core.{Core, at, reply_in}
-use Rattle.call_state.specs.Asked.{Holds}
+use Rattle.call_state.specs.Asked.{HoldsTicket}
 use Rattle.call_state.specs.Keeping.{KeepsGrants}
 use Rattle.sftp_file.specs.Files.{FileValue, file_at}
 use Rattle.sftp_buffered.specs.declared.file.DeferredWrite.{DeferredWrite}
@@ -94,12 +94,12 @@ AreApart ticket (d ∷ ds) = (ticket ≡ d.ticket → ⊥) × AreApart ticket ds
 -- the core counts the ticket of each deferred write, once
 abbrev pub AreHeld : Core → List DeferredWrite → Type 0
 AreHeld core [] = Unit {0}
-AreHeld core (d ∷ ds) = Holds core d.ticket expected.Status × AreApart d.ticket ds × AreHeld core ds
+AreHeld core (d ∷ ds) = HoldsTicket core d.ticket expected.Status × AreApart d.ticket ds × AreHeld core ds
 
 -- and that of the READ
 abbrev pub IsHeldRead : Core → Option ReadUnderWay → Type 0
 IsHeldRead core None = Unit {0}
-IsHeldRead core (Some r) = Holds core r.ticket (expected.Content r.len)
+IsHeldRead core (Some r) = HoldsTicket core r.ticket (expected.Content r.len)
 
 pub record IsHeld (core : Core) (c : CompatValue) : Type 0 where
   pub writes : AreHeld core c.deferred
@@ -168,7 +168,8 @@ pub record ShareNoTicket (other c : CompatValue) : Type 0 where
 -- a core as others see it: each ticket that is none of the file's is held as before, each grant stays, and so does what
 -- was told of the session
 pub record LeavesOthers (old new : Core) (c : CompatValue) : Type 0 where
-  pub holds : (ticket : ℕ) (kind : Expected) → IsApart ticket c → Holds old ticket kind → Holds new ticket kind
+  pub holds : (ticket : ℕ) (kind : Expected) → IsApart ticket c → HoldsTicket old ticket kind
+      → HoldsTicket new ticket kind
   pub grants : KeepsGrants old new
   pub phase : new.phase ≡ old.phase
   pub options : new.options ≡ old.options

@@ -42,7 +42,7 @@ use Rattle.sftp_buffered.specs.Reads.{
   without_read,
 }
 use Rattle.sftp_buffered.specs.Seeks.{stood}
-use Rattle.sftp_buffered.specs.Steps.{behind, deferring, must_wait, room_of, status_value, without_oldest}
+use Rattle.sftp_buffered.specs.Steps.{after_written, deferring, must_wait, room_of, status_value, without_oldest}
 use Rattle.sftp_buffered.specs.Whole.{shrunk}
 
 -- READs ask for 4 bytes at most, WRITEs carry 2, and 4 may be pending
@@ -152,7 +152,7 @@ pub full_without_oldest : room_of facts (without_oldest (holding [] (write_at 1 
 full_without_oldest = refl
 
 -- a write moves by its bytes, takes them off the buffer, and gives the READ up
-pub write_moves : behind (deferring (with_read (bare (codes "abc")) 4 9) 2 8) 2
+pub write_moves : after_written (deferring (with_read (bare (codes "abc")) 4 9) 2 8) 2
     ≡ record (holding (codes "c") (record { place = 5; len = 2; ticket = 8 } ∷ []) 2 None) { file = at 7; place = 6 }
 write_moves = refl
 

@@ -13,7 +13,7 @@ use Rattle.call_state.specs.declared.asking.Asking.{Asking}
 use Rattle.call_state.specs.declared.poll.Poll.{Poll}
 use Rattle.call_state.specs.declared.poll.Poll.TheVariants as poll
 use Rattle.sftp_buffered.specs.Buffered.{CompatValue, lane_of}
-use Rattle.sftp_buffered.specs.Steps.{IsRestOf, behind, deferring, read_dropped}
+use Rattle.sftp_buffered.specs.Steps.{IsRestOf, after_written, deferring, read_dropped}
 
 -- the plan waits for a reply, no fault is kept, and this is what is left
 pub record Waits (plan : Plan) (answers : Answers) (old : Core) (Left : Type 0) : Type 0 where
@@ -34,7 +34,7 @@ AnyCut asking = Unit {0}
 -- The plan asks this; it was submitted in such parts, and with it the plan has ended. Then the oldest writes may be
 -- gone. It is the file's next request and the last deferred write, the file stands behind its bytes, and the READ was
 -- given up.
-pub record Asks (plan : Plan) (o : Outcome) (Cut : Asking → Type 0) (answers : Answers) (old new : Core)
+pub record AsksAndEnds (plan : Plan) (o : Outcome) (Cut : Asking → Type 0) (answers : Answers) (old new : Core)
     (p q : CompatValue) : Type 0 where
   pub asking : Asking
   pub cut : Cut asking
@@ -47,7 +47,7 @@ pub record Asks (plan : Plan) (o : Outcome) (Cut : Asking → Type 0) (answers :
   pub between : Core
   pub stays : IsRestOf middle between p rest
   pub len : ℕ
-  pub left : q ≡ behind (deferring rest len ticket) len
+  pub left : q ≡ after_written (deferring rest len ticket) len
   pub core : new ≡ read_dropped between rest.reading
 
 -- What a poll answered, where `Pending`, want of memory and a kept fault leave what is said of them; a fault is
@@ -59,6 +59,6 @@ Polls Due Left Cut plan o answers old new p q (poll.Ready (Err error.OutOfMemory
 Polls Due Left Cut plan o answers old new p q (poll.Ready (Err (error.BackgroundTaskFailure fault))) =
     (old.fault ≡ Some fault) × IsUnfinished (plan [] answers) × Left
 Polls Due Left Cut plan o answers old new p q (poll.Ready (Ok value)) = Ends plan (o value) answers old new p q
-    ⊎ Asks plan (o value) Cut answers old new p q
+    ⊎ AsksAndEnds plan (o value) Cut answers old new p q
 Polls Due Left Cut plan o answers old new p q (poll.Ready (Err e)) =
     Ends plan (outcome.Refused e) answers old new p q

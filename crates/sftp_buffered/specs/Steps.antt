@@ -38,7 +38,7 @@ use Rattle.sftp_model.specs.declared.reply.Reply.TheVariants as reply
 use Rattle.sftp_model.specs.declared.slot.Facts.{Facts}
 use Rattle.plan_model.specs.BufferPlans.{is_good}
 use Rattle.sftp_core.specs.Core.{Core, abandoned, after_poll, at, reply_in}
-use Rattle.call_state.specs.Asked.{Holds}
+use Rattle.call_state.specs.Asked.{HoldsTicket}
 use Rattle.call_state.specs.declared.poll.Poll.{Poll}
 use Rattle.call_state.specs.declared.poll.Poll.TheVariants as poll
 use Rattle.sftp_buffered.specs.declared.file.DeferredWrite.{DeferredWrite}
@@ -53,7 +53,7 @@ pub record IsLeft (old new : Core) (p q : CompatValue) : Type 0 where
 -- the core counts the ticket and has its reply, which is no HANDLE
 pub record HasReply (core : Core) (ticket : ℕ) : Type 0 where
   pub kind : Expected
-  pub held : Holds core ticket kind
+  pub held : HoldsTicket core ticket kind
   pub plain : (handle : List ℕ) → allows kind (reply.Handle handle) ≡ true → ⊥
   pub taken : IsSome (reply_in (at core ticket))
 
@@ -145,8 +145,8 @@ read_dropped core None = core
 read_dropped core (Some r) = abandoned core r.ticket
 
 -- the file stands behind n bytes that were written, and nothing is read
-abbrev pub behind : CompatValue → ℕ → CompatValue
-behind c n =
+abbrev pub after_written : CompatValue → ℕ → CompatValue
+after_written c n =
     record c {
       file = record c.file { offset = c.file.offset + n };
       buffered = drop n c.buffered;

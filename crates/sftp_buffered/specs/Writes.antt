@@ -22,7 +22,7 @@ use Rattle.sftp_buffered.specs.Polls.{Polls, Waits}
 use Rattle.sftp_buffered.specs.Steps.{
   IsLeft,
   LooksAtOldest,
-  behind,
+  after_written,
   deferring,
   freed,
   freed_core,
@@ -61,7 +61,7 @@ pub record Sent (full : Bool) (parts : List (List ℕ)) (old new : Core) (p q : 
   pub ticket : ℕ
   pub middle : Core
   pub submitted : Submitted old (Parts p.file.grant.handle p.file.offset parts) ticket middle
-  pub left : q ≡ behind (freed full (deferring p n ticket)) n
+  pub left : q ≡ after_written (freed full (deferring p n ticket)) n
   pub core : new ≡ read_dropped (freed_core full middle (deferring p n ticket)) p.reading
 
 -- Or it was not submitted: for want of memory, by a kept fault, or past the greatest offset, for which the oldest

@@ -6,14 +6,14 @@ ghost use Rattle.std.specs.declared.io.traits.SeekFrom.{SeekFrom};
 ghost use Rattle.sftp_model.specs.declared.answers.Expected.{Expected};
 ghost use Rattle.sftp_model.specs.declared.error.Error.{Error};
 ghost use Rattle.sftp_model.specs.declared.outcome.Outcome.{Outcome};
-ghost use Rattle.call_state.specs.Asked.{Holds};
+ghost use Rattle.call_state.specs.Asked.{HoldsTicket};
 ghost use Rattle.call_state.specs.declared.poll.Poll.{Poll};
 ghost use Rattle.sftp_buffered.specs.Flushes.{FlushesTo};
 ghost use Rattle.sftp_buffered.specs.Polls.{AnyCut};
 ghost use Rattle.sftp_buffered.specs.Reads.{ReadsTo};
 ghost use Rattle.sftp_buffered.specs.Seeks.{Seeks};
 ghost use Rattle.sftp_buffered.specs.Writes.{IsCutOut, Writes};
-ghost use Rattle.call_state.specs.Keeping.{Keeps};
+ghost use Rattle.call_state.specs.Keeping.{KeepsHeld};
 ghost use Rattle.plan_model.specs.Moves.{Answers, Plan};
 ghost use Rattle.sftp_buffered.specs.Buffered.{CompatValue, Defers, IsApart, IsSound, LeavesOthers, ShareNoTicket};
 
@@ -21,7 +21,7 @@ ghost use Rattle.sftp_buffered.specs.Buffered.{CompatValue, Defers, IsApart, IsS
 /// hand-out or a take of `calls_keep_what_is_held` in `call_state`), a poll and a cancel of another request, a file
 /// that is let go or shared, and what another buffered file does, where no request is of both.
 pub fn others_leave_it_sound()
-    ensures kept { (old new : Core) (c : CompatValue) → Keeps old new → IsSound old c → IsSound new c }
+    ensures kept { (old new : Core) (c : CompatValue) → KeepsHeld old new → IsSound old c → IsSound new c }
     ensures polled { (core : Core) (ticket : ℕ) (c : CompatValue) → IsApart ticket c → IsSound core c
         → IsSound (after_poll core ticket) c }
     ensures cancelled { (core : Core) (ticket : ℕ) (c : CompatValue) → IsApart ticket c → IsSound core c
@@ -42,19 +42,19 @@ pub fn replies_can_be_told()
 /// A ticket that others hold, and that is none of a buffered file's, is none of it after a poll or a seek either.
 pub fn tickets_stay_apart()
     ensures writes { (bytes : List ℕ) (old new : Core) (p q : CompatValue) (result : Poll (Result ℕ Error)) (ticket : ℕ)
-        (kind : Expected) → IsSound old p → Holds old ticket kind → IsApart ticket p
+        (kind : Expected) → IsSound old p → HoldsTicket old ticket kind → IsApart ticket p
         → Writes AnyCut bytes old new p q result → IsApart ticket q }
     ensures vectored { (pieces : List (List ℕ)) (bytes : List ℕ) (old new : Core) (p q : CompatValue)
-        (result : Poll (Result ℕ Error)) (ticket : ℕ) (kind : Expected) → IsSound old p → Holds old ticket kind
+        (result : Poll (Result ℕ Error)) (ticket : ℕ) (kind : Expected) → IsSound old p → HoldsTicket old ticket kind
         → IsApart ticket p → Writes (IsCutOut pieces p) bytes old new p q result → IsApart ticket q }
     ensures flushes { (old new : Core) (p q : CompatValue) (result : Poll (Result (Unit {0}) Error)) (ticket : ℕ)
-        (kind : Expected) → IsSound old p → Holds old ticket kind → IsApart ticket p
+        (kind : Expected) → IsSound old p → HoldsTicket old ticket kind → IsApart ticket p
         → FlushesTo old new p q result → IsApart ticket q }
     ensures fills { (plan : Plan) (o : Unit {0} → Outcome) (old new : Core) (p q : CompatValue)
         (result : Poll (Result (Unit {0}) Error)) (ticket : ℕ) (kind : Expected) → IsSound old p
-        → Holds old ticket kind → IsApart ticket p → ReadsTo plan o old new p q result → IsApart ticket q }
+        → HoldsTicket old ticket kind → IsApart ticket p → ReadsTo plan o old new p q result → IsApart ticket q }
     ensures reads { (plan : Plan) (o : ℕ → Outcome) (old new : Core) (p q : CompatValue)
-        (result : Poll (Result ℕ Error)) (ticket : ℕ) (kind : Expected) → IsSound old p → Holds old ticket kind
+        (result : Poll (Result ℕ Error)) (ticket : ℕ) (kind : Expected) → IsSound old p → HoldsTicket old ticket kind
         → IsApart ticket p → ReadsTo plan o old new p q result → IsApart ticket q }
     ensures seeks { (position : SeekFrom) (old new : Core) (p q : CompatValue) (result : Result (Unit {0}) Error)
         (ticket : ℕ) → IsApart ticket p → Seeks position old new p q result → IsApart ticket q }

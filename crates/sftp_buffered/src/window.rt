@@ -3,7 +3,7 @@ ghost use Rattle.std.specs.Prelude.{◌≡◌, ◌≤◌, ◌<◌, ◌+◌, ◌^
 ghost use Rattle.plan_model.specs.BufferPlans.{is_good};
 ghost use Rattle.sftp_model.specs.Numbers.{MAX_TRANSFER_LEN};
 ghost use Rattle.sftp_buffered.specs.Buffered.{AreHeld, IsHeldRead, IsSound};
-ghost use Rattle.sftp_buffered.specs.Steps.{behind, freed, freed_core, must_wait, oldest_len, oldest_reply, read_dropped, room_of};
+ghost use Rattle.sftp_buffered.specs.Steps.{after_written, freed, freed_core, must_wait, oldest_len, oldest_reply, read_dropped, room_of};
 ghost use Rattle.sftp_buffered.specs.Writes.{IsWindow};
 ghost use Rattle.sftp_file.specs.Files.{facts_of};
 ghost use Rattle.sftp_core.specs.Info.{info_of};
@@ -85,7 +85,7 @@ impl TokioCompatFile {
         requires fits { self.old.file.offset + len < 2 ^ 64 }
         requires counts { self.old.pending + len < 2 ^ 64 }
         requires held { IsHeldRead core.old self.old.reading }
-        ensures left { self.new ≡ behind self.old len }
+        ensures left { self.new ≡ after_written self.old len }
         ensures core { core.new ≡ read_dropped core.old self.old.reading }
     {
         self.file.advance(len as u64);

@@ -44,11 +44,11 @@ one_greeting a b r e f = ap told (e ∙ sym f)
 -- the run of a text, by what the script gives
 fixed_by : (form : Form) (script : Script) (kept : Option Serving) (text : List ℕ) → (p : IsPrinted form kept script text)
     → IsFixedBy script.lanes script.options p.run.extensions script.turns script.server script.choices script.picks
-    (first_tree script.files script.dirs) p.run.past p.server.now.desk.machine.tree
+    (first_tree script.files script.dirs) p.run.past p.server.now.state.machine.tree
 fixed_by form script kept text p = record {
   run = p.run.run;
-  served = subst (λ (f : Server). Serves f.desk.machine.config f.desk.choices f.desk.machine.tree p.run.past
-      p.server.now.desk.machine.tree) p.first p.run.served.serves;
+  served = subst (λ (f : Server). Serves f.state.machine.config f.state.choices f.state.machine.tree p.run.past
+      p.server.now.state.machine.tree) p.first p.run.served.serves;
   picked = subst (λ (f : Server). IsPicked f.output.picks p.run.past) p.first p.run.served.by_picks;
   numbered = p.run.served.numbered;
 }
@@ -56,7 +56,7 @@ fixed_by form script kept text p = record {
 -- what the server told of itself is what the script's server tells
 told_by : (form : Form) (script : Script) (kept : Option Serving) (text : List ℕ) → (p : IsPrinted form kept script text)
     → greeting p.run.extensions ≡ version_reply script.server
-told_by form script kept text p = p.run.version ∙ ap (λ (x : Server). version_reply x.desk.machine.config) p.first
+told_by form script kept text p = p.run.version ∙ ap (λ (x : Server). version_reply x.state.machine.config) p.first
 
 -- ---- what is written of a report is fixed by its run
 
@@ -103,10 +103,10 @@ one_text form script one other text same p q =
     let both : p.run.extensions ≡ q.run.extensions =
     one_greeting p.run.extensions q.run.extensions _ (told_by form script one text p) (told_by form script other same q) in
     let second = subst (λ (e : Extensions). IsFixedBy script.lanes script.options e script.turns script.server
-    script.choices script.picks (first_tree script.files script.dirs) q.run.past q.server.now.desk.machine.tree)
+    script.choices script.picks (first_tree script.files script.dirs) q.run.past q.server.now.state.machine.tree)
     (sym both) (fixed_by form script other same q) in
     let run = one_run script.lanes script.options p.run.extensions script.turns script.server script.choices script.picks
-    (first_tree script.files script.dirs) p.run.past p.server.now.desk.machine.tree q.run.past
-    q.server.now.desk.machine.tree (fixed_by form script one text p) second in
-    p.is ∙ (report_fixed form script.lanes p.report q.report p.run.past q.run.past p.server.now.desk.machine.tree
-    q.server.now.desk.machine.tree p.run.trace p.run.outcomes q.run.trace q.run.outcomes run.0 run.1 ∙ sym q.is)
+    (first_tree script.files script.dirs) p.run.past p.server.now.state.machine.tree q.run.past
+    q.server.now.state.machine.tree (fixed_by form script one text p) second in
+    p.is ∙ (report_fixed form script.lanes p.report q.report p.run.past q.run.past p.server.now.state.machine.tree
+    q.server.now.state.machine.tree p.run.trace p.run.outcomes q.run.trace q.run.outcomes run.0 run.1 ∙ sym q.is)

@@ -23,7 +23,7 @@ use Rattle.session_exchange.specs.Causes.{Cause}
 use Rattle.session_driver.specs.Logs.{Ends}
 use Rattle.session_driver.specs.Session.{Given, IsFixed}
 use Rattle.machine_model.specs.FirstTree.{FirstFile}
-use Rattle.sftp_map_server.specs.Serving.{IsServing, Server, Serving, first_desk, opened, version_reply}
+use Rattle.sftp_map_server.specs.Serving.{IsServing, Server, Serving, first_state, opened, version_reply}
 use Rattle.sftp_map_server.specs.Unopened.{IsUnopened, unopened}
 use Rattle.map_server_laws.proofs.Whole.{version_is_told, run_is_served, stops_for_memory}
 use Rattle.sftp_lanes.specs.Reported.{IsReport}
@@ -40,14 +40,14 @@ pub from_empty : {A : Type 0} (R : List A → List A → Type 0) (before now : L
 from_empty R before now none h = subst (λ b. R b now) none h
 
 -- the server's files and directories are a tree
-begins_well : (first : Server) → IsUnopened first → IsWellFormed first.desk.machine.tree
-begins_well first u = subst (λ (x : Server). IsWellFormed x.desk.machine.tree) (sym u.is) (first_well_formed u.files u.dirs u.may)
+begins_well : (first : Server) → IsUnopened first → IsWellFormed first.state.machine.tree
+begins_well first u = subst (λ (x : Server). IsWellFormed x.state.machine.tree) (sym u.is) (first_well_formed u.files u.dirs u.may)
 
 -- its link serves files to whichever lanes a session can be given
 pub server_serves_files : (lanes : List Lane) (options : SftpOptions) (server : Serving) → are_ok lanes ≡ true
     → IsUnopened server.first → IsServing server.first server.now server.log server.ended
-    → ServesFiles lanes options server.first.desk.machine.config server.first.desk.choices
-    server.first.desk.machine.tree server.now.desk.machine.tree [] server.log
+    → ServesFiles lanes options server.first.state.machine.config server.first.state.choices
+    server.first.state.machine.tree server.now.state.machine.tree [] server.log
 server_serves_files lanes options server ok new serving extensions turns past run shown =
     (run_is_served (record { lanes = lanes; options = options }) (Some (greeting extensions))
     (setting_of lanes options extensions past) turns past server new serving ok run (extensions, (refl, refl))
@@ -70,12 +70,12 @@ served_report lanes options turns old now r ok new none same serving report =
       extensions = report.extensions;
       past = report.past;
       run = report.run;
-      version = some_is (greeting report.extensions) (version_reply now.first.desk.machine.config) told;
+      version = some_is (greeting report.extensions) (version_reply now.first.state.machine.config) told;
       shown = shown;
       served = served;
       closed = report.closed;
-      files = report.files now.first.desk.machine.config now.first.desk.choices now.first.desk.machine.tree
-          now.now.desk.machine.tree (begins_well now.first fresh) served.serves;
+      files = report.files now.first.state.machine.config now.first.state.choices now.first.state.machine.tree
+          now.now.state.machine.tree (begins_well now.first fresh) served.serves;
       trace = report.trace;
       outcomes = report.outcomes;
     }
@@ -107,15 +107,15 @@ only_for_memory lanes options turns old now e ok new none same serving ends why 
 -- a report that a text was made of, over a server that is kept
 abbrev ReportText : Form → List Lane → SftpOptions → List Turn → Serving → List ℕ → Type 0
 ReportText form lanes options turns now text = (report : Report) × IsServedReport lanes options turns now report
-    × (text ≡ report_text form report now.now.desk.machine.tree)
+    × (text ≡ report_text form report now.now.state.machine.tree)
 
 -- the server of a script's files and directories is the script's
 first_is : (script : Script) (files : List FirstFile) (dirs : List (List ℕ)) (old : Serving) → files ≡ script.files
     → dirs ≡ script.dirs → old ≡ unopened files dirs script.server script.choices script.picks → IsServerOf script old
 first_is script files dirs old f d is =
     ap (λ (s : Serving). s.first) is
-    ∙ (ap (λ (x : List FirstFile). opened (first_desk x dirs script.server script.choices) script.picks) f
-    ∙ ap (λ (x : List (List ℕ)). opened (first_desk script.files x script.server script.choices) script.picks) d)
+    ∙ (ap (λ (x : List FirstFile). opened (first_state x dirs script.server script.choices) script.picks) f
+    ∙ ap (λ (x : List (List ℕ)). opened (first_state script.files x script.server script.choices) script.picks) d)
 
 -- over the server of a script, which was kept, it is the script's
 pub printed_if : (form : Form) (script : Script) (kept : Option Serving) (files : List FirstFile) (dirs : List (List ℕ))

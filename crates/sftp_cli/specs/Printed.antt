@@ -47,8 +47,8 @@ report_text form.Summary report tree = summary_text (summary_left report tree)
 
 -- what a run of lanes gives of files and leaves of them, over a server that was this one at first
 abbrev pub KeepsOver : Server → List Lane → Setting → List Entry → FileTree → Type 0
-KeepsOver first lanes s past left = KeepsFiles lanes first.desk.machine.config first.desk.choices
-    first.desk.machine.tree s past left (outcomes_below past (length lanes))
+KeepsOver first lanes s past left = KeepsFiles lanes first.state.machine.config first.state.choices
+    first.state.machine.tree s past left (outcomes_below past (length lanes))
 
 -- The report is that of a run of lanes over this server, whose log shows it: VERSION told what the server offers, and
 -- the log shows VERSION and the run's journal. The replies are those of one sequential run of the file machine, in the
@@ -60,11 +60,11 @@ pub record IsServedReport (lanes : List Lane) (options : SftpOptions) (turns : L
   pub extensions : Extensions
   pub past : List Entry
   pub run : IsRun (setting_of lanes options extensions past) turns past
-  pub version : greeting extensions ≡ version_reply server.first.desk.machine.config
+  pub version : greeting extensions ≡ version_reply server.first.state.machine.config
   pub shown : Shows (greeting extensions) past [] server.log
-  pub served : IsServedRun server.first past server.now.desk.machine.tree
+  pub served : IsServedRun server.first past server.now.state.machine.tree
   pub closed : AreClosed past
-  pub files : KeepsOver server.first lanes (setting_of lanes options extensions past) past server.now.desk.machine.tree
+  pub files : KeepsOver server.first lanes (setting_of lanes options extensions past) past server.now.state.machine.tree
   pub trace : report.trace ≡ trace_of past
   pub outcomes : report.outcomes ≡ outcomes_below past (length lanes)
 
@@ -75,7 +75,7 @@ pub record IsPrinted (form : Form) (kept : Option Serving) (script : Script) (te
   pub first : IsServerOf script server
   pub report : Report
   pub run : IsServedReport script.lanes script.options script.turns server report
-  pub is : text ≡ report_text form report server.now.desk.machine.tree
+  pub is : text ≡ report_text form report server.now.state.machine.tree
 
 -- how many bytes a file has, where there is one
 abbrev pub file_len_of : Option (List ℕ × List ℕ) → ℕ

@@ -46,5 +46,5 @@ pub fn statuses_have_causes<D: Dial>()
 pub fn servers_in_memory_serve_files()
     ensures { (lanes : List Lane) (options : SftpOptions) (server : Serving) → are_ok lanes ≡ true → IsUnopened server.first
         → IsServing server.first server.now server.log server.ended
-        → ServesFiles lanes options server.first.desk.machine.config server.first.desk.choices server.first.desk.machine.tree server.now.desk.machine.tree [] server.log }
+        → ServesFiles lanes options server.first.state.machine.config server.first.state.choices server.first.state.machine.tree server.now.state.machine.tree [] server.log }
 {}

@@ -69,7 +69,7 @@ fn served_run(
 
 /// How many bytes file k has.
 fn file_len_at(server: &MapServer, k: u64) -> u64
-    ensures { result ≡ file_len_of (file_at server.now.now.desk.machine.tree k) }
+    ensures { result ≡ file_len_of (file_at server.now.now.state.machine.tree k) }
 {
     match server.file(k) {
         Some((_, content)) => content.len() as u64,
@@ -80,7 +80,7 @@ fn file_len_at(server: &MapServer, k: u64) -> u64
 /// How many bytes all files have, or the greatest number of 64 bits where they are more.
 #[tactic(auto, using(crate::proofs::Files::len_step, crate::proofs::Files::lens_end))]
 fn bytes_left(server: &MapServer) -> u64
-    ensures { result ≡ bytes_left server.now.now.desk.machine.tree }
+    ensures { result ≡ bytes_left server.now.now.state.machine.tree }
 {
     let mut count: u64 = 0;
     for k in 0..server.file_count() {
@@ -95,7 +95,7 @@ fn summary_with_files(
     report: &Report,
     server: &MapServer,
 ) -> Result<Vec<u8>, OutOfMemory>
-    ensures { IfOk result (λ text. text.items ≡ report_text form.Summary report.now server.now.now.desk.machine.tree) }
+    ensures { IfOk result (λ text. text.items ≡ report_text form.Summary report.now server.now.now.state.machine.tree) }
 {
     let summary = summary_of(report, server.file_count(), bytes_left(server));
     let mut text = Vec::new(alloc);
@@ -109,7 +109,7 @@ fn text_with_files(
     report: &Report,
     server: &MapServer,
 ) -> Result<Vec<u8>, OutOfMemory>
-    ensures { IfOk result (λ text. text.items ≡ report_text form.Whole report.now server.now.now.desk.machine.tree) }
+    ensures { IfOk result (λ text. text.items ≡ report_text form.Whole report.now server.now.now.state.machine.tree) }
 {
     let mut text = Vec::new(alloc);
     write_text(alloc, report, &mut text)?;
@@ -125,7 +125,7 @@ fn report_text(
     report: &Report,
     server: &MapServer,
 ) -> Result<Vec<u8>, OutOfMemory>
-    ensures { IfOk result (λ text. text.items ≡ report_text form report.now server.now.now.desk.machine.tree) }
+    ensures { IfOk result (λ text. text.items ≡ report_text form report.now server.now.now.state.machine.tree) }
 {
     match form {
         Form::Whole => text_with_files(alloc, report, server),
@@ -149,7 +149,7 @@ fn text_over(
     requires quiet { server.log ≡ [] }
     ensures text { IfOk result (λ text. IsSomeAnd kept.new (λ now. (report : Report)
         × IsServedReport lanes.now options.now turns.now now report
-        × (text.items ≡ report_text form report now.now.desk.machine.tree))) }
+        × (text.items ≡ report_text form report now.now.state.machine.tree))) }
     ensures kept { IsSomeAnd kept.new (λ now. now.first ≡ server.first) }
 {
     let text = match served_run(alloc, &mut server, lanes, turns, options) {

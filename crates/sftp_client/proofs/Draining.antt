@@ -7,7 +7,7 @@ use Rattle.sftp_core.specs.Core.{Core, awaited_of, handed_out, unanswered_of}
 use Rattle.sftp_core.specs.Info.{info_of}
 use Rattle.sftp_core.specs.declared.phase.Phase.{Phase}
 use Rattle.sftp_link.specs.Views.{LinkView}
-use Rattle.sftp_client.specs.Sessions.{Flushes, SftpValue, Takes, TakesFrame}
+use Rattle.sftp_client.specs.Sessions.{Flushes, SftpValue, TakesOrKept, TakesFrame}
 use Rattle.sftp_client.specs.Rounds.{Drains, HasRounds, RoundStops}
 use Rattle.sftp_client.proofs.Lowering.{all_awaited, hand_out_leaves, hand_out_waits, still_due, take_lowers, take_stays_open}
 
@@ -37,7 +37,7 @@ drains_first state old new u opened flushed =
 
 -- where something is unanswered, a take takes a frame
 pub takes_one : {L S : Type 0} (state : L → LinkView S) (old mid new : SftpValue L) (took : Bool) → DrainsOn state old mid
-    → 0 < unanswered_of mid.core → Takes state mid new (Ok took) → TakesFrame state mid new
+    → 0 < unanswered_of mid.core → TakesOrKept state mid new (Ok took) → TakesFrame state mid new
 takes_one state old mid new true d some takes = takes.1.1
 takes_one state old mid new false d some takes =
     let none : awaited_of mid.core ≡ 0 = takes.1.none in

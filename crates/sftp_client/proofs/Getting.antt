@@ -18,7 +18,7 @@ use Rattle.session_exchange.specs.Causes.{Caused}
 use Rattle.session_exchange.specs.Reading.{IsFramePart, IsOfOneFrame, IsPartway}
 use Rattle.session_exchange.proofs.Getting.{got_both, got_nothing, part_came, part_fails}
 use Rattle.session_exchange.proofs.Joining.{caused_on, caused_self}
-use Rattle.sftp_client.specs.Incoming.{Coming, FillsPart, IsUnfilled, Keeps, PullsTo, bytes_of}
+use Rattle.sftp_client.specs.Incoming.{Coming, FillsPart, IsUnfilled, KeepsOfFrame, PullsTo, bytes_of}
 
 -- ---- the rest of a room
 
@@ -102,7 +102,7 @@ fits_need front need lt =
 
 -- what is kept where a part didn't come whole
 pub keeps_unfilled : (e : Error) (r : Received) (front : List ℕ) → IsPartway r → length front < need_of r → IsUnfilled e
-    → Keeps e (r.bytes ++ front) (record { whole = r.bytes; part = front })
+    → KeepsOfFrame e (r.bytes ++ front) (record { whole = r.bytes; part = front })
 keeps_unfilled error.OutOfMemory r front at lt unfilled =
     let fails = part_fails device.OutOfMemory r (front ++ replicate (need_of r - length front) 0) [] (Got front ∷ []) at.unrefused at.prefix
     (fits_need front (need_of r) lt) (less_than front (need_of r) lt) in
@@ -146,7 +146,7 @@ pulled_until W V old mid new e {x = x} {y = y} {z = z} so stops =
       got = so.0 ++ stops.got;
       log = told_on (GotAll so.0) (GotAll stops.got) (GotAll (so.0 ++ stops.got)) x.log y.log z.log so.1.1.0 stops.log
           (λ p q r s t. got_both p q r so.0 stops.got s t);
-      comes = subst (λ (w : List ℕ). Keeps e w new) all stops.comes;
+      comes = subst (λ (w : List ℕ). KeepsOfFrame e w new) all stops.comes;
       caused = caused_on x y z tt (Err e) so.1.1.1 stops.caused;
     }
 
@@ -160,7 +160,7 @@ pull_stops Whole e r old new at f =
     record {
       got = f.got;
       log = f.log;
-      comes = subst (λ (w : List ℕ). Keeps e w (record { whole = r.bytes; part = new })) all
+      comes = subst (λ (w : List ℕ). KeepsOfFrame e w (record { whole = r.bytes; part = new })) all
           (keeps_unfilled e r new at f.short.1 f.short.0);
       caused = f.caused;
     }

@@ -11,7 +11,7 @@ use Rattle.sftp_model.specs.declared.request.Request.TheVariants as request
 use Rattle.sftp_core.specs.Core.{Core, at, reply_in}
 use Rattle.sftp_core.specs.Info.{info_of}
 use Rattle.sftp_link.specs.Views.{LinkView}
-use Rattle.call_state.specs.Keeping.{Keeps, KeepsGrants}
+use Rattle.call_state.specs.Keeping.{KeepsHeld, KeepsGrants}
 use Rattle.call_state.specs.declared.asking.Asking.TheVariants.{Whole}
 use Rattle.call_state.specs.declared.poll.Poll.TheVariants.{Pending, Ready}
 use Rattle.call_state.proofs.Keeping.{grant_kept, grants_both, keeps_same, submitted_missing}
@@ -22,11 +22,11 @@ use Rattle.sftp_client.specs.Waits.{ArePollRounds, RoundFails, SendsAndTakes}
 use Rattle.sftp_client.proofs.Waiting.{AwaitsOne, fail_stays, round_stays, round_takes, round_unfaulted, where_ok}
 
 -- a listing stays what it is over what keeps a core
-awaits_still : (old new : Core) (asked : Option ℕ) → Keeps old new → IsAwaiting old asked → IsAwaiting new asked
+awaits_still : (old new : Core) (asked : Option ℕ) → KeepsHeld old new → IsAwaiting old asked → IsAwaiting new asked
 awaits_still old new None k h = tt
 awaits_still old new (Some ticket) k h = k.holds ticket expected.Names h
 
-listing_still : (old new : Core) (p : ListingValue) → Keeps old new → IsListing old p → IsListing new p
+listing_still : (old new : Core) (p : ListingValue) → KeepsHeld old new → IsListing old p → IsListing new p
 listing_still old new p k h =
     record { granted = grant_kept old new p.grant k.grants h.granted; awaits = awaits_still old new p.asked k h.awaits }
 

@@ -14,7 +14,7 @@ use Rattle.sftp_model.specs.declared.reply.Reply.{Reply}
 use Rattle.sftp_model.specs.declared.reply.Reply.TheVariants as reply
 use Rattle.sftp_model.specs.declared.request.Request.TheVariants.{LimitsQuery}
 use Rattle.sftp_core.specs.Core.{Core, at, fresh, handed_out, queued_last}
-use Rattle.sftp_core.specs.Frames.{frames_of}
+use Rattle.sftp_model.specs.Frames.{frames_of}
 use Rattle.sftp_core.specs.Info.{info_of}
 use Rattle.sftp_core.specs.declared.info.Info.{Info}
 use Rattle.sftp_core.specs.Table.{brings}
@@ -40,7 +40,7 @@ use Rattle.sftp_core.specs.declared.tokens.Taken.{Taken}
 use Rattle.session_exchange.specs.Causes.{Caused}
 use Rattle.session_exchange.proofs.Getting.{sent_both}
 use Rattle.session_exchange.proofs.Joining.{caused_on}
-use Rattle.sftp_client.specs.Rounds.{ExchangeEnds, Exchanges, GoesOn, IsOpened}
+use Rattle.sftp_client.specs.Rounds.{ExchangeEnds, Exchanges, AsksForLimits, IsOpened}
 use Rattle.sftp_client.specs.Sessions.{FlushesUnfailed, SendsAll, SendsRest, SftpValue, TakesWhole, handed, kept_after}
 
 -- ---- a flush
@@ -186,7 +186,7 @@ exchange_leaves_fault state old new x =
     take_leaves_fault x.mid.core new.core (reply_at x.takes.body) x.takes.told x.takes.taken
     ∙ ap (λ (s : SftpValue _). s.core.fault) x.sends.left
 
-goes_by : {L S : Type 0} (state : L → LinkView S) (greeted : SftpValue L) (x : Option Info) → IsSome x → GoesOn state greeted greeted x
+goes_by : {L S : Type 0} (state : L → LinkView S) (greeted : SftpValue L) (x : Option Info) → IsSome x → AsksForLimits state greeted greeted x
 goes_by state greeted None some = absurd cc
 goes_by state greeted (Some info) some = refl
 
@@ -219,7 +219,7 @@ opened_after state old greeted new fresh first none second =
     record {
       greeted = greeted;
       greets = first;
-      goes = subst (λ (x : Option Info). GoesOn state greeted new x) (sym none) second;
+      goes = subst (λ (x : Option Info). AsksForLimits state greeted new x) (sym none) second;
       unfaulted = caused_on (state old.link) (state greeted.link) (state new.link) tt (Ok tt) (exchange_unfaulted state old greeted first)
           (exchange_unfaulted state greeted new second);
       told = asking_opens second.mid.core new.core (reply_at second.takes.body) second.takes.told asks.0

@@ -38,7 +38,7 @@ use Rattle.sftp_core.specs.Frames.{AreFilled}
 use Rattle.sftp_model.specs.Pieces.{joined}
 use Rattle.session_exchange.specs.Causes.{Caused, IsUnsent, fault_of_link}
 use Rattle.session_exchange.proofs.Joining.{caused_on, caused_self}
-use Rattle.sftp_client.specs.Outgoing.{Begins, IsAt, IsWithin, SendsOn, unsent_from}
+use Rattle.sftp_client.specs.Outgoing.{IsPrefixOf, IsAt, IsWithin, SendsOn, unsent_from}
 
 -- ---- a place in a chunk
 
@@ -130,7 +130,7 @@ all_sent old new none so = record { sent = so.0; cut = so.1.0; whole = none; log
 -- ---- what is gathered
 
 -- a send of the first of the bytes is one of the bytes
-pub sends_first : {S : Type 0} (first bytes : List ℕ) {x y : LinkView S} (r : Result ℕ DeviceError) → Begins first bytes
+pub sends_first : {S : Type 0} (first bytes : List ℕ) {x y : LinkView S} (r : Result ℕ DeviceError) → IsPrefixOf first bytes
     → HasSent S first x y r → HasSent S bytes x y r
 sends_first {S = S} first bytes {x = x} {y = y} (Err e) begins s = record { within = tt; log = s.log; end = s.end; cause = s.cause; same = s.same }
 sends_first {S = S} first bytes {x = x} {y = y} (Ok n) begins s =
@@ -150,7 +150,7 @@ joined_both (p ∷ a) b = ap (λ (w : List ℕ). p ++ w) (joined_both a b) ∙ s
 
 -- what was gathered so far begins all
 pub gathered_begins : (first items : List ℕ) (later : List (List ℕ)) (i : ℕ) → items ≡ first ++ joined (take i later)
-    → Begins items (first ++ joined later)
+    → IsPrefixOf items (first ++ joined later)
 gathered_begins first items later i is =
     let cut : joined later ≡ joined (take i later) ++ joined (drop i later) =
     ap joined (sym (take-append-drop i later)) ∙ joined_both (take i later) (drop i later) in (

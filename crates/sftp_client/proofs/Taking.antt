@@ -15,7 +15,7 @@ use Rattle.sftp_core.specs.declared.errors.TakeError.TheVariants as take
 use Rattle.session_exchange.specs.Causes.{Caused}
 use Rattle.session_exchange.proofs.Getting.{sent_both}
 use Rattle.session_exchange.proofs.Joining.{caused_on, error_causes}
-use Rattle.sftp_client.specs.Incoming.{Coming, Keeps, bytes_of, nothing_came}
+use Rattle.sftp_client.specs.Incoming.{Coming, KeepsOfFrame, bytes_of, nothing_came}
 use Rattle.sftp_client.specs.Sessions.{
   Exchanged,
   GetStops,
@@ -145,7 +145,7 @@ stops_after state old mid new e sends stops =
     record {
       got = stops.got;
       log = after_sent state old mid new stops.got sends stops.log;
-      keeps = subst (λ (c : Coming). Keeps e (bytes_of c ++ stops.got) new.coming) coming stops.keeps;
+      keeps = subst (λ (c : Coming). KeepsOfFrame e (bytes_of c ++ stops.got) new.coming) coming stops.keeps;
       left = subst (λ (c : Core). new ≡ record { core = kept_after e c; unsent = []; coming = new.coming; link = new.link }) core stops.left;
       caused = caused_on (state old.link) (state mid.link) (state new.link) tt (Err e) sends.unfaulted stops.caused;
     }

@@ -9,7 +9,7 @@ use Rattle.sftp_core.specs.Core.{Core, at, awaited_of, failed_with, handed_out, 
 use Rattle.sftp_core.specs.Info.{info_of}
 use Rattle.sftp_link.specs.Views.{LinkView}
 use Rattle.call_state.specs.Calls.{CallValue, Cancels, HoldsReady, IsHeld, IsHeldAt, IsUnderWay, KeepsOtherTickets, Stepped, cancelled, is_ended}
-use Rattle.call_state.specs.Keeping.{Keeps, KeepsGrants}
+use Rattle.call_state.specs.Keeping.{KeepsHeld, KeepsGrants}
 use Rattle.call_state.specs.Machines.{Meaning}
 use Rattle.call_state.specs.declared.poll.Poll.{Poll}
 use Rattle.call_state.specs.declared.stage.Stage.{Stage}
@@ -30,7 +30,7 @@ use Rattle.sftp_client.specs.Sessions.{
   IsKept,
   SendStops,
   SftpValue,
-  Takes,
+  TakesOrKept,
   TakesFrame,
   TakesUnfailed,
   TakesWhole,
@@ -57,27 +57,27 @@ use Rattle.sftp_client.specs.Waits.{
 
 -- ---- a core over a round
 
-kept_out : (old new : Core) → new ≡ handed_out old → Keeps old new
-kept_out old new is = subst (λ (c : Core). Keeps old c) (sym is) (keeps_handed_out old)
+kept_out : (old new : Core) → new ≡ handed_out old → KeepsHeld old new
+kept_out old new is = subst (λ (c : Core). KeepsHeld old c) (sym is) (keeps_handed_out old)
 
-kept_failed : (old new : Core) (fault : Fault) → new ≡ failed_with old fault → Keeps old new
-kept_failed old new fault is = subst (λ (c : Core). Keeps old c) (sym is) (keeps_failed old fault)
+kept_failed : (old new : Core) (fault : Fault) → new ≡ failed_with old fault → KeepsHeld old new
+kept_failed old new fault is = subst (λ (c : Core). KeepsHeld old c) (sym is) (keeps_failed old fault)
 
-kept_by_fault : (old : Core) (f : Option Fault) → Keeps old (failed_by f old)
+kept_by_fault : (old : Core) (f : Option Fault) → KeepsHeld old (failed_by f old)
 kept_by_fault old None = keeps_same old
 kept_by_fault old (Some fault) = keeps_failed old fault
 
-kept_by_error : (old new : Core) (e : Error) → new ≡ kept_after e old → Keeps old new
-kept_by_error old new e is = subst (λ (c : Core). Keeps old c) (sym is) (kept_by_fault old (fault_by e))
+kept_by_error : (old new : Core) (e : Error) → new ≡ kept_after e old → KeepsHeld old new
+kept_by_error old new e is = subst (λ (c : Core). KeepsHeld old c) (sym is) (kept_by_fault old (fault_by e))
 
 -- ---- a session over a round
 
 send_stops : {L S : Type 0} (state : L → LinkView S) (old new : SftpValue L) (e : Error) → SendStops state old new e
-    → Keeps old.core new.core
+    → KeepsHeld old.core new.core
 send_stops state old new e h = kept_by_error old.core new.core e (ap (λ (s : SftpValue _). s.core) h.left)
 
 unfailed_flush : {L S : Type 0} (state : L → LinkView S) (old new : SftpValue L) (result : Result (Unit {0}) Error)
-    → FlushesUnfailed state old new result → Keeps old.core new.core
+    → FlushesUnfailed state old new result → KeepsHeld old.core new.core
 unfailed_flush state old new (Ok u) h = kept_out old.core new.core (ap (λ (s : SftpValue _). s.core) h.left)
 unfailed_flush state old new (Err e) (inl h) = send_stops state old new e h
 unfailed_flush state old new (Err e) (inr h) =
@@ -99,42 +99,42 @@ kept_same old new (error.UnsupportedExtension extension) h = absurd h
 kept_same old new (error.IOError kind) h = absurd h
 
 flush_stays : {L S : Type 0} (state : L → LinkView S) (old new : SftpValue L) (result : Result (Unit {0}) Error)
-    → Flushes state old new result → Keeps old.core new.core
+    → Flushes state old new result → KeepsHeld old.core new.core
 flush_stays state old new (Ok u) h = unfailed_flush state old new (Ok u) h.1
 flush_stays state old new (Err e) (inl h) = keeps_unchanged old.core new.core (kept_same old new e h)
 flush_stays state old new (Err e) (inr h) = unfailed_flush state old new (Err e) h.1
 
 frame_stays : {L S : Type 0} (state : L → LinkView S) (old new : SftpValue L) → IsSome (info_of old.core.phase)
-    → TakesFrame state old new → Keeps old.core new.core
+    → TakesFrame state old new → KeepsHeld old.core new.core
 frame_stays state old new opened h = keeps_taken old.core new.core (reply_at h.body) h.told opened h.right h.taken
 
 whole_stops : {L S : Type 0} (state : L → LinkView S) (old new : SftpValue L) (e : Error)
-    → TakesWhole state old new (Err e) → Keeps old.core new.core
+    → TakesWhole state old new (Err e) → KeepsHeld old.core new.core
 whole_stops state old new e (inl h) = kept_by_error old.core new.core e (ap (λ (s : SftpValue _). s.core) h.left)
 whole_stops state old new e (inr h) = kept_failed old.core new.core h.fault (ap (λ (s : SftpValue _). s.core) h.left)
 
 unfailed_take : {L S : Type 0} (state : L → LinkView S) (old new : SftpValue L) (result : Result Bool Error)
-    → IsSome (info_of old.core.phase) → TakesUnfailed state old new result → Keeps old.core new.core
+    → IsSome (info_of old.core.phase) → TakesUnfailed state old new result → KeepsHeld old.core new.core
 unfailed_take state old new (Ok true) opened h = frame_stays state old new opened h.1
 unfailed_take state old new (Ok false) opened h = keeps_unchanged old.core new.core (ap (λ (s : SftpValue _). s.core) h.sends.left)
 unfailed_take state old new (Err e) opened (inl h) = send_stops state old new e h
 unfailed_take state old new (Err e) opened (inr h) = whole_stops state old new e h.1
 
 take_stays : {L S : Type 0} (state : L → LinkView S) (old new : SftpValue L) (result : Result Bool Error)
-    → IsSome (info_of old.core.phase) → Takes state old new result → Keeps old.core new.core
+    → IsSome (info_of old.core.phase) → TakesOrKept state old new result → KeepsHeld old.core new.core
 take_stays state old new (Ok took) opened h = unfailed_take state old new (Ok took) opened h.1
 take_stays state old new (Err e) opened (inl h) = keeps_unchanged old.core new.core (kept_same old new e h)
 take_stays state old new (Err e) opened (inr h) = unfailed_take state old new (Err e) opened h.1
 
 -- a round that went well, and one that went wrong
 pub round_stays : {L S : Type 0} (state : L → LinkView S) (old new : SftpValue L) → IsSome (info_of old.core.phase)
-    → SendsAndTakes state old new → Keeps old.core new.core
+    → SendsAndTakes state old new → KeepsHeld old.core new.core
 round_stays state old new opened h =
     let first = flush_stays state old h.mid (Ok tt) h.sends in
     keeps_both old.core h.mid.core new.core first (take_stays state h.mid new (Ok h.took) (first.grants.opened opened) h.takes)
 
 pub fail_stays : {L S : Type 0} (state : L → LinkView S) (old new : SftpValue L) (e : Error) → IsSome (info_of old.core.phase)
-    → RoundFails state old new e → Keeps old.core new.core
+    → RoundFails state old new e → KeepsHeld old.core new.core
 fail_stays state old new e opened (inl h) = flush_stays state old new (Err e) h
 fail_stays state old new e opened (inr h) =
     let first = flush_stays state old h.0 (Ok tt) h.1.0 in
@@ -250,7 +250,7 @@ others_both : (a b c : Core) (x y z : Stage) → KeepsOtherTickets a b x y → K
 others_both a b c x y z first last ticket kind apart h =
     let mid = first ticket kind apart h in last ticket kind mid.1 mid.0
 
-others_kept : (a b c : Core) (x y : Stage) → KeepsOtherTickets a b x y → Keeps b c → KeepsOtherTickets a c x y
+others_kept : (a b c : Core) (x y : Stage) → KeepsOtherTickets a b x y → KeepsHeld b c → KeepsOtherTickets a c x y
 others_kept a b c x y first k ticket kind apart h =
     let mid = first ticket kind apart h in (k.holds ticket kind mid.0, mid.1)
 

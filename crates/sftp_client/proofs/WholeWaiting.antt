@@ -7,7 +7,7 @@ use Rattle.sftp_model.specs.declared.error.Error.TheVariants as error
 use Rattle.sftp_core.specs.Core.{Core, kept_of}
 use Rattle.sftp_core.specs.Info.{info_of}
 use Rattle.sftp_link.specs.Views.{LinkView}
-use Rattle.call_state.specs.Keeping.{Keeps, KeepsGrants}
+use Rattle.call_state.specs.Keeping.{KeepsHeld, KeepsGrants}
 use Rattle.call_state.specs.declared.poll.Poll.{Poll}
 use Rattle.call_state.specs.declared.poll.Poll.TheVariants as poll
 use Rattle.call_state.specs.Calls.{CallValue, Cancels}

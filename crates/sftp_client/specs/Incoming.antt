@@ -77,17 +77,17 @@ pub record FillsPart {Service T : Type 0} (need : ℕ) (old new : List ℕ) (bef
   pub caused : Caused before now result
 
 -- what is kept of the bytes of a frame, by why no more of them came: after a wrong length nothing
-abbrev pub Keeps : Error → List ℕ → Coming → Type 0
-Keeps error.OutOfMemory bytes new = (bytes_of new ≡ bytes) × IsOfOneFrame bytes
-Keeps error.LinkFault bytes new = (bytes_of new ≡ bytes) × IsFramePart bytes
-Keeps error.LinkEnded bytes new = (bytes_of new ≡ bytes) × IsFramePart bytes
-Keeps (error.FormatError kind) bytes new = (new ≡ nothing_came) × IsBadLength kind bytes
-Keeps other bytes new = ⊥
+abbrev pub KeepsOfFrame : Error → List ℕ → Coming → Type 0
+KeepsOfFrame error.OutOfMemory bytes new = (bytes_of new ≡ bytes) × IsOfOneFrame bytes
+KeepsOfFrame error.LinkFault bytes new = (bytes_of new ≡ bytes) × IsFramePart bytes
+KeepsOfFrame error.LinkEnded bytes new = (bytes_of new ≡ bytes) × IsFramePart bytes
+KeepsOfFrame (error.FormatError kind) bytes new = (new ≡ nothing_came) × IsBadLength kind bytes
+KeepsOfFrame other bytes new = ⊥
 
 -- what there is of a frame after bytes came, where all that was asked for came and where not
 abbrev pub Comes : {T : Type 0} → (List ℕ → Type 0) → List ℕ → Coming → Result T Error → Type 0
 Comes Whole bytes new (Ok x) = Whole bytes × (new ≡ record { whole = bytes; part = [] })
-Comes Whole bytes new (Err e) = Keeps e bytes new
+Comes Whole bytes new (Err e) = KeepsOfFrame e bytes new
 
 -- Bytes came that go on with those of the frame, up to what `Whole` says of them.
 pub record PullsTo {Service T : Type 0} (Whole : List ℕ → Type 0) (old new : Coming) (before now : LinkView Service)

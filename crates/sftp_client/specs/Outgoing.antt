@@ -23,8 +23,8 @@ IsAt None piece offset = Unit {0}
 IsAt (Some pieces) piece offset = AreFilled pieces × IsWithin (drop piece pieces) offset
 
 -- these are the first of the bytes
-abbrev pub Begins : List ℕ → List ℕ → Type 0
-Begins first bytes = (rest : List ℕ) × (bytes ≡ first ++ rest)
+abbrev pub IsPrefixOf : List ℕ → List ℕ → Type 0
+IsPrefixOf first bytes = (rest : List ℕ) × (bytes ≡ first ++ rest)
 
 -- The first of the unsent bytes were sent, in their order, and the rest is unsent still; none where it went well.
 pub record SendsOn {Service T : Type 0} (old new : List ℕ) (before now : LinkView Service) (result : Result T Error) :

@@ -14,7 +14,7 @@ use Rattle.sftp_client.specs.Sessions.{
   IsUnfaulted,
   SendsAll,
   SftpValue,
-  Takes,
+  TakesOrKept,
   TakesFrame,
   TakesWhole,
   handed,
@@ -43,15 +43,15 @@ ExchangeEnds state old new (Ok u) = Exchanges state old new
 ExchangeEnds state old new (Err e) = ExchangeStops state old new e
 
 -- after VERSION the limits are asked for, where the core doesn't know yet what the server tells of itself
-abbrev pub GoesOn : {L S : Type 0} → (L → LinkView S) → SftpValue L → SftpValue L → Option Info → Type 0
-GoesOn state greeted new (Some info) = new ≡ greeted
-GoesOn state greeted new None = Exchanges state greeted new
+abbrev pub AsksForLimits : {L S : Type 0} → (L → LinkView S) → SftpValue L → SftpValue L → Option Info → Type 0
+AsksForLimits state greeted new (Some info) = new ≡ greeted
+AsksForLimits state greeted new None = Exchanges state greeted new
 
 -- the hello was sent and VERSION taken, and the limits where the server offers to tell them
 pub record IsOpened {L S : Type 0} (state : L → LinkView S) (old new : SftpValue L) : Type 0 where
   pub greeted : SftpValue L
   pub greets : Exchanges state old greeted
-  pub goes : GoesOn state greeted new (info_of greeted.core.phase)
+  pub goes : AsksForLimits state greeted new (info_of greeted.core.phase)
   pub unfaulted : IsUnfaulted (state old.link) (state new.link)
   pub told : IsSome (info_of new.core.phase)
 
@@ -99,7 +99,7 @@ pub record HasRounds {L S : Type 0} (state : L → LinkView S) (old new : SftpVa
 
 -- a round stopped as its frame was taken, or as what was queued was sent
 abbrev pub RoundStops : {L S : Type 0} → (L → LinkView S) → SftpValue L → SftpValue L → Error → Type 0
-RoundStops {L = L} state old new e = Takes state old new (Err e)
+RoundStops {L = L} state old new e = TakesOrKept state old new (Err e)
     ⊎ ((mid : SftpValue L) × (TakesFrame state old mid × Flushes state mid new (Err e)))
 
 -- no request is unanswered and all was sent; or it stopped before the rounds, or in one of them
@@ -108,6 +108,6 @@ Drains state old new (Ok u) = HasRounds state old new × ((unanswered_of new.cor
 Drains {L = L} state old new (Err e) = Flushes state old new (Err e)
     ⊎ ((mid : SftpValue L) × (HasRounds state old mid × RoundStops state mid new e))
 
-abbrev pub Closes : {L S : Type 0} → (L → LinkView S) → SftpValue L → Result L (Error × L) → Type 0
-Closes state old (Ok link) = HandsBack (λ last. Drains state old last (Ok tt)) link
-Closes state old (Err p) = HandsBack (λ last. Drains state old last (Err p.0)) p.1
+abbrev pub ClosesSession : {L S : Type 0} → (L → LinkView S) → SftpValue L → Result L (Error × L) → Type 0
+ClosesSession state old (Ok link) = HandsBack (λ last. Drains state old last (Ok tt)) link
+ClosesSession state old (Err p) = HandsBack (λ last. Drains state old last (Err p.0)) p.1

@@ -7,7 +7,7 @@ use Rattle.sftp_model.specs.declared.error.Error.TheVariants as error
 use Rattle.sftp_model.specs.declared.error.Fault.{Fault}
 use Rattle.sftp_model.specs.declared.error.Fault.TheVariants as fault
 use Rattle.sftp_core.specs.Core.{Core, awaited_of, failed_with, handed_out}
-use Rattle.sftp_core.specs.Frames.{frames_of}
+use Rattle.sftp_model.specs.Frames.{frames_of}
 use Rattle.sftp_core.specs.Take.{TakenFrom, fault_of, take_refusal}
 use Rattle.sftp_core.specs.declared.errors.TakeError.{TakeError}
 use Rattle.sftp_core.specs.declared.tokens.Taken.{Taken}
@@ -17,7 +17,7 @@ use Rattle.sftp_link.specs.Views.{LinkView}
 use Rattle.sftp_link.specs.declared.piece.Piece.{Piece}
 use Rattle.session_exchange.specs.Causes.{Caused, IsUnsent}
 use Rattle.session_exchange.specs.Refusals.{error_of}
-use Rattle.sftp_client.specs.Incoming.{Coming, IsFrame, Keeps, Pulls, bytes_of, nothing_came}
+use Rattle.sftp_client.specs.Incoming.{Coming, IsFrame, KeepsOfFrame, Pulls, bytes_of, nothing_came}
 
 -- A session: its core, the bytes that were handed out and not sent, what came of the next frame, and the link.
 pub record SftpValue (L : Type 0) : Type 0 where
@@ -128,7 +128,7 @@ pub record TakesNone {L S : Type 0} (state : L → LinkView S) (old new : SftpVa
 pub record GetStops {L S : Type 0} (state : L → LinkView S) (old new : SftpValue L) (e : Error) : Type 0 where
   pub got : List ℕ
   pub log : Told (Exchanged old.unsent got) (state old.link).log (state new.link).log
-  pub keeps : Keeps e (bytes_of old.coming ++ got) new.coming
+  pub keeps : KeepsOfFrame e (bytes_of old.coming ++ got) new.coming
   pub left : new ≡ record { core = kept_after e old.core; unsent = []; coming = new.coming; link = new.link }
   pub caused : IsCaused (state old.link) (state new.link) e
 
@@ -198,6 +198,6 @@ TakesUnfailed state old new (Ok false) = TakesNone state old new
 TakesUnfailed state old new (Err e) = TakeStops state old new e
 
 -- a kept fault is answered before all else
-abbrev pub Takes : {L S : Type 0} → (L → LinkView S) → SftpValue L → SftpValue L → Result Bool Error → Type 0
-Takes state old new (Ok took) = (old.core.fault ≡ None) × TakesUnfailed state old new (Ok took)
-Takes state old new (Err e) = IsKept old new e ⊎ ((old.core.fault ≡ None) × TakesUnfailed state old new (Err e))
+abbrev pub TakesOrKept : {L S : Type 0} → (L → LinkView S) → SftpValue L → SftpValue L → Result Bool Error → Type 0
+TakesOrKept state old new (Ok took) = (old.core.fault ≡ None) × TakesUnfailed state old new (Ok took)
+TakesOrKept state old new (Err e) = IsKept old new e ⊎ ((old.core.fault ≡ None) × TakesUnfailed state old new (Err e))

@@ -11,7 +11,8 @@ no_round Waits state old p = (refl, refl)
 
 -- one round is a poll without an answer, and then what was queued was sent and a frame taken
 pub one_round : {C L S : Type 0} (Waits : SftpValue L → SftpValue L → C → C → Type 0) (state : L → LinkView S)
-    (old mid new : SftpValue L) (p q : C) → Waits old mid p q → (round : SendsAndTakes state mid new) → round.took ≡ true
+    (old mid new : SftpValue L) (p q : C) → Waits old mid p q → (round : SendsAndTakes state mid new) → round.took
+    ≡ true
     → ArePollRounds Waits state 1 old new p q
 one_round Waits state old mid new p q waits round took =
     (old, (p, ((refl, refl), record { mid = mid; waits = waits; round = round; took = took })))

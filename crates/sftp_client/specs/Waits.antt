@@ -7,7 +7,7 @@ use Rattle.sftp_model.specs.declared.slot.FileAt.{FileAt}
 use Rattle.sftp_core.specs.Core.{Core, kept_of}
 use Rattle.sftp_core.specs.Info.{MAX_IDS, info_of}
 use Rattle.sftp_link.specs.Views.{LinkView}
-use Rattle.call_state.specs.Asked.{Holds, IsReady}
+use Rattle.call_state.specs.Asked.{HoldsTicket, IsReady}
 use Rattle.call_state.specs.Calls.{
   CallValue,
   Cancels,
@@ -23,7 +23,7 @@ use Rattle.call_state.specs.Machines.{Meaning}
 use Rattle.call_state.specs.declared.poll.Poll.{Poll}
 use Rattle.call_state.specs.declared.poll.Poll.TheVariants as poll
 use Rattle.sftp_file.specs.Files.{FileValue, IsMoved, file_at}
-use Rattle.sftp_client.specs.Sessions.{Flushes, SftpValue, Takes, with_core}
+use Rattle.sftp_client.specs.Sessions.{Flushes, SftpValue, TakesOrKept, with_core}
 
 -- a further request may be submitted, or all ids are in use
 abbrev pub IsReadyOr : Core → Result (Unit {0}) Error → Type 0
@@ -42,12 +42,12 @@ pub record SendsAndTakes {L S : Type 0} (state : L → LinkView S) (old new : Sf
   pub mid : SftpValue L
   pub took : Bool
   pub sends : Flushes state old mid (Ok tt)
-  pub takes : Takes state mid new (Ok took)
+  pub takes : TakesOrKept state mid new (Ok took)
 
 -- not all that was queued was sent, or no frame was taken
 abbrev pub RoundFails : {L S : Type 0} → (L → LinkView S) → SftpValue L → SftpValue L → Error → Type 0
 RoundFails {L = L} state old new e = Flushes state old new (Err e)
-    ⊎ ((mid : SftpValue L) × (Flushes state old mid (Ok tt) × Takes state mid new (Err e)))
+    ⊎ ((mid : SftpValue L) × (Flushes state old mid (Ok tt) × TakesOrKept state mid new (Err e)))
 
 abbrev pub RoundEnds : {L S : Type 0} → (L → LinkView S) → SftpValue L → SftpValue L → Result (Unit {0}) Error → Type 0
 RoundEnds state old new (Ok u) = SendsAndTakes state old new
@@ -120,8 +120,8 @@ pub record HasFinished {W M V L S : Type 0} (s : Meaning W M V) (state : L → L
   pub left : new ≡ with_core mid new.core
   pub holds : HoldsReady s new.core (poll.Ready result)
   pub grants : OnOk result (KeepsGrants old.core new.core)
-  pub others : (ticket : ℕ) (kind : Expected) → IsNotOf p.stage ticket → Holds old.core ticket kind
-      → Holds new.core ticket kind
+  pub others : (ticket : ℕ) (kind : Expected) → IsNotOf p.stage ticket → HoldsTicket old.core ticket kind
+      → HoldsTicket new.core ticket kind
 
 -- ---- a call that moves a file
 

@@ -1,5 +1,23 @@
 -- Copies, reads of so many bytes and whole reads that are run to their end over a session's link.
-use Rattle.std.specs.Prelude.{◌≡◌, ◌≢◌, ◌⊎◌, ◌≤◌, ◌-◌, ◌^◌, ◌++◌, ℕ, zero, suc, false, List, Result, Ok, Err, IsSome, OnOk}
+use Rattle.std.specs.Prelude.{
+  ◌≡◌,
+  ◌≢◌,
+  ◌⊎◌,
+  ◌≤◌,
+  ◌-◌,
+  ◌^◌,
+  ◌++◌,
+  ℕ,
+  zero,
+  suc,
+  false,
+  List,
+  Result,
+  Ok,
+  Err,
+  IsSome,
+  OnOk,
+}
 use Rattle.bytes.specs.Filled.{Filled}
 use Rattle.sftp_model.specs.declared.error.Error.{Error}
 use Rattle.sftp_model.specs.declared.error.Error.TheVariants as error
@@ -85,7 +103,8 @@ pub record IsReadRound {L S : Type 0} (state : L → LinkView S) (old new : Sftp
     pub round : ((new ≡ mid) × (kept_of mid.core ≢ kept_of old.core)) ⊎ SendsAndTakes state mid new
 
 -- there was such a round, or none where other than so many ids are in use; or it went wrong
-abbrev pub MayRound : {L S : Type 0} → (L → LinkView S) → ℕ → SftpValue L → SftpValue L → Result (Unit {0}) Error → Type 0
+abbrev pub MayRound : {L S : Type 0} → (L → LinkView S) → ℕ → SftpValue L → SftpValue L → Result (Unit {0}) Error
+    → Type 0
 MayRound state kept old new (Ok u) = ((new ≡ old) × (kept_of old.core ≢ kept)) ⊎ SendsAndTakes state old new
 MayRound state kept old new (Err e) = RoundFails state old new e
 

@@ -3,7 +3,7 @@ ghost use Rattle.std.specs.Prelude.{◌≡◌, ◌<◌, ◌≤◌, ◌-◌, ◌^
 ghost use Rattle.sftp_core.specs.Frames.{AreFilled};
 ghost use Rattle.sftp_model.specs.Pieces.{joined};
 ghost use Rattle.sftp_link.specs.Moves.{HasSent};
-ghost use Rattle.sftp_client.specs.Outgoing.{Begins, IsAt, IsWithin, SendsOn, unsent_from};
+ghost use Rattle.sftp_client.specs.Outgoing.{IsPrefixOf, IsAt, IsWithin, SendsOn, unsent_from};
 
 use arrayvec::ArrayVec;
 use bytes::Bytes;
@@ -129,7 +129,7 @@ fn send_some<L: LinkOut>(
 fn gather(first: &[u8], later: &[Bytes], gathered: &mut ArrayVec<u8, MAX_GATHERED>)
     requires empty { gathered.old.items ≡ [] }
     requires fits { length first.now ≤ MAX_GATHERED }
-    ensures begins { Begins gathered.new.items (first.now ++ joined later.now) }
+    ensures begins { IsPrefixOf gathered.new.items (first.now ++ joined later.now) }
     ensures first { length first.now ≤ length gathered.new.items }
 {
     gathered.try_extend_from_slice(first).unwrap();

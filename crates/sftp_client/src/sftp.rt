@@ -5,7 +5,7 @@ ghost use Rattle.sftp_client.specs.contracts.sftp.Sftp.{the_row};
 ghost use Rattle.sftp_core.specs.contracts.pipeline.Core.{the_row as core_row};
 ghost use Rattle.sftp_core.specs.Frames.{AreFilled};
 ghost use Rattle.sftp_model.specs.Pieces.{joined};
-ghost use Rattle.sftp_client.specs.Sessions.{Flushes, FlushesUnfailed, IsWholeFrame, PullsFrame, SendsRest, Takes, TakesPulled, TakesUnfailed, TakesWhole, fault_by, kept_after, with_core};
+ghost use Rattle.sftp_client.specs.Sessions.{Flushes, FlushesUnfailed, IsWholeFrame, PullsFrame, SendsRest, TakesOrKept, TakesPulled, TakesUnfailed, TakesWhole, fault_by, kept_after, with_core};
 
 mod list;
 mod offers;
@@ -89,7 +89,7 @@ impl<L: Link> Sftp<L> {
     /// is kept, and each later call answers it.
     pub fn take(&mut self) -> Result<bool, Error>
         requires { (L.LinkState.state self.old.link).faults < 2 ^ 64 - 1 }
-        ensures { Takes L.LinkState.state self.old self.new result }
+        ensures { TakesOrKept L.LinkState.state self.old self.new result }
     {
         if let Some(fault) = self.core.fault() {
             return Err(Error::BackgroundTaskFailure(fault));

@@ -31,13 +31,13 @@ use Rattle.std.proofs.lemmas.List.Elements.{All-append, All-cons, All-nil}
 use Rattle.ssh_encoding.specs.Writing.{uint32, uint64, string}
 use Rattle.sftp_model.specs.Pieces.{joined}
 use Rattle.sftp_model.specs.Numbers.{SSH_FXP_WRITE}
-use Rattle.sftp_model.specs.Frames.{of_type, request_body}
+use Rattle.sftp_model.specs.Frames.{of_type, request_body, frame_of, frames_of}
 use Rattle.sftp_model.specs.declared.request.Request.{Request}
 use Rattle.sftp_model.specs.declared.request.Request.TheVariants as request
 use Rattle.sftp_wire.specs.Heads.{content_of, request_head}
 use Rattle.sftp_wire.proofs.Heads.{head_and_content}
 use Rattle.sftp_wire.proofs.Lengths.{length-uint32, length-string}
-use Rattle.sftp_core.specs.Frames.{AreFilled, IsShort, frame_of, frames_of}
+use Rattle.sftp_core.specs.Frames.{AreFilled, IsShort}
 use Rattle.sftp_core.specs.Pieces.{Frame, asked_of, pieces_in, pieces_of, one_filled, filled_of, IsCut, IsShortFrame, IsWhole}
 
 -- ---- lists

@@ -41,7 +41,7 @@ use Rattle.sftp_core.specs.Turns.{
   Asked,
   Replied,
   TakeTurns,
-  Call,
+  CoreCall,
   Submit,
   SubmitParts,
   Take,
@@ -215,7 +215,7 @@ poll_same core k None (Some (Waiting e s w)) id is = refl
 poll_same core k f (Some (Granted handle users)) id is = refl
 poll_same core k f None id is = refl
 
-shown : (core : Core) (call : Call) (id : ℕ) → IsBlank core.phase core.table → May core call → Shown core (leaves core call) id (signs core call)
+shown : (core : Core) (call : CoreCall) (id : ℕ) → IsBlank core.phase core.table → May core call → Shown core (leaves core call) id (signs core call)
 shown core (Submit k request) id blank may = record { turns = ((λ e. here core k id None false may.1 refl e), tt); ends = sym (put_waits core.table k _ id) }
 shown core (SubmitParts k handle offset parts) id blank may =
     record { turns = ((λ e. here core k id None false may.1 refl e), tt); ends = sym (put_waits core.table k _ id) }
@@ -266,7 +266,7 @@ blank_taken core (Open info) (Some k) r is blank =
     let t = (take_leaves core k r (at core k)).table in
     subst (λ x. IsBlank x t) (sym (take_phase core k r (at core k) ∙ is)) tt
 
-blank_kept : (core : Core) (call : Call) → IsBlank core.phase core.table → May core call → IsBlank (leaves core call).phase (leaves core call).table
+blank_kept : (core : Core) (call : CoreCall) → IsBlank core.phase core.table → May core call → IsBlank (leaves core call).phase (leaves core call).table
 blank_kept core (Submit k request) blank may = blank_open core.phase _ may.0
 blank_kept core (SubmitParts k handle offset parts) blank may = blank_open core.phase _ may.0
 blank_kept core (Take read) blank may = blank_taken core core.phase read.0 read.1 refl blank
@@ -284,14 +284,14 @@ blank_kept core (Fail f) blank may = blank
 
 -- ---- the law
 
-take_turns : (core : Core) (calls : List Call) (id : ℕ) → IsBlank core.phase core.table → MayAll core calls
+take_turns : (core : Core) (calls : List CoreCall) (id : ℕ) → IsBlank core.phase core.table → MayAll core calls
     → TakeTurns id (waits (at core id)) (all_signs core calls)
 take_turns core [] id blank may = tt
 take_turns core (call ∷ calls) id blank may =
     let one = shown core call id blank may.0 in
     turns_append id (signs core call) _ _ one.turns (rw one.ends (take_turns (leaves core call) calls id (blank_kept core call blank may.0) may.1))
 
-pub requests_take_turns : (options : SftpOptions) (calls : List Call) (id : ℕ) → MayAll (fresh options) calls
+pub requests_take_turns : (options : SftpOptions) (calls : List CoreCall) (id : ℕ) → MayAll (fresh options) calls
     → TakeTurns id false (all_signs (fresh options) calls)
 requests_take_turns options calls id may =
     let P : Bool → Type 0 = λ b. TakeTurns id b (all_signs (fresh options) calls) in

@@ -28,7 +28,7 @@ use Rattle.std.specs.FinMap as fin
 use Rattle.std.specs.Option.{unwrap_or}
 use Rattle.sftp_model.specs.Answers.{expected_of}
 use Rattle.sftp_model.specs.Numbers.{MAX_BODY_LEN}
-use Rattle.sftp_model.specs.Frames.{request_body}
+use Rattle.sftp_model.specs.Frames.{request_body, is_too_long}
 use Rattle.sftp_model.specs.declared.request.Request.{Request}
 use Rattle.sftp_model.specs.declared.request.Request.TheVariants as request
 use Rattle.sftp_model.specs.declared.reply.Reply.{Reply}
@@ -178,10 +178,6 @@ is_call (request.Init version) = false
 is_call request.LimitsQuery = false
 is_call other = true
 
--- a frame of this request is over the limit
-abbrev pub is_long : Request → Bool
-is_long asked = nat_lt MAX_BODY_LEN (length (request_body asked 0))
-
 -- a kept fault comes before the length
 abbrev pub refusal_of : Option Fault → Bool → Option SubmitError
 refusal_of (Some fault) long = Some (submit.Failed fault)
@@ -190,7 +186,7 @@ refusal_of None false = None
 
 -- what refuses a request: a kept fault, looked at first, then its length
 abbrev pub submit_refusal : Core → Request → Option SubmitError
-submit_refusal core asked = refusal_of core.fault (is_long asked)
+submit_refusal core asked = refusal_of core.fault (is_too_long asked)
 
 -- it is no kept fault
 abbrev pub IsNoFault : Option SubmitError → Type 0

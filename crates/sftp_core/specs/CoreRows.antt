@@ -1,8 +1,8 @@
 -- Worked examples of what a core makes of replies and tickets, and beside each what nearly is one.
 use Rattle.std.specs.Prelude.{◌≡◌, refl, true, false, ℕ, [], ◌∷◌, ◌++◌, codes, None, Some, Ok, Err}
-use Rattle.sftp_model.specs.Frames.{request_body}
+use Rattle.sftp_model.specs.Frames.{request_body, frames_of}
 use Rattle.sftp_model.specs.Hex.{hex}
-use Rattle.ssh_encoding.specs.Writing.{uint32, uint64, string}
+use Rattle.ssh_encoding.specs.Writing.{uint32, uint64, string, or_else}
 use Rattle.sftp_model.specs.declared.answers.Expected.TheVariants as expected
 use Rattle.sftp_model.specs.declared.error.Fault.TheVariants as fault
 use Rattle.sftp_model.specs.declared.flags.Extensions.{Extensions}
@@ -14,9 +14,8 @@ use Rattle.sftp_core.specs.declared.tokens.Polled.TheVariants as polled
 use Rattle.sftp_model.specs.Options.{default_options}
 use Rattle.sftp_core.specs.Info.{lengths_of}
 use Rattle.sftp_model.specs.Lengths.{offers_limits}
-use Rattle.sftp_core.specs.Frames.{frames_of}
 use Rattle.sftp_core.specs.Core.{fresh, handed_out, queued_parts, poll_gives, release_gives, refusal_of, is_ticket}
-use Rattle.sftp_core.specs.Take.{wrong_version, wrong_at, wrong_limits, or_else, fault_of}
+use Rattle.sftp_core.specs.Take.{wrong_version, wrong_at, wrong_limits, fault_of}
 
 abbrev with_bits : ℕ → Extensions
 with_bits bits = record { 0 = bits }

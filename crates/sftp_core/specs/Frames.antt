@@ -5,14 +5,6 @@ use Rattle.sftp_model.specs.Numbers.{MAX_BODY_LEN}
 use Rattle.sftp_model.specs.Frames.{request_body, request_frame}
 use Rattle.sftp_model.specs.declared.request.Request.{Request}
 
--- the frame of a queued request, with its id
-abbrev pub frame_of : ℕ × Request → List ℕ
-frame_of queued = request_frame queued.1 queued.0
-
--- the frames of a queue, one after another
-abbrev pub frames_of : List (ℕ × Request) → List ℕ
-frames_of queue = flat_map frame_of queue
-
 -- the body of a queued request is within the limit of frames
 abbrev pub IsShort : ℕ × Request → Type 0
 IsShort queued = length (request_body queued.1 queued.0) ≤ MAX_BODY_LEN

@@ -1,7 +1,8 @@
 -- What a core makes of the body of a frame: the first thing that is wrong with it, or what it becomes.
 use Rattle.std.specs.Prelude.{◌≡◌, ℕ, ◌==◌, Bool, true, false, Option, None, Some, Result, Ok, Err, if◌then◌else◌, ⊤}
+use Rattle.ssh_encoding.specs.Writing.{or_else}
 use Rattle.sftp_model.specs.Answers.{allows}
-use Rattle.sftp_model.specs.ReplyReadings.{limits_at}
+use Rattle.sftp_model.specs.ReplyReadings.{limits_at, limits_in}
 use Rattle.sftp_model.specs.declared.answers.Expected.{Expected}
 use Rattle.sftp_model.specs.declared.config.Limits.{Limits}
 use Rattle.sftp_model.specs.declared.error.Fault.{Fault}
@@ -67,11 +68,6 @@ abbrev pub wrong_asked : Core → Option ℕ → Reply → Option TakeError
 wrong_asked core None r = Some (take.InvalidResponse None)
 wrong_asked core (Some id) r = wrong_at id r (at core id)
 
--- the first of two
-abbrev pub or_else : Option TakeError → Option TakeError → Option TakeError
-or_else (Some e) later = Some e
-or_else None later = later
-
 -- the first thing that is wrong with a reply that was read
 abbrev pub wrong_in : Core → Phase → Option ℕ → Reply → Option TakeError
 wrong_in core Greeting None r = wrong_version r
@@ -126,15 +122,6 @@ take_leaves core id r (Some (Answered expected other)) = core
 take_leaves core id r (Some (Granted handle users)) = core
 take_leaves core id r None = core
 
--- the limits that a reply tells
-abbrev pub limits_read : Result Limits FrameError → Option Limits
-limits_read (Ok limits) = Some limits
-limits_read (Err e) = None
-
-abbrev pub limits_in : Reply → Option Limits
-limits_in (reply.Extended content) = limits_read (limits_at content)
-limits_in other = None
-
 -- the session is open
 abbrev pub opened : Core → Extensions → Option Limits → Core
 opened core extensions limits = record core { phase = Open (info_with extensions limits core.options) }
@@ -188,7 +175,7 @@ pub record TakenFrom (read : Result Read FrameError) (told : Taken) (old new : C
   pub leaves : new ≡ taken old reading
 
 -- a reply that was read is taken, or refused with nothing changed
-abbrev pub Takes : Result Taken TakeError → Option ℕ → Reply → Core → Core → Type 0
-Takes (Ok told) id r old new = (wrong_in old old.phase id r ≡ None) × (told ≡ told_in old.phase id r)
+abbrev pub TakesOrRefuses : Result Taken TakeError → Option ℕ → Reply → Core → Core → Type 0
+TakesOrRefuses (Ok told) id r old new = (wrong_in old old.phase id r ≡ None) × (told ≡ told_in old.phase id r)
     × (new ≡ taken_in old old.phase id r)
-Takes (Err e) id r old new = IsFirst e (wrong_in old old.phase id r) × (new ≡ old)
+TakesOrRefuses (Err e) id r old new = IsFirst e (wrong_in old old.phase id r) × (new ≡ old)

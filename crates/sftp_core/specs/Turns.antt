@@ -64,19 +64,19 @@ TakeTurns id waits (Replied other ∷ rest) = (id ≡ other → waits ≡ true)
 -- ---- the calls
 
 -- a call that changes a core, with the id that a submit gives and the reply that a frame reads as
-pub data Call : Type 0 where
-  Submit : ℕ → Request → Call
-  SubmitParts : ℕ → List ℕ → ℕ → List (List ℕ) → Call
-  Take : Read → Call
-  Abandon : ℕ → Call
-  Release : GrantValue → Call
-  Retain : GrantValue → Call
-  Poll : ℕ → Call
-  HandOut : Call
-  Fail : Fault → Call
+pub data CoreCall : Type 0 where
+  Submit : ℕ → Request → CoreCall
+  SubmitParts : ℕ → List ℕ → ℕ → List (List ℕ) → CoreCall
+  Take : Read → CoreCall
+  Abandon : ℕ → CoreCall
+  Release : GrantValue → CoreCall
+  Retain : GrantValue → CoreCall
+  Poll : ℕ → CoreCall
+  HandOut : CoreCall
+  Fail : Fault → CoreCall
 
 -- the condition of a call that changes the core, with what it ensures of an id
-abbrev pub May : Core → Call → Type 0
+abbrev pub May : Core → CoreCall → Type 0
 May core (Submit id request) = IsSome (info_of core.phase) × (at core id ≡ None)
 May core (SubmitParts id handle offset parts) = IsSome (info_of core.phase) × (at core id ≡ None)
 May core (Take read) = wrong_in core core.phase read.0 read.1 ≡ None
@@ -88,7 +88,7 @@ May core HandOut = Unit {0}
 May core (Fail f) = Unit {0}
 
 -- the core after a call
-abbrev pub leaves : Core → Call → Core
+abbrev pub leaves : Core → CoreCall → Core
 leaves core (Submit id request) = queued_last core id request true
 leaves core (SubmitParts id handle offset parts) = queued_parts core id handle offset parts
 leaves core (Take read) = taken core read
@@ -139,7 +139,7 @@ abbrev pub release_signs : ℕ → ℕ → List Sign
 release_signs id users = if users == 1 then Asked id ∷ [] else []
 
 -- what is asked and answered by a call
-abbrev pub signs : Core → Call → List Sign
+abbrev pub signs : Core → CoreCall → List Sign
 signs core (Submit id request) = Asked id ∷ []
 signs core (SubmitParts id handle offset parts) = Asked id ∷ []
 signs core (Take read) = take_signs core core.phase read.0 read.1
@@ -151,11 +151,11 @@ signs core HandOut = []
 signs core (Fail f) = []
 
 -- a list of calls, each under its condition
-abbrev pub MayAll : Core → List Call → Type 0
+abbrev pub MayAll : Core → List CoreCall → Type 0
 MayAll core [] = Unit {0}
 MayAll core (call ∷ calls) = May core call × MayAll (leaves core call) calls
 
 -- what is asked and answered by a list of calls
-abbrev pub all_signs : Core → List Call → List Sign
+abbrev pub all_signs : Core → List CoreCall → List Sign
 all_signs core [] = []
 all_signs core (call ∷ calls) = signs core call ++ all_signs (leaves core call) calls

@@ -8,12 +8,12 @@ ghost use Rattle.sftp_model.specs.declared.options.SftpOptions.{SftpOptions};
 ghost use Rattle.sftp_core.specs.Core.{Core, at, fresh};
 ghost use Rattle.sftp_core.specs.Table.{expected_at};
 ghost use Rattle.sftp_core.specs.Take.{wrong_at};
-ghost use Rattle.sftp_core.specs.Turns.{Call, MayAll, TakeTurns, all_signs};
+ghost use Rattle.sftp_core.specs.Turns.{CoreCall, MayAll, TakeTurns, all_signs};
 
 /// Over any list of calls of a new core, requests and replies of one id take turns: no two unanswered requests bear
 /// one id, and an id comes free only after its reply, for an abandoned request too.
 pub fn one_request_an_id()
-    ensures { (options : SftpOptions) (calls : List Call) (id : ℕ)
+    ensures { (options : SftpOptions) (calls : List CoreCall) (id : ℕ)
         → MayAll (fresh options) calls → TakeTurns id false (all_signs (fresh options) calls) }
 {}
 

@@ -5,13 +5,11 @@ use Rattle.sftp_model.specs.declared.file_attrs.FileAttrs.{FileAttrs}
 use Rattle.sftp_model.specs.declared.flags.OpenFlags.{OpenFlags}
 use Rattle.sftp_model.specs.declared.request.Request.{Request}
 use Rattle.sftp_model.specs.declared.request.Request.TheVariants as request
-use Rattle.sftp_model.specs.Frames.{bit, request_body}
+use Rattle.sftp_model.specs.Frames.{bit, request_body, is_too_long}
 use Rattle.plan_model.specs.FilePlans.{open_request}
-use Rattle.plan_model.specs.Moves.{is_too_long}
-use Rattle.sftp_core.specs.Core.{is_long}
 use Rattle.sftp_wire.proofs.Lengths.{lengths}
 
-short_by : (r : Request) (n : ℕ) → length (request_body r 0) ≡ n → n ≤ 1048575 → is_long r ≡ false
+short_by : (r : Request) (n : ℕ) → length (request_body r 0) ≡ n → n ≤ 1048575 → is_too_long r ≡ false
 short_by r n e le = rw e (grind (arith, nat_tests))
 
 -- ---- OPEN
@@ -30,7 +28,7 @@ read_len : (handle : List ℕ) (offset len id : ℕ) → length (request_body (r
 unfolding request_body
 read_len handle offset len id = simp lengths (omega arith)
 
-pub read_is_short : (handle : List ℕ) (offset len : ℕ) → length handle ≤ 256 → is_long (request.Read handle offset len) ≡ false
+pub read_is_short : (handle : List ℕ) (offset len : ℕ) → length handle ≤ 256 → is_too_long (request.Read handle offset len) ≡ false
 read_is_short handle offset len le = short_by (request.Read handle offset len) (length handle + 21) (read_len handle offset len 0) (omega arith)
 
 write_len : (handle : List ℕ) (offset : ℕ) (content : List ℕ) (id : ℕ)
@@ -39,7 +37,7 @@ unfolding request_body
 write_len handle offset content id = simp lengths (omega arith)
 
 pub write_is_short : (handle : List ℕ) (offset : ℕ) (content : List ℕ) → length handle ≤ 256 → length content ≤ 1048275
-    → is_long (request.Write handle offset content) ≡ false
+    → is_too_long (request.Write handle offset content) ≡ false
 write_is_short handle offset content le fits =
     short_by (request.Write handle offset content) (length handle + length content + 21) (write_len handle offset content 0) (omega arith)
 
@@ -47,7 +45,7 @@ fstat_len : (handle : List ℕ) (id : ℕ) → length (request_body (request.Fst
 unfolding request_body
 fstat_len handle id = simp lengths (omega arith)
 
-pub fstat_is_short : (handle : List ℕ) → length handle ≤ 256 → is_long (request.Fstat handle) ≡ false
+pub fstat_is_short : (handle : List ℕ) → length handle ≤ 256 → is_too_long (request.Fstat handle) ≡ false
 fstat_is_short handle le = short_by (request.Fstat handle) (length handle + 9) (fstat_len handle 0) (omega arith)
 
 bit_most : {A : Type 0} (n : ℕ) (field : Option A) → bit n field ≤ n
@@ -59,7 +57,7 @@ fsetstat_len : (handle : List ℕ) (a : FileAttrs) (id : ℕ)
 unfolding request_body
 fsetstat_len handle a id = simp lengths (omega arith)
 
-pub fsetstat_is_short : (handle : List ℕ) (a : FileAttrs) → length handle ≤ 256 → is_long (request.Fsetstat handle a) ≡ false
+pub fsetstat_is_short : (handle : List ℕ) (a : FileAttrs) → length handle ≤ 256 → is_too_long (request.Fsetstat handle a) ≡ false
 fsetstat_is_short handle a le =
     short_by (request.Fsetstat handle a) (length handle + 13 + bit 8 a.size + bit 8 a.id + bit 4 a.permissions + bit 8 a.time)
     (fsetstat_len handle a 0) (omega (arith, bit_most 8 a.size, bit_most 8 a.id, bit_most 4 a.permissions, bit_most 8 a.time))
@@ -68,7 +66,7 @@ fsync_len : (handle : List ℕ) (id : ℕ) → length (request_body (request.Fsy
 unfolding request_body
 fsync_len handle id = simp lengths (omega arith)
 
-pub fsync_is_short : (handle : List ℕ) → length handle ≤ 256 → is_long (request.Fsync handle) ≡ false
+pub fsync_is_short : (handle : List ℕ) → length handle ≤ 256 → is_too_long (request.Fsync handle) ≡ false
 fsync_is_short handle le = short_by (request.Fsync handle) (length handle + 30) (fsync_len handle 0) (omega arith)
 
 copy_len : (from : List ℕ) (from_offset len : ℕ) (to : List ℕ) (to_offset id : ℕ)
@@ -77,7 +75,7 @@ unfolding request_body
 copy_len from from_offset len to to_offset id = simp lengths (omega arith)
 
 pub copy_is_short : (from : List ℕ) (from_offset len : ℕ) (to : List ℕ) (to_offset : ℕ) → length from ≤ 256 → length to ≤ 256
-    → is_long (request.CopyData from from_offset len to to_offset) ≡ false
+    → is_too_long (request.CopyData from from_offset len to to_offset) ≡ false
 copy_is_short from from_offset len to to_offset le fits =
     short_by (request.CopyData from from_offset len to to_offset) (length from + length to + 50)
     (copy_len from from_offset len to to_offset 0) (omega arith)

@@ -23,7 +23,7 @@ use Rattle.call_state.specs.Calls.{CallValue, IsHeldAt, IsUnderWay}
 use Rattle.call_state.specs.Machines.{GoesBehind}
 use Rattle.call_state.proofs.Keeping.{holds_at}
 use Rattle.sftp_file.specs.declared.settling.Settling.{Settling}
-use Rattle.sftp_file.specs.Closes.{Closes, ClosesBy, closing}
+use Rattle.sftp_file.specs.Closes.{ReleasesFile, ClosesBy, closing}
 use Rattle.sftp_file.specs.Files.{FileValue, IsInSlot}
 use Rattle.sftp_file.specs.Settles.{settling}
 
@@ -89,7 +89,7 @@ released_by true old new g users is after = after ∙ ap (λ (b : Bool). if b th
 released_by false old new g users is after = refl
 
 pub closes_by : (f : FileValue) (old new : Core) (call : CallValue Settling) (given : Option ℕ) → given ≡ release_gives f.grant (users_of (at old f.grant.id))
-    → new ≡ released old f.grant → call.stage ≡ closing given → Closes f old new call
+    → new ≡ released old f.grant → call.stage ≡ closing given → ReleasesFile f old new call
 closes_by f old new call given gives after stage =
     let awaits : call.stage ≡ closing (release_gives f.grant (users_of (at old f.grant.id))) = stage ∙ ap closing gives in
     let both = closes_with (users_of (at old f.grant.id) == 1) f old new call refl awaits

@@ -16,8 +16,8 @@ use Rattle.plan_model.specs.Moves.{Answers, handle_of, offers, overflows, refuse
 use Rattle.sftp_core.specs.Core.{Core}
 use Rattle.call_state.specs.declared.asking.Asking.{Asking}
 use Rattle.call_state.specs.declared.asking.Asking.TheVariants.{Whole}
-use Rattle.call_state.specs.Calls.{Begins, CallValue, IsUnderWay}
-use Rattle.call_state.specs.Keeping.{Keeps}
+use Rattle.call_state.specs.Calls.{BeginsCall, CallValue, IsUnderWay}
+use Rattle.call_state.specs.Keeping.{KeepsHeld}
 use Rattle.call_state.specs.Machines.{GoesBehind}
 use Rattle.call_state.proofs.Keeping.{keeps_same}
 use Rattle.sftp_file.specs.Copies.{CopyStarts, CopyValue, both, copy_left, copying}
@@ -63,13 +63,13 @@ copy_behind f g source target n facts answers from to offered may reads below be
     }
 
 under_way_by : (asking : Asking) (m : CopyValue) (old new : Core) (result : Result (CallValue CopyValue) Error)
-    → IfOk result (Begins copying asking m old new) → IfOk result (IsUnderWay copying new)
+    → IfOk result (BeginsCall copying asking m old new) → IfOk result (IsUnderWay copying new)
 under_way_by asking m old new (Ok call) h = h.under_way
 under_way_by asking m old new (Err e) h = tt
 
 files_by : (f g : FileValue) (asking : Asking) (m : CopyValue) (old new : Core)
     (result : Result (CallValue CopyValue) Error) → m.source ≡ file_in 0 f → m.target ≡ file_in 1 g
-    → IfOk result (Begins copying asking m old new)
+    → IfOk result (BeginsCall copying asking m old new)
     → IfOk result (λ (call : CallValue CopyValue). (call.machine.source ≡ file_in 0 f) × (call.machine.target ≡ file_in 1 g))
 files_by f g asking m old new (Ok call) from to h = (ap (λ (x : CopyValue). x.source) h.machine ∙ from, ap (λ (x : CopyValue). x.target) h.machine ∙ to)
 files_by f g asking m old new (Err e) from to h = tt
@@ -79,7 +79,7 @@ pub copy_starts : (f g : FileValue) (source target : FileAt) (n : ℕ) (asking :
     → offers (facts_of old) COPY_DATA ≡ true → g.writable ≡ true → f.readable ≡ true → overflows f.offset n ≡ false → overflows g.offset n ≡ false
     → asking ≡ Whole (request.CopyData f.grant.handle f.offset n g.grant.handle g.offset)
     → StartsAny copying asking (record { source = source; target = target; len = n }) old new result
-    → IfOk result (Begins copying asking (record { source = source; target = target; len = n }) old new) → Keeps old new → CopyStarts f g n old new result
+    → IfOk result (BeginsCall copying asking (record { source = source; target = target; len = n }) old new) → KeepsHeld old new → CopyStarts f g n old new result
 copy_starts f g source target n asking old new result from to offered may reads below behind is started begins keeps =
     let m : CopyValue = record { source = source; target = target; len = n } in
     record {

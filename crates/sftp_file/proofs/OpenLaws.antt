@@ -12,11 +12,12 @@ use Rattle.sftp_model.specs.declared.slot.Slot.TheVariants as slots
 use Rattle.sftp_model.specs.Slots.{with_slot}
 use Rattle.plan_model.specs.FilePlans.{open_next, open_request}
 use Rattle.plan_model.specs.Moves.{Answers, on_handle, once_answered}
-use Rattle.sftp_core.specs.Core.{Core, is_long}
+use Rattle.sftp_model.specs.Frames.{is_too_long}
+use Rattle.sftp_core.specs.Core.{Core}
 use Rattle.call_state.specs.declared.asking.Asking.{Asking}
 use Rattle.call_state.specs.declared.asking.Asking.TheVariants.{Whole}
-use Rattle.call_state.specs.Calls.{Begins, CallValue, IsUnderWay}
-use Rattle.call_state.specs.Keeping.{Keeps}
+use Rattle.call_state.specs.Calls.{BeginsCall, CallValue, IsUnderWay}
+use Rattle.call_state.specs.Keeping.{KeepsHeld}
 use Rattle.call_state.specs.Machines.{GoesBehind}
 use Rattle.call_state.proofs.Keeping.{keeps_same}
 use Rattle.sftp_file.specs.declared.opening.Opening.{Opening}
@@ -45,7 +46,7 @@ short_open : (slot : ℕ) (flags : OpenFlags) (path : List ℕ) (site : Site) (f
 short_open slot flags path site facts answers short = rw (long_by_path flags path, short) refl
 
 -- whose request fits a frame
-pub short_request : (flags : OpenFlags) (path : List ℕ) → nat_lt 1048558 (length path) ≡ false → is_long (open_request flags path) ≡ false
+pub short_request : (flags : OpenFlags) (path : List ℕ) → nat_lt 1048558 (length path) ≡ false → is_too_long (open_request flags path) ≡ false
 short_request flags path short = long_by_path flags path ∙ short
 
 open_behind : (slot : ℕ) (flags : OpenFlags) (path : List ℕ) (site : Site) (facts : Facts) (answers : Answers)
@@ -60,18 +61,18 @@ open_behind slot flags path site facts answers m short rights =
     }
 
 under_way_by : (asking : Asking) (m : Opening) (old new : Core) (result : Result (CallValue Opening) Error)
-    → IfOk result (Begins opening asking m old new) → IfOk result (IsUnderWay opening new)
+    → IfOk result (BeginsCall opening asking m old new) → IfOk result (IsUnderWay opening new)
 under_way_by asking m old new (Ok call) h = h.under_way
 under_way_by asking m old new (Err e) h = tt
 
 rights_by : (flags : OpenFlags) (asking : Asking) (m : Opening) (old new : Core) (result : Result (CallValue Opening) Error) → HasRights flags m
-    → IfOk result (Begins opening asking m old new) → IfOk result (λ (call : CallValue Opening). HasRights flags call.machine)
+    → IfOk result (BeginsCall opening asking m old new) → IfOk result (λ (call : CallValue Opening). HasRights flags call.machine)
 rights_by flags asking m old new (Ok call) rights h = subst (λ (x : Opening). HasRights flags x) (sym h.machine) rights
 rights_by flags asking m old new (Err e) rights h = tt
 
 pub open_starts : (flags : OpenFlags) (path : List ℕ) (asking : Asking) (m : Opening) (old new : Core) (result : Result (CallValue Opening) Error)
     → nat_lt 1048558 (length path) ≡ false → HasRights flags m → asking ≡ Whole (open_request flags path)
-    → StartsAny opening asking m old new result → IfOk result (Begins opening asking m old new) → Keeps old new → OpenStarts flags path old new result
+    → StartsAny opening asking m old new result → IfOk result (BeginsCall opening asking m old new) → KeepsHeld old new → OpenStarts flags path old new result
 open_starts flags path asking m old new result short rights is started begins keeps =
     record {
       starts = λ slot site facts answers. started (slot, site) (λ e. Done (outcome.Refused e) site) (open_next slot flags path site facts) answers

@@ -20,8 +20,8 @@ use Rattle.sftp_core.specs.Core.{Core}
 use Rattle.call_state.specs.declared.asking.Asking.{Asking}
 use Rattle.call_state.specs.declared.asking.Asking.TheVariants.{Whole}
 use Rattle.call_state.specs.declared.stage.Stage.TheVariants.{Ready}
-use Rattle.call_state.specs.Calls.{Begins, CallValue, IsUnderWay, Started}
-use Rattle.call_state.specs.Keeping.{Keeps}
+use Rattle.call_state.specs.Calls.{BeginsCall, CallValue, IsUnderWay, Started}
+use Rattle.call_state.specs.Keeping.{KeepsHeld}
 use Rattle.call_state.specs.Machines.{GoesBehind, Meaning}
 use Rattle.call_state.proofs.Keeping.{keeps_same}
 use Rattle.sftp_file.specs.Files.{Brought, FilePlan, FileValue, Starts, alone, facts_of, file_at}
@@ -38,7 +38,7 @@ StartsAny {W} s asking m old new result =
     (w : W) (refused : Error → Move) (plan : Plan) (answers : Answers) → GoesBehind s w plan answers asking m → Started s w refused plan answers old new result
 
 begun_under_way : {W M V : Type 0} (s : Meaning W M V) (asking : Asking) (m : M) (old new : Core) (result : Result (CallValue M) Error)
-    → IfOk result (Begins s asking m old new) → IfOk result (IsUnderWay s new)
+    → IfOk result (BeginsCall s asking m old new) → IfOk result (IsUnderWay s new)
 begun_under_way s asking m old new (Ok call) h = h.under_way
 begun_under_way s asking m old new (Err e) h = tt
 
@@ -46,7 +46,7 @@ begun_under_way s asking m old new (Err e) h = tt
 pub starts_asking : {W M V : Type 0} (s : Meaning W M V) (w : W) (plan : FilePlan) (f : FileValue) (asking : Asking)
     (m : M) (old new : Core) (result : Result (CallValue M) Error)
     → ((answers : Answers) → Brought f answers → GoesBehind s w (plan (alone f) (facts_of old)) answers asking m)
-    → StartsAny s asking m old new result → IfOk result (Begins s asking m old new) → Keeps old new → Starts s w plan f old new result
+    → StartsAny s asking m old new result → IfOk result (BeginsCall s asking m old new) → KeepsHeld old new → Starts s w plan f old new result
 starts_asking s w plan f asking m old new result behind started begins keeps =
     record {
       starts = λ answers brought. started w (λ e. Done (outcome.Refused e) (alone f)) (plan (alone f) (facts_of old)) answers (behind answers brought);
@@ -76,7 +76,7 @@ starts_refused s w plan f core why refuses =
 pub starts_with : {W M V : Type 0} (s : Meaning W M V) (w : W) (plan : FilePlan) (f : FileValue) (asking asked : Asking)
     (m : M) (old new : Core) (result : Result (CallValue M) Error)
     → asking ≡ asked → ((answers : Answers) → Brought f answers → GoesBehind s w (plan (alone f) (facts_of old)) answers asked m)
-    → StartsAny s asking m old new result → IfOk result (Begins s asking m old new) → Keeps old new → Starts s w plan f old new result
+    → StartsAny s asking m old new result → IfOk result (BeginsCall s asking m old new) → KeepsHeld old new → Starts s w plan f old new result
 starts_with s w plan f asking asked m old new result is behind started begins keeps =
     starts_asking s w plan f asking m old new result
     (λ answers brought. subst (λ x. GoesBehind s w (plan (alone f) (facts_of old)) answers x m) (sym is) (behind answers brought)) started begins keeps

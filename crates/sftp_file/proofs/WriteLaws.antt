@@ -20,8 +20,8 @@ use Rattle.call_state.specs.declared.asking.Asking.TheVariants.{Parts}
 use Rattle.call_state.specs.declared.stage.Stage.{Stage}
 use Rattle.call_state.specs.declared.stage.Stage.TheVariants.{Asked, Ready}
 use Rattle.call_state.specs.Asked.{queued_by}
-use Rattle.call_state.specs.Calls.{Begins, CallValue}
-use Rattle.call_state.specs.Keeping.{Keeps}
+use Rattle.call_state.specs.Calls.{BeginsCall, CallValue}
+use Rattle.call_state.specs.Keeping.{KeepsHeld}
 use Rattle.call_state.specs.Machines.{GoesBehind}
 use Rattle.sftp_file.specs.Files.{Brought, FileValue, Starts, alone, facts_of, file_at, one_slot}
 use Rattle.sftp_file.specs.Outcomes.{looked}
@@ -119,14 +119,14 @@ write_behind f file bytes parts len facts answers look u at is some joins brough
     }
 
 file_by : (f : FileValue) (asking : Asking) (m : WriteValue) (old new : Core)
-    (result : Result (CallValue WriteValue) Error) → m.file ≡ file_at f → IfOk result (Begins writing asking m old new)
+    (result : Result (CallValue WriteValue) Error) → m.file ≡ file_at f → IfOk result (BeginsCall writing asking m old new)
     → IfOk result (λ (call : CallValue WriteValue). call.machine.file ≡ file_at f)
 file_by f asking m old new (Ok call) at h = ap (λ (x : WriteValue). x.file) h.machine ∙ at
 file_by f asking m old new (Err e) at h = tt
 
 shared_by : (f : FileValue) (parts : List (List ℕ)) (asking : Asking) (m : WriteValue) (old new : Core)
     (result : Result (CallValue WriteValue) Error) → asking ≡ Parts f.grant.handle f.offset parts
-    → IfOk result (Begins writing asking m old new)
+    → IfOk result (BeginsCall writing asking m old new)
     → IfOk result (λ (call : CallValue WriteValue). (ticket : ℕ) → call.stage ≡ Asked ticket → new ≡ queued_parts old ticket f.grant.handle f.offset parts)
 shared_by f parts asking m old new (Ok call) is h = λ ticket stage.
     (let same : h.ticket ≡ ticket = same_ticket h.ticket ticket (sym h.awaits ∙ stage) in
@@ -144,7 +144,7 @@ pub write_asked : (f : FileValue) (file : FileAt) (parts : List (List ℕ)) (len
     ≡ looked look site (Ask (request.Write (handle_of (answers file.grant)) file.offset bytes)))
     → look ≡ Ok u → asking ≡ Parts f.grant.handle f.offset parts
     → StartsAny writing asking (record { file = file; len = len }) old new result
-    → IfOk result (Begins writing asking (record { file = file; len = len }) old new) → Keeps old new
+    → IfOk result (BeginsCall writing asking (record { file = file; len = len }) old new) → KeepsHeld old new
     → WritesParts f parts old new result
 write_asked f file parts len asking old new look u result at is some looks good asked started begins keeps =
     let m : WriteValue = record { file = file; len = len } in
@@ -165,7 +165,7 @@ pub write_all_starts : (f : FileValue) (file : FileAt) (handle : List ℕ) (shar
     (result : Result (CallValue WriteAllValue) Error)
     → file ≡ file_at f → handle ≡ f.grant.handle → shared ≡ pieces → facts ≡ facts_of old → m ≡ first_part f facts pieces → p ≡ part.Ask asking len
     → ((answers : Answers) → handle_of (answers file.grant) ≡ handle → IsPart (one_slot file) (rest_of file (drop 0 (joined shared)) facts [] answers) p)
-    → StartsAny writing_all asking m old new result → IfOk result (Begins writing_all asking m old new) → Keeps old new
+    → StartsAny writing_all asking m old new result → IfOk result (BeginsCall writing_all asking m old new) → KeepsHeld old new
     → Starts writing_all tt (write_all_next 0 (joined pieces)) f old new result
 write_all_starts f file handle shared pieces facts asking len p m old new result at bears shares fixed is asks next started begins keeps =
     let first : WriteAllValue = first_part f (facts_of old) pieces in

@@ -31,7 +31,7 @@ ClosesBy f site plan answers m other = ⊥
 
 -- The grant was released, so that its last user sends the CLOSE; in a lane of which a slot holds the file, and others
 -- hold it exactly where it has other users, this is the plan's first move.
-pub record Closes (f : FileValue) (old new : Core) (call : CallValue Settling) : Type 0 where
+pub record ReleasesFile (f : FileValue) (old new : Core) (call : CallValue Settling) : Type 0 where
   pub awaits : call.stage ≡ closing (release_gives f.grant (users_of (at old f.grant.id)))
   pub core : new ≡ released old f.grant
   pub under_way : IsUnderWay settling new call

@@ -11,7 +11,7 @@ use Rattle.plan_model.specs.FilePlans.{copied, copy_next}
 use Rattle.plan_model.specs.Moves.{Answers, Own, Plan, handle_of, on_status, once_answered}
 use Rattle.sftp_core.specs.Core.{Core}
 use Rattle.call_state.specs.Calls.{CallValue, IsUnderWay, MayPoll, Started, Stepped}
-use Rattle.call_state.specs.Keeping.{Keeps}
+use Rattle.call_state.specs.Keeping.{KeepsHeld}
 use Rattle.call_state.specs.Machines.{Meaning}
 use Rattle.call_state.specs.declared.poll.Poll.{Poll}
 use Rattle.sftp_file.specs.Files.{FileValue, facts_of, file_in}
@@ -70,7 +70,7 @@ pub record CopyStarts (f g : FileValue) (n : ℕ) (old new : Core) (result : Res
         old new result
     pub under_way : IfOk result (IsUnderWay copying new)
     pub files : IfOk result (λ call. (call.machine.source ≡ file_in 0 f) × (call.machine.target ≡ file_in 1 g))
-    pub keeps : Keeps old new
+    pub keeps : KeepsHeld old new
 
 -- a copy may be polled on the files that it works on
 pub record MayCopy (core : Core) (call : CallValue CopyValue) (f g : FileValue) : Type 0 where

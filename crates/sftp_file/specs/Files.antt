@@ -15,7 +15,7 @@ use Rattle.sftp_core.specs.Grant.{GrantValue}
 use Rattle.sftp_core.specs.Info.{info_of}
 use Rattle.sftp_core.specs.declared.info.Info.{Info}
 use Rattle.call_state.specs.Calls.{CallValue, IsUnderWay, Started}
-use Rattle.call_state.specs.Keeping.{Keeps}
+use Rattle.call_state.specs.Keeping.{KeepsHeld}
 use Rattle.call_state.specs.Machines.{Meaning}
 
 -- a file: its grant, its rights, and its offset in bytes
@@ -87,7 +87,7 @@ pub record Starts {W M V : Type 0} (s : Meaning W M V) (w : W) (plan : FilePlan)
   pub starts : (answers : Answers) → Brought f answers
       → Started s w (λ e. Done (outcome.Refused e) (alone f)) (plan (alone f) (facts_of old)) answers old new result
   pub under_way : IfOk result (IsUnderWay s new)
-  pub keeps : Keeps old new
+  pub keeps : KeepsHeld old new
 
 -- ---- a poll on a file
 

@@ -37,7 +37,8 @@ use Rattle.sftp_model.specs.declared.slot.Move.{Move}
 use Rattle.sftp_model.specs.declared.slot.Move.TheVariants.{Ask, Done, Wait}
 use Rattle.plan_model.specs.Moves.{Answers, Own, Plan, further, handle_of, on_content, once_answered, refuses}
 use Rattle.plan_model.specs.TransferPlans.{missing_next, read_all_next}
-use Rattle.sftp_core.specs.Core.{Core, is_long}
+use Rattle.sftp_model.specs.Frames.{is_too_long}
+use Rattle.sftp_core.specs.Core.{Core}
 use Rattle.call_state.specs.Asked.{request_of}
 use Rattle.call_state.specs.Calls.{CallValue, MayPoll, Stepped, is_ended}
 use Rattle.call_state.specs.Machines.{Meaning}
@@ -140,7 +141,7 @@ abbrev pub IsNextRead : ReadAllValue → ReadAllValue → Result (Option Asking)
 IsNextRead m next (Ok None) = (m.missing ≡ 0) × (next ≡ m)
 IsNextRead m next (Ok (Some asking)) = (next ≡ record m { len = next_len m })
     × (asking ≡ Whole (request.Read m.handle m.file.offset (next_len m)))
-    × (is_long (request_of asking) ≡ false)
+    × (is_too_long (request_of asking) ≡ false)
 IsNextRead m next (Err why) = next ≡ m
 
 -- as the move of the plan

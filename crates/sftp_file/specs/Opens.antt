@@ -18,7 +18,7 @@ use Rattle.plan_model.specs.Moves.{Answers, Own, Plan, on_handle, once_answered}
 use Rattle.sftp_core.specs.Core.{Core, at}
 use Rattle.sftp_core.specs.declared.place.Place.TheVariants.{Granted}
 use Rattle.call_state.specs.Calls.{CallValue, IsUnderWay, Started}
-use Rattle.call_state.specs.Keeping.{Keeps}
+use Rattle.call_state.specs.Keeping.{KeepsHeld}
 use Rattle.call_state.specs.Machines.{Meaning}
 use Rattle.sftp_file.specs.declared.opening.Opening.{Opening}
 use Rattle.sftp_file.specs.Files.{FileValue}
@@ -76,4 +76,4 @@ pub record OpenStarts (flags : OpenFlags) (path : List ℕ) (old new : Core) (re
       old new result
   pub under_way : IfOk result (IsUnderWay opening new)
   pub rights : IfOk result (λ call. HasRights flags call.machine)
-  pub keeps : Keeps old new
+  pub keeps : KeepsHeld old new

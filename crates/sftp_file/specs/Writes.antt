@@ -12,7 +12,8 @@ use Rattle.sftp_model.specs.declared.slot.Move.TheVariants.{Ask, Done, Wait}
 use Rattle.sftp_model.specs.declared.slot.Site.{Site}
 use Rattle.plan_model.specs.Moves.{Answers, Own, Plan, further, handle_of, on_status, once_answered}
 use Rattle.plan_model.specs.TransferPlans.{in_slot, next_part, part_len, rest_next, was_written, write_next}
-use Rattle.sftp_core.specs.Core.{Core, is_call, is_long, queued_parts}
+use Rattle.sftp_model.specs.Frames.{is_too_long}
+use Rattle.sftp_core.specs.Core.{Core, is_call, queued_parts}
 use Rattle.call_state.specs.Asked.{request_of}
 use Rattle.call_state.specs.Calls.{CallValue}
 use Rattle.call_state.specs.Machines.{IsOwn, Meaning}
@@ -144,7 +145,7 @@ IsPart site move (part.Ask asking len) = move ≡ Ask (request_of asking)
 abbrev pub IsWrite : Facts → List (List ℕ) → ℕ → Asking → Type 0
 IsWrite facts pieces done asking = (expected_of (request_of asking) ≡ expected.Status)
     × (is_call (request_of asking) ≡ true)
-    × (is_long (request_of asking) ≡ false)
+    × (is_too_long (request_of asking) ≡ false)
     × IsCutOut facts pieces done asking
 
 -- and ends within the greatest offset; without it nothing is left, or the call has a value of its own
@@ -156,10 +157,10 @@ IsNext file facts pieces done (part.Ask asking len) = IsWrite facts pieces done 
     × (file.offset + len < 2 ^ 64)
 
 -- the machine behind this part
-abbrev pub behind : WriteAllValue → WriteAllValue
-behind m = record m { file = behind_part m; place = m.place + 1; done = m.done + this_part m }
+abbrev pub after_this_part : WriteAllValue → WriteAllValue
+after_this_part m = record m { file = behind_part m; place = m.place + 1; done = m.done + this_part m }
 
 -- and what it does there
 abbrev pub IsBehind : WriteAllValue → WriteAllValue → Part → Type 0
 IsBehind m next (part.Over value) = (next.file ≡ behind_part m) × IsOwn value
-IsBehind m next (part.Ask asking len) = (next ≡ behind m) × IsWrite next.facts next.pieces next.done asking
+IsBehind m next (part.Ask asking len) = (next ≡ after_this_part m) × IsWrite next.facts next.pieces next.done asking

@@ -4,7 +4,7 @@ ghost use Rattle.sftp_core.specs.Core.{Core as CoreValue};
 ghost use Rattle.sftp_model.specs.declared.error.Error.{Error as ErrorValue};
 ghost use Rattle.call_state.specs.declared.poll.Poll.{Poll as PollValue};
 ghost use Rattle.sftp_file.specs.Files.{FileValue};
-ghost use Rattle.sftp_core.specs.Core.{is_long};
+ghost use Rattle.sftp_core.specs.Core.{is_too_long};
 ghost use Rattle.sftp_model.specs.declared.request.Request.TheVariants as request;
 ghost use Rattle.call_state.specs.Asked.{IsReady, request_of};
 ghost use Rattle.call_state.specs.declared.asking.Asking.TheVariants as asking;
@@ -186,7 +186,7 @@ impl File {
     fn copy_request(&self, to: &File, n: u64) -> Asking
         ensures is { result ≡ asking.Whole
             (request.CopyData self.now.grant.handle self.now.offset n to.now.grant.handle to.now.offset) }
-        ensures short { is_long (request_of result) ≡ false }
+        ensures short { is_too_long (request_of result) ≡ false }
     {
         let (from, target) = (self.grant().handle(), to.grant().handle());
         let _short = from.as_bytes();

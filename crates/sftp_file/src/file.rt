@@ -9,7 +9,7 @@ ghost use Rattle.plan_model.specs.Moves.{Answers, handle_of};
 ghost use Rattle.sftp_core.specs.Core.{at, released, retained, users_of, IsGrant};
 ghost use Rattle.sftp_core.specs.Info.{info_of};
 ghost use Rattle.sftp_file.specs.Files.{alone, facts_of, file_at, file_in};
-ghost use Rattle.sftp_file.specs.Closes.{Closes};
+ghost use Rattle.sftp_file.specs.Closes.{ReleasesFile};
 ghost use Rattle.sftp_file.specs.Outcomes.{seek_outcome};
 
 use crate::facts::facts;
@@ -176,7 +176,7 @@ impl File {
     /// (draft-ietf-secsh-filexfer-02, section 6.3). It can't be refused.
     pub fn start_close(self, core: &mut Core) -> CloseCall
         requires { IsGrant core.old self.grant }
-        ensures { Closes self core.old core.new result }
+        ensures { ReleasesFile self core.old core.new result }
     {
         let File {
             grant,

@@ -4,7 +4,7 @@ ghost use Rattle.sftp_model.specs.declared.flags.OpenFlags.{OpenFlags};
 ghost use Rattle.sftp_model.specs.declared.slot.Site.{Site};
 ghost use Rattle.sftp_model.specs.OpenOptions.{flags_of};
 ghost use Rattle.plan_model.specs.FilePlans.{open_request};
-ghost use Rattle.sftp_core.specs.Core.{is_long};
+ghost use Rattle.sftp_model.specs.Frames.{is_too_long};
 ghost use Rattle.call_state.specs.Asked.{IsReady, request_of};
 ghost use Rattle.call_state.specs.declared.asking.Asking.TheVariants as asking;
 ghost use Rattle.sftp_file.specs.Opens.{OpenStarts, open_waits, opening};
@@ -107,7 +107,7 @@ impl StartOpen for OpenOptions {
 fn open_request(options: &OpenOptions, alloc: Global, path: &[u8]) -> Result<Asking, OutOfMemory>
     requires { length path.now ≤ 1048558 }
     ensures value { IfOk result (λ asked. asked ≡ asking.Whole (open_request (flags_of options.now) path.now)) }
-    ensures short { IfOk result (λ asked. is_long (request_of asked) ≡ false) }
+    ensures short { IfOk result (λ asked. is_too_long (request_of asked) ≡ false) }
 {
     Ok(Asking::Whole(Request::OpenFile {
         path: RemotePath::new(Vec::from_slice(alloc, path)?),

@@ -1,6 +1,6 @@
 //! `read`: at most n bytes at the file's offset.
 ghost use Rattle.std.specs.Prelude.{◌≡◌, false, refl, IfOk};
-ghost use Rattle.sftp_core.specs.Core.{is_long};
+ghost use Rattle.sftp_model.specs.Frames.{is_too_long};
 ghost use Rattle.sftp_model.specs.declared.request.Request.TheVariants as request;
 ghost use Rattle.plan_model.specs.TransferPlans.{read_next};
 ghost use Rattle.call_state.specs.Asked.{IsReady, request_of};
@@ -133,7 +133,7 @@ impl File {
 /// The READ of `len` bytes at an offset. It fits a frame, since a handle has at most 256 bytes.
 pub(crate) fn read_request(handle: &Handle, offset: u64, len: u32) -> Asking
     ensures is { result ≡ asking.Whole (request.Read handle.now offset len) }
-    ensures short { is_long (request_of result) ≡ false }
+    ensures short { is_too_long (request_of result) ≡ false }
 {
     let _short = handle.as_bytes();
     Asking::Whole(Request::Read {

@@ -1,7 +1,6 @@
 //! Calls of one request whose STATUS ends them, and that change nothing of their caller.
 ghost use Rattle.std.specs.Prelude.{◌≡◌, Some, false};
-ghost use Rattle.sftp_core.specs.Core.{is_long};
-ghost use Rattle.sftp_model.specs.Frames.{no_attributes};
+ghost use Rattle.sftp_model.specs.Frames.{no_attributes, is_too_long};
 ghost use Rattle.sftp_model.specs.declared.request.Request.TheVariants as request;
 ghost use Rattle.sftp_model.specs.declared.slot.Site.{Site};
 ghost use Rattle.plan_model.specs.FilePlans.{set_len_next, set_next, sync_next};
@@ -181,7 +180,7 @@ impl File {
     /// The FSETSTAT of these attributes. It fits a frame, since a handle has at most 256 bytes.
     fn fsetstat_request(&self, attrs: FileAttrs) -> Asking
         ensures is { result ≡ asking.Whole (request.Fsetstat self.now.grant.handle attrs) }
-        ensures short { is_long (request_of result) ≡ false }
+        ensures short { is_too_long (request_of result) ≡ false }
     {
         let handle = self.grant().handle();
         let _short = handle.as_bytes();
@@ -194,7 +193,7 @@ impl File {
     /// The request for a sync. It fits a frame, since a handle has at most 256 bytes.
     fn fsync_request(&self) -> Asking
         ensures is { result ≡ asking.Whole (request.Fsync self.now.grant.handle) }
-        ensures short { is_long (request_of result) ≡ false }
+        ensures short { is_too_long (request_of result) ≡ false }
     {
         let handle = self.grant().handle();
         let _short = handle.as_bytes();

@@ -1,6 +1,6 @@
 //! Calls of one request whose ATTRS end them.
 ghost use Rattle.std.specs.Prelude.{◌≡◌, false};
-ghost use Rattle.sftp_core.specs.Core.{is_long};
+ghost use Rattle.sftp_model.specs.Frames.{is_too_long};
 ghost use Rattle.sftp_model.specs.declared.request.Request.TheVariants as request;
 ghost use Rattle.sftp_model.specs.declared.slot.Site.{Site};
 ghost use Rattle.plan_model.specs.FilePlans.{meta_next};
@@ -86,7 +86,7 @@ impl File {
     /// The FSTAT of the file. It fits a frame, since a handle has at most 256 bytes.
     fn fstat_request(&self) -> Asking
         ensures is { result ≡ asking.Whole (request.Fstat self.now.grant.handle) }
-        ensures short { is_long (request_of result) ≡ false }
+        ensures short { is_too_long (request_of result) ≡ false }
     {
         let handle = self.grant().handle();
         let _short = handle.as_bytes();

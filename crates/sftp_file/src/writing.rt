@@ -5,7 +5,7 @@ ghost use Rattle.sftp_model.specs.Numbers.{MAX_TRANSFER_LEN};
 ghost use Rattle.sftp_model.specs.Pieces.{joined};
 ghost use Rattle.plan_model.specs.Moves.{Answers, handle_of};
 ghost use Rattle.plan_model.specs.TransferPlans.{part_len, write_all_next};
-ghost use Rattle.sftp_core.specs.Core.{is_long};
+ghost use Rattle.sftp_model.specs.Frames.{is_too_long};
 ghost use Rattle.call_state.specs.Asked.{IsReady, request_of};
 ghost use Rattle.call_state.specs.declared.asking.Asking.TheVariants as asking;
 ghost use Rattle.sftp_file.specs.Files.{Starts, file_at, one_slot};
@@ -110,7 +110,7 @@ fn next_write(
 pub(crate) fn write_request(handle: &Handle, offset: u64, parts: Vec<Bytes>) -> Asking
     requires { length (joined parts.items) ≤ MAX_TRANSFER_LEN }
     ensures is { result ≡ asking.Parts handle.now offset parts.items }
-    ensures short { is_long (request_of result) ≡ false }
+    ensures short { is_too_long (request_of result) ≡ false }
 {
     let _short = handle.as_bytes();
     Asking::Parts {

@@ -10,7 +10,7 @@ use Rattle.call_state.specs.declared.poll.Poll.TheVariants as poll
 use Rattle.call_state.specs.declared.stage.Stage.{Stage}
 use Rattle.call_state.specs.declared.stage.Stage.TheVariants.{Ended, Ready, Unsent, Asked, Came}
 use Rattle.call_state.specs.Calls.{CallValue, Cancels, HoldsReady, IsOver, cancelled, is_ended}
-use Rattle.call_state.specs.Keeping.{Keeps}
+use Rattle.call_state.specs.Keeping.{KeepsHeld}
 use Rattle.call_state.specs.Machines.{Meaning}
 use Rattle.call_state.proofs.Keeping.{grant_at, grant_kept}
 use Rattle.sftp_fs.specs.Listings.{IsAwaiting, IsListing, ListingValue, fresh_listing}
@@ -39,7 +39,7 @@ dir_granted core dir here = grant_at core dir 1 here (omega arith)
 pub fresh_is_listing : (core : Core) (dir : GrantValue) → IsGrant core dir → IsListing core (fresh_listing dir)
 fresh_is_listing core dir here = record { granted = here; awaits = tt }
 
-awaits_still : (old new : Core) (p : ListingValue) → Keeps old new → IsAwaiting old p.asked → IsAwaiting new p.asked
+awaits_still : (old new : Core) (p : ListingValue) → KeepsHeld old new → IsAwaiting old p.asked → IsAwaiting new p.asked
 awaits_still old new p k h = awaits p.asked h
   where
     awaits : (asked : Option ℕ) → IsAwaiting old asked → IsAwaiting new asked
@@ -47,7 +47,7 @@ awaits_still old new p k h = awaits p.asked h
     awaits (Some ticket) h = k.holds ticket expected.Names h
 
 -- others leave a listing
-pub listing_still : (old new : Core) (p : ListingValue) → Keeps old new → IsListing old p → IsListing new p
+pub listing_still : (old new : Core) (p : ListingValue) → KeepsHeld old new → IsListing old p → IsListing new p
 listing_still old new p k h =
     record { granted = grant_kept old new p.grant k.grants h.granted; awaits = awaits_still old new p k h.awaits }
 

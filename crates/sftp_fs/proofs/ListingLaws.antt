@@ -46,7 +46,7 @@ use Rattle.sftp_core.specs.Grant.{GrantValue}
 use Rattle.call_state.specs.Calls.{IsUnfinished}
 use Rattle.call_state.specs.declared.poll.Poll.TheVariants.{Pending, Ready}
 use Rattle.sftp_fs.specs.ListingPlans.{IsPlanned, Standing, TellsListing, left_behind}
-use Rattle.sftp_fs.specs.Listings.{AsksMore, Given, Gives, GivesAt, HearsOf, ListingValue, ended, left_by, unasked}
+use Rattle.sftp_fs.specs.Listings.{AsksMore, Given, GivesEntries, GivesAt, HearsOf, ListingValue, ended, left_by, unasked}
 use Rattle.std.proofs.lemmas.List.{append-nil, append_assoc}
 
 -- what was given, and an entry that came first
@@ -166,7 +166,7 @@ planned_at s site g [] (Some ticket) q old new answers result some tells h =
     hears s site g q old new answers ticket result (reply_in (at old ticket)) old.fault tells h
 
 pub planned : (s : Standing) (site : Site) (p q : ListingValue) (old new : Core) (answers : Answers) (result : Given)
-    → p.ended ≡ false → 0 < s.bound → TellsListing s old answers p.asked → Gives old new p q result
+    → p.ended ≡ false → 0 < s.bound → TellsListing s old answers p.asked → GivesEntries old new p q result
     → IsPlanned s site p q answers result
 planned s site p q old new answers result on some tells h =
     subst (λ (e : Bool). GivesAt old new (record p { ended = e }) q result e p.entries p.asked

@@ -16,7 +16,7 @@ use Rattle.call_state.proofs.Keeping.{grant_kept, grants_kept, keeps_same, polle
 use Rattle.sftp_fs.specs.Listings.{
   AsksMore,
   Given,
-  Gives,
+  GivesEntries,
   Hears,
   HearsOf,
   IsAwaiting,
@@ -43,7 +43,7 @@ record Leaves (old new : Core) (q : ListingValue) : Type 0 where
   listing : IsListing new q
   grants : KeepsGrants old new
 
-lists_by : (old new : Core) (p q : ListingValue) (result : Given) → Gives old new p q result → Leaves old new q → Lists old new p q result
+lists_by : (old new : Core) (p q : ListingValue) (result : Given) → GivesEntries old new p q result → Leaves old new q → Lists old new p q result
 lists_by old new p q result gives h = record { gives = gives; listing = h.listing; grants = h.grants }
 
 -- nothing changed

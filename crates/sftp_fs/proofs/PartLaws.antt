@@ -5,7 +5,7 @@ use Rattle.sftp_model.specs.Numbers.{MAX_TRANSFER_LEN}
 use Rattle.sftp_model.specs.Pieces.{joined}
 use Rattle.sftp_model.specs.declared.slot.Facts.{Facts}
 use Rattle.plan_model.specs.TransferPlans.{next_part, part_len}
-use Rattle.sftp_core.specs.Core.{is_long}
+use Rattle.sftp_model.specs.Frames.{is_too_long}
 use Rattle.call_state.specs.Asked.{request_of}
 use Rattle.call_state.specs.declared.asking.Asking.{Asking}
 use Rattle.call_state.specs.declared.asking.Asking.TheVariants.{Parts}
@@ -32,7 +32,7 @@ cut_part m len piece parts handle bears fits range is some room cut one =
         asks = asked;
         some = omega (arith, is, some);
         room = omega (arith, is, room);
-        short = ap (λ (a : Asking). is_long (request_of a)) asked
+        short = ap (λ (a : Asking). is_too_long (request_of a)) asked
             ∙ write_is_short m.handle m.done (joined (next_part m.facts m.rest ∷ [])) fits
             (omega (arith, ap (λ (l : List ℕ). length l) (one_joined (next_part m.facts m.rest)), part_length m.facts m.rest, range));
       },

@@ -9,13 +9,14 @@ use Rattle.sftp_model.specs.declared.request.Request.{Request}
 use Rattle.sftp_model.specs.declared.slot.Move.{Move}
 use Rattle.sftp_model.specs.declared.slot.Move.TheVariants.{Ask, Done}
 use Rattle.sftp_model.specs.declared.slot.Site.{Site}
-use Rattle.plan_model.specs.Moves.{Answers, Plan, is_too_long, refuses}
+use Rattle.sftp_model.specs.Frames.{is_too_long}
+use Rattle.plan_model.specs.Moves.{Answers, Plan, refuses}
 use Rattle.plan_model.specs.PathPlans.{from_directory}
 use Rattle.sftp_core.specs.Core.{Core}
 use Rattle.call_state.specs.declared.asking.Asking.{Asking}
 use Rattle.call_state.specs.declared.asking.Asking.TheVariants.{Whole}
-use Rattle.call_state.specs.Calls.{Begins, CallValue, IsUnderWay, Started}
-use Rattle.call_state.specs.Keeping.{Keeps}
+use Rattle.call_state.specs.Calls.{BeginsCall, CallValue, IsUnderWay, Started}
+use Rattle.call_state.specs.Keeping.{KeepsHeld}
 use Rattle.call_state.specs.Machines.{Meaning}
 use Rattle.call_state.proofs.Keeping.{keeps_same}
 use Rattle.sftp_file.specs.Files.{facts_of}
@@ -31,7 +32,7 @@ passes true x y e = refl
 passes false x y e = absurd cc
 
 under_way_by : {W M V : Type 0} (s : Meaning W M V) (asking : Asking) (m : M) (old new : Core) (result : Result (CallValue M) Error)
-    → IfOk result (Begins s asking m old new) → IfOk result (IsUnderWay s new)
+    → IfOk result (BeginsCall s asking m old new) → IfOk result (IsUnderWay s new)
 under_way_by s asking m old new (Ok call) h = h.under_way
 under_way_by s asking m old new (Err e) h = tt
 
@@ -47,7 +48,7 @@ refused_first s r m core long =
 
 -- and any other is asked
 pub asked_first : {W M V : Type 0} (s : Meaning W M V) (r : Request) (m : M) (old new : Core) (result : Result (CallValue M) Error)
-    → is_too_long r ≡ false → StartsAny s (Whole r) m old new result → IfOk result (Begins s (Whole r) m old new) → Keeps old new
+    → is_too_long r ≡ false → StartsAny s (Whole r) m old new result → IfOk result (BeginsCall s (Whole r) m old new) → KeepsHeld old new
     → AsksFirst s r m old new result
 asked_first s r m old new result short started begins keeps =
     record {

@@ -13,7 +13,7 @@ use Rattle.plan_model.specs.WholePlans.{fs_write_next, to_replace}
 use Rattle.sftp_core.specs.Core.{Core}
 use Rattle.sftp_core.specs.Grant.{GrantValue}
 use Rattle.call_state.specs.declared.stage.Stage.{Stage}
-use Rattle.call_state.specs.Calls.{Asks, CallValue, IsHeldAt, Started}
+use Rattle.call_state.specs.Calls.{AsksAndAwaits, CallValue, IsHeldAt, Started}
 use Rattle.sftp_file.specs.Files.{facts_of}
 use Rattle.sftp_fs.specs.Grants.{granting}
 use Rattle.sftp_fs.specs.PathStarts.{AsksFirst, FirstAsks}
@@ -51,7 +51,7 @@ write_asked path content cwd named kept facts m old new call is fixed same h =
         → WriteStarted site (fs_write_next path content site (facts_of old)) answers old new content
         (Ok (record { facts = facts; stage = writing.Opening call kept }))
     asks_of site answers (inl s) = (
-      subst (λ (f : Facts). Asks {V = GrantValue} granting (writes_content content site f answers)
+      subst (λ (f : Facts). AsksAndAwaits {V = GrantValue} granting (writes_content content site f answers)
           (fs_write_next path content site (facts_of old)) answers old new call) (sym fixed) s,
       same,
       fixed,

@@ -55,12 +55,12 @@ use Rattle.call_state.specs.declared.poll.Poll.TheVariants.{Pending, Ready}
 use Rattle.call_state.specs.declared.stage.Stage.{Stage}
 use Rattle.call_state.specs.declared.stage.Stage.TheVariants as stage
 use Rattle.call_state.specs.Asked.{IsReady, request_of}
-use Rattle.call_state.specs.Keeping.{Keeps, KeepsGrants}
+use Rattle.call_state.specs.Keeping.{KeepsHeld, KeepsGrants}
 use Rattle.sftp_file.proofs.Starting.{StartsAny}
 use Rattle.sftp_file.proofs.Steps.{cancelled_keeps}
 use Rattle.call_state.specs.Calls.{
-  Asks,
-  Begins,
+  AsksAndAwaits,
+  BeginsCall,
   CallValue,
   cancelled,
   Cancels,
@@ -95,7 +95,7 @@ use Rattle.sftp_fs.specs.WholeWrites.{
   IsWriteHeld,
   IsWriteLeft,
   KeepsBesides,
-  KeepsOthers,
+  KeepsOtherGrants,
   unended,
   WriteAnswer,
   writes_content,
@@ -237,7 +237,7 @@ start_asks s ticket asked ready = let clash : ◌≡◌ {A = Stage} (stage.Asked
 -- it was asked for
 pub begun_asking : (facts : Facts) (old new : Core) (grant : GrantValue) (content : List ℕ) (m : PartValue) (asking : Asking)
     (call : CallValue PartValue) → m ≡ first_part grant.handle facts content → IsPart m asking → IsOwned old grant
-    → StartsAny writing_parts asking m old new (Ok call) → Begins writing_parts asking m old new call → Keeps old new
+    → StartsAny writing_parts asking m old new (Ok call) → BeginsCall writing_parts asking m old new call → KeepsHeld old new
     → Begun facts old new grant content (writing.Parts grant call) Pending
 begun_asking facts old new grant content m asking call is part owned started begins keeps =
     record {
@@ -250,7 +250,7 @@ begun_asking facts old new grant content m asking call is part owned started beg
     }
   where
     asks_of : {site : Site} {plan : Plan} {answers : Answers} → Started writing_parts site (λ e. Done (outcome.Refused e) site) plan answers old new (Ok call)
-        → Asks writing_parts site plan answers old new call
+        → AsksAndAwaits writing_parts site plan answers old new call
     asks_of (inl h) = h
     asks_of (inr h) = absurd (start_asks call.stage begins.ticket begins.awaits h.1)
 
@@ -288,12 +288,12 @@ refused_same site plan answers old mid (error.BackgroundTaskFailure fault) h = h
 refused_same site plan answers old mid e h = h.1
 
 unbegun_grants : (old new : Core) (grant : GrantValue) (content : List ℕ) (f : Option Fault) (result : WriteAnswer × Writing)
-    → IsUnbegunBy old new grant content f result → KeepsOthers old new (writing.Opened grant content) result.1
+    → IsUnbegunBy old new grant content f result → KeepsOtherGrants old new (writing.Opened grant content) result.1
 unbegun_grants old new grant content (Some fault) result h =
-    subst (λ (q : Writing). KeepsOthers old new (writing.Opened grant content) q) (sym h.1)
+    subst (λ (q : Writing). KeepsOtherGrants old new (writing.Opened grant content) q) (sym h.1)
     (closes_besides old old new grant (grants_same old old refl) h.2)
 unbegun_grants old new grant content None result h =
-    subst (λ (q : Writing). KeepsOthers old new (writing.Opened grant content) q) (sym h.1) (grants_same old new h.2)
+    subst (λ (q : Writing). KeepsOtherGrants old new (writing.Opened grant content) q) (sym h.1) (grants_same old new h.2)
 
 unbegun_held : (old new : Core) (grant : GrantValue) (content : List ℕ) (f : Option Fault) (result : WriteAnswer × Writing)
     → IsOwned old grant → IsUnbegunBy old new grant content f result → IsWriteHeld new result.1 × IsOverBy result.1 result.0
@@ -533,7 +533,7 @@ began_opening site facts plan answers old late new call content grant q (Ready (
     (h.0, inr (grant, h.1 ∙ ap (λ (x : Core). closed x grant) is))
 
 others_behind : (old late new : Core) (call : CallValue Granting) (content : List ℕ) (grant : GrantValue) (q : Writing) → KeepsGrants old late
-    → KeepsOthers late new (writing.Opened grant content) q → KeepsOthers old new (writing.Opening call content) q
+    → KeepsOtherGrants late new (writing.Opened grant content) q → KeepsOtherGrants old new (writing.Opening call content) q
 others_behind old late new call content grant writing.Ended k h = tt
 others_behind old late new call content grant (writing.Opening other kept) k h = grants_both old late new k h
 others_behind old late new call content grant (writing.Opened other kept) k h = grants_both old late new k h
@@ -628,7 +628,7 @@ ready_behind old mid late call next grant ready held h ended left =
 
 -- ---- others leave a write
 
-pub write_still : (old new : Core) (p : Writing) → Keeps old new → IsWriteHeld old p → IsWriteHeld new p
+pub write_still : (old new : Core) (p : Writing) → KeepsHeld old new → IsWriteHeld old p → IsWriteHeld new p
 write_still old new writing.Ended k h = tt
 write_still old new (writing.Opening call content) k h = still_under_way granting old new call k h
 write_still old new (writing.Opened grant content) k h = k.grants.grants grant.id grant.handle 1 h

@@ -35,7 +35,7 @@ use Rattle.call_state.specs.declared.asking.Asking.TheVariants.{Whole}
 use Rattle.call_state.specs.declared.stage.Stage.{Stage}
 use Rattle.call_state.specs.declared.stage.Stage.TheVariants.{Ready, Asked}
 use Rattle.call_state.specs.Calls.{CallValue, IsUnderWay, Started}
-use Rattle.call_state.specs.Keeping.{Keeps}
+use Rattle.call_state.specs.Keeping.{KeepsHeld}
 use Rattle.call_state.specs.Machines.{GoesBehind, Meaning}
 use Rattle.sftp_file.specs.Closes.{closing}
 use Rattle.sftp_file.specs.Files.{facts_of}
@@ -97,7 +97,7 @@ pub record OpensFrom (path cwd : List ℕ) (old new : Core) (result : Result (Ca
       → Started opening_dir (site, λ handle later. go handle later answers) (λ e. Done (outcome.Refused e) site)
       (open_dir_next path go site (facts_of old)) answers old new result
   pub under_way : IfOk result (IsUnderWay opening_dir new)
-  pub keeps : Keeps old new
+  pub keeps : KeepsHeld old new
 
 -- ---- closed
 

@@ -43,8 +43,8 @@ abbrev pub heard : Standing → Standing
 heard s = record s { bound = s.bound - 1 }
 
 -- the plan goes on as the listing that is left, and one READDIR was answered or none
-abbrev pub GoesOn : Standing → Standing → Site → ListingValue → ListingValue → Answers → Type 0
-GoesOn s next site p q answers = (later : Own) → listing_left s site p later answers
+abbrev pub GoesOnListing : Standing → Standing → Site → ListingValue → ListingValue → Answers → Type 0
+GoesOnListing s next site p q answers = (later : Own) → listing_left s site p later answers
     ≡ listing_left next site q later answers
 
 -- the reply to the READDIR that is awaited is the one that the core has
@@ -56,8 +56,8 @@ TellsListing s core answers (Some ticket) = answers s.place ≡ reply_in (at cor
 -- end, where all that came was given; a refusal of the server's; what is awaited, or was asked for.
 abbrev pub IsPlanned : Standing → Site → ListingValue → ListingValue → Answers → Given → Type 0
 IsPlanned s site p q answers (Ready None) = listing_left s site p [] answers ≡ Done (outcome.Names s.given) site
-IsPlanned s site p q answers (Ready (Some (Ok entry))) = GoesOn s (giving s entry) site p q answers
-    ⊎ GoesOn s (giving (heard s) entry) site p q answers
+IsPlanned s site p q answers (Ready (Some (Ok entry))) = GoesOnListing s (giving s entry) site p q answers
+    ⊎ GoesOnListing s (giving (heard s) entry) site p q answers
 IsPlanned s site p q answers (Ready (Some (Err error.OutOfMemory))) = q ≡ p
 IsPlanned s site p q answers (Ready (Some (Err (error.BackgroundTaskFailure fault)))) =
     IsUnfinished (listing_left s site p [] answers)

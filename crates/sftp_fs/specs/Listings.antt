@@ -31,7 +31,7 @@ use Rattle.sftp_core.specs.Grant.{GrantValue}
 use Rattle.call_state.specs.declared.asking.Asking.TheVariants.{Whole}
 use Rattle.call_state.specs.declared.poll.Poll.{Poll}
 use Rattle.call_state.specs.declared.poll.Poll.TheVariants.{Pending, Ready}
-use Rattle.call_state.specs.Asked.{Holds, IsReady, Submitted}
+use Rattle.call_state.specs.Asked.{HoldsTicket, IsReady, Submitted}
 use Rattle.call_state.specs.Keeping.{KeepsGrants}
 
 -- the grant of the directory, the entries that came and were not given yet, the ticket of the READDIR whose reply is
@@ -117,8 +117,8 @@ GivesAt old new p q result false (entry ∷ entries) asked = (result ≡ Ready (
 GivesAt old new p q result false [] None = AsksMore old new p q result
 GivesAt old new p q result false [] (Some ticket) = Hears old new p q ticket result
 
-abbrev pub Gives : Core → Core → ListingValue → ListingValue → Given → Type 0
-Gives old new p q result = GivesAt old new p q result p.ended p.entries p.asked
+abbrev pub GivesEntries : Core → Core → ListingValue → ListingValue → Given → Type 0
+GivesEntries old new p q result = GivesAt old new p q result p.ended p.entries p.asked
 
 -- ---- what a poll needs and leaves
 
@@ -130,7 +130,7 @@ pub record IsEmpty (p : ListingValue) : Type 0 where
 -- the ticket that is awaited is a READDIR's
 abbrev pub IsAwaiting : Core → Option ℕ → Type 0
 IsAwaiting core None = Unit {0}
-IsAwaiting core (Some ticket) = Holds core ticket expected.Names
+IsAwaiting core (Some ticket) = HoldsTicket core ticket expected.Names
 
 -- the core counts a user of the directory, and what is awaited
 pub record IsListing (core : Core) (p : ListingValue) : Type 0 where
@@ -144,7 +144,7 @@ pub record MayList (core : Core) (p : ListingValue) : Type 0 where
 
 -- A poll gave what comes next; the listing may be polled on or given up, and every grant stays.
 pub record Lists (old new : Core) (p q : ListingValue) (result : Given) : Type 0 where
-  pub gives : Gives old new p q result
+  pub gives : GivesEntries old new p q result
   pub listing : IsListing new q
   pub grants : KeepsGrants old new
 

@@ -9,7 +9,7 @@ use Rattle.plan_model.specs.FilePlans.{opened_file}
 use Rattle.plan_model.specs.Moves.{Answers, Own, Plan, handle_of, on_status, once_answered}
 use Rattle.plan_model.specs.TransferPlans.{next_part, part_len, rest_next}
 use Rattle.plan_model.specs.WholePlans.{nowhere, to_replace}
-use Rattle.sftp_core.specs.Core.{is_long}
+use Rattle.sftp_model.specs.Frames.{is_too_long}
 use Rattle.call_state.specs.Asked.{request_of}
 use Rattle.call_state.specs.Machines.{Meaning}
 use Rattle.call_state.specs.declared.asking.Asking.{Asking}
@@ -38,8 +38,8 @@ abbrev pub asked_part : PartValue → Asking
 asked_part m = Parts m.handle m.done (next_part m.facts m.rest ∷ [])
 
 -- the next part
-abbrev pub behind : PartValue → PartValue
-behind m =
+abbrev pub after_part : PartValue → PartValue
+after_part m =
     record m {
       place = m.place + 1;
       done = m.done + part_len m.facts m.rest;
@@ -79,7 +79,7 @@ pub record IsPart (m : PartValue) (asking : Asking) : Type 0 where
   pub asks : asking ≡ asked_part m
   pub some : 0 < length m.rest
   pub room : m.done + part_len m.facts m.rest < 2 ^ 64
-  pub short : is_long (request_of asking) ≡ false
+  pub short : is_too_long (request_of asking) ≡ false
 
 -- it is this one, or nothing is left
 abbrev pub IsNextPart : PartValue → Option (Asking × ℕ) → Type 0
@@ -88,8 +88,8 @@ IsNextPart m (Some next) = IsPart m next.0 × (next.1 ≡ part_len m.facts m.res
 
 -- the machine stands there, or nothing is left
 abbrev pub IsBehind : PartValue → PartValue → Option Asking → Type 0
-IsBehind m next None = (next ≡ m) × ((behind m).rest ≡ [])
-IsBehind m next (Some asking) = (next ≡ behind m) × IsPart next asking
+IsBehind m next None = (next ≡ m) × ((after_part m).rest ≡ [])
+IsBehind m next (Some asking) = (next ≡ after_part m) × IsPart next asking
 
 -- the first part of a content, written behind an OPEN; None where there is none
 abbrev pub first_part : List ℕ → Facts → List ℕ → PartValue

@@ -10,7 +10,7 @@ use Rattle.sftp_model.specs.declared.slot.Site.{Site}
 use Rattle.plan_model.specs.Moves.{Answers, Own, Plan, ask_path}
 use Rattle.sftp_core.specs.Core.{Core, is_call}
 use Rattle.call_state.specs.Calls.{CallValue, IsUnderWay, Started}
-use Rattle.call_state.specs.Keeping.{Keeps}
+use Rattle.call_state.specs.Keeping.{KeepsHeld}
 use Rattle.call_state.specs.Machines.{Meaning}
 use Rattle.call_state.specs.declared.asking.Asking.TheVariants.{Whole}
 use Rattle.sftp_file.specs.Files.{facts_of}
@@ -26,7 +26,7 @@ pub record StartsFrom {M V : Type 0} (s : Meaning Site M V) (plan : PathPlan) (c
   pub starts : (site : Site) (answers : Answers) → site.directory ≡ cwd
       → Started s site (λ e. Done (outcome.Refused e) site) (plan site (facts_of old)) answers old new result
   pub under_way : IfOk result (IsUnderWay s new)
-  pub keeps : Keeps old new
+  pub keeps : KeepsHeld old new
 
 -- ---- the first request, whatever the call
 
@@ -49,7 +49,7 @@ pub record AsksFirst {W M V : Type 0} (s : Meaning W M V) (r : Request) (m : M) 
   pub starts : (w : W) (site : Site) (plan : Plan) (answers : Answers) → FirstAsks s w site plan answers r m
       → Started s w (λ e. Done (outcome.Refused e) site) plan answers old new result
   pub under_way : IfOk result (IsUnderWay s new)
-  pub keeps : Keeps old new
+  pub keeps : KeepsHeld old new
 
 -- from this working directory a plan is that of a call that asks this and goes on in some way
 abbrev pub IsPathPlan : (Request → Site → Plan) → Request → List ℕ → Facts → PathPlan → Type 0

@@ -13,8 +13,17 @@ use Rattle.sftp_core.specs.Core.{Core, abandoned, at, released}
 use Rattle.sftp_core.specs.Grant.{GrantValue}
 use Rattle.sftp_core.specs.declared.place.Place.TheVariants.{Granted}
 use Rattle.call_state.specs.Asked.{IsReady}
-use Rattle.call_state.specs.Calls.{Asks, IsGrantOf, IsLeft, IsUnderWay, IsUnfinished, Tells, cancelled, polled_core}
-use Rattle.call_state.specs.Keeping.{Keeps, KeepsGrants}
+use Rattle.call_state.specs.Calls.{
+  AsksAndAwaits,
+  IsGrantOf,
+  IsLeft,
+  IsUnderWay,
+  IsUnfinished,
+  Tells,
+  cancelled,
+  polled_core,
+}
+use Rattle.call_state.specs.Keeping.{KeepsHeld, KeepsGrants}
 use Rattle.call_state.specs.declared.poll.Poll.{Poll}
 use Rattle.call_state.specs.declared.poll.Poll.TheVariants.{Pending, Ready}
 use Rattle.sftp_file.specs.Files.{facts_of}
@@ -61,7 +70,7 @@ WriteTells core answers other = Unit {0}
 -- the OPEN is under way, and this content is to be written by what the session fixes
 abbrev pub WriteOpens : Site → Plan → Answers → Core → Core → List ℕ → Facts → Writing → Type 0
 WriteOpens site plan answers old new content facts (writing.Opening call kept) =
-    Asks granting (writes_content content site facts answers) plan answers old new call
+    AsksAndAwaits granting (writes_content content site facts answers) plan answers old new call
     × (kept ≡ content)
     × (facts ≡ facts_of old)
 WriteOpens site plan answers old new content facts other = ⊥
@@ -92,7 +101,7 @@ pub record WritesFrom (path content cwd : List ℕ) (old new : Core) (result : R
   pub starts : (site : Site) (answers : Answers) → site.directory ≡ cwd
       → WriteStarted site (fs_write_next path content site (facts_of old)) answers old new content result
   pub held : IfOk result (λ q. IsWriteHeld new q.stage)
-  pub keeps : Keeps old new
+  pub keeps : KeepsHeld old new
 
 -- ---- a poll
 
@@ -115,7 +124,8 @@ Finishes core new writing.Ended = ⊥
 
 -- the WRITE of a part was submitted, and its reply is awaited
 abbrev pub AsksPart : Site → Plan → Answers → Core → Core → Writing → Type 0
-AsksPart site plan answers old new (writing.Parts grant call) = Asks writing_parts site plan answers old new call
+AsksPart site plan answers old new (writing.Parts grant call) =
+    AsksAndAwaits writing_parts site plan answers old new call
 AsksPart site plan answers old new other = ⊥
 
 -- what is awaited is missing, and nothing changed
@@ -162,9 +172,9 @@ IsOverBy stage (Ready (Err error.OutOfMemory)) = is_over stage ≡ false
 IsOverBy stage (Ready value) = is_over stage ≡ true
 
 -- each grant stays; as the write ends, each but its own
-abbrev pub KeepsOthers : Core → Core → Writing → Writing → Type 0
-KeepsOthers old new p writing.Ended = KeepsBut old new p
-KeepsOthers old new p q = KeepsGrants old new
+abbrev pub KeepsOtherGrants : Core → Core → Writing → Writing → Type 0
+KeepsOtherGrants old new p writing.Ended = KeepsBut old new p
+KeepsOtherGrants old new p q = KeepsGrants old new
 
 -- A poll did the next move of each plan that the write is what is left of, whatever its replies to come; the write may
 -- be polled on or given up.
@@ -173,7 +183,7 @@ pub record WroteOn (facts : Facts) (old new : Core) (p q : Writing) (result : Wr
       → WriteTells old answers p → Wrote site facts plan answers old new p q result
   pub held : IsWriteHeld new q
   pub over : IsOverBy q result
-  pub grants : KeepsOthers old new p q
+  pub grants : KeepsOtherGrants old new p q
 
 -- what asking for the first part, or for the close of a file without content, did
 abbrev pub Began : Site → Facts → Plan → Answers → Core → Core → GrantValue → Writing → WriteAnswer → Type 0
@@ -194,7 +204,7 @@ pub record Begun (facts : Facts) (old new : Core) (grant : GrantValue) (content 
       → Began site facts plan answers old new grant q result
   pub held : IsWriteHeld new q
   pub over : IsOverBy q result
-  pub grants : KeepsOthers old new (writing.Opened grant content) q
+  pub grants : KeepsOtherGrants old new (writing.Opened grant content) q
 
 -- a write has not answered, and may ask for a part
 pub record MayWrite (core : Core) (p : FsWriteValue) : Type 0 where

@@ -4,13 +4,13 @@ ghost use Rattle.sftp_model.specs.declared.slot.Site.{Site};
 ghost use Rattle.plan_model.specs.Moves.{Answers};
 ghost use Rattle.sftp_core.specs.Core.{Core};
 ghost use Rattle.sftp_fs.specs.ListingPlans.{IsPlanned, Standing, TellsListing};
-ghost use Rattle.sftp_fs.specs.Listings.{Given, Gives, ListingValue};
+ghost use Rattle.sftp_fs.specs.Listings.{Given, GivesEntries, ListingValue};
 
 /// A poll of a listing that has not ended does the next move of a lane's listing, whatever the bound on its READDIRs
 /// that is not reached: the entries that are given one by one are those with which it ends.
 #[tactic(auto, using(crate::proofs::ListingLaws::planned))]
 pub fn listings_are_planned()
     ensures { (s : Standing) (site : Site) (p q : ListingValue) (old new : Core) (answers : Answers) (result : Given)
-        → p.ended ≡ false → 0 < s.bound → TellsListing s old answers p.asked → Gives old new p q result
+        → p.ended ≡ false → 0 < s.bound → TellsListing s old answers p.asked → GivesEntries old new p q result
         → IsPlanned s site p q answers result }
 {}

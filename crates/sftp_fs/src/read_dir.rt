@@ -4,8 +4,8 @@ ghost use Rattle.sftp_model.specs.Answers.{allows};
 ghost use Rattle.sftp_model.specs.declared.answers.Expected.TheVariants as expected;
 ghost use Rattle.sftp_model.specs.declared.reply.Reply.TheVariants as reply;
 ghost use Rattle.sftp_model.specs.declared.request.Request.TheVariants as request;
-ghost use Rattle.sftp_core.specs.Core.{is_long};
-ghost use Rattle.call_state.specs.Asked.{Holds, IsReady};
+ghost use Rattle.sftp_model.specs.Frames.{is_too_long};
+ghost use Rattle.call_state.specs.Asked.{HoldsTicket, IsReady};
 ghost use Rattle.call_state.specs.Keeping.{KeepsGrants};
 ghost use Rattle.sftp_fs.specs.Directories.{ClosesDir};
 ghost use Rattle.sftp_fs.specs.Listings.{IsAwaiting, IsEmpty, IsListing, MayList, fresh_listing, given_up};
@@ -112,7 +112,7 @@ impl ReadDir {
     /// The READDIR of the directory. It fits a frame, since a handle has at most 256 bytes.
     fn readdir_request(&self) -> Request
         ensures is { result ≡ request.Readdir self.now.grant.handle }
-        ensures short { is_long result ≡ false }
+        ensures short { is_too_long result ≡ false }
     {
         let handle = self.grant.handle();
         let _short = handle.as_bytes();
@@ -124,7 +124,7 @@ impl ReadDir {
     /// Goes on with the reply to a READDIR, where it was taken.
     fn hear(&mut self, core: &mut Core, ticket: Ticket) -> Poll<Option<Result<DirEntry, Error>>>
         requires few { IsEmpty self.old }
-        requires held { Holds core.old ticket expected.Names }
+        requires held { HoldsTicket core.old ticket expected.Names }
         ensures { Hears core.old core.new self.old self.new ticket result }
     {
         match core.poll(ticket) {

@@ -25,7 +25,7 @@ use Rattle.session_work.specs.Adding.{added_in}
 use Rattle.session_work.specs.Fresh.{AreFresh, IsUntouched}
 use Rattle.session_work.specs.Letting.{gone_in}
 use Rattle.session_work.specs.SoFar.{IsIntact, IsLeft}
-use Rattle.session_work.specs.Working.{Contents, Works, contents_of, past_of}
+use Rattle.session_work.specs.Working.{LanesValue, Works, contents_of, past_of}
 use Rattle.session_work.proofs.AddedLaws.{added_calls, added_within, adds, with_length}
 use Rattle.sftp_lanes.specs.Adding.{AddsCall, IsSame}
 use Rattle.sftp_lanes.specs.Events.{LetsIdleGo}
@@ -37,7 +37,7 @@ use Rattle.sftp_lanes.proofs.UnmovedLaws.{unmoved_added, unmoved_let_go}
 -- ---- while a session opens
 
 -- its lanes are these now: core, states and count of requests as before, and no entry more but one of a lane
-record SameButLanes (old now : Contents) : Type 0 where
+record SameButLanes (old now : LanesValue) : Type 0 where
   core : now.core ≡ old.core
   number : now.asked ≡ old.asked
   states : now.states ≡ old.states
@@ -90,10 +90,10 @@ added_unmoved lanes old lane call has may are s same offers =
     unmoved_added s (past_of old) lane call (omega (arith, there, count, as_many)) may.held
     (added_within old.calls lane call may.there may.ok) (are s same offers)
 
-added_same : (c : Contents) (lane : ℕ) (call : Call) → SameButLanes c (added_in c lane call)
+added_same : (c : LanesValue) (lane : ℕ) (call : Call) → SameButLanes c (added_in c lane call)
 added_same c lane call = record { core = refl; number = refl; states = refl; bare = refl; count = refl }
 
-still : (c : Contents) → SameButLanes c c
+still : (c : LanesValue) → SameButLanes c c
 still c = record { core = refl; number = refl; states = refl; bare = refl; count = refl }
 
 added_in_phase : (lanes : List Lane) (options : SftpOptions) (version : Option Reply) (info : Option Info)
@@ -106,16 +106,16 @@ added_in_phase lanes options version info old new Open lane call on has may is p
 added_in_phase lanes options version info old new Failed lane call on has may is p = absurd (on refl)
 added_in_phase lanes options version info old new Fresh lane call on has may is p =
     same_in lanes options version info old new Fresh refl (subst (SameButLanes (contents_of old)) (sym is) (added_same (contents_of old) lane call))
-    (λ are. subst (λ (x : Contents). AreIdleRuns lanes x.past) (sym is) (added_unmoved lanes old lane call has may are)) p
+    (λ are. subst (λ (x : LanesValue). AreIdleRuns lanes x.past) (sym is) (added_unmoved lanes old lane call has may are)) p
 added_in_phase lanes options version info old new Greeted lane call on has may is p =
     same_in lanes options version info old new Greeted refl (subst (SameButLanes (contents_of old)) (sym is) (added_same (contents_of old) lane call))
-    (λ are. subst (λ (x : Contents). AreIdleRuns lanes x.past) (sym is) (added_unmoved lanes old lane call has may are)) p
+    (λ are. subst (λ (x : LanesValue). AreIdleRuns lanes x.past) (sym is) (added_unmoved lanes old lane call has may are)) p
 added_in_phase lanes options version info old new Asking lane call on has may is p =
     same_in lanes options version info old new Asking refl (subst (SameButLanes (contents_of old)) (sym is) (added_same (contents_of old) lane call))
-    (λ are. subst (λ (x : Contents). AreIdleRuns lanes x.past) (sym is) (added_unmoved lanes old lane call has may are)) p
+    (λ are. subst (λ (x : LanesValue). AreIdleRuns lanes x.past) (sym is) (added_unmoved lanes old lane call has may are)) p
 added_in_phase lanes options version info old new Queried lane call on has may is p =
     same_in lanes options version info old new Queried refl (subst (SameButLanes (contents_of old)) (sym is) (added_same (contents_of old) lane call))
-    (λ are. subst (λ (x : Contents). AreIdleRuns lanes x.past) (sym is) (added_unmoved lanes old lane call has may are)) p
+    (λ are. subst (λ (x : LanesValue). AreIdleRuns lanes x.past) (sym is) (added_unmoved lanes old lane call has may are)) p
 
 -- nothing has changed
 same_in_phase : (lanes : List Lane) (options : SftpOptions) (version : Option Reply) (info : Option Info)
@@ -125,19 +125,19 @@ same_in_phase lanes options version info old new Open on is p = subst (Works (se
 same_in_phase lanes options version info old new Failed on is p = absurd (on refl)
 same_in_phase lanes options version info old new Fresh on is p =
     same_in lanes options version info old new Fresh refl (subst (SameButLanes (contents_of old)) (sym is) (still (contents_of old)))
-    (λ are. subst (λ (x : Contents). AreIdleRuns lanes x.past) (sym is) are) p
+    (λ are. subst (λ (x : LanesValue). AreIdleRuns lanes x.past) (sym is) are) p
 same_in_phase lanes options version info old new Greeted on is p =
     same_in lanes options version info old new Greeted refl (subst (SameButLanes (contents_of old)) (sym is) (still (contents_of old)))
-    (λ are. subst (λ (x : Contents). AreIdleRuns lanes x.past) (sym is) are) p
+    (λ are. subst (λ (x : LanesValue). AreIdleRuns lanes x.past) (sym is) are) p
 same_in_phase lanes options version info old new Asking on is p =
     same_in lanes options version info old new Asking refl (subst (SameButLanes (contents_of old)) (sym is) (still (contents_of old)))
-    (λ are. subst (λ (x : Contents). AreIdleRuns lanes x.past) (sym is) are) p
+    (λ are. subst (λ (x : LanesValue). AreIdleRuns lanes x.past) (sym is) are) p
 same_in_phase lanes options version info old new Queried on is p =
     same_in lanes options version info old new Queried refl (subst (SameButLanes (contents_of old)) (sym is) (still (contents_of old)))
-    (λ are. subst (λ (x : Contents). AreIdleRuns lanes x.past) (sym is) are) p
+    (λ are. subst (λ (x : LanesValue). AreIdleRuns lanes x.past) (sym is) are) p
 
 -- the calls of a lane, by lists alone
-abbrev HasIn : List Lane → Contents → Type 0
+abbrev HasIn : List Lane → LanesValue → Type 0
 HasIn lanes c = (length c.calls ≡ length lanes) × (are_ok c.calls ≡ true)
     × ((lane : ℕ) → calls_of (slice_get c.calls lane) ≡ calls_of (slice_get lanes lane) ++ added c.past lane)
 
@@ -155,11 +155,11 @@ added_has lanes options version info old lane call has may = (
   added_calls (setting_by lanes options version info) (past_of old) old.calls lane call may.there has.each,
 )
 
-fixed_in : (lanes : List Lane) (options : SftpOptions) (version : Option Reply) (info : Option Info) (c now : Contents)
+fixed_in : (lanes : List Lane) (options : SftpOptions) (version : Option Reply) (info : Option Info) (c now : LanesValue)
     → now ≡ c → IsFixed (given lanes options) version c.past (setting_by lanes options version info)
     → IsFixed (given lanes options) version now.past (setting_by lanes options version info)
 fixed_in lanes options version info c now is f =
-    subst (λ (x : Contents). IsFixed (given lanes options) version x.past (setting_by lanes options version info)) (sym is) f
+    subst (λ (x : LanesValue). IsFixed (given lanes options) version x.past (setting_by lanes options version info)) (sym is) f
 
 -- also where it was refused
 pub pushed_session : {T E : Type 0} (lanes : List Lane) (options : SftpOptions) (version : Option Reply)
@@ -218,7 +218,7 @@ adds_call lanes options version known old new phase lane call is on may is_added
       rest = refl;
       is = is_added;
       next = next;
-      later = subst (λ (x : Contents). IsLater s (past_of old) x.past) (sym is_added) (inr (next, later_self s (past_of old)));
+      later = subst (λ (x : LanesValue). IsLater s (past_of old) x.past) (sym is_added) (inr (next, later_self s (past_of old)));
     }
 
 pub same_session : (lanes : List Lane) (options : SftpOptions) (version : Option Reply) (known : Option Info)
@@ -237,7 +237,7 @@ gone_unmoved lanes options version info old lane lt done held are s same offers 
     ap (λ (ls : List Lane). slice_get (calls_of (slice_get ls lane) ++ added (past_of old) lane) (ended (past_of old) lane)) same in
     unmoved_let_go s (past_of old) lane (omega (arith, lt, as_many)) (mine ∙ done) held (are s same offers)
 
-gone_same : (c : Contents) (lane : ℕ) → SameButLanes c (gone_in c lane)
+gone_same : (c : LanesValue) (lane : ℕ) → SameButLanes c (gone_in c lane)
 gone_same c lane = record { core = refl; number = refl; states = refl; bare = refl; count = refl }
 
 pub gone_session : (lanes : List Lane) (options : SftpOptions) (version : Option Reply) (known : Option Info)
@@ -251,7 +251,7 @@ gone_session lanes options version known old new phase lane is opens lt done hel
       intact = subst (λ (n : ℕ). IsIntact n new) is.calls.count intact;
       now = same_in lanes options version known old new phase opens
           (subst (SameButLanes (contents_of old)) (sym gone) (gone_same (contents_of old) lane))
-          (λ are. subst (λ (x : Contents). AreIdleRuns lanes x.past) (sym gone)
+          (λ are. subst (λ (x : LanesValue). AreIdleRuns lanes x.past) (sym gone)
           (gone_unmoved lanes options version known old lane lt done held are)) is.now;
       told = is.told;
       calls = has_of lanes new (subst (HasIn lanes) (sym gone) (has_in lanes old is.calls));

@@ -18,7 +18,8 @@ use Rattle.sftp_core.specs.declared.place.Place.{Place}
 use Rattle.sftp_core.specs.declared.place.Place.TheVariants.{Waiting}
 use Rattle.sftp_core.specs.Core.{Core, at}
 use Rattle.sftp_core.specs.Table.{all_sent, sent_place}
-use Rattle.sftp_core.specs.Take.{First, IsFirst, IsTakeError, Read, Refused, fault_of, or_else, take_refusal, wrong_at, wrong_limits}
+use Rattle.ssh_encoding.specs.Writing.{or_else}
+use Rattle.sftp_core.specs.Take.{First, IsFirst, IsTakeError, Read, Refused, fault_of, take_refusal, wrong_at, wrong_limits}
 use Rattle.sftp_core.proofs.Elsewhere.{put_elsewhere, put_here}
 use Rattle.sftp_core.proofs.Sent.{get_sent}
 use Rattle.session_model.specs.declared.entry.Entry.{Entry}

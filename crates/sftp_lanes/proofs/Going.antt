@@ -23,10 +23,10 @@ use Rattle.session_driver.proofs.Journals.{later_self}
 use Rattle.session_work.specs.declared.lanes.Lanes.{Lanes}
 use Rattle.session_work.specs.Reports.{lane_report, reports_of}
 use Rattle.session_work.specs.SoFar.{HasRoom, IsIntact, IsLeft, Refuses, StaysSoFar, kept_past, refused_past}
-use Rattle.session_work.specs.Working.{Contents, HandsIn, IsWorking, past_of}
+use Rattle.session_work.specs.Working.{LanesValue, HandsIn, IsWorking, past_of}
 use Rattle.session_work.proofs.FaultLaws.{kept_so_far, left_so_far, stands_so_far}
 use Rattle.session_work.proofs.ReportLaws.{leaves_intact, refused_told}
-use Rattle.sftp_lanes.specs.Events.{GoesOn, HasFailed}
+use Rattle.sftp_lanes.specs.Events.{LanesDid, HasFailed}
 use Rattle.sftp_lanes.specs.Seen.{IsInPhase, IsSession, SessionValue, given, setting_by}
 use Rattle.sftp_lanes.proofs.FaultLaws.{so_far}
 use Rattle.sftp_lanes.proofs.FixedLaws.{added_refused, fixed_on, fixed_refused, kept_refused, noted, same_calls}
@@ -141,7 +141,7 @@ refused_by lanes options version known old new phase fault is rest noted room st
 
 -- ---- what is handed out
 
-pub hands_later : (s : Setting) (old new : Contents) (bytes : Option (List ℕ)) → HandsIn s old new bytes
+pub hands_later : (s : Setting) (old new : LanesValue) (bytes : Option (List ℕ)) → HandsIn s old new bytes
     → IsLater s old.past new.past
 hands_later s old new None h =
     let same : new.past ≡ old.past = ap (λ (x : Stage). x.past) h.hands.1 in
@@ -155,7 +155,7 @@ hands_later s old new (Some bytes) h =
 pub goes_on : (Did : Setting → Lanes → Lanes → Type 0) (lanes : List Lane) (options : SftpOptions)
     (version : Option Reply) (info : Option Info) (phase now : Phase) (old new : Lanes) → phase ≡ Open → now ≡ phase
     → Did (setting_by lanes options version info) old new
-    → GoesOn Did (value_of lanes options version info phase old) (value_of lanes options version info now new)
+    → LanesDid Did (value_of lanes options version info phase old) (value_of lanes options version info now new)
 goes_on Did lanes options version info phase now old new is_open same did = record {
   was_open = is_open;
   rest = λ i. value_of lanes options version info (same i) new;

@@ -10,7 +10,7 @@ use Rattle.sftp_model.specs.declared.reply.Reply.{Reply}
 use Rattle.sftp_model.specs.declared.reply.Reply.TheVariants as reply
 use Rattle.sftp_model.specs.declared.request.Request.TheVariants as request
 use Rattle.sftp_model.specs.declared.slot.Facts.{Facts}
-use Rattle.sftp_model.specs.ReplyReadings.{limits_at}
+use Rattle.sftp_model.specs.ReplyReadings.{limits_in}
 use Rattle.plan_model.specs.GoodMoves.{FitsFacts}
 use Rattle.sftp_core.specs.declared.info.Info.{Info}
 use Rattle.sftp_model.specs.declared.options.SftpOptions.{SftpOptions}
@@ -18,7 +18,7 @@ use Rattle.sftp_core.specs.declared.tokens.Taken.{Taken}
 use Rattle.sftp_core.specs.declared.tokens.Taken.TheVariants as taken_of
 use Rattle.sftp_core.specs.declared.place.Place.{Place}
 use Rattle.sftp_core.specs.Core.{Core, at, handed_out}
-use Rattle.sftp_core.specs.Take.{Read, TakenFrom, limits_in, limits_read, take_refusal, taken}
+use Rattle.sftp_core.specs.Take.{Read, TakenFrom, take_refusal, taken}
 use Rattle.sftp_core.specs.Info.{hello_of, info_with}
 use Rattle.sftp_model.specs.Lengths.{offers_limits}
 use Rattle.sftp_core.specs.Table.{count, is_sent, is_waiting}
@@ -31,10 +31,10 @@ use Rattle.session_model.specs.Calls.{Setting}
 use Rattle.session_model.specs.Grants.{orphan}
 use Rattle.session_model.specs.Ids.{Free, Pending, id_state, now_replied, now_sent}
 use Rattle.session_model.specs.Journals.{is_opened}
-use Rattle.session_model.specs.Readings.{Asked, answer, asked, awaited, count_below, unanswered, unsent}
+use Rattle.session_model.specs.Readings.{AskedRequest, answer, asked, awaited, count_below, unanswered, unsent}
 use Rattle.session_model.specs.Steady.{Good}
 use Rattle.session_model.specs.Runs.{queried}
-use Rattle.session_model.specs.Settings.{facts_of, greeting, limits_told, limits_of, read_limits}
+use Rattle.session_model.specs.Settings.{facts_of, greeting, limits_told, limits_of}
 use Rattle.session_driver.specs.declared.session.Phase.{Phase}
 use Rattle.session_driver.specs.declared.session.Phase.TheVariants.{Asking, Failed, Fresh, Greeted, Open, Queried}
 use Rattle.session_driver.specs.Session.{IsFixed}
@@ -129,7 +129,7 @@ nothing s none = record {
 }
 
 -- the query for limits
-abbrev query : Asked
+abbrev query : AskedRequest
 query = record { by = owner.Setup; id = 0; request = request.LimitsQuery }
 
 free_told : (b : Bool) (r : Reply) → stand (λ p. false) (λ p. false)
@@ -259,23 +259,10 @@ is_fixed lanes options extensions limits version known past told is same =
     let first : setting_by lanes options version known ≡ by_limits limits = (λ i. setting_by lanes options (told i) (is i)) in
     (extensions, (told, first ∙ ap by_limits same))
 
-read_same : (read : Result Limits FrameError) → limits_read read ≡ read_limits read
-read_same (Ok limits) = refl
-read_same (Err e) = refl
-
-in_told : (r : Reply) → limits_in r ≡ limits_of (Some r)
-in_told (reply.Extended content) = read_same (limits_at content)
-in_told (reply.Status code message language) = refl
-in_told (reply.Version version extensions) = refl
-in_told (reply.Handle handle) = refl
-in_told (reply.Content bytes) = refl
-in_told (reply.Names names) = refl
-in_told (reply.Attrs attrs) = refl
-
 -- the limits of the reply to the query for them
 pub limits_are : (offers : Bool) (past : List Entry) (r : Reply) → offers ≡ true → answer past 0 ≡ Some r
     → limits_in r ≡ limits_told offers (answer past 0)
-limits_are offers past r is e = in_told r ∙ (λ i. limits_told (sym is i) (sym e i))
+limits_are offers past r is e = λ i. limits_told (sym is i) (sym e i)
 
 no_reply : (offers : Bool) → None ≡ limits_told offers None
 no_reply true = refl

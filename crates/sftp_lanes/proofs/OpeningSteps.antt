@@ -14,7 +14,7 @@ use Rattle.session_model.specs.declared.entry.Entry.{Entry}
 use Rattle.session_model.specs.declared.entry.Entry.TheVariants as entry
 use Rattle.session_model.specs.Calls.{Setting}
 use Rattle.session_model.specs.Journals.{IsFree, MayReply, MayTake}
-use Rattle.session_model.specs.Readings.{Asked, asked, sent, still_open, unsent}
+use Rattle.session_model.specs.Readings.{AskedRequest, asked, sent, still_open, unsent}
 use Rattle.session_model.specs.Runs.{queried}
 use Rattle.session_driver.specs.NoLanes.{asked_past}
 use Rattle.session_driver.specs.Refusals.{refuses, refuses_reply, sent_at}
@@ -76,7 +76,7 @@ taken_unmoved s past r bare goes u =
 
 -- ---- what is refused
 
-sent_by : Told → Option ℕ → Option Asked
+sent_by : Told → Option ℕ → Option AskedRequest
 sent_by t None = None
 sent_by t (Some place) = if nat_lt place t.sent then t.request place else None
 

@@ -6,7 +6,7 @@ use Rattle.session_model.specs.declared.event.Event.TheVariants.{Submit, Send, T
 use Rattle.session_model.specs.declared.entry.Entry.{Entry}
 use Rattle.session_model.specs.declared.entry.Entry.TheVariants as entry
 use Rattle.session_model.specs.Ids.{IdState, Pending, id_state, now_replied, now_sent}
-use Rattle.session_model.specs.Readings.{Asked, answer, asked, asked_at, bearer, is_at, sent, unsent, was_kept}
+use Rattle.session_model.specs.Readings.{AskedRequest, answer, asked, asked_at, bearer, is_at, sent, unsent, was_kept}
 use Rattle.sftp_lanes.specs.Seen.{without_lanes}
 
 -- what a journal says of its requests
@@ -15,7 +15,7 @@ pub record Told : Type 0 where
   pub sent : ℕ
   pub bearer : ℕ → Option ℕ
   pub answer : ℕ → Option Reply
-  pub request : ℕ → Option Asked
+  pub request : ℕ → Option AskedRequest
   pub unsent : List (ℕ × Request)
   pub state : ℕ → IdState
   pub kept : Bool

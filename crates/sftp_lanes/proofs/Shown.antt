@@ -12,15 +12,15 @@ use Rattle.session_driver.specs.declared.session.Phase.TheVariants.{Failed, Open
 use Rattle.session_driver.specs.declared.session.Stepped.{Stepped}
 use Rattle.session_driver.specs.Adding.{AddsTo}
 use Rattle.session_driver.specs.Refusals.{Notes}
-use Rattle.session_driver.specs.Session.{Begins, Greets, HasRefused, Holds, IsLater, IsUnmoved, Stays, at_rest}
+use Rattle.session_driver.specs.Session.{BeginsWithQuery, Greets, HasRefused, KeepsMade, IsLater, IsUnmoved, StaysInPhase, at_rest}
 use Rattle.session_model.specs.declared.entry.Entry.{Entry}
 use Rattle.session_model.specs.Calls.{Setting}
 use Rattle.session_model.specs.Turns.{Stage}
 use Rattle.session_work.specs.declared.lanes.Lanes.{Lanes}
 use Rattle.session_work.specs.SoFar.{refused_past}
-use Rattle.session_work.specs.Working.{CancelsLane, LetsLaneGo, Steps, past_of, stage_in, stage_of, work_in, work_of}
+use Rattle.session_work.specs.Working.{CancelsLane, LetsLaneGo, StepsLane, past_of, stage_in, stage_of, work_in, work_of}
 use Rattle.sftp_lanes.specs.Adding.{AddsCall, IsSame}
-use Rattle.sftp_lanes.specs.Events.{BeginsBy, CancelsIn, GoesOn, HasFailed, IsRefused, LetsGoIn, StepsIn, TakesVersion}
+use Rattle.sftp_lanes.specs.Events.{BeginsBy, CancelsIn, LanesDid, HasFailed, IsRefused, LetsGoIn, StepsIn, TakesVersion}
 use Rattle.sftp_lanes.specs.Seen.{SessionValue, given_of, seen_of, setting_at}
 
 -- ---- answers of either kind
@@ -33,11 +33,11 @@ or_refused (Err e) X P Q ok err f g = g e err
 -- ---- what is seen
 
 -- where only the lanes worked, the rest is as it was
-pub stays : (Did : Setting → Lanes → Lanes → Type 0) (old new : SessionValue) → GoesOn Did old new → Stays (seen_of old) (seen_of new)
+pub stays : (Did : Setting → Lanes → Lanes → Type 0) (old new : SessionValue) → LanesDid Did old new → StaysInPhase (seen_of old) (seen_of new)
 stays Did old new g = ap seen_of g.rest
 
 -- whatever its phase has become
-holds_in : (phase : Phase) (old new : SessionValue) → new ≡ record old { phase = phase; work = new.work } → Holds (seen_of old) (seen_of new)
+holds_in : (phase : Phase) (old new : SessionValue) → new ≡ record old { phase = phase; work = new.work } → KeepsMade (seen_of old) (seen_of new)
 holds_in phase old new rest =
     let same : new.phase ≡ phase = ap (λ (s : SessionValue). s.phase) rest in
     subst (λ (p : Phase). seen_of new ≡ record (seen_of old) { phase = p; stage = stage_of new.work; work = work_of new.work }) (sym same) (ap seen_of rest)
@@ -60,17 +60,17 @@ refused_left e old new f = record {
 
 pub opened_step : {E : Type 0} (r : Result Stepped E) (lane : ℕ) (old new : SessionValue) → old.phase ≡ Open
     → IfOk r (λ event. StepsIn old.phase lane old new event)
-    → IfOk r (λ event. GoesOn (λ s before after. Steps s lane before after event) old new)
+    → IfOk r (λ event. LanesDid (λ s before after. StepsLane s lane before after event) old new)
 opened_step r lane old new is steps = subst (λ (p : Phase). IfOk r (λ event. StepsIn p lane old new event)) is steps
 
 pub opened_cancel : {E : Type 0} (r : Result Bool E) (lane : ℕ) (old new : SessionValue) → old.phase ≡ Open
     → IfOk r (λ event. CancelsIn old.phase lane old new event)
-    → IfOk r (λ event. GoesOn (λ s before after. CancelsLane s lane before after event) old new)
+    → IfOk r (λ event. LanesDid (λ s before after. CancelsLane s lane before after event) old new)
 opened_cancel r lane old new is cancels = subst (λ (p : Phase). IfOk r (λ event. CancelsIn p lane old new event)) is cancels
 
 pub opened_let_go : {T E : Type 0} (r : Result T E) (lane : ℕ) (old new : SessionValue) → old.phase ≡ Open
     → OnOk r (LetsGoIn old.phase lane old new)
-    → OnOk r (GoesOn (λ s before after. LetsLaneGo s lane before after) old new)
+    → OnOk r (LanesDid (λ s before after. LetsLaneGo s lane before after) old new)
 opened_let_go r lane old new is goes = subst (λ (p : Phase). OnOk r (LetsGoIn p lane old new)) is goes
 
 -- ---- a call is added
@@ -85,7 +85,7 @@ same_seen old new same =
 
 -- ---- VERSION
 
-begins_first : (asks : Bool) (phase : Phase) (before now : List Entry) → before ≡ [] → BeginsBy asks phase before now → Begins asks phase now
+begins_first : (asks : Bool) (phase : Phase) (before now : List Entry) → before ≡ [] → BeginsBy asks phase before now → BeginsWithQuery asks phase now
 begins_first true phase before now none b = subst (λ (p : List Entry). BeginsBy true phase p now) none b
 begins_first false phase before now none b = (b.0, b.1 ∙ none)
 

@@ -20,7 +20,8 @@ use Rattle.std.specs.Prelude.{
 }
 use Rattle.sftp_core.specs.declared.errors.TakeError.{TakeError}
 use Rattle.sftp_core.specs.Info.{info_with}
-use Rattle.sftp_core.specs.Take.{fault_of, limits_in}
+use Rattle.sftp_model.specs.ReplyReadings.{limits_in}
+use Rattle.sftp_core.specs.Take.{fault_of}
 use Rattle.sftp_model.specs.declared.config.Limits.{Limits}
 use Rattle.sftp_model.specs.declared.frame_error.FrameError.{FrameError}
 use Rattle.sftp_model.specs.declared.flags.Extensions.{Extensions}
@@ -50,7 +51,7 @@ use Rattle.session_work.specs.Working.{
   CancelsLane,
   HandsAll,
   LetsLaneGo,
-  Steps,
+  StepsLane,
   TakesBody,
   contents_of,
   past_of,
@@ -61,7 +62,7 @@ use Rattle.sftp_lanes.specs.Seen.{SessionValue, given_of, seen_of, setting_at}
 -- ---- an open session
 
 -- It was open, its lanes did this, and nothing else of it has changed.
-pub record GoesOn (Did : Setting → Lanes → Lanes → Type 0) (old new : SessionValue) : Type 0 where
+pub record LanesDid (Did : Setting → Lanes → Lanes → Type 0) (old new : SessionValue) : Type 0 where
   pub was_open : old.phase ≡ Open
   pub rest : new ≡ record old { work = new.work }
   pub did : Did (setting_at old) old.work new.work
@@ -135,13 +136,13 @@ pub record TakesLimits (body_reads : Result (Option ℕ × Reply) FrameError) (o
 
 -- what a step of a lane is: nothing happens before the session is open
 abbrev pub StepsIn : Phase → ℕ → SessionValue → SessionValue → Stepped → Type 0
-StepsIn Open lane old new event = GoesOn (λ s before after. Steps s lane before after event) old new
+StepsIn Open lane old new event = LanesDid (λ s before after. StepsLane s lane before after event) old new
 StepsIn Failed lane old new event = ⊥
 StepsIn opening lane old new event = (event ≡ stepped.Nothing) × (new ≡ old)
 
 -- what a cancel is: no call is begun before the session is open
 abbrev pub CancelsIn : Phase → ℕ → SessionValue → SessionValue → Bool → Type 0
-CancelsIn Open lane old new event = GoesOn (λ s before after. CancelsLane s lane before after event) old new
+CancelsIn Open lane old new event = LanesDid (λ s before after. CancelsLane s lane before after event) old new
 CancelsIn Failed lane old new event = ⊥
 CancelsIn opening lane old new event = (event ≡ false) × (new ≡ old)
 
@@ -153,7 +154,7 @@ pub record LetsIdleGo (lane : ℕ) (old new : SessionValue) : Type 0 where
 
 -- what the letting go of a lane is: before the session is open the lane holds nothing
 abbrev pub LetsGoIn : Phase → ℕ → SessionValue → SessionValue → Type 0
-LetsGoIn Open lane old new = GoesOn (λ s before after. LetsLaneGo s lane before after) old new
+LetsGoIn Open lane old new = LanesDid (λ s before after. LetsLaneGo s lane before after) old new
 LetsGoIn Failed lane old new = ⊥
 LetsGoIn opening lane old new = MatchBool (nat_lt lane (length old.lanes)) (LetsIdleGo lane old new) (new ≡ old)
 
@@ -164,7 +165,7 @@ HandsOutIn Fresh old new bytes = (bytes ≡ Some hello_frame) × HandsHello old 
 HandsOutIn Greeted old new bytes = (bytes ≡ None) × (new ≡ old)
 HandsOutIn Asking old new bytes = (bytes ≡ Some (unsent_bytes (past_of old.work))) × HandsQuery old new
 HandsOutIn Queried old new bytes = (bytes ≡ None) × (new ≡ old)
-HandsOutIn Open old new bytes = GoesOn (λ s before after. HandsAll s before after bytes) old new
+HandsOutIn Open old new bytes = LanesDid (λ s before after. HandsAll s before after bytes) old new
 HandsOutIn Failed old new bytes = ⊥
 
 -- handing out may take memory: nothing is handed out while a reply of the opening is awaited
@@ -189,7 +190,7 @@ TakesIn Fresh body_reads old new = ⊥
 TakesIn Greeted body_reads old new = (asks : Bool) × TakesVersion body_reads asks old new
 TakesIn Asking body_reads old new = ⊥
 TakesIn Queried body_reads old new = TakesLimits body_reads old new
-TakesIn Open body_reads old new = GoesOn (λ s before after. TakesBody s body_reads before after) old new
+TakesIn Open body_reads old new = LanesDid (λ s before after. TakesBody s body_reads before after) old new
 TakesIn Failed body_reads old new = ⊥
 
 -- the first thing that is wrong with a frame, where one is; a session that has failed looks at none

@@ -8,7 +8,7 @@ ghost use Rattle.session_model.specs.Calls.{current};
 ghost use Rattle.session_model.specs.Readings.{was_let_go};
 ghost use Rattle.session_driver.specs.Refusals.{refuses};
 ghost use Rattle.session_driver.specs.declared.session.Phase.TheVariants as phases;
-ghost use Rattle.sftp_lanes.specs.Events.{CancelsIn, GoesOn, HandsOutIn, HasFailed, IsRefused, LetsGoIn, LetsIdleGo, StepsIn, TakesIn, first_wrong, takes_frames, takes_memory};
+ghost use Rattle.sftp_lanes.specs.Events.{CancelsIn, LanesDid, HandsOutIn, HasFailed, IsRefused, LetsGoIn, LetsIdleGo, StepsIn, TakesIn, first_wrong, takes_frames, takes_memory};
 ghost use Rattle.sftp_lanes.specs.Seen.{is_opening, setting_at};
 ghost use Rattle.session_work.specs.Working.{HandsAll, TakesBody, past_of};
 
@@ -100,7 +100,7 @@ impl Session {
     /// The frames of all unsent requests of an open session. Refused for want of memory.
     pub(crate) fn hand_out_unsent(&mut self) -> Result<Option<Chunk>, OutOfMemory>
         requires open { self.old.phase ≡ phases.Open }
-        ensures hands_out { IfOk result (λ chunk. GoesOn (λ s before after. HandsAll s before after (option_map joined chunk)) self.old self.new) }
+        ensures hands_out { IfOk result (λ chunk. LanesDid (λ s before after. HandsAll s before after (option_map joined chunk)) self.old self.new) }
         ensures left { OnErr result (HasFailed self.old self.new) }
     {
         let chunk = self.work.hand_out();
@@ -111,7 +111,7 @@ impl Session {
     /// memory.
     pub(crate) fn take_reply(&mut self, body: &[u8]) -> Result<(), TakeError>
         requires open { self.old.phase ≡ phases.Open }
-        ensures takes { OnOk result (GoesOn (λ s before after. TakesBody s (reply_at body.now) before after) self.old self.new) }
+        ensures takes { OnOk result (LanesDid (λ s before after. TakesBody s (reply_at body.now) before after) self.old self.new) }
         ensures refused { IfErr result (λ e. IsFirst e (refuses (past_of self.old.work) (reply_at body.now))) }
         ensures kept { IfErr result (λ e. IsRefused e self.old self.new) }
     {

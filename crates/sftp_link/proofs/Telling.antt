@@ -34,7 +34,7 @@ use borrow.Rule.Slice.PartMut.{put_mid, post_of}
 use Rattle.sftp_link.specs.declared.piece.Piece.{Piece}
 use Rattle.sftp_link.specs.declared.piece.Piece.TheVariants.{Sent, Got}
 use Rattle.sftp_link.specs.Log.{SentOn, GotOn}
-use Rattle.sftp_link.specs.Told.{Told, Same, OneMore, Went, SentLess, WentLess, GotLess, Came}
+use Rattle.sftp_link.specs.Told.{Told, Same, OneMore, Went, SentLess, WentLess, GotLess, CameIntoRoom}
 
 pub told_self : {A : Type 0} (R : A → A → Type 0) (a : Option A) → ((x : A) → R x x) → Told R a a
 told_self R None f = tt
@@ -94,7 +94,7 @@ went_less_before bytes at lt b x y s e = (take at bytes, drop at bytes, sym (tak
 -- what was copied stood at the front of what was left
 pub came : (items copied rest : List ℕ) (room at n : ℕ) → at ≤ length items → 0 < room → n
     ≡ min room (length items - at) → copied ≡ take n (drop at items)
-    → Came (copied ++ rest) n (drop at items) (drop (at + n) items)
+    → CameIntoRoom (copied ++ rest) n (drop at items) (drop (at + n) items)
 came items copied rest room at n le some is copy =
     let len : length copied ≡ n = grind (arith, copy, length-take {A = ℕ}, length-drop {A = ℕ}) in
     let front : take n (copied ++ rest) ≡ copied = subst (λ (k : ℕ). take k (copied ++ rest) ≡ copied) len (take-append_seam copied rest) in

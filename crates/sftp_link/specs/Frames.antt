@@ -54,8 +54,8 @@ id_of_frame zero bytes = option_map (λ _. 0) (frame_at 0 bytes)
 id_of_frame (suc k) bytes = option_and_then id_in (frame_at (suc k) bytes)
 
 -- the frame of a kind, an id and fields
-unfoldable pub reply_frame : ℕ → ℕ → List ℕ → List ℕ
-reply_frame kind id fields = to_be_bytes w32 (5 + length fields) ++ kind ∷ to_be_bytes w32 id ++ fields
+unfoldable pub frame_of_fields : ℕ → ℕ → List ℕ → List ℕ
+frame_of_fields kind id fields = to_be_bytes w32 (5 + length fields) ++ kind ∷ to_be_bytes w32 id ++ fields
 
 -- the bytes of an item, once these bytes were sent. A `To` has none until the frame that it names has come whole, and
 -- none where its fields are too long for a frame
@@ -63,4 +63,4 @@ abbrev pub item_bytes : List ℕ → Scripted → Option (List ℕ)
 item_bytes sent (Raw bytes) = Some bytes
 item_bytes sent (To request flip kind fields) =
     if nat_lt 4294967290 (length fields) then None
-    else option_map (λ id. reply_frame kind (bit_xor id flip) fields) (id_of_frame request sent)
+    else option_map (λ id. frame_of_fields kind (bit_xor id flip) fields) (id_of_frame request sent)

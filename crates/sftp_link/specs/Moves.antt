@@ -3,7 +3,7 @@ use Rattle.std.specs.Prelude.{◌≡◌, ◌<◌, ◌≤◌, ℕ, false, List, l
 use Rattle.sftp_link.specs.declared.device_error.DeviceError.{DeviceError}
 use Rattle.sftp_link.specs.Causes.{Cause}
 use Rattle.sftp_link.specs.Dialled.{IsEmptyLog}
-use Rattle.sftp_link.specs.Told.{Gives, IsEnd, Receives, Sends, Takes}
+use Rattle.sftp_link.specs.Told.{TellsRead, IsEnd, Receives, TellsSend, TellsWrite}
 use Rattle.sftp_link.specs.Views.{DialView, LastLink, LinkView, SinkView, SourceView}
 
 -- ---- links
@@ -13,7 +13,7 @@ use Rattle.sftp_link.specs.Views.{DialView, LastLink, LinkView, SinkView, Source
 pub record HasSent (Service : Type 0) (bytes : List ℕ) (before now : LinkView Service) (result : Result ℕ DeviceError) :
     Type 0 where
   pub within : IfOk result (λ n. (0 < n) × (n ≤ length bytes))
-  pub log : Sends before.log now.log bytes result
+  pub log : TellsSend before.log now.log bytes result
   pub end : now.ended ≡ false
   pub cause : Cause before.faults now.faults result
   pub same : now.service ≡ before.service
@@ -32,14 +32,14 @@ pub record HasReceived (Service : Type 0) (room : List ℕ) (before now : LinkVi
 -- A read: some bytes came into the front of the room, none only where none was left, or it failed and none came.
 pub record HasRead (room : List ℕ) (before now : SourceView) (result : Result ℕ DeviceError) : Type 0 where
   pub within : IfOk result (λ n. n ≤ length room)
-  pub bytes : Gives before.left now.left room result
+  pub bytes : TellsRead before.left now.left room result
   pub cause : Cause before.faults now.faults result
 
 -- A write: it took some bytes from the beginning of a piece, at least one of a piece that isn't empty, or it failed and
 -- the sink tells no byte more.
 pub record HasWritten (piece : List ℕ) (before now : SinkView) (result : Result ℕ DeviceError) : Type 0 where
   pub within : IfOk result (λ n. (0 < length piece → 0 < n) × (n ≤ length piece))
-  pub bytes : Takes before.written now.written piece result
+  pub bytes : TellsWrite before.written now.written piece result
   pub cause : Cause before.faults now.faults result
 
 -- ---- dials

@@ -41,31 +41,31 @@ abbrev pub Same : {A : Type 0} → A → A → Type 0
 Same before now = now ≡ before
 
 -- n bytes came into the front of the room, none only where none was left
-abbrev pub Came : List ℕ → ℕ → List ℕ → List ℕ → Type 0
-Came room n before now = (before ≡ take n room ++ now) × (n ≡ 0 → before ≡ [])
+abbrev pub CameIntoRoom : List ℕ → ℕ → List ℕ → List ℕ → Type 0
+CameIntoRoom room n before now = (before ≡ take n room ++ now) × (n ≡ 0 → before ≡ [])
 
 -- what is left after a read: its bytes came, or it failed and nothing did
-abbrev pub Gives : Option (List ℕ) → Option (List ℕ) → List ℕ → Result ℕ DeviceError → Type 0
-Gives before now room (Ok n) = Told (Came room n) before now
-Gives before now room (Err e) = Told Same before now
+abbrev pub TellsRead : Option (List ℕ) → Option (List ℕ) → List ℕ → Result ℕ DeviceError → Type 0
+TellsRead before now room (Ok n) = Told (CameIntoRoom room n) before now
+TellsRead before now room (Err e) = Told Same before now
 
 -- these bytes were written
 abbrev pub Went : List ℕ → List ℕ → List ℕ → Type 0
 Went bytes before now = now ≡ before ++ bytes
 
 -- what is written after a write: the first n bytes more, or it failed and nothing is
-abbrev pub Takes : Option (List ℕ) → Option (List ℕ) → List ℕ → Result ℕ DeviceError → Type 0
-Takes before now bytes (Ok n) = Told (Went (take n bytes)) before now
-Takes before now bytes (Err e) = Told Same before now
+abbrev pub TellsWrite : Option (List ℕ) → Option (List ℕ) → List ℕ → Result ℕ DeviceError → Type 0
+TellsWrite before now bytes (Ok n) = Told (Went (take n bytes)) before now
+TellsWrite before now bytes (Err e) = Told Same before now
 
 -- a log has one piece more
 abbrev pub OneMore : {A : Type 0} → (List ℕ → A) → List ℕ → List A → List A → Type 0
 OneMore kind bytes before now = now ≡ kind bytes ∷ before
 
 -- the log after a send: the first n bytes were sent, or it failed and nothing was
-abbrev pub Sends : Option (List Piece) → Option (List Piece) → List ℕ → Result ℕ DeviceError → Type 0
-Sends before now bytes (Ok n) = Told (OneMore Sent (take n bytes)) before now
-Sends before now bytes (Err e) = Told Same before now
+abbrev pub TellsSend : Option (List Piece) → Option (List Piece) → List ℕ → Result ℕ DeviceError → Type 0
+TellsSend before now bytes (Ok n) = Told (OneMore Sent (take n bytes)) before now
+TellsSend before now bytes (Err e) = Told Same before now
 
 -- the log after a recv: n bytes were got, which stand at the front of the room, or it failed and nothing was
 abbrev pub Receives : Option (List Piece) → Option (List Piece) → List ℕ → Result ℕ DeviceError → Type 0

@@ -1,6 +1,6 @@
 // The frames among the bytes that a scripted link was sent, and those that it answers.
 ghost use Rattle.std.specs.Prelude.{◌≡◌, ◌+◌, ◌<◌, ◌≤◌, ◌^◌, Some, None, length, IfOk, MatchOption};
-ghost use Rattle.sftp_link.specs.Frames.{number_of, first_frame, frame_at, id_of_frame, id_in, reply_frame, item_bytes};
+ghost use Rattle.sftp_link.specs.Frames.{number_of, first_frame, frame_at, id_of_frame, id_in, frame_of_fields, item_bytes};
 
 use crate::piece::Scripted;
 use std::alloc::{AllocError, Global};
@@ -64,10 +64,10 @@ fn id_of_frame(bytes: &[u8], number: u32) -> Option<u32>
 }
 
 // The frame of a kind, an id and fields.
-#[tactic(auto, unfolding(crate::specs::Frames::reply_frame))]
-fn reply_frame(alloc: Global, kind: u8, id: u32, fields: &[u8]) -> Result<Vec<u8>, AllocError>
+#[tactic(auto, unfolding(crate::specs::Frames::frame_of_fields))]
+fn frame_of_fields(alloc: Global, kind: u8, id: u32, fields: &[u8]) -> Result<Vec<u8>, AllocError>
     requires { length fields.now ≤ 4294967290 }
-    ensures { IfOk result (λ v. v.items ≡ reply_frame kind id fields.now) }
+    ensures { IfOk result (λ v. v.items ≡ frame_of_fields kind id fields.now) }
 {
     let len = 5 + fields.len() as u32;
     let mut frame = Vec::from_slice(alloc, &len.to_be_bytes())?;
@@ -102,7 +102,7 @@ pub(crate) fn item_bytes(
             let Some(id) = id_of_frame(sent, *request) else {
                 return Ok(None);
             };
-            Ok(Some(reply_frame(alloc, *kind, id ^ *flip, fields)?))
+            Ok(Some(frame_of_fields(alloc, *kind, id ^ *flip, fields)?))
         }
     }
 }

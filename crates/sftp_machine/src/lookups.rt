@@ -1,7 +1,7 @@
 // What is found by a name or by a handle.
 ghost use Rattle.std.specs.Prelude.{◌≡◌, ◌<◌, Some, None, length, false, IfOk, MatchOption, ◌+◌, ◌-◌, min, ◌^◌};
 ghost use Rattle.std.specs.List.{remove, list_any, sum_by};
-ghost use Rattle.machine_model.specs.Components.{same_name, is_long as is_long_by, is_child as is_child_by, is_within as is_within_by};
+ghost use Rattle.machine_model.specs.Components.{same_name, is_long_name as is_long_by, is_child as is_child_by, is_within as is_within_by};
 ghost use Rattle.machine_model.specs.NameRequests.{is_before as is_before_by};
 ghost use Rattle.sftp_model.specs.Pieces.{joined};
 ghost use Rattle.machine_model.specs.FileTree.{found, without, names_file, is_directory as is_directory_by};

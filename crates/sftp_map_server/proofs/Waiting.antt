@@ -1,5 +1,37 @@
 -- No frame that waits is empty, so bytes are given until nothing waits.
-use Rattle.std.proofs.Common.{ℕ, zero, suc, ◌≡◌, ◌==◌, ◌<◌, ◌%◌, Bool, true, false, List, [], ◌∷◌, ◌++◌, length, take, drop, min, reverse, Option, Some, None, if◌then◌else◌, refl, sym, ap, ◌∙◌, subst, arith, inl, inr}
+use Rattle.std.proofs.Common.{
+  ℕ,
+  zero,
+  suc,
+  ◌≡◌,
+  ◌==◌,
+  ◌<◌,
+  ◌%◌,
+  Bool,
+  true,
+  false,
+  List,
+  [],
+  ◌∷◌,
+  ◌++◌,
+  length,
+  take,
+  drop,
+  min,
+  reverse,
+  Option,
+  Some,
+  None,
+  if◌then◌else◌,
+  refl,
+  sym,
+  ap,
+  ◌∙◌,
+  subst,
+  arith,
+  inl,
+  inr,
+}
 use Rattle.std.specs.Prelude.{slice_index_or}
 use Rattle.std.specs.List.{remove}
 use Rattle.std.specs.Result.{result_ok}
@@ -19,7 +51,25 @@ use Rattle.sftp_model.specs.RequestReadings.{request_at}
 use Rattle.machine_model.specs.TreeAnswers.{first_choice}
 use Rattle.sftp_machine.specs.MachineState.{answer}
 use Rattle.sftp_machine.specs.WaitingFrames.{WaitingFrames, first_pick, index_of, turned}
-use Rattle.sftp_map_server.specs.Serving.{Absorbs, Desk, Gives, IsServed, IsServing, Said, Server, all_said, gives_within, heed, id_of, is_hello, is_query, respond, serve, server_of, step}
+use Rattle.sftp_map_server.specs.Serving.{
+  Absorbs,
+  ServerState,
+  HandsBytes,
+  IsServed,
+  IsServing,
+  Replies,
+  Server,
+  all_said,
+  gives_within,
+  heed,
+  id_of,
+  is_hello,
+  is_query,
+  respond,
+  serve,
+  server_of,
+  step,
+}
 
 -- none of these frames is empty
 abbrev pub NoneEmpty : List (List ℕ) → Type 0
@@ -51,28 +101,28 @@ string_some : (body : List ℕ) → 0 < length (string body)
 unfolding string uint32
 string_some body = let l = length-append (uint32 (length body)) body in omega (arith, l)
 
-where_said : (b : Bool) (x y : Said × Desk) → NoneEmpty x.0.later → NoneEmpty y.0.later → NoneEmpty (if b then x else y).0.later
+where_said : (b : Bool) (x y : Replies × ServerState) → NoneEmpty x.0.later → NoneEmpty y.0.later → NoneEmpty (if b then x else y).0.later
 where_said true x y h k = h
 where_said false x y h k = k
 
-serve_some : (d : Desk) (id : Option ℕ) (r : Request) → NoneEmpty (serve d id r).0.later
+serve_some : (d : ServerState) (id : Option ℕ) (r : Request) → NoneEmpty (serve d id r).0.later
 serve_some d id r = where_said (gives_within r (first_choice d.choices)) _ _
     (string_some (reply_body (answer d.machine r (first_choice d.choices)).0 (id_of id)), tt) tt
 
-respond_some : (d : Desk) (id : Option ℕ) (r : Request) → NoneEmpty (respond d id r).0.later
+respond_some : (d : ServerState) (id : Option ℕ) (r : Request) → NoneEmpty (respond d id r).0.later
 respond_some d id r =
     where_said (is_hello r) _ _ (where_said d.greeted _ _ tt tt)
     (where_said d.greeted _ _ (where_said (is_query r) _ _ tt (serve_some d id r)) tt)
 
-heed_some : (d : Desk) (asked : Option (Option ℕ × Request)) → NoneEmpty (heed d asked).0.later
+heed_some : (d : ServerState) (asked : Option (Option ℕ × Request)) → NoneEmpty (heed d asked).0.later
 heed_some d (Some asked) = respond_some d asked.0 asked.1
 heed_some d None = tt
 
-step_some : (d : Desk) (body : List ℕ) → NoneEmpty (step d body).0.later
+step_some : (d : ServerState) (body : List ℕ) → NoneEmpty (step d body).0.later
 unfolding step
 step_some d body = where_said d.over _ _ tt (heed_some d (result_ok (request_at body)))
 
-said_some : (d : Desk) (bodies : List (List ℕ)) → NoneEmpty (all_said d bodies).later
+said_some : (d : ServerState) (bodies : List (List ℕ)) → NoneEmpty (all_said d bodies).later
 said_some d [] = tt
 said_some d (body ∷ more) = both_some (step d body).0.later (all_said (step d body).1 more).later (step_some d body) (said_some (step d body).1 more)
 
@@ -93,7 +143,7 @@ where_turned w false b h = h
 turned_some : (w : WaitingFrames) → NoneEmpty w.waiting → NoneEmpty (turned w).waiting
 turned_some w h = where_turned w (length w.ready == 0) (length w.waiting == 0) h
 
-gives_some : (before now : Server) (bytes : List ℕ) → Gives before bytes now → NoneEmpty before.output.waiting → NoneEmpty now.output.waiting
+gives_some : (before now : Server) (bytes : List ℕ) → HandsBytes before bytes now → NoneEmpty before.output.waiting → NoneEmpty now.output.waiting
 gives_some before now [] g h = subst (λ (w : Server). NoneEmpty w.output.waiting) (sym g.0) h
 gives_some before now (b ∷ bytes) g h = subst (λ (w : List (List ℕ)). NoneEmpty w) (sym g.waiting) (turned_some before.output h)
 
@@ -105,8 +155,8 @@ served_some first now (Sent bytes ∷ log) h s =
     let before = served_some first mid log h s.1 in
     let absorbs : Absorbs mid bytes now = s.2 in
     subst (λ (w : WaitingFrames). NoneEmpty w.waiting) (sym absorbs.output)
-    (both_some mid.output.waiting (all_said mid.desk absorbs.bodies).later before
-    (said_some mid.desk absorbs.bodies))
+    (both_some mid.output.waiting (all_said mid.state absorbs.bodies).later before
+    (said_some mid.state absorbs.bodies))
 served_some first now (Got bytes ∷ log) h s = gives_some s.0 now bytes s.2 (served_some first s.0 log h s.1)
 
 index_below : (w : WaitingFrames) (b : Bool) → (length w.waiting == 0) ≡ b → b ≡ false
@@ -159,9 +209,9 @@ dropped n w none = ap (λ (x : List ℕ). let q : WaitingFrames =
     record { ready = x; waiting = w.waiting; picks = w.picks } in q)
     (ap (λ (x : List ℕ). drop n x) none ∙ (drop_none n ∙ sym none))
 
-gives_bytes : (d : Desk) (input bytes : List ℕ) (w after : WaitingFrames) (n : ℕ) → NoneEmpty w.waiting → after
+gives_bytes : (d : ServerState) (input bytes : List ℕ) (w after : WaitingFrames) (n : ℕ) → NoneEmpty w.waiting → after
     ≡ after_giving w n → bytes ≡ take n (turned w).ready → (n ≡ 0 → length (turned w).ready ≡ 0)
-    → Gives (server_of d input w) bytes (server_of d input after)
+    → HandsBytes (server_of d input w) bytes (server_of d input after)
 gives_bytes d input [] w after n h is bytes none =
     let zeroed : length (turned w).ready ≡ 0 = elim (cases_lt 0 n) [
       | inl lt ↦ (let l = length-take n (turned w).ready in let e : 0 ≡ length (take n (turned w).ready) = ap length bytes in omega (arith, l, e, lt))
@@ -175,7 +225,7 @@ gives_bytes d input (b ∷ bytes) w after n h is bytes_are none = record {
   waiting = ap (λ (o : WaitingFrames). o.waiting) is;
   picks = ap (λ (o : WaitingFrames). o.picks) is;
   input = refl;
-  desk = refl;
+  state = refl;
 }
 
 limited_some : (empty : Bool) (cut n : ℕ) → (cut == 0) ≡ empty → 0 < n → 0 < (if empty then n else min n cut)
@@ -183,9 +233,9 @@ limited_some true cut n e some = some
 limited_some false cut n e some = grind (arith, nat_tests)
 
 -- a call gives as many bytes as it may, and none only where none are left
-pub gives_most : (d : Desk) (input bytes : List ℕ) (w after : WaitingFrames) (cut room n : ℕ) → NoneEmpty w.waiting
+pub gives_most : (d : ServerState) (input bytes : List ℕ) (w after : WaitingFrames) (cut room n : ℕ) → NoneEmpty w.waiting
     → after ≡ after_giving w n → bytes ≡ take n (turned w).ready
-    → n ≡ min (limited cut room) (length (turned w).ready) → 0 < room → Gives (server_of d input w) bytes (server_of d input after)
+    → n ≡ min (limited cut room) (length (turned w).ready) → 0 < room → HandsBytes (server_of d input w) bytes (server_of d input after)
 gives_most d input bytes w after cut room n h is bytes_are n_is some =
     let least : 0 < limited cut room = limited_some (cut == 0) cut room refl some in
     gives_bytes d input bytes w after n h is bytes_are (λ e. omega (arith, e, n_is, least))
@@ -211,16 +261,16 @@ sent_more first before now log more bytes ended s is absorbs = record {
   end = λ e. absurd cc;
 }
 
-gives_part : (before now : Server) (bytes : List ℕ) → Gives before bytes now → 0 < missing before.input → 0 < missing now.input
+gives_part : (before now : Server) (bytes : List ℕ) → HandsBytes before bytes now → 0 < missing before.input → 0 < missing now.input
 gives_part before now [] g some = subst (λ (w : Server). 0 < missing w.input) (sym g.0) some
 gives_part before now (b ∷ bytes) g some = subst (λ (w : List ℕ). 0 < missing w) (sym g.input) some
 
-gives_end : (before now : Server) (bytes : List ℕ) → Gives before bytes now → length bytes ≡ 0 → (turned now.output).ready ≡ []
+gives_end : (before now : Server) (bytes : List ℕ) → HandsBytes before bytes now → length bytes ≡ 0 → (turned now.output).ready ≡ []
 gives_end before now [] g e = ap (λ (s : Server). (turned s.output).ready) g.0 ∙ g.1
 gives_end before now (b ∷ bytes) g e = absurd (omega (arith, e))
 
 pub got_more : (first before now : Server) (log more : List Piece) (bytes : List ℕ) (ended now_ended : Bool)
-    → IsServing first before (reverse log) ended → more ≡ log ++ Got bytes ∷ [] → Gives before bytes now
+    → IsServing first before (reverse log) ended → more ≡ log ++ Got bytes ∷ [] → HandsBytes before bytes now
     → (now_ended ≡ true → length bytes ≡ 0) → IsServing first now (reverse more) now_ended
 got_more first before now log more bytes ended now_ended s is gives none = record {
   served = subst (λ (w : List Piece). IsServed first w now) (newest log more (Got bytes) is) (before, s.served, gives);

@@ -1,5 +1,38 @@
 -- The bytes of one frame.
-use Rattle.std.proofs.Common.{◌≡◌, ◌<◌, ◌≤◌, ℕ, ◌+◌, ◌-◌, ◌==◌, Bool, true, false, List, [], ◌∷◌, ◌++◌, length, take, drop, get_or, Some, None, refl, ap, sym, ◌∙◌, arith, append-nil, length-append, length-drop, length-take, inl, inr, if◌then◌else◌}
+use Rattle.std.proofs.Common.{
+  ◌≡◌,
+  ◌<◌,
+  ◌≤◌,
+  ℕ,
+  ◌+◌,
+  ◌-◌,
+  ◌==◌,
+  Bool,
+  true,
+  false,
+  List,
+  [],
+  ◌∷◌,
+  ◌++◌,
+  length,
+  take,
+  drop,
+  get_or,
+  Some,
+  None,
+  refl,
+  ap,
+  sym,
+  ◌∙◌,
+  arith,
+  append-nil,
+  length-append,
+  length-drop,
+  length-take,
+  inl,
+  inr,
+  if◌then◌else◌,
+}
 use Rattle.std.specs.Prelude.{is_some, nat_lt}
 use Rattle.std.proofs.lemmas.List.{take-append-drop, take-append-le, get_or-take, get_or_past}
 use Rattle.std.specs.Int.{w32, from_be_bytes}
@@ -11,7 +44,7 @@ use Rattle.sftp_model.specs.declared.frame_error.FormatKind.TheVariants as kinds
 use Rattle.sftp_model.specs.Numbers.{MAX_BODY_LEN}
 use Rattle.sftp_wire.specs.FrameReader.{told_len, missing, missing_with, fault_of, fault_of_len}
 use Rattle.sftp_machine.specs.WaitingFrames.{WaitingFrames}
-use Rattle.sftp_map_server.specs.Serving.{Desk, Said, Absorbs, behind, both, nothing, server_of, step, over_at, with_said}
+use Rattle.sftp_map_server.specs.Serving.{ServerState, Replies, Absorbs, after_frames, both, nothing, server_of, step, over_at, with_said}
 
 take_bytes : (n : ℕ) (bytes : List ℕ) → ((i : ℕ) → get_or bytes i 0 < 256) → (i : ℕ) → get_or (take n bytes) i 0 < 256
 take_bytes n bytes fits i =
@@ -92,7 +125,7 @@ said_nothing o =
     ∙ ap (λ (w : List (List ℕ)). let q : WaitingFrames = record { ready = o.ready ++ []; waiting = w; picks = o.picks } in q) (sym (append-nil o.waiting))
 
 -- what is said to one body
-said_once : (o : WaitingFrames) (said : Said) → with_said o said ≡ with_said o (both said nothing)
+said_once : (o : WaitingFrames) (said : Replies) → with_said o said ≡ with_said o (both said nothing)
 said_once o said =
     ap (λ (w : List ℕ). let q : WaitingFrames = record {
       ready = o.ready ++ w;
@@ -103,19 +136,19 @@ said_once o said =
     { ready = o.ready ++ (said.at_once ++ []); waiting = o.waiting ++ w; picks = o.picks } in q)
     (sym (append-nil said.later))
 
-pub absorb_over : (d : Desk) (i bytes left : List ℕ) (o : WaitingFrames) → d.over ≡ true → left ≡ [] → Absorbs (server_of d i o) bytes (server_of d left o)
+pub absorb_over : (d : ServerState) (i bytes left : List ℕ) (o : WaitingFrames) → d.over ≡ true → left ≡ [] → Absorbs (server_of d i o) bytes (server_of d left o)
 absorb_over d i bytes left o e none = record {
   bodies = [];
   rest = i ++ bytes;
   short = tt;
   framed = refl;
-  desk = rw e refl;
+  state = rw e refl;
   input = rw e none;
   part = rw none (omega arith);
   output = said_nothing o;
 }
 
-pub absorb_bad : (d after : Desk) (i bytes all left : List ℕ) (o : WaitingFrames) → d.over ≡ false → all ≡ i ++ bytes
+pub absorb_bad : (d after : ServerState) (i bytes all left : List ℕ) (o : WaitingFrames) → d.over ≡ false → all ≡ i ++ bytes
     → is_some (fault_of all) ≡ true → after ≡ over_at d → left ≡ []
     → Absorbs (server_of d i o) bytes (server_of after left o)
 absorb_bad d after i bytes all left o e is bad over none = record {
@@ -123,33 +156,33 @@ absorb_bad d after i bytes all left o e is bad over none = record {
   rest = all;
   short = tt;
   framed = sym is;
-  desk = rw (e, bad) over;
+  state = rw (e, bad) over;
   input = rw (e, bad) none;
   part = rw none (omega arith);
   output = said_nothing o;
 }
 
-pub absorb_part : (d : Desk) (i bytes all : List ℕ) (o : WaitingFrames) → d.over ≡ false → all ≡ i ++ bytes
+pub absorb_part : (d : ServerState) (i bytes all : List ℕ) (o : WaitingFrames) → d.over ≡ false → all ≡ i ++ bytes
     → is_some (fault_of all) ≡ false → 0 < missing all → Absorbs (server_of d i o) bytes (server_of d all o)
 absorb_part d i bytes all o e is good some = record {
   bodies = [];
   rest = all;
   short = tt;
   framed = sym is;
-  desk = rw (e, good) refl;
+  state = rw (e, good) refl;
   input = rw (e, good) refl;
   part = some;
   output = said_nothing o;
 }
 
-if_same : (b : Bool) (d : Desk) → (if b then (let p : Desk × List ℕ = (d, []) in p) else (d, [])) ≡ (d, [])
+if_same : (b : Bool) (d : ServerState) → (if b then (let p : ServerState × List ℕ = (d, []) in p) else (d, [])) ≡ (d, [])
 if_same true d = refl
 if_same false d = refl
 
-behind_nothing : (d : Desk) → behind d [] ≡ (d, [])
+behind_nothing : (d : ServerState) → after_frames d [] ≡ (d, [])
 behind_nothing d = if_same d.over d
 
-pub absorb_whole : (d after : Desk) (i bytes all body left : List ℕ) (o out : WaitingFrames) → all ≡ i ++ bytes
+pub absorb_whole : (d after : ServerState) (i bytes all body left : List ℕ) (o out : WaitingFrames) → all ≡ i ++ bytes
     → IsWhole all → is_some (fault_of all) ≡ false → all ≡ string body → body ≡ drop 4 all
     → after ≡ (step d body).1 → out ≡ with_said o (step d body).0 → left ≡ [] → Absorbs (server_of d i o) bytes (server_of after left out)
 absorb_whole d after i bytes all body left o out is whole good framed behind_four stepped said none =
@@ -161,8 +194,8 @@ absorb_whole d after i bytes all body left o out is whole good framed behind_fou
       rest = [];
       short = (let a = told.0 in omega (arith, a, len, w), let b = told.1 in omega (arith, b, len, w), tt);
       framed = sym is ∙ (framed ∙ (sym (append-nil (string body)) ∙ sym (append-nil (string body ++ []))));
-      desk = stepped ∙ sym (ap (λ (p : Desk × List ℕ). p.0) (behind_nothing (step d body).1));
-      input = none ∙ sym (ap (λ (p : Desk × List ℕ). p.1) (behind_nothing (step d body).1));
+      state = stepped ∙ sym (ap (λ (p : ServerState × List ℕ). p.0) (behind_nothing (step d body).1));
+      input = none ∙ sym (ap (λ (p : ServerState × List ℕ). p.1) (behind_nothing (step d body).1));
       part = rw none (omega arith);
       output = said ∙ said_once o (step d body).0;
     }

@@ -1,5 +1,25 @@
 -- A file machine behind a link: what it answers to the bytes that come, and what it gives.
-use Rattle.std.specs.Prelude.{◌≡◌, ◌<◌, ◌≤◌, ℕ, Bool, true, false, nat_le, List, [], ◌∷◌, ◌++◌, length, drop, Option, Some, None, is_some, if◌then◌else◌}
+use Rattle.std.specs.Prelude.{
+  ◌≡◌,
+  ◌<◌,
+  ◌≤◌,
+  ℕ,
+  Bool,
+  true,
+  false,
+  nat_le,
+  List,
+  [],
+  ◌∷◌,
+  ◌++◌,
+  length,
+  drop,
+  Option,
+  Some,
+  None,
+  is_some,
+  if◌then◌else◌,
+}
 use Rattle.std.specs.List.{flat_map}
 use Rattle.std.specs.Result.{result_ok}
 use Rattle.std.specs.Int.RustNames.{bit_and, bit_or}
@@ -28,27 +48,27 @@ use Rattle.sftp_machine.specs.WaitingFrames.{WaitingFrames, turned}
 -- ---- what is said
 
 -- bytes that are given at once, and frames that wait until they are picked
-pub record Said : Type 0 where
+pub record Replies : Type 0 where
   pub at_once : List ℕ
   pub later : List (List ℕ)
 
-abbrev pub nothing : Said
+abbrev pub nothing : Replies
 nothing = record { at_once = []; later = [] }
 
-abbrev pub at_once : List ℕ → Said
+abbrev pub at_once : List ℕ → Replies
 at_once frame = record { at_once = frame; later = [] }
 
-abbrev pub later : List ℕ → Said
+abbrev pub later : List ℕ → Replies
 later frame = record { at_once = []; later = frame ∷ [] }
 
 -- one behind the other
-abbrev pub both : Said → Said → Said
+abbrev pub both : Replies → Replies → Replies
 both a b = record { at_once = a.at_once ++ b.at_once; later = a.later ++ b.later }
 
 -- ---- one request
 
 -- the machine, the choices that are left, whether the hello came, and whether the link is over
-pub record Desk : Type 0 where
+pub record ServerState : Type 0 where
   pub machine : MachineState
   pub choices : List Choice
   pub greeted : Bool
@@ -77,12 +97,12 @@ id_of None = 0
 id_of (Some id) = id
 
 -- the link is over: nothing is answered any more
-abbrev pub over_at : Desk → Desk
+abbrev pub over_at : ServerState → ServerState
 over_at d = record { machine = d.machine; choices = d.choices; greeted = d.greeted; over = true }
 
 -- the next choice is taken, and this is left of the machine
-abbrev pub spent : Desk → MachineState → Desk
-spent d left = record { machine = left; choices = drop 1 d.choices; greeted = d.greeted; over = d.over }
+abbrev pub after_choice : ServerState → MachineState → ServerState
+after_choice d left = record { machine = left; choices = drop 1 d.choices; greeted = d.greeted; over = d.over }
 
 -- a READ gives no more than one DATA can bring: by the length asked or by the cap
 abbrev pub gives_within : Request → Choice → Bool
@@ -90,7 +110,7 @@ gives_within (request.Read handle offset len) choice = nat_le (capped choice.cap
 gives_within other choice = true
 
 -- the hello is answered by VERSION, once and at once
-abbrev pub greet : Desk → Said × Desk
+abbrev pub greet : ServerState → Replies × ServerState
 greet d =
     if d.greeted then (nothing, over_at d)
     else (
@@ -99,17 +119,17 @@ greet d =
     )
 
 -- a request of the machine takes the next choice, and its answer waits
-abbrev pub serve : Desk → Option ℕ → Request → Said × Desk
+abbrev pub serve : ServerState → Option ℕ → Request → Replies × ServerState
 serve d id r =
     if gives_within r (first_choice d.choices) then (
       later (reply_frame (answer d.machine r (first_choice d.choices)).0 (id_of id)),
-      spent d (answer d.machine r (first_choice d.choices)).1,
+      after_choice d (answer d.machine r (first_choice d.choices)).1,
     )
     else (nothing, over_at d)
 
 -- a request: what is said to it, and what it leaves. The first is the hello; the query for limits is answered at once
 -- and takes no choice
-abbrev pub respond : Desk → Option ℕ → Request → Said × Desk
+abbrev pub respond : ServerState → Option ℕ → Request → Replies × ServerState
 respond d id r =
     if is_hello r then greet d
     else if d.greeted then
@@ -117,33 +137,33 @@ respond d id r =
     else (nothing, over_at d)
 
 -- what was read; what reads as no request ends the link
-abbrev pub heed : Desk → Option (Option ℕ × Request) → Said × Desk
+abbrev pub heed : ServerState → Option (Option ℕ × Request) → Replies × ServerState
 heed d (Some asked) = respond d asked.0 asked.1
 heed d None = (nothing, over_at d)
 
 -- the body of a frame: nothing is answered once the link is over
-unfoldable pub step : Desk → List ℕ → Said × Desk
+unfoldable pub step : ServerState → List ℕ → Replies × ServerState
 step d body = if d.over then (nothing, d) else heed d (result_ok (request_at body))
 
 -- ---- bytes that come and go
 
 -- what is said to bodies, one after another, and what they leave
-abbrev pub all_said : Desk → List (List ℕ) → Said
+abbrev pub all_said : ServerState → List (List ℕ) → Replies
 all_said d [] = nothing
 all_said d (body ∷ more) = both (step d body).0 (all_said (step d body).1 more)
 
-abbrev pub all_left : Desk → List (List ℕ) → Desk
+abbrev pub all_left : ServerState → List (List ℕ) → ServerState
 all_left d [] = d
 all_left d (body ∷ more) = all_left (step d body).1 more
 
--- the desk, what came of the next frame, what is still to be given
+-- the state, what came of the next frame, what is still to be given
 pub record Server : Type 0 where
-  pub desk : Desk
+  pub state : ServerState
   pub input : List ℕ
   pub output : WaitingFrames
 
 -- what is said stands behind what is still to be given
-abbrev pub with_said : WaitingFrames → Said → WaitingFrames
+abbrev pub with_said : WaitingFrames → Replies → WaitingFrames
 with_said output said = record {
   ready = output.ready ++ said.at_once;
   waiting = output.waiting ++ said.later;
@@ -151,10 +171,10 @@ with_said output said = record {
       output.picks;
 }
 
--- the desk and the input behind the frames that came whole: a length that is 0 or too great ends the link, and then
+-- the state and the input behind the frames that came whole: a length that is 0 or too great ends the link, and then
 -- the bytes are dropped
-abbrev pub behind : Desk → List ℕ → Desk × List ℕ
-behind d rest =
+abbrev pub after_frames : ServerState → List ℕ → ServerState × List ℕ
+after_frames d rest =
     if d.over then (d, [])
     else if is_some (fault_of rest) then (over_at d, [])
     else (d, rest)
@@ -170,10 +190,10 @@ pub record Absorbs (before : Server) (bytes : List ℕ) (after : Server) : Type 
   pub rest : List ℕ
   pub short : AllShort bodies
   pub framed : before.input ++ bytes ≡ flat_map string bodies ++ rest
-  pub desk : after.desk ≡ (behind (all_left before.desk bodies) rest).0
-  pub input : after.input ≡ (behind (all_left before.desk bodies) rest).1
+  pub state : after.state ≡ (after_frames (all_left before.state bodies) rest).0
+  pub input : after.input ≡ (after_frames (all_left before.state bodies) rest).1
   pub part : 0 < missing after.input
-  pub output : after.output ≡ with_said before.output (all_said before.desk bodies)
+  pub output : after.output ≡ with_said before.output (all_said before.state bodies)
 
 -- bytes were given, of the frame that is being given or of the one that is picked next
 pub record GivesSome (before : Server) (bytes : List ℕ) (after : Server) : Type 0 where
@@ -181,32 +201,32 @@ pub record GivesSome (before : Server) (bytes : List ℕ) (after : Server) : Typ
   pub waiting : after.output.waiting ≡ (turned before.output).waiting
   pub picks : after.output.picks ≡ (turned before.output).picks
   pub input : after.input ≡ before.input
-  pub desk : after.desk ≡ before.desk
+  pub state : after.state ≡ before.state
 
 -- Bytes were given. None are given only where none are left, and then nothing changes.
-abbrev pub Gives : Server → List ℕ → Server → Type 0
-Gives before [] after = (after ≡ before) × ((turned before.output).ready ≡ [])
-Gives before (b ∷ bytes) after = GivesSome before (b ∷ bytes) after
+abbrev pub HandsBytes : Server → List ℕ → Server → Type 0
+HandsBytes before [] after = (after ≡ before) × ((turned before.output).ready ≡ [])
+HandsBytes before (b ∷ bytes) after = GivesSome before (b ∷ bytes) after
 
 -- a log, with its newest piece first, is that of such a server
 abbrev pub IsServed : Server → List Piece → Server → Type 0
 IsServed first [] now = now ≡ first
 IsServed first (Sent bytes ∷ log) now = (mid : Server) × IsServed first log mid × Absorbs mid bytes now
-IsServed first (Got bytes ∷ log) now = (mid : Server) × IsServed first log mid × Gives mid bytes now
+IsServed first (Got bytes ∷ log) now = (mid : Server) × IsServed first log mid × HandsBytes mid bytes now
 
 -- ---- a server in memory
 
 -- a server's state by its parts
-abbrev pub server_of : Desk → List ℕ → WaitingFrames → Server
-server_of desk input output = record { desk = desk; input = input; output = output }
+abbrev pub server_of : ServerState → List ℕ → WaitingFrames → Server
+server_of state input output = record { state = state; input = input; output = output }
 
 -- a server before anything came, which is to give its replies by these picks
-abbrev pub opened : Desk → List ℕ → Server
+abbrev pub opened : ServerState → List ℕ → Server
 opened d picks = server_of d [] (record { ready = []; waiting = []; picks = picks })
 
--- the desk of these files and directories before the first request
-abbrev pub first_desk : List FirstFile → List (List ℕ) → ServerConfig → List Choice → Desk
-first_desk files dirs config choices = record {
+-- the state of these files and directories before the first request
+abbrev pub first_state : List FirstFile → List (List ℕ) → ServerConfig → List Choice → ServerState
+first_state files dirs config choices = record {
   machine = record { tree = first_tree files dirs; config = config; grants = 0 };
   choices = choices;
   greeted = false;
@@ -222,11 +242,11 @@ pub record Serving : Type 0 where
 
 -- the files and directories that are left
 abbrev pub tree_left : Serving → FileTree
-tree_left s = s.now.desk.machine.tree
+tree_left s = s.now.state.machine.tree
 
 -- what it offers
 abbrev pub config_of : Serving → ServerConfig
-config_of s = s.first.desk.machine.config
+config_of s = s.first.state.machine.config
 
 -- what it says of itself as a link: it never fails, and serves from its first state
 abbrev pub server_view : Serving → LinkView Server

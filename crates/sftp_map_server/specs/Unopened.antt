@@ -4,13 +4,13 @@ use Rattle.sftp_model.specs.declared.config.Choice.{Choice}
 use Rattle.sftp_model.specs.declared.config.ServerConfig.{ServerConfig}
 use Rattle.sftp_model.specs.Fits.{FitsNumber, FitsSet, FitsLimits}
 use Rattle.machine_model.specs.FirstTree.{FirstFile, may_begin}
-use Rattle.sftp_map_server.specs.Serving.{Server, Serving, first_desk, opened}
+use Rattle.sftp_map_server.specs.Serving.{Server, Serving, first_state, opened}
 
 -- a server of these files and directories, which is to give its replies by these picks
 abbrev pub unopened : List FirstFile → List (List ℕ) → ServerConfig → List Choice → List ℕ → Serving
 unopened files dirs config choices picks = record {
-  first = opened (first_desk files dirs config choices) picks;
-  now = opened (first_desk files dirs config choices) picks;
+  first = opened (first_state files dirs config choices) picks;
+  now = opened (first_state files dirs config choices) picks;
   log = [];
   ended = false;
 }
@@ -26,5 +26,5 @@ pub record IsUnopened (first : Server) : Type 0 where
   pub files : List FirstFile
   pub dirs : List (List ℕ)
   pub may : may_begin files dirs ≡ true
-  pub is : first ≡ opened (first_desk files dirs first.desk.machine.config first.desk.choices) first.output.picks
-  pub fits : IsFitting first.desk.machine.config first.desk.choices
+  pub is : first ≡ opened (first_state files dirs first.state.machine.config first.state.choices) first.output.picks
+  pub fits : IsFitting first.state.machine.config first.state.choices

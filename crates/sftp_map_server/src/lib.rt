@@ -2,13 +2,13 @@
 //! (draft-ietf-secsh-filexfer-02). The server itself is that of `sftp_machine`; here are the bytes that come and go.
 #![tactic(auto)]
 
-mod desk;
 mod map_server;
+mod state;
 mod unopened;
 
-pub use desk::{frame_of, version};
 pub use map_server::MapServer;
 pub use sftp_machine::{Machine, components, gives_within, grants_are_new, may_begin};
 pub use sftp_model::{Choice, Limits, ServerConfig};
 pub use ssh_encoding::OutOfMemory;
+pub use state::{frame_of, version};
 pub use unopened::new_server;

@@ -5,14 +5,14 @@ ghost use Rattle.sftp_link.specs.Moves.{HasReceived, HasSent};
 ghost use Rattle.sftp_link.specs.Script.{limited as limited_by};
 ghost use Rattle.sftp_machine.specs.MachineState.{IsValid};
 ghost use Rattle.sftp_machine.specs.WaitingFrames.{turned};
-ghost use Rattle.sftp_map_server.specs.Serving.{Absorbs, Gives, IsServing, Server, server_of, server_view, opened, first_desk, tree_left};
+ghost use Rattle.sftp_map_server.specs.Serving.{Absorbs, HandsBytes, IsServing, Server, server_of, server_view, opened, first_state, tree_left};
 ghost use Rattle.sftp_model.specs.Numbers.{MAX_BODY_LEN};
 ghost use Rattle.machine_model.specs.FirstTree.{may_begin};
 ghost use Rattle.machine_model.specs.Listing.{dir_at, file_at, has_directory, has_file};
 ghost use Rattle.sftp_wire.specs.FrameReader.{told_len as told_len_of, fault_of, missing as missing_of};
 ghost use Rattle.ssh_encoding.specs.Writing.{string};
 
-use crate::desk::Desk;
+use crate::state::ServerState;
 use sftp_link::{DeviceError, Link, LinkIn, LinkOut, LinkState, Piece};
 use sftp_machine::{Machine, Outbox};
 use sftp_model::numbers::MAX_BODY_LEN;
@@ -28,13 +28,13 @@ use std::snapshot::Snapshot;
 #[derive(Drop)]
 pub struct MapServer {
     alloc: Global,
-    desk: Desk,
+    state: ServerState,
     log: Vec<Piece>,
     input: Vec<u8>,
     outbox: Outbox,
     ended: bool,
     // What it began with; clauses alone read it.
-    first_desk: Snapshot<Desk>,
+    first_state: Snapshot<ServerState>,
     first_picks: Snapshot<Items<u32>>,
 }
 
@@ -45,14 +45,14 @@ impl Model for MapServer {
     ghost Value = { Serving };
 
     ghost view = { λ s. record {
-      first = opened s.first_desk.value s.first_picks.value;
-      now = server_of s.desk s.input.items s.outbox;
+      first = opened s.first_state.value s.first_picks.value;
+      now = server_of s.state s.input.items s.outbox;
       log = reverse s.log.items;
       ended = s.ended;
     } };
 
-    ghost invariant = { λ s. IsServing (opened s.first_desk.value s.first_picks.value)
-        (server_of s.desk s.input.items s.outbox) (reverse s.log.items) s.ended };
+    ghost invariant = { λ s. IsServing (opened s.first_state.value s.first_picks.value)
+        (server_of s.state s.input.items s.outbox) (reverse s.log.items) s.ended };
 }
 
 /// The length that the first four bytes tell.
@@ -113,34 +113,34 @@ fn add_piece(log: &mut Vec<Piece>, piece: Piece)
 /// Takes bytes, at most to the end of the next frame, and answers the frame where it is whole then.
 /// Or nothing is done.
 fn absorb(
-    desk: &mut Desk,
+    state: &mut ServerState,
     input: &mut Vec<u8>,
     outbox: &mut Outbox,
     bytes: &[u8],
 ) -> Result<(), OutOfMemory>
     requires part { 0 < missing_of input.old.items }
-    requires within { desk.old.over ≡ false → length bytes.now ≤ missing_of input.old.items }
-    ensures absorbs { OnOk result (Absorbs (server_of desk.old input.old.items outbox.old) bytes.now
-        (server_of desk.new input.new.items outbox.new)) }
-    ensures desk { OnErr result (desk.new ≡ desk.old) }
+    requires within { state.old.over ≡ false → length bytes.now ≤ missing_of input.old.items }
+    ensures absorbs { OnOk result (Absorbs (server_of state.old input.old.items outbox.old) bytes.now
+        (server_of state.new input.new.items outbox.new)) }
+    ensures state { OnErr result (state.new ≡ state.old) }
     ensures input { OnErr result (input.new.items ≡ input.old.items) }
     ensures outbox { OnErr result (outbox.new ≡ outbox.old) }
 {
-    if desk.is_over() {
+    if state.is_over() {
         input.clear();
         return Ok(());
     }
     let before = input.len();
     input.extend_from_slice(bytes)?;
     if is_bad(input) {
-        desk.end();
+        state.end();
         input.clear();
         return Ok(());
     }
     if missing(input) > 0 {
         return Ok(());
     }
-    if desk.answer(body_of(input), outbox).is_err() {
+    if state.answer(body_of(input), outbox).is_err() {
         input.truncate(before);
         return Err(OutOfMemory);
     }
@@ -161,8 +161,8 @@ impl MapServer {
     ) -> Result<MapServer, OutOfMemory>
         requires { may_begin files.now [] ≡ true }
         ensures { IfOk result (λ s. s ≡ record {
-          first = opened (first_desk files.now [] config choices) picks;
-          now = opened (first_desk files.now [] config choices) picks;
+          first = opened (first_state files.now [] config choices) picks;
+          now = opened (first_state files.now [] config choices) picks;
           log = [];
           ended = false;
         }) }
@@ -181,19 +181,19 @@ impl MapServer {
     ) -> Result<MapServer, OutOfMemory>
         requires { may_begin files.now dirs.now ≡ true }
         ensures { IfOk result (λ s. s ≡ record {
-          first = opened (first_desk files.now dirs.now config choices) picks;
-          now = opened (first_desk files.now dirs.now config choices) picks;
+          first = opened (first_state files.now dirs.now config choices) picks;
+          now = opened (first_state files.now dirs.now config choices) picks;
           log = [];
           ended = false;
         }) }
     {
         let machine = Machine::new_tree(alloc, files, dirs, config)?;
-        let desk = Desk::new(alloc, machine, choices);
+        let state = ServerState::new(alloc, machine, choices);
         Ok(MapServer {
             alloc,
-            first_desk: Snapshot::of(&desk),
+            first_state: Snapshot::of(&state),
             first_picks: Snapshot::of(&picks),
-            desk,
+            state,
             log: Vec::new(alloc),
             input: Vec::new(alloc),
             outbox: Outbox::new(alloc, picks),
@@ -205,7 +205,7 @@ impl MapServer {
     pub fn file_count(&self) -> u64
         ensures { result ≡ length (filter has_file (tree_left self.now).names) }
     {
-        self.desk.machine().file_count()
+        self.state.machine().file_count()
     }
 
     /// The written name and the bytes of file `k`, counted from 0 in the order of the written names by bytes.
@@ -213,29 +213,29 @@ impl MapServer {
         ensures { option_map (λ f. (f.0.now, f.1.now)) result
             ≡ file_at (tree_left self.now) k }
     {
-        self.desk.machine().file(k)
+        self.state.machine().file(k)
     }
 
     /// How many names have a directory; the root has no name.
     pub fn dir_count(&self) -> u64
         ensures { result ≡ length (filter has_directory (tree_left self.now).names) }
     {
-        self.desk.machine().dir_count()
+        self.state.machine().dir_count()
     }
 
     /// The written name of directory `k`, counted from 0 in the order of the written names by bytes.
     pub fn dir(&self, k: u64) -> Option<&[u8]>
         ensures { option_map (λ d. d.now) result ≡ dir_at (tree_left self.now) k }
     {
-        self.desk.machine().dir(k)
+        self.state.machine().dir(k)
     }
 
     /// How many handles were granted. Each open handle is a number below it.
     pub fn grant_count(&self) -> u64
-        ensures count { result ≡ self.now.now.desk.machine.grants }
-        ensures valid { IsValid self.now.now.desk.machine }
+        ensures count { result ≡ self.now.now.state.machine.grants }
+        ensures valid { IsValid self.now.now.state.machine }
     {
-        self.desk.machine().grant_count()
+        self.state.machine().grant_count()
     }
 
     /// Whether its last call met the end. What it keeps: its log is that of a server from its first
@@ -278,16 +278,16 @@ impl LinkOut for MapServer {
         requires some { 0 < length bytes.now }
         ensures sends { HasSent Server bytes.now (server_view self.old) (server_view self.new) result }
         ensures cut { IfOk result
-            (λ n. n ≤ limited_by self.old.now.desk.machine.config.cut (length bytes.now)) }
+            (λ n. n ≤ limited_by self.old.now.state.machine.config.cut (length bytes.now)) }
         ensures absorbs { IfOk result (λ n. Absorbs self.old.now (take n bytes.now) self.new.now) }
         ensures kept { OnErr result (self.new.now ≡ self.old.now) }
     {
         self.ended = false;
-        let most = limited(self.desk.cut(), bytes.len());
-        let n = wanted(self.desk.is_over(), &self.input, most);
+        let most = limited(self.state.cut(), bytes.len());
+        let n = wanted(self.state.is_over(), &self.input, most);
         let front = Vec::from_slice(self.alloc, &bytes[..n])?;
         self.log.reserve(1)?;
-        if absorb(&mut self.desk, &mut self.input, &mut self.outbox, &front).is_err() {
+        if absorb(&mut self.state, &mut self.input, &mut self.outbox, &front).is_err() {
             return Err(DeviceError::OutOfMemory);
         }
         add_piece(&mut self.log, Piece::Sent(ByteText::new(front)));
@@ -302,14 +302,14 @@ impl LinkIn for MapServer {
         requires some { 0 < length room.old }
         ensures receives { HasReceived Server room.new (server_view self.old) (server_view self.new) result }
         ensures cut { IfOk result (λ n. n ≡ min
-            (limited_by self.old.now.desk.machine.config.cut (length room.old))
+            (limited_by self.old.now.state.machine.config.cut (length room.old))
             (length (turned self.old.now.output).ready)) }
-        ensures gives { IfOk result (λ n. Gives self.old.now (take n room.new) self.new.now) }
+        ensures gives { IfOk result (λ n. HandsBytes self.old.now (take n room.new) self.new.now) }
         ensures kept { OnErr result (self.new.now ≡ self.old.now) }
         ensures rest { IfOk result (λ n. drop n room.new ≡ drop n room.old) }
     {
         self.ended = false;
-        let n = limited(self.desk.cut(), room.len()).min(self.outbox.front().len());
+        let n = limited(self.state.cut(), room.len()).min(self.outbox.front().len());
         let piece = Vec::from_slice(self.alloc, &self.outbox.front()[..n])?;
         self.log.reserve(1)?;
         room[..n].copy_from_slice(&piece);

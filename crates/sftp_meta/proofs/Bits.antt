@@ -4,7 +4,8 @@ use Rattle.std.specs.Prelude.{◌≢◌}
 use Rattle.std.specs.Int.{bit_at, w32}
 use Rattle.std.proofs.lemmas.Nat.{pow_pos, pow_below}
 use Rattle.std.proofs.lemmas.Nat.Bits.{and_pow, bit_at-lt, bit_at_and, bit_at_or, bit_at-pow_same, bit_at-pow_other, bit_at_not, bit_at_ones}
-use Rattle.sftp_meta.specs.Permissions.{has_bit, with_bit, permission_bits, is_readonly, with_readonly}
+use Rattle.sftp_model.specs.Readings.{permission_bits, has_bit}
+use Rattle.sftp_meta.specs.Permissions.{with_bit, is_readonly, with_readonly}
 
 -- a test of a digit of 0 or 1 at a place
 digit_test : (digit place : ℕ) → digit < 2 → 0 < place → not (digit * place == 0) ≡ (digit == 1)

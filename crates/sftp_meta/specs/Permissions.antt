@@ -1,19 +1,12 @@
 -- Permissions as the number of their bits, one bit for each (POSIX's `st_mode`).
+use Rattle.sftp_model.specs.Readings.{has_bit}
 use Rattle.std.specs.Prelude.{ℕ, ◌-◌, ◌^◌, ◌==◌, Bool, true, false, not, ◌&&◌}
 use Rattle.std.specs.Int.RustNames.{bit_and, bit_or}
-
--- whether a bit is set
-abbrev pub has_bit : ℕ → ℕ → Bool
-has_bit bits bit = not (bit_and bits bit == 0)
 
 -- the 32 bits with one of them set or cleared
 abbrev pub with_bit : ℕ → ℕ → Bool → ℕ
 with_bit bits bit true = bit_or bits bit
 with_bit bits bit false = bit_and bits (2 ^ 32 - 1 - bit)
-
--- the twelve permission bits, without those of the type of file
-abbrev pub permission_bits : ℕ → ℕ
-permission_bits mode = bit_and mode 0o7777
 
 -- none of owner, group and others may write
 abbrev pub is_readonly : ℕ → Bool

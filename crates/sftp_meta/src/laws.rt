@@ -1,7 +1,8 @@
 //! Laws of the definitions. The functions do nothing: what they ensure holds of all values.
 ghost use Rattle.std.specs.Prelude.{◌≡◌, ◌≢◌, ℕ, ◌<◌, ◌^◌, Bool};
 ghost use Rattle.std.specs.Int.RustNames.{bit_and};
-ghost use Rattle.sftp_meta.specs.Permissions.{has_bit, with_bit, permission_bits, is_readonly, with_readonly};
+ghost use Rattle.sftp_model.specs.Readings.{permission_bits, has_bit};
+ghost use Rattle.sftp_meta.specs.Permissions.{with_bit, is_readonly, with_readonly};
 
 /// A setter's bit reads back as it was set, and each other bit as before. The twelve permissions are the
 /// bits `2 ^ 0` to `2 ^ 11`.

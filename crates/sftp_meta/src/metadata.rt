@@ -1,6 +1,6 @@
 ghost use Rattle.std.specs.Prelude.{◌≡◌, option_map, option_and_then};
 ghost use Rattle.sftp_meta.specs.FileType.{type_of_mode};
-ghost use Rattle.sftp_meta.specs.Permissions.{permission_bits};
+ghost use Rattle.sftp_model.specs.Readings.{permission_bits};
 
 use crate::file_type::FileType;
 use crate::permissions::Permissions;

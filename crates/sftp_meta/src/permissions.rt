@@ -1,5 +1,6 @@
 ghost use Rattle.std.specs.Prelude.{◌≡◌, ℕ};
-ghost use Rattle.sftp_meta.specs.Permissions.{has_bit, with_bit, permission_bits, is_readonly, with_readonly};
+ghost use Rattle.sftp_model.specs.Readings.{permission_bits, has_bit};
+ghost use Rattle.sftp_meta.specs.Permissions.{with_bit, is_readonly, with_readonly};
 ghost use Rattle.sftp_meta.specs.RawPermissions.{bits_of};
 
 use crate::raw_permissions::RawPermissions;

@@ -22,7 +22,7 @@ use Rattle.machine_model.proofs.FirstFiles.{first_well_formed}
 use Rattle.session_exchange.specs.Causes.{Cause}
 use Rattle.session_driver.specs.Logs.{Ends}
 use Rattle.session_driver.specs.Session.{Given, IsFixed}
-use Rattle.sftp_map_server.specs.Serving.{IsServing, Server, Serving, first_desk, opened, version_reply}
+use Rattle.sftp_map_server.specs.Serving.{IsServing, Server, Serving, first_state, opened, version_reply}
 use Rattle.sftp_map_server.specs.Unopened.{IsUnopened, unopened}
 use Rattle.map_server_laws.proofs.Whole.{version_is_told, run_is_served, stops_for_memory}
 use Rattle.mirror_jobs.specs.declared.job.Job.{Job}
@@ -44,8 +44,8 @@ pub from_empty : {A : Type 0} (R : List A → List A → Type 0) (before now : L
 from_empty R before now none h = subst (λ b. R b now) none h
 
 -- the server's files and directories are a tree
-begins_well : (first : Server) → IsUnopened first → IsWellFormed first.desk.machine.tree
-begins_well first u = subst (λ (x : Server). IsWellFormed x.desk.machine.tree) (sym u.is) (first_well_formed u.files u.dirs u.may)
+begins_well : (first : Server) → IsUnopened first → IsWellFormed first.state.machine.tree
+begins_well first u = subst (λ (x : Server). IsWellFormed x.state.machine.tree) (sym u.is) (first_well_formed u.files u.dirs u.may)
 
 pub served_copy : (schedule : Schedule) (jobs : List Job) (options : SftpOptions) (old now : Serving) (r : CopyReport)
     → MayCopy schedule.width schedule.rounds jobs → IsUnopened old.first → old.log ≡ [] → now.first ≡ old.first
@@ -68,13 +68,13 @@ served_copy schedule jobs options old now r may new none same serving copied =
       extensions = report.extensions;
       past = report.past;
       run = report.run;
-      version = some_is (greeting report.extensions) (version_reply now.first.desk.machine.config) told;
+      version = some_is (greeting report.extensions) (version_reply now.first.state.machine.config) told;
       shown = shown;
       served = served;
       closed = report.closed;
       verdicts = copied.verdicts ∙ ap (λ (o : List (List Outcome)). verdicts_of schedule.width jobs o) report.outcomes;
-      copies = copied.copies now.first.desk.machine.config now.first.desk.choices now.first.desk.machine.tree
-          now.now.desk.machine.tree (begins_well now.first fresh) served.serves;
+      copies = copied.copies now.first.state.machine.config now.first.state.choices now.first.state.machine.tree
+          now.now.state.machine.tree (begins_well now.first fresh) served.serves;
     }
 
 -- a cause names no type of answer
@@ -104,15 +104,15 @@ only_for_memory lanes options turns old now e ok new none same serving ends why 
 -- a report that a text was made of, over a server that is kept
 abbrev CopyText : Schedule → List Job → SftpOptions → Serving → List ℕ → Type 0
 CopyText schedule jobs options now text = (report : CopyReport) × IsServedCopy schedule jobs options now report
-    × (text ≡ copy_text jobs report.verdicts now.now.desk.machine.tree)
+    × (text ≡ copy_text jobs report.verdicts now.now.state.machine.tree)
 
 -- the server of a script's files and directories is the script's
 first_is : (script : Script) (files : List FirstFile) (dirs : List (List ℕ)) (old : Serving) → files ≡ script.files
     → dirs ≡ script.dirs → old ≡ unopened files dirs script.server script.choices script.picks → IsServerOf script old
 first_is script files dirs old f d is =
     ap (λ (s : Serving). s.first) is
-    ∙ (ap (λ (x : List FirstFile). opened (first_desk x dirs script.server script.choices) script.picks) f
-    ∙ ap (λ (x : List (List ℕ)). opened (first_desk script.files x script.server script.choices) script.picks) d)
+    ∙ (ap (λ (x : List FirstFile). opened (first_state x dirs script.server script.choices) script.picks) f
+    ∙ ap (λ (x : List (List ℕ)). opened (first_state script.files x script.server script.choices) script.picks) d)
 
 -- over the server of a list, which was kept, it is the list's
 pub copied_if : (schedule : Schedule) (list : CopyList) (kept : Option Serving) (files : List FirstFile) (dirs : List (List ℕ))

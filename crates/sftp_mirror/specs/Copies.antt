@@ -26,15 +26,15 @@ pub record MayCopy (width rounds : ℕ) (jobs : List Job) : Type 0 where
   pub few : rounds ≤ 4096
   pub lanes : lanes_are_ok (lanes_of width jobs) ≡ true
 
--- Where the replies are those of a file machine, what is said of files holds of them, and each good file is copied or got
--- where no choice refuses a request.
+-- Where the replies are those of a file machine, what is said of files holds of them, and each good file is copied or
+-- got where no choice refuses a request.
 abbrev pub CopiesServed : List Job → List Entry → List Verdict → Type 0
 CopiesServed jobs past verdicts = (config : ServerConfig) (choices : List Choice) (tree left : FileTree)
     → IsWellFormed tree → Serves config choices tree past left → CopiesWell jobs choices tree left verdicts
 
 -- The report is that of a run of the lanes that copy these files, under the turns for so many rounds; and what is said
--- of each file is so by the outcomes of its calls. Where the replies are those of a file machine, it holds of the files,
--- and good files are copied or got.
+-- of each file is so by the outcomes of its calls. Where the replies are those of a file machine, it holds of the
+-- files, and good files are copied or got.
 pub record IsCopyReport (width rounds : ℕ) (jobs : List Job) (options : SftpOptions)
     (before after : Option (List Piece)) (r : CopyReport) : Type 0 where
   pub report : IsReport (lanes_of width jobs) options (turns_of width rounds jobs) before after r.report

@@ -23,7 +23,8 @@ use Rattle.sftp_mirror.specs.Words.{Asked, AtPath, InMemory, Text}
 abbrev pub IsListServer : CopyList → Serving → Type 0
 IsListServer list server = IsServerOf list.script server
 
--- the files of a list that the source gives are copied over a server of its own in memory, and the text of it is written
+-- the files of a list that the source gives are copied over a server of its own in memory, and the text of it is
+-- written
 abbrev pub EndsList : Schedule → End → Option Serving → SourceView → SourceView → SinkView → SinkView → Type 0
 EndsList schedule = EndsInMemory list_of IsListServer (IsCopied schedule)
 

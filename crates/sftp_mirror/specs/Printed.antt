@@ -32,20 +32,20 @@ verdicts_in schedule jobs past = verdicts_of schedule.width jobs
 -- The report is that of a run of the lanes that copy these files over this server, whose log shows it: VERSION told
 -- what the server offers, and the log shows VERSION and the run's journal. The replies are those of one sequential run
 -- of the file machine, and each handle was closed exactly as often as it was granted. The verdicts are those of the
--- outcomes: a file that is said to be copied holds its content now, bytes that are said to be got are those of the file at
--- first, and each good file is copied or got where no choice refuses a request.
+-- outcomes: a file that is said to be copied holds its content now, bytes that are said to be got are those of the file
+-- at first, and each good file is copied or got where no choice refuses a request.
 pub record IsServedCopy (schedule : Schedule) (jobs : List Job) (options : SftpOptions) (server : Serving)
     (report : CopyReport) : Type 0 where
   pub extensions : Extensions
   pub past : List Entry
   pub run : IsRun (setting_of (lanes_of schedule.width jobs) options extensions past)
       (turns_of schedule.width schedule.rounds jobs) past
-  pub version : greeting extensions ≡ version_reply server.first.desk.machine.config
+  pub version : greeting extensions ≡ version_reply server.first.state.machine.config
   pub shown : Shows (greeting extensions) past [] server.log
-  pub served : IsServedRun server.first past server.now.desk.machine.tree
+  pub served : IsServedRun server.first past server.now.state.machine.tree
   pub closed : AreClosed past
   pub verdicts : report.verdicts ≡ verdicts_in schedule jobs past
-  pub copies : CopiesWell jobs server.first.desk.choices server.first.desk.machine.tree server.now.desk.machine.tree
+  pub copies : CopiesWell jobs server.first.state.choices server.first.state.machine.tree server.now.state.machine.tree
       report.verdicts
 
 -- ---- the text
@@ -61,4 +61,4 @@ pub record IsCopied (schedule : Schedule) (kept : Option Serving) (list : CopyLi
   pub first : IsServerOf list.script server
   pub report : CopyReport
   pub run : IsServedCopy schedule list.jobs list.script.options server report
-  pub is : text ≡ copy_text list.jobs report.verdicts server.now.desk.machine.tree
+  pub is : text ≡ copy_text list.jobs report.verdicts server.now.state.machine.tree

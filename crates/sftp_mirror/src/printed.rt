@@ -71,7 +71,7 @@ fn copy_text(
     verdicts: &[Verdict],
     server: &MapServer,
 ) -> Result<Vec<u8>, OutOfMemory>
-    ensures { IfOk result (λ text. text.items ≡ copy_text jobs.now verdicts.now server.now.now.desk.machine.tree) }
+    ensures { IfOk result (λ text. text.items ≡ copy_text jobs.now verdicts.now server.now.now.state.machine.tree) }
 {
     let mut text = Vec::new(alloc);
     write_verdicts(alloc, jobs, verdicts, &mut text)?;
@@ -95,7 +95,7 @@ fn text_over(
     requires quiet { server.log ≡ [] }
     ensures text { IfOk result (λ text. IsSomeAnd kept.new (λ now. (report : CopyReport)
         × IsServedCopy schedule jobs.now options.now now report
-        × (text.items ≡ copy_text jobs.now report.verdicts now.now.desk.machine.tree))) }
+        × (text.items ≡ copy_text jobs.now report.verdicts now.now.state.machine.tree))) }
     ensures kept { IsSomeAnd kept.new (λ now. now.first ≡ server.first) }
 {
     let text = match copy_served(alloc, &mut server, schedule, jobs, options) {

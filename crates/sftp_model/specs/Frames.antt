@@ -1,6 +1,22 @@
 -- Frames: a length of four bytes and a body, which is a type byte, for all but the hello and VERSION an id,
 -- and the fields (draft-ietf-secsh-filexfer-02, section 3). Numbers are big-endian.
-use Rattle.std.specs.Prelude.{ℕ, ◌+◌, ◌==◌, List, [], ◌∷◌, ◌++◌, length, codes, Option, Some, None, if◌then◌else◌}
+use Rattle.std.specs.Prelude.{
+  ℕ,
+  nat_lt,
+  ◌+◌,
+  ◌==◌,
+  Bool,
+  List,
+  [],
+  ◌∷◌,
+  ◌++◌,
+  length,
+  codes,
+  Option,
+  Some,
+  None,
+  if◌then◌else◌,
+}
 use Rattle.std.specs.Int.RustNames.{bit_and}
 use Rattle.std.specs.List.{flat_map}
 use Rattle.ssh_encoding.specs.Writing.{uint32, uint64, string}
@@ -12,6 +28,7 @@ use Rattle.sftp_model.specs.declared.reply.Reply.{Reply}
 use Rattle.sftp_model.specs.declared.reply.Reply.TheVariants as reply
 use Rattle.sftp_model.specs.declared.reply.NameEntry.{NameEntry}
 use Rattle.sftp_model.specs.Numbers.{
+  MAX_BODY_LEN,
   SSH_FXP_INIT,
   SSH_FXP_VERSION,
   SSH_FXP_OPEN,
@@ -188,6 +205,18 @@ frame body = string body
 
 abbrev pub request_frame : Request → ℕ → List ℕ
 request_frame r id = frame (request_body r id)
+
+-- the body of a request passes the greatest length, whatever its id
+abbrev pub is_too_long : Request → Bool
+is_too_long r = nat_lt MAX_BODY_LEN (length (request_body r 0))
+
+-- the frame of a request behind its id
+abbrev pub frame_of : ℕ × Request → List ℕ
+frame_of queued = request_frame queued.1 queued.0
+
+-- the frames of these requests, one after another
+abbrev pub frames_of : List (ℕ × Request) → List ℕ
+frames_of requests = flat_map frame_of requests
 
 abbrev pub reply_frame : Reply → ℕ → List ℕ
 reply_frame r id = frame (reply_body r id)

@@ -78,8 +78,13 @@ unknown_type kind = Err (errors.Format (kinds.InvalidDiscriminant kind))
 
 -- ---- attributes (section 5)
 
+-- a bit is set
 abbrev pub has_bit : ℕ → ℕ → Bool
 has_bit flags n = not (bit_and flags n == 0)
+
+-- the twelve permission bits of a mode, without those of the type of file
+abbrev pub permission_bits : ℕ → ℕ
+permission_bits mode = bit_and mode 0o7777
 
 -- a field that is there only where its bit is set
 abbrev pub where_set : {A : Type 0} → Bool → (List ℕ → Result (A × List ℕ) FrameError) → List ℕ

@@ -1,5 +1,5 @@
 -- What the body of a reply reads as (draft-ietf-secsh-filexfer-02, sections 4 and 7).
-use Rattle.std.specs.Prelude.{ℕ, zero, suc, ◌==◌, List, [], ◌∷◌, Option, Result, Ok, if◌then◌else◌}
+use Rattle.std.specs.Prelude.{ℕ, zero, suc, ◌==◌, List, [], ◌∷◌, Option, Some, None, Result, Ok, Err, if◌then◌else◌}
 use Rattle.ssh_encoding.specs.Reading.{◌>>=◌, byte_at, with_prefix}
 use Rattle.sftp_model.specs.declared.config.Limits.{Limits}
 use Rattle.sftp_model.specs.declared.frame_error.FrameError.{FrameError}
@@ -111,3 +111,12 @@ limits_at bytes = do
   write ← uint64_at read.1
   handles ← uint64_at write.1
   whole (record { packet_len = packet.0; read_len = read.0; write_len = write.0; open_handles = handles.0 }, handles.1)
+
+abbrev pub limits_read : Result Limits FrameError → Option Limits
+limits_read (Ok limits) = Some limits
+limits_read (Err e) = None
+
+-- the limits that a reply tells
+abbrev pub limits_in : Reply → Option Limits
+limits_in (reply.Extended content) = limits_read (limits_at content)
+limits_in other = None

@@ -29,7 +29,7 @@ use Rattle.plan_model.specs.declared.call.Call.{Call}
 use Rattle.plan_model.specs.declared.call.Call.TheVariants as call
 use Rattle.sftp_script.specs.declared.reason.Reason.{Reason}
 use Rattle.sftp_script.specs.declared.reason.Reason.TheVariants as reason
-use Rattle.plan_model.specs.Lanes.{is_long, is_short, is_slot, is_some_long, is_within, weight}
+use Rattle.plan_model.specs.Lanes.{fits_u64, is_short, is_slot, is_some_long, is_within, weight}
 use Rattle.sftp_script.specs.Lines.{
   map_ok,
   number_of,
@@ -41,6 +41,7 @@ use Rattle.sftp_script.specs.Lines.{
   greatest_u32,
   greatest_u64,
 }
+use Rattle.ssh_encoding.specs.Writing.{or_else}
 use Rattle.sftp_script.specs.Scripts.{
   slot_in,
   number_u32,
@@ -62,7 +63,6 @@ use Rattle.sftp_script.specs.Scripts.{
   path_call,
   paths_call,
   slots_call,
-  or_else,
   call_in,
 }
 use Rattle.sftp_script.proofs.FitCounts.{words_len}
@@ -119,7 +119,7 @@ within_so test least most (Some n) h = if_so test (nat_le least n && nat_le n mo
 below_slots : (n : ℕ) → (nat_le 0 n && nat_le n 15) ≡ true → is_slot n ≡ true
 below_slots n e = grind (arith, nat_tests)
 
-below_long : (n : ℕ) → (nat_le 0 n && nat_le n greatest_u64) ≡ true → is_long n ≡ true
+below_long : (n : ℕ) → (nat_le 0 n && nat_le n greatest_u64) ≡ true → fits_u64 n ≡ true
 below_long n e = grind (arith, nat_tests)
 
 from_one : (n : ℕ) → (nat_le 1 n && nat_le n greatest_u32) ≡ true → nat_le 1 n ≡ true
@@ -138,8 +138,8 @@ from_one_to n e = (first_true (nat_le 1 n) (nat_le n 1048576) e).0
 a_slot : (word : List ℕ) → So is_slot (slot_in word)
 a_slot word = within_so is_slot 0 15 (number_of word) below_slots
 
-a_long : (word : List ℕ) → So is_long (number_u64 word)
-a_long word = within_so is_long 0 greatest_u64 (number_of word) below_long
+a_long : (word : List ℕ) → So fits_u64 (number_u64 word)
+a_long word = within_so fits_u64 0 greatest_u64 (number_of word) below_long
 
 a_bound : (word : List ℕ) → So (nat_le 1) (number_in 1 greatest_u32 word)
 a_bound word = within_so (nat_le 1) 1 greatest_u32 (number_of word) from_one
@@ -165,7 +165,7 @@ few_bytes k word le = by_word (bytes_eq word (codes "-")) (decode_of word) (digi
 a_size : (word : List ℕ) → So is_some_long (some_in number_u64 word)
 a_size word = by_word (bytes_eq word (codes "-")) (number_u64 word) (a_long word)
   where
-    by_word : (b : Bool) (n : Result ℕ Reason) → So is_long n → So is_some_long (if b then Ok None else map_ok Some n)
+    by_word : (b : Bool) (n : Result ℕ Reason) → So fits_u64 n → So is_some_long (if b then Ok None else map_ok Some n)
     by_word true n k = record { is = refl }
     by_word false (Ok n) k = record { is = k.is }
     by_word false (Err why) k = record { is = tt }
@@ -302,8 +302,8 @@ number_named : (k : ℕ) (word : List ℕ) (words : List (List ℕ)) → Named k
 number_named k word words =
     if_named k (bytes_eq word (codes "read")) _ _ (slot_first k number_u32 call.Read words (λ x y s. s))
     (if_named k (bytes_eq word (codes "read_all")) _ _ (slot_first k number_u32 call.ReadAll words (λ x y s. s))
-    (if_named k (bytes_eq word (codes "set_len")) _ _ (two_so k is_slot is_long slot_in number_u64 call.SetLen words
-    a_slot a_long (λ x y s t. both_true (is_slot x) (is_long y) s t))
+    (if_named k (bytes_eq word (codes "set_len")) _ _ (two_so k is_slot fits_u64 slot_in number_u64 call.SetLen words
+    a_slot a_long (λ x y s t. both_true (is_slot x) (fits_u64 y) s t))
     (if_named k (bytes_eq word (codes "set_perm")) _ _ (slot_first k mode_in call.SetPerm words (λ x y s. s))
     (if_named k (bytes_eq word (codes "buffer")) _ _ (two_so k is_slot (nat_le 1) slot_in buffer_len call.Buffer words
     a_slot a_len (λ x y s t. both_true (is_slot x) (nat_le 1 y) s t))

@@ -11,7 +11,8 @@ use Rattle.sftp_script.specs.declared.error.LineError.TheVariants as line
 use Rattle.sftp_script.specs.Refusals.{Refuses, RefusesIn}
 use Rattle.sftp_script.specs.Lines.{map_ok}
 use Rattle.sftp_script.specs.Setup.{Draft}
-use Rattle.sftp_script.specs.Scripts.{call_line, in_lane, or_else, with_call}
+use Rattle.ssh_encoding.specs.Writing.{or_else}
+use Rattle.sftp_script.specs.Scripts.{call_line, in_lane, with_call}
 
 -- fields that are refused refuse their call
 pub fields_refuse : {A B : Type 0} (f : A → B) (read : Result A Reason) (e : LineError) → Refuses read e → Refuses (map_ok f read) e

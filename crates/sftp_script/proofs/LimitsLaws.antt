@@ -6,7 +6,7 @@ use Rattle.sftp_model.specs.declared.config.Limits.{Limits}
 use Rattle.sftp_script.specs.declared.reason.Reason.{Reason}
 use Rattle.sftp_script.specs.Lines.{number_in, greatest_u64}
 use Rattle.sftp_script.specs.Setup.{Draft, limits_line, unless_said, with_limits}
-use Rattle.sftp_script.specs.Parts.{limits_of}
+use Rattle.sftp_script.specs.Parts.{limits_in_words}
 
 read_four : (d : Draft) (p r w h : Result ℕ Reason)
     → (p >>= λ a. r >>= λ b. w >>= λ c. h >>= λ e. unless_said (is_some d.script.server.limits)
@@ -21,12 +21,12 @@ read_four d (Ok p) (Ok r) (Ok w) (Err h) = refl
 read_four d (Ok p) (Ok r) (Ok w) (Ok h) = refl
 
 by_limits : (d : Draft) (p r w h : List ℕ) → limits_line d p r w h
-    ≡ (limits_of p r w h >>= λ limits. unless_said (is_some d.script.server.limits) (with_limits d limits))
+    ≡ (limits_in_words p r w h >>= λ limits. unless_said (is_some d.script.server.limits) (with_limits d limits))
 by_limits d p r w h = read_four d (number_in 0 greatest_u64 p) (number_in 0 greatest_u64 r) (number_in 0 greatest_u64 w) (number_in 0 greatest_u64 h)
 
-pub limits_read : (d : Draft) (p r w h : List ℕ) (limits : Limits) → limits_of p r w h ≡ Ok limits
+pub limits_read : (d : Draft) (p r w h : List ℕ) (limits : Limits) → limits_in_words p r w h ≡ Ok limits
     → limits_line d p r w h ≡ unless_said (is_some d.script.server.limits) (with_limits d limits)
 limits_read d p r w h limits read = rw (by_limits d p r w h, read) refl
 
-pub limits_refused : (d : Draft) (p r w h : List ℕ) (why : Reason) → limits_of p r w h ≡ Err why → limits_line d p r w h ≡ Err why
+pub limits_refused : (d : Draft) (p r w h : List ℕ) (why : Reason) → limits_in_words p r w h ≡ Err why → limits_line d p r w h ≡ Err why
 limits_refused d p r w h why read = rw (by_limits d p r w h, read) refl

@@ -25,8 +25,8 @@ abbrev pub with_dir : Draft → List ℕ → Draft
 with_dir d path = record d { script = record d.script { dirs = d.script.dirs ++ path ∷ [] } }
 
 -- the four limits
-abbrev pub limits_of : List ℕ → List ℕ → List ℕ → List ℕ → Result Limits Reason
-limits_of p r w h = do
+abbrev pub limits_in_words : List ℕ → List ℕ → List ℕ → List ℕ → Result Limits Reason
+limits_in_words p r w h = do
   packet ← number_in 0 greatest_u64 p
   read ← number_in 0 greatest_u64 r
   write ← number_in 0 greatest_u64 w

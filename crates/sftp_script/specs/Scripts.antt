@@ -20,6 +20,7 @@ use Rattle.std.specs.Str.{bytes_eq}
 use Rattle.std.specs.declared.io.traits.SeekFrom.{SeekFrom}
 use Rattle.std.specs.declared.io.traits.SeekFrom.TheVariants as position
 use Rattle.ssh_encoding.specs.Reading.{◌>>=◌}
+use Rattle.ssh_encoding.specs.Writing.{or_else}
 use Rattle.sftp_model.specs.Options.{default_options}
 use Rattle.plan_model.specs.declared.call.Call.{Call}
 use Rattle.plan_model.specs.declared.call.Call.TheVariants as call
@@ -224,11 +225,6 @@ paths_call word words =
     else if bytes_eq word (codes "hard_link") then Some (two bytes_in bytes_in call.HardLink words)
     else if bytes_eq word (codes "symlink") then Some (two bytes_in bytes_in call.Symlink words)
     else None
-
--- the one, or else the other
-abbrev pub or_else : {A : Type 0} → Option A → Option A → Option A
-or_else None other = other
-or_else (Some x) other = Some x
 
 -- a call on slots
 abbrev pub slots_call : List ℕ → List (List ℕ) → Option (Result Call Reason)

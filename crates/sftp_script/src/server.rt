@@ -2,7 +2,7 @@
 ghost use Rattle.std.specs.Prelude.{◌≡◌, ◌∷◌, Ok, Err, MatchResult};
 ghost use Rattle.sftp_script.specs.Lines.{words_of, one_word, four_words};
 ghost use Rattle.sftp_script.specs.Setup.{extension_in, ext_line, limits_line, cut_line, server_line};
-ghost use Rattle.sftp_script.specs.Parts.{limits_of};
+ghost use Rattle.sftp_script.specs.Parts.{limits_in_words};
 
 use crate::draft::Draft;
 use crate::number::{number_from, number_in};
@@ -57,8 +57,8 @@ fn add_extension(draft: &mut Draft, name: &[u8]) -> Result<(), Reason>
 /// The four limits.
 fn limits_in(packet: &[u8], read: &[u8], write: &[u8], handles: &[u8]) -> Result<Limits, Reason>
     ensures { MatchResult result
-        (λ limits. limits_of packet.now read.now write.now handles.now ≡ Ok limits)
-        (λ e. limits_of packet.now read.now write.now handles.now ≡ Err e) }
+        (λ limits. limits_in_words packet.now read.now write.now handles.now ≡ Ok limits)
+        (λ e. limits_in_words packet.now read.now write.now handles.now ≡ Err e) }
 {
     let packet_len = number_in(0, u64::MAX, packet)?;
     let read_len = number_in(0, u64::MAX, read)?;

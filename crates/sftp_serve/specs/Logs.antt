@@ -71,8 +71,8 @@ pub record MayServe {Service : Type 0} (link : LinkView Service) : Type 0 where
   pub faults : link.faults < 2 ^ 64 - 1
   pub unused : IsEmptyLog link.log
 
--- What a call shows, by its status. That with 0 the stream's end was met, and that with 3 the link failed, holds of links
--- that tell nothing of their log too.
+-- What a call shows, by its status. That with 0 the stream's end was met, and that with 3 the link failed, holds of
+-- links that tell nothing of their log too.
 pub record ServesStream {Service : Type 0} (first : ServedState) (status : ℕ) (before now : LinkView Service) :
     Type 0 where
   pub ends : Told (λ old new. EndsStream first status now.ended new) before.log now.log

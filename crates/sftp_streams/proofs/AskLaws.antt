@@ -5,11 +5,11 @@ use Rattle.sftp_core.specs.Info.{info_of}
 use Rattle.call_state.proofs.Keeping.{submitted_holds, submitted_keeps}
 use Rattle.sftp_streams.specs.declared.parts.Unasked.{Unasked}
 use Rattle.sftp_streams.specs.declared.parts.Unasked.TheVariants as unasked
-use Rattle.sftp_streams.specs.Parts.{IsUnasked, KeepsOthers}
+use Rattle.sftp_streams.specs.Parts.{IsUnasked, KeepsOthersHeld}
 use Rattle.sftp_streams.specs.Downloads.{AsksFirst, AsksLast, AsksMany, AsksMore, DownloadValue, Fills, IsFilled, MayRead, content_kind}
 use Rattle.sftp_streams.proofs.PartLaws.{apart_from, fault_queued, keeps_parts, last_awaited, last_count, last_len, others_same, others_submitted, others_then}
 
-opened_still : (core after : Core) → KeepsOthers [] core after → IsSome (info_of core.phase) → IsSome (info_of after.phase)
+opened_still : (core after : Core) → KeepsOthersHeld [] core after → IsSome (info_of core.phase) → IsSome (info_of after.phase)
 opened_still core after others opened = subst (λ p. IsSome (info_of p)) (sym others.phase) opened
 
 -- one part more behind the others
@@ -135,14 +135,14 @@ unfailed core after d new (inr (inl (same, is))) full here some =
 unfailed core after d new (inr (inr (c, x, first, more))) full here some = first.submitted.unfailed
 
 -- what others hold stays
-others_many : (n : ℕ) (core after : Core) (d new : DownloadValue) → AsksMany n core d after new → KeepsOthers [] core after
-others_many zero core after d new (same, is) = subst (λ (x : Core). KeepsOthers [] core x) (sym same) (others_same [] core)
+others_many : (n : ℕ) (core after : Core) (d new : DownloadValue) → AsksMany n core d after new → KeepsOthersHeld [] core after
+others_many zero core after d new (same, is) = subst (λ (x : Core). KeepsOthersHeld [] core x) (sym same) (others_same [] core)
 others_many (suc n) core after d new (c, x, first, more) = others_then core c after
     (others_submitted core c _ first.ticket first.submitted) (others_many n c after x new more)
 
-pub others_filled : (core after : Core) (d new : DownloadValue) → Fills core d after new → KeepsOthers [] core after
+pub others_filled : (core after : Core) (d new : DownloadValue) → Fills core d after new → KeepsOthersHeld [] core after
 others_filled core after d new (inl (none, more)) = others_many more.0 core after d new more.1
-others_filled core after d new (inr (inl (same, is))) = subst (λ (x : Core). KeepsOthers [] core x) (sym same) (others_same [] core)
+others_filled core after d new (inr (inl (same, is))) = subst (λ (x : Core). KeepsOthersHeld [] core x) (sym same) (others_same [] core)
 others_filled core after d new (inr (inr (c, x, first, more))) =
     others_then core c after (others_submitted core c _ first.ticket first.submitted)
     (others_many more.0 c after x new more.1)

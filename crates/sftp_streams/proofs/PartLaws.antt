@@ -7,17 +7,17 @@ use Rattle.sftp_core.specs.declared.place.Place.TheVariants.{Waiting, Answered, 
 use Rattle.sftp_core.specs.Table.{brings}
 use Rattle.sftp_core.specs.Core.{Core, abandon_leaves, abandoned, after_poll, at, dropped, given_leaves, is_ticket, poll_leaves}
 use Rattle.sftp_core.proofs.Elsewhere.{abandon_phase, poll_phase}
-use Rattle.call_state.specs.Asked.{Holds, Submitted}
-use Rattle.call_state.specs.Keeping.{Keeps, KeepsGrants}
+use Rattle.call_state.specs.Asked.{HoldsTicket, Submitted}
+use Rattle.call_state.specs.Keeping.{KeepsHeld, KeepsGrants}
 use Rattle.call_state.specs.declared.asking.Asking.{Asking}
 use Rattle.call_state.specs.declared.asking.Asking.TheVariants.{Whole, Parts}
 use Rattle.call_state.proofs.Keeping.{grants_both, cancelled_keeps_grants, cancelled_on, keeps_same, polled_keeps_grants, polled_on, submitted_keeps}
 use Rattle.sftp_streams.specs.declared.parts.Part.{Part}
-use Rattle.sftp_streams.specs.Parts.{AreAwaited, IsApart, KeepsOthers, KindOf, parts_len, without_parts}
+use Rattle.sftp_streams.specs.Parts.{AreAwaited, IsApart, KeepsOthersHeld, KindOf, parts_len, without_parts}
 
 -- ---- parts stay
 
-pub keeps_parts : (kind : KindOf) (old new : Core) (parts : List Part) → Keeps old new → AreAwaited kind old parts → AreAwaited kind new parts
+pub keeps_parts : (kind : KindOf) (old new : Core) (parts : List Part) → KeepsHeld old new → AreAwaited kind old parts → AreAwaited kind new parts
 keeps_parts kind old new [] keeps held = tt
 keeps_parts kind old new (part ∷ later) keeps (h, some, own, held) =
     (keeps.holds part.ticket (kind part) h, some, own, keeps_parts kind old new later keeps held)
@@ -46,7 +46,7 @@ last_apart t n len [] ne apart = (ne, tt)
 last_apart t n len (part ∷ later) ne (first, apart) = (first, last_apart t n len later ne apart)
 
 pub last_awaited : (kind : KindOf) (core : Core) (n len : ℕ) (parts : List Part) → AreAwaited kind core parts
-    → IsApart n parts → Holds core n (kind (new_part n len)) → 0 < len
+    → IsApart n parts → HoldsTicket core n (kind (new_part n len)) → 0 < len
     → AreAwaited kind core (parts ++ new_part n len ∷ [])
 last_awaited kind core n len [] held apart h some = (h, some, tt, tt)
 last_awaited kind core n len (part ∷ later) (first, s, own, held) (ne, apart) h some =
@@ -62,7 +62,7 @@ last_count n len (part ∷ later) = (let e = last_count n len later in omega (ar
 
 -- ---- what others hold
 
-pub others_same : (parts : List Part) (core : Core) → KeepsOthers parts core core
+pub others_same : (parts : List Part) (core : Core) → KeepsOthersHeld parts core core
 others_same parts core = record { holds = λ t k apart h. h; grants = (keeps_same core).grants; phase = refl; fault = refl }
 
 phase_queued : (old new : Core) (asking : Asking) (ticket : ℕ) → Submitted old asking ticket new → new.phase ≡ old.phase
@@ -73,7 +73,7 @@ pub fault_queued : (old new : Core) (asking : Asking) (ticket : ℕ) → Submitt
 fault_queued old new (Whole asked) ticket s = ap (λ (x : Core). x.fault) s.queued
 fault_queued old new (Parts handle offset parts) ticket s = ap (λ (x : Core). x.fault) s.queued
 
-pub others_submitted : (old new : Core) (asking : Asking) (ticket : ℕ) → Submitted old asking ticket new → KeepsOthers [] old new
+pub others_submitted : (old new : Core) (asking : Asking) (ticket : ℕ) → Submitted old asking ticket new → KeepsOthersHeld [] old new
 others_submitted old new asking ticket s =
     let keeps = submitted_keeps old new asking ticket s in
     record {
@@ -83,7 +83,7 @@ others_submitted old new asking ticket s =
       fault = fault_queued old new asking ticket s;
     }
 
-pub others_then : (a b c : Core) → KeepsOthers [] a b → KeepsOthers [] b c → KeepsOthers [] a c
+pub others_then : (a b c : Core) → KeepsOthersHeld [] a b → KeepsOthersHeld [] b c → KeepsOthersHeld [] a c
 others_then a b c x y = record {
   holds = λ t k apart h. y.holds t k tt (x.holds t k tt h);
   grants = grants_both a b c x.grants y.grants;
@@ -91,7 +91,7 @@ others_then a b c x y = record {
   fault = y.fault ∙ x.fault;
 }
 
-pub others_all : (parts : List Part) (a b : Core) → KeepsOthers [] a b → KeepsOthers parts a b
+pub others_all : (parts : List Part) (a b : Core) → KeepsOthersHeld [] a b → KeepsOthersHeld parts a b
 others_all parts a b x = record { holds = λ t k apart h. x.holds t k tt h; grants = x.grants; phase = x.phase; fault = x.fault }
 
 -- ---- neither a poll nor an abandon touches the fault
@@ -118,7 +118,7 @@ abandon_fault core k (Some (Granted handle users)) = refl
 abandon_fault core k None = refl
 
 pub others_polled : (kind : KindOf) (core : Core) (part : Part) (later : List Part)
-    → AreAwaited kind core (part ∷ later) → KeepsOthers (part ∷ later) core (after_poll core part.ticket)
+    → AreAwaited kind core (part ∷ later) → KeepsOthersHeld (part ∷ later) core (after_poll core part.ticket)
 others_polled kind core part later held = record {
   holds = λ t k apart h. polled_on core part.ticket t k apart.0 h;
   grants = polled_keeps_grants core part.ticket held.0.counted;
@@ -133,7 +133,7 @@ others_stay kind core t [] apart held = tt
 others_stay kind core t (part ∷ later) (ne, apart) (h, some, own, held) =
     (cancelled_on core t part.ticket (kind part) (λ e. ne (sym e)) h, some, own, others_stay kind core t later apart held)
 
-pub others_given_up : (kind : KindOf) (core : Core) (parts : List Part) → AreAwaited kind core parts → KeepsOthers parts core (without_parts core parts)
+pub others_given_up : (kind : KindOf) (core : Core) (parts : List Part) → AreAwaited kind core parts → KeepsOthersHeld parts core (without_parts core parts)
 others_given_up kind core [] held = others_same [] core
 others_given_up kind core (part ∷ later) (h, some, own, held) =
     let mid = abandoned core part.ticket in

@@ -14,7 +14,7 @@ use Rattle.sftp_model.specs.declared.reply.Reply.TheVariants as reply
 use Rattle.sftp_core.specs.Core.{Core, after_poll, at, reply_in}
 use Rattle.call_state.specs.declared.poll.Poll.TheVariants as poll
 use Rattle.sftp_streams.specs.declared.parts.Part.{Part}
-use Rattle.sftp_streams.specs.Parts.{AreAwaited, AwaitsPlain, Came, KeepsOthers, after_first, parts_len}
+use Rattle.sftp_streams.specs.Parts.{AreAwaited, AwaitsPlain, PartCame, KeepsOthersHeld, after_first, parts_len}
 use Rattle.sftp_streams.specs.Downloads.{
   DownloadValue,
   Fills,
@@ -25,7 +25,7 @@ use Rattle.sftp_streams.specs.Downloads.{
   IsMissing,
   IsReading,
   MayRead,
-  Reads,
+  PollsDownload,
   content_kind,
   first_reply,
 }
@@ -133,8 +133,8 @@ left_parts core now new len other result never = absurd never
 -- ---- all that a poll of the first part did
 
 pub reads_reply : (core after : Core) (d now new : DownloadValue) (part : Part) (later : List Part) (r : Reply) (result : Result (Option (List ℕ)) Error)
-    → MayRead core d → d.rest ≡ 0 → d.parts ≡ part ∷ later → now ≡ record d { parts = later } → Came core part.ticket r → after ≡ after_poll core part.ticket
-    → IsHandedOut now part.len r new result → Reads core after d new (poll.Ready result)
+    → MayRead core d → d.rest ≡ 0 → d.parts ≡ part ∷ later → now ≡ record d { parts = later } → PartCame core part.ticket r → after ≡ after_poll core part.ticket
+    → IsHandedOut now part.len r new result → PollsDownload core after d new (poll.Ready result)
 reads_reply core after d now new part later r result may rest is now_is came to out =
     let h = first_awaited core d part later may.held is in
     let allowed : allows (expected.Content part.len) r ≡ true = came.allowed (expected.Content part.len) h.0.expects in
@@ -145,15 +145,15 @@ reads_reply core after d now new part later r result may rest is now_is came to 
           (subst (λ x. AreAwaited content_kind (after_poll core part.ticket) x)
           (sym (left_parts core now new part.len r result out ∙ ap (λ (x : DownloadValue). x.parts) now_is))
           (others_awaited content_kind core part.ticket later h.2 h.3));
-      others = subst (λ (x : Core). KeepsOthers d.parts core x) (sym to)
-          (subst (λ x. KeepsOthers x core (after_poll core part.ticket)) (sym is)
+      others = subst (λ (x : Core). KeepsOthersHeld d.parts core x) (sym to)
+          (subst (λ x. KeepsOthersHeld x core (after_poll core part.ticket)) (sym is)
           (others_polled content_kind core part later h));
     }
 
 pub reads_fault : (core after : Core) (d new : DownloadValue) (part : Part) (later : List Part) (fault : Fault)
     → MayRead core d → d.rest ≡ 0 → d.parts ≡ part ∷ later → new ≡ record d { parts = later; ended = true }
     → reply_in (at core part.ticket) ≡ None → core.fault ≡ Some fault
-    → after ≡ after_poll core part.ticket → Reads core after d new (poll.Ready (Err (error.BackgroundTaskFailure fault)))
+    → after ≡ after_poll core part.ticket → PollsDownload core after d new (poll.Ready (Err (error.BackgroundTaskFailure fault)))
 reads_fault core after d new part later fault may rest is now missing kept to =
     let h = first_awaited core d part later may.held is in
     let over : new.ended ≡ true = ap (λ (x : DownloadValue). x.ended) now in
@@ -164,8 +164,8 @@ reads_fault core after d new part later fault may rest is now missing kept to =
           (subst (λ x. AreAwaited content_kind (after_poll core part.ticket) x)
           (sym (ap (λ (x : DownloadValue). x.parts) now)) (others_awaited content_kind core part.ticket later h.2
           h.3));
-      others = subst (λ (x : Core). KeepsOthers d.parts core x) (sym to)
-          (subst (λ x. KeepsOthers x core (after_poll core part.ticket)) (sym is)
+      others = subst (λ (x : Core). KeepsOthersHeld d.parts core x) (sym to)
+          (subst (λ x. KeepsOthersHeld x core (after_poll core part.ticket)) (sym is)
           (others_polled content_kind core part later h));
     }
 
@@ -183,7 +183,7 @@ pub missed_first : (core : Core) (d : DownloadValue) (part : Part) (later : List
 missed_first core d part later rest is missing unfailed = record { reply = first_is core d part later rest is ∙ missing; unfailed = λ none some. unfailed }
 
 pub reads_pending : (core after : Core) (d new : DownloadValue) → MayRead core d → IsMissing core d → MayRead after new
-    → Fills core d after new → IsFilled new → 0 < length new.parts → Reads core after d new poll.Pending
+    → Fills core d after new → IsFilled new → 0 < length new.parts → PollsDownload core after d new poll.Pending
 reads_pending core after d new may missed left fills full some =
     let s = stands core after d new fills in
     record {
@@ -194,7 +194,7 @@ reads_pending core after d new may missed left fills full some =
     }
 
 pub reads_short : (core after : Core) (d new : DownloadValue) → MayRead core d → IsMissing core d → MayRead after new
-    → Fills core d after new → Reads core after d new (poll.Ready (Err error.OutOfMemory))
+    → Fills core d after new → PollsDownload core after d new (poll.Ready (Err error.OutOfMemory))
 reads_short core after d new may missed left fills =
     let s = stands core after d new fills in
     record {
@@ -206,7 +206,7 @@ reads_short core after d new may missed left fills =
 
 pub reads_failed : (core after : Core) (d mid new : DownloadValue) (fault : Fault) → IsMissing core d
     → MayRead after mid → Fills core d after mid → new ≡ record mid { ended = true } → core.fault ≡ Some fault
-    → Reads core after d new (poll.Ready (Err (error.BackgroundTaskFailure fault)))
+    → PollsDownload core after d new (poll.Ready (Err (error.BackgroundTaskFailure fault)))
 reads_failed core after d mid new fault missed left fills now kept =
     let s = stands core after d mid fills in
     let over : new.ended ≡ true = ap (λ (x : DownloadValue). x.ended) now in
@@ -220,7 +220,7 @@ reads_failed core after d mid new fault missed left fills now kept =
 -- nothing is under way, and nothing can be asked for
 pub reads_overflow : (core after : Core) (d mid new : DownloadValue) → IsMissing core d → MayRead after mid
     → Fills core d after mid → IsFilled mid → mid.parts ≡ [] → new ≡ record mid { ended = true }
-    → Reads core after d new (poll.Ready (Err (error.IOError OffsetOverflow)))
+    → PollsDownload core after d new (poll.Ready (Err (error.IOError OffsetOverflow)))
 reads_overflow core after d mid new missed left fills full none now =
     let s = stands core after d mid fills in
     let over : new.ended ≡ true = ap (λ (x : DownloadValue). x.ended) now in

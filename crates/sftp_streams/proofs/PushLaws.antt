@@ -3,7 +3,8 @@ use Rattle.std.proofs.Common.{◌≡◌, ◌≤◌, ◌<◌, ℕ, ◌+◌, ◌-�
 use Rattle.std.proofs.lemmas.Bool.Decides.{nat_tests}
 use Rattle.std.proofs.lemmas.List.{append-nil}
 use Rattle.sftp_model.specs.Numbers.{MAX_TRANSFER_LEN}
-use Rattle.sftp_core.specs.Core.{Core, is_long, write_of}
+use Rattle.sftp_model.specs.Frames.{is_too_long}
+use Rattle.sftp_core.specs.Core.{Core, write_of}
 use Rattle.call_state.proofs.Keeping.{submitted_holds, submitted_keeps}
 use Rattle.call_state.specs.Asked.{Submitted}
 use Rattle.call_state.specs.declared.asking.Asking.TheVariants as asking
@@ -13,7 +14,7 @@ use Rattle.sftp_streams.proofs.PartLaws.{apart_from, keeps_parts, last_awaited, 
 
 -- the WRITE of bytes that one WRITE may carry fits a frame
 pub one_is_short : (handle : List ℕ) (offset : ℕ) (bytes : List ℕ) → length handle ≤ 256
-    → length bytes ≤ MAX_TRANSFER_LEN → is_long (write_of handle offset (bytes ∷ [])) ≡ false
+    → length bytes ≤ MAX_TRANSFER_LEN → is_too_long (write_of handle offset (bytes ∷ [])) ≡ false
 one_is_short handle offset bytes le fits =
     (let same : bytes ++ [] ≡ bytes = append-nil bytes in write_is_short handle offset (bytes ++ []) le
     (subst (λ (x : List ℕ). length x ≤ 1048275) (sym same) fits))

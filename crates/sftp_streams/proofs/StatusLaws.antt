@@ -38,7 +38,7 @@ use Rattle.sftp_model.specs.declared.reply.Reply.TheVariants as reply
 use Rattle.sftp_core.specs.Core.{Core, after_poll, at, reply_in}
 use Rattle.call_state.specs.declared.poll.Poll.TheVariants as poll
 use Rattle.sftp_streams.specs.declared.parts.Part.{Part}
-use Rattle.sftp_streams.specs.Parts.{AreAwaited, AwaitsPlain, Came, KeepsOthers, after_first, parts_len}
+use Rattle.sftp_streams.specs.Parts.{AreAwaited, AwaitsPlain, PartCame, KeepsOthersHeld, after_first, parts_len}
 use Rattle.sftp_streams.specs.Uploads.{GivesStatus, IsAccepted, IsOk, IsWriting, MayWrite, UploadValue, Writes, first_len, first_status, later_parts, status_kind}
 use Rattle.sftp_streams.proofs.PartLaws.{others_awaited, others_polled, others_same}
 
@@ -77,7 +77,7 @@ accepted core u now new part later may is now_is to =
     })
 
 by_status : (core after : Core) (u now new : UploadValue) (part : Part) (later : List Part) (r : Reply) (result : Result (Option ℕ) Error)
-    → MayWrite core u → u.parts ≡ part ∷ later → now ≡ record u { parts = later } → Came core part.ticket r → after
+    → MayWrite core u → u.parts ≡ part ∷ later → now ≡ record u { parts = later } → PartCame core part.ticket r → after
     ≡ after_poll core part.ticket → IsAccepted now part.len r new result
     → GivesStatus core after u new (poll.Ready result) × ((new.ended ≡ false → IsWriting (after_poll core part.ticket) new) × (new.parts ≡ later))
 by_status core after u now new part later (reply.Status code message language) result may is now_is came to out = by_code (code == SSH_FX_OK) refl
@@ -112,7 +112,7 @@ by_status core after u now new part later (reply.Status code message language) r
 by_status core after u now new part later other result may is now_is came to never = absurd never
 
 pub writes_status : (core after : Core) (u now new : UploadValue) (part : Part) (later : List Part) (r : Reply) (result : Result (Option ℕ) Error)
-    → MayWrite core u → u.parts ≡ part ∷ later → now ≡ record u { parts = later } → Came core part.ticket r → after
+    → MayWrite core u → u.parts ≡ part ∷ later → now ≡ record u { parts = later } → PartCame core part.ticket r → after
     ≡ after_poll core part.ticket → IsAccepted now part.len r new result
     → Writes core after u new (poll.Ready result)
 writes_status core after u now new part later r result may is now_is came to out =
@@ -123,8 +123,8 @@ writes_status core after u now new part later r result may is now_is came to out
       held = λ going. subst (λ (x : Core). IsWriting x new) (sym to) (all.1.0 going);
       parts = subst (λ (x : Core). AreAwaited status_kind x new.parts) (sym to)
           (subst (λ x. AreAwaited status_kind (after_poll core part.ticket) x) (sym all.1.1) (others_awaited status_kind core part.ticket later h.2 h.3));
-      others = subst (λ (x : Core). KeepsOthers u.parts core x) (sym to)
-          (subst (λ x. KeepsOthers x core (after_poll core part.ticket)) (sym is)
+      others = subst (λ (x : Core). KeepsOthersHeld u.parts core x) (sym to)
+          (subst (λ x. KeepsOthersHeld x core (after_poll core part.ticket)) (sym is)
           (others_polled status_kind core part later h));
     }
 
@@ -143,8 +143,8 @@ writes_fault core after u new part later fault may is now missing kept to =
           (subst (λ x. AreAwaited status_kind (after_poll core part.ticket) x)
           (sym (ap (λ (x : UploadValue). x.parts) now)) (others_awaited status_kind core part.ticket later h.2
           h.3));
-      others = subst (λ (x : Core). KeepsOthers u.parts core x) (sym to)
-          (subst (λ x. KeepsOthers x core (after_poll core part.ticket)) (sym is)
+      others = subst (λ (x : Core). KeepsOthersHeld u.parts core x) (sym to)
+          (subst (λ x. KeepsOthersHeld x core (after_poll core part.ticket)) (sym is)
           (others_polled status_kind core part later h));
     }
 
@@ -156,7 +156,7 @@ writes_pending core after u new part later may is same missing unfailed to = rec
   held = λ going. subst (λ (x : UploadValue). IsWriting after x) (sym same) (subst (λ (x : Core). IsWriting x u) (sym to) may.held);
   parts = subst (λ (x : UploadValue). AreAwaited status_kind after x.parts) (sym same)
       (subst (λ (x : Core). AreAwaited status_kind x u.parts) (sym to) may.held.parts);
-  others = subst (λ (x : Core). KeepsOthers u.parts core x) (sym to) (others_same u.parts core);
+  others = subst (λ (x : Core). KeepsOthersHeld u.parts core x) (sym to) (others_same u.parts core);
 }
 
 pub writes_none : (core after : Core) (u new : UploadValue) → MayWrite core u → u.parts ≡ [] → new ≡ u → after ≡ core
@@ -166,5 +166,5 @@ writes_none core after u new may is same to = record {
   held = λ going. subst (λ (x : UploadValue). IsWriting after x) (sym same) (subst (λ (x : Core). IsWriting x u) (sym to) may.held);
   parts = subst (λ (x : UploadValue). AreAwaited status_kind after x.parts) (sym same)
       (subst (λ (x : Core). AreAwaited status_kind x u.parts) (sym to) may.held.parts);
-  others = subst (λ (x : Core). KeepsOthers u.parts core x) (sym to) (others_same u.parts core);
+  others = subst (λ (x : Core). KeepsOthersHeld u.parts core x) (sym to) (others_same u.parts core);
 }

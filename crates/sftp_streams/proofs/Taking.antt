@@ -10,7 +10,8 @@ use Rattle.std.specs.Prelude.{Bool, Option}
 use Rattle.sftp_model.specs.declared.request.Request.{Request}
 use Rattle.sftp_core.specs.declared.errors.SubmitError.{SubmitError}
 use Rattle.sftp_core.specs.declared.errors.SubmitError.TheVariants as submit
-use Rattle.sftp_core.specs.Core.{Core, IsSubmitError, after_poll, at, is_long, polled_with, refusal_of, submit_refusal}
+use Rattle.sftp_model.specs.Frames.{is_too_long}
+use Rattle.sftp_core.specs.Core.{Core, IsSubmitError, after_poll, at, polled_with, refusal_of, submit_refusal}
 use Rattle.sftp_core.specs.Grant.{GrantValue}
 use Rattle.sftp_core.specs.Table.{IsAllowed, asks_handle}
 use Rattle.sftp_core.specs.declared.tokens.Polled.TheVariants as polled
@@ -45,7 +46,7 @@ pub missing : (core after : Core) (t q : ℕ) → AwaitsPlain core t → polled_
 missing core after t q a gave to = (let m = missed_by core t q a.holds.counted gave in (m.0, m.2, m.1, to ∙ m.3))
 
 -- a request that fits a frame is not refused for its length
-pub never_long : (core : Core) (asked : Request) (e : SubmitError) → is_long asked ≡ false → e ≡ submit.TooLong
+pub never_long : (core : Core) (asked : Request) (e : SubmitError) → is_too_long asked ≡ false → e ≡ submit.TooLong
     → IsSubmitError e (submit_refusal core asked) → ⊥
 never_long core asked e short is refused =
     by_fault core.fault (subst (λ (b : Bool). refusal_of core.fault b ≡ Some submit.TooLong) short

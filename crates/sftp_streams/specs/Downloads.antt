@@ -43,7 +43,7 @@ use Rattle.call_state.specs.declared.poll.Poll.TheVariants as poll
 use Rattle.sftp_file.specs.Files.{FileValue, facts_of}
 use Rattle.sftp_file.specs.Outcomes.{read_answer}
 use Rattle.sftp_streams.specs.declared.parts.Part.{Part}
-use Rattle.sftp_streams.specs.Parts.{AreAwaited, KeepsOthers, KindOf, after_first, parts_len}
+use Rattle.sftp_streams.specs.Parts.{AreAwaited, KeepsOthersHeld, KindOf, after_first, parts_len}
 
 -- the file's handle, the most bytes of one READ and the most READs under way; the offset of the first byte that was not
 -- handed out, how many bytes from there are to be asked for again, where the next new part begins, the parts under way
@@ -73,10 +73,10 @@ starting handle offset read_len window =
     }
 
 -- a download of a file that may be read, from its offset on
-abbrev pub Begins : Core → FileValue → ℕ → Result DownloadValue Error → Type 0
-Begins core file window (Ok d) = (file.readable ≡ true)
+abbrev pub BeginsDownload : Core → FileValue → ℕ → Result DownloadValue Error → Type 0
+BeginsDownload core file window (Ok d) = (file.readable ≡ true)
     × (d ≡ starting file.grant.handle file.offset (facts_of core).read_len window)
-Begins core file window (Err e) = (file.readable ≡ false) × (e ≡ error.IOError NotReadable)
+BeginsDownload core file window (Err e) = (file.readable ≡ false) × (e ≡ error.IOError NotReadable)
 
 -- ---- what it holds
 
@@ -208,9 +208,10 @@ GivesFirst core after old new poll.Pending = (first_reply core old ≡ None)
 
 -- What a poll did: it may be polled on where it has not ended, and given up in any case; what others hold of the core
 -- stays.
-pub record Reads (core after : Core) (old new : DownloadValue) (result : Poll (Result (Option (List ℕ)) Error)) : Type 0
+pub record PollsDownload (core after : Core) (old new : DownloadValue) (result : Poll (Result (Option (List ℕ)) Error))
+    : Type 0
   where
     pub gives : GivesFirst core after old new result
     pub held : new.ended ≡ false → IsReading after new
     pub parts : AreAwaited content_kind after new.parts
-    pub others : KeepsOthers old.parts core after
+    pub others : KeepsOthersHeld old.parts core after

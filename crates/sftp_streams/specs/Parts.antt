@@ -5,7 +5,7 @@ use Rattle.sftp_model.specs.declared.answers.Expected.{Expected}
 use Rattle.sftp_model.specs.declared.reply.Reply.{Reply}
 use Rattle.sftp_core.specs.Core.{Core, abandoned, after_poll, at, reply_in}
 use Rattle.sftp_core.specs.Table.{asks_handle, expected_at}
-use Rattle.call_state.specs.Asked.{Holds}
+use Rattle.call_state.specs.Asked.{HoldsTicket}
 use Rattle.call_state.specs.Keeping.{KeepsGrants}
 use Rattle.sftp_streams.specs.declared.parts.Answer.{Answer}
 use Rattle.sftp_streams.specs.declared.parts.Answer.TheVariants as answer
@@ -30,7 +30,8 @@ IsApart ticket (part ∷ later) = (ticket ≢ part.ticket) × IsApart ticket lat
 -- the core awaits the reply to each part under a ticket of its own, and each is of a byte or more
 abbrev pub AreAwaited : KindOf → Core → List Part → Type 0
 AreAwaited kind core [] = Unit {0}
-AreAwaited kind core (part ∷ later) = Holds core part.ticket (kind part) × (0 < part.len) × IsApart part.ticket later
+AreAwaited kind core (part ∷ later) = HoldsTicket core part.ticket (kind part) × (0 < part.len)
+    × IsApart part.ticket later
     × AreAwaited kind core later
 
 -- ---- the reply to a part
@@ -38,17 +39,17 @@ AreAwaited kind core (part ∷ later) = Holds core part.ticket (kind part) × (0
 -- the core awaits a reply, which is no HANDLE
 pub record AwaitsPlain (core : Core) (ticket : ℕ) : Type 0 where
   pub kind : Expected
-  pub holds : Holds core ticket kind
+  pub holds : HoldsTicket core ticket kind
   pub plain : asks_handle kind ≡ false
 
 -- the reply was taken, and is one that its request allows
-pub record Came (core : Core) (ticket : ℕ) (r : Reply) : Type 0 where
+pub record PartCame (core : Core) (ticket : ℕ) (r : Reply) : Type 0 where
   pub taken : reply_in (at core ticket) ≡ Some r
   pub allowed : (kind : Expected) → expected_at (at core ticket) ≡ Some kind → allows kind r ≡ true
 
 -- a taken reply comes before a kept fault, and the ticket comes back where there is neither
 abbrev pub IsAnswer : Core → Core → ℕ → Answer → Type 0
-IsAnswer old new ticket (answer.Came r) = Came old ticket r × (new ≡ after_poll old ticket)
+IsAnswer old new ticket (answer.Came r) = PartCame old ticket r × (new ≡ after_poll old ticket)
 IsAnswer old new ticket (answer.Missing same) = (reply_in (at old ticket) ≡ None) × (old.fault ≡ None)
     × (same ≡ ticket) × (new ≡ old)
 IsAnswer old new ticket (answer.Failed fault) = (reply_in (at old ticket) ≡ None) × (old.fault ≡ Some fault)
@@ -62,8 +63,9 @@ after_first core (part ∷ later) = after_poll core part.ticket
 -- ---- what others hold
 
 -- Each ticket that is none of the parts' stays held, each grant stays, the session stays open, and its fault is kept.
-pub record KeepsOthers (parts : List Part) (old new : Core) : Type 0 where
-  pub holds : (ticket : ℕ) (kind : Expected) → IsApart ticket parts → Holds old ticket kind → Holds new ticket kind
+pub record KeepsOthersHeld (parts : List Part) (old new : Core) : Type 0 where
+  pub holds : (ticket : ℕ) (kind : Expected) → IsApart ticket parts → HoldsTicket old ticket kind
+      → HoldsTicket new ticket kind
   pub grants : KeepsGrants old new
   pub phase : new.phase ≡ old.phase
   pub fault : new.fault ≡ old.fault

@@ -42,7 +42,7 @@ use Rattle.call_state.specs.declared.poll.Poll.{Poll}
 use Rattle.call_state.specs.declared.poll.Poll.TheVariants as poll
 use Rattle.sftp_file.specs.Files.{FileValue, facts_of}
 use Rattle.sftp_streams.specs.declared.parts.Part.{Part}
-use Rattle.sftp_streams.specs.Parts.{AreAwaited, KeepsOthers, KindOf, after_first, parts_len}
+use Rattle.sftp_streams.specs.Parts.{AreAwaited, KeepsOthersHeld, KindOf, after_first, parts_len}
 
 -- the file's handle, the most bytes of one WRITE and the most WRITEs under way; the offset of the first byte that the
 -- server has not said OK to, where the next bytes are written, the parts under way in order, and whether it has failed
@@ -69,10 +69,10 @@ starting handle offset write_len window =
     }
 
 -- an upload to a file that may be written, from its offset on
-abbrev pub Begins : Core → FileValue → ℕ → Result UploadValue Error → Type 0
-Begins core file window (Ok u) = (file.writable ≡ true)
+abbrev pub BeginsUpload : Core → FileValue → ℕ → Result UploadValue Error → Type 0
+BeginsUpload core file window (Ok u) = (file.writable ≡ true)
     × (u ≡ starting file.grant.handle file.offset (facts_of core).write_len window)
-Begins core file window (Err e) = (file.writable ≡ false) × (e ≡ error.IOError NotWritable)
+BeginsUpload core file window (Err e) = (file.writable ≡ false) × (e ≡ error.IOError NotWritable)
 
 -- ---- what it holds
 
@@ -189,4 +189,4 @@ pub record Writes (core after : Core) (old new : UploadValue) (result : Poll (Re
   pub gives : GivesStatus core after old new result
   pub held : new.ended ≡ false → IsWriting after new
   pub parts : AreAwaited status_kind after new.parts
-  pub others : KeepsOthers old.parts core after
+  pub others : KeepsOthersHeld old.parts core after

@@ -9,8 +9,8 @@ ghost use Rattle.call_state.specs.Asked.{Submitted};
 ghost use Rattle.call_state.specs.declared.asking.Asking.TheVariants as asking;
 ghost use Rattle.call_state.specs.declared.poll.Poll.TheVariants.{Ready};
 ghost use Rattle.sftp_file.specs.Outcomes.{read_answer};
-ghost use Rattle.sftp_streams.specs.Parts.{AreAwaited, IsUnasked, KeepsOthers, without_parts};
-ghost use Rattle.sftp_streams.specs.Downloads.{AsksFirst, AsksLast, AsksMore, Begins, Fills, GivesFirst, IsFilled, IsHandedOut, IsMissing, IsReading, MayRead, Reads, content_kind};
+ghost use Rattle.sftp_streams.specs.Parts.{AreAwaited, IsUnasked, KeepsOthersHeld, without_parts};
+ghost use Rattle.sftp_streams.specs.Downloads.{AsksFirst, AsksLast, AsksMore, BeginsDownload, Fills, GivesFirst, IsFilled, IsHandedOut, IsMissing, IsReading, MayRead, PollsDownload, content_kind};
 
 use crate::parts::{Answer, Part, Unasked, abandon_parts, take_reply};
 use bytes::Bytes;
@@ -53,7 +53,7 @@ impl Download {
     pub fn new(core: &Core, file: &File, window: usize) -> Result<Download, Error>
         requires opened { IsSome (info_of core.now.phase) }
         requires wide { 1 ≤ window }
-        ensures begins { Begins core.now file.now window result }
+        ensures begins { BeginsDownload core.now file.now window result }
         ensures held { IfOk result (λ d. (any : CoreValue) → IsReading any d) }
     {
         let Some(info) = core.info() else {
@@ -118,7 +118,7 @@ impl Download {
     /// where its reply is missing, and no fault is kept.
     fn poll_first(&mut self, core: &mut Core) -> Option<Result<Option<Bytes>, Error>>
         requires { MayRead core.old self.old }
-        ensures reads { IfSome result (λ value. Reads core.old core.new self.old self.new (Ready value)) }
+        ensures reads { IfSome result (λ value. PollsDownload core.old core.new self.old self.new (Ready value)) }
         ensures missing { IfNone result (IsMissing core.old self.old × (core.new ≡ core.old) × (self.new ≡ self.old)) }
     {
         if self.rest > 0 {
@@ -224,7 +224,7 @@ impl Download {
     /// offset 18446744073709551615 were handed out, so that no READ can ask for more.
     pub fn poll(&mut self, core: &mut Core) -> Poll<Result<Option<Bytes>, Error>>
         requires { MayRead core.old self.old }
-        ensures { Reads core.old core.new self.old self.new result }
+        ensures { PollsDownload core.old core.new self.old self.new result }
     {
         match self.poll_first(core) {
             Some(value) => Poll::Ready(value),
@@ -236,7 +236,7 @@ impl Download {
     fn ask(&mut self, core: &mut Core) -> Poll<Result<Option<Bytes>, Error>>
         requires may { MayRead core.old self.old }
         requires missing { IsMissing core.old self.old }
-        ensures { Reads core.old core.new self.old self.new result }
+        ensures { PollsDownload core.old core.new self.old self.new result }
     {
         match self.fill(core) {
             Ok(()) => {
@@ -258,7 +258,7 @@ impl Download {
     pub fn cancel(self, core: &mut Core)
         requires { AreAwaited content_kind core.old self.parts }
         ensures core { core.new ≡ without_parts core.old self.parts }
-        ensures others { KeepsOthers self.parts core.old core.new }
+        ensures others { KeepsOthersHeld self.parts core.old core.new }
     {
         let Download {
             handle: _,

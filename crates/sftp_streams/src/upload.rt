@@ -7,8 +7,8 @@ ghost use Rattle.sftp_core.specs.Core.{Core as CoreValue};
 ghost use Rattle.sftp_core.specs.Info.{info_of};
 ghost use Rattle.call_state.specs.Asked.{Submitted};
 ghost use Rattle.call_state.specs.declared.asking.Asking.TheVariants as asking;
-ghost use Rattle.sftp_streams.specs.Parts.{AreAwaited, IsUnasked, KeepsOthers, without_parts};
-ghost use Rattle.sftp_streams.specs.Uploads.{AsksWrite, Begins, IsAccepted, IsRefusedPush, IsWriting, MayPush, MayWrite, Writes, room_of, status_kind};
+ghost use Rattle.sftp_streams.specs.Parts.{AreAwaited, IsUnasked, KeepsOthersHeld, without_parts};
+ghost use Rattle.sftp_streams.specs.Uploads.{AsksWrite, BeginsUpload, IsAccepted, IsRefusedPush, IsWriting, MayPush, MayWrite, Writes, room_of, status_kind};
 
 use crate::parts::{Answer, Part, Unasked, abandon_parts, take_reply};
 use bytes::Bytes;
@@ -50,7 +50,7 @@ impl Upload {
     pub fn new(core: &Core, file: &File, window: usize) -> Result<Upload, Error>
         requires opened { IsSome (info_of core.now.phase) }
         requires wide { 1 ≤ window }
-        ensures begins { Begins core.now file.now window result }
+        ensures begins { BeginsUpload core.now file.now window result }
         ensures held { IfOk result (λ u. (any : CoreValue) → IsWriting any u) }
     {
         let Some(info) = core.info() else {
@@ -192,7 +192,7 @@ impl Upload {
     pub fn cancel(self, core: &mut Core)
         requires { AreAwaited status_kind core.old self.parts }
         ensures core { core.new ≡ without_parts core.old self.parts }
-        ensures others { KeepsOthers self.parts core.old core.new }
+        ensures others { KeepsOthersHeld self.parts core.old core.new }
     {
         let Upload {
             handle: _,

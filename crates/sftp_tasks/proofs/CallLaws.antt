@@ -37,12 +37,12 @@ use Rattle.session_seats.specs.declared.view.Receipt.{Receipt}
 use Rattle.session_seats.specs.Holds.{Allowance, Applied, Hold}
 use Rattle.session_seats.specs.Sights.{made_on, receipt}
 use Rattle.session_seats.proofs.HoldLaws.{hold_map}
-use Rattle.session_work.specs.Working.{Contents, past_of}
+use Rattle.session_work.specs.Working.{LanesValue, past_of}
 use Rattle.sftp_lanes.specs.Seen.{SessionValue}
 use Rattle.sftp_model.specs.declared.error.Error.{Error}
 use Rattle.sftp_model.specs.declared.error.Error.TheVariants as error
 use Rattle.sftp_tasks.specs.declared.locked.Locked.{Locked}
-use Rattle.sftp_tasks.specs.Calls.{Answers, BeginsWith, InOneHold, settled}
+use Rattle.sftp_tasks.specs.Calls.{AnswersSeat, BeginsWith, InOneHold, settled}
 use Rattle.sftp_tasks.specs.LockedEvents.{OfLane, Submitting}
 use Rattle.sftp_tasks.specs.Rounds.{Token}
 use Rattle.sftp_tasks.specs.SessionEvents.{Submits}
@@ -52,7 +52,7 @@ use Rattle.sftp_tasks.proofs.EntryLaws.{steps_extended}
 pub answers_of : {A X Y : Type 0} {test : Entry → Bool} {needs : Allowance} (Does : Locked → Locked → Result A Error → Type 0)
     (did : Result A Error) (copied : Result X Y) (old new : List Receipt) (m n : Token)
     → Hold shown_of (Applied shown_of test needs (λ y z. Does y z did) copied old new) m n
-    → Answers Does old new (settled did copied) m n
+    → AnswersSeat Does old new (settled did copied) m n
 answers_of Does (Err e) copied old new m n h = hold_map shown_of m n h (inl h.did.does)
 answers_of Does (Ok a) (Ok x) old new m n h = hold_map shown_of m n h (h.did.does, h.did.kept)
 answers_of Does (Ok a) (Err y) old new m n h = hold_map shown_of m n h (inr (refl, (a, h.did.does)))
@@ -85,14 +85,14 @@ added_first : (lane : ℕ) (call : Call) (old new : SessionValue) (more : List E
     → past_of new.work ≡ more ++ past_of old.work → (es : List Entry) × (more ≡ es ++ entry.Added lane call ∷ [])
 added_first lane call old new more h past =
     let mid = h.0 in
-    let first : past_of mid.work ≡ entry.Added lane call ∷ past_of old.work = ap (λ (c : Contents). c.past) h.1.0.is in
+    let first : past_of mid.work ≡ entry.Added lane call ∷ past_of old.work = ap (λ (c : LanesValue). c.past) h.1.0.is in
     let stepped = (steps_extended mid.phase lane mid new h.1.1.0 h.1.1.1).past in
     let all : past_of new.work ≡ (stepped.0 ++ entry.Added lane call ∷ []) ++ past_of old.work =
     stepped.1 ∙ ap (λ (l : List Entry). stepped.0 ++ l) first ∙ sym (append_assoc stepped.0 (entry.Added lane call ∷ []) (past_of old.work)) in
     (stepped.0, append_cancel_right more (stepped.0 ++ entry.Added lane call ∷ []) (past_of old.work) (sym past ∙ all))
 
 pub first_receipt : (lane : Option ℕ) (call : Call) (old new : List Receipt) (r : Result Bool Error) (m n : Token)
-    → Answers (OfLane (Submitting call) (Ok false) lane) old new r m n
+    → AnswersSeat (OfLane (Submitting call) (Ok false) lane) old new r m n
     → IfOk r (λ did. did ≡ true → IfSome lane (λ l. BeginsWith l call old new))
 first_receipt None call old new (Ok did) m n h = λ yes. tt
 first_receipt None call old new (Err e) m n h = tt

@@ -22,11 +22,11 @@ use Rattle.session_work.specs.SoFar.{kept_in}
 use Rattle.session_work.specs.Working.{past_of}
 use Rattle.sftp_tasks.specs.declared.locked.Locked.{Locked}
 use Rattle.sftp_tasks.specs.declared.report.SharedReport.{SharedReport}
-use Rattle.sftp_tasks.specs.Reported.{ComesBack, GoesOn, HasStopped, IsRefusedFor, Lists, Reported, reason_of}
+use Rattle.sftp_tasks.specs.Reported.{ComesBack, MayTakeCalls, HasStopped, IsRefusedFor, Lists, Reported, reason_of}
 use Rattle.sftp_tasks.specs.Shows.{shown_of}
 
 pub reported : {G : Ghosts Locked} (seats : List (Seat Locked G)) (e : Ended Locked) (r : SharedReport) → Closes shown_of seats e
-    → GoesOn e.value.session → Reports e.value.session r.report → Lists e.value.session r.journal.items → r.receipts ≡ e.receipts → Reported seats r
+    → MayTakeCalls e.value.session → Reports e.value.session r.report → Lists e.value.session r.journal.items → r.receipts ≡ e.receipts → Reported seats r
 reported seats e r closes goes reports lists receipts =
     let s = e.value.session in
     let now = closes.now in

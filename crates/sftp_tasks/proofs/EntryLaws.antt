@@ -56,7 +56,7 @@ use Rattle.sftp_model.specs.declared.slot.Move.TheVariants.{Ask, Wait, Done}
 use Rattle.session_driver.specs.declared.session.Phase.{Phase}
 use Rattle.session_driver.specs.declared.session.Phase.TheVariants.{Fresh, Greeted, Asking, Queried, Open, Failed}
 use Rattle.session_driver.specs.declared.session.Stepped.{Stepped}
-use Rattle.session_driver.specs.Session.{Given, Seen, StepsTo, Cancels, LetsGo, Takes, HandsOut}
+use Rattle.session_driver.specs.Session.{Given, Seen, StepsTo, Cancels, LetsGo, TakesAndSettles, HandsOut}
 use Rattle.session_model.specs.Calls.{Setting, move_of}
 use Rattle.session_model.specs.Turns.{Stage, ClosesTo, SettlesTo, begun_but}
 use Rattle.session_model.specs.Journals.{cancelled_end}
@@ -65,12 +65,12 @@ use Rattle.session_model.specs.declared.entry.Entry.{Entry}
 use Rattle.session_model.specs.declared.entry.Entry.TheVariants as entry
 use Rattle.session_model.specs.declared.event.Event.TheVariants.{Submit, Send, Take, Cancel}
 use Rattle.session_model.specs.declared.event.Owner.TheVariants as owner
-use Rattle.sftp_lanes.specs.Events.{BeginsBy, CancelsIn, GoesOn, HandsOutIn, HasFailed, IsRefused, LetsGoIn, LetsIdleGo, StepsIn, TakesIn}
+use Rattle.sftp_lanes.specs.Events.{BeginsBy, CancelsIn, LanesDid, HandsOutIn, HasFailed, IsRefused, LetsGoIn, LetsIdleGo, StepsIn, TakesIn}
 use Rattle.sftp_lanes.specs.Seen.{SessionValue, given_of, seen_of, setting_at}
-use Rattle.session_work.specs.Working.{Contents, past_of, stage_of}
+use Rattle.session_work.specs.Working.{LanesValue, past_of, stage_of}
 use Rattle.session_work.specs.SoFar.{kept_past, refused_past}
 use Rattle.session_work.specs.declared.lanes.Lanes.{Lanes}
-use Rattle.session_seats.specs.Sights.{FitsStage, Rises, Stays}
+use Rattle.session_seats.specs.Sights.{FitsStage, Rises, StaysThere}
 use Rattle.atomic_table.specs.Table.{Me}
 use Rattle.session_seats.specs.declared.view.Sight.{Sight}
 use Rattle.session_seats.specs.declared.view.View.{View}
@@ -149,7 +149,7 @@ pub record Extended (test : Entry → Bool) (old new : SessionValue) : Type 0 wh
   pub past : Extends test (past_of old.work) (past_of new.work)
   pub lanes : new.lanes ≡ old.lanes
   pub options : new.options ≡ old.options
-  pub version : Stays old.version new.version
+  pub version : StaysThere old.version new.version
 
 pub same_extended : (test : Entry → Bool) (old new : SessionValue) → new ≡ old → Extended test old new
 same_extended test old new is = subst (Extended test old) (sym is) record
@@ -160,7 +160,7 @@ failed_extended test old new h = record {
   past = ([], h.left.past, refl);
   lanes = ap (λ (s : SessionValue). s.lanes) h.rest;
   options = ap (λ (s : SessionValue). s.options) h.rest;
-  version = subst (Stays old.version) (sym (ap (λ (s : SessionValue). s.version) h.rest)) (stays_same old.version);
+  version = subst (StaysThere old.version) (sym (ap (λ (s : SessionValue). s.version) h.rest)) (stays_same old.version);
 }
 
 pub unmoved_extended : (test : Entry → Bool) (old new : SessionValue) → IsUnmoved old new → Extended test old new
@@ -172,13 +172,13 @@ refuses_extended test (error.BackgroundTaskFailure fault) old new h = same_exten
 refuses_extended test error.LinkFault old new h = absurd h
 refuses_extended test other old new h = absurd h
 
-pub goes_on_extended : (test : Entry → Bool) (Did : Setting → Lanes → Lanes → Type 0) (old new : SessionValue) → GoesOn Did old new
+pub goes_on_extended : (test : Entry → Bool) (Did : Setting → Lanes → Lanes → Type 0) (old new : SessionValue) → LanesDid Did old new
     → Extends test (past_of old.work) (past_of new.work) → Extended test old new
 goes_on_extended test Did old new h past = record {
   past = past;
   lanes = ap (λ (s : SessionValue). s.lanes) h.rest;
   options = ap (λ (s : SessionValue). s.options) h.rest;
-  version = subst (Stays old.version) (sym (ap (λ (s : SessionValue). s.version) h.rest)) (stays_same old.version);
+  version = subst (StaysThere old.version) (sym (ap (λ (s : SessionValue). s.version) h.rest)) (stays_same old.version);
 }
 
 -- where nothing but the session has changed
@@ -284,11 +284,11 @@ lets_go_extend s lane a b h =
 
 lets_idle_go_extended : (lane : ℕ) (old new : SessionValue) → LetsIdleGo lane old new → Extended (passes by_let_go (Some lane)) old new
 lets_idle_go_extended lane old new h = record {
-  past = subst (Extends (passes by_let_go (Some lane)) (past_of old.work)) (sym (ap (λ (c : Contents). c.past) h.is))
+  past = subst (Extends (passes by_let_go (Some lane)) (past_of old.work)) (sym (ap (λ (c : LanesValue). c.past) h.is))
       (extends_one _ (entry.LetGo lane) (past_of old.work) (same_lane lane));
   lanes = ap (λ (s : SessionValue). s.lanes) h.rest;
   options = ap (λ (s : SessionValue). s.options) h.rest;
-  version = subst (Stays old.version) (sym (ap (λ (s : SessionValue). s.version) h.rest)) (stays_same old.version);
+  version = subst (StaysThere old.version) (sym (ap (λ (s : SessionValue). s.version) h.rest)) (stays_same old.version);
 }
 
 lets_idle : (lane : ℕ) (old new : SessionValue) (there : Bool) → MatchBool there (LetsIdleGo lane old new) (new ≡ old)
@@ -325,7 +325,7 @@ seen_extended test old new now is given version past = record {
   past = subst (λ (s : Seen). Extends test (past_of old.work) s.stage.past) (sym is) past;
   lanes = ap (λ (s : Seen). s.given.lanes) is ∙ ap (λ (g : Given). g.lanes) given;
   options = ap (λ (s : Seen). s.given.options) is ∙ ap (λ (g : Given). g.options) given;
-  version = subst (Stays old.version) (sym (ap (λ (s : Seen). s.version) is ∙ version)) (stays_same old.version);
+  version = subst (StaysThere old.version) (sym (ap (λ (s : Seen). s.version) is ∙ version)) (stays_same old.version);
 }
 
 pub hands_extended : (p : Phase) (lane : Option ℕ) (old new : SessionValue) (bytes : Option (List ℕ))
@@ -341,7 +341,7 @@ hands_extended Failed lane old new bytes h = absurd h
 -- ---- what is taken
 
 takes_extend : (s : Setting) (body_reads : Result (Option ℕ × Reply) FrameError) (a b : Stage) (lane : Option ℕ)
-    → Takes s body_reads a b → Extends (passes by_read lane) a.past b.past
+    → TakesAndSettles s body_reads a b → Extends (passes by_read lane) a.past b.past
 takes_extend s body_reads a b lane h = extends_on _ a.past _ b.past
     (extends_one (passes by_read lane) (entry.Event (Take h.0 h.1.0)) a.past refl)
     (settles_extend _ (λ id r. refl) s _ b.past h.1.1.3)
@@ -356,14 +356,14 @@ takes_extended Greeted body_reads lane old new h = record {
   past = begins_extend h.0 new.phase (past_of old.work) (past_of new.work) lane h.1.begins;
   lanes = ap (λ (s : SessionValue). s.lanes) h.1.rest;
   options = ap (λ (s : SessionValue). s.options) h.1.rest;
-  version = subst (λ (v : Option Reply). Stays v new.version) (sym h.1.untold) tt;
+  version = subst (λ (v : Option Reply). StaysThere v new.version) (sym h.1.untold) tt;
 }
 takes_extended Queried body_reads lane old new h = record {
   past = let t = h.limited.tells in subst (Extends (passes by_read lane) (past_of old.work)) (sym t.1.1.2)
       (extends_one _ (entry.Event (Take t.0 t.1.0)) (past_of old.work) refl);
   lanes = ap (λ (s : SessionValue). s.lanes) h.rest;
   options = ap (λ (s : SessionValue). s.options) h.rest;
-  version = subst (Stays old.version) (sym (ap (λ (s : SessionValue). s.version) h.rest)) (stays_same old.version);
+  version = subst (StaysThere old.version) (sym (ap (λ (s : SessionValue). s.version) h.rest)) (stays_same old.version);
 }
 takes_extended Open body_reads lane old new h = goes_on_extended _ _ old new h
     (takes_extend (setting_at old) body_reads (stage_of old.work) (stage_of new.work) lane h.did.takes)
@@ -387,7 +387,7 @@ kept_extended test lets f old new h = record {
   past = kept_extend test lets old.work.core.fault f (past_of old.work) (past_of new.work) h.past;
   lanes = h.lanes;
   options = h.options;
-  version = subst (Stays old.version) (sym h.version) (stays_same old.version);
+  version = subst (StaysThere old.version) (sym h.version) (stays_same old.version);
 }
 
 refused_extend : (test : Entry → Bool) → LetsKeep test → (fault : Option Fault) (past now : List Entry) → now ≡ refused_past fault past → Extends test past now
@@ -399,7 +399,7 @@ refused_extended test lets e old new h = record {
   past = refused_extend test lets (fault_of e) (past_of old.work) (past_of new.work) h.past;
   lanes = ap (λ (s : SessionValue). s.lanes) h.rest;
   options = ap (λ (s : SessionValue). s.options) h.rest;
-  version = subst (Stays old.version) (sym (ap (λ (s : SessionValue). s.version) h.rest)) (stays_same old.version);
+  version = subst (StaysThere old.version) (sym (ap (λ (s : SessionValue). s.version) h.rest)) (stays_same old.version);
 }
 
 stops_either : (test : Entry → Bool) → LetsKeep test → (body_reads : Result (Option ℕ × Reply) FrameError) (e : Error) (old new : SessionValue)
@@ -519,7 +519,7 @@ gives_up_goes lane y z rest h = session_goes _ y z rest record {
   past = ([], ap (λ (s : SessionValue). past_of s.work) h, refl);
   lanes = ap (λ (s : SessionValue). s.lanes) h;
   options = ap (λ (s : SessionValue). s.options) h;
-  version = subst (Stays y.session.version) (sym (ap (λ (s : SessionValue). s.version) h)) (stays_same y.session.version);
+  version = subst (StaysThere y.session.version) (sym (ap (λ (s : SessionValue). s.version) h)) (stays_same y.session.version);
 }
 
 -- the end is settled
@@ -568,7 +568,7 @@ finishing_from y z (Err e) told stage refused = (refused.1, refused.0)
 -- ---- calls that are added
 
 sames_contents : (old new : SessionValue) → IsSame old new → past_of new.work ≡ past_of old.work
-sames_contents old new h = ap (λ (c : Contents). c.past) h.contents
+sames_contents old new h = ap (λ (c : LanesValue). c.past) h.contents
 
 pub refused_add_extended : (test : Entry → Bool) (e : Error) (old new : SessionValue) → RefusesToAdd e old new → Extended test old new
 refused_add_extended test error.OutOfMemory old new h =
@@ -577,7 +577,7 @@ refused_add_extended test error.OutOfMemory old new h =
       past = ([], sames_contents old new s, refl);
       lanes = ap (λ (x : SessionValue). x.lanes) s.rest;
       options = ap (λ (x : SessionValue). x.options) s.rest;
-      version = subst (Stays old.version) (sym (ap (λ (x : SessionValue). x.version) s.rest)) (stays_same old.version);
+      version = subst (StaysThere old.version) (sym (ap (λ (x : SessionValue). x.version) s.rest)) (stays_same old.version);
     })
     h
 refused_add_extended test (error.BackgroundTaskFailure fault) old new h = same_extended test old new h.1
@@ -586,11 +586,11 @@ refused_add_extended test other old new h = absurd h
 
 adds_call_extended : (lane : ℕ) (call : Call) (old new : SessionValue) → AddsCall lane call old new → Extended (passes by_submit (Some lane)) old new
 adds_call_extended lane call old new h = record {
-  past = subst (Extends (passes by_submit (Some lane)) (past_of old.work)) (sym (ap (λ (c : Contents). c.past) h.is))
+  past = subst (Extends (passes by_submit (Some lane)) (past_of old.work)) (sym (ap (λ (c : LanesValue). c.past) h.is))
       (extends_one _ (entry.Added lane call) (past_of old.work) (same_lane lane));
   lanes = ap (λ (x : SessionValue). x.lanes) h.rest;
   options = ap (λ (x : SessionValue). x.options) h.rest;
-  version = subst (Stays old.version) (sym (ap (λ (x : SessionValue). x.version) h.rest)) (stays_same old.version);
+  version = subst (StaysThere old.version) (sym (ap (λ (x : SessionValue). x.version) h.rest)) (stays_same old.version);
 }
 
 step_is_submit : (lane : Option ℕ) (e : Entry) → passes by_step lane e ≡ true → passes by_submit lane e ≡ true

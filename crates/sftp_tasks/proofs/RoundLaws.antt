@@ -15,10 +15,10 @@ use Rattle.sftp_tasks.specs.declared.frames.Handed.{Handed}
 use Rattle.sftp_tasks.specs.declared.locked.Locked.{Locked}
 use Rattle.sftp_tasks.specs.Entries.{by_failing, by_flush, by_nothing, by_read}
 use Rattle.sftp_tasks.specs.LockedEvents.{HandingOut, Looking, TakingFrame, Writing, tells}
-use Rattle.sftp_tasks.specs.Rounds.{Flushes, Reads, RefusesRound}
+use Rattle.sftp_tasks.specs.Rounds.{Flushes, ReadsRound, RefusesRound}
 use Rattle.sftp_tasks.specs.SessionEvents.{Refuses}
 use Rattle.sftp_tasks.specs.Shows.{shown_of}
-use Rattle.sftp_tasks.specs.Rounds.{Holds, Token}
+use Rattle.sftp_tasks.specs.Rounds.{HoldsOnce, Token}
 use Rattle.sftp_tasks.proofs.EntryLaws.{none_passes}
 
 -- ---- which entries
@@ -83,7 +83,7 @@ module _ {X Y : Type 0} {test : Entry → Bool} {needs : Allowance} {old new : L
       (hold_map shown_of m n h r.0, refl)
 
   pub look_false : {Service : Type 0} (before : LinkView Service) (did : Result Bool Error) → did ≡ Ok false
-      → Hold shown_of (Applied shown_of test needs (λ y z. Looking y z did) copied old new) m n → Reads false m n before before
+      → Hold shown_of (Applied shown_of test needs (λ y z. Looking y z did) copied old new) m n → ReadsRound false m n before before
   look_false before did is h =
       (hold_map shown_of m n h (subst (λ (x : Result Bool Error). Looking h.before h.after x) is h.did.does), refl)
 
@@ -94,14 +94,14 @@ module _ {X Y : Type 0} {test : Entry → Bool} {needs : Allowance} {old new : L
       (hold_map shown_of m n h (subst (λ (z : Locked). Refuses e h.before.session z.session) (sym r.0) r.1), refl)
 
   pub look_true : (did : Result Bool Error) → did ≡ Ok true
-      → Hold shown_of (Applied shown_of test needs (λ y z. Looking y z did) copied old new) m n → Holds (λ y z more. Looking y z (Ok true)) m n
+      → Hold shown_of (Applied shown_of test needs (λ y z. Looking y z did) copied old new) m n → HoldsOnce (λ y z more. Looking y z (Ok true)) m n
   look_true did is h = hold_map shown_of m n h (subst (λ (x : Result Bool Error). Looking h.before h.after x) is h.did.does)
 
   pub took : (frame : Received) (did r : Result (Unit {0}) Error) → did ≡ r
-      → Hold shown_of (Applied shown_of test needs (λ y z. TakingFrame frame y z did) copied old new) m n → Holds (λ y z more. TakingFrame frame y z r) m n
+      → Hold shown_of (Applied shown_of test needs (λ y z. TakingFrame frame y z did) copied old new) m n → HoldsOnce (λ y z more. TakingFrame frame y z r) m n
   took frame did r is h = hold_map shown_of m n h (subst (λ (x : Result (Unit {0}) Error). TakingFrame frame h.before h.after x) is h.did.does)
 
 pub noted : {X Y : Type 0} {frames : ℕ} {old new : List Receipt} {copied : Result X Y} (lane : Option ℕ) (m n : Token)
     → Hold shown_of (Applied shown_of (passes by_nothing lane) (tells frames) (Writing frames) copied old new) m n
-    → Holds (λ y z more. (more ≡ []) × Writing frames y z) m n
+    → HoldsOnce (λ y z more. (more ≡ []) × Writing frames y z) m n
 noted lane m n h = hold_map shown_of m n h (none_passes lane h.more h.did.goes.passes, h.did.does)

@@ -32,7 +32,7 @@ use Rattle.sftp_tasks.specs.declared.locked.Locked.{Locked}
 use Rattle.sftp_tasks.specs.declared.polls.Polled.{Polled}
 use Rattle.sftp_tasks.specs.declared.polls.Polled.TheVariants as polled
 use Rattle.sftp_tasks.specs.LockedEvents.{OfLane, Polling, Releasing}
-use Rattle.sftp_tasks.specs.Rounds.{Holds, Token}
+use Rattle.sftp_tasks.specs.Rounds.{HoldsOnce, Token}
 use Rattle.sftp_tasks.specs.SessionEvents.{AllEnded}
 use Rattle.sftp_tasks.specs.Shows.{shown_of}
 
@@ -44,19 +44,19 @@ settled (Ok a) (Err y) = Err error.OutOfMemory
 
 -- One hold, in which this was done. With Ok the seat has a receipt of each entry that was added; an Err was answered by
 -- the event itself, or a receipt is wanting.
-abbrev pub Answers : {A : Type 0} → (Locked → Locked → Result A Error → Type 0) → List Receipt → List Receipt
+abbrev pub AnswersSeat : {A : Type 0} → (Locked → Locked → Result A Error → Type 0) → List Receipt → List Receipt
     → Result A Error → Token → Token → Type 0
-Answers Does old new (Ok a) m n =
-    Holds (λ y z more. Does y z (Ok a) × (new ≡ old ++ made_on (length (shown_of y).past) more)) m n
-Answers {A} Does old new (Err e) m n =
-    Holds (λ y z more. Does y z (Err e) ⊎ ((e ≡ error.OutOfMemory) × ((a : A) × Does y z (Ok a)))) m n
+AnswersSeat Does old new (Ok a) m n =
+    HoldsOnce (λ y z more. Does y z (Ok a) × (new ≡ old ++ made_on (length (shown_of y).past) more)) m n
+AnswersSeat {A} Does old new (Err e) m n =
+    HoldsOnce (λ y z more. Does y z (Err e) ⊎ ((e ≡ error.OutOfMemory) × ((a : A) × Does y z (Ok a)))) m n
 
 -- the same of a hold whose receipts are not told
 abbrev pub InOneHold : {A : Type 0} → (Locked → Locked → Result A Error → Type 0) → Result A Error → Token → Token
     → Type 0
-InOneHold Does (Ok a) m n = Holds (λ y z more. Does y z (Ok a)) m n
+InOneHold Does (Ok a) m n = HoldsOnce (λ y z more. Does y z (Ok a)) m n
 InOneHold {A} Does (Err e) m n =
-    Holds (λ y z more. Does y z (Err e) ⊎ ((e ≡ error.OutOfMemory) × ((a : A) × Does y z (Ok a)))) m n
+    HoldsOnce (λ y z more. Does y z (Err e) ⊎ ((e ≡ error.OutOfMemory) × ((a : A) × Does y z (Ok a)))) m n
 
 -- the first new receipt is that of the call
 abbrev pub BeginsWith : ℕ → Call → List Receipt → List Receipt → Type 0
@@ -68,7 +68,7 @@ BeginsWith lane call old new =
 -- what the seat names was let go in one hold, and a user left in another
 pub record Released (lane : Option ℕ) (old new : List Receipt) (m n : Token) : Type 0 where
   pub mid : Token
-  pub lets : Answers (Releasing lane) old new (Ok true) m mid
+  pub lets : AnswersSeat (Releasing lane) old new (Ok true) m mid
   pub last : Bool
   pub leaves : Leaves shown_of last mid n
 
@@ -76,9 +76,9 @@ pub record Released (lane : Option ℕ) (old new : List Receipt) (m n : Token) :
 abbrev pub Releases : Option ℕ → List Receipt → List Receipt → Result Bool Error → Token → Token → Type 0
 Releases lane old new (Ok true) m n = Released lane old new m n × ((claim_of n).share + 1 ≡ (claim_of m).share)
 Releases lane old new (Ok false) m n =
-    Answers (Releasing lane) old new (Ok false) m n × ((claim_of n).share ≡ (claim_of m).share)
+    AnswersSeat (Releasing lane) old new (Ok false) m n × ((claim_of n).share ≡ (claim_of m).share)
 Releases lane old new (Err e) m n =
-    Answers (Releasing lane) old new (Err e) m n × ((claim_of n).share ≡ (claim_of m).share)
+    AnswersSeat (Releasing lane) old new (Err e) m n × ((claim_of n).share ≡ (claim_of m).share)
 
 -- ---- a lane that is polled until its calls have ended
 

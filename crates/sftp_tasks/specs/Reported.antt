@@ -24,8 +24,8 @@ use Rattle.sftp_tasks.specs.declared.locked.Locked.{Locked}
 use Rattle.sftp_tasks.specs.declared.report.SharedReport.{SharedReport}
 
 -- calls of its lanes can be made
-abbrev pub GoesOn : SessionValue → Type 0
-GoesOn s = (kept_in (past_of s.work) ≡ None) × (s.phase ≢ Failed)
+abbrev pub MayTakeCalls : SessionValue → Type 0
+MayTakeCalls s = (kept_in (past_of s.work) ≡ None) × (s.phase ≢ Failed)
 
 -- why none can be made any more
 abbrev pub HasStopped : Error → SessionValue → Type 0
@@ -47,7 +47,7 @@ pub record IsPrepared (s : SessionValue) (journal : Vec Entry Global) (trace : V
 
 -- calls of its lanes can be made, and this was made for its report
 abbrev pub EndsSo : SessionValue → Vec Entry Global → Vec Event Global → Type 0
-EndsSo s journal trace = GoesOn s × IsPrepared s journal trace
+EndsSo s journal trace = MayTakeCalls s × IsPrepared s journal trace
 
 -- why a session does not end: it has stopped, or memory is wanting
 abbrev pub IsRefusedFor : Error → SessionValue → Type 0

@@ -23,8 +23,8 @@ abbrev pub Token : Type 0
 Token = Me Locked View
 
 -- one hold of the locked value
-abbrev pub Holds : (Locked → Locked → List Entry → Type 0) → Token → Token → Type 0
-Holds Did m n = Hold shown_of Did m n
+abbrev pub HoldsOnce : (Locked → Locked → List Entry → Type 0) → Token → Token → Type 0
+HoldsOnce Did m n = Hold shown_of Did m n
 
 -- the fault that a session keeps where a round ends so; want of memory keeps none
 abbrev pub fault_for : Error → Option Fault
@@ -44,7 +44,7 @@ Stopping (Some fault) y z = Failing fault y z
 Stopping None y z = GivingUp y z
 
 abbrev pub Stops : Error → Token → Token → Type 0
-Stops e m n = Holds (λ y z more. Stopping (fault_for e) y z) m n
+Stops e m n = HoldsOnce (λ y z more. Stopping (fault_for e) y z) m n
 
 -- ---- a round that sends
 
@@ -53,26 +53,27 @@ pub record Flushed {Service : Type 0} (m n : Token) (before now : LinkView Servi
   pub mid : Token
   pub bytes : List ℕ
   pub frames : ℕ
-  pub hands : Holds (λ y z more. HandsOutIn y.session.phase y.session z.session (Some bytes) × Hands y z frames) m mid
+  pub hands : HoldsOnce (λ y z more. HandsOutIn y.session.phase y.session z.session (Some bytes) × Hands y z frames) m
+      mid
   pub sent : SentBy {T = Unit {0}} bytes before now (Ok tt)
-  pub notes : Holds (λ y z more. (more ≡ []) × Writing frames y z) mid n
+  pub notes : HoldsOnce (λ y z more. (more ≡ []) × Writing frames y z) mid n
 
 abbrev pub Flushes : {Service : Type 0} → Bool → Token → Token → LinkView Service → LinkView Service → Type 0
 Flushes true m n before now = Flushed m n before now
 Flushes false m n before now =
-    Holds (λ y z more. HandsOutIn y.session.phase y.session z.session None) m n × (now ≡ before)
+    HoldsOnce (λ y z more. HandsOutIn y.session.phase y.session z.session None) m n × (now ≡ before)
 
 -- what was handed out could not all be sent, and the session stops by it
 pub record Unsent {Service : Type 0} (e : Error) (m n : Token) (before now : LinkView Service) : Type 0 where
   pub mid : Token
   pub bytes : List ℕ
-  pub hands : Holds (λ y z more. HandsOutIn y.session.phase y.session z.session (Some bytes)) m mid
+  pub hands : HoldsOnce (λ y z more. HandsOutIn y.session.phase y.session z.session (Some bytes)) m mid
   pub sent : SentBy {T = Unit {0}} bytes before now (Err e)
   pub stops : Stops e mid n
 
 -- the session refused to hand out, and nothing was sent
 abbrev pub RefusesRound : {Service : Type 0} → Error → Token → Token → LinkView Service → LinkView Service → Type 0
-RefusesRound e m n before now = Holds (λ y z more. Refuses e y.session z.session) m n × (now ≡ before)
+RefusesRound e m n before now = HoldsOnce (λ y z more. Refuses e y.session z.session) m n × (now ≡ before)
 
 -- why a round that sends ended: it was refused, or could not send; or it did all, and a receipt is wanting
 abbrev pub FlushStops : {Service : Type 0} → Error → Token → Token → LinkView Service → LinkView Service → Type 0
@@ -86,20 +87,20 @@ FlushStops e m n before now =
 pub record ReadsOnce {Service : Type 0} (m n : Token) (before now : LinkView Service) : Type 0 where
   pub mid : Token
   pub frame : Received
-  pub looks : Holds (λ y z more. Looking y z (Ok true)) m mid
+  pub looks : HoldsOnce (λ y z more. Looking y z (Ok true)) m mid
   pub whole : IsWhole frame
   pub got : Told (GotAll frame.bytes) before.log now.log
   pub caused : Caused {T = Received} before now (Ok frame)
-  pub takes : Holds (λ y z more. TakingFrame frame y z (Ok tt)) mid n
+  pub takes : HoldsOnce (λ y z more. TakingFrame frame y z (Ok tt)) mid n
 
-abbrev pub Reads : {Service : Type 0} → Bool → Token → Token → LinkView Service → LinkView Service → Type 0
-Reads true m n before now = ReadsOnce m n before now
-Reads false m n before now = Holds (λ y z more. Looking y z (Ok false)) m n × (now ≡ before)
+abbrev pub ReadsRound : {Service : Type 0} → Bool → Token → Token → LinkView Service → LinkView Service → Type 0
+ReadsRound true m n before now = ReadsOnce m n before now
+ReadsRound false m n before now = HoldsOnce (λ y z more. Looking y z (Ok false)) m n × (now ≡ before)
 
 -- no whole frame was got, and the session stops by it
 pub record Unread {Service : Type 0} (e : Error) (m n : Token) (before now : LinkView Service) : Type 0 where
   pub mid : Token
-  pub looks : Holds (λ y z more. Looking y z (Ok true)) m mid
+  pub looks : HoldsOnce (λ y z more. Looking y z (Ok true)) m mid
   pub fails : Told (ReadFails e) before.log now.log
   pub caused : Caused {T = Received} before now (Err e)
   pub stops : Stops e mid n
@@ -108,13 +109,13 @@ pub record Unread {Service : Type 0} (e : Error) (m n : Token) (before now : Lin
 pub record Untaken {Service : Type 0} (e : Error) (m n : Token) (before now : LinkView Service) : Type 0 where
   pub mid : Token
   pub frame : Received
-  pub looks : Holds (λ y z more. Looking y z (Ok true)) m mid
+  pub looks : HoldsOnce (λ y z more. Looking y z (Ok true)) m mid
   pub whole : IsWhole frame
   pub got : Told (GotAll frame.bytes) before.log now.log
-  pub refuses : Holds (λ y z more. TakingFrame frame y z (Err e)) mid n
+  pub refuses : HoldsOnce (λ y z more. TakingFrame frame y z (Err e)) mid n
 
 abbrev pub ReadStops : {Service : Type 0} → Error → Token → Token → LinkView Service → LinkView Service → Type 0
 ReadStops e m n before now =
     RefusesRound e m n before now
     ⊎ (Unread e m n before now ⊎ (Untaken e m n before now
-    ⊎ ((e ≡ error.OutOfMemory) × ((did : Bool) × Reads did m n before now))))
+    ⊎ ((e ≡ error.OutOfMemory) × ((did : Bool) × ReadsRound did m n before now))))

@@ -10,7 +10,7 @@ use Rattle.sftp_tasks.specs.declared.workers.Shift.{Shift}
 use Rattle.sftp_tasks.specs.declared.workers.Shift.TheVariants.{Worked, Idle, Over}
 use Rattle.sftp_tasks.specs.Calls.{InOneHold}
 use Rattle.sftp_tasks.specs.LockedEvents.{Finishing, TellsStage}
-use Rattle.sftp_tasks.specs.Rounds.{FlushStops, Flushes, ReadStops, Reads, Token}
+use Rattle.sftp_tasks.specs.Rounds.{FlushStops, Flushes, ReadStops, ReadsRound, Token}
 
 abbrev pub is_over : Shift → Bool
 is_over Worked = false
@@ -59,13 +59,13 @@ module _ {Service : Type 0} where
   -- no reply is awaited, and then the end was settled, where it has begun and all is answered
   pub record ReadNone (r : Result Bool Error) (a b : Post Service) : Type 0 where
     pub mid : Token
-    pub none : Reads false a.0 mid a.1 b.1
+    pub none : ReadsRound false a.0 mid a.1 b.1
     pub looks : InOneHold Finishing r mid b.0
 
   -- A round that took a frame; or one that did not, and the worker has nothing to do, or ends where all is answered.
   abbrev pub ReadShift : Result Shift Error → Post Service → Post Service → Type 0
   ReadShift (Ok shift) a b =
-      ((shift ≡ Worked) × Reads true a.0 b.0 a.1 b.1)
+      ((shift ≡ Worked) × ReadsRound true a.0 b.0 a.1 b.1)
       ⊎ ((all : Bool) × ((shift ≡ over_if all) × ReadNone (Ok all) a b))
   ReadShift (Err e) a b = ReadStops e a.0 b.0 a.1 b.1 ⊎ ReadNone (Err e) a b
 

@@ -3,7 +3,7 @@ ghost use Rattle.std.specs.Prelude.{◌≡◌, IfErr, IfOk, OnOk};
 ghost use Rattle.session_model.specs.Readings.{unanswered};
 ghost use Rattle.session_work.specs.Working.{past_of};
 ghost use Rattle.sftp_tasks.specs.LockedEvents.{at_end, is_answered};
-ghost use Rattle.sftp_tasks.specs.Reported.{GoesOn};
+ghost use Rattle.sftp_tasks.specs.Reported.{MayTakeCalls};
 ghost use Rattle.sftp_tasks.specs.SessionEvents.{Refuses};
 
 use crate::locked::Locked;
@@ -13,7 +13,7 @@ use sftp_model::Error;
 impl Locked {
     /// Nothing, while calls of the lanes can be made. Errors as of `step`.
     pub fn check(&self) -> Result<(), Error>
-        ensures goes { OnOk result (GoesOn self.now.session) }
+        ensures goes { OnOk result (MayTakeCalls self.now.session) }
         ensures refused { IfErr result (λ e. Refuses e self.now.session self.now.session) }
     {
         if let Some(fault) = self.session.fault() {

@@ -1,7 +1,7 @@
 //! A lane that is polled until its calls have ended.
 ghost use Rattle.std.specs.Prelude.{◌≡◌, Ok, IfErr, IfOk, IfSome};
 ghost use Rattle.session_seats.specs.Holds.{Grew, claim_of, sight_by};
-ghost use Rattle.sftp_tasks.specs.Calls.{Answers, InOneHold, PollsSeat, PollsUntil, SeesEnded, calls_in, is_ended};
+ghost use Rattle.sftp_tasks.specs.Calls.{AnswersSeat, InOneHold, PollsSeat, PollsUntil, SeesEnded, calls_in, is_ended};
 ghost use Rattle.sftp_tasks.specs.Entries.{by_step};
 ghost use Rattle.sftp_tasks.specs.SessionEvents.{AllEnded, PollsIn, Refuses, polled_of};
 ghost use Rattle.session_work.specs.Working.{past_of};

@@ -2,7 +2,7 @@
 ghost use Rattle.std.specs.Prelude.{◌≡◌, ◌<◌, ◌-◌, ◌^◌, None, Some, IfErr, IfNone, IfOk, IfSome};
 ghost use Rattle.session_seats.specs.Holds.{Grew, claim_of};
 ghost use Rattle.sftp_tasks.specs.Entries.{by_failing, by_flush, by_read};
-ghost use Rattle.sftp_tasks.specs.Rounds.{FlushStops, Flushes, ReadStops, Reads, Stops, fault_for};
+ghost use Rattle.sftp_tasks.specs.Rounds.{FlushStops, Flushes, ReadStops, ReadsRound, Stops, fault_for};
 
 use crate::events::{Fail, GiveUp, HandOut, MayRead, TakeFrame, Written};
 use crate::frames::Handed;
@@ -96,7 +96,7 @@ pub fn read_round<I: LinkIn, R: Wait>(
     requires count { (I.LinkState.state input.old).faults < 2 ^ 64 - 1 }
     ensures own { (seat.new.inner.table_id ≡ seat.old.inner.table_id) × (seat.new.lane ≡ seat.old.lane) }
     ensures only { Grew (by_read seat.old.lane) (claim_of seat.old.inner.me) (claim_of seat.new.inner.me) }
-    ensures reads { IfOk result (λ did. Reads did seat.old.inner.me seat.new.inner.me (I.LinkState.state input.old) (I.LinkState.state input.new)) }
+    ensures reads { IfOk result (λ did. ReadsRound did seat.old.inner.me seat.new.inner.me (I.LinkState.state input.old) (I.LinkState.state input.new)) }
     ensures stops { IfErr result (λ e. ReadStops e seat.old.inner.me seat.new.inner.me (I.LinkState.state input.old) (I.LinkState.state input.new)) }
 {
     let (may, looked) = seat.apply(rt, shared.alloc, &shared.shared, MayRead);

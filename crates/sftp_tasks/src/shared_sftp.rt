@@ -5,10 +5,10 @@ ghost use Rattle.session_seats.specs.Holds.{Grew, IsFresh, at_first, claim_of};
 ghost use Rattle.session_seats.specs.NewSeats.{Gives, GivesLane, HasNone};
 ghost use Rattle.session_seats.specs.Rules.{home};
 ghost use Rattle.session_seats.specs.Sights.{made};
-ghost use Rattle.sftp_tasks.specs.Calls.{Answers, BeginsWith, Releases, settled};
+ghost use Rattle.sftp_tasks.specs.Calls.{AnswersSeat, BeginsWith, Releases, settled};
 ghost use Rattle.sftp_tasks.specs.Entries.{by_cancel, by_let_go, by_nothing, by_submit};
 ghost use Rattle.sftp_tasks.specs.LockedEvents.{Cancelling, GivingUp, OfLane, Submitting};
-ghost use Rattle.sftp_tasks.specs.Rounds.{Holds};
+ghost use Rattle.sftp_tasks.specs.Rounds.{HoldsOnce};
 ghost use Rattle.sftp_tasks.specs.Shows.{shown_of};
 
 use crate::copies::copies_of;
@@ -114,7 +114,7 @@ impl SharedSftp {
         ensures own { (seat.new.inner.table_id ≡ seat.old.inner.table_id) × (seat.new.lane ≡ seat.old.lane)
             × ((claim_of seat.old.inner.me).share ≤ (claim_of seat.new.inner.me).share) }
         ensures only { Grew (by_submit seat.old.lane) (claim_of seat.old.inner.me) (claim_of seat.new.inner.me) }
-        ensures answers { Answers (OfLane (Submitting call) (Ok false) seat.old.lane) seat.old.receipts.items seat.new.receipts.items
+        ensures answers { AnswersSeat (OfLane (Submitting call) (Ok false) seat.old.lane) seat.old.receipts.items seat.new.receipts.items
             result seat.old.inner.me seat.new.inner.me }
         ensures first { IfOk result (λ did. did ≡ true → IfSome seat.old.lane (λ lane. BeginsWith lane call seat.old.receipts.items seat.new.receipts.items)) }
     {
@@ -128,7 +128,7 @@ impl SharedSftp {
         ensures own { (seat.new.inner.table_id ≡ seat.old.inner.table_id) × (seat.new.lane ≡ seat.old.lane)
             × ((claim_of seat.old.inner.me).share ≤ (claim_of seat.new.inner.me).share) }
         ensures only { Grew (by_cancel seat.old.lane) (claim_of seat.old.inner.me) (claim_of seat.new.inner.me) }
-        ensures answers { Answers (OfLane Cancelling (Ok false) seat.old.lane) seat.old.receipts.items seat.new.receipts.items
+        ensures answers { AnswersSeat (OfLane Cancelling (Ok false) seat.old.lane) seat.old.receipts.items seat.new.receipts.items
             result seat.old.inner.me seat.new.inner.me }
     {
         let (did, copied) = seat.apply(rt, self.alloc, &self.shared, CancelCall);
@@ -161,7 +161,7 @@ impl SharedSftp {
         requires own { seat.old.inner.table_id ≡ self.now.shared.table.shared.table_id }
         ensures own { (seat.new.inner.table_id ≡ seat.old.inner.table_id) × (seat.new.lane ≡ seat.old.lane) }
         ensures only { Grew (by_nothing seat.old.lane) (claim_of seat.old.inner.me) (claim_of seat.new.inner.me) }
-        ensures gives_up { Holds (λ y z more. GivingUp y z) seat.old.inner.me seat.new.inner.me }
+        ensures gives_up { HoldsOnce (λ y z more. GivingUp y z) seat.old.inner.me seat.new.inner.me }
     {
         let _ = seat.apply(rt, self.alloc, &self.shared, GiveUp);
     }

@@ -11,8 +11,8 @@ use Rattle.sftp_transfer.specs.declared.ended.Text.TheVariants as text
 abbrev pub Asking : Type 0
 Asking = LinkWord × WorkWords
 
--- A text was written, or could not be; the words were refused; the local side let the work begin, or not; or the work was
--- done over a link, and came to this.
+-- A text was written, or could not be; the words were refused; the local side let the work begin, or not; or the work
+-- was done over a link, and came to this.
 pub data OutsideAct : Type 0 where
   Wrote : Text → Bool → OutsideAct
   Refused : OutsideAct

@@ -14,7 +14,7 @@ use Rattle.session_model.specs.Calls.{added, calls_of}
 use Rattle.session_model.specs.Readings.{outcomes_of}
 use Rattle.session_model.specs.Turns.{Stage}
 use Rattle.session_driver.specs.Adding.{call_of, with_call}
-use Rattle.session_driver.specs.Logs.{Keeps}
+use Rattle.session_driver.specs.Logs.{KeepsTrace}
 use Rattle.session_driver.specs.Ongoing.{At, Ongoing, at}
 use Rattle.session_driver.specs.Session.{IsLater, IsUnmoved}
 use Rattle.session_driver.proofs.Joining.{no_memory, quiet}
@@ -66,7 +66,7 @@ module _ {S : Type 0} where
         later = subst (λ (p : List Entry). IsLater (seen_of old).setting (seen_of old).stage.past p) (sym past)
             (later_self (seen_of old).setting (seen_of old).stage.past);
       })
-      (λ log. subst (λ (p : List Entry). Keeps (seen_of old).stage.past p log log) (sym past) (λ hello first shown. shown)) idle.ready)
+      (λ log. subst (λ (p : List Entry). KeepsTrace (seen_of old).stage.past p log log) (sym past) (λ hello first shown. shown)) idle.ready)
       (idle_still old mid link idle s) past
 
   pub call_ok : (c : Call) (old mid : SessionValue) (link : LinkView S) → IsIdle (at (seen_of old) link) → MayDo (makes c) (seen_of old).stage.past

@@ -11,14 +11,14 @@ use Rattle.session_model.specs.Journals.{IsJournal}
 use Rattle.session_model.specs.Readings.{outcomes_of, unanswered, was_let_go}
 use Rattle.session_model.specs.Runs.{LetsGoTo}
 use Rattle.session_model.specs.Turns.{Stage}
-use Rattle.session_driver.specs.Logs.{Keeps as LogKeeps}
+use Rattle.session_driver.specs.Logs.{KeepsTrace as LogKeeps}
 use Rattle.session_driver.specs.Ongoing.{At, Ongoing, at, draining, lanes_go}
 use Rattle.session_driver.specs.Session.{IsLater, IsUnmoved}
 use Rattle.session_driver.proofs.Joining.{as_part, join, no_memory, quiet, setting_stays}
 use Rattle.session_driver.proofs.Journals.{later_self}
 use Rattle.sftp_lanes.specs.Seen.{SessionValue, seen_of}
 use Rattle.view_model.specs.Uncancelled.{IsUncancelled}
-use Rattle.sftp_view.specs.Closing.{Closes}
+use Rattle.sftp_view.specs.Closing.{ClosesOrStops}
 use Rattle.sftp_view.specs.Doings.{IsIdle, going_on}
 use Rattle.sftp_view.specs.IdleSteps.{StepsIdly}
 use Rattle.sftp_view.proofs.DrainLaws.{Keeps, drains_keep, let_go_keeps}
@@ -75,15 +75,15 @@ module _ {S : Type 0} where
   joined : (a b c : At S) → Ongoing lanes_go a b (Ok tt) → {result : Result (Unit {0}) Error} → Ongoing draining b c result → Ongoing going_on a c result
   joined a b c first second = join (λ u v. tt) (λ u past v. tt) first second
 
-  pub go_stopped : (a b : At S) (e : Error) → Ongoing lanes_go a b (Err e) → Closes a b (Err e)
+  pub go_stopped : (a b : At S) (e : Error) → Ongoing lanes_go a b (Err e) → ClosesOrStops a b (Err e)
   go_stopped a b e part = record { ongoing = as_part (λ whole. tt) (λ past so_far. tt) part; closed = tt }
 
-  pub drain_stopped : (a b c : At S) (e : Error) → Ongoing lanes_go a b (Ok tt) → Ongoing draining b c (Err e) → Closes a c (Err e)
+  pub drain_stopped : (a b c : At S) (e : Error) → Ongoing lanes_go a b (Ok tt) → Ongoing draining b c (Err e) → ClosesOrStops a c (Err e)
   drain_stopped a b c e first second = record { ongoing = joined a b c first second; closed = tt }
 
   -- no memory was there for the last step
   pub close_lost : (a b : At S) (old new : SessionValue) (link : LinkView S) → Ongoing lanes_go a b (Ok tt) → Ongoing draining b (at (seen_of old) link) (Ok tt)
-      → IsUnmoved (seen_of old) (seen_of new) → Closes a (at (seen_of new) link) (Err error.OutOfMemory)
+      → IsUnmoved (seen_of old) (seen_of new) → ClosesOrStops a (at (seen_of new) link) (Err error.OutOfMemory)
   close_lost a b old new link first second left = record {
     ongoing = join {r = going_on} (λ u v. tt) (λ u past v. tt) (joined a b (at (seen_of old) link) first second)
         (no_memory going_on (seen_of old) (seen_of new) link tt left);
@@ -97,7 +97,7 @@ module _ {S : Type 0} where
       ap (λ (s : Setting). current s c.seen.stage.past 0) same ∙ (drained a b c idle first second).done
 
   pub closed_by : (a b : At S) (old new : SessionValue) (link : LinkView S) → IsIdle a → Ongoing lanes_go a b (Ok tt)
-      → Ongoing draining b (at (seen_of old) link) (Ok tt) → StepsIdly old new → Closes a (at (seen_of new) link) (Ok tt)
+      → Ongoing draining b (at (seen_of old) link) (Ok tt) → StepsIdly old new → ClosesOrStops a (at (seen_of new) link) (Ok tt)
   closed_by a b old new link idle first second s =
       let c : At S = at (seen_of old) link in
       let d : At S = at (seen_of new) link in

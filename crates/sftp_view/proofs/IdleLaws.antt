@@ -16,8 +16,8 @@ use Rattle.session_driver.specs.declared.session.Stepped.{Stepped}
 use Rattle.session_driver.specs.Ongoing.{at}
 use Rattle.session_driver.specs.Session.{StepsTo}
 use Rattle.session_driver.proofs.Joining.{phase_stays, setting_stays}
-use Rattle.session_work.specs.Working.{Steps, past_of, stage_of}
-use Rattle.sftp_lanes.specs.Events.{GoesOn, StepsIn}
+use Rattle.session_work.specs.Working.{StepsLane, past_of, stage_of}
+use Rattle.sftp_lanes.specs.Events.{LanesDid, StepsIn}
 use Rattle.sftp_lanes.specs.Seen.{SessionValue, seen_of, setting_at}
 use Rattle.sftp_lanes.proofs.Shown.{stays}
 use Rattle.sftp_view.specs.Doings.{IsIdle}
@@ -33,10 +33,10 @@ stays_put s before now m event none steps =
 pub steps_idly : (old new : SessionValue) (event : Stepped) → old.phase ≡ Open → current (setting_at old) (past_of old.work) 0 ≡ None
     → StepsIn old.phase 0 old new event → StepsIdly old new
 steps_idly old new event opened none steps =
-    let g : GoesOn (λ s before after. Steps s 0 before after event) old new = subst (λ (p : Phase). StepsIn p 0 old new event) opened steps in
+    let g : LanesDid (λ s before after. StepsLane s 0 before after event) old new = subst (λ (p : Phase). StepsIn p 0 old new event) opened steps in
     let lanes : new.lanes ≡ old.lanes = ap (λ (s : SessionValue). s.lanes) g.rest in
     record {
-      stays = stays (λ s before after. Steps s 0 before after event) old new g;
+      stays = stays (λ s before after. StepsLane s 0 before after event) old new g;
       same = stays_put (setting_at old) (stage_of old.work) (stage_of new.work) (move_of (setting_at old) (past_of old.work) 0) event
           (no_move (setting_at old) (past_of old.work) none) g.did.steps;
       count = g.did.working.stands.lanes ∙ ap length (sym lanes);

@@ -24,7 +24,7 @@ use Rattle.sftp_link.specs.Told.{Told}
 use Rattle.sftp_wire.specs.FrameReader.{fault_of, missing}
 use Rattle.session_model.specs.declared.entry.Entry.{Entry}
 use Rattle.session_model.specs.Journals.{IsJournal, MayReply, goes_on, is_read}
-use Rattle.session_model.specs.Readings.{Asked, asked_at, awaited, awaiting, sent}
+use Rattle.session_model.specs.Readings.{AskedRequest, asked_at, awaited, awaiting, sent}
 use Rattle.session_model.specs.Settings.{setting_of}
 use Rattle.session_model.proofs.RequestLaws.{is_awaiting}
 use Rattle.session_exchange.specs.Causes.{Cause, IsUnsent}
@@ -57,7 +57,7 @@ goes_fine x r e = refl
 lt_true : (n m : ℕ) → n < m → nat_lt n m ≡ true
 lt_true n m h = grind (arith, nat_tests)
 
-reply_fine : (a : Option Asked) (id : ℕ) (r : Reply) → MayReply a r → refuses_reply id r a ≡ None
+reply_fine : (a : Option AskedRequest) (id : ℕ) (r : Reply) → MayReply a r → refuses_reply id r a ≡ None
 reply_fine None id r m = absurd m
 reply_fine (Some a) id r m = rw m.0 (goes_fine (expected_of a.request) r m.1)
 

@@ -27,7 +27,7 @@ use Rattle.sftp_link.specs.declared.piece.Piece.{Piece}
 use Rattle.sftp_lanes.specs.Complete.{StopsForMemory}
 use Rattle.sftp_lanes.specs.Seen.{given}
 use Rattle.sftp_script.specs.declared.script.Script.{Script}
-use Rattle.sftp_map_server.specs.Serving.{Desk, IsServed, IsServing, Server, Serving, first_desk, opened, server_view}
+use Rattle.sftp_map_server.specs.Serving.{ServerState, IsServed, IsServing, Server, Serving, first_state, opened, server_view}
 use Rattle.sftp_map_server.specs.Unopened.{IsUnopened, unopened}
 use Rattle.map_server_laws.proofs.Numbering.{numbered_by}
 use Rattle.map_server_laws.proofs.Owing.{due}
@@ -60,32 +60,32 @@ all_codes : (choices : List Choice) → All (λ choice. FitsNumber choice.refuse
 all_codes [] h = tt
 all_codes (c ∷ choices) h = (h 0 c (omega arith), all_codes choices (λ k d lt. h (suc k) d (omega (arith, lt))))
 
-begins_well : (first : Server) → IsUnopened first → IsWellFormed first.desk.machine.tree
-begins_well first u = subst (λ (x : Server). IsWellFormed x.desk.machine.tree) (sym u.is) (first_well_formed u.files u.dirs u.may)
+begins_well : (first : Server) → IsUnopened first → IsWellFormed first.state.machine.tree
+begins_well first u = subst (λ (x : Server). IsWellFormed x.state.machine.tree) (sym u.is) (first_well_formed u.files u.dirs u.may)
 
-first_is : (first : Server) → IsUnopened first → IsFirst first.desk
+first_is : (first : Server) → IsUnopened first → IsFirst first.state
 first_is first new =
-    let d : Desk = first_desk new.files new.dirs first.desk.machine.config first.desk.choices in
-    let is : first.desk ≡ d = ap (λ (w : Server). w.desk) new.is in
+    let d : ServerState = first_state new.files new.dirs first.state.machine.config first.state.choices in
+    let is : first.state ≡ d = ap (λ (w : Server). w.state) new.is in
     record {
-      fresh = ap (λ (w : Desk). w.greeted) is;
+      fresh = ap (λ (w : ServerState). w.greeted) is;
       good = record {
         greeted = refl;
-        still = ap (λ (w : Desk). w.over) is;
-        codes = all_codes first.desk.choices new.fits.codes;
+        still = ap (λ (w : ServerState). w.over) is;
+        codes = all_codes first.state.choices new.fits.codes;
         limits = new.fits.limits;
-        fit = subst (λ (w : Desk). IsFit w.machine.tree) (sym is) (first_fits new.files new.dirs new.may);
+        fit = subst (λ (w : ServerState). IsFit w.machine.tree) (sym is) (first_fits new.files new.dirs new.may);
       };
       known = new.fits.known;
     }
 
--- its log is that of a server from this desk on
+-- its log is that of a server from this state on
 served_from : (server : Serving) (new : IsUnopened server.first)
     → IsServing server.first server.now server.log server.ended
-    → IsServed (opened server.first.desk server.first.output.picks) server.log server.now
+    → IsServed (opened server.first.state server.first.output.picks) server.log server.now
 served_from server new serving =
-    let here : server.first ≡ opened server.first.desk server.first.output.picks =
-    new.is ∙ ap (λ (d : Desk). opened d server.first.output.picks) (sym (ap (λ (w : Server). w.desk) new.is)) in
+    let here : server.first ≡ opened server.first.state server.first.output.picks =
+    new.is ∙ ap (λ (d : ServerState). opened d server.first.output.picks) (sym (ap (λ (w : Server). w.state) new.is)) in
     subst (λ (w : Server). IsServed w server.log server.now) here serving.served
 
 -- ---- a session
@@ -117,19 +117,19 @@ served_view size ops options old now r may new none same serving report =
     let shown : Shows (greeting report.extensions) past [] now.log =
     from_empty (Shows (greeting report.extensions) past) old.log now.log none report.log in
     let first = first_is now.first fresh in
-    let f : Desk = now.first.desk in
+    let f : ServerState = now.first.state in
     let picks : List ℕ = now.first.output.picks in
     let served = served_from now fresh serving in
     let few = few_called s past refl report.run (few_viewed size.block size.capacity ops past may report.calls) in
     let sound = sound_at one_lane options report.extensions f picks past now.log now.now first refl report.run shown served in
-    let d : Desk = greeted_at f in
+    let d : ServerState = greeted_at f in
     let o = shows_served s f picks (greeting report.extensions) past now.log now.now first report.run sound shown served in
-    let empty : d.machine.grants ≡ 0 = ap (λ (w : Server). w.desk.machine.grants) fresh.is in
-    let closed : d.machine.tree.handles ≡ [] = ap (λ (w : Server). w.desk.machine.tree.handles) fresh.is in
+    let empty : d.machine.grants ≡ 0 = ap (λ (w : Server). w.state.machine.grants) fresh.is in
+    let closed : d.machine.tree.handles ≡ [] = ap (λ (w : Server). w.state.machine.tree.handles) fresh.is in
     let by : (p : ℕ) → AnswersBy (answer past p) (due d past p) = λ p. answers_by d past p o.due in
-    let serves : Serves f.machine.config f.choices f.machine.tree past now.now.desk.machine.tree =
-    subst (λ (w : Desk). Serves f.machine.config f.choices f.machine.tree past w.machine.tree)
-    (sym o.owes.desk) (serves_by d past empty closed sound by few) in
+    let serves : Serves f.machine.config f.choices f.machine.tree past now.now.state.machine.tree =
+    subst (λ (w : ServerState). Serves f.machine.config f.choices f.machine.tree past w.machine.tree)
+    (sym o.owes.state) (serves_by d past empty closed sound by few) in
     record {
       extensions = report.extensions;
       past = past;
@@ -146,7 +146,7 @@ served_view size ops options old now r may new none same serving report =
       answers = report.answers;
       hits = report.hits;
       misses = report.misses;
-      plain = λ unrefused. report.plain f.machine.config f.choices f.machine.tree now.now.desk.machine.tree unrefused (begins_well now.first fresh) serves;
+      plain = λ unrefused. report.plain f.machine.config f.choices f.machine.tree now.now.state.machine.tree unrefused (begins_well now.first fresh) serves;
     }
 
 -- the error is want of memory
@@ -162,14 +162,14 @@ only_for_memory options old now e new none same serving stops =
 -- a report that a text was made of, over a server that is kept
 abbrev ViewText : CacheSize → List ViewOp → SftpOptions → Serving → List ℕ → Type 0
 ViewText size ops options now text = (report : ViewReport) × IsServedView size ops options now report
-    × (text ≡ view_text report now.now.desk.machine.tree)
+    × (text ≡ view_text report now.now.state.machine.tree)
 
 -- the server of a script's files and directories is the script's
 first_of : (script : Script) (files : List FirstFile) (dirs : List (List ℕ)) (old : Serving) → files ≡ script.files
     → dirs ≡ script.dirs → old ≡ unopened files dirs script.server script.choices script.picks → IsServerOf script old
 first_of script files dirs old f d is =
     ap (λ (s : Serving). s.first) is
-    ∙ (λ i. opened (first_desk (f i) (d i) script.server script.choices) script.picks)
+    ∙ (λ i. opened (first_state (f i) (d i) script.server script.choices) script.picks)
 
 is_unrefused : (choice : Choice) → refuses_nothing choice ≡ true → choice.refuse ≡ SSH_FX_OK
 is_unrefused choice e = grind (arith, nat_tests)
@@ -198,7 +198,7 @@ viewed_if size list (Some now) files dirs ops old (Ok text) can f d o is same ru
       is_kept = refl;
       first = first;
       plain = run_now.1.plain
-          (subst RefuseNone (sym (ap (λ (w : Server). w.desk.choices) first)) (unrefused list.script.choices can.unrefused));
+          (subst RefuseNone (sym (ap (λ (w : Server). w.state.choices) first)) (unrefused list.script.choices can.unrefused));
       report = run_now.0;
       run = run_now.1;
       is = run_now.2;

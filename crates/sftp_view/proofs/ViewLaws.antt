@@ -71,7 +71,7 @@ use Rattle.view_laws.specs.Plainly.{IsPlainThere}
 use Rattle.view_laws.proofs.PlainLaws.{view_plainly}
 use Rattle.sftp_view.specs.declared.ops.View.{View}
 use Rattle.sftp_lanes.specs.Seen.{seen_of}
-use Rattle.sftp_view.specs.Closing.{Closes}
+use Rattle.sftp_view.specs.Closing.{ClosesOrStops}
 use Rattle.sftp_view.specs.Doings.{Does, IsIdle, MayDo, going_on, one_lane}
 use Rattle.sftp_view.specs.Operations.{MayRunAll, done_by, left_by, most}
 use Rattle.view_model.specs.Caches.{CacheValue}
@@ -229,7 +229,7 @@ module _ {S : Type 0} where
 
   pub close_stopped : (block capacity : ℕ) (ops : List ViewOp) (before a b c : At S) (kept : Kept (List ℕ)) (e : Error) {u v : Unit {0}}
       → IsOpened before.seen.given a.seen → Told (Showing a.seen.version a.seen.stage.past) before.link.log a.link.log → Caused before.link a.link (Ok u)
-      → Ongoing going_on a b (Ok v) → Closes b c (Err e) → Views block capacity ops before c kept (Err e)
+      → Ongoing going_on a b (Ok v) → ClosesOrStops b c (Err e) → Views block capacity ops before c kept (Err e)
   close_stopped block capacity ops before a b c kept e opened shows caused first second =
       view_stopped block capacity ops before a c kept e opened shows caused (join {r = going_on} (λ u v. tt) (λ u past v. tt) first second.ongoing)
 
@@ -242,7 +242,7 @@ module _ {S : Type 0} where
       → IsOpened before.seen.given (seen_of mid.session) → before.seen.given.lanes ≡ one_lane
       → Told (Showing (seen_of mid.session).version (seen_of mid.session).stage.past) before.link.log y.log → Caused before.link y (Ok u)
       → mid.cache.kept ≡ nothing_kept → Works (done_by ops mid) (λ l. left_by l new) (most ops) mid y new z (Ok answers)
-      → Closes (at (seen_of new.session) z) c (Ok tt) → MayView mid.block mid.cache.capacity ops
+      → ClosesOrStops (at (seen_of new.session) z) c (Ok tt) → MayView mid.block mid.cache.capacity ops
       → Views mid.block mid.cache.capacity ops before c new.cache.kept (Ok answers)
   view_done ops before mid new c y z answers {u = u} opened one shows caused none work closes may =
       let a : At S = at (seen_of mid.session) y in

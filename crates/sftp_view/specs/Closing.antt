@@ -17,6 +17,6 @@ pub record IsClosed {Service : Type 0} (before now : At Service) : Type 0 where
   pub uncancelled : IsUncancelled before.seen.stage.past → IsUncancelled now.seen.stage.past
 
 -- a session was ended, or it stopped
-pub record Closes {Service : Type 0} (before now : At Service) (result : Result (Unit {0}) Error) : Type 0 where
+pub record ClosesOrStops {Service : Type 0} (before now : At Service) (result : Result (Unit {0}) Error) : Type 0 where
   pub ongoing : Ongoing going_on before now result
   pub closed : OnOk result (IsClosed before now)

@@ -2,14 +2,14 @@
 use Rattle.std.specs.Prelude.{◌≡◌, ◌++◌, ℕ, None, length, slice_get}
 use Rattle.session_model.specs.Calls.{added, calls_of}
 use Rattle.session_model.specs.Grants.{orphan}
-use Rattle.session_driver.specs.Session.{Stays}
+use Rattle.session_driver.specs.Session.{StaysInPhase}
 use Rattle.session_work.specs.Working.{past_of}
 use Rattle.sftp_lanes.specs.Seen.{SessionValue, seen_of, setting_at}
 
 -- Nothing has happened. The calls of each lane are those that were handed in, and then those that were added; and no
 -- grant is to be closed.
 pub record StepsIdly (old new : SessionValue) : Type 0 where
-  pub stays : Stays (seen_of old) (seen_of new)
+  pub stays : StaysInPhase (seen_of old) (seen_of new)
   pub same : (seen_of new).stage ≡ (seen_of old).stage
   pub count : length new.work.calls ≡ length new.lanes
   pub each : (lane : ℕ) → calls_of (slice_get new.work.calls lane)

@@ -35,16 +35,16 @@ pub record IsServedView (size : CacheSize) (ops : List ViewOp) (options : SftpOp
   pub past : List Entry
   pub run : IsJournal (setting_of one_lane options extensions past) past
   pub over : IsOver (setting_of one_lane options extensions past) past
-  pub version : greeting extensions ≡ version_reply server.first.desk.machine.config
+  pub version : greeting extensions ≡ version_reply server.first.state.machine.config
   pub shown : Shows (greeting extensions) past [] server.log
-  pub served : IsServedRun server.first past server.now.desk.machine.tree
+  pub served : IsServedRun server.first past server.now.state.machine.tree
   pub calls : added past 0 ≡ (done_in size.block size.capacity ops past).calls
   pub answers : report.answers ≡ (done_in size.block size.capacity ops past).value.answers
   pub hits : report.hits ≡ (done_in size.block size.capacity ops past).value.kept.hits
   pub misses : report.misses ≡ (done_in size.block size.capacity ops past).value.kept.misses
-  pub plain : RefuseNone server.first.desk.choices → IsPlain size.block size.capacity
-      (setting_of one_lane options extensions past).facts.write_len ops server.first.desk.machine.tree
-      server.now.desk.machine.tree report.answers report.hits report.misses
+  pub plain : RefuseNone server.first.state.choices → IsPlain size.block size.capacity
+      (setting_of one_lane options extensions past).facts.write_len ops server.first.state.machine.tree
+      server.now.state.machine.tree report.answers report.hits report.misses
 
 -- ---- the text
 
@@ -62,5 +62,5 @@ pub record IsViewed (size : CacheSize) (kept : Option Serving) (list : ViewList)
   pub run : IsServedView size list.ops list.script.options server report
   pub plain : IsPlain size.block size.capacity
       (setting_of one_lane list.script.options run.extensions run.past).facts.write_len list.ops
-      server.first.desk.machine.tree server.now.desk.machine.tree report.answers report.hits report.misses
-  pub is : text ≡ view_text report server.now.desk.machine.tree
+      server.first.state.machine.tree server.now.state.machine.tree report.answers report.hits report.misses
+  pub is : text ≡ view_text report server.now.state.machine.tree

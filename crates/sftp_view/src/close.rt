@@ -2,7 +2,7 @@
 ghost use Rattle.session_driver.specs.Ongoing.{at};
 ghost use Rattle.sftp_lanes.specs.Seen.{seen_of};
 ghost use Rattle.sftp_view.specs.Doings.{IsIdle};
-ghost use Rattle.sftp_view.specs.Closing.{Closes};
+ghost use Rattle.sftp_view.specs.Closing.{ClosesOrStops};
 
 use crate::call::step_idly;
 use session_driver::{drain, let_go_lanes};
@@ -18,7 +18,7 @@ pub(crate) fn close_session<L: Link>(
     link: &mut L,
 ) -> Result<(), Error>
     requires { IsIdle (at (seen_of session.old) (L.LinkState.state link.old)) }
-    ensures { Closes (at (seen_of session.old) (L.LinkState.state link.old)) (at (seen_of session.new) (L.LinkState.state link.new)) result }
+    ensures { ClosesOrStops (at (seen_of session.old) (L.LinkState.state link.old)) (at (seen_of session.new) (L.LinkState.state link.new)) result }
 {
     let_go_lanes(session, link)?;
     drain(alloc, session, link)?;

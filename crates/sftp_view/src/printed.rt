@@ -58,7 +58,7 @@ fn view_served(
 
 /// What each operation was answered, the hits and misses, and the files and directories that a server has.
 fn view_text(alloc: Global, report: &ViewReport, server: &MapServer) -> Result<Vec<u8>, OutOfMemory>
-    ensures { IfOk result (λ text. text.items ≡ view_text report.now server.now.now.desk.machine.tree) }
+    ensures { IfOk result (λ text. text.items ≡ view_text report.now server.now.now.state.machine.tree) }
 {
     let mut text = Vec::new(alloc);
     write_view(
@@ -88,7 +88,7 @@ fn text_over(
     requires quiet { server.log ≡ [] }
     ensures text { IfOk result (λ text. IsSomeAnd kept.new (λ now. (report : ViewReport)
         × IsServedView size ops.now options.now now report
-        × (text.items ≡ view_text report now.now.desk.machine.tree))) }
+        × (text.items ≡ view_text report now.now.state.machine.tree))) }
     ensures kept { IsSomeAnd kept.new (λ now. now.first ≡ server.first) }
 {
     let text = match view_served(alloc, &mut server, size, ops, options) {

@@ -60,7 +60,7 @@ use Rattle.call_state.specs.declared.poll.Poll.TheVariants.{Pending, Ready}
 use Rattle.call_state.specs.declared.stage.Stage.{Stage}
 use Rattle.call_state.specs.Asked.{IsReady, Submitted}
 use Rattle.call_state.specs.Calls.{CallValue, IsOver, IsUnderWay, IsUnfinished, Polled, Stepped, Tells, cancelled, is_ended, polled_core}
-use Rattle.call_state.specs.Keeping.{Keeps, KeepsGrants}
+use Rattle.call_state.specs.Keeping.{KeepsHeld, KeepsGrants}
 use Rattle.call_state.proofs.Going.{unfinished_by}
 use Rattle.call_state.proofs.Keeping.{grants_both, still_under_way, polled_keeps_grants, submitted_holds, submitted_keeps}
 use Rattle.sftp_fs.specs.Directories.{WithHandle, granted_left}
@@ -412,7 +412,7 @@ drops_open core new grant reads tickets held close =
 
 -- ---- others leave a read
 
-pub read_still : (old new : Core) (p : Whole) → Keeps old new → IsReadHeld old p → IsReadHeld new p
+pub read_still : (old new : Core) (p : Whole) → KeepsHeld old new → IsReadHeld old p → IsReadHeld new p
 read_still old new whole.Ended k h = tt
 read_still old new (whole.Opening call facts) k h = (still_under_way granting old new call k h.0, h.1)
 read_still old new (whole.Open grant reads tickets) k h =

@@ -13,7 +13,7 @@ use Rattle.plan_window.proofs.PlanLaws.{after_reply}
 use Rattle.sftp_core.specs.Core.{Core, after_poll, at, reply_in}
 use Rattle.sftp_core.specs.declared.place.Place.{Place}
 use Rattle.sftp_core.proofs.Elsewhere.{poll_elsewhere}
-use Rattle.call_state.specs.Asked.{Holds, IsReady}
+use Rattle.call_state.specs.Asked.{HoldsTicket, IsReady}
 use Rattle.call_state.specs.Keeping.{KeepsGrants}
 use Rattle.call_state.specs.declared.stage.Stage.TheVariants.{Asked}
 use Rattle.call_state.proofs.Keeping.{grants_both, keeps_same, polled_keeps_grants}
@@ -49,10 +49,10 @@ first_some core [] ticket left h e = h
 first_some core (r ∷ rest) ticket left h e = cc
 
 pub first_held : (core : Core) (waiting : List ReadAt) (ticket : ℕ) (left : List ℕ) → AreUnderWay core waiting (ticket ∷ left)
-    → (r : ReadAt) → first_of waiting ≡ Some r → Holds core ticket (expected.Content r.len)
+    → (r : ReadAt) → first_of waiting ≡ Some r → HoldsTicket core ticket (expected.Content r.len)
 first_held core [] ticket left h r e = absurd h
 first_held core (q ∷ rest) ticket left h r e =
-    let same : q ≡ r = cc in subst (λ (x : ReadAt). Holds core ticket (expected.Content x.len)) same h.0
+    let same : q ≡ r = cc in subst (λ (x : ReadAt). HoldsTicket core ticket (expected.Content x.len)) same h.0
 
 tells_others : (core : Core) (ticket : ℕ) (answers : Answers) (reads : List ReadAt) (tickets : List ℕ) → IsNoneOf ticket tickets
     → TellsReads core answers reads tickets → TellsReads (after_poll core ticket) answers reads tickets

@@ -26,7 +26,7 @@ use Rattle.call_state.specs.declared.poll.Poll.TheVariants.{Pending, Ready}
 use Rattle.call_state.specs.declared.stage.Stage.{Stage}
 use Rattle.call_state.specs.declared.stage.Stage.TheVariants as stage
 use Rattle.call_state.specs.Calls.{
-  Asks,
+  AsksAndAwaits,
   CallValue,
   IsHeldAt,
   IsLeft,
@@ -105,7 +105,7 @@ read_asked path cwd named facts m old new call is fixed fits h =
         (fs_read_next path None site (facts_of old)) answers old new (Ok call)
         → ReadStarted site (fs_read_next path None site (facts_of old)) answers old new (Ok (record { stage = whole.Opening call facts }))
     asks_of site answers (inl s) = (
-      subst (λ (f : Facts). Asks {V = GrantValue} granting (reads_by_window site f answers)
+      subst (λ (f : Facts). AsksAndAwaits {V = GrantValue} granting (reads_by_window site f answers)
           (fs_read_next path None site (facts_of old)) answers old new call) (sym fixed) s,
       fixed,
     )

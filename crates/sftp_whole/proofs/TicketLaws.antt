@@ -10,15 +10,16 @@ use Rattle.sftp_model.specs.declared.request.Request.{Request}
 use Rattle.sftp_core.specs.declared.errors.SubmitError.{SubmitError}
 use Rattle.sftp_core.specs.declared.errors.SubmitError.TheVariants as submit
 use Rattle.sftp_core.specs.declared.place.Place.{Place}
-use Rattle.sftp_core.specs.Core.{Core, IsSubmitError, abandoned, after_poll, at, is_long, is_ticket, polled_with, refusal_of, submit_refusal}
+use Rattle.sftp_model.specs.Frames.{is_too_long}
+use Rattle.sftp_core.specs.Core.{Core, IsSubmitError, abandoned, after_poll, at, is_ticket, polled_with, refusal_of, submit_refusal}
 use Rattle.sftp_core.specs.Grant.{GrantValue}
 use Rattle.sftp_core.specs.Table.{IsAllowed}
 use Rattle.sftp_core.specs.declared.tokens.Polled.TheVariants as polled
 use Rattle.call_state.proofs.Polling.{came_grant, came_reply, failed_by, missed_by}
 use Rattle.sftp_core.proofs.Elsewhere.{abandon_elsewhere}
 use Rattle.plan_window.specs.declared.window.ReadAt.{ReadAt}
-use Rattle.call_state.specs.Asked.{Holds}
-use Rattle.call_state.specs.Keeping.{Keeps, KeepsGrants}
+use Rattle.call_state.specs.Asked.{HoldsTicket}
+use Rattle.call_state.specs.Keeping.{KeepsHeld, KeepsGrants}
 use Rattle.call_state.proofs.Keeping.{cancelled_keeps_grants, grants_both, keeps_same, polled_on}
 use Rattle.sftp_whole.specs.declared.tickets.Answer.TheVariants as answer
 use Rattle.sftp_whole.specs.Tickets.{AreTickets, AreUnderWay, IsAnswer, IsNoneOf, polled_all, without}
@@ -73,7 +74,7 @@ read_tickets core [] (ticket ∷ later) h = absurd h
 read_tickets core (r ∷ rest) [] h = absurd h
 read_tickets core (r ∷ rest) (ticket ∷ later) h = (h.0.counted, h.1, read_tickets core rest later h.2)
 
-pub keeps_reads : (old new : Core) (reads : List ReadAt) (tickets : List ℕ) → Keeps old new → AreUnderWay old reads tickets
+pub keeps_reads : (old new : Core) (reads : List ReadAt) (tickets : List ℕ) → KeepsHeld old new → AreUnderWay old reads tickets
     → AreUnderWay new reads tickets
 keeps_reads old new [] [] k h = tt
 keeps_reads old new [] (ticket ∷ later) k h = absurd h
@@ -110,7 +111,7 @@ last_apart ticket new [] ne apart = (ne, tt)
 last_apart ticket new (other ∷ later) ne apart = (apart.0, last_apart ticket new later ne apart.1)
 
 put_last : (core : Core) (new : ℕ) (r : ReadAt) (reads : List ReadAt) (tickets : List ℕ) → AreUnderWay core reads tickets
-    → IsNoneOf new tickets → Holds core new (expected.Content r.len) → AreUnderWay core (reads ++ r ∷ []) (tickets ++ new ∷ [])
+    → IsNoneOf new tickets → HoldsTicket core new (expected.Content r.len) → AreUnderWay core (reads ++ r ∷ []) (tickets ++ new ∷ [])
 put_last core new r [] [] h apart held = (held, tt, tt)
 put_last core new r [] (ticket ∷ later) h apart held = absurd h
 put_last core new r (q ∷ rest) [] h apart held = absurd h
@@ -119,7 +120,7 @@ put_last core new r (q ∷ rest) (ticket ∷ later) h apart held =
 
 -- a READ that was submitted under a free ticket
 pub read_more : (old new : Core) (ticket : ℕ) (r : ReadAt) (reads : List ReadAt) (tickets : List ℕ) → at old ticket ≡ None
-    → Keeps old new → Holds new ticket (expected.Content r.len) → AreUnderWay old reads tickets
+    → KeepsHeld old new → HoldsTicket new ticket (expected.Content r.len) → AreUnderWay old reads tickets
     → AreUnderWay new (reads ++ r ∷ []) (tickets ++ ticket ∷ [])
 read_more old new ticket r reads tickets free k held h =
     put_last new ticket r reads tickets (keeps_reads old new reads tickets k h) (new_apart old ticket reads tickets free h) held
@@ -135,12 +136,12 @@ polled_last core (first ∷ done) ticket = polled_last (after_poll core first) d
 no_handle : (len : ℕ) (handle : List ℕ) → allows (expected.Content len) (reply.Handle handle) ≡ true → ⊥
 no_handle len handle e = cc
 
-pub never_granted : (core : Core) (t len : ℕ) (g : GrantValue) → Holds core t (expected.Content len) → IsAllowed (at core t)
+pub never_granted : (core : Core) (t len : ℕ) (g : GrantValue) → HoldsTicket core t (expected.Content len) → IsAllowed (at core t)
     → polled_with core t ≡ Ok (polled.Granted g) → ⊥
 never_granted core t len g held allowed gave =
     no_handle len g.handle ((came_grant core t g allowed gave).allowed (expected.Content len) held.expects)
 
-pub came : (core after : Core) (t len : ℕ) (r : Reply) → Holds core t (expected.Content len) → IsAllowed (at core t)
+pub came : (core after : Core) (t len : ℕ) (r : Reply) → HoldsTicket core t (expected.Content len) → IsAllowed (at core t)
     → polled_with core t ≡ Ok (polled.Reply r) → after ≡ after_poll core t → IsAnswer core after t len (answer.Came r)
 came core after t len r held allowed gave to =
     let c = came_reply core t r allowed gave in
@@ -150,12 +151,12 @@ pub failed : (core after : Core) (t len : ℕ) (f : Fault) → polled_with core 
     ≡ after_poll core t → IsAnswer core after t len (answer.Failed f)
 failed core after t len f gave to = (let m = failed_by core t f gave in (m.0, m.1, to))
 
-pub missing : (core after : Core) (t len q : ℕ) → Holds core t (expected.Content len) → polled_with core t ≡ Err q → after
+pub missing : (core after : Core) (t len q : ℕ) → HoldsTicket core t (expected.Content len) → polled_with core t ≡ Err q → after
     ≡ after_poll core t → IsAnswer core after t len (answer.Missing q)
 missing core after t len q held gave to = (let m = missed_by core t q held.counted gave in (m.0, m.2, m.1, to ∙ m.3))
 
 -- a request that fits a frame is not refused for its length
-pub never_long : (core : Core) (asked : Request) (e : SubmitError) → is_long asked ≡ false → e ≡ submit.TooLong
+pub never_long : (core : Core) (asked : Request) (e : SubmitError) → is_too_long asked ≡ false → e ≡ submit.TooLong
     → IsSubmitError e (submit_refusal core asked) → ⊥
 never_long core asked e short is refused =
     by_fault core.fault (subst (λ (b : Bool). refusal_of core.fault b ≡ Some submit.TooLong) short

@@ -6,7 +6,7 @@ use Rattle.sftp_model.specs.declared.reply.Reply.{Reply}
 use Rattle.plan_model.specs.Moves.{Answers}
 use Rattle.plan_window.specs.declared.window.ReadAt.{ReadAt}
 use Rattle.sftp_core.specs.Core.{Core, abandoned, after_poll, at, is_ticket, reply_in}
-use Rattle.call_state.specs.Asked.{Holds}
+use Rattle.call_state.specs.Asked.{HoldsTicket}
 use Rattle.sftp_whole.specs.declared.tickets.Answer.{Answer}
 use Rattle.sftp_whole.specs.declared.tickets.Answer.TheVariants as answer
 use Rattle.sftp_whole.specs.declared.tickets.Unasked.{Unasked}
@@ -25,7 +25,7 @@ AreTickets core (ticket ∷ later) = IsTrue (is_ticket (at core ticket)) × IsNo
 -- the core awaits the DATA of each READ under a ticket of its own
 abbrev pub AreUnderWay : Core → List ReadAt → List ℕ → Type 0
 AreUnderWay core [] [] = Unit {0}
-AreUnderWay core (r ∷ rest) (ticket ∷ later) = Holds core ticket (expected.Content r.len) × IsNoneOf ticket later
+AreUnderWay core (r ∷ rest) (ticket ∷ later) = HoldsTicket core ticket (expected.Content r.len) × IsNoneOf ticket later
     × AreUnderWay core rest later
 AreUnderWay core reads tickets = ⊥
 
@@ -52,13 +52,13 @@ IsUnasked core unasked.Short = Unit {0}
 IsUnasked core (unasked.Failed fault) = core.fault ≡ Some fault
 
 -- the reply was taken, and may answer a READ of so many bytes at most
-pub record Came (core : Core) (ticket len : ℕ) (r : Reply) : Type 0 where
+pub record ReadCame (core : Core) (ticket len : ℕ) (r : Reply) : Type 0 where
   pub taken : reply_in (at core ticket) ≡ Some r
   pub allowed : allows (expected.Content len) r ≡ true
 
 -- a taken reply comes before a kept fault, and the ticket comes back where there is neither
 abbrev pub IsAnswer : Core → Core → ℕ → ℕ → Answer → Type 0
-IsAnswer old new ticket len (answer.Came r) = Came old ticket len r × (new ≡ after_poll old ticket)
+IsAnswer old new ticket len (answer.Came r) = ReadCame old ticket len r × (new ≡ after_poll old ticket)
 IsAnswer old new ticket len (answer.Missing same) = (reply_in (at old ticket) ≡ None) × (old.fault ≡ None)
     × (same ≡ ticket) × (new ≡ old)
 IsAnswer old new ticket len (answer.Failed fault) = (reply_in (at old ticket) ≡ None) × (old.fault ≡ Some fault)

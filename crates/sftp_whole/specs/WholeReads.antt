@@ -39,8 +39,17 @@ use Rattle.call_state.specs.declared.asking.Asking.TheVariants.{Whole as WholeRe
 use Rattle.call_state.specs.declared.poll.Poll.{Poll}
 use Rattle.call_state.specs.declared.poll.Poll.TheVariants.{Pending, Ready}
 use Rattle.call_state.specs.Asked.{IsReady, Submitted}
-use Rattle.call_state.specs.Calls.{Asks, IsGrantOf, IsLeft, IsUnderWay, IsUnfinished, Tells, cancelled, polled_core}
-use Rattle.call_state.specs.Keeping.{Keeps, KeepsGrants}
+use Rattle.call_state.specs.Calls.{
+  AsksAndAwaits,
+  IsGrantOf,
+  IsLeft,
+  IsUnderWay,
+  IsUnfinished,
+  Tells,
+  cancelled,
+  polled_core,
+}
+use Rattle.call_state.specs.Keeping.{KeepsHeld, KeepsGrants}
 use Rattle.sftp_file.specs.Files.{facts_of}
 use Rattle.sftp_fs.specs.Directories.{WithHandle}
 use Rattle.sftp_fs.specs.Grants.{granting}
@@ -92,7 +101,7 @@ IsReadHeld core (whole.Open grant reads tickets) = IsOwned core grant
 -- the OPEN is under way
 abbrev pub ReadOpens : Site → Plan → Answers → Core → Core → Whole → Type 0
 ReadOpens site plan answers old new (whole.Opening call facts) =
-    Asks granting (reads_by_window site facts answers) plan answers old new call × (facts ≡ facts_of old)
+    AsksAndAwaits granting (reads_by_window site facts answers) plan answers old new call × (facts ≡ facts_of old)
 ReadOpens site plan answers old new other = ⊥
 
 abbrev pub ReadStarted : Site → Plan → Answers → Core → Core → Result FsReadValue Error → Type 0
@@ -109,7 +118,7 @@ pub record ReadsFrom (path cwd : List ℕ) (old new : Core) (result : Result FsR
   pub starts : (site : Site) (answers : Answers) → site.directory ≡ cwd
       → ReadStarted site (fs_read_next path None site (facts_of old)) answers old new result
   pub held : IfOk result (λ q. IsReadHeld new q.stage)
-  pub keeps : Keeps old new
+  pub keeps : KeepsHeld old new
 
 -- ---- a poll
 

@@ -3,7 +3,7 @@ ghost use Rattle.std.specs.Prelude.{◌≡◌, ◌≢◌, None, Some};
 ghost use Rattle.sftp_model.specs.declared.answers.Expected.TheVariants as expected;
 ghost use Rattle.plan_window.specs.Windows.{first_of};
 ghost use Rattle.plan_window.specs.declared.window.ReadAt.{ReadAt};
-ghost use Rattle.call_state.specs.Asked.{Holds, IsReady};
+ghost use Rattle.call_state.specs.Asked.{HoldsTicket, IsReady};
 ghost use Rattle.sftp_whole.specs.Hearing.{HasHeard, IsFirst};
 ghost use Rattle.sftp_whole.specs.Tickets.{AreUnderWay};
 
@@ -34,7 +34,7 @@ pub enum Heard {
 /// Hears the reply to the first READ under way.
 fn hear_first(core: &mut Core, reads: Reads, ticket: Ticket) -> First
     requires some { first_of reads.window.waiting ≢ None }
-    requires held { (r : ReadAt) → first_of reads.window.waiting ≡ Some r → Holds core.old ticket (expected.Content r.len) }
+    requires held { (r : ReadAt) → first_of reads.window.waiting ≡ Some r → HoldsTicket core.old ticket (expected.Content r.len) }
     ensures { IsFirst core.old core.new reads ticket result }
 {
     let Some(len) = reads.first_len() else {

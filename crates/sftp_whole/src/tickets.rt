@@ -2,7 +2,7 @@
 ghost use Rattle.std.specs.Prelude.{◌≡◌, IfErr, IfOk};
 ghost use Rattle.sftp_model.specs.declared.answers.Expected.TheVariants as expected;
 ghost use Rattle.sftp_model.specs.declared.request.Request.TheVariants as request;
-ghost use Rattle.call_state.specs.Asked.{Holds, IsReady, Submitted};
+ghost use Rattle.call_state.specs.Asked.{HoldsTicket, IsReady, Submitted};
 ghost use Rattle.call_state.specs.declared.asking.Asking.TheVariants as asking;
 ghost use Rattle.sftp_whole.specs.Tickets.{AreTickets, IsAnswer, IsUnasked, without};
 
@@ -30,7 +30,7 @@ pub enum Answer {
 
 /// The reply to a READ of at most `len` bytes, where it was taken; the ticket is spent then, and by a kept fault.
 pub(crate) fn take_reply(core: &mut Core, ticket: Ticket, len: u32) -> Answer
-    requires { Holds core.old ticket (expected.Content len) }
+    requires { HoldsTicket core.old ticket (expected.Content len) }
     ensures { IsAnswer core.old core.new ticket len result }
 {
     match core.poll(ticket) {

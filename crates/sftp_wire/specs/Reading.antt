@@ -1,6 +1,6 @@
 -- What contracts say of reading: what a call returned is what a reading gives, unless memory ran out.
 use Rattle.std.specs.Prelude.{ℕ, ◌≡◌, ◌⊎◌, List, Option, Result, Ok, Err}
-use Rattle.ssh_encoding.specs.Reading.{◌>>=◌, Reads}
+use Rattle.ssh_encoding.specs.Reading.{◌>>=◌, DecodesAs}
 use Rattle.sftp_model.specs.declared.frame_error.FrameError.{FrameError}
 use Rattle.sftp_model.specs.declared.frame_error.FrameError.TheVariants as errors
 use Rattle.sftp_model.specs.Readings.{whole, with_short_handles}
@@ -11,12 +11,12 @@ IsMemory e = e ≡ errors.OutOfMemory
 -- a field, with `rest` left
 abbrev pub ReadsField : {T S : Type 0} → (T → S) → List ℕ → Result T FrameError → Result (S × List ℕ) FrameError
     → Type 0
-ReadsField seen rest result read = Reads seen IsMemory rest result read
+ReadsField seen rest result read = DecodesAs seen IsMemory rest result read
 
 -- a whole body
-abbrev pub Gives : {T : Type 0} → Result T FrameError → Result T FrameError → Type 0
-Gives (Ok v) read = read ≡ Ok v
-Gives (Err e) read = IsMemory e ⊎ (read ≡ Err e)
+abbrev pub GivesBody : {T : Type 0} → Result T FrameError → Result T FrameError → Type 0
+GivesBody (Ok v) read = read ≡ Ok v
+GivesBody (Err e) read = IsMemory e ⊎ (read ≡ Err e)
 
 -- fields after which nothing may stand, and whose handles are short
 abbrev pub to_end : {A : Type 0} → (A → List (List ℕ)) → Result ((Option ℕ × A) × List ℕ) FrameError
@@ -36,6 +36,6 @@ GivesAs seen (Ok v) read = read ≡ Ok (seen v)
 GivesAs seen (Err e) read = IsMemory e ⊎ (read ≡ Err e)
 
 -- fields after an id that was read before
-abbrev pub behind : {A : Type 0} → Option ℕ → Result (A × List ℕ) FrameError
+abbrev pub after_id : {A : Type 0} → Option ℕ → Result (A × List ℕ) FrameError
     → Result ((Option ℕ × A) × List ℕ) FrameError
-behind id fields = fields >>= λ read. Ok ((id, read.0), read.1)
+after_id id fields = fields >>= λ read. Ok ((id, read.0), read.1)

@@ -3,7 +3,7 @@
 ghost use Rattle.std.specs.Prelude.{Some};
 ghost use Rattle.sftp_model.specs.declared.request.Request.TheVariants as request;
 ghost use Rattle.sftp_model.specs.RequestReadings.{two_texts_at, one_text_at, copy_data_at, extension_fields_at, handles_of_request};
-ghost use Rattle.sftp_wire.specs.Reading.{Gives, behind, to_end};
+ghost use Rattle.sftp_wire.specs.Reading.{GivesBody, after_id, to_end};
 
 use crate::names;
 use crate::reading_fields::{finished, handle_of, long, text};
@@ -17,7 +17,7 @@ fn posix_rename<R: Reader>(
     id: u32,
     reader: &mut R,
 ) -> Result<(Option<u32>, Request), FrameError>
-    ensures { Gives result (to_end handles_of_request (behind (Some id) (two_texts_at request.PosixRename (R.left reader.old)))) }
+    ensures { GivesBody result (to_end handles_of_request (after_id (Some id) (two_texts_at request.PosixRename (R.left reader.old)))) }
 {
     let (old, to) = two_paths(alloc, reader)?;
     Ok((Some(id), Request::PosixRename { old, to }))
@@ -28,7 +28,7 @@ fn hardlink<R: Reader>(
     id: u32,
     reader: &mut R,
 ) -> Result<(Option<u32>, Request), FrameError>
-    ensures { Gives result (to_end handles_of_request (behind (Some id) (two_texts_at request.Hardlink (R.left reader.old)))) }
+    ensures { GivesBody result (to_end handles_of_request (after_id (Some id) (two_texts_at request.Hardlink (R.left reader.old)))) }
 {
     let (old, to) = two_paths(alloc, reader)?;
     Ok((Some(id), Request::Hardlink { old, to }))
@@ -39,7 +39,7 @@ fn fsync<R: Reader>(
     id: u32,
     reader: &mut R,
 ) -> Result<(Option<u32>, Request), FrameError>
-    ensures { Gives result (to_end handles_of_request (behind (Some id) (one_text_at request.Fsync (R.left reader.old)))) }
+    ensures { GivesBody result (to_end handles_of_request (after_id (Some id) (one_text_at request.Fsync (R.left reader.old)))) }
 {
     let handle = one_handle(alloc, reader)?;
     Ok((Some(id), Request::Fsync { handle }))
@@ -50,7 +50,7 @@ fn expand_path<R: Reader>(
     id: u32,
     reader: &mut R,
 ) -> Result<(Option<u32>, Request), FrameError>
-    ensures { Gives result (to_end handles_of_request (behind (Some id) (one_text_at request.ExpandPath (R.left reader.old)))) }
+    ensures { GivesBody result (to_end handles_of_request (after_id (Some id) (one_text_at request.ExpandPath (R.left reader.old)))) }
 {
     let path = one_path(alloc, reader)?;
     Ok((Some(id), Request::ExpandPath { path }))
@@ -62,7 +62,7 @@ fn copy_data<R: Reader>(
     id: u32,
     reader: &mut R,
 ) -> Result<(Option<u32>, Request), FrameError>
-    ensures { Gives result (to_end handles_of_request (behind (Some id) (copy_data_at (R.left reader.old)))) }
+    ensures { GivesBody result (to_end handles_of_request (after_id (Some id) (copy_data_at (R.left reader.old)))) }
 {
     let from = text(alloc, reader)?;
     let from_offset = long(alloc, reader)?;
@@ -92,7 +92,7 @@ pub(crate) fn extension<R: Reader>(
     name: &[u8],
     reader: &mut R,
 ) -> Result<(Option<u32>, Request), FrameError>
-    ensures { Gives result (to_end handles_of_request (behind (Some id) (extension_fields_at name.now (R.left reader.old)))) }
+    ensures { GivesBody result (to_end handles_of_request (after_id (Some id) (extension_fields_at name.now (R.left reader.old)))) }
 {
     if name == names::POSIX_RENAME {
         posix_rename(alloc, id, reader)

@@ -4,7 +4,7 @@ ghost use Rattle.ssh_encoding.specs.declared.error.Error.TheVariants as encoding
 ghost use Rattle.sftp_model.specs.Readings.{with_id, without_id, pair_bit as bit_of_pair, named_bit as bit_of_name, extensions_at};
 ghost use Rattle.sftp_model.specs.Frames.{extension_table};
 ghost use Rattle.sftp_model.specs.ReplyReadings.{version_at, status_at, handle_at, content_at, entry_at, entries_at, names_at, attrs_at, extended_at, handles_of_reply, reply_at, limits_at};
-ghost use Rattle.sftp_wire.specs.Reading.{ReadsField, Gives, to_end};
+ghost use Rattle.sftp_wire.specs.Reading.{ReadsField, GivesBody, to_end};
 
 use crate::names;
 use crate::reading_fields::{attributes, finished, handle_of, long, number, shared_text, text};
@@ -51,7 +51,7 @@ fn pair_bit(name: &[u8], value: &[u8]) -> u32
 /// The bits of the pairs to the end.
 #[tactic(auto, unfolding(sftp_model::specs::Readings::extensions_at))]
 fn extensions<R: Reader>(alloc: Global, reader: &mut R) -> Result<u32, FrameError>
-    ensures { Gives result (extensions_at (R.left reader.old)) }
+    ensures { GivesBody result (extensions_at (R.left reader.old)) }
 {
     let mut set = 0;
     let most = reader.remaining_len();
@@ -69,7 +69,7 @@ fn extensions<R: Reader>(alloc: Global, reader: &mut R) -> Result<u32, FrameErro
 /// VERSION. It has no id.
 #[tactic(auto, unfolding(sftp_model::specs::ReplyReadings::version_at))]
 fn version<R: Reader>(alloc: Global, reader: &mut R) -> Result<(Option<u32>, Reply), FrameError>
-    ensures { Gives result (to_end handles_of_reply (without_id version_at (R.left reader.old))) }
+    ensures { GivesBody result (to_end handles_of_reply (without_id version_at (R.left reader.old))) }
 {
     let version = number(alloc, reader)?;
     let bits = extensions(alloc, reader)?;
@@ -86,7 +86,7 @@ fn version<R: Reader>(alloc: Global, reader: &mut R) -> Result<(Option<u32>, Rep
 /// STATUS
 #[tactic(auto, unfolding(sftp_model::specs::ReplyReadings::status_at))]
 fn status<R: Reader>(alloc: Global, reader: &mut R) -> Result<(Option<u32>, Reply), FrameError>
-    ensures { Gives result (to_end handles_of_reply (with_id status_at (R.left reader.old))) }
+    ensures { GivesBody result (to_end handles_of_reply (with_id status_at (R.left reader.old))) }
 {
     let id = number(alloc, reader)?;
     let code = number(alloc, reader)?;
@@ -106,7 +106,7 @@ fn status<R: Reader>(alloc: Global, reader: &mut R) -> Result<(Option<u32>, Repl
 /// HANDLE. `HandleTooLong` only where nothing is left.
 #[tactic(auto, unfolding(sftp_model::specs::ReplyReadings::handle_at))]
 fn handle<R: Reader>(alloc: Global, reader: &mut R) -> Result<(Option<u32>, Reply), FrameError>
-    ensures { Gives result (to_end handles_of_reply (with_id handle_at (R.left reader.old))) }
+    ensures { GivesBody result (to_end handles_of_reply (with_id handle_at (R.left reader.old))) }
 {
     let id = number(alloc, reader)?;
     let bytes = text(alloc, reader)?;
@@ -118,7 +118,7 @@ fn handle<R: Reader>(alloc: Global, reader: &mut R) -> Result<(Option<u32>, Repl
 /// DATA
 #[tactic(auto, unfolding(sftp_model::specs::ReplyReadings::content_at))]
 fn content<R: Reader>(alloc: Global, reader: &mut R) -> Result<(Option<u32>, Reply), FrameError>
-    ensures { Gives result (to_end handles_of_reply (with_id content_at (R.left reader.old))) }
+    ensures { GivesBody result (to_end handles_of_reply (with_id content_at (R.left reader.old))) }
 {
     let id = number(alloc, reader)?;
     let content = shared_text(alloc, reader)?;
@@ -167,7 +167,7 @@ fn entries<R: Reader>(
 /// NAME
 #[tactic(auto, unfolding(sftp_model::specs::ReplyReadings::names_at))]
 fn listing<R: Reader>(alloc: Global, reader: &mut R) -> Result<(Option<u32>, Reply), FrameError>
-    ensures { Gives result (to_end handles_of_reply (with_id names_at (R.left reader.old))) }
+    ensures { GivesBody result (to_end handles_of_reply (with_id names_at (R.left reader.old))) }
 {
     let id = number(alloc, reader)?;
     let count = number(alloc, reader)?;
@@ -179,7 +179,7 @@ fn listing<R: Reader>(alloc: Global, reader: &mut R) -> Result<(Option<u32>, Rep
 /// ATTRS
 #[tactic(auto, unfolding(sftp_model::specs::ReplyReadings::attrs_at))]
 fn attrs<R: Reader>(alloc: Global, reader: &mut R) -> Result<(Option<u32>, Reply), FrameError>
-    ensures { Gives result (to_end handles_of_reply (with_id attrs_at (R.left reader.old))) }
+    ensures { GivesBody result (to_end handles_of_reply (with_id attrs_at (R.left reader.old))) }
 {
     let id = number(alloc, reader)?;
     let attrs = attributes(alloc, reader)?;
@@ -200,7 +200,7 @@ fn rest<R: Reader>(alloc: Global, reader: &mut R) -> Result<Vec<u8>, ssh_encodin
 /// EXTENDED_REPLY
 #[tactic(auto, unfolding(sftp_model::specs::ReplyReadings::extended_at))]
 fn extended<R: Reader>(alloc: Global, reader: &mut R) -> Result<(Option<u32>, Reply), FrameError>
-    ensures { Gives result (to_end handles_of_reply (with_id extended_at (R.left reader.old))) }
+    ensures { GivesBody result (to_end handles_of_reply (with_id extended_at (R.left reader.old))) }
 {
     let id = number(alloc, reader)?;
     let content = rest(alloc, reader)?;
@@ -212,7 +212,7 @@ fn extended<R: Reader>(alloc: Global, reader: &mut R) -> Result<(Option<u32>, Re
 /// come in place of any answer. A count takes no memory by itself.
 #[tactic(auto, unfolding(sftp_model::specs::ReplyReadings::reply_at, sftp_model::specs::ReplyReadings::reply_fields_at))]
 pub fn read_reply(alloc: Global, body: &[u8]) -> Result<(Option<u32>, Reply), FrameError>
-    ensures { Gives result (reply_at body.now) }
+    ensures { GivesBody result (reply_at body.now) }
 {
     let mut reader = body;
     let kind = u8::decode(alloc, &mut reader)?;
@@ -233,7 +233,7 @@ pub fn read_reply(alloc: Global, body: &[u8]) -> Result<(Option<u32>, Reply), Fr
 /// (OpenSSH's PROTOCOL, section 4.8).
 #[tactic(auto, unfolding(sftp_model::specs::ReplyReadings::limits_at))]
 pub fn read_limits(alloc: Global, content: &[u8]) -> Result<Limits, FrameError>
-    ensures { Gives result (limits_at content.now) }
+    ensures { GivesBody result (limits_at content.now) }
 {
     let mut reader = content;
     let packet_len = long(alloc, &mut reader)?;

@@ -4,7 +4,7 @@ ghost use Rattle.ssh_encoding.specs.declared.error.Error.TheVariants as encoding
 ghost use Rattle.sftp_model.specs.declared.request.Request.TheVariants as request;
 ghost use Rattle.sftp_model.specs.Readings.{without_id};
 ghost use Rattle.sftp_model.specs.RequestReadings.{init_at, open_at, read_at, write_at, one_text_at, two_texts_at, text_and_attributes_at, handles_of_request, request_at, extended_request_at};
-ghost use Rattle.sftp_wire.specs.Reading.{Gives, behind, to_end};
+ghost use Rattle.sftp_wire.specs.Reading.{GivesBody, after_id, to_end};
 
 use crate::reading_extensions::extension;
 use crate::reading_fields::{attributes, finished, handle_of, long, number, shared_text, text};
@@ -18,7 +18,7 @@ use std::alloc::Global;
 /// The hello. It has no id.
 #[tactic(auto, unfolding(sftp_model::specs::RequestReadings::init_at))]
 fn init<R: Reader>(alloc: Global, reader: &mut R) -> Result<(Option<u32>, Request), FrameError>
-    ensures { Gives result (to_end handles_of_request (without_id init_at (R.left reader.old))) }
+    ensures { GivesBody result (to_end handles_of_request (without_id init_at (R.left reader.old))) }
 {
     let version = number(alloc, reader)?;
     finished(reader)?;
@@ -32,7 +32,7 @@ fn open_file<R: Reader>(
     id: u32,
     reader: &mut R,
 ) -> Result<(Option<u32>, Request), FrameError>
-    ensures { Gives result (to_end handles_of_request (behind (Some id) (open_at (R.left reader.old)))) }
+    ensures { GivesBody result (to_end handles_of_request (after_id (Some id) (open_at (R.left reader.old)))) }
 {
     let path = text(alloc, reader)?;
     let flags = number(alloc, reader)?;
@@ -55,7 +55,7 @@ fn read<R: Reader>(
     id: u32,
     reader: &mut R,
 ) -> Result<(Option<u32>, Request), FrameError>
-    ensures { Gives result (to_end handles_of_request (behind (Some id) (read_at (R.left reader.old)))) }
+    ensures { GivesBody result (to_end handles_of_request (after_id (Some id) (read_at (R.left reader.old)))) }
 {
     let handle = text(alloc, reader)?;
     let offset = long(alloc, reader)?;
@@ -89,7 +89,7 @@ fn write<R: Reader>(
     id: u32,
     reader: &mut R,
 ) -> Result<(Option<u32>, Request), FrameError>
-    ensures { Gives result (to_end handles_of_request (behind (Some id) (write_at (R.left reader.old)))) }
+    ensures { GivesBody result (to_end handles_of_request (after_id (Some id) (write_at (R.left reader.old)))) }
 {
     let handle = text(alloc, reader)?;
     let offset = long(alloc, reader)?;
@@ -114,7 +114,7 @@ fn fsetstat<R: Reader>(
     id: u32,
     reader: &mut R,
 ) -> Result<(Option<u32>, Request), FrameError>
-    ensures { Gives result (to_end handles_of_request (behind (Some id) (text_and_attributes_at request.Fsetstat (R.left reader.old)))) }
+    ensures { GivesBody result (to_end handles_of_request (after_id (Some id) (text_and_attributes_at request.Fsetstat (R.left reader.old)))) }
 {
     let handle = text(alloc, reader)?;
     let attrs = attributes(alloc, reader)?;
@@ -129,7 +129,7 @@ fn close<R: Reader>(
     id: u32,
     reader: &mut R,
 ) -> Result<(Option<u32>, Request), FrameError>
-    ensures { Gives result (to_end handles_of_request (behind (Some id) (one_text_at request.Close (R.left reader.old)))) }
+    ensures { GivesBody result (to_end handles_of_request (after_id (Some id) (one_text_at request.Close (R.left reader.old)))) }
 {
     let handle = one_handle(alloc, reader)?;
     Ok((Some(id), Request::Close { handle }))
@@ -141,7 +141,7 @@ fn fstat<R: Reader>(
     id: u32,
     reader: &mut R,
 ) -> Result<(Option<u32>, Request), FrameError>
-    ensures { Gives result (to_end handles_of_request (behind (Some id) (one_text_at request.Fstat (R.left reader.old)))) }
+    ensures { GivesBody result (to_end handles_of_request (after_id (Some id) (one_text_at request.Fstat (R.left reader.old)))) }
 {
     let handle = one_handle(alloc, reader)?;
     Ok((Some(id), Request::Fstat { handle }))
@@ -153,7 +153,7 @@ fn readdir<R: Reader>(
     id: u32,
     reader: &mut R,
 ) -> Result<(Option<u32>, Request), FrameError>
-    ensures { Gives result (to_end handles_of_request (behind (Some id) (one_text_at request.Readdir (R.left reader.old)))) }
+    ensures { GivesBody result (to_end handles_of_request (after_id (Some id) (one_text_at request.Readdir (R.left reader.old)))) }
 {
     let handle = one_handle(alloc, reader)?;
     Ok((Some(id), Request::Readdir { handle }))
@@ -165,7 +165,7 @@ fn lstat<R: Reader>(
     id: u32,
     reader: &mut R,
 ) -> Result<(Option<u32>, Request), FrameError>
-    ensures { Gives result (to_end handles_of_request (behind (Some id) (one_text_at request.Lstat (R.left reader.old)))) }
+    ensures { GivesBody result (to_end handles_of_request (after_id (Some id) (one_text_at request.Lstat (R.left reader.old)))) }
 {
     let path = one_path(alloc, reader)?;
     Ok((Some(id), Request::Lstat { path }))
@@ -177,7 +177,7 @@ fn opendir<R: Reader>(
     id: u32,
     reader: &mut R,
 ) -> Result<(Option<u32>, Request), FrameError>
-    ensures { Gives result (to_end handles_of_request (behind (Some id) (one_text_at request.Opendir (R.left reader.old)))) }
+    ensures { GivesBody result (to_end handles_of_request (after_id (Some id) (one_text_at request.Opendir (R.left reader.old)))) }
 {
     let path = one_path(alloc, reader)?;
     Ok((Some(id), Request::Opendir { path }))
@@ -189,7 +189,7 @@ fn remove<R: Reader>(
     id: u32,
     reader: &mut R,
 ) -> Result<(Option<u32>, Request), FrameError>
-    ensures { Gives result (to_end handles_of_request (behind (Some id) (one_text_at request.Remove (R.left reader.old)))) }
+    ensures { GivesBody result (to_end handles_of_request (after_id (Some id) (one_text_at request.Remove (R.left reader.old)))) }
 {
     let path = one_path(alloc, reader)?;
     Ok((Some(id), Request::Remove { path }))
@@ -201,7 +201,7 @@ fn rmdir<R: Reader>(
     id: u32,
     reader: &mut R,
 ) -> Result<(Option<u32>, Request), FrameError>
-    ensures { Gives result (to_end handles_of_request (behind (Some id) (one_text_at request.Rmdir (R.left reader.old)))) }
+    ensures { GivesBody result (to_end handles_of_request (after_id (Some id) (one_text_at request.Rmdir (R.left reader.old)))) }
 {
     let path = one_path(alloc, reader)?;
     Ok((Some(id), Request::Rmdir { path }))
@@ -213,7 +213,7 @@ fn realpath<R: Reader>(
     id: u32,
     reader: &mut R,
 ) -> Result<(Option<u32>, Request), FrameError>
-    ensures { Gives result (to_end handles_of_request (behind (Some id) (one_text_at request.Realpath (R.left reader.old)))) }
+    ensures { GivesBody result (to_end handles_of_request (after_id (Some id) (one_text_at request.Realpath (R.left reader.old)))) }
 {
     let path = one_path(alloc, reader)?;
     Ok((Some(id), Request::Realpath { path }))
@@ -225,7 +225,7 @@ fn stat<R: Reader>(
     id: u32,
     reader: &mut R,
 ) -> Result<(Option<u32>, Request), FrameError>
-    ensures { Gives result (to_end handles_of_request (behind (Some id) (one_text_at request.Stat (R.left reader.old)))) }
+    ensures { GivesBody result (to_end handles_of_request (after_id (Some id) (one_text_at request.Stat (R.left reader.old)))) }
 {
     let path = one_path(alloc, reader)?;
     Ok((Some(id), Request::Stat { path }))
@@ -237,7 +237,7 @@ fn readlink<R: Reader>(
     id: u32,
     reader: &mut R,
 ) -> Result<(Option<u32>, Request), FrameError>
-    ensures { Gives result (to_end handles_of_request (behind (Some id) (one_text_at request.Readlink (R.left reader.old)))) }
+    ensures { GivesBody result (to_end handles_of_request (after_id (Some id) (one_text_at request.Readlink (R.left reader.old)))) }
 {
     let path = one_path(alloc, reader)?;
     Ok((Some(id), Request::Readlink { path }))
@@ -249,7 +249,7 @@ fn setstat<R: Reader>(
     id: u32,
     reader: &mut R,
 ) -> Result<(Option<u32>, Request), FrameError>
-    ensures { Gives result (to_end handles_of_request (behind (Some id) (text_and_attributes_at request.Setstat (R.left reader.old)))) }
+    ensures { GivesBody result (to_end handles_of_request (after_id (Some id) (text_and_attributes_at request.Setstat (R.left reader.old)))) }
 {
     let (path, attrs) = path_and_attributes(alloc, reader)?;
     Ok((Some(id), Request::Setstat { path, attrs }))
@@ -261,7 +261,7 @@ fn mkdir<R: Reader>(
     id: u32,
     reader: &mut R,
 ) -> Result<(Option<u32>, Request), FrameError>
-    ensures { Gives result (to_end handles_of_request (behind (Some id) (text_and_attributes_at request.Mkdir (R.left reader.old)))) }
+    ensures { GivesBody result (to_end handles_of_request (after_id (Some id) (text_and_attributes_at request.Mkdir (R.left reader.old)))) }
 {
     let (path, attrs) = path_and_attributes(alloc, reader)?;
     Ok((Some(id), Request::Mkdir { path, attrs }))
@@ -273,7 +273,7 @@ fn rename<R: Reader>(
     id: u32,
     reader: &mut R,
 ) -> Result<(Option<u32>, Request), FrameError>
-    ensures { Gives result (to_end handles_of_request (behind (Some id) (two_texts_at request.Rename (R.left reader.old)))) }
+    ensures { GivesBody result (to_end handles_of_request (after_id (Some id) (two_texts_at request.Rename (R.left reader.old)))) }
 {
     let (old, to) = two_paths(alloc, reader)?;
     Ok((Some(id), Request::Rename { old, to }))
@@ -285,7 +285,7 @@ fn symlink<R: Reader>(
     id: u32,
     reader: &mut R,
 ) -> Result<(Option<u32>, Request), FrameError>
-    ensures { Gives result (to_end handles_of_request (behind (Some id) (two_texts_at request.Symlink (R.left reader.old)))) }
+    ensures { GivesBody result (to_end handles_of_request (after_id (Some id) (two_texts_at request.Symlink (R.left reader.old)))) }
 {
     let (src, dst) = two_paths(alloc, reader)?;
     Ok((Some(id), Request::Symlink { src, dst }))
@@ -298,7 +298,7 @@ fn extended<R: Reader>(
     id: u32,
     reader: &mut R,
 ) -> Result<(Option<u32>, Request), FrameError>
-    ensures { Gives result (to_end handles_of_request (behind (Some id) (extended_request_at (R.left reader.old)))) }
+    ensures { GivesBody result (to_end handles_of_request (after_id (Some id) (extended_request_at (R.left reader.old)))) }
 {
     let name = text(alloc, reader)?;
     extension(alloc, id, &name, reader)
@@ -311,7 +311,7 @@ fn extended<R: Reader>(
 /// itself.
 #[tactic(auto, unfolding(sftp_model::specs::RequestReadings::request_at, sftp_model::specs::RequestReadings::request_fields_at))]
 pub fn read_request(alloc: Global, body: &[u8]) -> Result<(Option<u32>, Request), FrameError>
-    ensures { Gives result (request_at body.now) }
+    ensures { GivesBody result (request_at body.now) }
 {
     let mut reader = body;
     let kind = u8::decode(alloc, &mut reader)?;

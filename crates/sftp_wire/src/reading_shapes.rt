@@ -3,7 +3,7 @@ ghost use Rattle.std.specs.Prelude.{◌≡◌, [], ◌∷◌, ℕ, List, Option}
 ghost use Rattle.sftp_model.specs.declared.file_attrs.FileAttrs.{FileAttrs as AttributesSeen};
 ghost use Rattle.sftp_model.specs.declared.request.Request.{Request as RequestSeen};
 ghost use Rattle.sftp_model.specs.RequestReadings.{one_text_at, two_texts_at, text_and_attributes_at, handles_of_request};
-ghost use Rattle.sftp_wire.specs.Reading.{GivesAs, behind, to_end};
+ghost use Rattle.sftp_wire.specs.Reading.{GivesAs, after_id, to_end};
 
 use crate::reading_fields::{attributes, finished, handle_of, text};
 use sftp_model::{FileAttrs, FrameError, Handle, RemotePath};
@@ -14,7 +14,7 @@ use std::alloc::Global;
 #[tactic(auto, unfolding(sftp_model::specs::RequestReadings::one_text_at))]
 pub(crate) fn one_path<R: Reader>(alloc: Global, reader: &mut R) -> Result<RemotePath, FrameError>
     ensures { (made : List ℕ → RequestSeen) (id : Option ℕ) → ((path : List ℕ) → handles_of_request (made path) ≡ [])
-        → GivesAs (λ path. (id, made path)) result (to_end handles_of_request (behind id (one_text_at made (R.left reader.old)))) }
+        → GivesAs (λ path. (id, made path)) result (to_end handles_of_request (after_id id (one_text_at made (R.left reader.old)))) }
 {
     let path = text(alloc, reader)?;
     finished(reader)?;
@@ -25,7 +25,7 @@ pub(crate) fn one_path<R: Reader>(alloc: Global, reader: &mut R) -> Result<Remot
 #[tactic(auto, unfolding(sftp_model::specs::RequestReadings::one_text_at))]
 pub(crate) fn one_handle<R: Reader>(alloc: Global, reader: &mut R) -> Result<Handle, FrameError>
     ensures { (made : List ℕ → RequestSeen) (id : Option ℕ) → ((handle : List ℕ) → handles_of_request (made handle) ≡ handle ∷ [])
-        → GivesAs (λ handle. (id, made handle)) result (to_end handles_of_request (behind id (one_text_at made (R.left reader.old)))) }
+        → GivesAs (λ handle. (id, made handle)) result (to_end handles_of_request (after_id id (one_text_at made (R.left reader.old)))) }
 {
     let handle = text(alloc, reader)?;
     finished(reader)?;
@@ -39,7 +39,7 @@ pub(crate) fn two_paths<R: Reader>(
     reader: &mut R,
 ) -> Result<(RemotePath, RemotePath), FrameError>
     ensures { (made : List ℕ → List ℕ → RequestSeen) (id : Option ℕ) → ((first second : List ℕ) → handles_of_request (made first second) ≡ [])
-        → GivesAs (λ paths. (id, made paths.0 paths.1)) result (to_end handles_of_request (behind id (two_texts_at made (R.left reader.old)))) }
+        → GivesAs (λ paths. (id, made paths.0 paths.1)) result (to_end handles_of_request (after_id id (two_texts_at made (R.left reader.old)))) }
 {
     let first = text(alloc, reader)?;
     let second = text(alloc, reader)?;
@@ -54,7 +54,7 @@ pub(crate) fn path_and_attributes<R: Reader>(
     reader: &mut R,
 ) -> Result<(RemotePath, FileAttrs), FrameError>
     ensures { (made : List ℕ → AttributesSeen → RequestSeen) (id : Option ℕ) → ((path : List ℕ) (attrs : AttributesSeen) → handles_of_request (made path attrs) ≡ [])
-        → GivesAs (λ read. (id, made read.0 read.1)) result (to_end handles_of_request (behind id (text_and_attributes_at made (R.left reader.old)))) }
+        → GivesAs (λ read. (id, made read.0 read.1)) result (to_end handles_of_request (after_id id (text_and_attributes_at made (R.left reader.old)))) }
 {
     let path = text(alloc, reader)?;
     let attrs = attributes(alloc, reader)?;

@@ -58,7 +58,7 @@ use Rattle.session_model.specs.declared.entry.Entry.{Entry}
 use Rattle.session_model.specs.declared.entry.Entry.TheVariants as entry
 use Rattle.session_model.specs.Calls.{Setting}
 use Rattle.session_model.specs.Journals.{IsJournal}
-use Rattle.session_model.specs.Readings.{Asked, answer, asked, asked_at, sent, trace_of, unanswered}
+use Rattle.session_model.specs.Readings.{AskedRequest, answer, asked, asked_at, sent, trace_of, unanswered}
 use Rattle.session_model.specs.Served.{IsReply, MayGrant, Serves, ServesAll, TellsLimits, reply_to_query, requests_of, requests_sent, where_by_setup}
 use Rattle.session_model.proofs.CallLaws.{next_take}
 use Rattle.session_model.proofs.CountLaws.{some_unanswered}
@@ -282,15 +282,15 @@ module _ (first : MachineState) (choices : List Choice) (full : List Entry) wher
   setup_asks (owner.Call lane call) r e a = absurd cc
 
   -- the query for limits stands first, and was told those of the machine
-  query_told : (s : Setting) (after q : List Entry) (a : Asked) → full ≡ after ++ q → IsJournal s q → AllAgree → asked_at q 0 ≡ Some a
+  query_told : (s : Setting) (after q : List Entry) (a : AskedRequest) → full ≡ after ++ q → IsJournal s q → AllAgree → asked_at q 0 ≡ Some a
       → a.by ≡ owner.Setup → IsReply (answer full 0) (limits_reply first.config.limits)
   query_told s after [] a is j all e setup = absurd cc
   query_told s after (entry.Event (Submit by id r) ∷ q) a is j all e setup =
       elim (eqb_tells 0 (asked q)) [
         | inl t ↦
             let there : Some (record { by = by; id = id; request = r }) ≡ Some a = rw t.0 at e in
-            let same : (let w : Asked = record { by = by; id = id; request = r } in w) ≡ a = cc there in
-            let query = setup_asks by r (ap (λ (w : Asked). w.by) same ∙ setup) (asks_next s q by id r j).1 in
+            let same : (let w : AskedRequest = record { by = by; id = id; request = r } in w) ≡ a = cc there in
+            let query = setup_asks by r (ap (λ (w : AskedRequest). w.by) same ∙ setup) (asks_next s q by id r j).1 in
             let m : MachineState = machine_at first choices q in
             let told : said_at first choices q r ≡ limits_reply first.config.limits =
             ap (λ (w : Request). (answer_of m w (choice_for w (choices_at first choices q))).0) query
@@ -316,7 +316,7 @@ module _ (first : MachineState) (choices : List Choice) (full : List Entry) wher
   query_told s after (entry.Kept fault ∷ q) a is j all e setup =
       query_told s (after ++ entry.Kept fault ∷ []) q a (further after q (entry.Kept fault) is) j.1 all e setup
 
-  tells_by : (s : Setting) (o : Option Asked) → asked_at full 0 ≡ o → IsJournal s full → AllAgree
+  tells_by : (s : Setting) (o : Option AskedRequest) → asked_at full 0 ≡ o → IsJournal s full → AllAgree
       → IsReply (reply_to_query o (answer full 0)) (limits_reply first.config.limits)
   tells_by s None e j all = tt
   tells_by s (Some a) e j all = by_case a.by refl

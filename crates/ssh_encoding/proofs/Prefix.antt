@@ -3,7 +3,7 @@ use Rattle.std.proofs.lemmas.Bool.{le-ltb}
 use Rattle.std.specs.Fn.{Once, FnOnceReturnsAtMut}
 use Rattle.std.specs.Borrow.{MutBor}
 use Rattle.ssh_encoding.specs.declared.error.Error.{Error}
-use Rattle.ssh_encoding.specs.Reading.{Reads, ReadsTo, ReadsPrefixed, inside, prefix_at, string_within}
+use Rattle.ssh_encoding.specs.Reading.{DecodesAs, ReadsTo, ReadsPrefixed, inside, prefix_at, string_within}
 
 module _ {F S T A : Type 0} (g : Once F (MutBor S × Unit {0}) (Result T Error × (MutBor S × Unit {0})))
     (left : S → List ℕ) (gives : Error → Error → Type 0) (f : F) (seen : T → A) (memory : Error → Type 0)
@@ -11,9 +11,9 @@ module _ {F S T A : Type 0} (g : Once F (MutBor S × Unit {0}) (Result T Error �
   -- a closure that reads what stands after a length
   pub reads_prefixed : (old : List ℕ) (result : Result T Error) (new : List ℕ) (prefix : Result (List ℕ × List ℕ) (Error × List ℕ))
       → ((d e : Error) → gives d e → e ≡ d)
-      → ((inner after : S) → FnOnceReturnsAtMut g f inner result after → Reads seen memory (left after) result (reading (left inner)))
+      → ((inner after : S) → FnOnceReturnsAtMut g f inner result after → DecodesAs seen memory (left after) result (reading (left inner)))
       → ReadsPrefixed g left gives f old result new prefix
-      → Reads seen memory new result (inside reading prefix)
+      → DecodesAs seen memory new result (inside reading prefix)
   reads_prefixed old (Ok v) new (Ok p) same calls h =
       rw (← h.0.shows) (rw (calls h.0.inner h.0.after h.0.met) (ap (λ n. Ok (seen v, n)) (sym h.1)))
   reads_prefixed old (Err e) new (Ok p) same calls h =

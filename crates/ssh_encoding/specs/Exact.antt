@@ -56,7 +56,7 @@ use Rattle.ssh_encoding.specs.Reading.{
   MAX_LABEL_LEN,
 }
 use Rattle.ssh_encoding.specs.Spelling.{
-  Begins,
+  BeginsWithText,
   IsExact,
   IsByte,
   IsArray,
@@ -110,8 +110,9 @@ tested_again : {A : Type 0} (test : A → Bool) (d : Error) (r : Result (A × Li
 tested_again test d r y e h = rw (e, h) refl
 
 -- another kind of text
-begins_as : {P Q : List ℕ → Type 0} (bytes rest : List ℕ) → ((text : List ℕ) → P text → Q text) → Begins P bytes rest
-    → Begins Q bytes rest
+begins_as : {P Q : List ℕ → Type 0} (bytes rest : List ℕ) → ((text : List ℕ) → P text → Q text)
+    → BeginsWithText P bytes rest
+    → BeginsWithText Q bytes rest
 begins_as bytes rest f h = record { text = h.text; is = f h.text h.is; splits = h.splits }
 
 -- a reading with a test spells what the reading spells and the test passes
@@ -166,7 +167,7 @@ array_exact n bytes rest v = record {
   takes = λ e.
       let g = guard_ok (ltb (length bytes) n) errors.Length (take n bytes, drop n bytes) (v, rest) e in
       let long : n ≤ length bytes = ltb-false _ _ g.0 in
-      subst (λ (p : List ℕ × List ℕ). Begins (IsArray n p.0) bytes p.1) g.1
+      subst (λ (p : List ℕ × List ℕ). BeginsWithText (IsArray n p.0) bytes p.1) g.1
       record {
         text = take n bytes;
         is = record { len = omega (arith, length-take n bytes); is = refl };
@@ -222,10 +223,10 @@ len_exact bytes rest n = tested_exact (IsNumber w32) IsLen (number_at w32) (λ m
 
 -- a spelling of an equal value, with an equal rest
 begins_at : (bytes v rest w tail : List ℕ) → (let p : List ℕ × List ℕ = (w, tail) in p) ≡ (v, rest)
-    → Begins (IsString w) bytes tail → Begins (IsString v) bytes rest
-begins_at bytes v rest w tail e h = subst (λ (x : List ℕ × List ℕ). Begins (IsString x.0) bytes x.1) e h
+    → BeginsWithText (IsString w) bytes tail → BeginsWithText (IsString v) bytes rest
+begins_at bytes v rest w tail e h = subst (λ (x : List ℕ × List ℕ). BeginsWithText (IsString x.0) bytes x.1) e h
 
-pub prefix_takes : (bytes v rest : List ℕ) → prefix_at bytes ≡ Ok (v, rest) → Begins (IsString v) bytes rest
+pub prefix_takes : (bytes v rest : List ℕ) → prefix_at bytes ≡ Ok (v, rest) → BeginsWithText (IsString v) bytes rest
 unfolding prefix_at
 prefix_takes bytes v rest e =
     let n : ℕ = from_be_bytes w32 (take 4 bytes) in
@@ -247,7 +248,7 @@ prefix_takes bytes v rest e =
           ∙ sym (append_assoc (take 4 bytes) (take n tail) (drop n tail));
     }
 
-pub prefix_again : (bytes v rest : List ℕ) → Begins (IsString v) bytes rest → prefix_at bytes ≡ Ok (v, rest)
+pub prefix_again : (bytes v rest : List ℕ) → BeginsWithText (IsString v) bytes rest → prefix_at bytes ≡ Ok (v, rest)
 unfolding prefix_at
 prefix_again bytes v rest h =
     let e : bytes ≡ h.is.head ++ (v ++ rest) = h.splits ∙ ap (λ (l : List ℕ). l ++ rest) h.is.is
@@ -339,7 +340,7 @@ label_exact meaning bytes rest v = record {
       let c = bind_ok (meaning b.0.0) (λ label. Ok (label, b.0.1)) (v, rest) b.2 in
       let is : (c.0, b.0.1) ≡ (v, rest) = ok_is _ _ c.2 in
       let name = (name_exact bytes b.0.1 b.0.0).takes b.1 in
-      subst (λ x. Begins (IsLabel meaning x.0) bytes x.1) is record {
+      subst (λ x. BeginsWithText (IsLabel meaning x.0) bytes x.1) is record {
         text = name.text;
         is = record {
           name = b.0.0;
@@ -362,7 +363,7 @@ label_exact meaning bytes rest v = record {
 -- ---- texts to the end
 
 -- a text takes four bytes at least
-text_shorter : (bytes rest v : List ℕ) → Begins (IsText v) bytes rest → length rest + 4 ≤ length bytes
+text_shorter : (bytes rest v : List ℕ) → BeginsWithText (IsText v) bytes rest → length rest + 4 ≤ length bytes
 text_shorter bytes rest v h =
     rw (
       ap (λ l. length l) h.splits,
@@ -415,7 +416,7 @@ texts_again zero (v ∷ vs) [] h t = absurd (text_not_empty v t.0 t.1 t.2 t.4)
 texts_again zero (v ∷ vs) (b ∷ bytes) h t = absurd (omega arith)
 texts_again (suc most) (v ∷ vs) [] h t = absurd (text_not_empty v t.0 t.1 t.2 t.4)
 texts_again (suc most) (v ∷ vs) (b ∷ bytes) h t =
-    let first : Begins (IsText v) (b ∷ bytes) t.1 = record { text = t.0; is = t.2; splits = t.4 } in
+    let first : BeginsWithText (IsText v) (b ∷ bytes) t.1 = record { text = t.0; is = t.2; splits = t.4 } in
     let shorter = text_shorter (b ∷ bytes) t.1 v first in
     let later = texts_again most vs t.1 (omega arith) t.3 in
     rw ((text_exact (b ∷ bytes) t.1 v).again first, later) refl
@@ -426,7 +427,7 @@ text_list_exact bytes rest vs = record {
       let i = inside_ok texts_at (prefix_at bytes) (vs, rest) e in
       let whole = prefix_takes bytes i.0.0 i.0.1 i.1 in
       let all = texts_takes (length i.0.0) i.0.0 i.2.0 (omega arith) i.2.1 in
-      subst (λ z. Begins (IsTextList z.0) bytes z.1) i.2.2 record {
+      subst (λ z. BeginsWithText (IsTextList z.0) bytes z.1) i.2.2 record {
         text = whole.text;
         is = record { content = i.0.0; texts = all.texts; is = whole.is };
         splits = whole.splits;

@@ -44,9 +44,9 @@ pub record IsSuffix (ys xs : List ℕ) : Type 0 where
   pub is : xs ≡ front ++ ys
 
 -- What `decode` returned, with `rest` left, is what the reading gives, unless the error tells of memory.
-abbrev pub Reads : {T S E : Type 0} → (T → S) → (E → Type 0) → List ℕ → Result T E → Result (S × List ℕ) E → Type 0
-Reads seen memory rest (Ok v) read = read ≡ Ok (seen v, rest)
-Reads seen memory rest (Err e) read = memory e ⊎ (read ≡ Err e)
+abbrev pub DecodesAs : {T S E : Type 0} → (T → S) → (E → Type 0) → List ℕ → Result T E → Result (S × List ℕ) E → Type 0
+DecodesAs seen memory rest (Ok v) read = read ≡ Ok (seen v, rest)
+DecodesAs seen memory rest (Err e) read = memory e ⊎ (read ≡ Err e)
 
 -- The same where a refusal also says what it leaves, and no memory is taken.
 abbrev pub ReadsTo : {T S : Type 0} → (T → S) → List ℕ → Result T Error → Result (S × List ℕ) (Error × List ℕ) → Type 0

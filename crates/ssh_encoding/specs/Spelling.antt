@@ -7,7 +7,7 @@ use Rattle.ssh_encoding.specs.Canonical.{is_canonical}
 use Rattle.ssh_encoding.specs.declared.error.Error.{Error}
 
 -- The bytes begin with a text of the kind, and the rest follows it.
-pub record Begins (IsText : List ℕ → Type 0) (bytes rest : List ℕ) : Type 0 where
+pub record BeginsWithText (IsText : List ℕ → Type 0) (bytes rest : List ℕ) : Type 0 where
   pub text : List ℕ
   pub is : IsText text
   pub splits : bytes ≡ text ++ rest
@@ -15,8 +15,8 @@ pub record Begins (IsText : List ℕ → Type 0) (bytes rest : List ℕ) : Type 
 -- What is read is spelled so, and what is spelled so is read.
 pub record IsExact {A E : Type 0} (spells : A → List ℕ → Type 0) (reading : List ℕ → Result (A × List ℕ) E)
     (bytes rest : List ℕ) (v : A) : Type 0 where
-  pub takes : reading bytes ≡ Ok (v, rest) → Begins (spells v) bytes rest
-  pub again : Begins (spells v) bytes rest → reading bytes ≡ Ok (v, rest)
+  pub takes : reading bytes ≡ Ok (v, rest) → BeginsWithText (spells v) bytes rest
+  pub again : BeginsWithText (spells v) bytes rest → reading bytes ≡ Ok (v, rest)
 
 -- each number of the list is a byte
 abbrev pub AreBytes : List ℕ → Type 0

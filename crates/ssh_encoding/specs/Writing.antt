@@ -60,11 +60,12 @@ len_refusal n = if nat_lt max_uint32 n then Some errors.Overflow else None
 abbrev pub string_refusal : List ℕ → Option Error
 string_refusal bytes = len_refusal (length bytes)
 
--- n bytes after their length: whether `usize` holds it, whether four bytes hold it, and last the bytes' own refusal
-abbrev pub or_else : Option Error → Option Error → Option Error
-or_else (Some e) last = Some e
-or_else None last = last
+-- the first, or else the second
+abbrev pub or_else : {A : Type 0} → Option A → Option A → Option A
+or_else (Some x) second = Some x
+or_else None second = second
 
+-- n bytes after their length: whether `usize` holds it, whether four bytes hold it, and last the bytes' own refusal
 unfoldable pub prefixed_refusal : ℕ → Option Error → Option Error
 prefixed_refusal n last = if nat_lt max_usize n then Some errors.Length else or_else (len_refusal n) last
 

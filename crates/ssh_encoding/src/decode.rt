@@ -1,8 +1,8 @@
 ghost use Rattle.std.specs.Prelude.{◌≡◌, ℕ, List, Bool, Result, IfOk};
 ghost use Rattle.std.specs.Int.{w32, w64};
 ghost use Rattle.ssh_encoding.specs.declared.error.Error.TheVariants.{OutOfMemory};
-ghost use Rattle.ssh_encoding.specs.Reading.{Reads, ReadsPlain, IsSuffix, number_at, byte_at, bool_at, len_at, bytes_at};
-ghost use Rattle.ssh_encoding.specs.Spelling.{Begins, IsExact, IsByte, IsArray, IsFlag, IsNumber, IsLen};
+ghost use Rattle.ssh_encoding.specs.Reading.{DecodesAs, ReadsPlain, IsSuffix, number_at, byte_at, bool_at, len_at, bytes_at};
+ghost use Rattle.ssh_encoding.specs.Spelling.{BeginsWithText, IsExact, IsByte, IsArray, IsFlag, IsNumber, IsLen};
 ghost use Rattle.ssh_encoding.specs.Exact.{byte_exact, array_exact, flag_exact, number_exact, len_exact};
 
 use crate::error::Error;
@@ -30,7 +30,7 @@ pub trait Decode: Sized {
     /// Reads a value. It takes memory for what the value holds, and never by a count that it
     /// reads alone.
     fn decode<R: Reader>(alloc: Global, reader: &mut R) -> Result<Self, Self::Error>
-        ensures read { Reads seen (Self.Error.from_gives OutOfMemory) (R.left reader.new) result (reading (R.left reader.old)) }
+        ensures read { DecodesAs seen (Self.Error.from_gives OutOfMemory) (R.left reader.new) result (reading (R.left reader.old)) }
         ensures rest { IsSuffix (R.left reader.new) (R.left reader.old) };
 
     /// What is read is spelled so, and what is spelled so is read.
@@ -40,8 +40,8 @@ pub trait Decode: Sized {
 /// Reads a value: it answers v and leaves the rest exactly where the bytes begin with a spelling of v and the
 /// rest follows it.
 pub fn decode_exact<T: Decode, R: Reader>(alloc: Global, reader: &mut R) -> Result<T, T::Error>
-    ensures found { IfOk result (λ v. Begins (T.spells (T.seen v)) (R.left reader.old) (R.left reader.new)) }
-    ensures only { (v : T.Seen) (rest : List ℕ) → Begins (T.spells v) (R.left reader.old) rest → Reads T.seen (T.Error.from_gives OutOfMemory) (R.left reader.new) result (Ok (v, rest)) }
+    ensures found { IfOk result (λ v. BeginsWithText (T.spells (T.seen v)) (R.left reader.old) (R.left reader.new)) }
+    ensures only { (v : T.Seen) (rest : List ℕ) → BeginsWithText (T.spells v) (R.left reader.old) rest → DecodesAs T.seen (T.Error.from_gives OutOfMemory) (R.left reader.new) result (Ok (v, rest)) }
     ensures rest { IsSuffix (R.left reader.new) (R.left reader.old) }
 {
     T::decode(alloc, reader)
@@ -160,7 +160,7 @@ impl<const N: usize> Decode for [u8; N] {
 
     #[tactic(auto, using(crate::proofs::Suffix::suffixes))]
     fn decode<R: Reader>(_alloc: Global, reader: &mut R) -> Result<[u8; N], Error>
-        ensures read { Reads (λ (a : List ℕ). a) (λ e. e ≡ OutOfMemory) (R.left reader.new) result (bytes_at N (R.left reader.old)) }
+        ensures read { DecodesAs (λ (a : List ℕ). a) (λ e. e ≡ OutOfMemory) (R.left reader.new) result (bytes_at N (R.left reader.old)) }
         ensures plain { ReadsPlain (λ (a : List ℕ). a) (R.left reader.new) result (bytes_at N (R.left reader.old)) }
         ensures rest { IsSuffix (R.left reader.new) (R.left reader.old) }
     {

@@ -3,7 +3,7 @@ ghost use Rattle.std.specs.Prelude.{◌≡◌, ℕ, List};
 ghost use Rattle.std.specs.Str.{is_utf8};
 ghost use Rattle.std.specs.String.{string_bytes};
 ghost use Rattle.ssh_encoding.specs.declared.error.Error.TheVariants.{OutOfMemory};
-ghost use Rattle.ssh_encoding.specs.Reading.{Reads, IsSuffix, string_at, all_at, text_at, prefixed, texts_at, texts_of};
+ghost use Rattle.ssh_encoding.specs.Reading.{DecodesAs, IsSuffix, string_at, all_at, text_at, prefixed, texts_at, texts_of};
 ghost use Rattle.ssh_encoding.specs.Spelling.{IsString, IsText, IsTextList};
 ghost use Rattle.ssh_encoding.specs.Exact.{string_exact, text_exact, text_list_exact};
 
@@ -28,7 +28,7 @@ impl Decode for Vec<u8> {
     fn decode<R: Reader>(alloc: Global, reader: &mut R) -> Result<Vec<u8>, Error> {
         reader.read_prefixed(
             |r: &mut R| -> Result<Vec<u8>, Error>
-                ensures { Reads (λ v. v.items) (λ e. e ≡ OutOfMemory) (R.left r.new) result (all_at (R.left r.old)) }
+                ensures { DecodesAs (λ v. v.items) (λ e. e ≡ OutOfMemory) (R.left r.new) result (all_at (R.left r.old)) }
             { take_all(alloc, r) },
         )
     }
@@ -38,7 +38,7 @@ impl Decode for Vec<u8> {
 
 /// All bytes that are left.
 fn take_all<R: Reader>(alloc: Global, reader: &mut R) -> Result<Vec<u8>, Error>
-    ensures { Reads (λ v. v.items) (λ e. e ≡ OutOfMemory) (R.left reader.new) result (all_at (R.left reader.old)) }
+    ensures { DecodesAs (λ v. v.items) (λ e. e ≡ OutOfMemory) (R.left reader.new) result (all_at (R.left reader.old)) }
 {
     let mut bytes = vec![in alloc; 0u8; reader.remaining_len()]?;
     reader.fill(&mut bytes)?;
@@ -111,7 +111,7 @@ impl Decode for Vec<String> {
     fn decode<R: Reader>(alloc: Global, reader: &mut R) -> Result<Vec<String>, Error> {
         reader.read_prefixed(
             |r: &mut R| -> Result<Vec<String>, Error>
-                ensures { Reads (λ v. texts_of v.items) (λ e. e ≡ OutOfMemory) (R.left r.new) result (texts_at (R.left r.old)) }
+                ensures { DecodesAs (λ v. texts_of v.items) (λ e. e ≡ OutOfMemory) (R.left r.new) result (texts_at (R.left r.old)) }
             { take_texts(alloc, r) },
         )
     }
@@ -122,7 +122,7 @@ impl Decode for Vec<String> {
 /// Texts until nothing is left.
 #[tactic(auto, using(crate::proofs::Texts::texts))]
 fn take_texts<R: Reader>(alloc: Global, reader: &mut R) -> Result<Vec<String>, Error>
-    ensures { Reads (λ v. texts_of v.items) (λ e. e ≡ OutOfMemory) (R.left reader.new) result (texts_at (R.left reader.old)) }
+    ensures { DecodesAs (λ v. texts_of v.items) (λ e. e ≡ OutOfMemory) (R.left reader.new) result (texts_at (R.left reader.old)) }
 {
     let mut texts = Vec::new(alloc);
     let most = reader.remaining_len();

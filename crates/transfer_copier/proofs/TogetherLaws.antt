@@ -31,8 +31,8 @@ use Rattle.sftp_core.specs.declared.place.Place.{Place}
 use Rattle.sftp_core.specs.declared.place.Place.TheVariants.{Granted}
 use Rattle.sftp_core.specs.Core.{Core, at, is_ticket}
 use Rattle.sftp_core.specs.Info.{info_of}
-use Rattle.call_state.specs.Asked.{Holds}
-use Rattle.call_state.specs.Keeping.{Keeps}
+use Rattle.call_state.specs.Asked.{HoldsTicket}
+use Rattle.call_state.specs.Keeping.{KeepsHeld}
 use Rattle.call_state.proofs.Keeping.{holds_still}
 use Rattle.transfer_states.specs.declared.failure.Failure.{Failure}
 use Rattle.transfer_states.specs.declared.holding.FileHold.{FileHold}
@@ -112,7 +112,7 @@ disjoint_sym g h apart id is =
 
 -- ---- what stands under them
 
-held_place : (core : Core) (ticket : ℕ) (kind : Expected) → Holds core ticket kind → (place : Place) × (at core ticket ≡ Some place)
+held_place : (core : Core) (ticket : ℕ) (kind : Expected) → HoldsTicket core ticket kind → (place : Place) × (at core ticket ≡ Some place)
 held_place core ticket kind h = by_place (at core ticket) refl
   where
     by_place : (p : Option Place) → at core ticket ≡ p → (place : Place) × (at core ticket ≡ Some place)
@@ -192,7 +192,7 @@ together_over core after before next (r ∷ later) spares (disjoint, apart) (may
     ((go_over core after r.state stays both.0 may, own, below.0), (both.1, below.1))
 
 -- over a turn of the session
-pub together_kept : {F : Type 0} (core after : Core) (rs : List (Running F)) → Keeps core after → AreTogether core rs → AreTogether after rs
+pub together_kept : {F : Type 0} (core after : Core) (rs : List (Running F)) → KeepsHeld core after → AreTogether core rs → AreTogether after rs
 together_kept core after [] keeps all = tt
 together_kept core after (r ∷ later) keeps (may, own, all) = (
   go_over core after r.state keeps.grants.opened (all_over core after (holding_of r.state) keeps (held_of core r.state may)) may,

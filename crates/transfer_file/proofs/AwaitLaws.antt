@@ -39,9 +39,9 @@ use Rattle.sftp_core.specs.Core.{Core, abandoned, after_poll, at, queued_last, r
 use Rattle.sftp_core.specs.Info.{info_of}
 use Rattle.sftp_core.proofs.Elsewhere.{abandon_phase, poll_phase, release_phase}
 use Rattle.sftp_link.specs.Views.{LinkView}
-use Rattle.plan_model.specs.Moves.{Answers as Replies, Own, Plan}
+use Rattle.plan_model.specs.Moves.{Answers, Own, Plan}
 use Rattle.call_state.specs.Calls.{
-  Asks,
+  AsksAndAwaits,
   CallValue,
   Cancels,
   IsHeld,
@@ -73,14 +73,14 @@ use Rattle.sftp_model.specs.declared.slot.Move.{Move}
 use Rattle.sftp_model.specs.declared.slot.Move.TheVariants.{Done}
 use Rattle.plan_model.specs.FilePlans.{open_next}
 use Rattle.sftp_model.specs.declared.slot.Site.{Site}
-use Rattle.sftp_file.specs.Closes.{Closes}
+use Rattle.sftp_file.specs.Closes.{ReleasesFile}
 use Rattle.sftp_file.specs.Files.{FileValue, facts_of}
 use Rattle.sftp_file.specs.Opens.{OpenStarts, opening}
 use Rattle.sftp_file.specs.Settles.{settling}
 use Rattle.sftp_file.specs.declared.opening.Opening.{Opening}
 use Rattle.sftp_file.specs.declared.settling.Settling.{Settling}
 use Rattle.transfer_file.proofs.Starts.{opened_at_start}
-use Rattle.transfer_file.specs.Awaits.{Answered, Awaited, Calling, Closed, IsPlain, IsSettled, MayAwait, Opened, PollsCall, Waits}
+use Rattle.transfer_file.specs.Awaits.{AnsweredCall, Awaited, Calling, Closed, IsPlain, IsSettled, MayAwait, Opened, PollsCall, Waits}
 use Rattle.transfer_file.specs.Sessions.{IsGoing, Turned}
 
 -- ---- a poll leaves how far the greeting has come, and the fault
@@ -103,7 +103,7 @@ polled_open core Ready = open_same core core refl
 polled_open core (Unsent asking) = open_same core core refl
 polled_open core (Came told) = open_same core core refl
 
-went_open : {W M V : Type 0} (s : Meaning W M V) (w : W) (plan : Plan) (answers : Replies) (old new : Core) (q : CallValue M) (result : Poll (Result V Error))
+went_open : {W M V : Type 0} (s : Meaning W M V) (w : W) (plan : Plan) (answers : Answers) (old new : Core) (q : CallValue M) (result : Poll (Result V Error))
     → old.fault ≡ None → Went s w plan answers old new q result → IsAsOpen old new
 went_open s w plan answers old new q poll.Pending unfailed went =
     (let o = others_submitted old new went.asking went.ticket went.submitted in record { phase = o.phase; fault = o.fault })
@@ -121,7 +121,7 @@ went_open s w plan answers old new q (poll.Ready (Err (error.SftpError code mess
 went_open s w plan answers old new q (poll.Ready (Err (error.UnsupportedExtension extensions))) unfailed went = open_same old new went.2
 went_open s w plan answers old new q (poll.Ready (Err (error.IOError kind))) unfailed went = open_same old new went.2
 
-polled_as_open : {W M V : Type 0} (s : Meaning W M V) (w : W) (plan : Plan) (answers : Replies) (old new : Core)
+polled_as_open : {W M V : Type 0} (s : Meaning W M V) (w : W) (plan : Plan) (answers : Answers) (old new : Core)
     (p q : CallValue M) (result : Poll (Result V Error))
     → old.fault ≡ None → Polled s w plan answers old new p q result → IsAsOpen old new
 polled_as_open s w plan answers old new p q result unfailed (inl waits) = open_same old new waits.core
@@ -147,11 +147,11 @@ stepped_open s plain old new p q result unfailed way stepped = by_stage p.stage 
         (stepped.polled plain.world plan_ready (λ place. None) (rw is refl) (rw is tt))
     by_stage (Unsent asking) is = (let held = subst (λ x. IsHeldAt s old p.machine x) is way.held in let never = sym plain.once ∙ held.1 in absurd cc)
     by_stage (Asked t) is =
-        let answers : Replies = λ place. reply_in (at old t) in
+        let answers : Answers = λ place. reply_in (at old t) in
         polled_as_open s plain.world plan_left answers old new p q result unfailed
         (stepped.polled plain.world plan_left answers (rw is (plain.known p.machine answers, λ later. refl)) (rw is refl))
     by_stage (Came told) is =
-        let answers : Replies = λ place. Some (reply_of told) in
+        let answers : Answers = λ place. Some (reply_of told) in
         polled_as_open s plain.world plan_left answers old new p q result unfailed
         (stepped.polled plain.world plan_left answers (rw is (plain.known p.machine answers, λ later. refl)) (rw is refl))
 
@@ -234,7 +234,7 @@ left_going state s first mid new result plain w unfailed polls =
 
 pub answers : {L S W M V E : Type 0} (state : L → LinkView S) (s : Meaning W M V) (first mid new : Calling L M)
     (value : V) → IsPlain s → WaitedSoFar state s first mid → mid.session.core.fault ≡ None
-    → PollsCall s mid new (poll.Ready (Ok value)) → Answered {E = E} state s first new (Ok value)
+    → PollsCall s mid new (poll.Ready (Ok value)) → AnsweredCall {E = E} state s first new (Ok value)
 answers state s first mid new value plain w unfailed polls = record {
   going = left_going state s first mid new _ plain w unfailed polls;
   held = polls.stepped.held;
@@ -246,7 +246,7 @@ answers state s first mid new value plain w unfailed polls = record {
 
 pub refuses : {L S W M V E : Type 0} (state : L → LinkView S) (s : Meaning W M V) (first mid new : Calling L M)
     (e : Error) (x : E) → IsPlain s → WaitedSoFar state s first mid
-    → mid.session.core.fault ≡ None → PollsCall s mid new (poll.Ready (Err e)) → Answered {E = E} state s first new (Err x)
+    → mid.session.core.fault ≡ None → PollsCall s mid new (poll.Ready (Err e)) → AnsweredCall {E = E} state s first new (Err x)
 refuses state s first mid new e x plain w unfailed polls = record {
   going = left_going state s first mid new _ plain w unfailed polls;
   held = polls.stepped.held;
@@ -258,9 +258,9 @@ refuses state s first mid new e x plain w unfailed polls = record {
 
 pub settles : {L S W M V E : Type 0} (state : L → LinkView S) (s : Meaning W M V) (first mid new : Calling L M)
     (r : Result V Error) (x : Result V E) → IsPlain s → WaitedSoFar state s first mid
-    → mid.session.core.fault ≡ None → PollsCall s mid new (poll.Ready r) → IsSettled r x → Answered {E = E} state s first new x
+    → mid.session.core.fault ≡ None → PollsCall s mid new (poll.Ready r) → IsSettled r x → AnsweredCall {E = E} state s first new x
 settles {V = V} {E = E} state s first mid new (Ok value) (Ok same) plain w unfailed polls is =
-    subst (λ (v : V). Answered {E = E} state s first new (Ok v)) (sym is) (answers state s first mid new value plain w unfailed polls)
+    subst (λ (v : V). AnsweredCall {E = E} state s first new (Ok v)) (sym is) (answers state s first mid new value plain w unfailed polls)
 settles state s first mid new (Ok value) (Err x) plain w unfailed polls never = absurd never
 settles state s first mid new (Err e) (Ok value) plain w unfailed polls never = absurd never
 settles state s first mid new (Err e) (Err x) plain w unfailed polls is = refuses state s first mid new e x plain w unfailed polls
@@ -283,7 +283,7 @@ waits_on state s first mid polled new plain w unfailed polls t same = record {
 pub wait_fails : {L S W M V E : Type 0} (state : L → LinkView S) (s : Meaning W M V)
     (first mid polled new : Calling L M) (x : E) → WaitedSoFar state s first mid
     → PollsCall s mid polled poll.Pending → Turned {E = E} state polled.session new.session (Err x) → new.call
-    ≡ polled.call → Answered {E = E} state s first new (Err x)
+    ≡ polled.call → AnsweredCall {E = E} state s first new (Err x)
 wait_fails state s first mid polled new x w polls t same =
     let way = still_under_way s polled.session.core new.session.core polled.call t.keeps (record { over = polls.stepped.over; held = polls.stepped.held }) in
     record {
@@ -297,13 +297,13 @@ wait_fails state s first mid polled new x w polls t same =
     }
 
 pub gives_up : {L S W M V E : Type 0} (state : L → LinkView S) (s : Meaning W M V) (first now : Calling L M) (x : E)
-    → WaitedSoFar state s first now → Answered {E = E} state s first now (Err x)
+    → WaitedSoFar state s first now → AnsweredCall {E = E} state s first now (Err x)
 gives_up state s first now x w = record { going = w.going; held = w.way.held; grants = w.grants; holds = tt; over = tt; answers = tt }
 
 -- ---- and then the call is let go
 
 pub awaited : {L S W M V E : Type 0} (state : L → LinkView S) (s : Meaning W M V) (first mid : Calling L M)
-    (new : SftpValue L) (result : Result V E) → Answered state s first mid result
+    (new : SftpValue L) (result : Result V E) → AnsweredCall state s first mid result
     → Cancels mid.session.core new.core mid.call.stage → new ≡ with_core mid.session new.core → Awaited state s first new result
 awaited state s first mid new (Ok value) a cancels rest =
     let core_is : new.core ≡ mid.session.core = cancels.core ∙ cancelled_ended mid.session.core mid.call.stage a.over in
@@ -324,12 +324,12 @@ awaited state s first mid new (Err e) a cancels rest = record {
 
 -- ---- a file that is opened
 
-asks_open : {W M V : Type 0} (s : Meaning W M V) (w : W) (plan : Plan) (answers : Replies) (old new : Core)
-    (q : CallValue M) → Asks s w plan answers old new q → IsAsOpen old new
+asks_open : {W M V : Type 0} (s : Meaning W M V) (w : W) (plan : Plan) (answers : Answers) (old new : Core)
+    (q : CallValue M) → AsksAndAwaits s w plan answers old new q → IsAsOpen old new
 asks_open s w plan answers old new q asks = (let o = others_submitted old new asks.asking asks.ticket asks.submitted in
     record { phase = o.phase; fault = o.fault })
 
-started_open : {W M V : Type 0} (s : Meaning W M V) (w : W) (refused : Error → Move) (plan : Plan) (answers : Replies)
+started_open : {W M V : Type 0} (s : Meaning W M V) (w : W) (refused : Error → Move) (plan : Plan) (answers : Answers)
     (old new : Core) (result : Result (CallValue M) Error)
     → Started s w refused plan answers old new result → IsAsOpen old new
 started_open s w refused plan answers old new (Ok q) (inl asks) = asks_open s w plan answers old new q asks
@@ -392,7 +392,7 @@ open_refused state flags path old new e x going starts rest =
 -- ---- a file that is let go
 
 pub closed : {L S E : Type 0} (state : L → LinkView S) (file : FileValue) (old mid new : SftpValue L) (call : CallValue Settling) (result : Result (Unit {0}) E)
-    → Closes file old.core mid.core call → mid ≡ with_core old mid.core
+    → ReleasesFile file old.core mid.core call → mid ≡ with_core old mid.core
     → Awaited state settling (record { session = mid; call = call }) new result → Closed state file old new result
 closed state file old mid new call result closes rest a =
     record { going = a.going; first = record { session = mid; call = call }; closes = closes; rest = rest; answers = a.answers }

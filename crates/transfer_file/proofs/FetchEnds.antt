@@ -8,8 +8,8 @@ use Rattle.call_state.specs.Keeping.{KeepsGrants}
 use Rattle.call_state.proofs.Keeping.{grant_kept}
 use Rattle.sftp_client.specs.Sessions.{SftpValue, with_core}
 use Rattle.sftp_file.specs.Files.{FileValue, facts_of}
-use Rattle.sftp_streams.specs.Downloads.{Begins, DownloadValue, IsReading, MayRead}
-use Rattle.sftp_streams.specs.Parts.{KeepsOthers, without_parts}
+use Rattle.sftp_streams.specs.Downloads.{BeginsDownload, DownloadValue, IsReading, MayRead}
+use Rattle.sftp_streams.specs.Parts.{KeepsOthersHeld, without_parts}
 use Rattle.transfer_file.specs.Awaits.{Closed, OpensAs}
 use Rattle.transfer_file.specs.Gets.{AreBoth, FetchDid, Fetched, Fetches, FetchesAll, FetchesClosed, Fetching, GetJob, Gets, WritesPieces, read_flags}
 use Rattle.transfer_local.specs.Local.{AreOfPart, AreUnnamed, Created, Failed, HasDone, IsOfPart, IsUnnamed, LocalAct, Renamed, Wrote, Got, Opened, writes_of}
@@ -19,21 +19,21 @@ use Rattle.transfer_file.proofs.FetchLaws.{done_join, going_with, grants_same, g
 -- ---- a download of an open file
 
 pub may_read : (core : Core) (file : FileValue) (window : ℕ) (d : DownloadValue) → IsSome (info_of core.phase)
-    → Begins core file window (Ok d) → ((any : Core) → IsReading any d) → MayRead core d
+    → BeginsDownload core file window (Ok d) → ((any : Core) → IsReading any d) → MayRead core d
 may_read core file window d opened begins held = record { over = ap (λ (x : DownloadValue). x.ended) begins.1; opened = opened; held = held core }
 
 -- its session, once it was given up
 given_up : {L S : Type 0} (state : L → LinkView S) (mid : Fetching L) (new : SftpValue L) → IsGoing state mid.session
-    → KeepsOthers mid.download.parts mid.session.core new.core
+    → KeepsOthersHeld mid.download.parts mid.session.core new.core
     → new ≡ with_core mid.session new.core → IsGoing state new
 given_up state mid new going others rest = going_with state mid.session new going rest others.phase others.fault
 
 pub fetched_all : {L S H E F : Type 0} (state : L → LinkView S) (done : LocalAct → H → H) (file : FileValue)
     (window : ℕ) (part : List ℕ) (old : SftpValue L) (d : DownloadValue) (end : Fetching L)
-    (new : SftpValue L) (before made after : H) → Begins old.core file window (Ok d) → HasDone done (Created part ∷ []) before made
+    (new : SftpValue L) (before made after : H) → BeginsDownload old.core file window (Ok d) → HasDone done (Created part ∷ []) before made
     → WritesPieces {E = F} state done (record { session = old; download = d }) end made after (Ok tt) → new.core
     ≡ without_parts end.session.core end.download.parts
-    → KeepsOthers end.download.parts end.session.core new.core → new ≡ with_core end.session new.core
+    → KeepsOthersHeld end.download.parts end.session.core new.core → new ≡ with_core end.session new.core
     → Fetches {E = E} state done file window part old new before after (Ok end.download.offset)
 fetched_all state done file window part old d end new before made after begins created w core_is others rest = record {
   going = given_up state end new w.going others rest;
@@ -55,7 +55,7 @@ pub fetch_failed : {L S H E F : Type 0} (state : L → LinkView S) (done : Local
     (window : ℕ) (part : List ℕ) (old : SftpValue L) (d : DownloadValue) (end : Fetching L)
     (new : SftpValue L) (before made after : H) (e : F) (x : E) → HasDone done (Created part ∷ []) before made
     → WritesPieces {E = F} state done (record { session = old; download = d }) end made after (Err e)
-    → KeepsOthers end.download.parts end.session.core new.core → new ≡ with_core end.session new.core
+    → KeepsOthersHeld end.download.parts end.session.core new.core → new ≡ with_core end.session new.core
     → Fetches {E = E} state done file window part old new before after (Err x)
 fetch_failed state done file window part old d end new before made after e x created w others rest =
     let acts = w.did part in

@@ -36,13 +36,13 @@ use Rattle.sftp_core.specs.declared.phase.Phase.{Phase}
 use Rattle.sftp_core.specs.Core.{Core}
 use Rattle.sftp_core.specs.Info.{info_of}
 use Rattle.sftp_link.specs.Views.{LinkView}
-use Rattle.call_state.specs.Keeping.{Keeps, KeepsGrants}
+use Rattle.call_state.specs.Keeping.{KeepsHeld, KeepsGrants}
 use Rattle.call_state.specs.declared.poll.Poll.TheVariants as poll
 use Rattle.sftp_client.specs.Sessions.{SftpValue, with_core}
-use Rattle.sftp_streams.specs.Downloads.{DownloadValue, MayRead, Reads, content_kind}
-use Rattle.sftp_streams.specs.Parts.{AreAwaited, KeepsOthers}
+use Rattle.sftp_streams.specs.Downloads.{DownloadValue, MayRead, PollsDownload, content_kind}
+use Rattle.sftp_streams.specs.Parts.{AreAwaited, KeepsOthersHeld}
 use Rattle.sftp_streams.proofs.PartLaws.{keeps_parts}
-use Rattle.transfer_file.specs.Gets.{FetchSteps, Fetched, Fetching, PiecesDid, Polls, StepDid, Steps, WritesPieces}
+use Rattle.transfer_file.specs.Gets.{FetchSteps, Fetched, Fetching, PiecesDid, Polls, StepDid, GetSteps, WritesPieces}
 use Rattle.transfer_local.specs.Local.{AreOfPart, Failed, HasDone, IsOfPart, LocalAct, Wrote, all_done, writes_of}
 use Rattle.transfer_file.specs.Sessions.{IsGoing, Turned, Turns}
 

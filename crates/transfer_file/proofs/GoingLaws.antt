@@ -10,7 +10,7 @@ use Rattle.sftp_core.specs.Core.{Core, failed_with, handed_out}
 use Rattle.sftp_core.specs.Info.{info_of}
 use Rattle.sftp_link.specs.Views.{LinkView}
 use Rattle.session_exchange.specs.Causes.{Cause}
-use Rattle.call_state.specs.Keeping.{Keeps}
+use Rattle.call_state.specs.Keeping.{KeepsHeld}
 use Rattle.call_state.proofs.Keeping.{keeps_both, keeps_failed, keeps_handed_out, keeps_same, keeps_taken, keeps_unchanged}
 use Rattle.sftp_client.specs.Sessions.{
   Flushes,
@@ -22,7 +22,7 @@ use Rattle.sftp_client.specs.Sessions.{
   SendsAll,
   SftpValue,
   TakeStops,
-  Takes,
+  TakesOrKept,
   TakesFrame,
   TakesNone,
   TakesUnfailed,
@@ -38,17 +38,17 @@ use Rattle.transfer_file.specs.Sessions.{IsGoing, Turned}
 -- what a call of a session leaves
 pub record Left {L S : Type 0} (state : L → LinkView S) (old new : SftpValue L) : Type 0 where
   pub going : IsGoing state new
-  pub keeps : Keeps old.core new.core
+  pub keeps : KeepsHeld old.core new.core
 
 abbrev Below : ℕ → Type 0
 Below n = n < 2 ^ 64 - 1
 
 -- ---- after an error
 
-kept_keeps : (e : Error) (core : Core) → Keeps core (kept_after e core)
+kept_keeps : (e : Error) (core : Core) → KeepsHeld core (kept_after e core)
 kept_keeps e core = by_fault (fault_by e)
   where
-    by_fault : (f : Option Fault) → Keeps core (failed_by f core)
+    by_fault : (f : Option Fault) → KeepsHeld core (failed_by f core)
     by_fault None = keeps_same core
     by_fault (Some f) = keeps_failed core f
 
@@ -107,7 +107,7 @@ left_kept state old new e going unfailed core_is cause = record {
     alive = λ none. kept_alive e old.core (state old.link).faults (state new.link).faults cause (going.alive unfailed)
         (ap (λ (c : Core). c.fault) (sym core_is) ∙ none);
   };
-  keeps = subst (λ (c : Core). Keeps old.core c) (sym core_is) (kept_keeps e old.core);
+  keeps = subst (λ (c : Core). KeepsHeld old.core c) (sym core_is) (kept_keeps e old.core);
 }
 
 left_stopped : {L S : Type 0} (state : L → LinkView S) (old new : SftpValue L) (e : Error) → IsGoing state old
@@ -145,7 +145,7 @@ left_taken state old new going unfailed takes = record {
   keeps = keeps_taken old.core new.core (reply_at takes.body) takes.told going.opened takes.right takes.taken;
 }
 
-pub took : {L S : Type 0} (state : L → LinkView S) (old new : SftpValue L) (b : Bool) → IsGoing state old → Takes state old new (Ok b) → Left state old new
+pub took : {L S : Type 0} (state : L → LinkView S) (old new : SftpValue L) (b : Bool) → IsGoing state old → TakesOrKept state old new (Ok b) → Left state old new
 took state old new true going (unfailed, (due, takes)) = left_taken state old new going unfailed takes
 took state old new false going (unfailed, takes) = left_sent state old new going takes.sends
 
@@ -158,11 +158,11 @@ left_refused state old new e going refuses =
         opened = subst (λ (c : Core). IsSome (info_of c.phase)) (sym core_is) going.opened;
         alive = λ none. (let never = ap (λ (c : Core). c.fault) (sym core_is) ∙ none in absurd cc);
       };
-      keeps = subst (λ (c : Core). Keeps old.core c) (sym core_is) (keeps_failed old.core refuses.fault);
+      keeps = subst (λ (c : Core). KeepsHeld old.core c) (sym core_is) (keeps_failed old.core refuses.fault);
     }
 
 pub take_stopped : {L S : Type 0} (state : L → LinkView S) (old new : SftpValue L) (e : Error) → IsGoing state old
-    → Takes state old new (Err e) → Left state old new
+    → TakesOrKept state old new (Err e) → Left state old new
 take_stopped state old new e going (inl kept) = kept_same state old new e going kept
 take_stopped state old new e going (inr (unfailed, inl stops)) = left_stopped state old new e going unfailed stops
 take_stopped state old new e going (inr (unfailed, inr (due, inl stops))) =
@@ -172,7 +172,7 @@ take_stopped state old new e going (inr (unfailed, inr (due, inr refuses))) = le
 -- ---- a turn
 
 pub turn_ends : {L S E : Type 0} (state : L → LinkView S) (old mid new : SftpValue L) (b : Bool) → IsGoing state old
-    → Flushes state old mid (Ok tt) → Takes state mid new (Ok b)
+    → Flushes state old mid (Ok tt) → TakesOrKept state mid new (Ok b)
     → Turned {E = E} state old new (Ok tt)
 turn_ends state old mid new b going flushes takes =
     let first = flushed state old mid going flushes in
@@ -187,7 +187,7 @@ pub flush_stops_turn : {L S E : Type 0} (state : L → LinkView S) (old new : Sf
 flush_stops_turn state old new e x going flushes = turn_stops state old new x (flush_stopped state old new e going flushes)
 
 pub take_stops_turn : {L S E : Type 0} (state : L → LinkView S) (old mid new : SftpValue L) (e : Error) (x : E)
-    → IsGoing state old → Flushes state old mid (Ok tt) → Takes state mid new (Err e)
+    → IsGoing state old → Flushes state old mid (Ok tt) → TakesOrKept state mid new (Err e)
     → Turned {E = E} state old new (Err x)
 take_stops_turn state old mid new e x going flushes takes =
     let first = flushed state old mid going flushes in

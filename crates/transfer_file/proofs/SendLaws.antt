@@ -36,17 +36,17 @@ use Rattle.sftp_model.specs.declared.error.Error.{Error}
 use Rattle.sftp_core.specs.Core.{Core}
 use Rattle.sftp_core.specs.Info.{info_of}
 use Rattle.sftp_link.specs.Views.{LinkView}
-use Rattle.call_state.specs.Keeping.{Keeps, KeepsGrants}
+use Rattle.call_state.specs.Keeping.{KeepsHeld, KeepsGrants}
 use Rattle.call_state.specs.declared.poll.Poll.{Poll}
 use Rattle.call_state.specs.declared.poll.Poll.TheVariants as poll
 use Rattle.sftp_client.specs.Sessions.{SftpValue, with_core}
 use Rattle.sftp_file.specs.Files.{FileValue, facts_of}
-use Rattle.sftp_streams.specs.Parts.{AreAwaited, KeepsOthers, without_parts}
-use Rattle.sftp_streams.specs.Uploads.{AsksWrite, Begins, IsWriting, MayPush, MayWrite, UploadValue, Writes, room_of, status_kind}
+use Rattle.sftp_streams.specs.Parts.{AreAwaited, KeepsOthersHeld, without_parts}
+use Rattle.sftp_streams.specs.Uploads.{AsksWrite, BeginsUpload, IsWriting, MayPush, MayWrite, UploadValue, Writes, room_of, status_kind}
 use Rattle.sftp_streams.proofs.PartLaws.{keeps_parts, others_submitted}
 use Rattle.transfer_local.specs.Local.{AreGot, Failed, Got, HasDone, LocalAct, Opened, all_done}
 use Rattle.transfer_file.specs.Puts.{
-  Leaves,
+  LeavesUpload,
   PiecesSent,
   PollsUpload,
   PushDid,
@@ -55,13 +55,13 @@ use Rattle.transfer_file.specs.Puts.{
   SendSteps,
   Sending,
   SendsPieces,
-  Sends,
+  SendsFile,
   SendsAll,
   Sent,
   SettleSteps,
   Settles,
   SettlesAll,
-  Steps,
+  PutSteps,
   reads_of,
 }
 use Rattle.transfer_file.specs.Sessions.{IsGoing, Turned, Turns}
@@ -84,14 +84,14 @@ got_join (act ∷ acts) ys (here, x) y = (here, got_join acts ys x y)
 -- ---- what one call leaves
 
 leaves_same : {L S : Type 0} (state : L → LinkView S) (now : Sending L) → IsGoing state now.session
-    → MayWrite now.session.core now.upload → Leaves state now now
+    → MayWrite now.session.core now.upload → LeavesUpload state now now
 leaves_same state now going may = record { going = going; grants = grants_same now.session.core; awaited = may.held.parts }
 
-leaves_then : {L S : Type 0} (state : L → LinkView S) (a b c : Sending L) → KeepsGrants a.session.core b.session.core → Leaves state b c → Leaves state a c
+leaves_then : {L S : Type 0} (state : L → LinkView S) (a b c : Sending L) → KeepsGrants a.session.core b.session.core → LeavesUpload state b c → LeavesUpload state a c
 leaves_then state a b c x y = record { going = y.going; grants = grants_then a.session.core b.session.core c.session.core x y.grants; awaited = y.awaited }
 
 leaves_polled : {L S : Type 0} (state : L → LinkView S) (old new : Sending L) (result : Poll (Result (Option ℕ) Error))
-    → IsGoing state old.session → PollsUpload old new result → Leaves state old new
+    → IsGoing state old.session → PollsUpload old new result → LeavesUpload state old new
 leaves_polled state old new result going polls = record {
   going = going_with state old.session new.session going polls.rest polls.writes.others.phase polls.writes.others.fault;
   grants = polls.writes.others.grants;
@@ -99,7 +99,7 @@ leaves_polled state old new result going polls = record {
 }
 
 leaves_pushed : {L S : Type 0} (state : L → LinkView S) (old new : Sending L) (bytes : List ℕ)
-    → IsGoing state old.session → Pushes old bytes new → Leaves state old new
+    → IsGoing state old.session → Pushes old bytes new → LeavesUpload state old new
 leaves_pushed state old new bytes going pushes =
     let o = others_submitted old.session.core new.session.core _ pushes.asks.ticket pushes.asks.submitted in
     record {
@@ -130,7 +130,7 @@ pub poll_failed : {L S F : Type 0} (state : L → LinkView S) (old new : Sending
 poll_failed state old new e x going polls = record { leaves = leaves_polled state old new _ going polls; did = tt }
 
 may_still : {L : Type 0} (mid new : Sending L) → MayWrite mid.session.core mid.upload
-    → Keeps mid.session.core new.session.core → new.upload ≡ mid.upload → MayWrite new.session.core new.upload
+    → KeepsHeld mid.session.core new.session.core → new.upload ≡ mid.upload → MayWrite new.session.core new.upload
 may_still mid new may keeps same = subst (λ (u : UploadValue). MayWrite new.session.core u) (sym same) (record {
   over = may.over;
   held = record {
@@ -197,7 +197,7 @@ pub step_refused : {L S H F : Type 0} (state : L → LinkView S) (done : LocalAc
     (before after : H) (bytes : List ℕ) (x : F) → IsGoing state old.session
     → MayWrite old.session.core old.upload → new ≡ old → HasDone done (Got bytes ∷ []) before after → SendSteps {E = F} state done old new before after (Err x)
 step_refused state done old new before after bytes x going may same got =
-    record { leaves = subst (λ (n : Sending _). Leaves state old n) (sym same) (leaves_same state old going may); did = (Got bytes ∷ [], got, (tt, tt)) }
+    record { leaves = subst (λ (n : Sending _). LeavesUpload state old n) (sym same) (leaves_same state old going may); did = (Got bytes ∷ [], got, (tt, tt)) }
 
 pub read_failed : {L S H F : Type 0} (state : L → LinkView S) (done : LocalAct → H → H) (now : Sending L) (before after : H) (x : F) → IsGoing state now.session
     → MayWrite now.session.core now.upload → HasDone done (Failed (Got []) ∷ []) before after → SendSteps {E = F} state done now now before after (Err x)
@@ -332,16 +332,16 @@ unpushed state done first new before after e x p = record { leaves = p.leaves; d
 
 -- ---- an open file
 
-pub may_write : (core : Core) (file : FileValue) (window : ℕ) (u : UploadValue) → Begins core file window (Ok u)
+pub may_write : (core : Core) (file : FileValue) (window : ℕ) (u : UploadValue) → BeginsUpload core file window (Ok u)
     → ((any : Core) → IsWriting any u) → MayWrite core u
 may_write core file window u begins held = record { over = ap (λ (x : UploadValue). x.ended) begins.1; held = held core }
 
 pub sent_all : {L S H E F : Type 0} (state : L → LinkView S) (done : LocalAct → H → H) (file : FileValue) (window : ℕ)
     (old : SftpValue L) (u : UploadValue) (end : Sending L)
-    (new : SftpValue L) (before after : H) → Begins old.core file window (Ok u)
+    (new : SftpValue L) (before after : H) → BeginsUpload old.core file window (Ok u)
     → SendsPieces {E = F} state done (record { session = old; upload = u }) end before after (Ok tt)
-    → new.core ≡ without_parts end.session.core end.upload.parts → KeepsOthers end.upload.parts end.session.core new.core → new ≡ with_core end.session new.core
-    → Sends {E = E} state done file window old new before after (Ok end.upload.offset)
+    → new.core ≡ without_parts end.session.core end.upload.parts → KeepsOthersHeld end.upload.parts end.session.core new.core → new ≡ with_core end.session new.core
+    → SendsFile {E = E} state done file window old new before after (Ok end.upload.offset)
 sent_all state done file window old u end new before after begins s core_is others rest = record {
   going = going_with state end.session new s.leaves.going rest others.phase others.fault;
   grants = grants_then old.core end.session.core new.core s.leaves.grants others.grants;
@@ -364,8 +364,8 @@ sent_all state done file window old u end new before after begins s core_is othe
 pub send_failed : {L S H E F : Type 0} (state : L → LinkView S) (done : LocalAct → H → H) (file : FileValue)
     (window : ℕ) (old : SftpValue L) (u : UploadValue) (end : Sending L)
     (new : SftpValue L) (before after : H) (e : F) (x : E) → SendsPieces {E = F} state done (record { session = old; upload = u }) end before after (Err e)
-    → KeepsOthers end.upload.parts end.session.core new.core → new ≡ with_core end.session new.core
-    → Sends {E = E} state done file window old new before after (Err x)
+    → KeepsOthersHeld end.upload.parts end.session.core new.core → new ≡ with_core end.session new.core
+    → SendsFile {E = E} state done file window old new before after (Err x)
 send_failed state done file window old u end new before after e x s others rest = record {
   going = going_with state end.session new s.leaves.going rest others.phase others.fault;
   grants = grants_then old.core end.session.core new.core s.leaves.grants others.grants;
@@ -374,7 +374,7 @@ send_failed state done file window old u end new before after e x s others rest 
 
 pub not_writable : {L S H E : Type 0} (state : L → LinkView S) (done : LocalAct → H → H) (file : FileValue) (window : ℕ)
     (old new : SftpValue L) (h : H) (x : E) → IsGoing state old → new ≡ old
-    → Sends {E = E} state done file window old new h h (Err x)
+    → SendsFile {E = E} state done file window old new h h (Err x)
 not_writable state done file window old new h x going same = record {
   going = subst (λ (s : SftpValue _). IsGoing state s) (sym same) going;
   grants = subst (λ (s : SftpValue _). KeepsGrants old.core s.core) (sym same) (grants_same old.core);

@@ -12,7 +12,7 @@ use Rattle.sftp_model.specs.declared.slot.Slot.{Slot}
 use Rattle.sftp_model.specs.declared.slot.Slot.TheVariants as slots
 use Rattle.sftp_model.specs.Slots.{with_slot}
 use Rattle.sftp_core.specs.Core.{Core, at, reply_in}
-use Rattle.plan_model.specs.Moves.{Answers as Replies, Plan, on_handle, once_answered}
+use Rattle.plan_model.specs.Moves.{Answers, Plan, on_handle, once_answered}
 use Rattle.call_state.specs.Asked.{request_of}
 use Rattle.call_state.specs.Calls.{CallValue, Polled, Stepped}
 use Rattle.call_state.specs.Told.{reply_of}
@@ -52,7 +52,7 @@ pub opened_at_start : (old new : Core) (p q : CallValue Opening) (f : FileValue)
 opened_at_start old new p q f stepped = by_stage p.stage refl
   where
     -- what a poll that gave the file says of a plan
-    ends : (plan : Plan) (answers : Replies) → Polled opening (0, one_lane) plan answers old new p q (poll.Ready (Ok f))
+    ends : (plan : Plan) (answers : Answers) → Polled opening (0, one_lane) plan answers old new p q (poll.Ready (Ok f))
         → plan [] answers ≡ open_ended (0, one_lane) (Ok f)
     ends plan answers (inl waits) = (let never = waits.pending in absurd cc)
     ends plan answers (inr went) = went.0
@@ -79,10 +79,10 @@ opened_at_start old new p q f stepped = by_stage p.stage refl
         ends (plan_asks asking) (λ place. None) (stepped.polled (0, one_lane) (plan_asks asking) (λ place. None)
         (rw is (record { asks = refl; rest = λ later. refl; knows = tt })) (rw is tt)) in absurd cc)
     by_stage (Asked t) is =
-        let answers : Replies = λ place. reply_in (at old t) in
+        let answers : Answers = λ place. reply_in (at old t) in
         by_reply p.machine f (reply_in (at old t)) (ends plan_left answers
         (stepped.polled (0, one_lane) plan_left answers (rw is (tt, λ later. refl)) (rw is refl)))
     by_stage (Came told) is =
-        let answers : Replies = λ place. Some (reply_of told) in
+        let answers : Answers = λ place. Some (reply_of told) in
         by_reply p.machine f (Some (reply_of told)) (ends plan_left answers
         (stepped.polled (0, one_lane) plan_left answers (rw is (tt, λ later. refl)) (rw is refl)))

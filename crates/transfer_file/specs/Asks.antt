@@ -9,7 +9,7 @@ use Rattle.call_state.specs.declared.stage.Stage.TheVariants.{Asked as Awaits}
 use Rattle.sftp_client.specs.Sessions.{SftpValue, with_core}
 use Rattle.sftp_file.specs.Settles.{settling}
 use Rattle.sftp_file.specs.declared.settling.Settling.{Settling}
-use Rattle.transfer_file.specs.Awaits.{Answers, Calling}
+use Rattle.transfer_file.specs.Awaits.{AnswersCall, Calling}
 use Rattle.transfer_file.specs.Sessions.{IsGoing}
 
 -- a rename, at once in the place of a file that has the name, or plainly
@@ -25,7 +25,7 @@ pub record SaysOk {L S : Type 0} (state : L → LinkView S) (asked : Request) (o
   pub submitted : Submitted old.core (Whole asked) ticket first.session.core
   pub rest : first.session ≡ with_core old first.session.core
   pub awaits : first.call.stage ≡ Awaits ticket
-  pub answers : Answers state settling first last tt
+  pub answers : AnswersCall state settling first last tt
   pub ended : new ≡ last.session
 
 pub record AsksFor {L S E : Type 0} (state : L → LinkView S) (asked : Request) (old new : SftpValue L)

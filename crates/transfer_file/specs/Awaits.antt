@@ -4,14 +4,14 @@ use Rattle.sftp_model.specs.declared.error.Error.{Error}
 use Rattle.sftp_model.specs.declared.flags.OpenFlags.{OpenFlags}
 use Rattle.sftp_core.specs.Core.{Core, IsGrant}
 use Rattle.sftp_link.specs.Views.{LinkView}
-use Rattle.plan_model.specs.Moves.{Answers as Replies}
+use Rattle.plan_model.specs.Moves.{Answers}
 use Rattle.call_state.specs.Calls.{CallValue, IsHeld, IsUnderWay, Stepped, is_ended}
 use Rattle.call_state.specs.Keeping.{KeepsGrants}
 use Rattle.call_state.specs.Machines.{Meaning}
 use Rattle.call_state.specs.declared.poll.Poll.{Poll}
 use Rattle.call_state.specs.declared.poll.Poll.TheVariants as poll
 use Rattle.sftp_client.specs.Sessions.{SftpValue, with_core}
-use Rattle.sftp_file.specs.Closes.{Closes}
+use Rattle.sftp_file.specs.Closes.{ReleasesFile}
 use Rattle.sftp_file.specs.Files.{FileValue}
 use Rattle.sftp_file.specs.Opens.{OpenStarts, opening}
 use Rattle.sftp_file.specs.Settles.{settling}
@@ -40,15 +40,16 @@ Waits {L = L} {M = M} state s (suc n) old new = (before : Calling L M) × (mid :
     × (new.call ≡ mid.call)
 
 -- and then it gave this
-abbrev pub Answers : {L S W M V : Type 0} → (L → LinkView S) → Meaning W M V → Calling L M → Calling L M → V → Type 0
-Answers {L = L} {M = M} state s old new value = (n : ℕ) × (last : Calling L M) × Waits state s n old last
+abbrev pub AnswersCall : {L S W M V : Type 0} → (L → LinkView S) → Meaning W M V → Calling L M → Calling L M → V
+    → Type 0
+AnswersCall {L = L} {M = M} state s old new value = (n : ℕ) × (last : Calling L M) × Waits state s n old last
     × PollsCall s last new (poll.Ready (Ok value))
 
 -- calls of one request, which know nothing of the replies beforehand
 pub record IsPlain {W M V : Type 0} (s : Meaning W M V) : Type 0 where
   pub world : W
   pub once : s.again ≡ false
-  pub known : (m : M) (answers : Replies) → s.known m answers
+  pub known : (m : M) (answers : Answers) → s.known m answers
 
 -- a call that has not answered
 pub record MayAwait {L S W M V : Type 0} (state : L → LinkView S) (s : Meaning W M V) (c : Calling L M) : Type 0 where
@@ -56,14 +57,14 @@ pub record MayAwait {L S W M V : Type 0} (state : L → LinkView S) (s : Meaning
   pub under_way : IsUnderWay s c.session.core c.call
 
 -- polls and turns, whatever came of them: the call can be given up
-pub record Answered {L S W M V E : Type 0} (state : L → LinkView S) (s : Meaning W M V) (old new : Calling L M)
+pub record AnsweredCall {L S W M V E : Type 0} (state : L → LinkView S) (s : Meaning W M V) (old new : Calling L M)
     (result : Result V E) : Type 0 where
   pub going : IsGoing state new.session
   pub held : IsHeld s new.session.core new.call
   pub grants : KeepsGrants old.session.core new.session.core
   pub holds : IfOk result (λ value. s.holds new.session.core value)
   pub over : IfOk result (λ value. is_ended new.call.stage ≡ true)
-  pub answers : IfOk result (Answers state s old new)
+  pub answers : IfOk result (AnswersCall state s old new)
 
 -- a value is given on, and an error as one
 abbrev pub IsSettled : {V E F : Type 0} → Result V E → Result V F → Type 0
@@ -78,7 +79,7 @@ pub record Awaited {L S W M V E : Type 0} (state : L → LinkView S) (s : Meanin
   pub going : IsGoing state new
   pub grants : IfOk result (λ value. KeepsGrants old.session.core new.core)
   pub holds : IfOk result (λ value. s.holds new.core value)
-  pub answers : IfOk result (λ value. (last : Calling L M) × Answers state s old last value × (new ≡ last.session))
+  pub answers : IfOk result (λ value. (last : Calling L M) × AnswersCall state s old last value × (new ≡ last.session))
 
 -- ---- a file of the server
 
@@ -88,7 +89,7 @@ abbrev pub OpensAs : {L S : Type 0} → (L → LinkView S) → OpenFlags → Lis
 OpensAs {L = L} state flags path old new file = (first : Calling L Opening) × (last : Calling L Opening)
     × OpenStarts flags path old.core first.session.core (Ok first.call)
     × (first.session ≡ with_core old first.session.core)
-    × Answers state opening first last file
+    × AnswersCall state opening first last file
     × (new ≡ last.session)
     × (file.offset ≡ 0)
 
@@ -103,7 +104,7 @@ pub record Closed {L S E : Type 0} (state : L → LinkView S) (file : FileValue)
     (result : Result (Unit {0}) E) : Type 0 where
   pub going : IsGoing state new
   pub first : Calling L Settling
-  pub closes : Closes file old.core first.session.core first.call
+  pub closes : ReleasesFile file old.core first.session.core first.call
   pub rest : first.session ≡ with_core old first.session.core
-  pub answers : IfOk result (λ u. (last : Calling L Settling) × Answers state settling first last u
+  pub answers : IfOk result (λ u. (last : Calling L Settling) × AnswersCall state settling first last u
       × (new ≡ last.session))

@@ -30,7 +30,7 @@ use Rattle.call_state.specs.declared.poll.Poll.{Poll}
 use Rattle.call_state.specs.declared.poll.Poll.TheVariants as poll
 use Rattle.sftp_client.specs.Sessions.{SftpValue, with_core}
 use Rattle.sftp_file.specs.Files.{FileValue, facts_of}
-use Rattle.sftp_streams.specs.Downloads.{DownloadValue, MayRead, Reads, content_kind, starting}
+use Rattle.sftp_streams.specs.Downloads.{DownloadValue, MayRead, PollsDownload, content_kind, starting}
 use Rattle.sftp_streams.specs.Parts.{AreAwaited, without_parts}
 use Rattle.transfer_local.specs.Local.{AreOfPart, AreUnnamed, Created, HasDone, LocalAct, Renamed, writes_of}
 use Rattle.transfer_file.specs.Awaits.{Closed, OpensAs}
@@ -43,28 +43,29 @@ pub record Fetching (L : Type 0) : Type 0 where
 
 -- a poll of the download, after which nothing but the core of the session is another
 pub record Polls {L : Type 0} (old new : Fetching L) (result : Poll (Result (Option (List ℕ)) Error)) : Type 0 where
-  pub reads : Reads old.session.core new.session.core old.download new.download result
+  pub reads : PollsDownload old.session.core new.session.core old.download new.download result
   pub rest : new.session ≡ with_core old.session new.session.core
 
 -- a poll gave one piece, or it gave none, and the session took a turn
-abbrev pub Steps : {L S : Type 0} → (L → LinkView S) → Fetching L → List (List ℕ) → Fetching L → Type 0
-Steps {L = L} state old [] new = (mid : Fetching L) × Polls old mid poll.Pending × Turns state mid.session new.session
+abbrev pub GetSteps : {L S : Type 0} → (L → LinkView S) → Fetching L → List (List ℕ) → Fetching L → Type 0
+GetSteps {L = L} state old [] new = (mid : Fetching L) × Polls old mid poll.Pending
+    × Turns state mid.session new.session
     × (new.download ≡ mid.download)
-Steps state old (piece ∷ []) new = Polls old new (poll.Ready (Ok (Some piece)))
-Steps state old other new = ⊥
+GetSteps state old (piece ∷ []) new = Polls old new (poll.Ready (Ok (Some piece)))
+GetSteps state old other new = ⊥
 
 -- so many steps gave these pieces
 abbrev pub Fetched : {L S : Type 0} → (L → LinkView S) → ℕ → Fetching L → List (List ℕ) → Fetching L → Type 0
 Fetched state zero old pieces new = (new ≡ old) × (pieces ≡ [])
 Fetched {L = L} state (suc n) old pieces new = (mid : Fetching L) × (earlier : List (List ℕ)) × (piece : List (List ℕ))
-    × Fetched state n old earlier mid × Steps state mid piece new × (pieces ≡ earlier ++ piece)
+    × Fetched state n old earlier mid × GetSteps state mid piece new × (pieces ≡ earlier ++ piece)
 
 -- ---- one step of the copier
 
 -- what a step did: each piece was written, and at the end nothing was
 abbrev pub StepDid : {L S H E : Type 0} → (L → LinkView S) → (LocalAct → H → H) → Fetching L → Fetching L → H → H
     → Result Bool E → Type 0
-StepDid state done old new before after (Ok false) = (piece : List (List ℕ)) × Steps state old piece new
+StepDid state done old new before after (Ok false) = (piece : List (List ℕ)) × GetSteps state old piece new
     × HasDone done (writes_of piece) before after
     × MayRead new.session.core new.download
 StepDid state done old new before after (Ok true) = Polls old new (poll.Ready (Ok None)) × (after ≡ before)

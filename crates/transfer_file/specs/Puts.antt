@@ -64,16 +64,16 @@ Settles {L = L} state old new = ((len : ℕ) × PollsUpload old new (poll.Ready 
     × (new.upload ≡ mid.upload))
 
 -- one piece was pushed, or none, and what is under way went on
-abbrev pub Steps : {L S : Type 0} → (L → LinkView S) → Sending L → List (List ℕ) → Sending L → Type 0
-Steps state old [] new = Settles state old new
-Steps state old (piece ∷ []) new = Pushes old piece new
-Steps state old other new = ⊥
+abbrev pub PutSteps : {L S : Type 0} → (L → LinkView S) → Sending L → List (List ℕ) → Sending L → Type 0
+PutSteps state old [] new = Settles state old new
+PutSteps state old (piece ∷ []) new = Pushes old piece new
+PutSteps state old other new = ⊥
 
 -- so many steps pushed these pieces
 abbrev pub Sent : {L S : Type 0} → (L → LinkView S) → ℕ → Sending L → List (List ℕ) → Sending L → Type 0
 Sent state zero old pieces new = (new ≡ old) × (pieces ≡ [])
 Sent {L = L} state (suc n) old pieces new = (mid : Sending L) × (earlier : List (List ℕ)) × (piece : List (List ℕ))
-    × Sent state n old earlier mid × Steps state mid piece new × (pieces ≡ earlier ++ piece)
+    × Sent state n old earlier mid × PutSteps state mid piece new × (pieces ≡ earlier ++ piece)
 
 -- these pieces are got
 abbrev pub reads_of : List (List ℕ) → List LocalAct
@@ -82,7 +82,7 @@ reads_of pieces = map Got pieces
 -- ---- one step of the copier
 
 -- what is left of a session and an upload, whatever came of a call
-pub record Leaves {L S : Type 0} (state : L → LinkView S) (old new : Sending L) : Type 0 where
+pub record LeavesUpload {L S : Type 0} (state : L → LinkView S) (old new : Sending L) : Type 0 where
   pub going : IsGoing state new.session
   pub grants : KeepsGrants old.session.core new.session.core
   pub awaited : AreAwaited status_kind new.session.core new.upload.parts
@@ -90,7 +90,7 @@ pub record Leaves {L S : Type 0} (state : L → LinkView S) (old new : Sending L
 -- each piece that was got was pushed; at the end nothing was got
 abbrev pub StepDid : {L S H E : Type 0} → (L → LinkView S) → (LocalAct → H → H) → Sending L → Sending L → H → H
     → Result Bool E → Type 0
-StepDid state done old new before after (Ok false) = (piece : List (List ℕ)) × Steps state old piece new
+StepDid state done old new before after (Ok false) = (piece : List (List ℕ)) × PutSteps state old piece new
     × HasDone done (reads_of piece) before after
     × MayWrite new.session.core new.upload
 StepDid state done old new before after (Ok true) = (new ≡ old) × HasDone done (Got [] ∷ []) before after
@@ -98,7 +98,7 @@ StepDid state done old new before after (Err e) = (acts : List LocalAct) × HasD
 
 pub record SendSteps {L S H E : Type 0} (state : L → LinkView S) (done : LocalAct → H → H) (old new : Sending L)
     (before after : H) (result : Result Bool E) : Type 0 where
-  pub leaves : Leaves state old new
+  pub leaves : LeavesUpload state old new
   pub did : StepDid state done old new before after result
 
 -- what a step without a push did; true where nothing is under way
@@ -109,7 +109,7 @@ SettleDid state old new (Err e) = Unit {0}
 
 pub record SettleSteps {L S E : Type 0} (state : L → LinkView S) (old new : Sending L) (result : Result Bool E) : Type 0
   where
-    pub leaves : Leaves state old new
+    pub leaves : LeavesUpload state old new
     pub did : SettleDid state old new result
 
 -- ---- all pieces
@@ -124,7 +124,7 @@ PushDid state done old new before after (Err e) = (acts : List LocalAct) × HasD
 
 pub record PushesAll {L S H E : Type 0} (state : L → LinkView S) (done : LocalAct → H → H) (old new : Sending L)
     (before after : H) (result : Result (Unit {0}) E) : Type 0 where
-  pub leaves : Leaves state old new
+  pub leaves : LeavesUpload state old new
   pub did : PushDid state done old new before after result
 
 -- the server said OK to each WRITE
@@ -135,7 +135,7 @@ AllSettled state old new (Err e) = Unit {0}
 
 pub record SettlesAll {L S E : Type 0} (state : L → LinkView S) (old new : Sending L) (result : Result (Unit {0}) E) :
     Type 0 where
-  pub leaves : Leaves state old new
+  pub leaves : LeavesUpload state old new
   pub did : AllSettled state old new result
 
 -- ---- pushed, and then settled
@@ -155,7 +155,7 @@ PiecesSent state done old new before after (Err e) = (acts : List LocalAct) × H
 
 pub record SendsPieces {L S H E : Type 0} (state : L → LinkView S) (done : LocalAct → H → H) (old new : Sending L)
     (before after : H) (result : Result (Unit {0}) E) : Type 0 where
-  pub leaves : Leaves state old new
+  pub leaves : LeavesUpload state old new
   pub did : PiecesSent state done old new before after result
 
 -- ---- an open file
@@ -187,7 +187,8 @@ SendDid state done file window old new before after (Ok len) = SendsAll state do
 SendDid state done file window old new before after (Err e) = (acts : List LocalAct) × HasDone done acts before after
     × AreGot acts
 
-pub record Sends {L S H E : Type 0} (state : L → LinkView S) (done : LocalAct → H → H) (file : FileValue) (window : ℕ)
+pub record SendsFile {L S H E : Type 0} (state : L → LinkView S) (done : LocalAct → H → H) (file : FileValue)
+    (window : ℕ)
     (old new : SftpValue L) (before after : H) (result : Result ℕ E) : Type 0 where
   pub going : IsGoing state new
   pub grants : KeepsGrants old.core new.core
@@ -199,7 +200,7 @@ pub record SendsClosed {L S H E : Type 0} (state : L → LinkView S) (done : Loc
   pub mid : SftpValue L
   pub sent : Result ℕ E
   pub closed : Result (Unit {0}) E
-  pub sends : Sends state done file window old mid before after sent
+  pub sends : SendsFile state done file window old mid before after sent
   pub closes : Closed state file mid new closed
   pub both : AreBoth sent closed result
 

@@ -1,7 +1,7 @@
 //! A session goes on until what is awaited came.
 ghost use Rattle.sftp_core.specs.Core.{IsGrant};
 ghost use Rattle.sftp_model.specs.OpenOptions.{flags_of};
-ghost use Rattle.transfer_file.specs.Awaits.{Answered, Awaited, Closed, IsPlain, IsSettled, MayAwait, Opened};
+ghost use Rattle.transfer_file.specs.Awaits.{AnsweredCall, Awaited, Closed, IsPlain, IsSettled, MayAwait, Opened};
 ghost use Rattle.transfer_file.specs.Sessions.{IsGoing, Turned};
 
 use crate::failure::Failure;
@@ -45,7 +45,7 @@ fn settled<V>(answer: Result<V, Error>) -> Result<V, Failure>
 fn answer_of<L: Link, M: Alone>(sftp: &mut Sftp<L>, call: &mut Call<M>) -> Result<M::Value, Failure>
     requires plain { IsPlain M.PlanMachine.meaning }
     requires may { MayAwait L.LinkState.state M.PlanMachine.meaning (record { session = sftp.old; call = call.old }) }
-    ensures { Answered L.LinkState.state M.PlanMachine.meaning (record { session = sftp.old; call = call.old })
+    ensures { AnsweredCall L.LinkState.state M.PlanMachine.meaning (record { session = sftp.old; call = call.old })
         (record { session = sftp.new; call = call.new }) result }
 {
     for _ in 0..u64::MAX {

@@ -3,7 +3,7 @@ ghost use Rattle.std.specs.Prelude.{◌≡◌, ◌≤◌, ◌<◌};
 ghost use Rattle.sftp_core.specs.Core.{IsGrant};
 ghost use Rattle.sftp_model.specs.OpenOptions.{flags_of};
 ghost use Rattle.sftp_streams.specs.Uploads.{MayWrite, room_of};
-ghost use Rattle.transfer_file.specs.Puts.{Puts, PushesAll, SendSteps, Sends, SendsClosed, SendsPieces, SettleSteps, SettlesAll, write_flags};
+ghost use Rattle.transfer_file.specs.Puts.{Puts, PushesAll, SendSteps, SendsFile, SendsClosed, SendsPieces, SettleSteps, SettlesAll, write_flags};
 ghost use Rattle.transfer_file.specs.Sessions.{IsGoing};
 
 use crate::asking::rename_remote;
@@ -162,7 +162,7 @@ fn send<L: Link, F: LocalFile>(
 ) -> Result<u64, Failure>
     requires going { IsGoing L.LinkState.state sftp.old }
     requires wide { 1 ≤ window }
-    ensures { Sends L.LinkState.state F.done file.now window sftp.old sftp.new (F.history local.old) (F.history local.new) result }
+    ensures { SendsFile L.LinkState.state F.done file.now window sftp.old sftp.new (F.history local.old) (F.history local.new) result }
 {
     let mut upload = match Upload::new(sftp.core(), file, window) {
         Ok(upload) => upload,

@@ -2,7 +2,29 @@
 use Rattle.std.proofs.Common.{◌≡◌, ◌&&◌, Bool, true, false, not, List, [], ◌∷◌, reverse, if◌then◌else◌, refl, sym, ap, ◌∙◌, subst}
 use Rattle.transfer_jobs.specs.declared.hand.Verdict.{Verdict}
 use Rattle.transfer_jobs.specs.declared.hand.Verdict.TheVariants.{Done, NotDone, Stop}
-use Rattle.transfer_jobs.specs.Jobs.{AreActs, AreAllDone, CarriesOut, FactBy, HasActed, HasKept, IsJob, IsKeep, JobAct, Kept, Skipped, TallyValue, Worked, after_job, all_work, all_worked, in_phase, is_done, is_of, no_job, to_keep}
+use Rattle.transfer_jobs.specs.Jobs.{
+  AreActs,
+  AreAllDone,
+  CarriesOut,
+  FactBy,
+  HasActed,
+  HasKept,
+  IsJob,
+  IsKeep,
+  JobAct,
+  Kept,
+  Skipped,
+  TallyValue,
+  Worked,
+  after_job,
+  all_work,
+  all_worked,
+  in_phase,
+  is_done,
+  is_of,
+  no_job,
+  to_keep,
+}
 use Rattle.transfer_walk.specs.declared.found.Found.{Found}
 
 -- while all was done no job was the last one

@@ -1,5 +1,21 @@
 -- The jobs of a transfer, one after another.
-use Rattle.std.specs.Prelude.{◌≡◌, ◌==◌, ◌&&◌, ◌||◌, ℕ, Bool, true, false, not, List, [], ◌∷◌, ◌++◌, reverse, if◌then◌else◌}
+use Rattle.std.specs.Prelude.{
+  ◌≡◌,
+  ◌==◌,
+  ◌&&◌,
+  ◌||◌,
+  ℕ,
+  Bool,
+  true,
+  false,
+  not,
+  List,
+  [],
+  ◌∷◌,
+  ◌++◌,
+  reverse,
+  if◌then◌else◌,
+}
 use Rattle.std.specs.List.{list_any, starts_with}
 use Rattle.transfer_paths.specs.Names.{path_in}
 use Rattle.transfer_jobs.specs.declared.hand.Verdict.{Verdict}
@@ -21,8 +37,8 @@ all_worked done (act ∷ acts) history = all_worked done acts (done act history)
 
 -- ---- what is kept of them
 
--- whether all jobs were done, whether no other can be done, and the folders that were not made, each with a slash at its
--- end
+-- whether all jobs were done, whether no other can be done, and the folders that were not made, each with a slash at
+-- its end
 pub record TallyValue : Type 0 where
   pub all_done : Bool
   pub stopped : Bool

@@ -1,5 +1,23 @@
 -- Where a path is cut.
-use Rattle.std.specs.Prelude.{◌≡◌, ◌≢◌, ◌≤◌, ◌==◌, ℕ, true, false, List, [], ◌++◌, codes, drop, length, take, Option, Some, None}
+use Rattle.std.specs.Prelude.{
+  ◌≡◌,
+  ◌≢◌,
+  ◌≤◌,
+  ◌==◌,
+  ℕ,
+  true,
+  false,
+  List,
+  [],
+  ◌++◌,
+  codes,
+  drop,
+  length,
+  take,
+  Option,
+  Some,
+  None,
+}
 use Rattle.transfer_paths.specs.Names.{is_component}
 use Rattle.std.specs.List.{list_all, list_any}
 use Rattle.sftp_model.specs.Paths.{last_byte, slash, with_separator}

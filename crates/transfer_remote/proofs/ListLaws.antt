@@ -35,7 +35,7 @@ use Rattle.transfer_remote.specs.Listed.{
   MayGoOn,
   PollsListing,
   StepTold,
-  AllTold,
+  ListingTold,
   ClosedTold,
   FolderTold,
   TakesStep,
@@ -215,7 +215,7 @@ grown_on state first mid w u h = (h.entries, h.grown)
 
 -- whatever was told, the walk has grown by entries
 pub grown_told : {L S E : Type 0} (state : L → LinkView S) (old new : ListingAt L) (w v : WalkValue)
-    (result : Result (Unit {0}) E) → AllTold state old new w v result → HasGrown w v
+    (result : Result (Unit {0}) E) → ListingTold state old new w v result → HasGrown w v
 grown_told state old new w v (Ok u) told = (told.entries, told.grown)
 grown_told state old new w v (Err e) told = told
 

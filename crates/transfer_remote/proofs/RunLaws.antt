@@ -5,7 +5,7 @@ use Rattle.sftp_model.specs.declared.error.Error.{Error}
 use Rattle.sftp_core.specs.Core.{Core}
 use Rattle.sftp_link.specs.Views.{LinkView}
 use Rattle.call_state.specs.Calls.{CallValue}
-use Rattle.call_state.specs.Keeping.{Keeps}
+use Rattle.call_state.specs.Keeping.{KeepsHeld}
 use Rattle.call_state.specs.Machines.{Meaning}
 use Rattle.sftp_client.specs.Sessions.{SftpValue, with_core}
 use Rattle.sftp_model.specs.declared.slot.Move.TheVariants.{Wait}
@@ -18,7 +18,7 @@ pub live_going : {L S : Type 0} (state : L → LinkView S) (s : SftpValue L) →
 live_going state s live = record { opened = live.opened; alive = λ none. live.few }
 
 -- once a call was begun
-pub live_on : {L S : Type 0} (state : L → LinkView S) (s : SftpValue L) (core : Core) → IsFree state s → Keeps s.core core
+pub live_on : {L S : Type 0} (state : L → LinkView S) (s : SftpValue L) (core : Core) → IsFree state s → KeepsHeld s.core core
     → IsLive state (with_core s core)
 live_on state s core free keeps =
     record { opened = keeps.grants.opened free.live.opened; few = free.live.few }

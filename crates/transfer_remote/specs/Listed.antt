@@ -1,5 +1,27 @@
 -- What a listing of the server adds to a walk.
-use Rattle.std.specs.Prelude.{◌≡◌, ◌⊎◌, ◌||◌, ℕ, zero, suc, Bool, true, false, List, [], ◌∷◌, ◌++◌, codes, Option, Some, None, Result, Ok, Err, if◌then◌else◌}
+use Rattle.std.specs.Prelude.{
+  ◌≡◌,
+  ◌⊎◌,
+  ◌||◌,
+  ℕ,
+  zero,
+  suc,
+  Bool,
+  true,
+  false,
+  List,
+  [],
+  ◌∷◌,
+  ◌++◌,
+  codes,
+  Option,
+  Some,
+  None,
+  Result,
+  Ok,
+  Err,
+  if◌then◌else◌,
+}
 use Rattle.std.specs.List.{flat_map, slice_get}
 use Rattle.std.specs.Option.{option_and_then}
 use Rattle.std.specs.Str.{bytes_eq}
@@ -41,7 +63,8 @@ kind_of other = kind.Other
 abbrev pub listed_as : Bool → Found → NameEntry → List Found
 listed_as texts folder entry =
     if is_self entry.filename then []
-    else entry_found texts folder entry.filename (kind_of (option_and_then type_of_mode entry.attrs.permissions)) entry.attrs
+    else entry_found texts folder entry.filename (kind_of (option_and_then type_of_mode entry.attrs.permissions))
+    entry.attrs
     ∷ []
 
 -- Each of these entries was found once, in their order, as one of the folder that is listed, and nothing else changed.
@@ -60,7 +83,8 @@ GrowsBy entries old new (Ok u) = HasListedInto entries old new
 GrowsBy entries old new (Err e) = new ≡ old
 
 -- What a poll of a listing gave: the end; an entry, which was added; or an error. Refused, nothing changed.
-abbrev pub GrowsByGiven : {E : Type 0} → Option (Result NameEntry Error) → WalkValue → WalkValue → Result Bool E → Type 0
+abbrev pub GrowsByGiven : {E : Type 0} → Option (Result NameEntry Error) → WalkValue → WalkValue → Result Bool E
+    → Type 0
 GrowsByGiven given old new (Err e) = new ≡ old
 GrowsByGiven None old new (Ok end) = (end ≡ true) × (new ≡ old)
 GrowsByGiven (Some (Ok entry)) old new (Ok end) = (end ≡ false) × HasListedInto (entry ∷ []) old new
@@ -113,10 +137,10 @@ StepTold state old new before after (Ok false) = (entries : List NameEntry) × T
     × HasListedInto entries before after
 StepTold state old new before after (Err e) = HasGrown before after
 
-abbrev pub AllTold : {L S E : Type 0} → (L → LinkView S) → ListingAt L → ListingAt L → WalkValue → WalkValue
+abbrev pub ListingTold : {L S E : Type 0} → (L → LinkView S) → ListingAt L → ListingAt L → WalkValue → WalkValue
     → Result (Unit {0}) E → Type 0
-AllTold state old new before after (Ok u) = ListsToEnd state old new before after
-AllTold state old new before after (Err e) = HasGrown before after
+ListingTold state old new before after (Ok u) = ListsToEnd state old new before after
+ListingTold state old new before after (Err e) = HasGrown before after
 
 -- a session that may go on with a listing
 pub record MayGoOn {L S : Type 0} (state : L → LinkView S) (new : ListingAt L) : Type 0 where

@@ -8,7 +8,7 @@ use Rattle.call_state.specs.Asked.{IsReady}
 use Rattle.call_state.specs.Calls.{CallValue}
 use Rattle.call_state.specs.Machines.{Meaning}
 use Rattle.sftp_client.specs.Sessions.{SftpValue, with_core}
-use Rattle.transfer_file.specs.Awaits.{Answers, Calling}
+use Rattle.transfer_file.specs.Awaits.{AnswersCall, Calling}
 use Rattle.transfer_file.specs.Sessions.{IsGoing}
 
 -- the session is open, and its link may be called
@@ -22,10 +22,11 @@ pub record IsFree {L S : Type 0} (state : L → LinkView S) (s : SftpValue L) : 
   pub ready : IsReady s.core
 
 -- the call was polled, and round after round what was queued was sent and a frame taken, until it answered this
-abbrev pub AnsweredWith : {L S W M V : Type 0} → (L → LinkView S) → Meaning W M V → SftpValue L → CallValue M → SftpValue L
+abbrev pub AnsweredWith : {L S W M V : Type 0} → (L → LinkView S) → Meaning W M V → SftpValue L → CallValue M
+    → SftpValue L
     → V → Type 0
 AnsweredWith {L = L} {M = M} state s old call new value = (last : Calling L M)
-    × Answers state s (record { session = old; call = call }) last value
+    × AnswersCall state s (record { session = old; call = call }) last value
     × (new ≡ last.session)
 
 -- what came of a call that was begun, or not

@@ -4,7 +4,7 @@ ghost use Rattle.sftp_core.specs.Core.{IsGrant};
 ghost use Rattle.sftp_fs.specs.Directories.{OpensFrom, opening_dir};
 ghost use Rattle.sftp_fs.specs.Listings.{IsListing};
 ghost use Rattle.transfer_file.specs.Sessions.{IsGoing};
-ghost use Rattle.transfer_remote.specs.Listed.{AllTold, ClosedTold, FolderTold, GrowsBy, GrowsByGiven, MayGoOn, StepTold, is_self, kind_of};
+ghost use Rattle.transfer_remote.specs.Listed.{ListingTold, ClosedTold, FolderTold, GrowsBy, GrowsByGiven, MayGoOn, StepTold, is_self, kind_of};
 ghost use Rattle.transfer_remote.specs.Runs.{Runs};
 
 use crate::asks::{finish, plain_paths, ready};
@@ -118,7 +118,7 @@ fn list_entries<L: Link>(
     requires going { IsGoing L.LinkState.state sftp.old }
     requires listing { IsListing sftp.old.core listing.old }
     ensures goes { MayGoOn L.LinkState.state (record { session = sftp.new; listing = listing.new }) }
-    ensures told { AllTold L.LinkState.state (record { session = sftp.old; listing = listing.old })
+    ensures told { ListingTold L.LinkState.state (record { session = sftp.old; listing = listing.old })
         (record { session = sftp.new; listing = listing.new }) walk.old walk.new result }
 {
     for _ in 0..u64::MAX {

@@ -44,7 +44,7 @@ use Rattle.sftp_core.specs.Core.{
 use Rattle.sftp_core.specs.Grant.{GrantValue}
 use Rattle.sftp_core.specs.Table.{brings}
 use Rattle.sftp_core.proofs.Elsewhere.{abandon_elsewhere, abandon_phase, put_here, release_elsewhere, release_phase}
-use Rattle.call_state.specs.Asked.{Holds}
+use Rattle.call_state.specs.Asked.{HoldsTicket}
 use Rattle.call_state.proofs.Keeping.{cancelled_keeps_grants, cancelled_on, grant_at, holds_at, released_holds}
 use Rattle.transfer_states.specs.declared.holding.FileHold.{FileHold}
 use Rattle.transfer_states.specs.declared.holding.FileHold.TheVariants as hold
@@ -186,7 +186,7 @@ released_here core grant one =
     ∙ put_here core.table grant.id (Waiting expected.Status false true)
 
 pub close_awaited : (core : Core) (grant : GrantValue) → at core grant.id ≡ Some (Granted grant.handle 1)
-    → Holds (released core grant) grant.id expected.Status
+    → HoldsTicket (released core grant) grant.id expected.Status
 close_awaited core grant one =
     holds_at (released core grant) grant.id expected.Status (Some (Waiting expected.Status false true)) (released_here core grant one) refl refl
 

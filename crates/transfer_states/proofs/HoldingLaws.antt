@@ -61,8 +61,8 @@ use Rattle.sftp_core.proofs.Elsewhere.{
   release_elsewhere,
   release_phase,
 }
-use Rattle.call_state.specs.Asked.{Holds, Submitted, queued_by, request_of}
-use Rattle.call_state.specs.Keeping.{Keeps, KeepsGrants}
+use Rattle.call_state.specs.Asked.{HoldsTicket, Submitted, queued_by, request_of}
+use Rattle.call_state.specs.Keeping.{KeepsHeld, KeepsGrants}
 use Rattle.call_state.specs.declared.asking.Asking.{Asking}
 use Rattle.call_state.specs.declared.asking.Asking.TheVariants.{Whole, Parts}
 use Rattle.call_state.proofs.Keeping.{
@@ -112,7 +112,7 @@ no_ticket : (p : Option Place) → IsTrue (is_ticket p) → p ≡ None → ⊥
 no_ticket p counted none = let gone = subst (λ (x : Option Place). IsTrue (is_ticket x)) none counted in cc
 
 -- a held ticket is not one that is free
-pub held_apart : (core : Core) (id ticket : ℕ) (kind : Expected) → Holds core id kind → at core ticket ≡ None → id ≢ ticket
+pub held_apart : (core : Core) (id ticket : ℕ) (kind : Expected) → HoldsTicket core id kind → at core ticket ≡ None → id ≢ ticket
 held_apart core id ticket kind h free same = no_ticket (at core id) h.counted (ap (λ n. at core n) same ∙ free)
 
 -- ---- both, one after the other
@@ -166,21 +166,21 @@ submitted_spares old new asking ticket before after s others = record {
 
 -- they are held by another core that holds each of them, beside a file that has no number of theirs
 pub parts_over : (old new : Core) (file next : FileHold) (parts : List Part)
-    → ((part : Part) → Holds old part.ticket part.kind → IsNotOfFile part.ticket file
-    → Holds new part.ticket part.kind × IsNotOfFile part.ticket next)
+    → ((part : Part) → HoldsTicket old part.ticket part.kind → IsNotOfFile part.ticket file
+    → HoldsTicket new part.ticket part.kind × IsNotOfFile part.ticket next)
     → ArePartsHeld old file parts → ArePartsHeld new next parts
 parts_over old new file next [] goes held = tt
 parts_over old new file next (part ∷ later) goes (holds, plain, file_apart, parts_apart, held) =
     let here = goes part holds file_apart in
     (here.0, plain, here.1, parts_apart, parts_over old new file next later goes held)
 
-file_over : (old new : Core) (file : FileHold) → Keeps old new → IsFileHeld old file → IsFileHeld new file
+file_over : (old new : Core) (file : FileHold) → KeepsHeld old new → IsFileHeld old file → IsFileHeld new file
 file_over old new hold.Nothing keeps held = tt
 file_over old new (hold.Asked ticket kind) keeps held = keeps.holds ticket kind held
 file_over old new (hold.Opened grant) keeps held = keeps.grants.grants grant.id grant.handle 1 held
 
 -- what the session does leaves all that a copy has
-pub all_over : (old new : Core) (h : HoldingValue) → Keeps old new → HoldsAll old h → HoldsAll new h
+pub all_over : (old new : Core) (h : HoldingValue) → KeepsHeld old new → HoldsAll old h → HoldsAll new h
 all_over old new h keeps held = record {
   file = file_over old new h.file keeps held.file;
   parts = parts_over old new h.file h.file h.parts (λ part here apart. (keeps.holds part.ticket part.kind here, apart)) held.parts;
@@ -212,7 +212,7 @@ last_of_others id ticket kind len [] ne apart = (ne, tt)
 last_of_others id ticket kind len (part ∷ later) ne (first, apart) = (first, last_of_others id ticket kind len later ne apart)
 
 last_held : (core : Core) (file : FileHold) (ticket : ℕ) (kind : Expected) (len : ℕ) (parts : List Part)
-    → ArePartsHeld core file parts → Holds core ticket kind → asks_handle kind ≡ false → IsNotOfFile ticket file
+    → ArePartsHeld core file parts → HoldsTicket core ticket kind → asks_handle kind ≡ false → IsNotOfFile ticket file
     → IsNotOfParts ticket parts → ArePartsHeld core file (parts ++ record { ticket = ticket; kind = kind; len = len } ∷ [])
 last_held core file ticket kind len [] held here plain file_apart apart = (here, plain, file_apart, tt, tt)
 last_held core file ticket kind len (part ∷ later) (h, p, f, own, held) here plain file_apart (ne, apart) = (
@@ -289,7 +289,7 @@ file_polled core after old new ticket kind next held is core_is now next_held ap
         file = next_held;
         parts = parts_over core after (hold.Asked ticket kind) next old.parts
             (λ part here ne. (
-              subst (λ (x : Core). Holds x part.ticket part.kind) (sym core_is)
+              subst (λ (x : Core). HoldsTicket x part.ticket part.kind) (sym core_is)
                   (polled_on core ticket part.ticket part.kind ne here),
               apart part.ticket ne,
             )) parts;
@@ -361,7 +361,7 @@ file_granted core after old new ticket kind grant held is core_is now (come, sam
     )
 
 -- a request for bytes is never answered by a HANDLE
-pub never_handle : (core : Core) (ticket : ℕ) (kind : Expected) (handle : List ℕ) → Holds core ticket kind
+pub never_handle : (core : Core) (ticket : ℕ) (kind : Expected) (handle : List ℕ) → HoldsTicket core ticket kind
     → asks_handle kind ≡ false → HasCome core ticket (reply.Handle handle) → ⊥
 never_handle core ticket kind handle h plain come = by_kind kind plain (come.allowed kind h.expects)
   where

@@ -31,7 +31,7 @@ use Rattle.sftp_core.specs.Grant.{GrantValue}
 use Rattle.sftp_core.specs.Table.{asks_handle}
 use Rattle.sftp_core.specs.declared.place.Place.{Place}
 use Rattle.sftp_core.specs.declared.place.Place.TheVariants.{Granted}
-use Rattle.call_state.specs.Asked.{Holds, Submitted, request_of}
+use Rattle.call_state.specs.Asked.{HoldsTicket, Submitted, request_of}
 use Rattle.call_state.specs.declared.asking.Asking.{Asking}
 use Rattle.call_state.specs.declared.asking.Asking.TheVariants.{Whole, Parts}
 use Rattle.transfer_states.specs.declared.holding.FileAnswer.{FileAnswer}
@@ -85,13 +85,13 @@ pub record IsOfOthers (id : ℕ) (h : HoldingValue) : Type 0 where
 -- the core awaits the reply to the file's request, or counts one user of its grant
 abbrev pub IsFileHeld : Core → FileHold → Type 0
 IsFileHeld core hold.Nothing = Unit {0}
-IsFileHeld core (hold.Asked ticket kind) = Holds core ticket kind
+IsFileHeld core (hold.Asked ticket kind) = HoldsTicket core ticket kind
 IsFileHeld core (hold.Opened grant) = at core grant.id ≡ Some (Granted grant.handle 1)
 
 -- and it awaits the reply to each part, which is no HANDLE, under a ticket of its own
 abbrev pub ArePartsHeld : Core → FileHold → List Part → Type 0
 ArePartsHeld core file [] = Unit {0}
-ArePartsHeld core file (part ∷ later) = Holds core part.ticket part.kind × (asks_handle part.kind ≡ false)
+ArePartsHeld core file (part ∷ later) = HoldsTicket core part.ticket part.kind × (asks_handle part.kind ≡ false)
     × IsNotOfFile part.ticket file × IsNotOfParts part.ticket later × ArePartsHeld core file later
 
 pub record HoldsAll (core : Core) (h : HoldingValue) : Type 0 where

@@ -7,13 +7,15 @@ use Rattle.transfer_walk.specs.declared.task.EntryKind.TheVariants as kind
 use Rattle.transfer_walk.specs.declared.task.Task.TheVariants as task
 
 -- a file of the folder `a` that is copied to `b`
-pub file_found : entry_found false (root_found (codes "a") (codes "b") no_attributes) (codes "x") kind.File no_attributes
+pub file_found : entry_found false (root_found (codes "a") (codes "b") no_attributes) (codes "x") kind.File
+    no_attributes
     ≡ record { task = task.CopyFile; depth = 1; source = codes "a/x"; target = codes "b/x"; attrs = no_attributes }
 unfolding is_component
 file_found = refl
 
 -- an entry that leads out of its folder is refused, and has no target of its own
-pub up_found : entry_found false (root_found (codes "a") (codes "b") no_attributes) (codes "../x") kind.File no_attributes
+pub up_found : entry_found false (root_found (codes "a") (codes "b") no_attributes) (codes "../x") kind.File
+    no_attributes
     ≡ record { task = task.RefuseName; depth = 1; source = codes "a/../x"; target = codes "b"; attrs = no_attributes }
 unfolding is_component
 up_found = refl

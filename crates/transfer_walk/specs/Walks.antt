@@ -1,5 +1,25 @@
 -- What a walk has found so far.
-use Rattle.std.specs.Prelude.{◌≡◌, ◌≢◌, ◌<◌, ◌≤◌, ℕ, Bool, true, false, List, [], ◌∷◌, ◌++◌, length, Option, Some, None, Result, Ok, Err}
+use Rattle.std.specs.Prelude.{
+  ◌≡◌,
+  ◌≢◌,
+  ◌<◌,
+  ◌≤◌,
+  ℕ,
+  Bool,
+  true,
+  false,
+  List,
+  [],
+  ◌∷◌,
+  ◌++◌,
+  length,
+  Option,
+  Some,
+  None,
+  Result,
+  Ok,
+  Err,
+}
 use Rattle.std.specs.List.{slice_get}
 use Rattle.sftp_model.specs.declared.file_attrs.FileAttrs.{FileAttrs}
 use Rattle.transfer_paths.specs.Names.{StaysIn}
@@ -32,7 +52,8 @@ pub record IsEntryOf (texts : Bool) (found : List Found) (place : ℕ) (entry : 
   pub is_folder : folder.task ≡ task.MakeFolder
   pub is : entry ≡ entry_found texts folder name kind attrs
 
--- Each target stays in the root's, and each but the root is an entry of a folder before it; one of the folders is listed.
+-- Each target stays in the root's, and each but the root is an entry of a folder before it; one of the folders is
+-- listed.
 pub record IsWalk (w : WalkValue) : Type 0 where
   pub root : Found
   pub first : slice_get w.found 0 ≡ Some root
@@ -74,6 +95,6 @@ IsNextFolder found at (Some next) = (folder : Found) × (at < next) × (slice_ge
 IsNextFolder found at None = NoFolder found at (length found)
 
 -- the walk goes on with the next folder behind the one that was listed; or there is none, and nothing changed
-abbrev pub GoesOn : WalkValue → WalkValue → Bool → Type 0
-GoesOn old new true = (new ≡ record old { at = new.at }) × IsNextFolder old.found old.at (Some new.at)
-GoesOn old new false = (new ≡ old) × IsNextFolder old.found old.at None
+abbrev pub GoesToNext : WalkValue → WalkValue → Bool → Type 0
+GoesToNext old new true = (new ≡ record old { at = new.at }) × IsNextFolder old.found old.at (Some new.at)
+GoesToNext old new false = (new ≡ old) × IsNextFolder old.found old.at None

@@ -2,7 +2,7 @@
 ghost use Rattle.std.specs.Prelude.{◌≡◌, ◌<◌, ◌≤◌, ◌^◌, ◌-◌, true, IfOk, Some, List, ℕ, length};
 ghost use Rattle.std.specs.List.{slice_get};
 ghost use Rattle.transfer_walk.specs.Entries.{root_found};
-ghost use Rattle.transfer_walk.specs.Walks.{Adds, GoesOn, IsNextFolder, IsWalk, begun_walk};
+ghost use Rattle.transfer_walk.specs.Walks.{Adds, GoesToNext, IsNextFolder, IsWalk, begun_walk};
 
 use crate::found::Found;
 use crate::task::{EntryKind, Task};
@@ -128,7 +128,7 @@ impl Walk {
 
     /// Goes on with the next folder that was found; false where there is none, and then nothing changes.
     pub fn go_on(&mut self) -> bool
-        ensures { GoesOn self.old self.new result }
+        ensures { GoesToNext self.old self.new result }
     {
         match next_folder(self.found.as_slice(), self.at) {
             Some(at) => {

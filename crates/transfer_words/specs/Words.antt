@@ -1,5 +1,26 @@
 -- What the words of a command line ask for.
-use Rattle.std.specs.Prelude.{◌+◌, ◌-◌, ◌*◌, ◌==◌, ◌&&◌, ℕ, Bool, true, false, List, [], ◌∷◌, codes, drop, map, nat_le, Option, Some, None, if◌then◌else◌}
+use Rattle.std.specs.Prelude.{
+  ◌+◌,
+  ◌-◌,
+  ◌*◌,
+  ◌==◌,
+  ◌&&◌,
+  ℕ,
+  Bool,
+  true,
+  false,
+  List,
+  [],
+  ◌∷◌,
+  codes,
+  drop,
+  map,
+  nat_le,
+  Option,
+  Some,
+  None,
+  if◌then◌else◌,
+}
 use Rattle.std.specs.List.{starts_with}
 use Rattle.std.specs.Option.{option_and_then, option_map}
 use Rattle.std.specs.Str.{bytes_eq}
@@ -73,12 +94,13 @@ link_seen link.Stdio = AtStdio
 abbrev pub is_option : List ℕ → Bool
 is_option word = starts_with ◌==◌ word (codes "-")
 
--- The options that stand first, and the words behind them: a word that begins with "-" is an option, "--" ends them, and
--- behind "--window" stands the window.
+-- The options that stand first, and the words behind them: a word that begins with "-" is an option, "--" ends them,
+-- and behind "--window" stands the window.
 abbrev pub options_by : Options → Bool → List (List ℕ) → Option (Options × List (List ℕ))
 options_by o false [] = Some (o, [])
 options_by o true [] = None
-options_by o true (word ∷ words) = option_and_then (λ n. options_by (record o { window = n }) false words) (window_in word)
+options_by o true (word ∷ words) = option_and_then (λ n. options_by (record o { window = n }) false words)
+    (window_in word)
 options_by o false (word ∷ words) =
     if bytes_eq word (codes "--") then Some (o, words)
     else if bytes_eq word (codes "--window") then options_by o true words
@@ -136,7 +158,8 @@ asked_at at work = if can_do at work then Some (at, work) else None
 abbrev pub asked_by : List (List ℕ) → Option (LinkWord × WorkWords)
 asked_by [] = None
 asked_by (word ∷ []) = None
-asked_by (word ∷ verb ∷ words) = option_and_then (λ at. option_and_then (asked_at at) (work_by verb words)) (link_at word)
+asked_by (word ∷ verb ∷ words) = option_and_then (λ at. option_and_then (asked_at at) (work_by verb words))
+    (link_at word)
 
 -- ---- as the code has them
 

@@ -59,7 +59,7 @@ use Rattle.sftp_model.specs.declared.slot.Slot.TheVariants.{Empty, File}
 use Rattle.machine_model.proofs.NameLaws.{handles_tell}
 use Rattle.machine_model.proofs.LossLaws.{name_has}
 use Rattle.machine_model.proofs.PairLaws.{found_push_here, has_any}
-use Rattle.machine_model.specs.Components.{Name, components, is_long, parent_of}
+use Rattle.machine_model.specs.Components.{Name, components, is_long_name, parent_of}
 use Rattle.machine_model.specs.FileTree.{
   FileTree,
   after_loss,
@@ -162,7 +162,7 @@ open_alike tree handle flags name (Some (node.File file)) is = by_tests (creates
     })
     by_tests false false = inr (record { to = tree; file = file; x_is = refl; y_is = refl; named = is; handles = refl })
 open_alike tree handle flags name None is =
-    by_tests (not (creates flags)) (not (is_directory (node_at tree (parent_of name)))) (is_long name)
+    by_tests (not (creates flags)) (not (is_directory (node_at tree (parent_of name)))) (is_long_name name)
     (not (is_directory (node_at (bare tree) (parent_of name))))
     (ap (λ (x : Option Node). not (is_directory x)) (bare_node tree (parent_of name)))
   where

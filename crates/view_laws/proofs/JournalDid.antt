@@ -45,7 +45,7 @@ use Rattle.plan_model.specs.declared.call.Lane.{Lane}
 use Rattle.session_model.specs.Calls.{Setting, added, calls_of, current, given_up, held_by, held_site, lane_calls, move_at, move_of, site_of}
 use Rattle.session_model.specs.Grants.{holds, is_asked_by, is_grant, is_held, is_unended_asker}
 use Rattle.session_model.specs.Journals.{IsJournal, IsOver, MayCome}
-use Rattle.session_model.specs.Readings.{Asked, answer, ended, outcomes_of, own, was_let_go}
+use Rattle.session_model.specs.Readings.{AskedRequest, answer, ended, outcomes_of, own, was_let_go}
 use Rattle.session_model.specs.Served.{requests_of}
 use Rattle.session_model.specs.declared.entry.Entry.{Entry}
 use Rattle.session_model.specs.declared.entry.Entry.TheVariants as entry
@@ -249,7 +249,7 @@ module _ (s : Setting) (config : ServerConfig) (first : FileTree) (steps : List 
         idle = none_next s (entry.Event (End 0 (ended q 0) o) ∷ q) refl dues;
         expected = λ p a here none. elim (r.expected p a here none) [
           | inl mine ↦ absurd (d.replied p (subst (λ (w : Own). has_place w p ≡ true) (sym cs.asks)
-              (asker_owns q 0 (ended q 0) p (ap (λ (y : Option Asked). is_asked_by y 0 (ended q 0)) here ∙ mine))) none)
+              (asker_owns q 0 (ended q 0) p (ap (λ (y : Option AskedRequest). is_asked_by y 0 (ended q 0)) here ∙ mine))) none)
           | inr query ↦ inr query
         ];
       }

@@ -47,7 +47,7 @@ use Rattle.plan_model.specs.declared.call.Lane.{Lane}
 use Rattle.session_model.specs.Calls.{Setting, current, held_by, held_site, move_at, move_of, site_of}
 use Rattle.session_model.specs.Grants.{closed, first_let_go, holds, is_asked_by, is_held, is_unended_asker, orphan}
 use Rattle.session_model.specs.Journals.{IsJournal, MayReply, MayTake}
-use Rattle.session_model.specs.Readings.{Asked, answer, asked, asked_at, bearer, ended, is_at, is_by, own, was_let_go}
+use Rattle.session_model.specs.Readings.{AskedRequest, answer, asked, asked_at, bearer, ended, is_at, is_by, own, was_let_go}
 use Rattle.session_model.specs.Served.{requests_of}
 use Rattle.session_model.specs.declared.entry.Entry.{Entry}
 use Rattle.session_model.specs.declared.entry.Entry.TheVariants as entry
@@ -80,7 +80,7 @@ AsksNow s q handle offset None own = own ≡ []
 AsksNow s q handle offset (Some c) own = AsksSo s.facts (answer q) c handle offset own
 
 -- an unanswered request is one of the lane's call, or the query for limits
-abbrev pub IsExpected : List Entry → Asked → Type 0
+abbrev pub IsExpected : List Entry → AskedRequest → Type 0
 IsExpected q a = (is_by a.by 0 (ended q 0) ≡ true) ⊎ (a.request ≡ request.LimitsQuery)
 
 -- Behind this part of a journal the files stand here: the machine has answered these steps, those of the calls that have
@@ -95,7 +95,7 @@ pub record Reached (s : Setting) (config : ServerConfig) (first : FileTree) (ste
   pub asks : AsksNow s q handle (offset_in at.slot) c (own q 0 (ended q 0))
   pub dues : Dues s q []
   pub idle : orphan s q ≡ None
-  pub expected : (p : ℕ) (a : Asked) → asked_at q p ≡ Some a → answer q p ≡ None → IsExpected q a
+  pub expected : (p : ℕ) (a : AskedRequest) → asked_at q p ≡ Some a → answer q p ≡ None → IsExpected q a
 
 -- the call may be made; or, once the lane was let go, nothing is open
 abbrev pub Guard : Option Call → Bool → FilesAt → Type 0
@@ -174,12 +174,12 @@ module _ (s : Setting) (one : s.lanes ≡ only_lane) (config : ServerConfig) (fi
         idle = none_next s now refl (ask_dues s q 0 id r j h.dues);
         expected = λ p a here none. elim (eqb_tells p (asked q)) [
           | inl t ↦ inl (let this : a ≡ record { by = owner.Call 0 (ended q 0); id = id; request = r } = same_asked a _ (sym here ∙ rw t.0 refl) in
-              ap (λ (x : Asked). is_by x.by 0 (ended q 0)) this ∙ eq-eqb (ended q 0) (ended q 0) refl)
+              ap (λ (x : AskedRequest). is_by x.by 0 (ended q 0)) this ∙ eq-eqb (ended q 0) (ended q 0) refl)
           | inr t ↦ h.expected p a (rw t.0 at here) none
         ];
       }
     where
-      same_asked : (a b : Asked) → Some a ≡ Some b → a ≡ b
+      same_asked : (a b : AskedRequest) → Some a ≡ Some b → a ≡ b
       same_asked a b e = cc
 
   pub call_asks : (q : List Entry) (lane call id : ℕ) (r : Request) (at : FilesAt) → IsJournal s (entry.Event (Submit (owner.Call lane call) id r) ∷ q)
@@ -270,12 +270,12 @@ module _ (s : Setting) (one : s.lanes ≡ only_lane) (config : ServerConfig) (fi
         idle = none_next s now refl dues;
         expected = λ p a here unanswered. elim (eqb_tells p (asked q)) [
           | inl t ↦ inr (let this : a ≡ record { by = owner.Setup; id = id; request = r } = same_asked a _ (sym here ∙ rw t.0 refl) in
-              ap (λ (y : Asked). y.request) this ∙ query)
+              ap (λ (y : AskedRequest). y.request) this ∙ query)
           | inr t ↦ x.expected p a (rw t.0 at here) unanswered
         ];
       }
     where
-      same_asked : (a b : Asked) → Some a ≡ Some b → a ≡ b
+      same_asked : (a b : AskedRequest) → Some a ≡ Some b → a ≡ b
       same_asked a b e = cc
 
       asks_as : (handle : List ℕ) (offset : ℕ) (c : Option Call) → AsksNow s q handle offset c (own q 0 (ended q 0))
@@ -325,12 +325,12 @@ module _ (s : Setting) (one : s.lanes ≡ only_lane) (config : ServerConfig) (fi
       no_handle (reply.Status code message language) may h = (let both : false ≡ true = h in cc)
       no_handle other may h = (let both : false ≡ true = h in cc)
 
-      held_then : (p : ℕ) (o : Option Asked) → asked_at q p ≡ o → MayReply o r → At q at (current s q 0) → answer q p
+      held_then : (p : ℕ) (o : Option AskedRequest) → asked_at q p ≡ o → MayReply o r → At q at (current s q 0) → answer q p
           ≡ None → is_handle r ≡ true → is_held s q p ≡ true
       held_then p None is may x none handle = absurd may
       held_then p (Some a) is may x none handle = elim (x.expected p a is none) [
         | inl mine ↦ any_passes (holds s q p) (length s.lanes) 0 one_there
-            (or_right (has_grant (held_site s q 0) p) (is_unended_asker q 0 p) (ap (λ (y : Option Asked). is_asked_by y 0 (ended q 0)) is ∙ mine))
+            (or_right (has_grant (held_site s q 0) p) (is_unended_asker q 0 p) (ap (λ (y : Option AskedRequest). is_asked_by y 0 (ended q 0)) is ∙ mine))
         | inr query ↦ absurd (no_handle r (ap (λ (y : Request). may_answer y r) (sym query) ∙ may.0) handle)
       ]
 

@@ -1,7 +1,7 @@
 -- A put is answered as its OPEN and its WRITEs are, and leaves what they leave.
 use Rattle.std.proofs.Common.{◌≡◌, ◌<◌, ◌+◌, ◌^◌, ℕ, false, List, length, Option, Some, None, refl, ap, sym, ◌∙◌, subst, arith}
 use Rattle.std.specs.Prelude.{nat_lt}
-use Rattle.sftp_model.specs.Frames.{request_body}
+use Rattle.sftp_model.specs.Frames.{request_body, is_too_long}
 use Rattle.sftp_model.specs.Numbers.{MAX_BODY_LEN}
 use Rattle.sftp_model.specs.OpenOptions.{flags_of}
 use Rattle.sftp_model.specs.declared.flags.OpenFlags.{OpenFlags}
@@ -14,7 +14,6 @@ use Rattle.machine_model.specs.FileTree.{FileTree, node_at}
 use Rattle.machine_model.specs.declared.node.Node.{Node}
 use Rattle.machine_model.specs.declared.node.Node.TheVariants as node
 use Rattle.plan_model.specs.FilePlans.{open_request}
-use Rattle.plan_model.specs.Moves.{is_too_long}
 use Rattle.view_model.proofs.LengthLaws.{open_len}
 use Rattle.view_model.specs.Blocks.{Kept, dropped}
 use Rattle.view_model.specs.Plain.{Given, pieces, put_node, put_opened, put_pieces, to_put}

@@ -38,7 +38,7 @@ use Rattle.machine_model.proofs.LossLaws.{name_has}
 use Rattle.machine_model.proofs.NameLaws.{names_tell}
 use Rattle.machine_model.proofs.PairLaws.{found_push_here, found_push_other, has_push}
 use Rattle.machine_model.specs.Changes.{IsWellFormed}
-use Rattle.machine_model.specs.Components.{Name, components, is_long, parent_of, same_name}
+use Rattle.machine_model.specs.Components.{Name, components, is_long_name, parent_of, same_name}
 use Rattle.machine_model.specs.FileTree.{FileTree, bytes_of, is_directory, is_over, node_at, put, size_of, with_bytes, with_file, with_handle}
 use Rattle.machine_model.specs.HandleRequests.{Answer, after_open, grants, held_by, refuses}
 use Rattle.machine_model.specs.Pairs.{Has}
@@ -294,4 +294,4 @@ put_leaves path offset tree parts well = by_node (node_at (bare tree) (component
         by_names (bare tree) (with_handle (bare tree) [] (held_by to_put file)) (components path) refl ∙ is in
         subst (λ (x : Option Node). LeavesOthers (components path) tree (put_node (bare tree) offset parts x).1) (sym there)
         (leaves_written (components path) file offset tree tree parts well (keeps_self (components path) tree) is)
-    by_node None is = by_tests (not (is_directory (node_at (bare tree) (parent_of (components path))))) (is_long (components path)) is
+    by_node None is = by_tests (not (is_directory (node_at (bare tree) (parent_of (components path))))) (is_long_name (components path)) is

@@ -38,7 +38,7 @@ use Rattle.machine_model.specs.declared.node.Node.TheVariants as node
 use Rattle.plan_model.specs.declared.call.Call.{Call}
 use Rattle.plan_model.specs.declared.call.Call.TheVariants as call
 use Rattle.plan_model.specs.FilePlans.{open_request}
-use Rattle.plan_model.specs.Moves.{is_too_long}
+use Rattle.sftp_model.specs.Frames.{is_too_long}
 use Rattle.view_model.specs.Plain.{pieces, put_pieces}
 use Rattle.view_model.specs.Viewed.{Found, found_in}
 use Rattle.view_model.specs.declared.answer.Answer.{Answer}
@@ -137,9 +137,9 @@ pub record Brings (n : ℕ) (s : Standing) (before : FilesAt) (found : Found) (n
   pub found_is : found ≡ Ok bytes
   pub now_is : now ≡ standing before.tree (record s { offset = s.offset + length bytes })
 
-abbrev pub Reads : ℕ → FilesAt → Option Standing → Found → FilesAt → Type 0
-Reads n before None found now = ⊥
-Reads n before (Some s) found now = TellsEnd s before found now ⊎ Brings n s before found now
+abbrev pub ReadsFound : ℕ → FilesAt → Option Standing → Found → FilesAt → Type 0
+ReadsFound n before None found now = ⊥
+ReadsFound n before (Some s) found now = TellsEnd s before found now ⊎ Brings n s before found now
 
 -- what an answer was made of
 abbrev pub found_by : Answer → Found
@@ -166,7 +166,7 @@ Did write_len before (call.OpenFile slot options path) found now =
     OpensBy (flags_of options).0 (components path) before
     (after_open before.tree [] (flags_of options).0 (components path) (node_at before.tree (components path))) found now
 Did write_len before (call.Seek slot (position.Start n)) found now = Seeks n before before.slot now
-Did write_len before (call.Read slot n) found now = Reads n before before.slot found now
+Did write_len before (call.Read slot n) found now = ReadsFound n before before.slot found now
 Did write_len before (call.WriteAll slot bytes) found now = Writes write_len bytes before before.slot found now
 Did write_len before (call.Close slot) found now = now ≡ at_rest before.tree
 Did write_len before other found now = ⊥

@@ -2,7 +2,7 @@
 use Rattle.std.specs.Prelude.{ℕ, ◌+◌, ◌*◌, Bool, ◌&&◌, List, length, nat_le}
 use Rattle.std.specs.List.{list_all, sum_by}
 use Rattle.plan_model.specs.FilePlans.{open_request}
-use Rattle.plan_model.specs.Moves.{is_too_long}
+use Rattle.sftp_model.specs.Frames.{is_too_long}
 use Rattle.plan_model.specs.WindowPlans.{to_read}
 use Rattle.view_model.specs.declared.op.ViewOp.{ViewOp}
 use Rattle.view_model.specs.declared.op.ViewOp.TheVariants as op

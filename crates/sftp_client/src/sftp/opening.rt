@@ -1,7 +1,7 @@
 // The opening of a session and its end.
 ghost use Rattle.std.specs.Prelude.{◌≡◌, ◌<◌, ◌-◌, ◌^◌, None, IsSome};
 ghost use Rattle.sftp_core.specs.Info.{info_of};
-ghost use Rattle.sftp_client.specs.Rounds.{Closes, Drains, ExchangeEnds, OpenEnds, Opens, starting};
+ghost use Rattle.sftp_client.specs.Rounds.{ClosesSession, Drains, ExchangeEnds, OpenEnds, Opens, starting};
 
 use super::Sftp;
 use crate::incoming::Incoming;
@@ -40,7 +40,7 @@ impl<L: Link> Sftp<L> {
     pub fn close(self) -> Result<L, (Error, L)>
         requires opened { IsSome (info_of self.core.phase) }
         requires count { (L.LinkState.state self.link).faults < 2 ^ 64 - 1 }
-        ensures { Closes L.LinkState.state self result }
+        ensures { ClosesSession L.LinkState.state self result }
     {
         let mut sftp = self;
         match sftp.drain() {

@@ -1,7 +1,8 @@
 // WRITEs whose content is shared.
 ghost use Rattle.std.specs.Prelude.{◌≡◌, ◌<◌, ℕ, None, IsSome, IfOk, IfErr, OnOk, OnErr};
 ghost use Rattle.std.specs.FinMap as fin;
-ghost use Rattle.sftp_core.specs.Core.{write_of, is_long, refusal_of, submit_refusal, IsSubmitError, SubmittedParts};
+ghost use Rattle.sftp_model.specs.Frames.{is_too_long};
+ghost use Rattle.sftp_core.specs.Core.{write_of, refusal_of, submit_refusal, IsSubmitError, SubmittedParts};
 ghost use Rattle.sftp_core.specs.Frames.{IsShort};
 ghost use Rattle.sftp_core.specs.Info.{MAX_IDS, info_of};
 
@@ -53,9 +54,9 @@ fn short_write(
 ) -> Result<Request, SubmitError>
     ensures ok { IfOk result (λ request. request ≡ write_of handle.now offset parts.now) }
     ensures short { (id : ℕ) → OnOk result (IsShort (id, write_of handle.now offset parts.now)) }
-    ensures only { OnOk result (refusal_of None (is_long (write_of handle.now offset parts.now)) ≡ None) }
+    ensures only { OnOk result (refusal_of None (is_too_long (write_of handle.now offset parts.now)) ≡ None) }
     ensures refused { IfErr result (λ e.
-        IsSubmitError e (refusal_of None (is_long (write_of handle.now offset parts.now)))) }
+        IsSubmitError e (refusal_of None (is_too_long (write_of handle.now offset parts.now)))) }
 {
     let content = content_of(alloc, parts)?;
     let request = Request::Write {

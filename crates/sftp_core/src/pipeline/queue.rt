@@ -3,7 +3,8 @@ ghost use Rattle.std.specs.Prelude.{◌≡◌, ◌<◌, map, IsTrue, IsSome, IfO
 ghost use Rattle.std.specs.FinMap as fin;
 ghost use Rattle.sftp_model.specs.Pieces.{joined};
 ghost use Rattle.sftp_core.specs.Core.{is_call, submit_refusal, IsSubmitError, Submitted, handed_out};
-ghost use Rattle.sftp_core.specs.Frames.{frames_of, AreFilled};
+ghost use Rattle.sftp_model.specs.Frames.{frames_of};
+ghost use Rattle.sftp_core.specs.Frames.{AreFilled};
 ghost use Rattle.sftp_core.specs.Info.{MAX_IDS, info_of};
 ghost use Rattle.sftp_core.specs.Table.{marked_all};
 ghost use Rattle.sftp_core.specs.Pieces.{asked_of};

@@ -2,7 +2,7 @@ use Rattle.std.proofs.Common.{rules, ◌≡◌, ◌≤◌, sym, subst, Ok, Err}
 use Rattle.std.specs.FinMap as fin
 use Rattle.sftp_core.specs.Core.{Core, polled_with}
 use Rattle.sftp_core.specs.declared.tokens.Polled.TheVariants as polled
-use Rattle.call_state.specs.Told.{Came, IsUntold}
+use Rattle.call_state.specs.Told.{ReplyCame, IsUntold}
 use Rattle.call_state.specs.declared.told.Told.TheVariants as told
 use Rattle.call_state.specs.declared.told.Untold.TheVariants as untold
 use Rattle.call_state.proofs.Polling.{came_grant, came_reply, failed_by, missed_by, polls_few}
@@ -11,13 +11,13 @@ use Rattle.call_state.proofs.told.take_told.Goals as goal
 pub returns-in-Ok-Reply-clause-came : goal.returns-in-Ok-Reply-clause-came
 returns-in-Ok-Reply-clause-came c =
     let gave : polled_with c.args.core.now c.args.ticket ≡ Ok (polled.Reply c.in-Ok-Reply.reply) = search rules in
-    subst (λ (x : Core). Came c.args.core.now x c.args.ticket (told.Reply c.in-Ok-Reply.reply)) (sym c.poll.ensures.after)
+    subst (λ (x : Core). ReplyCame c.args.core.now x c.args.ticket (told.Reply c.in-Ok-Reply.reply)) (sym c.poll.ensures.after)
     (came_reply c.args.core.now c.args.ticket c.in-Ok-Reply.reply c.poll.ensures.allowed gave)
 
 pub returns-in-Ok-Granted-clause-came : goal.returns-in-Ok-Granted-clause-came
 returns-in-Ok-Granted-clause-came c =
     let gave : polled_with c.args.core.now c.args.ticket ≡ Ok (polled.Granted c.in-Ok-Granted.grant) = search rules in
-    subst (λ (x : Core). Came c.args.core.now x c.args.ticket (told.Granted c.in-Ok-Granted.grant)) (sym c.poll.ensures.after)
+    subst (λ (x : Core). ReplyCame c.args.core.now x c.args.ticket (told.Granted c.in-Ok-Granted.grant)) (sym c.poll.ensures.after)
     (came_grant c.args.core.now c.args.ticket c.in-Ok-Granted.grant c.poll.ensures.allowed gave)
 
 pub returns-in-Ok-Failed-clause-missing : goal.returns-in-Ok-Failed-clause-missing

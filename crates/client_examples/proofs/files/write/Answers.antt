@@ -3,7 +3,7 @@ use Rattle.plan_model.specs.TransferPlans.{write_all_next}
 use Rattle.sftp_core.specs.Core.{Core}
 use Rattle.sftp_file.specs.Files.{Starts}
 use Rattle.sftp_file.specs.Writes.{writing_all}
-use Rattle.call_state.specs.Keeping.{Keeps}
+use Rattle.call_state.specs.Keeping.{KeepsHeld}
 use Rattle.client_examples.proofs.Steps.{still_held, written_by}
 use Rattle.client_examples.proofs.files.write.Goals as goal
 
@@ -17,7 +17,7 @@ returns-clause-written g c =
 
 pub returns-clause-held : goal.returns-clause-held
 returns-clause-held g c =
-    let keeps : Keeps c.args.sftp.now.core c.start_write_all.new.core =
-    subst (λ (k : Core). Keeps k c.start_write_all.new.core) c.core.ensures.value c.in_ok-call.ensures.starts.keeps in
+    let keeps : KeepsHeld c.args.sftp.now.core c.start_write_all.new.core =
+    subst (λ (k : Core). KeepsHeld k c.start_write_all.new.core) c.core.ensures.value c.in_ok-call.ensures.starts.keeps in
     still_held writing_all _ g.L.LinkState.state c.args.sftp.now c.finish_on.new.self c.start_write_all.new.core c.in_ok-call.call
     c.args.file.now c.finish_on.new.file c.finish_on.result (λ m. refl) c.requires.held keeps (rw (c.in_ok-call.ensures.left) at c.finish_on.ensures)

@@ -1,6 +1,6 @@
 use Rattle.std.proofs.Common.{rules, ◌≡◌, sym, subst}
 use Rattle.sftp_core.specs.Core.{Core, handed_out}
-use Rattle.call_state.specs.Keeping.{Keeps}
+use Rattle.call_state.specs.Keeping.{KeepsHeld}
 use Rattle.call_state.proofs.Keeping.{keeps_handed_out}
 use Rattle.sftp_buffered.proofs.Keeping.{kept_sound}
 use Rattle.client_tests.proofs.buffered.sends.Goals as goal
@@ -8,5 +8,5 @@ use Rattle.client_tests.proofs.buffered.sends.Goals as goal
 pub returns-in-Ok : goal.returns-in-Ok
 returns-in-Ok c =
     let is : c.give_back.new.self ≡ handed_out c.args.core.now = search rules in
-    let keeps : Keeps c.args.core.now c.give_back.new.self = subst (λ (x : Core). Keeps c.args.core.now x) (sym is) (keeps_handed_out c.args.core.now) in
+    let keeps : KeepsHeld c.args.core.now c.give_back.new.self = subst (λ (x : Core). KeepsHeld c.args.core.now x) (sym is) (keeps_handed_out c.args.core.now) in
     record { keeps = keeps; sound = λ file. kept_sound c.args.core.now c.give_back.new.self file keeps }

@@ -7,7 +7,7 @@ use Rattle.plan_window.specs.Windows.{Window}
 use Rattle.plan_window.specs.Windows.{first_of}
 use Rattle.plan_runner.specs.declared.next.Next.TheVariants as step
 use Rattle.plan_runner.specs.declared.next.Running.TheVariants as running
-use Rattle.plan_runner.specs.Runners.{Goes, after}
+use Rattle.plan_runner.specs.Runners.{RunsByPlan, after}
 use Rattle.plan_runner.specs.Asking.{ReadsOn}
 use Rattle.plan_runner.specs.Pending.{pends_after}
 use Rattle.plan_runner.proofs.Fewer.{pends_if_ok}
@@ -32,7 +32,7 @@ pub returns-then-not-is_absorbed : goal.returns-then-not-is_absorbed
 returns-then-not-is_absorbed c bytes = record {
   goes = let first : first_of c.args.window.waiting ≡ Some c.in-Some.field-0 = search rules in
       let bad : (brings_content c.args.reply || is_end_of_file c.args.reply) ≡ false = search rules in
-      subst (λ (o : Outcome). Goes (after (running.ReadingWhole c.args.grant c.args.bound c.args.window) bytes
+      subst (λ (o : Outcome). RunsByPlan (after (running.ReadingWhole c.args.grant c.args.bound c.args.window) bytes
       c.args.site.now c.args.facts.now (Some c.args.reply)) c.args.place bytes c.args.site.now c.args.facts.now
       (step.Done o)) (sym c.refusal.ensures)
       (refused_goes c.args.grant c.args.bound c.args.window c.in-Some.field-0 c.args.reply c.args.place bytes

@@ -4,7 +4,7 @@ use Rattle.sftp_model.specs.declared.slot.Facts.{Facts}
 use Rattle.plan_model.specs.Moves.{Answers}
 use Rattle.plan_model.specs.BufferPlans.{cancelled_buf_flush}
 use Rattle.plan_runner.specs.Pending.{Fewer}
-use Rattle.plan_runner.specs.Sound.{Keeps}
+use Rattle.plan_runner.specs.Sound.{KeepsSite}
 use Rattle.session_lane.specs.Tokens.{TellReplies}
 use Rattle.session_lane.specs.Turning.{HasDeferred}
 use Rattle.session_lane.proofs.Flushed.{deferred_len}
@@ -16,7 +16,7 @@ invariant-loop-place l =
     (l.slot < length l.site.slots)
     × HasDeferred l.site l.tokens.tickets.items
     × Fewer l.fn.site l.site
-    × ((facts : Facts) → Keeps facts l.fn.site l.site)
+    × ((facts : Facts) → KeepsSite facts l.fn.site l.site)
     × ((facts : Facts) (answers : Answers) → TellReplies l.core l.tokens.tickets.items answers
     → cancelled_buf_flush l.slot l.fn.site facts [] answers ≡ cancelled_buf_flush l.slot l.site facts [] answers)
 

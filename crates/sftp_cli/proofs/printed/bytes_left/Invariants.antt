@@ -4,4 +4,4 @@ use Rattle.sftp_cli.proofs.Files.{file_lens_below}
 use Rattle.sftp_cli.proofs.printed.bytes_left.Given as goal
 
 abbrev pub invariant-loop-k : goal.invariant-loop-k
-invariant-loop-k l = l.count ≡ limited (file_lens_below l.server.now.desk.machine.tree l.k)
+invariant-loop-k l = l.count ≡ limited (file_lens_below l.server.now.state.machine.tree l.k)

@@ -4,7 +4,7 @@ use Rattle.session_seats.specs.Holds.{Grew, claim_of, no_allowance}
 use Rattle.session_seats.proofs.GrowLaws.{grew_applied}
 use Rattle.sftp_model.specs.declared.error.Error.{Error}
 use Rattle.sftp_tasks.specs.Entries.{by_failing, by_nothing, by_read}
-use Rattle.sftp_tasks.specs.Rounds.{ReadStops, Reads, ReadsOnce}
+use Rattle.sftp_tasks.specs.Rounds.{ReadStops, ReadsRound, ReadsOnce}
 use Rattle.sftp_tasks.specs.Shows.{shown_of}
 use Rattle.sftp_tasks.proofs.CallLaws.{settled_err, settled_ok}
 use Rattle.sftp_tasks.proofs.RoundLaws.{look_false, look_refused, look_true, nothing_then_failing, nothing_then_read, took}
@@ -17,8 +17,8 @@ returns-in-Ok-false-clause-reads g c =
     let before = g.I.LinkState.state c.args.input.now in
     let is = c.in-Ok-false.is ∙ ap (λ o. Ok o) c.in-Ok-false.field-0-test in
     let nothing = look_false m n before c.apply-may.result.0 is c.apply-may.ensures.held in
-    subst (λ (r : Result Bool Error). IfOk r (λ did. Reads did m n before before)) (sym c.settle.ensures)
-    (settled_ok false c.apply-may.result.1 (λ did. Reads did m n before before) nothing)
+    subst (λ (r : Result Bool Error). IfOk r (λ did. ReadsRound did m n before before)) (sym c.settle.ensures)
+    (settled_ok false c.apply-may.result.1 (λ did. ReadsRound did m n before before) nothing)
 
 pub returns-in-Ok-false-clause-stops : goal.returns-in-Ok-false-clause-stops
 returns-in-Ok-false-clause-stops g c =
@@ -114,8 +114,8 @@ returns-in-Ok-looked-clause-reads g c =
       caused = c.in-Ok.ensures.caused;
       takes = took n end c.in-Ok.frame c.apply-did.result.0 (Ok tt) c.in-Ok-did.is c.apply-did.ensures.held;
     } in
-    subst (λ (r : Result Bool Error). IfOk r (λ did. Reads did m end before after)) (sym c.settle-in-Ok-looked.ensures)
-    (settled_ok true c.apply-did.result.1 (λ did. Reads did m end before after) reads)
+    subst (λ (r : Result Bool Error). IfOk r (λ did. ReadsRound did m end before after)) (sym c.settle-in-Ok-looked.ensures)
+    (settled_ok true c.apply-did.result.1 (λ did. ReadsRound did m end before after) reads)
 
 pub returns-in-Ok-looked-clause-stops : goal.returns-in-Ok-looked-clause-stops
 returns-in-Ok-looked-clause-stops g c =

@@ -6,7 +6,7 @@ use Rattle.sftp_model.specs.declared.error.Error.{Error}
 use Rattle.sftp_tasks.specs.Calls.{InOneHold}
 use Rattle.sftp_tasks.specs.Entries.{by_read, by_nothing}
 use Rattle.sftp_tasks.specs.LockedEvents.{Finishing}
-use Rattle.sftp_tasks.specs.Rounds.{ReadStops, Reads}
+use Rattle.sftp_tasks.specs.Rounds.{ReadStops, ReadsRound}
 use Rattle.sftp_tasks.specs.Workers.{ReadNone}
 use Rattle.sftp_tasks.proofs.RoundLaws.{nothing_reads_all}
 use Rattle.sftp_tasks.proofs.workers.read_shift.Goals as goal
@@ -18,7 +18,7 @@ returns-in-Ok-true-clause-shift g c =
     let is = c.in-Ok-true.is ∙ ap (λ o. Ok o) c.in-Ok-true.field-0-test in
     inl (
       refl,
-      subst (λ (r : Result Bool Error). IfOk r (λ did. Reads did c.args.seat.now.inner.me c.read_round.new.seat.inner.me before after)) is
+      subst (λ (r : Result Bool Error). IfOk r (λ did. ReadsRound did c.args.seat.now.inner.me c.read_round.new.seat.inner.me before after)) is
           c.read_round.ensures.reads,
     )
 
@@ -55,7 +55,7 @@ returns-in-Ok-clause-shift g c =
     let is = c.in-Ok-false.is ∙ ap (λ o. Ok o) c.in-Ok-false.field-0-test in
     let none : ReadNone (Ok c.in-Ok.all) (m, before) (n, after) = record {
       mid = mid;
-      none = subst (λ (r : Result Bool Error). IfOk r (λ did. Reads did m mid before after)) is c.read_round.ensures.reads;
+      none = subst (λ (r : Result Bool Error). IfOk r (λ did. ReadsRound did m mid before after)) is c.read_round.ensures.reads;
       looks = subst (λ (r : Result Bool Error). InOneHold Finishing r mid n) c.in-Ok.is c.finish.ensures.looks;
     } in
     inr (c.in-Ok.all, (c.over_if.ensures, none))
@@ -70,6 +70,6 @@ returns-in-Err-finish-clause-shift g c =
     let is = c.in-Ok-false.is ∙ ap (λ o. Ok o) c.in-Ok-false.field-0-test in
     inr record {
       mid = mid;
-      none = subst (λ (r : Result Bool Error). IfOk r (λ did. Reads did m mid before after)) is c.read_round.ensures.reads;
+      none = subst (λ (r : Result Bool Error). IfOk r (λ did. ReadsRound did m mid before after)) is c.read_round.ensures.reads;
       looks = subst (λ (r : Result Bool Error). InOneHold Finishing r mid n) c.in-Err-finish.is c.finish.ensures.looks;
     }

@@ -1,14 +1,14 @@
 use Rattle.std.proofs.Common.{rules, ◌≡◌, refl, Ok, Err, Some, None, [], ◌∷◌, false}
 use Rattle.call_state.specs.declared.poll.Poll.TheVariants as poll
 use Rattle.sftp_client.specs.Sessions.{with_core}
-use Rattle.sftp_streams.specs.Downloads.{Reads}
+use Rattle.sftp_streams.specs.Downloads.{PollsDownload}
 use Rattle.transfer_local.specs.Local.{Failed, HasDone, Wrote}
 use Rattle.transfer_file.proofs.FetchLaws.{gave_piece, wait_failed, waited, write_failed}
 use Rattle.transfer_file.proofs.down.fetch_step.Goals as goal
 
 pub returns-in-Ok : goal.returns-in-Ok
 returns-in-Ok g c =
-    let reads : Reads c.args.sftp.now.core c.poll.new.core c.args.download.now c.poll.new.self
+    let reads : PollsDownload c.args.sftp.now.core c.poll.new.core c.args.download.now c.poll.new.self
     (poll.Ready (Ok (Some c.in-Ready-Ok-Some.bytes))) = search rules in
     let written : HasDone g.F.LocalFile.done (Wrote c.in-Ready-Ok-Some.bytes ∷ [])
     (g.F.LocalFile.history c.args.local.now) (g.F.LocalFile.history c.write.new.self) = search rules in
@@ -18,7 +18,7 @@ returns-in-Ok g c =
 
 pub returns-in-Ready-Ok-Some : goal.returns-in-Ready-Ok-Some
 returns-in-Ready-Ok-Some g c =
-    let reads : Reads c.args.sftp.now.core c.poll.new.core c.args.download.now c.poll.new.self
+    let reads : PollsDownload c.args.sftp.now.core c.poll.new.core c.args.download.now c.poll.new.self
     (poll.Ready (Ok (Some c.in-Ready-Ok-Some.bytes))) = search rules in
     let written : HasDone g.F.LocalFile.done (Failed (Wrote c.in-Ready-Ok-Some.bytes) ∷ [])
     (g.F.LocalFile.history c.args.local.now) (g.F.LocalFile.history c.write.new.self) = search rules in
@@ -28,7 +28,7 @@ returns-in-Ready-Ok-Some g c =
 
 pub returns-in-Ok-turn : goal.returns-in-Ok-turn
 returns-in-Ok-turn g c =
-    let reads : Reads c.args.sftp.now.core c.poll.new.core c.args.download.now c.poll.new.self poll.Pending = search rules in
+    let reads : PollsDownload c.args.sftp.now.core c.poll.new.core c.args.download.now c.poll.new.self poll.Pending = search rules in
     waited g.L.LinkState.state g.F.LocalFile.done (record { session = c.args.sftp.now; download = c.args.download.now })
     (record { session = with_core c.args.sftp.now c.poll.new.core; download = c.poll.new.self })
     (record { session = c.turn.new.sftp; download = c.poll.new.self }) _
@@ -36,7 +36,7 @@ returns-in-Ok-turn g c =
 
 pub returns : goal.returns
 returns g c =
-    let reads : Reads c.args.sftp.now.core c.poll.new.core c.args.download.now c.poll.new.self poll.Pending = search rules in
+    let reads : PollsDownload c.args.sftp.now.core c.poll.new.core c.args.download.now c.poll.new.self poll.Pending = search rules in
     wait_failed g.L.LinkState.state g.F.LocalFile.done (record { session = c.args.sftp.now; download = c.args.download.now })
     (record { session = with_core c.args.sftp.now c.poll.new.core; download = c.poll.new.self })
     (record { session = c.turn.new.sftp; download = c.poll.new.self }) _ c.in-Err-turn.e

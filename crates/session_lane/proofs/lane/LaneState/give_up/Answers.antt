@@ -6,7 +6,7 @@ use Rattle.session_laws.specs.Lanes.{LaneValue}
 use Rattle.sftp_model.specs.declared.slot.Site.{Site}
 use Rattle.plan_runner.specs.Cancelling.{left_behind}
 use Rattle.plan_runner.specs.Pending.{Fewer}
-use Rattle.plan_runner.specs.Sound.{Keeps}
+use Rattle.plan_runner.specs.Sound.{KeepsSite}
 use Rattle.plan_runner.specs.declared.next.Running.{Running}
 use Rattle.plan_runner.specs.declared.next.Running.TheVariants as running
 use Rattle.session_lane.specs.Tokens.{TellReplies}
@@ -38,7 +38,7 @@ returns-in-Flushing-clause-ok c =
     (ap (λ (x : LaneValue). x.tickets) c.self.view_is) grants
     (ap (λ (n : ℕ). n + 1) (ap (λ (x : LaneValue). x.ended) c.self.view_is))
     (subst (λ (x : Site). Fewer x c.take_good.new.site) site c.take_good.ensures.fewer)
-    (λ facts. subst (λ (x : Site). Keeps facts x c.take_good.new.site) site (c.take_good.ensures.keeps facts))
+    (λ facts. subst (λ (x : Site). KeepsSite facts x c.take_good.new.site) site (c.take_good.ensures.keeps facts))
 
 pub returns-in-Flushing-clause-leaves : goal.returns-in-Flushing-clause-leaves
 returns-in-Flushing-clause-leaves c = λ r bytes facts answers runs tell.

@@ -2,7 +2,7 @@ use Rattle.std.proofs.Common.{◌≡◌, ◌++◌, sym, ap, ◌∙◌, subst, Li
 use Rattle.std.proofs.lemmas.List.{length-reverse}
 use Rattle.session_model.specs.declared.entry.Entry.{Entry}
 use Rattle.session_seats.specs.declared.view.Receipt.{Receipt}
-use Rattle.session_seats.specs.Holds.{HasUsers, Goes, passes}
+use Rattle.session_seats.specs.Holds.{HasUsers, GoesByEntries, passes}
 use Rattle.session_seats.proofs.HoldLaws.{can_release, has_users, holds, receipts_on, shares_after, tie}
 use Rattle.session_seats.proofs.shared.Shared.hold.Goals as goal
 
@@ -21,7 +21,7 @@ release-requires-clause-held g c =
     let held : h.value ≡ c.slot_mut-held.result.now = tie g.S.Held.shown c.args.seat.now.me c.acquire.new.seat.me h
     c.slot_mut-held.result.now c.slot_mut-held.ensures.value in
     let more = c.act-did.ensures.goes.0 in
-    let goes = subst (λ y. Goes (passes (g.E.Event.only c.args.event) c.args.lane)
+    let goes = subst (λ y. GoesByEntries (passes (g.E.Event.only c.args.event) c.args.lane)
     (g.E.Event.needs c.args.event) more (g.S.Held.shown y) (g.S.Held.shown z)) (sym held) c.act-did.ensures.goes.1
     in
     can_release g.S.Held.shown c.args.seat.now.me c.acquire.new.seat.me h z c.args.lane
@@ -35,7 +35,7 @@ returns-clause-held g c =
     let held : h.value ≡ c.slot_mut-held.result.now = tie g.S.Held.shown c.args.seat.now.me c.acquire.new.seat.me h
     c.slot_mut-held.result.now c.slot_mut-held.ensures.value in
     let more = c.act-did.ensures.goes.0 in
-    let goes = subst (λ y. Goes (passes (g.E.Event.only c.args.event) c.args.lane)
+    let goes = subst (λ y. GoesByEntries (passes (g.E.Event.only c.args.event) c.args.lane)
     (g.E.Event.needs c.args.event) more (g.S.Held.shown y) (g.S.Held.shown z)) (sym held) c.act-did.ensures.goes.1
     in
     let does = subst (λ y. g.E.Event.does c.args.event c.args.lane y z c.act-did.result) (sym held) c.act-did.ensures.does in
@@ -60,7 +60,7 @@ returns-clause-share g c =
     let held : h.value ≡ c.slot_mut-held.result.now = tie g.S.Held.shown c.args.seat.now.me c.acquire.new.seat.me h
     c.slot_mut-held.result.now c.slot_mut-held.ensures.value in
     let more = c.act-did.ensures.goes.0 in
-    let goes = subst (λ y. Goes (passes (g.E.Event.only c.args.event) c.args.lane)
+    let goes = subst (λ y. GoesByEntries (passes (g.E.Event.only c.args.event) c.args.lane)
     (g.E.Event.needs c.args.event) more (g.S.Held.shown y) (g.S.Held.shown z)) (sym held) c.act-did.ensures.goes.1
     in
     shares_after g.S.Held.shown c.args.seat.now.me c.acquire.new.seat.me h z

@@ -12,7 +12,7 @@ use Rattle.session_laws.specs.Rest.{begun_of}
 use Rattle.session_lane.specs.Turning.{LeavesBehind}
 use Rattle.session_work.specs.Closing.{Closing, IsClosed}
 use Rattle.session_work.specs.Reports.{with_outcome}
-use Rattle.session_work.specs.Working.{Contents, contents_of, lane_in, past_of}
+use Rattle.session_work.specs.Working.{LanesValue, contents_of, lane_in, past_of}
 use Rattle.session_work.proofs.BegunLaws.{begun_at, begun_less}
 use Rattle.session_work.proofs.CancellingLaws.{cancelled_in, cancelling, cancels_call, cancels_nothing, gives_idle, may_cancel, there_of}
 use Rattle.session_work.proofs.Contents.{pushed, state_at}
@@ -75,7 +75,7 @@ close_loose-requires-clause-closing c =
     begun_at c.args.self.now.states.items c.args.lane c.index.result.now true there c.index.ensures runs in
     let kept : c.reserve.new.self.items ≡ c.args.self.now.journal.items = search rules in
     let o = c.requires.opened in
-    let old : Contents = contents_of c.args.self.now in
+    let old : LanesValue = contents_of c.args.self.now in
     let is : c.index_mut-state.result.now ≡ lane_in old.states c.args.lane =
     state_at old.states c.args.lane c.index_mut-state.result.now there c.index_mut-state.ensures.value in
     let gives : GivesUp old.core c.give_up.new.core (lane_in old.states c.args.lane) c.give_up.new.self =
@@ -102,7 +102,7 @@ close_loose-requires-clause-closing c =
       o.0,
       (
         cancelled_past old.past c.args.lane,
-        subst (λ (y : Contents). Closing o.0 (cancelled_past old.past c.args.lane) c.args.lane y)
+        subst (λ (y : LanesValue). Closing o.0 (cancelled_past old.past c.args.lane) c.args.lane y)
             (λ i. record {
               calls = old.calls;
               core = c.give_up.new.core;
@@ -124,7 +124,7 @@ returns-clause-cancels c =
     begun_at c.args.self.now.states.items c.args.lane c.index.result.now true there c.index.ensures runs in
     let kept : c.reserve.new.self.items ≡ c.args.self.now.journal.items = search rules in
     λ s w.
-    let old : Contents = contents_of c.args.self.now in
+    let old : LanesValue = contents_of c.args.self.now in
     let is : c.index_mut-state.result.now ≡ lane_in old.states c.args.lane =
     state_at old.states c.args.lane c.index_mut-state.result.now there c.index_mut-state.ensures.value in
     let gives : GivesUp old.core c.give_up.new.core (lane_in old.states c.args.lane) c.give_up.new.self =
@@ -148,7 +148,7 @@ returns-clause-cancels c =
     begun_less old.states c.args.lane c.give_up.new.self there
     (ap is_some (gives_idle old.core c.give_up.new.core (lane_in old.states c.args.lane) c.give_up.new.self gives))
     in
-    let mid : Contents = record {
+    let mid : LanesValue = record {
       calls = old.calls;
       core = c.give_up.new.core;
       facts = old.facts;
@@ -171,9 +171,9 @@ returns-clause-cancels c =
       begun = left i;
     } in
     cancels_call s c.args.lane old (contents_of c.close_loose.new.self) c.give_up.new.core c.give_up.new.self begun x
-    (subst (λ (y : Contents). IsClosed s (cancelled_past old.past c.args.lane) y (contents_of c.close_loose.new.self)) (sym same)
+    (subst (λ (y : LanesValue). IsClosed s (cancelled_past old.past c.args.lane) y (contents_of c.close_loose.new.self)) (sym same)
     (c.close_loose.ensures.closed s (cancelled_past old.past c.args.lane)
-    (subst (λ (y : Contents). Closing s (cancelled_past old.past c.args.lane) c.args.lane y) same x.closing)))
+    (subst (λ (y : LanesValue). Closing s (cancelled_past old.past c.args.lane) c.args.lane y) same x.closing)))
 
 pub keep_outcome-requires : goal.keep_outcome-requires
 keep_outcome-requires c =
@@ -192,7 +192,7 @@ returns-in_err-keep_outcome-clause-left c =
     begun_at c.args.self.now.states.items c.args.lane c.index.result.now true there c.index.ensures runs in
     let kept : c.reserve.new.self.items ≡ c.args.self.now.journal.items = search rules in
     let o = c.requires.opened in
-    let old : Contents = contents_of c.args.self.now in
+    let old : LanesValue = contents_of c.args.self.now in
     let is : c.index_mut-state.result.now ≡ lane_in old.states c.args.lane =
     state_at old.states c.args.lane c.index_mut-state.result.now there c.index_mut-state.ensures.value in
     let gives : GivesUp old.core c.give_up.new.core (lane_in old.states c.args.lane) c.give_up.new.self =

@@ -5,7 +5,7 @@ use Rattle.session_laws.specs.Dues.{loose_of}
 use Rattle.session_laws.specs.Lanes.{LaneValue, grant_places}
 use Rattle.session_laws.specs.Places.{without}
 use Rattle.session_work.specs.Closing.{HasClosed, IsClosed, closed_in}
-use Rattle.session_work.specs.Working.{Contents, contents_of, lane_in, past_of}
+use Rattle.session_work.specs.Working.{LanesValue, contents_of, lane_in, past_of}
 use Rattle.session_work.proofs.ClosingLaws.{Goes, closed_all, counted_in, goes_next, goes_on, grants_in, grants_left, there_in}
 use Rattle.session_work.proofs.Contents.{state_at}
 use Rattle.session_work.proofs.ReportLaws.{leaves_on}
@@ -53,7 +53,7 @@ loop-k-smaller c =
     (slice_get_within (lane_in states c.args.lane).grants c.in-Some.k f.0 here) in
     let same : length (lane_in c.close.new.self.states.items c.args.lane).grants
     ≡ length (lane_in (closed_in (contents_of c.loop-k.self) c.args.lane c.in-Some.k f.0).states c.args.lane).grants
-    = ap (λ (x : Contents). length (lane_in x.states c.args.lane).grants) closed.is in
+    = ap (λ (x : LanesValue). length (lane_in x.states c.args.lane).grants) closed.is in
     omega (arith, less, same)
 
 pub loop-k-preserved : goal.loop-k-preserved
@@ -74,14 +74,14 @@ loop-k-preserved c =
     let less = grants_left (contents_of c.loop-k.self) c.args.lane k f.0 lt (slice_get_within (lane_in states c.args.lane).grants k f.0 here) in
     let same : length (lane_in c.close.new.self.states.items c.args.lane).grants
     ≡ length (lane_in (closed_in (contents_of c.loop-k.self) c.args.lane k f.0).states c.args.lane).grants =
-    ap (λ (x : Contents). length (lane_in x.states c.args.lane).grants) closed.is in
+    ap (λ (x : LanesValue). length (lane_in x.states c.args.lane).grants) closed.is in
     let room : vec_len c.loop-k.self.journal + length (lane_in states c.args.lane).grants < vec_capacity c.loop-k.self.journal = c.loop-k.invariant.0 in
     let len = c.close.ensures.one.len in
     let capacity = c.close.ensures.one.capacity in (
       omega (arith, less, same, room, len, capacity),
       λ s before base. (let was : Goes s before c.args.lane (contents_of c.args.self.now) (contents_of c.loop-k.self) = c.loop-k.invariant.1 s before base in
           goes_on s before c.args.lane (contents_of c.args.self.now) (contents_of c.loop-k.self) (contents_of c.close.new.self) was
-          (subst (λ (x : Contents). Goes s before c.args.lane (contents_of c.loop-k.self) x) (sym closed.is)
+          (subst (λ (x : LanesValue). Goes s before c.args.lane (contents_of c.loop-k.self) x) (sym closed.is)
           (goes_next s before c.args.lane k (contents_of c.loop-k.self) f.0 was.closing here first closed.small))),
       leaves_on (past_of c.args.self.now) c.args.self.now c.loop-k.self c.close.new.self c.loop-k.invariant.2 c.close.ensures.reports,
     )

@@ -6,7 +6,7 @@ use Rattle.session_laws.specs.Lanes.{LaneValue}
 use Rattle.session_laws.specs.Ends.{StaysOpen}
 use Rattle.session_work.specs.Closing.{HasClosed, closed_in}
 use Rattle.session_work.specs.Letting.{IsLetGo, Letting}
-use Rattle.session_work.specs.Working.{Contents, contents_of, lane_in, past_of}
+use Rattle.session_work.specs.Working.{LanesValue, contents_of, lane_in, past_of}
 use Rattle.session_work.proofs.ClosingLaws.{counted_in, grants_left}
 use Rattle.session_work.proofs.Contents.{state_at}
 use Rattle.session_work.proofs.LettingLaws.{first_is, letting_closes, letting_grants, letting_over, letting_passes, letting_there, none_left}
@@ -86,7 +86,7 @@ loop-rest-preserved-in-Some c =
     let less = grants_left (contents_of c.loop-rest.self) c.args.lane k f.0 lt (slice_get_within (lane_in states c.args.lane).grants k f.0 here) in
     let same : length (lane_in c.close.new.self.states.items c.args.lane).grants
     ≡ length (lane_in (closed_in (contents_of c.loop-rest.self) c.args.lane k f.0).states c.args.lane).grants =
-    ap (λ (x : Contents). length (lane_in x.states c.args.lane).grants) closed.is in
+    ap (λ (x : LanesValue). length (lane_in x.states c.args.lane).grants) closed.is in
     let room : vec_len c.loop-rest.self.journal + length (lane_in states c.args.lane).grants < vec_capacity
     c.loop-rest.self.journal = c.loop-rest.invariant.0 in
     let len = c.close.ensures.one.len in
@@ -95,10 +95,10 @@ loop-rest-preserved-in-Some c =
       λ s before base. (let h : Letting s before c.args.lane (contents_of c.loop-rest.self) (slot ∷ later) =
           subst (λ (xs : List Slot). Letting s before c.args.lane (contents_of c.loop-rest.self) xs) split
           (c.loop-rest.invariant.1 s before base) in
-          subst (λ (x : Contents). Letting s before c.args.lane x later) (sym closed.is)
+          subst (λ (x : LanesValue). Letting s before c.args.lane x later) (sym closed.is)
           (letting_closes s before c.args.lane k (contents_of c.loop-rest.self) f.0 slot later h f.1.1 f.1.2 here
           closed.small)),
-      ap (λ (x : Contents). x.begun) closed.is ∙ c.loop-rest.invariant.2,
+      ap (λ (x : LanesValue). x.begun) closed.is ∙ c.loop-rest.invariant.2,
       leaves_on (past_of c.args.self.now) c.args.self.now c.loop-rest.self c.close.new.self c.loop-rest.invariant.3 c.close.ensures.reports,
     )
 

@@ -2,9 +2,9 @@ use Rattle.std.proofs.Common.{◌≡◌, ◌≢◌, ◌<◌, ℕ, Some, length, 
 use Rattle.std.specs.Prelude.{slice_get}
 use Rattle.std.proofs.lemmas.List.{length-set}
 use Rattle.plan_runner.specs.Pending.{slots_times}
-use Rattle.session_lane.specs.Tokens.{AreTickets}
+use Rattle.session_lane.specs.Tokens.{AreCounted}
 use Rattle.session_laws.specs.Lanes.{LaneValue, Ticketed}
-use Rattle.session_work.specs.Working.{Contents, Unnoted, contents_of, lane_in}
+use Rattle.session_work.specs.Working.{LanesValue, Unnoted, contents_of, lane_in}
 use Rattle.session_work.proofs.Contents.{state_at}
 use Rattle.session_work.proofs.UnnotedLaws.{HasForgotten, has_forgotten, forgets_idle, forgets_less, forgets_unnoted, tickets_in, unnoted_on, unnoted_self}
 use Rattle.session_work.proofs.lanes.Lanes.forget_unawaited.Goals as goal
@@ -24,7 +24,7 @@ forget-requires-clause-counted c =
     let lt = c.loop-k.invariant.0 in
     let v : LaneValue = c.index_mut.result.now in
     let is : v ≡ lane_in c.loop-k.self.states.items c.args.lane = state_at c.loop-k.self.states.items c.args.lane v lt c.index_mut.ensures.value in
-    subst (λ (y : LaneValue). AreTickets c.loop-k.self.core y.tickets) (sym is)
+    subst (λ (y : LaneValue). AreCounted c.loop-k.self.core y.tickets) (sym is)
     (tickets_in o.0 c.args.lane (contents_of c.loop-k.self) (c.loop-k.invariant.2 o.0 o.1).works lt)
 
 pub forget-requires-clause-within : goal.forget-requires-clause-within
@@ -39,7 +39,7 @@ forget-requires-clause-within c =
 pub loop-k-smaller : goal.loop-k-smaller
 loop-k-smaller c =
     let lt = c.loop-k.invariant.0 in
-    let mid : Contents = contents_of c.loop-k.self in
+    let mid : LanesValue = contents_of c.loop-k.self in
     let k = c.in-Some.k in
     let has : HasForgotten mid.core c.forget.new.core (lane_in mid.states c.args.lane) c.forget.new.self k =
     has_forgotten mid.states c.args.lane k c.index.result.now c.index_mut.result.now c.forget.new.self mid.core
@@ -51,8 +51,8 @@ pub loop-k-preserved : goal.loop-k-preserved
 loop-k-preserved c =
     let lt = c.loop-k.invariant.0 in
     let idle = c.loop-k.invariant.1 in
-    let old : Contents = contents_of c.args.self.now in
-    let mid : Contents = contents_of c.loop-k.self in
+    let old : LanesValue = contents_of c.args.self.now in
+    let mid : LanesValue = contents_of c.loop-k.self in
     let k = c.in-Some.k in
     let has : HasForgotten mid.core c.forget.new.core (lane_in mid.states c.args.lane) c.forget.new.self k =
     has_forgotten mid.states c.args.lane k c.index.result.now c.index_mut.result.now c.forget.new.self mid.core

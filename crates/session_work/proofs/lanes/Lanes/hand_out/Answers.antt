@@ -5,7 +5,7 @@ use Rattle.sftp_model.specs.Pieces.{joined}
 use Rattle.sftp_core.specs.Core.{handed_out}
 use Rattle.session_model.specs.declared.event.Event.TheVariants.{Send}
 use Rattle.session_model.specs.declared.entry.Entry.TheVariants as entry
-use Rattle.session_model.specs.Readings.{frames_of}
+use Rattle.sftp_model.specs.Frames.{frames_of}
 use Rattle.session_work.specs.Working.{contents_of}
 use Rattle.session_work.proofs.Exchanges.{hands_all, hands_nothing}
 use Rattle.session_work.proofs.Entries.{pushed}

@@ -7,7 +7,7 @@ use Rattle.session_laws.specs.Changes.{let_go_lane}
 use Rattle.session_laws.specs.Lanes.{LaneValue}
 use Rattle.session_laws.specs.Rest.{begun_of}
 use Rattle.session_work.specs.Letting.{IsLetGo, Letting}
-use Rattle.session_work.specs.Working.{Contents, contents_of, lane_in, past_of}
+use Rattle.session_work.specs.Working.{LanesValue, contents_of, lane_in, past_of}
 use Rattle.session_work.proofs.CancellingLaws.{there_of}
 use Rattle.session_work.proofs.Contents.{pushed, state_at}
 use Rattle.session_work.proofs.LettingLaws.{let_go_begun, let_go_in, letting_starts, lets_lane_go, lets_none_go}
@@ -22,7 +22,7 @@ close_slots-requires-clause-letting c =
     let there : c.args.lane < length c.args.self.now.states.items = search rules in
     let kept : c.reserve.new.self.items ≡ c.args.self.now.journal.items = search rules in
     let o = c.requires.done in
-    let old : Contents = contents_of c.args.self.now in
+    let old : LanesValue = contents_of c.args.self.now in
     let v : LaneValue = c.index_mut-state.result.now in
     let is : v ≡ lane_in old.states c.args.lane = state_at old.states c.args.lane v there c.index_mut-state.ensures.value in
     let slots : c.as_slice.result.now ≡ v.site.slots = search rules in
@@ -51,7 +51,7 @@ close_slots-requires-clause-letting c =
               begun =
                   begun_of (lane_in (slice_set old.states c.args.lane c.empty-slots.new.self));
             }) xs) all
-            (subst (λ (y : Contents). Letting o.0 (entry.LetGo c.args.lane ∷ old.past) c.args.lane y (lane_in old.states c.args.lane).site.slots)
+            (subst (λ (y : LanesValue). Letting o.0 (entry.LetGo c.args.lane ∷ old.past) c.args.lane y (lane_in old.states c.args.lane).site.slots)
             (λ i. record {
               calls = old.calls;
               core = old.core;
@@ -68,7 +68,7 @@ pub returns-clause-lets_go : goal.returns-clause-lets_go
 returns-clause-lets_go c =
     let there : c.args.lane < length c.args.self.now.states.items = search rules in
     let kept : c.reserve.new.self.items ≡ c.args.self.now.journal.items = search rules in
-    let old : Contents = contents_of c.args.self.now in
+    let old : LanesValue = contents_of c.args.self.now in
     let v : LaneValue = c.index_mut-state.result.now in
     let is : v ≡ lane_in old.states c.args.lane = state_at old.states c.args.lane v there c.index_mut-state.ensures.value in
     let slots : c.as_slice.result.now ≡ v.site.slots = search rules in
@@ -77,7 +77,7 @@ returns-clause-lets_go c =
     ap reverse c.add_entry.ensures.items ∙ pushed c.reserve.new.self.items (entry.LetGo c.args.lane)
     ∙ ap (λ (es : List Entry). entry.LetGo c.args.lane ∷ reverse es) kept in
     let lane : let_go_lane (lane_in old.states c.args.lane) ≡ c.empty-slots.new.self = ap let_go_lane (sym is) ∙ sym c.empty-slots.ensures.lane in
-    let mid : Contents = record {
+    let mid : LanesValue = record {
       calls = old.calls;
       core = old.core;
       facts = old.facts;
@@ -105,10 +105,10 @@ returns-clause-lets_go c =
     let within = there_of s old c.args.lane w there in
     let first : Letting s (entry.LetGo c.args.lane ∷ old.past) c.args.lane mid c.as_slice.result.now =
     subst (λ (xs : List Slot). Letting s (entry.LetGo c.args.lane ∷ old.past) c.args.lane mid xs) all
-    (subst (λ (y : Contents). Letting s (entry.LetGo c.args.lane ∷ old.past) c.args.lane y
+    (subst (λ (y : LanesValue). Letting s (entry.LetGo c.args.lane ∷ old.past) c.args.lane y
     (lane_in old.states c.args.lane).site.slots) same (letting_starts s c.args.lane old w within done holds)) in
     lets_lane_go s c.args.lane old (contents_of c.close_slots.new.self) w within done holds
-    (subst (λ (y : Contents). IsLetGo s (entry.LetGo c.args.lane ∷ old.past) y (contents_of c.close_slots.new.self))
+    (subst (λ (y : LanesValue). IsLetGo s (entry.LetGo c.args.lane ∷ old.past) y (contents_of c.close_slots.new.self))
     (sym same) (c.close_slots.ensures.let_go s (entry.LetGo c.args.lane ∷ old.past) first))
 
 pub set-requires : goal.set-requires

@@ -7,9 +7,9 @@ use Rattle.session_driver.specs.declared.session.Stepped.TheVariants as stepped
 use Rattle.session_lane.specs.declared.lane.Moved.{Moved}
 use Rattle.session_lane.specs.declared.lane.Moved.TheVariants as moved
 use Rattle.session_work.specs.Closing.{Closing, IsClosed}
-use Rattle.session_work.specs.Noting.{Turning, amid, asked_in, ended_in}
+use Rattle.session_work.specs.Noting.{Turning, with_begun, asked_in, ended_in}
 use Rattle.session_work.specs.Reports.{HasReports, ended_past}
-use Rattle.session_work.specs.Working.{Contents, StepsIn, contents_of, past_of}
+use Rattle.session_work.specs.Working.{LanesValue, StepsIn, contents_of, past_of}
 use Rattle.session_work.proofs.BegunLaws.{begun_runs}
 use Rattle.session_work.proofs.NotingLaws.{
   asked_noted,
@@ -31,22 +31,22 @@ use Rattle.session_work.proofs.lanes.Lanes.note.Goals as goal
 pub note_asked-requires-clause-counted : goal.note_asked-requires-clause-counted
 note_asked-requires-clause-counted c =
     let o = c.requires.turning in
-    let old : Contents = o.1.0 in
-    let few = turning_counted o.0 c.args.lane old (amid old.begun (contents_of c.args.self.now)) c.args.moved c.args.self.now.journal.items o.1.1.0 refl in
+    let old : LanesValue = o.1.0 in
+    let few = turning_counted o.0 c.args.lane old (with_begun old.begun (contents_of c.args.self.now)) c.args.moved c.args.self.now.journal.items o.1.1.0 refl in
     let len = c.args.self.now.journal.ok.0 in
     omega (arith, few, len)
 
 pub note_ended-requires-clause-few : goal.note_ended-requires-clause-few
 note_ended-requires-clause-few c =
     let o = c.requires.turning in
-    let old : Contents = o.1.0 in
-    turning_few o.0 c.args.lane old (amid old.begun (contents_of c.args.self.now)) c.args.moved o.1.1.0
+    let old : LanesValue = o.1.0 in
+    turning_few o.0 c.args.lane old (with_begun old.begun (contents_of c.args.self.now)) c.args.moved o.1.1.0
 
 pub close_loose-requires-clause-closing : goal.close_loose-requires-clause-closing
 close_loose-requires-clause-closing c =
     let o = c.requires.turning in
-    let old : Contents = o.1.0 in
-    let mid : Contents = amid old.begun (contents_of c.args.self.now) in
+    let old : LanesValue = o.1.0 in
+    let mid : LanesValue = with_begun old.begun (contents_of c.args.self.now) in
     let over = c.in-Ended.outcome in
     let now : List Entry = entry.Event (End c.args.lane (ended old.past c.args.lane) over) ∷ old.past in
     let t : Turning o.0 c.args.lane old mid (moved.Ended over) = subst (λ (m : Moved). Turning o.0 c.args.lane old mid m) c.in-Ended.is o.1.1.0 in
@@ -56,18 +56,18 @@ close_loose-requires-clause-closing c =
     ∙ ended_noted c.args.lane c.args.call over old.begun (contents_of c.args.self.now)
     (contents_of c.note_ended.new.self) o.1.1.1 (turned_there o.0 c.args.lane old mid c.args.moved o.1.1.0)
     c.note_ended.ensures.noted in
-    (o.0, (now, subst (λ (x : Contents). Closing o.0 now c.args.lane x) noted (ended_closing o.0 c.args.lane over old mid t)))
+    (o.0, (now, subst (λ (x : LanesValue). Closing o.0 now c.args.lane x) noted (ended_closing o.0 c.args.lane over old mid t)))
 
 pub returns-in-Waits-clause-noted : goal.returns-in-Waits-clause-noted
 returns-in-Waits-clause-noted c = λ s old t others.
-    let mid : Contents = amid old.begun (contents_of c.args.self.now) in
+    let mid : LanesValue = with_begun old.begun (contents_of c.args.self.now) in
     let waits : Turning s c.args.lane old mid moved.Waits = subst (λ (m : Moved). Turning s c.args.lane old mid m) c.in-Waits.is t in
-    subst (λ (b : ℕ → Bool). StepsIn s c.args.lane old (amid b (contents_of c.args.self.now)) stepped.Nothing)
+    subst (λ (b : ℕ → Bool). StepsIn s c.args.lane old (with_begun b (contents_of c.args.self.now)) stepped.Nothing)
     (begun_runs old.begun c.args.lane c.args.self.now.states.items others (waits_runs s c.args.lane old mid waits)) (waits_in s c.args.lane old mid waits)
 
 pub returns-in-Asked-clause-noted : goal.returns-in-Asked-clause-noted
 returns-in-Asked-clause-noted c = λ s old t others.
-    let mid : Contents = amid old.begun (contents_of c.args.self.now) in
+    let mid : LanesValue = with_begun old.begun (contents_of c.args.self.now) in
     let asks : Turning s c.args.lane old mid (moved.Asked c.in-Asked.id c.in-Asked.request) =
     subst (λ (m : Moved). Turning s c.args.lane old mid m) c.in-Asked.is t in
     let number : ended old.past c.args.lane ≡ c.args.call = sym (turning_number s c.args.lane old mid c.args.moved t) ∙ c.requires.number in
@@ -76,11 +76,11 @@ returns-in-Asked-clause-noted c = λ s old t others.
     ∙ asked_noted c.args.lane c.args.call c.in-Asked.id c.in-Asked.request old.begun (contents_of c.args.self.now)
     (contents_of c.note_asked.new.self) others (asked_runs s c.args.lane c.in-Asked.id c.in-Asked.request old mid
     asks) c.note_asked.ensures.noted in
-    subst (λ (x : Contents). StepsIn s c.args.lane old x stepped.Submitted) noted (asked_step s c.args.lane c.in-Asked.id c.in-Asked.request old mid asks)
+    subst (λ (x : LanesValue). StepsIn s c.args.lane old x stepped.Submitted) noted (asked_step s c.args.lane c.in-Asked.id c.in-Asked.request old mid asks)
 
 pub returns-in-Ended-clause-noted : goal.returns-in-Ended-clause-noted
 returns-in-Ended-clause-noted c = λ s old t others.
-    let mid : Contents = amid old.begun (contents_of c.args.self.now) in
+    let mid : LanesValue = with_begun old.begun (contents_of c.args.self.now) in
     let o = c.in-Ended.outcome in
     let now : List Entry = entry.Event (End c.args.lane (ended old.past c.args.lane) o) ∷ old.past in
     let ends : Turning s c.args.lane old mid (moved.Ended o) = subst (λ (m : Moved). Turning s c.args.lane old mid m) c.in-Ended.is t in
@@ -90,9 +90,9 @@ returns-in-Ended-clause-noted c = λ s old t others.
     ∙ ended_noted c.args.lane c.args.call o old.begun (contents_of c.args.self.now) (contents_of c.note_ended.new.self)
     others (turned_there s c.args.lane old mid c.args.moved t) c.note_ended.ensures.noted in
     let closing : Closing s now c.args.lane (contents_of c.note_ended.new.self) =
-    subst (λ (x : Contents). Closing s now c.args.lane x) noted (ended_closing s c.args.lane o old mid ends) in
+    subst (λ (x : LanesValue). Closing s now c.args.lane x) noted (ended_closing s c.args.lane o old mid ends) in
     ended_step s c.args.lane o old mid (contents_of c.close_loose.new.self) ends
-    (subst (λ (x : Contents). IsClosed s now x (contents_of c.close_loose.new.self)) (sym noted) (c.close_loose.ensures.closed s now closing))
+    (subst (λ (x : LanesValue). IsClosed s now x (contents_of c.close_loose.new.self)) (sym noted) (c.close_loose.ensures.closed s now closing))
 
 pub returns-in-Asked-clause-reports : goal.returns-in-Asked-clause-reports
 returns-in-Asked-clause-reports c =

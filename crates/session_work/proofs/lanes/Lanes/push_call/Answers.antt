@@ -4,13 +4,13 @@ use Rattle.plan_model.specs.declared.call.Call.{Call}
 use Rattle.session_model.specs.declared.entry.Entry.{Entry}
 use Rattle.session_model.specs.declared.entry.Entry.TheVariants as entry
 use Rattle.session_driver.specs.Adding.{with_call}
-use Rattle.session_work.specs.Working.{Contents, contents_of}
+use Rattle.session_work.specs.Working.{LanesValue, contents_of}
 use Rattle.session_work.proofs.Contents.{pushed}
 use Rattle.session_work.proofs.lanes.Lanes.push_call.Goals as goal
 
 pub returns-clause-adds : goal.returns-clause-adds
 returns-clause-adds c =
-    let old : Contents = contents_of c.args.self.now in
+    let old : LanesValue = contents_of c.args.self.now in
     let kept : c.reserve.new.self.items ≡ c.args.self.now.journal.items = search rules in
     let copied : c.in_ok-copy.copy ≡ c.args.call = search rules in
     let calls : c.push_call.new.self ≡ with_call old.calls c.args.lane c.args.call = search rules in

@@ -2,10 +2,10 @@ use Rattle.std.proofs.Common.{rules, ◌≡◌, ◌<◌, ◌∙◌, ℕ, Bool, t
 use Rattle.session_laws.specs.Rest.{begun_of}
 use Rattle.session_lane.specs.declared.lane.Moved.{Moved}
 use Rattle.session_lane.specs.declared.lane.Moved.TheVariants as moved
-use Rattle.session_work.specs.Noting.{Turning, amid, is_went}
+use Rattle.session_work.specs.Noting.{Turning, with_begun, is_went}
 use Rattle.session_work.specs.Reports.{LaneReports}
 use Rattle.session_work.specs.SoFar.{IsLeft}
-use Rattle.session_work.specs.Working.{Contents, Unnoted, contents_of, lane_in}
+use Rattle.session_work.specs.Working.{LanesValue, Unnoted, contents_of, lane_in}
 use Rattle.session_work.proofs.NotingLaws.{has_call, went_unnoted}
 use Rattle.session_work.proofs.ReportLaws.{left_on, noted_intact}
 use Rattle.session_work.proofs.TurningLaws.{is_moved_went}
@@ -26,7 +26,7 @@ pub note-requires : goal.note-requires
 note-requires c =
     let o = c.requires.opened in
     let begun : ℕ → Bool = begun_of (lane_in c.args.self.now.states.items) in
-    let mid : Contents = amid begun (contents_of c.loop-moved.self) in
+    let mid : LanesValue = with_begun begun (contents_of c.loop-moved.self) in
     let u : Unnoted o.0 (contents_of c.args.self.now) mid = c.loop-moved.invariant.0 o.0 o.1 in
     record {
       turning = (
@@ -41,9 +41,9 @@ note-requires c =
 pub loop-moved-preserved : goal.loop-moved-preserved
 loop-moved-preserved c =
     let begun : ℕ → Bool = begun_of (lane_in c.args.self.now.states.items) in
-    let old : Contents = contents_of c.args.self.now in
-    let mid : Contents = amid begun (contents_of c.loop-moved.self) in
-    let now : Contents = amid begun (contents_of c.turn.new.self) in
+    let old : LanesValue = contents_of c.args.self.now in
+    let mid : LanesValue = with_begun begun (contents_of c.loop-moved.self) in
+    let now : LanesValue = with_begun begun (contents_of c.turn.new.self) in
     let o = c.requires.opened in
     let first : Unnoted o.0 old mid = c.loop-moved.invariant.0 o.0 o.1 in
     let went : is_went c.in_ok-moved.moved ≡ true = search rules in
@@ -62,8 +62,8 @@ loop-moved-preserved c =
 pub returns-then-not-is_went-clause-steps : goal.returns-then-not-is_went-clause-steps
 returns-then-not-is_went-clause-steps c = λ s w.
     let begun : ℕ → Bool = begun_of (lane_in c.args.self.now.states.items) in
-    let old : Contents = contents_of c.args.self.now in
-    let mid : Contents = amid begun (contents_of c.loop-moved.self) in
+    let old : LanesValue = contents_of c.args.self.now in
+    let mid : LanesValue = with_begun begun (contents_of c.loop-moved.self) in
     let u : Unnoted s old mid = c.loop-moved.invariant.0 s w in
     steps_from s c.args.lane old mid (contents_of c.note.new.self) c.note.result u
     (c.note.ensures.noted s mid (c.in_ok-moved.ensures.turned s begun u.works) (c.in_ok-moved.ensures.leaves.others begun c.loop-moved.invariant.3))
@@ -72,7 +72,7 @@ pub keep_moved-requires : goal.keep_moved-requires
 keep_moved-requires c =
     let o = c.requires.opened in
     let begun : ℕ → Bool = begun_of (lane_in c.args.self.now.states.items) in
-    let mid : Contents = amid begun (contents_of c.loop-moved.self) in
+    let mid : LanesValue = with_begun begun (contents_of c.loop-moved.self) in
     let u : Unnoted o.0 (contents_of c.args.self.now) mid = c.loop-moved.invariant.0 o.0 o.1 in
     let left : IsLeft c.args.self.now c.turn.new.self = left_on c.args.self.now c.loop-moved.self c.turn.new.self
     c.loop-moved.invariant.5 c.turn.ensures.left in
@@ -87,7 +87,7 @@ pub returns-then-not-is_went-clause-intact : goal.returns-then-not-is_went-claus
 returns-then-not-is_went-clause-intact c =
     let o = c.requires.opened in
     let begun : ℕ → Bool = begun_of (lane_in c.args.self.now.states.items) in
-    let mid : Contents = amid begun (contents_of c.loop-moved.self) in
+    let mid : LanesValue = with_begun begun (contents_of c.loop-moved.self) in
     let u : Unnoted o.0 (contents_of c.args.self.now) mid = c.loop-moved.invariant.0 o.0 o.1 in
     let left : IsLeft c.args.self.now c.turn.new.self = left_on c.args.self.now c.loop-moved.self c.turn.new.self
     c.loop-moved.invariant.5 c.turn.ensures.left in

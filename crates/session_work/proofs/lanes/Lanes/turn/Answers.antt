@@ -4,8 +4,8 @@ use Rattle.std.proofs.lemmas.Result.{IfOk-weaker}
 use Rattle.session_lane.specs.Turning.{Turned}
 use Rattle.session_lane.specs.declared.lane.Moved.{Moved}
 use Rattle.session_laws.specs.Lanes.{LaneValue}
-use Rattle.session_work.specs.Noting.{Turning, amid, call_in, turned_in, turns_left}
-use Rattle.session_work.specs.Working.{Contents, contents_of, lane_in}
+use Rattle.session_work.specs.Noting.{Turning, with_begun, call_in, turned_in, turns_left}
+use Rattle.session_work.specs.Working.{LanesValue, contents_of, lane_in}
 use Rattle.session_work.proofs.BegunLaws.{others_kept}
 use Rattle.session_work.proofs.Contents.{set_here, state_at}
 use Rattle.session_work.proofs.NotingLaws.{at_call, within_states}
@@ -16,13 +16,13 @@ pub turn-requires : goal.turn-requires
 turn-requires c =
     let some : call_in c.args.self.now.calls c.args.self.now.states.items c.args.lane ≡ Some c.in-Some.call.now = search rules in
     let o = c.requires.opened in
-    (may_have o.0 (amid o.1.0 (contents_of c.args.self.now)) c.args.lane c.in-Some.call.now c.index_mut-state.result.now
+    (may_have o.0 (with_begun o.1.0 (contents_of c.args.self.now)) c.args.lane c.in-Some.call.now c.index_mut-state.result.now
     o.1.1 some c.index_mut-state.ensures.value)
 
 pub returns-clause-turned : goal.returns-clause-turned
 returns-clause-turned c =
     let some : call_in c.args.self.now.calls c.args.self.now.states.items c.args.lane ≡ Some c.in-Some.call.now = search rules in
-    let old : Contents = contents_of c.args.self.now in
+    let old : LanesValue = contents_of c.args.self.now in
     let lt = within_states old c.args.lane c.in-Some.call.now (at_call old c.args.lane c.in-Some.call.now some) in
     let v : LaneValue = c.index_mut-state.result.now in
     let is : v ≡ lane_in old.states c.args.lane = state_at old.states c.args.lane v lt c.index_mut-state.ensures.value in
@@ -30,7 +30,7 @@ returns-clause-turned c =
     let kept : c.reserve.new.self.items ≡ c.args.self.now.journal.items = search rules in
     let t = turned_ok c.in-Some.call.now old.facts old.asked old.core c.turn.new.core v now
     (lane_in old.states c.args.lane) c.turn.result is c.turn.ensures.turned in
-    λ s begun w. subst (λ (x : Contents). IfOk c.turn.result (Turning s c.args.lane (amid begun old) x))
+    λ s begun w. subst (λ (x : LanesValue). IfOk c.turn.result (Turning s c.args.lane (with_begun begun old) x))
     (λ i. record {
       calls = old.calls;
       core = c.turn.new.core;
@@ -41,12 +41,12 @@ returns-clause-turned c =
       states = slice_set old.states c.args.lane now;
       begun = begun;
     })
-    (turning_ok s (amid begun old) c.args.lane c.in-Some.call.now c.turn.new.core now c.turn.result w some t c.turn.ensures.small)
+    (turning_ok s (with_begun begun old) c.args.lane c.in-Some.call.now c.turn.new.core now c.turn.result w some t c.turn.ensures.small)
 
 pub returns-clause-leaves : goal.returns-clause-leaves
 returns-clause-leaves c =
     let some : call_in c.args.self.now.calls c.args.self.now.states.items c.args.lane ≡ Some c.in-Some.call.now = search rules in
-    let old : Contents = contents_of c.args.self.now in
+    let old : LanesValue = contents_of c.args.self.now in
     let lt = within_states old c.args.lane c.in-Some.call.now (at_call old c.args.lane c.in-Some.call.now some) in
     let v : LaneValue = c.index_mut-state.result.now in
     let is : v ≡ lane_in old.states c.args.lane = state_at old.states c.args.lane v lt c.index_mut-state.ensures.value in
@@ -70,7 +70,7 @@ returns-clause-leaves c =
 pub returns-clause-left : goal.returns-clause-left
 returns-clause-left c =
     let some : call_in c.args.self.now.calls c.args.self.now.states.items c.args.lane ≡ Some c.in-Some.call.now = search rules in
-    let old : Contents = contents_of c.args.self.now in
+    let old : LanesValue = contents_of c.args.self.now in
     let lt = within_states old c.args.lane c.in-Some.call.now (at_call old c.args.lane c.in-Some.call.now some) in
     let is : c.index_mut-state.result.now ≡ lane_in old.states c.args.lane =
     state_at old.states c.args.lane c.index_mut-state.result.now lt c.index_mut-state.ensures.value in
@@ -78,7 +78,7 @@ returns-clause-left c =
     let t = turned_ok c.in-Some.call.now old.facts old.asked old.core c.turn.new.core c.index_mut-state.result.now
     c.turn.new.self (lane_in old.states c.args.lane) c.turn.result is c.turn.ensures.turned in
     let o = c.requires.opened in
-    let was : Contents = amid o.1.0 old in
+    let was : LanesValue = with_begun o.1.0 old in
     let unfailed : c.turn.new.core.fault ≡ None = turned_unfailed o.0 was
     (turned_in was c.args.lane c.turn.new.core c.turn.new.self) c.args.lane c.turn.result
     (turning_ok o.0 was c.args.lane c.in-Some.call.now c.turn.new.core c.turn.new.self c.turn.result o.1.1 some t

@@ -10,7 +10,8 @@ use Rattle.session_model.specs.declared.entry.Entry.{Entry}
 use Rattle.session_model.specs.declared.entry.Entry.TheVariants as entry
 use Rattle.session_model.specs.declared.event.Event.TheVariants.{Send}
 use Rattle.session_model.specs.Calls.{Setting, added}
-use Rattle.session_model.specs.Readings.{asked, frames_of}
+use Rattle.sftp_model.specs.Frames.{frames_of}
+use Rattle.session_model.specs.Readings.{asked}
 use Rattle.session_model.specs.Runs.{queried}
 use Rattle.session_driver.specs.declared.session.Phase.TheVariants.{Asking, Queried}
 use Rattle.session_driver.specs.NoLanes.{offered}

@@ -2,12 +2,12 @@ use Rattle.std.proofs.Common.{◌≡◌, ◌∙◌, ◌∷◌, [], ◌++◌, sym
 use Rattle.std.specs.Prelude.{reverse}
 use Rattle.std.proofs.lemmas.List.{reverse-append}
 use Rattle.sftp_model.specs.declared.reply.Reply.{Reply}
-use Rattle.sftp_model.specs.ReplyReadings.{reply_at}
+use Rattle.sftp_model.specs.ReplyReadings.{reply_at, limits_in}
 use Rattle.sftp_core.specs.declared.tokens.Taken.TheVariants as taken_of
 use Rattle.sftp_core.specs.Core.{Core}
 use Rattle.sftp_core.specs.Info.{info_of, info_with}
 use Rattle.sftp_model.specs.Lengths.{offers_limits}
-use Rattle.sftp_core.specs.Take.{IsFirst, fault_of, limits_in}
+use Rattle.sftp_core.specs.Take.{IsFirst, fault_of}
 use Rattle.session_model.specs.Calls.{Setting, added}
 use Rattle.session_model.specs.declared.event.Event.TheVariants.{Take}
 use Rattle.session_model.specs.declared.entry.Entry.{Entry}

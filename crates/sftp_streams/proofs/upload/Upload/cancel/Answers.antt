@@ -1,6 +1,6 @@
 use Rattle.std.proofs.Common.{◌∙◌, ap, sym, subst}
 use Rattle.sftp_core.specs.Core.{Core}
-use Rattle.sftp_streams.specs.Parts.{AreAwaited, KeepsOthers, without_parts}
+use Rattle.sftp_streams.specs.Parts.{AreAwaited, KeepsOthersHeld, without_parts}
 use Rattle.sftp_streams.proofs.PartLaws.{others_given_up}
 use Rattle.sftp_streams.specs.Uploads.{UploadValue, status_kind}
 use Rattle.sftp_streams.proofs.upload.Upload.cancel.Goals as goal
@@ -11,4 +11,4 @@ abandon_parts-requires c = (status_kind, subst (λ (x : UploadValue). AreAwaited
 pub returns-clause-others : goal.returns-clause-others
 returns-clause-others c =
     let core_is = c.abandon_parts.ensures ∙ ap (λ (x : UploadValue). without_parts c.args.core.now x.parts) c.self.view_is in
-    subst (λ (x : Core). KeepsOthers c.args.self.parts c.args.core.now x) (sym core_is) (others_given_up status_kind c.args.core.now c.args.self.parts c.requires)
+    subst (λ (x : Core). KeepsOthersHeld c.args.self.parts c.args.core.now x) (sym core_is) (others_given_up status_kind c.args.core.now c.args.self.parts c.requires)

@@ -3,7 +3,7 @@ use Rattle.std.specs.Prelude.{Result}
 use Rattle.session_seats.proofs.GrowLaws.{grew_applied}
 use Rattle.session_seats.specs.Holds.{no_allowance}
 use Rattle.sftp_model.specs.declared.error.Error.{Error}
-use Rattle.sftp_tasks.specs.Calls.{Answers}
+use Rattle.sftp_tasks.specs.Calls.{AnswersSeat}
 use Rattle.sftp_tasks.specs.Entries.{by_cancel}
 use Rattle.sftp_tasks.specs.LockedEvents.{Cancelling, OfLane}
 use Rattle.sftp_tasks.specs.Shows.{shown_of}
@@ -22,6 +22,6 @@ returns g c =
     let Does = OfLane Cancelling (Ok false) lane in record {
       own = (c.apply-did.ensures.own, c.apply-did.ensures.lane, share_stays m n h);
       only = grew_applied shown_of by_cancel lane no_allowance m n h;
-      answers = subst (λ (r : Result Bool Error). Answers Does old new r m n) (sym c.settle.ensures)
+      answers = subst (λ (r : Result Bool Error). AnswersSeat Does old new r m n) (sym c.settle.ensures)
           (answers_of Does c.apply-did.result.0 c.apply-did.result.1 old new m n h);
     }

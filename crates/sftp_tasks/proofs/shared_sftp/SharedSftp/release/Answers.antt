@@ -4,7 +4,7 @@ use Rattle.session_seats.specs.Holds.{no_allowance}
 use Rattle.session_seats.proofs.GrowLaws.{grew_applied, grew_leaves, grew_on}
 use Rattle.sftp_model.specs.declared.error.Error.{Error}
 use Rattle.sftp_tasks.specs.declared.locked.Locked.{Locked}
-use Rattle.sftp_tasks.specs.Calls.{Answers}
+use Rattle.sftp_tasks.specs.Calls.{AnswersSeat}
 use Rattle.sftp_tasks.specs.Entries.{by_let_go}
 use Rattle.sftp_tasks.specs.LockedEvents.{Releasing}
 use Rattle.sftp_tasks.specs.Shows.{shown_of}
@@ -33,7 +33,7 @@ returns-in-Ok-false-clause-releases g c =
     let h = c.apply-did.ensures.held in
     let Does = Releasing c.args.seat.now.lane in
     let is = sym c.settle.ensures ∙ c.in-Ok-false.is ∙ ap (λ o. Ok o) c.in-Ok-false.field-0-test in (
-      subst (λ (r : Result Bool Error). Answers Does old new r m n) is
+      subst (λ (r : Result Bool Error). AnswersSeat Does old new r m n) is
           (answers_of Does c.apply-did.result.0 c.apply-did.result.1 old new m n h),
       share_kept m n h (ap (λ (x : Locked). x.users) h.did.does.0),
     )
@@ -51,7 +51,7 @@ returns-in-Err-clause-releases g c =
     let h = c.apply-did.ensures.held in
     let Does = Releasing c.args.seat.now.lane in
     let is = sym c.settle.ensures ∙ c.in-Err.is in (
-      subst (λ (r : Result Bool Error). Answers Does old new r m n) is
+      subst (λ (r : Result Bool Error). AnswersSeat Does old new r m n) is
           (answers_of Does c.apply-did.result.0 c.apply-did.result.1 old new m n h),
       share_kept m n h (ap (λ (x : Locked). x.users) h.did.does.0),
     )
@@ -73,12 +73,12 @@ returns-clause-releases g c =
     let h = c.apply-did.ensures.held in
     let Does = Releasing c.args.seat.now.lane in
     let is = sym c.settle.ensures ∙ c.in-Ok-true.is ∙ ap (λ o. Ok o) c.in-Ok-true.field-0-test in
-    let answers : Answers Does old new (Ok true) m mid = subst (λ (r : Result Bool Error). Answers Does old new r m mid) is
+    let answers : AnswersSeat Does old new (Ok true) m mid = subst (λ (r : Result Bool Error). AnswersSeat Does old new r m mid) is
     (answers_of Does c.apply-did.result.0 c.apply-did.result.1 old new m mid h) in
     let receipts = c.leave.ensures.same.1 in (
       record {
         mid = mid;
-        lets = subst (λ r. Answers Does old r.items (Ok true) m mid) (sym receipts) answers;
+        lets = subst (λ r. AnswersSeat Does old r.items (Ok true) m mid) (sym receipts) answers;
         last = c.leave.result;
         leaves = c.leave.ensures.left;
       },

@@ -3,7 +3,7 @@ use Rattle.std.specs.Prelude.{Result}
 use Rattle.session_seats.proofs.GrowLaws.{grew_applied}
 use Rattle.session_seats.specs.Holds.{no_allowance}
 use Rattle.sftp_model.specs.declared.error.Error.{Error}
-use Rattle.sftp_tasks.specs.Calls.{Answers}
+use Rattle.sftp_tasks.specs.Calls.{AnswersSeat}
 use Rattle.sftp_tasks.specs.Entries.{by_submit}
 use Rattle.sftp_tasks.specs.LockedEvents.{OfLane, Submitting}
 use Rattle.sftp_tasks.specs.Shows.{shown_of}
@@ -20,8 +20,8 @@ returns g c =
     let new = c.apply-did.new.self.receipts.items in
     let h = c.apply-did.ensures.held in
     let Does = OfLane (Submitting c.args.call) (Ok false) lane in
-    let answers : Answers Does old new c.settle.result m n = subst
-    (λ (r : Result Bool Error). Answers Does old new r m n) (sym c.settle.ensures)
+    let answers : AnswersSeat Does old new c.settle.result m n = subst
+    (λ (r : Result Bool Error). AnswersSeat Does old new r m n) (sym c.settle.ensures)
     (answers_of Does c.apply-did.result.0 c.apply-did.result.1 old new m n h) in
     record {
       own = (c.apply-did.ensures.own, c.apply-did.ensures.lane, share_stays m n h);

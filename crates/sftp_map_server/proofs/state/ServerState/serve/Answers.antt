@@ -1,7 +1,7 @@
 use Rattle.std.proofs.Common.{rules, ◌≡◌, ◌<◌, ◌^◌, true, ◌∙◌}
 use Rattle.sftp_map_server.specs.Serving.{gives_within}
 use Rattle.sftp_map_server.proofs.Bounds.{served_within, within_of}
-use Rattle.sftp_map_server.proofs.desk.Desk.serve.Goals as goal
+use Rattle.sftp_map_server.proofs.state.ServerState.serve.Goals as goal
 
 pub frame_of-requires : goal.frame_of-requires
 frame_of-requires c =

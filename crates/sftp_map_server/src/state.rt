@@ -7,7 +7,7 @@ ghost use Rattle.sftp_model.specs.Frames.{reply_body, reply_frame};
 ghost use Rattle.sftp_model.specs.RequestReadings.{request_at};
 ghost use Rattle.machine_model.specs.FitTrees.{IsFit};
 ghost use Rattle.machine_model.specs.TreeAnswers.{first_choice, limits_reply};
-ghost use Rattle.sftp_map_server.specs.Serving.{at_once, gives_within as gives_within_by, greet, id_of as id_by, is_hello as is_hello_by, is_query as is_query_by, over_at, respond, serve, spent, step, version_reply, with_said};
+ghost use Rattle.sftp_map_server.specs.Serving.{at_once, gives_within as gives_within_by, greet, id_of as id_by, is_hello as is_hello_by, is_query as is_query_by, over_at, respond, serve, after_choice, step, version_reply, with_said};
 
 use bitflags::Flags;
 use sftp_machine::{Machine, Outbox, gives_within};
@@ -20,7 +20,7 @@ use std::marker::Model;
 
 /// A machine, its choices, and where the link stands.
 #[derive(Drop)]
-pub(crate) struct Desk {
+pub(crate) struct ServerState {
     alloc: Global,
     machine: Machine,
     choices: Items<Choice>,
@@ -29,12 +29,12 @@ pub(crate) struct Desk {
     over: bool,
 }
 
-impl Model for Desk {
+impl Model for ServerState {
     ghost use Rattle.std.specs.Prelude.{◌≤◌, drop, length};
     ghost use Rattle.machine_model.specs.FitTrees.{IsFit};
-    ghost use Rattle.sftp_map_server.specs.Serving.{Desk as DeskState};
+    ghost use Rattle.sftp_map_server.specs.Serving.{ServerState as StateValue};
 
-    ghost Value = { DeskState };
+    ghost Value = { StateValue };
 
     ghost view = { λ d. record {
       machine = d.machine;
@@ -122,13 +122,13 @@ fn id_of(id: Option<u32>) -> u32
     }
 }
 
-impl Desk {
+impl ServerState {
     /// Before the first request.
-    pub(crate) fn new(alloc: Global, machine: Machine, choices: Items<Choice>) -> Desk
+    pub(crate) fn new(alloc: Global, machine: Machine, choices: Items<Choice>) -> ServerState
         requires { IsFit machine.tree }
         ensures { result ≡ record { machine = machine; choices = choices; greeted = false; over = false } }
     {
-        Desk {
+        ServerState {
             alloc,
             machine,
             choices,
@@ -236,7 +236,7 @@ impl Desk {
 
     // The next choice is taken.
     fn spend(&mut self)
-        ensures { self.new ≡ spent self.old self.old.machine }
+        ensures { self.new ≡ after_choice self.old self.old.machine }
     {
         if self.used < self.choices.as_slice().len() {
             self.used += 1;

@@ -1,7 +1,7 @@
 use Rattle.std.proofs.Common.{rules, ◌≡◌, ◌∙◌}
 use Rattle.machine_model.specs.TreeAnswers.{limits_reply}
 use Rattle.sftp_map_server.proofs.Bounds.{limits_within, query_answered}
-use Rattle.sftp_map_server.proofs.desk.Desk.tell.Goals as goal
+use Rattle.sftp_map_server.proofs.state.ServerState.tell.Goals as goal
 
 pub frame_of-requires : goal.frame_of-requires
 frame_of-requires c =
