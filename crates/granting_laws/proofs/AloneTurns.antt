@@ -35,7 +35,7 @@ use Rattle.std.proofs.Common.{
 use Rattle.std.specs.Prelude.{◌⊎◌, MatchBool, map, nat_lt, slice_get, take}
 use Rattle.std.proofs.lemmas.Bool.{eq-eqb, ne_eqb}
 use Rattle.std.proofs.lemmas.Bool.Decides.{eqb_tells, nat_tests}
-use Rattle.std.proofs.lemmas.List.{append-nil, append_assoc, take_all}
+use Rattle.std.proofs.lemmas.List.{append-nil, append_assoc}
 use Rattle.sftp_model.specs.Answers.{is_handle}
 use Rattle.sftp_model.specs.declared.error.IoKind.TheVariants as kind
 use Rattle.sftp_model.specs.declared.error.Error.TheVariants as error
@@ -60,13 +60,12 @@ use Rattle.session_model.specs.declared.turn.Turn.TheVariants as turn
 use Rattle.session_model.specs.Calls.{Setting, calls_of, current, move_at, site_of}
 use Rattle.session_model.specs.Journals.{MayReply, MayTake}
 use Rattle.session_model.specs.Readings.{AskedRequest, answer, asked, asked_at, awaited, bearer, ended, own, sent}
-use Rattle.session_model.specs.Runs.{TurnsTo}
 use Rattle.session_model.specs.Served.{requests_of}
 use Rattle.session_model.specs.Turns.{MovesBy, RulesTo, Stage, TurnTo}
 use Rattle.session_model.proofs.CountLaws.{count_pos}
 use Rattle.session_model.proofs.RequestLaws.{answer_beyond, answer_other, sent_asked}
 use Rattle.granting_laws.proofs.Alone.{GrantsNone, IsQuiet, Told, asked_quiet, none_added, none_orphan, through, told}
-use Rattle.granting_laws.specs.FirstMkdirs.{call_turns, unless_too_long, mkdir_of}
+use Rattle.granting_laws.specs.FirstMkdirs.{unless_too_long, mkdir_of}
 
 -- ---- the calls
 
@@ -98,14 +97,14 @@ got_beyond [] n e = omega arith
 got_beyond (x ∷ xs) zero e = absurd cc
 got_beyond (x ∷ xs) (suc n) e = (let more = got_beyond xs n e in omega (arith, more))
 
-got_within : {A : Type 0} (xs : List A) (n : ℕ) (x : A) → slice_get xs n ≡ Some x → n < length xs
+pub got_within : {A : Type 0} (xs : List A) (n : ℕ) (x : A) → slice_get xs n ≡ Some x → n < length xs
 got_within [] n x e = absurd cc
 got_within (y ∷ xs) zero x e = omega arith
 got_within (y ∷ xs) (suc n) x e = (let more = got_within xs n x e in omega (arith, more))
 
 -- ---- states of the lane
 
-abbrev asked_in : Own → List Request
+abbrev pub asked_in : Own → List Request
 asked_in requests = map (λ (r : ℕ × Request). r.1) requests
 
 asked_more : (xs : Own) (r : ℕ × Request) → asked_in (xs ++ r ∷ []) ≡ asked_in xs ++ r.1 ∷ []
@@ -201,7 +200,7 @@ rests_end lane calls past o path k is later came made =
       e,
     )
 
-far_more : (calls : List Call) (n m : ℕ) (old new : Told) → IsFar calls n old → old.done ≤ new.done → m ≤ n → IsFar calls m new
+pub far_more : (calls : List Call) (n m : ℕ) (old new : Told) → IsFar calls n old → old.done ≤ new.done → m ≤ n → IsFar calls m new
 far_more calls n m old new (inl far) le low = inl (omega (arith, far, le, low))
 far_more calls n m old new (inr all) le low = inr (omega (arith, all, le))
 
@@ -210,7 +209,7 @@ far_next calls n old new (inl far) e = inl (omega (arith, far, e))
 far_next calls n old new (inr all) e = inr (omega (arith, all, e))
 
 -- after a turn of a lane that rested
-abbrev Goes1 : List Call → ℕ → Told → Type 0
+abbrev pub Goes1 : List Call → ℕ → Told → Type 0
 Goes1 calls n t = (Rests calls t × IsFar calls (n + 1) t) ⊎ (Waits calls t × IsFar calls n t)
 
 -- the request that a call asks
@@ -245,7 +244,7 @@ asks_now s lane calls n past path id g r far is short = (
   ),
 )
 
-step_rests : (s : Setting) (lane : ℕ) (calls : List Call) (n : ℕ) (before now : Stage) → Goes s lane calls
+pub step_rests : (s : Setting) (lane : ℕ) (calls : List Call) (n : ℕ) (before now : Stage) → Goes s lane calls
     → Is lane (λ t. Rests calls t × IsFar calls n t) before.past → TurnTo s (turn.Step lane) before now → Is lane (Goes1 calls n) now.past
 step_rests s lane calls n before now go (g, (r, far)) to =
     by_call (slice_get calls (ended past lane)) refl
@@ -289,7 +288,7 @@ step_rests s lane calls n before now go (g, (r, far)) to =
 
 -- ---- a turn within a call
 
-step_waits : (s : Setting) (lane : ℕ) (calls : List Call) (n : ℕ) (before now : Stage) → Goes s lane calls
+pub step_waits : (s : Setting) (lane : ℕ) (calls : List Call) (n : ℕ) (before now : Stage) → Goes s lane calls
     → Is lane (λ t. Waits calls t × IsFar calls n t) before.past → TurnTo s (turn.Step lane) before now
     → Is lane (λ t. Waits calls t × IsFar calls n t) now.past
 step_waits s lane calls n before now go (g, (w, far)) to =
@@ -323,7 +322,7 @@ done_is site (reply.Names names) = (_, (_, refl))
 done_is site (reply.Attrs attrs) = (_, (_, refl))
 done_is site (reply.Extended content) = (_, (_, refl))
 
-step_has : (s : Setting) (lane : ℕ) (calls : List Call) (n : ℕ) (before now : Stage) → Goes s lane calls
+pub step_has : (s : Setting) (lane : ℕ) (calls : List Call) (n : ℕ) (before now : Stage) → Goes s lane calls
     → Is lane (λ t. Has calls t × IsFar calls n t) before.past → TurnTo s (turn.Step lane) before now
     → Is lane (λ t. Rests calls t × IsFar calls (n + 1) t) now.past
 step_has s lane calls n before now go (g, (h, far)) to =
@@ -350,7 +349,7 @@ step_has s lane calls n before now go (g, (h, far)) to =
 
 -- ---- a flush
 
-flush_keeps : (P : List Entry → Type 0) (s : Setting) (before now : Stage) → ((p : List Entry) → P p → P (entry.Event Send ∷ p))
+pub flush_keeps : (P : List Entry → Type 0) (s : Setting) (before now : Stage) → ((p : List Entry) → P p → P (entry.Event Send ∷ p))
     → GrantsNone before.past → P before.past → TurnTo s turn.Flush before now → P now.past
 flush_keeps P s before now sends g p to = by_test (nat_lt (sent before.past) (asked before.past)) to
   where
@@ -362,7 +361,7 @@ flush_keeps P s before now sends g p to = by_test (nat_lt (sent before.past) (as
 abbrev IsSent : List Call → ℕ → ℕ → List Entry → Type 0
 IsSent calls lane n past = GrantsNone past × ((w : Waits calls (told lane past)) × ((w.asks.place < sent past) × IsFar calls n (told lane past)))
 
-flush_waits : (s : Setting) (lane : ℕ) (calls : List Call) (n : ℕ) (before now : Stage) → Is lane (λ t. Waits calls t × IsFar calls n t) before.past
+pub flush_waits : (s : Setting) (lane : ℕ) (calls : List Call) (n : ℕ) (before now : Stage) → Is lane (λ t. Waits calls t × IsFar calls n t) before.past
     → TurnTo s turn.Flush before now → IsSent calls lane n now.past
 flush_waits s lane calls n before now (g, (w, far)) to = by_test (nat_lt (sent before.past) (asked before.past)) refl to
   where
@@ -375,7 +374,7 @@ flush_waits s lane calls n before now (g, (w, far)) to = by_test (nat_lt (sent b
 
 -- ---- a take
 
-take_rests : (s : Setting) (lane : ℕ) (calls : List Call) (n : ℕ) (before now : Stage) → Is lane (λ t. Rests calls t × IsFar calls n t) before.past
+pub take_rests : (s : Setting) (lane : ℕ) (calls : List Call) (n : ℕ) (before now : Stage) → Is lane (λ t. Rests calls t × IsFar calls n t) before.past
     → TurnTo s turn.Take before now → Is lane (λ t. Rests calls t × IsFar calls n t) now.past
 take_rests s lane calls n before now (g, (r, far)) to = by_test (nat_lt 0 (awaited before.past)) to
   where
@@ -392,7 +391,7 @@ replies_quiet : (past : List Entry) (o : Option AskedRequest) (place : ℕ) (y :
 replies_quiet past None place y g is may = absurd may
 replies_quiet past (Some a) place y g is may = asked_quiet past place a g is y may.0
 
-take_waits : (s : Setting) (lane : ℕ) (calls : List Call) (n : ℕ) (before now : Stage) → IsSent calls lane n before.past
+pub take_waits : (s : Setting) (lane : ℕ) (calls : List Call) (n : ℕ) (before now : Stage) → IsSent calls lane n before.past
     → TurnTo s turn.Take before now → Is lane (λ t. Has calls t × IsFar calls n t) now.past
 take_waits s lane calls n before now (g, (w, (is_sent, far))) to = by_test (nat_lt 0 (awaited past)) refl to
   where
@@ -449,53 +448,3 @@ take_waits s lane calls n before now (g, (w, (is_sent, far))) to = by_test (nat_
         absurd (let none : is_none (answer past place) ≡ true = rw (w.open_yet) refl in
         let some : 0 < awaited past = count_pos (λ p. is_none (answer past p)) (sent past) place is_sent none in
         let le : awaited past ≤ 0 = grind (arith, nat_tests) in omega (arith, some, le))
-
--- ---- four turns
-
--- the lane rests or waits, and so many of its calls have ended, or all
-abbrev pub IsAt : List Call → ℕ → Told → Type 0
-IsAt calls n t = (Rests calls t ⊎ Waits calls t) × IsFar calls n t
-
-from_waits : (s : Setting) (lane : ℕ) (calls : List Call) (n : ℕ) (a b c d : Stage) → Goes s lane calls
-    → Is lane (λ t. Waits calls t × IsFar calls n t) a.past → TurnTo s turn.Flush a b → TurnTo s turn.Take b c → TurnTo s (turn.Step lane) c d
-    → Is lane (IsAt calls (n + 1)) d.past
-from_waits s lane calls n a b c d go w x y z =
-    let e = step_has s lane calls n c d go (take_waits s lane calls n b c (flush_waits s lane calls n a b w x) y) z in (e.0, (inl e.1.0, e.1.1))
-
-from_rests : (s : Setting) (lane : ℕ) (calls : List Call) (n : ℕ) (a b c d : Stage) → Goes s lane calls
-    → Is lane (λ t. Rests calls t × IsFar calls n t) a.past → TurnTo s turn.Flush a b → TurnTo s turn.Take b c → TurnTo s (turn.Step lane) c d
-    → Is lane (IsAt calls n) d.past
-from_rests s lane calls n a b c d go (g, r) x y z =
-    by_case (step_rests s lane calls n c d go (take_rests s lane calls n b c
-    (flush_keeps (Is lane (λ t. Rests calls t × IsFar calls n t)) s a b (λ p h. h) g (g, r) x) y) z)
-  where
-    by_case : Is lane (Goes1 calls n) d.past → Is lane (IsAt calls n) d.past
-    by_case (k, inl (r, far)) = (k, (inl r, far_more calls (n + 1) n (told lane d.past) (told lane d.past) far (omega arith) (omega arith)))
-    by_case (k, inr (w, far)) = (k, (inr w, far))
-
-pub call_goes : (s : Setting) (lane : ℕ) (calls : List Call) (n : ℕ) (before now : Stage) → Goes s lane calls
-    → Is lane (IsAt calls n) before.past → TurnsTo s (call_turns lane) before now → Is lane (IsAt calls (n + 1)) now.past
-call_goes s lane calls n before now go (g, (inr w, far)) (a, (step, (b, (flush, (c, (take, (d, (again, e)))))))) =
-    subst (λ (x : Stage). Is lane (IsAt calls (n + 1)) x.past) (sym e)
-    (from_waits s lane calls n a b c d go (step_waits s lane calls n before a go (g, (w, far)) step) flush take again)
-call_goes s lane calls n before now go (g, (inl r, far)) (a, (step, (b, (flush, (c, (take, (d, (again, e)))))))) =
-    subst (λ (x : Stage). Is lane (IsAt calls (n + 1)) x.past) (sym e) (by_case (step_rests s lane calls n before a go (g, (r, far)) step))
-  where
-    by_case : Is lane (Goes1 calls n) a.past → Is lane (IsAt calls (n + 1)) d.past
-    by_case (k, inl r) = from_rests s lane calls (n + 1) a b c d go (k, r) flush take again
-    by_case (k, inr w) = from_waits s lane calls n a b c d go (k, w) flush take again
-
--- ---- at the end
-
--- where all calls have ended, their requests were asked, one after another, and no others
-pub all_made : (calls : List Call) (t : Told) → IsAt calls (length calls) t → asked_in t.requests ≡ mkdirs_of calls
-all_made calls t (inl r, far) = r.made ∙ ap mkdirs_of (take_all t.done calls (by_far far))
-  where
-    by_far : IsFar calls (length calls) t → length calls ≤ t.done
-    by_far (inl le) = le
-    by_far (inr le) = le
-all_made calls t (inr w, far) = absurd (let lt = got_within calls t.done (call.Mkdir w.asks.path) w.asks.is in by_far far lt)
-  where
-    by_far : IsFar calls (length calls) t → t.done < length calls → ⊥
-    by_far (inl le) lt = omega (arith, le, lt)
-    by_far (inr le) lt = omega (arith, le, lt)

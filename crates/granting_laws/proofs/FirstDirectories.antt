@@ -79,7 +79,8 @@ use Rattle.run_laws.proofs.StepLaws.{after_two}
 use Rattle.run_laws.proofs.UsedLaws.{some_is}
 use Rattle.run_laws.proofs.WholeRunSent.{answered_sent}
 use Rattle.granting_laws.proofs.Alone.{IsQuiet, told}
-use Rattle.granting_laws.proofs.AloneTurns.{Goes, Is, IsAt as IsAtCall, all_made, call_goes, mkdirs_of}
+use Rattle.granting_laws.proofs.AloneTurns.{Goes, Is, mkdirs_of}
+use Rattle.granting_laws.proofs.FourTurns.{IsAt as IsAtCall, all_made, call_goes}
 use Rattle.granting_laws.proofs.Building.{MakesName}
 use Rattle.granting_laws.proofs.CallAsks.{IsMadeBy, IsOfCall, made_by}
 use Rattle.granting_laws.proofs.Directories.{AreThere, Builds, MakesNot, all_made_by, requests_in, steps_keep, steps_no_directory}

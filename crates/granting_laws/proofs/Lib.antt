@@ -1,5 +1,6 @@
 pub mod Alone
 pub mod AloneTurns
+pub mod FourTurns
 pub mod CallKinds
 pub mod Uncancelled
 pub mod Building

@@ -19,6 +19,7 @@ pub mod ListsDirectories
 pub mod NameCalls
 pub mod OtherRows
 pub mod ReadBackRows
+pub mod ReadBackCallRows
 pub mod ReadsBack
 pub mod ReadsBackRows
 pub mod ReadsFlushed

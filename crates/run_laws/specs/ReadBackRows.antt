@@ -29,11 +29,8 @@ use Rattle.std.specs.Prelude.{
 }
 use Rattle.std.proofs.Common.{ap, sym, ◌∙◌, subst, arith, inl, inr}
 use Rattle.std.proofs.lemmas.Bool.Decides.{nat_tests}
-use Rattle.ssh_encoding.specs.Writing.{string, uint32}
-use Rattle.sftp_model.specs.Frames.{attributes, no_attributes, request_body}
+use Rattle.sftp_model.specs.Frames.{no_attributes}
 use Rattle.sftp_model.specs.Numbers.{POSIX_RENAME, SSH_FXF_CREAT, SSH_FXF_WRITE}
-use Rattle.sftp_model.specs.Slots.{fresh_site}
-use Rattle.sftp_model.specs.declared.outcome.Outcome.TheVariants as outcome
 use Rattle.sftp_model.specs.declared.reply.Reply.{Reply}
 use Rattle.sftp_model.specs.declared.reply.Reply.TheVariants as reply
 use Rattle.sftp_model.specs.declared.request.Request.{Request}
@@ -43,15 +40,13 @@ use Rattle.machine_model.specs.Changes.{IsWellFormed}
 use Rattle.machine_model.specs.Components.{Name, components, is_within, same_name}
 use Rattle.machine_model.specs.FileTree.{FileTree}
 use Rattle.machine_model.specs.RowWords.{choice, config}
-use Rattle.plan_model.specs.declared.call.Call.TheVariants as call
 use Rattle.plan_model.specs.FilePlans.{open_request}
 use Rattle.plan_model.specs.Moves.{Answers, Own}
 use Rattle.plan_model.specs.OwnRequests.{Extends}
 use Rattle.plan_model.specs.PlanWords.{facts}
 use Rattle.plan_model.specs.WholePlans.{to_replace}
 use Rattle.plan_model.specs.WindowPlans.{to_read}
-use Rattle.run_laws.specs.CallsAmong.{HasEnded, asked_by}
-use Rattle.run_laws.specs.GrantUses.{AreOnName, IsCallOn, IsRunOn, IsUsed, PassesBy, UseGrants}
+use Rattle.run_laws.specs.GrantUses.{AreOnName, IsRunOn, IsUsed, UseGrants}
 use Rattle.run_laws.specs.Sparing.{Avoids}
 use Rattle.run_laws.specs.Steps.{Step, AreDistinct, AreServed, HasPlace}
 
@@ -68,7 +63,7 @@ other = 8 ∷ []
 
 -- The requests in the order in which they are sent, each at its place. A call writes "hello" in two parts to /a, and
 -- one reads it; others make a directory, write to b and move it.
-abbrev requests : List Request
+abbrev pub requests : List Request
 requests =
     open_request to_replace (codes "/a") ∷ request.Mkdir (codes "x") no_attributes ∷ request.Write h 0 (codes "hel")
     ∷ open_request (record { 0 = SSH_FXF_WRITE + SSH_FXF_CREAT }) (codes "b") ∷ request.Write other 0 (codes "zz") ∷
@@ -82,14 +77,14 @@ abbrev ok : Reply
 ok = reply.Status 0 [] []
 
 -- Their replies. The first READ is cut to one byte, and the handle of the write serves again for the read.
-abbrev replies : List Reply
+abbrev pub replies : List Reply
 replies =
     reply.Handle h ∷ ok ∷ ok ∷ reply.Handle other ∷ ok ∷ ok ∷ ok ∷ ok
     ∷ reply.Handle h ∷ reply.Content (codes "h") ∷ reply.Content (codes "ll") ∷ ok ∷ reply.Content (codes "e") ∷
     reply.Content (codes "o") ∷ reply.Status 1 [] [] ∷ []
 
 -- the replies to the first n requests
-abbrev taken : ℕ → Answers
+abbrev pub taken : ℕ → Answers
 taken n place = slice_get (take n replies) place
 
 abbrev pub answers : Answers
@@ -98,7 +93,7 @@ answers place = slice_get replies place
 abbrev at : ℕ → Request
 at place = slice_index_or requests place request.LimitsQuery
 
-abbrev step : ℕ → ℕ → List ℕ → Step
+abbrev pub step : ℕ → ℕ → List ℕ → Step
 step place cap handle = record { place = place; request = at place; choice = choice 0 cap; handle = handle }
 
 abbrev pub first_write : Step
@@ -136,7 +131,7 @@ elsewhere grant = grant == 3
 abbrev pub two_at_once : Facts
 two_at_once = facts 0 2 3 1 2
 
-abbrev own : ℕ → ℕ × Request
+abbrev pub own : ℕ → ℕ × Request
 own place = (place, at place)
 
 abbrev pub written : Own
@@ -363,7 +358,7 @@ use_grants = (
   ),
 )
 
-mkdir_avoids : Avoids name (at 1)
+pub mkdir_avoids : Avoids name (at 1)
 unfolding components
 mkdir_avoids = record { denotes = apart (codes "x" ∷ []) name refl refl; moves = λ old to d. absurd d }
 
@@ -371,7 +366,7 @@ open_avoids : Avoids name (at 3)
 unfolding components
 open_avoids = record { denotes = λ d. apart (codes "b" ∷ []) name refl refl d.1; moves = λ old to d. absurd d }
 
-rename_avoids : Avoids name (at 7)
+pub rename_avoids : Avoids name (at 7)
 unfolding components
 rename_avoids =
     record {
@@ -382,13 +377,13 @@ rename_avoids =
       );
     }
 
-write_avoids : (handle : List ℕ) (offset : ℕ) (content : List ℕ) → Avoids name (request.Write handle offset content)
+pub write_avoids : (handle : List ℕ) (offset : ℕ) (content : List ℕ) → Avoids name (request.Write handle offset content)
 write_avoids handle offset content = record { denotes = λ d. d; moves = λ old to d. absurd d }
 
 read_avoids : (handle : List ℕ) (offset len : ℕ) → Avoids name (request.Read handle offset len)
 read_avoids handle offset len = record { denotes = λ d. d; moves = λ old to d. absurd d }
 
-close_avoids : (handle : List ℕ) → Avoids name (request.Close handle)
+pub close_avoids : (handle : List ℕ) → Avoids name (request.Close handle)
 close_avoids handle = record { denotes = λ d. d; moves = λ old to d. absurd d }
 
 on_name : AreOnName name elsewhere run
@@ -436,123 +431,3 @@ on_name = (
 
 pub run_is_on_name : IsRunOn (config POSIX_RENAME) answers grant_of elsewhere name empty run
 run_is_on_name = record { served = served; distinct = distinct; grants = use_grants; on_name = on_name }
-
--- the writes to b are by the handle of its own grant
-write_passes : PassesBy answers grant_of elsewhere name (step 4 0 (9 ∷ []))
-write_passes = (write_avoids _ _ _, λ k w. (3, (refl, (ap (λ (v : List ℕ). Some (reply.Handle v)) w, refl))))
-
-write_passes_too : PassesBy answers grant_of elsewhere name (step 11 0 (9 ∷ []))
-write_passes_too = (write_avoids _ _ _, λ k w. (3, (refl, (ap (λ (v : List ℕ). Some (reply.Handle v)) w, refl))))
-
-pub write_is_on_name : IsCallOn answers grant_of elsewhere name written first_write between
-write_is_on_name =
-    record {
-      among = inr (
-        (mkdir_avoids, λ k w. absurd w),
-        inl (
-          refl,
-          refl,
-          refl,
-          inr (
-            (open_avoids, λ k w. absurd w),
-            inr (
-              write_passes,
-              inl (refl, refl, refl, ((close_avoids _, λ k w. absurd w), ((rename_avoids, λ k w. absurd w), tt))),
-            ),
-          ),
-        ),
-      );
-    }
-
-pub read_is_on_name : IsCallOn answers grant_of elsewhere name read first_read rest
-read_is_on_name =
-    record {
-      among = inl (
-        refl,
-        refl,
-        refl,
-        inl (
-          refl,
-          refl,
-          refl,
-          inr
-              (write_passes_too, inl (refl, refl, refl, inl (refl, refl, refl, inl (refl, refl, refl, tt)))),
-        ),
-      );
-    }
-
-pub write_ends : HasEnded (call.FsWrite (codes "/a") (codes "hello")) fresh_site two_at_once
-    (asked_by first_write ∷ written) answers outcome.Done
-unfolding request_body string uint32 attributes
-write_ends =
-    record {
-      by = answers;
-      stay = λ place r e. e;
-      requests = own 5 ∷ own 2 ∷ own 0 ∷ [];
-      are = refl;
-      so_far = record {
-        asked = (
-          taken 5,
-          (
-            taken 2,
-            (taken 0, tt, refl, refl, λ place r e. absurd cc),
-            refl,
-            refl,
-            extends_more (take 2 replies) (take 3 (drop 2 replies)),
-          ),
-          refl,
-          refl,
-          extends_more (take 5 replies) (drop 5 replies),
-        );
-        answered = (refl, (refl, (refl, tt)));
-      };
-      left = fresh_site;
-      ends = refl;
-    }
-
-pub read_ends : HasEnded (call.FsRead (codes "x/../a") 9) fresh_site two_at_once (asked_by first_read ∷ read) answers
-    (outcome.Bytes (codes "hello"))
-unfolding request_body string uint32 attributes
-read_ends =
-    record {
-      by = answers;
-      stay = λ place r e. e;
-      requests = own 14 ∷ own 13 ∷ own 12 ∷ own 10 ∷ own 9 ∷ own 8 ∷ [];
-      are = refl;
-      so_far = record {
-        asked = (
-          taken 14,
-          (
-            taken 12,
-            (
-              taken 11,
-              (
-                taken 9,
-                (
-                  taken 9,
-                  (taken 8, tt, refl, refl, extends_more (take 8 replies) (take 1 (drop 8 replies))),
-                  refl,
-                  refl,
-                  λ place r e. e,
-                ),
-                refl,
-                refl,
-                extends_more (take 9 replies) (take 2 (drop 9 replies)),
-              ),
-              refl,
-              refl,
-              extends_more (take 11 replies) (take 1 (drop 11 replies)),
-            ),
-            refl,
-            refl,
-            extends_more (take 12 replies) (take 2 (drop 12 replies)),
-          ),
-          refl,
-          refl,
-          extends_more (take 14 replies) (drop 14 replies),
-        );
-        answered = (refl, (refl, (refl, (refl, (refl, (refl, tt))))));
-      };
-      left = fresh_site;
-      ends = refl;
-    }

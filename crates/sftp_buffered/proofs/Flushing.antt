@@ -70,7 +70,8 @@ use Rattle.sftp_buffered.specs.Steps.{AreTaken, IsLeft, IsRestOf, LooksAtOldest,
 use Rattle.sftp_buffered.proofs.Resting.{others_taken, rest_at, rest_by, rest_same, taken_more, taken_none}
 use Rattle.sftp_buffered.proofs.Holding.{other_kind}
 use Rattle.sftp_buffered.proofs.Others.{others_both, others_left, others_looked, others_oldest, others_same}
-use Rattle.sftp_buffered.proofs.Planning.{bad_ends, good_goes, missing_waits, status_memory}
+use Rattle.sftp_buffered.proofs.Planning.{bad_ends, good_goes, missing_waits}
+use Rattle.sftp_buffered.proofs.WritePolls.{status_memory}
 use Rattle.sftp_buffered.proofs.Sound.{sound_left, sound_looked, sound_taken}
 
 -- ---- a poll of the oldest status changes no other reply

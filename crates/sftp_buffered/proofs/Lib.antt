@@ -7,8 +7,10 @@ pub mod Others
 pub mod Resting
 pub mod Windows
 pub mod Planning
+pub mod WritePolls
 pub mod Flushing
 pub mod Filling
+pub mod FillPlans
 pub mod Reading
 pub mod Seeking
 pub mod Abandoning

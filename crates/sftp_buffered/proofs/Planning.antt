@@ -26,7 +26,6 @@ use Rattle.std.proofs.Common.{
   Result,
   Ok,
   Err,
-  inl,
   inr,
   length,
   take,
@@ -54,23 +53,50 @@ use Rattle.sftp_model.specs.declared.slot.Move.{Move}
 use Rattle.sftp_model.specs.declared.slot.Move.TheVariants.{Ask, Wait, Done}
 use Rattle.sftp_model.specs.declared.slot.Site.{Site}
 use Rattle.sftp_model.specs.declared.slot.Slot.TheVariants as slots
-use Rattle.plan_model.specs.Moves.{Answers, Own, Plan, ask_write, handle_of, on_status, once_answered, overflows, refuses}
-use Rattle.plan_model.specs.BufferPlans.{ask_deferred, buf_write_next, deferrable_len, is_full, is_good, pending, send_next, taken_out, with_capacity}
+use Rattle.plan_model.specs.Moves.{
+  Answers,
+  Own,
+  Plan,
+  ask_write,
+  handle_of,
+  on_status,
+  once_answered,
+  overflows,
+  refuses,
+}
+use Rattle.plan_model.specs.BufferPlans.{
+  ask_deferred,
+  buf_write_next,
+  deferrable_len,
+  is_full,
+  is_good,
+  pending,
+  send_next,
+  taken_out,
+  with_capacity,
+}
 use Rattle.sftp_core.specs.Core.{Core}
 use Rattle.call_state.specs.Asked.{Submitted}
 use Rattle.call_state.specs.Calls.{IsUnfinished}
 use Rattle.call_state.specs.declared.asking.Asking.{Asking}
 use Rattle.call_state.specs.declared.poll.Poll.TheVariants as poll
-use Rattle.sftp_file.specs.Files.{FileValue, facts_of, file_at}
+use Rattle.sftp_file.specs.Files.{FileValue, file_at}
 use Rattle.sftp_buffered.proofs.Holding.{counted_less, freed_core_deferring, freed_deferring, freed_file, parts_of}
 use Rattle.sftp_buffered.specs.declared.file.DeferredWrite.{DeferredWrite}
-use Rattle.sftp_buffered.specs.declared.window.Window.{Window}
-use Rattle.sftp_buffered.specs.Buffered.{AreTold, CompatValue, Defers, IsCounted, IsSound, buffer_of, lane_of, write_of, writes_of}
+use Rattle.sftp_buffered.specs.Buffered.{
+  AreTold,
+  CompatValue,
+  Defers,
+  IsCounted,
+  buffer_of,
+  lane_of,
+  write_of,
+  writes_of,
+}
 use Rattle.sftp_buffered.specs.Polls.{AsksAndEnds, Polls, Waits}
 use Rattle.sftp_buffered.specs.Steps.{
   IsLeft,
   IsRestOf,
-  LooksAtOldest,
   WasRefused,
   after_written,
   deferring,
@@ -86,10 +112,7 @@ use Rattle.sftp_buffered.specs.Steps.{
   without_oldest,
 }
 use Rattle.sftp_buffered.proofs.Resting.{rest_at, rest_freed}
-use Rattle.sftp_buffered.specs.Writes.{HasRoom, IsWindow, Sent, Unsent, Writes, write_plan}
-use Rattle.sftp_buffered.proofs.Sound.{sound_left, sound_looked, sound_send}
-use Rattle.sftp_buffered.proofs.Windows.{window_left, window_looked, window_same, window_send}
-use Rattle.sftp_buffered.proofs.Others.{others_left, others_looked, others_same, others_send}
+use Rattle.sftp_buffered.specs.Writes.{Sent, Unsent}
 
 -- ---- the plan before its request
 
@@ -118,7 +141,7 @@ oldest_in : (ds : List DeferredWrite) (b : Bool) → (is_some (slice_get ds 0) &
 oldest_in [] b e = absurd cc
 oldest_in (d ∷ ds) b e = (d, refl)
 
-has_oldest : (c : CompatValue) (facts : Facts) → must_wait facts c ≡ true → Oldest c
+pub has_oldest : (c : CompatValue) (facts : Facts) → must_wait facts c ≡ true → Oldest c
 has_oldest c facts full = (let found = oldest_in c.deferred (c.pending == facts.write_limit) full in record { write = found.0; is = found.1 })
 
 -- ---- a full window
@@ -137,7 +160,7 @@ oldest_told core answers c o told =
     t.0 ∙ ap (λ (x : List DeferredWrite). oldest_reply core x) (sym o.is))
 
 -- the plan of a full window looks at the oldest status
-full_looks : (c : CompatValue) (facts : Facts) (bytes : List ℕ) (own : Own) (answers : Answers) (core : Core)
+pub full_looks : (c : CompatValue) (facts : Facts) (bytes : List ℕ) (own : Own) (answers : Answers) (core : Core)
     (o : Oldest c) → c.file.writable ≡ true → (length bytes == 0) ≡ false → IsCounted c
     → must_wait facts c ≡ true → AreTold core answers c.deferred
     → buf_write_next 0 bytes (lane_of c) facts own answers ≡ once_answered o.write.place (oldest_reply core c.deferred)
@@ -337,7 +360,7 @@ room_goes_as : (c : CompatValue) (facts : Facts) (bytes : List ℕ) (answers : A
 room_goes_as c facts bytes answers core may some counted room d =
     record { goes = room_goes c facts bytes answers may some counted room; may = may; counted = counted.pending; brought = d.brought }
 
-goes_as : (full : Bool) (c : CompatValue) (facts : Facts) (bytes : List ℕ) (answers : Answers) (core : Core)
+pub goes_as : (full : Bool) (c : CompatValue) (facts : Facts) (bytes : List ℕ) (answers : Answers) (core : Core)
     → c.file.writable ≡ true → (length bytes == 0) ≡ false → IsCounted c → full ≡ must_wait facts c
     → Defers core c answers
     → (full ≡ true → is_good (oldest_reply core c.deferred) ≡ true) → GoesAs (buf_write_next 0 bytes (lane_of c) facts) facts bytes answers (freed full c)
@@ -382,7 +405,7 @@ polls_unsent Cut full plan facts bytes answers old new p q parts n (error.IOErro
     }
 polls_unsent Cut full plan facts bytes answers old new p q parts n other g h same u = absurd u
 
-polls_result : (Cut : Asking → Type 0) (full : Bool) (plan : Plan) (facts : Facts) (bytes : List ℕ) (answers : Answers) (old new : Core)
+pub polls_result : (Cut : Asking → Type 0) (full : Bool) (plan : Plan) (facts : Facts) (bytes : List ℕ) (answers : Answers) (old new : Core)
     (p q : CompatValue) (parts : List (List ℕ)) (n : ℕ) (result : Result ℕ Error)
     → GoesAs plan facts bytes answers (freed full p)
     → IsPartOf facts bytes (freed full p) parts n → (full ≡ true → is_good (oldest_reply old p.deferred) ≡ true)
@@ -394,148 +417,3 @@ polls_result Cut full plan facts bytes answers old new p q parts n (Ok k) g h go
     (polls_sent Cut full plan facts bytes answers old new p q parts n g h good cut ok.1))
 polls_result Cut full plan facts bytes answers old new p q parts n (Err e) g h good cut ok err =
     polls_unsent Cut full plan facts bytes answers old new p q parts n e g h (freed_file full p) err
-
--- ---- the poll
-
--- no STATUS is want of memory
-pub status_memory : (r : Reply) → status_value r ≡ Err error.OutOfMemory → ⊥
-status_memory (reply.Status code message language) is = by_code (code == SSH_FX_OK) is
-  where
-    by_code : (b : Bool) → (◌≡◌ {A = Result (Unit {0}) Error} (if b then Ok tt else Err (error.SftpError code message language)) (Err error.OutOfMemory)) → ⊥
-    by_code true is = cc
-    by_code false is = cc
-status_memory other is = cc
-
--- the looks before the window
-pub record MayWrite (bytes : List ℕ) (c : CompatValue) : Type 0 where
-  pub may : c.file.writable ≡ true
-  pub some : (length bytes == 0) ≡ false
-
-window_waits : (bytes : List ℕ) (old new : Core) (p q : CompatValue) → MayWrite bytes p → IsSound old p
-    → IsWindow old new p q poll.Pending → (answers : Answers) → Defers old p answers
-    → Waits (write_plan bytes old p) answers old (IsLeft old new p q)
-window_waits bytes old new p q m s w answers d =
-    let o : Oldest p = has_oldest p (facts_of old) w.0 in
-    record {
-      place = o.write.place;
-      waits = full_looks p (facts_of old) bytes [] answers old o m.may m.some s.counted w.0 d.writes
-          ∙ missing_waits (oldest_reply old p.deferred) o.write.place _ w.1.0;
-      unfailed = w.1.1;
-      left = w.1.2;
-    }
-
--- the window was full, and the oldest status isn't good
-pub pending_writes : (Cut : Asking → Type 0) (bytes : List ℕ) (old new : Core) (p q : CompatValue) → MayWrite bytes p → IsSound old p
-    → IsWindow old new p q poll.Pending → Writes Cut bytes old new p q poll.Pending
-pending_writes Cut bytes old new p q m s w = record {
-  polled = window_waits bytes old new p q m s w;
-  sound =
-      sound_left old new p q w.1.2 s;
-  window = window_left (facts_of old).write_limit old new p q w.1.2;
-  others = others_left old new p w.1.2.core;
-}
-
-refused_polls : (Cut : Asking → Type 0) (bytes : List ℕ) (old new : Core) (p q : CompatValue) (e : Error) → MayWrite bytes p → IsSound old p
-    → must_wait (facts_of old) p ≡ true → LooksAtOldest old new p q (poll.Ready (Err e))
-    → (answers : Answers) → Defers old p answers
-    → Polls {V = ℕ} (Waits (write_plan bytes old p) answers old (IsLeft old new p q)) (IsLeft old new p q) Cut
-    (write_plan bytes old p) (λ k. outcome.Count k) answers old new p q (poll.Ready (Err e))
-refused_polls Cut bytes old new p q (error.BackgroundTaskFailure fault) m s full w answers d =
-    let o : Oldest p = has_oldest p (facts_of old) full in
-    let waits : write_plan bytes old p [] answers ≡ Wait o.write.place =
-    full_looks p (facts_of old) bytes [] answers old o m.may m.some s.counted full d.writes ∙ missing_waits (oldest_reply old p.deferred) o.write.place _ w.0 in
-    (w.1, subst IsUnfinished (sym waits) tt, w.2)
-refused_polls Cut bytes old new p q error.OutOfMemory m s full w answers d = absurd (status_memory w.reply w.refuses)
-refused_polls Cut bytes old new p q e m s full w answers d =
-    let o : Oldest p = has_oldest p (facts_of old) full in
-    record {
-      ends = full_looks p (facts_of old) bytes [] answers old o m.may m.some s.counted full d.writes ∙ bad_ends old new p q o.write.place _ e w;
-      rest = rest_at old (oldest_polled old p.deferred) new p (without_oldest p) q (rest_freed true old p) w.core w.left;
-    }
-
-pub refused_writes : (Cut : Asking → Type 0) (bytes : List ℕ) (old new : Core) (p q : CompatValue) (e : Error) → MayWrite bytes p
-    → IsSound old p → IsWindow old new p q (poll.Ready (Err e)) → Writes Cut bytes old new p q (poll.Ready (Err e))
-refused_writes Cut bytes old new p q e m s w = record {
-  polled = refused_polls Cut bytes old new p q e m s w.0 w.1;
-  sound =
-      sound_looked old new p q e w.1 s;
-  window = window_looked (facts_of old).write_limit old new p q e w.1;
-  others = others_looked old new p q e w.1 s;
-}
-
--- the window has room, and a part was handed to a send
-pub record SendsPart (Cut : Asking → Type 0) (bytes : List ℕ) (core : Core) (c : CompatValue) (w : Window) (parts : List (List ℕ)) (n : ℕ) : Type 0 where
-  pub room : HasRoom (facts_of core) core c w
-  pub len : n ≡ min (length bytes) w.len
-  pub first : joined parts ≡ take n bytes
-  pub cut : Cut (parts_of c parts)
-
-sent_writes_here : (Cut : Asking → Type 0) (bytes : List ℕ) (old new : Core) (p q : CompatValue) (w : Window) (parts : List (List ℕ)) (n : ℕ)
-    (result : Result ℕ Error) → MayWrite bytes p → IsSound old p → SendsPart Cut bytes old p w parts n
-    → IfOk result (λ k. (k ≡ n) × Sent w.is_full parts old new p q n) → IfErr result (Unsent w.is_full n old new p q)
-    → Writes Cut bytes old new p q (poll.Ready result)
-sent_writes_here Cut bytes old new p q w parts n result m s h ok err =
-    let part : IsPartOf (facts_of old) bytes (freed w.is_full p) parts n =
-    record { len = h.len ∙ ap (λ (k : ℕ). min (length bytes) k) h.room.len; first = h.first } in
-    record {
-      polled = λ answers d. polls_result Cut w.is_full (write_plan bytes old p) (facts_of old) bytes answers old new p q parts n result
-          (goes_as w.is_full p (facts_of old) bytes answers old m.may m.some s.counted h.room.full d h.room.good) part h.room.good h.cut ok err;
-      sound = sound_send w.is_full parts n old new p q result s h.room.good ok err;
-      window = window_send w.is_full (facts_of old) parts (length bytes) n old new p q result part.len h.room.good ok err;
-      others = others_send w.is_full parts n old new p q result s h.room.good ok err;
-    }
-
-pub sent_writes : (Cut : Asking → Type 0) (bytes : List ℕ) (old now new : Core) (p r q : CompatValue) (w : Window) (parts : List (List ℕ))
-    (n : ℕ) (result : Result ℕ Error) → MayWrite bytes p → IsSound old p → IsLeft old now p r
-    → SendsPart Cut bytes old p w parts n
-    → IfOk result (λ k. (k ≡ n) × Sent w.is_full parts now new r q n) → IfErr result (Unsent w.is_full n now new r q)
-    → Writes Cut bytes old new p q (poll.Ready result)
-sent_writes Cut bytes old now new p r q w parts n result m s l h ok err =
-    sent_writes_here Cut bytes old new p q w parts n result m s h
-    (subst (λ (x : CompatValue). IfOk result (λ k. (k ≡ n) × Sent w.is_full parts old new x q n)) l.same
-    (subst (λ (x : Core). IfOk result (λ k. (k ≡ n) × Sent w.is_full parts x new r q n)) l.core ok))
-    (subst (λ (x : CompatValue). IfErr result (Unsent w.is_full n old new x q)) l.same
-    (subst (λ (x : Core). IfErr result (Unsent w.is_full n x new r q)) l.core err))
-
--- want of memory behind the window
-pub short_writes : (Cut : Asking → Type 0) (bytes : List ℕ) (old new : Core) (p q : CompatValue) → IsSound old p → IsLeft old new p q
-    → Writes Cut bytes old new p q (poll.Ready (Err error.OutOfMemory))
-short_writes Cut bytes old new p q s l = record {
-  polled = λ answers d. l;
-  sound = sound_left old new p q l s;
-  window =
-      window_left (facts_of old).write_limit old new p q l;
-  others = others_left old new p l.core;
-}
-
--- ---- before the window
-
-pub unwritable_writes : (Cut : Asking → Type 0) (bytes : List ℕ) (core : Core) (c : CompatValue) → c.file.writable ≡ false → IsSound core c
-    → Writes Cut bytes core core c c (poll.Ready (Err (error.IOError kind.NotWritable)))
-unwritable_writes Cut bytes core c not_so s =
-    record {
-      polled = λ answers d. record {
-        ends = (λ i. if not (not_so i) then refuses kind.NotWritable (lane_of c) else if length bytes == 0 then Done (outcome.Count 0) (lane_of c)
-            else with_capacity 0 (file_at c.file) (buffer_of c) (lane_of c) (facts_of core) answers
-            (send_next 0 (file_at c.file) bytes (facts_of core) [] answers));
-        rest = rest_freed false core c;
-      };
-      sound = s;
-      window = window_same (facts_of core).write_limit c;
-      others = others_same core c;
-    }
-
-pub empty_writes : (Cut : Asking → Type 0) (bytes : List ℕ) (core : Core) (c : CompatValue) → c.file.writable ≡ true → (length bytes == 0)
-    ≡ true → IsSound core c → Writes Cut bytes core core c c (poll.Ready (Ok 0))
-empty_writes Cut bytes core c may none s =
-    record {
-      polled = λ answers d. inl (record {
-        ends = (λ i. if not (may i) then refuses kind.NotWritable (lane_of c) else if none i then Done (outcome.Count 0) (lane_of c)
-            else with_capacity 0 (file_at c.file) (buffer_of c) (lane_of c) (facts_of core) answers
-            (send_next 0 (file_at c.file) bytes (facts_of core) [] answers));
-        rest = rest_freed false core c;
-      });
-      sound = s;
-      window = window_same (facts_of core).write_limit c;
-      others = others_same core c;
-    }

@@ -78,14 +78,12 @@ use Rattle.sftp_buffered.specs.Reads.{
   without_read,
 }
 use Rattle.sftp_buffered.specs.Steps.{IsLeft, IsRestOf}
-use Rattle.sftp_buffered.proofs.Filling.{
+use Rattle.sftp_buffered.proofs.Filling.{content_some, fills_others, fills_sound}
+use Rattle.sftp_buffered.proofs.FillPlans.{
   EndsRefused,
   ReadsBy,
-  content_some,
   ended_status,
-  fills_others,
   fills_pending,
-  fills_sound,
   fills_stop,
   fills_took,
   refused_content,

@@ -6,4 +6,5 @@ pub mod ListingSteps
 pub mod CallSteps
 pub mod PartLaws
 pub mod WriteSteps
+pub mod WriteOpens
 pub mod WriteStarts

@@ -1,4 +1,5 @@
 pub mod EntryLaws
+pub mod HoldLaws
 pub mod CallLaws
 pub mod RoundLaws
 pub mod CloseLaws

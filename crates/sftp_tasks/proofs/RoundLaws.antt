@@ -19,7 +19,7 @@ use Rattle.sftp_tasks.specs.Rounds.{Flushes, ReadsRound, RefusesRound}
 use Rattle.sftp_tasks.specs.SessionEvents.{Refuses}
 use Rattle.sftp_tasks.specs.Shows.{shown_of}
 use Rattle.sftp_tasks.specs.Rounds.{HoldsOnce, Token}
-use Rattle.sftp_tasks.proofs.EntryLaws.{none_passes}
+use Rattle.sftp_tasks.proofs.HoldLaws.{none_passes}
 
 -- ---- which entries
 

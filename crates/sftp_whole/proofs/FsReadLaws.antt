@@ -68,7 +68,8 @@ use Rattle.sftp_fs.specs.Grants.{granting}
 use Rattle.sftp_fs.specs.WholeWrites.{IsOwned, KeepsBesides, closed}
 use Rattle.sftp_fs.specs.declared.granting.Granting.{Granting}
 use Rattle.sftp_fs.proofs.CallSteps.{ended_leaves}
-use Rattle.sftp_fs.proofs.WriteSteps.{closes_besides, granted_goes, granted_same, grants_same, left_later, left_now, still}
+use Rattle.sftp_fs.proofs.WriteSteps.{closes_besides, grants_same}
+use Rattle.sftp_fs.proofs.WriteOpens.{granted_goes, granted_same, left_later, left_now, still}
 use Rattle.sftp_whole.specs.Hearing.{Hears, IsFirstMissing, IsOverFor}
 use Rattle.sftp_whole.specs.Reads.{EndsBy, ReadsValue, no_reads}
 use Rattle.sftp_whole.specs.Tickets.{AreTickets, AreUnderWay, IsNoneOf, TellsReads, polled_all, without}

@@ -17,7 +17,7 @@ use Rattle.call_state.specs.Asked.{HoldsTicket, IsReady}
 use Rattle.call_state.specs.Keeping.{KeepsGrants}
 use Rattle.call_state.specs.declared.stage.Stage.TheVariants.{Asked}
 use Rattle.call_state.proofs.Keeping.{grants_both, keeps_same, polled_keeps_grants}
-use Rattle.sftp_fs.proofs.WriteSteps.{ready_polled}
+use Rattle.sftp_fs.proofs.WriteOpens.{ready_polled}
 use Rattle.sftp_whole.specs.Hearing.{Hears}
 use Rattle.sftp_whole.specs.Reads.{ReadsValue}
 use Rattle.sftp_whole.specs.Tickets.{AreUnderWay, IsNoneOf, TellsReads, polled_all}

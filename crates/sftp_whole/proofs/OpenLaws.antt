@@ -49,7 +49,8 @@ use Rattle.sftp_fs.specs.Grants.{granting}
 use Rattle.sftp_fs.specs.PathStarts.{AsksFirst, FirstAsks}
 use Rattle.sftp_fs.specs.declared.granting.Granting.{Granting}
 use Rattle.sftp_fs.proofs.CallSteps.{ended_leaves}
-use Rattle.sftp_fs.proofs.WriteSteps.{granted_goes, granted_same, grants_same, left_later, left_now, still}
+use Rattle.sftp_fs.proofs.WriteSteps.{grants_same}
+use Rattle.sftp_fs.proofs.WriteOpens.{granted_goes, granted_same, left_later, left_now, still}
 use Rattle.sftp_whole.specs.Reads.{ReadsValue, no_reads}
 use Rattle.sftp_whole.specs.WholeReads.{
   Decided,

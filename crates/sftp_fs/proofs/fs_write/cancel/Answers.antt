@@ -4,7 +4,7 @@ use Rattle.sftp_fs.specs.Parts.{writing_parts}
 use Rattle.sftp_fs.specs.WholeWrites.{CancelsWrite}
 use Rattle.sftp_fs.specs.declared.fs_write.Writing.{Writing}
 use Rattle.sftp_fs.specs.declared.fs_write.Writing.TheVariants as writing
-use Rattle.sftp_fs.proofs.WriteSteps.{drops_opened, drops_parts}
+use Rattle.sftp_fs.proofs.WriteOpens.{drops_opened, drops_parts}
 use Rattle.sftp_fs.proofs.fs_write.cancel.Goals as goal
 
 pub returns-in-Opened : goal.returns-in-Opened

@@ -5,7 +5,7 @@ use Rattle.call_state.specs.Calls.{Stepped, is_ended}
 use Rattle.call_state.specs.declared.poll.Poll.{Poll}
 use Rattle.call_state.specs.declared.poll.Poll.TheVariants.{Ready}
 use Rattle.sftp_fs.specs.Grants.{granting}
-use Rattle.sftp_fs.proofs.WriteSteps.{ready_behind}
+use Rattle.sftp_fs.proofs.WriteOpens.{ready_behind}
 use Rattle.sftp_whole.specs.Reads.{no_reads}
 use Rattle.sftp_whole.specs.WholeReads.{ReadAnswer, ReadOn}
 use Rattle.sftp_whole.specs.declared.fs_read.Whole.TheVariants as whole

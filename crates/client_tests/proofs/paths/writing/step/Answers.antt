@@ -1,5 +1,5 @@
 use Rattle.std.proofs.Common.{rules}
-use Rattle.sftp_fs.proofs.WriteSteps.{write_still}
+use Rattle.sftp_fs.proofs.WriteOpens.{write_still}
 use Rattle.client_tests.proofs.paths.writing.step.Goals as goal
 
 pub poll-requires-2 : goal.poll-requires-2

@@ -3,7 +3,14 @@ use Rattle.sftp_model.specs.Pieces.{joined}
 use Rattle.call_state.specs.declared.poll.Poll.TheVariants as poll
 use Rattle.sftp_buffered.specs.Polls.{AnyCut}
 use Rattle.sftp_buffered.specs.Writes.{IsWindow}
-use Rattle.sftp_buffered.proofs.Planning.{MayWrite, empty_writes, pending_writes, refused_writes, sent_writes, unwritable_writes}
+use Rattle.sftp_buffered.proofs.WritePolls.{
+  MayWrite,
+  empty_writes,
+  pending_writes,
+  refused_writes,
+  sent_writes,
+  unwritable_writes,
+}
 use Rattle.sftp_buffered.proofs.file.TokioCompatFile.poll_write.Goals as goal
 
 pub returns-in-Pending : goal.returns-in-Pending

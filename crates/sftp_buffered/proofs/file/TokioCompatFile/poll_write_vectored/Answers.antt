@@ -5,7 +5,15 @@ use Rattle.sftp_file.specs.Parts.{cut_at}
 use Rattle.sftp_buffered.specs.Writes.{IsCutOut, IsWindow}
 use Rattle.sftp_buffered.proofs.Holding.{parts_of}
 use Rattle.sftp_buffered.proofs.Pieces.{first_of, none_joined}
-use Rattle.sftp_buffered.proofs.Planning.{MayWrite, SendsPart, empty_writes, pending_writes, refused_writes, sent_writes, unwritable_writes}
+use Rattle.sftp_buffered.proofs.WritePolls.{
+  MayWrite,
+  SendsPart,
+  empty_writes,
+  pending_writes,
+  refused_writes,
+  sent_writes,
+  unwritable_writes,
+}
 use Rattle.sftp_buffered.proofs.file.TokioCompatFile.poll_write_vectored.Goals as goal
 
 pub returns-then-are_empty : goal.returns-then-are_empty

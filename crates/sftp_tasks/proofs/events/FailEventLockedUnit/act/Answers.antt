@@ -1,4 +1,4 @@
-use Rattle.sftp_tasks.proofs.EntryLaws.{failing_goes}
+use Rattle.sftp_tasks.proofs.HoldLaws.{failing_goes}
 use Rattle.sftp_tasks.proofs.events.FailEventLockedUnit.act.Goals as goal
 
 pub returns-clause-goes : goal.returns-clause-goes

@@ -1,4 +1,4 @@
-use Rattle.sftp_tasks.proofs.EntryLaws.{finishing_from, finishing_goes}
+use Rattle.sftp_tasks.proofs.HoldLaws.{finishing_from, finishing_goes}
 use Rattle.sftp_tasks.proofs.events.FinishEventLockedResultBoolError.act.Goals as goal
 
 pub returns-clause-goes : goal.returns-clause-goes

@@ -1,4 +1,4 @@
-use Rattle.sftp_tasks.proofs.EntryLaws.{gives_up_goes}
+use Rattle.sftp_tasks.proofs.HoldLaws.{gives_up_goes}
 use Rattle.sftp_tasks.proofs.events.GiveUpEventLockedUnit.act.Goals as goal
 
 pub returns-clause-goes : goal.returns-clause-goes

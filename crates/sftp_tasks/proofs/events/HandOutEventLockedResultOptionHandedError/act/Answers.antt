@@ -1,4 +1,4 @@
-use Rattle.sftp_tasks.proofs.EntryLaws.{handing_from, handing_goes}
+use Rattle.sftp_tasks.proofs.HoldLaws.{handing_from, handing_goes}
 use Rattle.sftp_tasks.proofs.events.HandOutEventLockedResultOptionHandedError.act.Goals as goal
 
 pub returns-clause-goes : goal.returns-clause-goes

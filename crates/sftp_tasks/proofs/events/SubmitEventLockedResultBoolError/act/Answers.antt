@@ -2,7 +2,8 @@ use Rattle.std.proofs.Common.{subst, sym, Option, ℕ}
 use Rattle.session_seats.specs.Holds.{GoesBy, passes, no_allowance}
 use Rattle.sftp_tasks.specs.Shows.{shown_of}
 use Rattle.sftp_tasks.specs.Entries.{by_submit}
-use Rattle.sftp_tasks.proofs.EntryLaws.{session_goes, submits_extended}
+use Rattle.sftp_tasks.proofs.EntryLaws.{session_goes}
+use Rattle.sftp_tasks.proofs.HoldLaws.{submits_extended}
 use Rattle.sftp_tasks.proofs.events.SubmitEventLockedResultBoolError.act.Goals as goal
 
 pub returns-clause-goes : goal.returns-clause-goes

@@ -1,5 +1,6 @@
 use Rattle.std.proofs.Common.{rules, refl}
-use Rattle.sftp_tasks.proofs.EntryLaws.{same_extended, session_goes, taking_frame, taking_from, taking_goes}
+use Rattle.sftp_tasks.proofs.EntryLaws.{same_extended, session_goes}
+use Rattle.sftp_tasks.proofs.HoldLaws.{taking_frame, taking_from, taking_goes}
 use Rattle.sftp_tasks.proofs.events.TakeFrameEventLockedResultUnitError.act.Goals as goal
 
 pub returns-in-Some-clause-goes : goal.returns-in-Some-clause-goes

@@ -1,4 +1,4 @@
-use Rattle.sftp_tasks.proofs.EntryLaws.{writing_goes}
+use Rattle.sftp_tasks.proofs.HoldLaws.{writing_goes}
 use Rattle.sftp_tasks.proofs.events.WrittenEventLockedUnit.act.Goals as goal
 
 pub returns-clause-goes : goal.returns-clause-goes
