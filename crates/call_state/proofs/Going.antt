@@ -10,8 +10,8 @@ use Rattle.sftp_core.specs.Core.{Core, after_poll, at, reply_in}
 use Rattle.call_state.specs.declared.stage.Stage.{Stage}
 use Rattle.call_state.specs.declared.stage.Stage.TheVariants.{Ended, Ready, Asked, Came, Unsent}
 use Rattle.call_state.proofs.Keeping.{ended_idle, idle_others, keeps_same}
-use Rattle.call_state.specs.Machines.{GoesBehind, HoldsValue, IsOwn, Meaning}
-use Rattle.call_state.specs.declared.machine.Then.TheVariants as then
+use Rattle.call_state.specs.Runners.{GoesBehind, HoldsValue, IsOwn, Meaning}
+use Rattle.call_state.specs.declared.runner.Then.TheVariants as then
 use Rattle.call_state.specs.declared.asking.Asking.{Asking}
 use Rattle.call_state.specs.Asked.{Submitted, request_of}
 use Rattle.call_state.specs.Calls.{
@@ -37,7 +37,7 @@ use Rattle.call_state.specs.declared.told.Told.{Told}
 use Rattle.call_state.specs.Told.{reply_of}
 use Rattle.sftp_model.specs.declared.reply.Reply.{Reply}
 
--- a plan that goes on as a machine asks what the machine asks
+-- a plan that goes on as a runner asks what the runner asks
 pub behind_by : {W M V : Type 0} (s : Meaning W M V) (w : W) (plan : Plan) (answers : Answers) (asking : Asking) (m next : M)
     → ((later : Own) → plan later answers ≡ s.left w m later answers) → GoesBehind s w (s.left w m) answers asking next
     → GoesBehind s w plan answers asking next
@@ -46,7 +46,7 @@ behind_by s w plan answers asking m next same b =
 
 -- and ends as it
 pub ended_by : {W M V : Type 0} (s : Meaning W M V) (w : W) (plan : Plan) (answers : Answers) (old new : Core) (q : CallValue M) (value : Result V Error)
-    → IsOwn value → plan [] answers ≡ s.ended w q.machine value → is_ended q.stage ≡ true → new ≡ old → Went s w plan answers old new q (poll.Ready value)
+    → IsOwn value → plan [] answers ≡ s.ended w q.runner value → is_ended q.stage ≡ true → new ≡ old → Went s w plan answers old new q (poll.Ready value)
 ended_by s w plan answers old new q (Ok value) own done over same = (done, over, same)
 ended_by s w plan answers old new q (Err error.OutOfMemory) own done over same = absurd own
 ended_by s w plan answers old new q (Err (error.BackgroundTaskFailure fault)) own done over same = absurd own
@@ -55,7 +55,7 @@ ended_by s w plan answers old new q (Err other) own done over same = (done, over
 -- what was submitted is awaited
 pub sent_by : {W M V : Type 0} (s : Meaning W M V) (w : W) (plan : Plan) (answers : Answers) (old new : Core) (m : M)
     (asking : Asking) (ticket : ℕ) (q : CallValue M)
-    → q.stage ≡ Asked ticket → q.machine ≡ m → GoesBehind s w plan answers asking m → s.cut m asking
+    → q.stage ≡ Asked ticket → q.runner ≡ m → GoesBehind s w plan answers asking m → s.cut m asking
     → Submitted old asking ticket new → AsksAndAwaits s w plan answers old new q
 sent_by s w plan answers old new m asking ticket q is same b cut submitted =
     record {
@@ -69,7 +69,7 @@ sent_by s w plan answers old new m asking ticket q is same b cut submitted =
       submitted = submitted;
     }
 
--- the machine goes on behind what it asks
+-- the runner goes on behind what it asks
 pub asks_behind : {W M V : Type 0} (s : Meaning W M V) (w : W) (plan : Plan) (answers : Answers) (asking : Asking) (now m next : M) (r : Reply) → now ≡ m
     → (s.known now answers → answers (s.place now) ≡ Some r → GoesBehind s w (s.left w now) answers asking next)
     → s.known m answers → answers (s.place m) ≡ Some r → ((later : Own) → plan later answers ≡ s.left w m later answers)
@@ -93,56 +93,56 @@ asks_failed s w plan answers old new q asking m fault b kept over = (kept, over,
 -- or in place of a reply
 pub failed_polled : {W M V : Type 0} (s : Meaning W M V) (w : W) (plan : Plan) (answers : Answers) (old new : Core)
     (p q : CallValue M) (ticket : ℕ) (fault : Fault)
-    → ((later : Own) → answers (s.place p.machine) ≡ None → s.left w p.machine later answers ≡ Wait (s.place p.machine))
+    → ((later : Own) → answers (s.place p.runner) ≡ None → s.left w p.runner later answers ≡ Wait (s.place p.runner))
     → p.stage ≡ Asked ticket → reply_in (at old ticket) ≡ None → (after_poll old ticket).fault ≡ Some fault
     → is_ended q.stage ≡ true → IsLeft s w plan answers p → Tells s old p answers
     → Polled {V = V} s w plan answers old new p q (poll.Ready (Err (error.BackgroundTaskFailure fault)))
 failed_polled s w plan answers old new p q ticket fault waits is none kept over left tells =
-    let l = subst (λ x. IsLeftAt s w plan answers p.machine x) is left in
-    let told : answers (s.place p.machine) ≡ reply_in (at old ticket) = subst (λ x. TellsAt s old p.machine x answers) is tells in
+    let l = subst (λ x. IsLeftAt s w plan answers p.runner x) is left in
+    let told : answers (s.place p.runner) ≡ reply_in (at old ticket) = subst (λ x. TellsAt s old p.runner x answers) is tells in
     inr (
       subst (λ x. (polled_core old x).fault ≡ Some fault) (sym is) kept,
       over,
-      unfinished_by (plan [] answers) (Wait (s.place p.machine)) (l.1 [] ∙ waits [] (told ∙ none)) tt,
+      unfinished_by (plan [] answers) (Wait (s.place p.runner)) (l.1 [] ∙ waits [] (told ∙ none)) tt,
     )
 
 pub unsent_polled : {W M V : Type 0} (s : Meaning W M V) (w : W) (plan : Plan) (answers : Answers) (old new : Core)
     (p q : CallValue M) (result : Poll (Result V Error)) (asking : Asking)
-    → p.stage ≡ Unsent asking → IsLeft s w plan answers p → (GoesBehind s w plan answers asking p.machine
+    → p.stage ≡ Unsent asking → IsLeft s w plan answers p → (GoesBehind s w plan answers asking p.runner
     → Went s w plan answers old new q result) → Polled s w plan answers old new p q result
 unsent_polled s w plan answers old new p q result asking is left f =
-    inr (subst (λ x. Went s w plan answers (polled_core old x) new q result) (sym is) (f (subst (λ x. IsLeftAt s w plan answers p.machine x) is left)))
+    inr (subst (λ x. Went s w plan answers (polled_core old x) new q result) (sym is) (f (subst (λ x. IsLeftAt s w plan answers p.runner x) is left)))
 
--- a machine goes on with a reply
+-- a runner goes on with a reply
 abbrev pub GoesOn : {W M V : Type 0} → Meaning W M V → W → Plan → Answers → M → Reply → Type 0 → Type 0
 GoesOn s w plan answers m r P = s.known m answers → answers (s.place m) ≡ Some r → ((later : Own) → plan later answers ≡ s.left w m later answers) → P
 
 pub came_polled : {W M V : Type 0} (s : Meaning W M V) (w : W) (plan : Plan) (answers : Answers) (old new : Core)
     (p q : CallValue M) (result : Poll (Result V Error)) (t : Told)
     → p.stage ≡ Came t → IsLeft s w plan answers p → Tells s old p answers
-    → GoesOn s w plan answers p.machine (reply_of t) (Went s w plan answers old new q result)
+    → GoesOn s w plan answers p.runner (reply_of t) (Went s w plan answers old new q result)
     → Polled s w plan answers old new p q result
 came_polled s w plan answers old new p q result t is left tells f =
-    let l = subst (λ x. IsLeftAt s w plan answers p.machine x) is left in
-    inr (subst (λ x. Went s w plan answers (polled_core old x) new q result) (sym is) (f l.0 (subst (λ x. TellsAt s old p.machine x answers) is tells) l.1))
+    let l = subst (λ x. IsLeftAt s w plan answers p.runner x) is left in
+    inr (subst (λ x. Went s w plan answers (polled_core old x) new q result) (sym is) (f l.0 (subst (λ x. TellsAt s old p.runner x answers) is tells) l.1))
 
 pub asked_polled : {W M V : Type 0} (s : Meaning W M V) (w : W) (plan : Plan) (answers : Answers)
     (old polled new : Core) (p q : CallValue M) (result : Poll (Result V Error)) (ticket : ℕ) (r : Reply)
     → p.stage ≡ Asked ticket → polled ≡ after_poll old ticket → reply_in (at old ticket) ≡ Some r → IsLeft s w plan answers p → Tells s old p answers
-    → GoesOn s w plan answers p.machine r (Went s w plan answers polled new q result) → Polled s w plan answers old new p q result
+    → GoesOn s w plan answers p.runner r (Went s w plan answers polled new q result) → Polled s w plan answers old new p q result
 asked_polled s w plan answers old polled new p q result ticket r is core came left tells f =
-    let l = subst (λ x. IsLeftAt s w plan answers p.machine x) is left in
-    let told : answers (s.place p.machine) ≡ reply_in (at old ticket) = subst (λ x. TellsAt s old p.machine x answers) is tells in
+    let l = subst (λ x. IsLeftAt s w plan answers p.runner x) is left in
+    let told : answers (s.place p.runner) ≡ reply_in (at old ticket) = subst (λ x. TellsAt s old p.runner x answers) is tells in
     inr (subst (λ x. Went s w plan answers (polled_core old x) new q result) (sym is)
     (subst (λ (x : Core). Went s w plan answers x new q result) core (f l.0 (told ∙ came) l.1)))
 
 pub missing_polled : {W M V : Type 0} (s : Meaning W M V) (w : W) (plan : Plan) (answers : Answers) (old new : Core) (p q : CallValue M) (ticket : ℕ)
-    → ((later : Own) → answers (s.place p.machine) ≡ None → s.left w p.machine later answers ≡ Wait (s.place p.machine))
+    → ((later : Own) → answers (s.place p.runner) ≡ None → s.left w p.runner later answers ≡ Wait (s.place p.runner))
     → p.stage ≡ Asked ticket → reply_in (at old ticket) ≡ None → old.fault ≡ None → new ≡ old → q ≡ p
     → IsLeft s w plan answers p → Tells s old p answers → Polled s w plan answers old new p q poll.Pending
 missing_polled s w plan answers old new p q ticket waits is none unfailed core same left tells =
-    let l = subst (λ x. IsLeftAt s w plan answers p.machine x) is left in
-    let told : answers (s.place p.machine) ≡ reply_in (at old ticket) = subst (λ x. TellsAt s old p.machine x answers) is tells in
+    let l = subst (λ x. IsLeftAt s w plan answers p.runner x) is left in
+    let told : answers (s.place p.runner) ≡ reply_in (at old ticket) = subst (λ x. TellsAt s old p.runner x answers) is tells in
     inl (record { pending = refl; waits = l.1 [] ∙ waits [] (told ∙ none); unfailed = unfailed; core = core; same = same })
 
 -- ---- a value
@@ -170,7 +170,7 @@ pub done_leaves : {W M V : Type 0} (s : Meaning W M V) (core : Core) (q : CallVa
     → HoldsValue s core (then.Done value) → LeavesCall s core core q (poll.Ready value)
 done_leaves s core q value over own h =
     record {
-      held = held_ended s core q.machine q.stage over;
+      held = held_ended s core q.runner q.stage over;
       over = over_ready q.stage value over own;
       awaits = tt;
       holds = holds_ready s core value h;

@@ -80,7 +80,7 @@ use Rattle.call_state.specs.declared.told.Told.TheVariants as told
 use Rattle.call_state.specs.Told.{IsCounted}
 use Rattle.call_state.specs.Asked.{HoldsTicket, Submitted, queued_by, request_of}
 use Rattle.call_state.specs.Calls.{Cancels, IsGrantOf, IsHeld, IsHeldAt, IsNotOf, IsUnderWay, KeepsOtherTickets, cancelled, is_ended, CallValue}
-use Rattle.call_state.specs.Machines.{Meaning}
+use Rattle.call_state.specs.Runners.{Meaning}
 use Rattle.call_state.specs.Keeping.{IsDropped, KeepsHeld, KeepsGrants, StaysOpen}
 
 -- ---- an open session
@@ -486,7 +486,7 @@ held_still s old new m (Unsent asking) k h = h
 
 -- a call is under way still
 pub still_under_way : {W M V : Type 0} (s : Meaning W M V) (old new : Core) (call : CallValue M) → KeepsHeld old new → IsUnderWay s old call → IsUnderWay s new call
-still_under_way s old new call k h = record { over = h.over; held = held_still s old new call.machine call.stage k h.held }
+still_under_way s old new call k h = record { over = h.over; held = held_still s old new call.runner call.stage k h.held }
 
 -- and may be given up
 pub may_be_cancelled : {W M V : Type 0} (s : Meaning W M V) (core : Core) (call : CallValue M) → IsUnderWay s core call → IsHeld s core call

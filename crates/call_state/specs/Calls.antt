@@ -18,15 +18,15 @@ use Rattle.call_state.specs.declared.told.Told.{Told}
 use Rattle.call_state.specs.declared.told.Told.TheVariants as told
 use Rattle.call_state.specs.Asked.{HoldsTicket, IsReady, Submitted}
 use Rattle.call_state.specs.Keeping.{KeepsHeld, KeepsGrants, StaysOpen}
-use Rattle.call_state.specs.Machines.{GoesBehind, MayAsk, Meaning}
+use Rattle.call_state.specs.Runners.{GoesBehind, MayAsk, Meaning}
 use Rattle.call_state.specs.Told.{IsCounted, IsFormed, reply_of}
 
 -- ---- a state
 
--- what a call awaits, and its machine
+-- what a call awaits, and its runner
 pub record CallValue (M : Type 0) : Type 0 where
   pub stage : Stage
-  pub machine : M
+  pub runner : M
 
 -- the call has answered
 abbrev pub is_ended : Stage → Bool
@@ -38,13 +38,13 @@ abbrev pub ticket_of : Stage → Option ℕ
 ticket_of (Asked ticket) = Some ticket
 ticket_of other = None
 
--- what came may be given to a machine that awaits it
+-- what came may be given to a runner that awaits it
 pub record IsAllowed {W M V : Type 0} (s : Meaning W M V) (core : Core) (m : M) (t : Told) : Type 0 where
   pub allowed : allows (s.expected m) (reply_of t) ≡ true
   pub formed : IsFormed t
   pub counted : IsCounted core t
 
--- the core and the machine can go on with the stage
+-- the core and the runner can go on with the stage
 abbrev pub IsHeldAt : {W M V : Type 0} → Meaning W M V → Core → M → Stage → Type 0
 IsHeldAt s core m Ended = Unit {0}
 IsHeldAt s core m Ready = s.ready m
@@ -53,7 +53,7 @@ IsHeldAt s core m (Asked ticket) = HoldsTicket core ticket (s.expected m)
 IsHeldAt s core m (Came t) = IsAllowed s core m t
 
 abbrev pub IsHeld : {W M V : Type 0} → Meaning W M V → Core → CallValue M → Type 0
-IsHeld s core call = IsHeldAt s core call.machine call.stage
+IsHeld s core call = IsHeldAt s core call.runner call.stage
 
 -- From here a plan goes on as the call does.
 abbrev pub IsLeftAt : {W M V : Type 0} → Meaning W M V → W → Plan → Answers → M → Stage → Type 0
@@ -63,7 +63,7 @@ IsLeftAt s w plan answers m (Unsent asking) = GoesBehind s w plan answers asking
 IsLeftAt s w plan answers m other = s.known m answers × ((later : Own) → plan later answers ≡ s.left w m later answers)
 
 abbrev pub IsLeft : {W M V : Type 0} → Meaning W M V → W → Plan → Answers → CallValue M → Type 0
-IsLeft s w plan answers call = IsLeftAt s w plan answers call.machine call.stage
+IsLeft s w plan answers call = IsLeftAt s w plan answers call.runner call.stage
 
 -- the reply to the request that is awaited is the one that the core, or the call, has
 abbrev pub TellsAt : {W M V : Type 0} → Meaning W M V → Core → M → Stage → Answers → Type 0
@@ -72,7 +72,7 @@ TellsAt s core m (Came t) answers = answers (s.place m) ≡ Some (reply_of t)
 TellsAt s core m other answers = Unit {0}
 
 abbrev pub Tells : {W M V : Type 0} → Meaning W M V → Core → CallValue M → Answers → Type 0
-Tells s core call answers = TellsAt s core call.machine call.stage answers
+Tells s core call answers = TellsAt s core call.runner call.stage answers
 
 -- ---- a start and a poll
 
@@ -85,7 +85,7 @@ polled_core core other = core
 pub record Waits {W M V : Type 0} (s : Meaning W M V) (plan : Plan) (answers : Answers) (old new : Core)
     (p q : CallValue M) (result : Poll (Result V Error)) : Type 0 where
   pub pending : result ≡ poll.Pending
-  pub waits : plan [] answers ≡ Wait (s.place p.machine)
+  pub waits : plan [] answers ≡ Wait (s.place p.runner)
   pub unfailed : old.fault ≡ None
   pub core : new ≡ old
   pub same : q ≡ p
@@ -96,8 +96,8 @@ pub record AsksAndAwaits {W M V : Type 0} (s : Meaning W M V) (w : W) (plan : Pl
   pub asking : Asking
   pub ticket : ℕ
   pub awaits : q.stage ≡ Asked ticket
-  pub behind : GoesBehind s w plan answers asking q.machine
-  pub cut : s.cut q.machine asking
+  pub behind : GoesBehind s w plan answers asking q.runner
+  pub cut : s.cut q.runner asking
   pub submitted : Submitted old asking ticket new
 
 -- the plan asks or waits
@@ -114,7 +114,7 @@ Went s w plan answers old new q poll.Pending = AsksAndAwaits s w plan answers ol
 Went s w plan answers old new q (poll.Ready (Err error.OutOfMemory)) = IsLeft s w plan answers q × (new ≡ old)
 Went s w plan answers old new q (poll.Ready (Err (error.BackgroundTaskFailure fault))) = (old.fault ≡ Some fault)
     × (is_ended q.stage ≡ true) × IsUnfinished (plan [] answers)
-Went s w plan answers old new q (poll.Ready value) = (plan [] answers ≡ s.ended w q.machine value)
+Went s w plan answers old new q (poll.Ready value) = (plan [] answers ≡ s.ended w q.runner value)
     × (is_ended q.stage ≡ true) × (new ≡ old)
 
 -- what a poll answered, by the next move of the plan
@@ -141,21 +141,21 @@ HoldsReady s core other = Unit {0}
 
 -- ---- what a call of each function needs and did
 
--- a request may be submitted for a machine whose call awaits nothing
+-- a request may be submitted for a runner whose call awaits nothing
 pub record MaySend {W M V : Type 0} (s : Meaning W M V) (core : Core) (call : CallValue M) (asking : Asking) : Type 0
   where
     pub over : is_ended call.stage ≡ true
     pub ready : IsReady core
-    pub asks : MayAsk s asking call.machine
+    pub asks : MayAsk s asking call.runner
     pub again : s.again ≡ true
 
--- a machine whose call awaits nothing may go on with what came
+-- a runner whose call awaits nothing may go on with what came
 pub record MayGoOn {W M V : Type 0} (s : Meaning W M V) (core : Core) (call : CallValue M) (t : Told) : Type 0 where
   pub over : is_ended call.stage ≡ true
   pub ready : s.again ≡ true → IsReady core
-  pub came : IsAllowed s core call.machine t
+  pub came : IsAllowed s core call.runner t
 
--- a call has not answered, and the core and its machine can go on
+-- a call has not answered, and the core and its runner can go on
 pub record IsUnderWay {W M V : Type 0} (s : Meaning W M V) (core : Core) (call : CallValue M) : Type 0 where
   pub over : is_ended call.stage ≡ false
   pub held : IsHeld s core call
@@ -165,7 +165,7 @@ pub record BeginsCall {W M V : Type 0} (s : Meaning W M V) (asking : Asking) (m 
     (call : CallValue M) :
     Type 0 where
   pub under_way : IsUnderWay s new call
-  pub machine : call.machine ≡ m
+  pub runner : call.runner ≡ m
   pub ticket : ℕ
   pub awaits : call.stage ≡ Asked ticket
   pub submitted : Submitted old asking ticket new
@@ -196,7 +196,7 @@ KeepsOtherTickets old new before after = (ticket : ℕ) (kind : Expected) → Is
     → HoldsTicket old ticket kind
     → HoldsTicket new ticket kind × IsNotOf after ticket
 
--- what going on with a machine leaves, whatever the plan
+-- what going on with a runner leaves, whatever the plan
 pub record LeavesCall {W M V : Type 0} (s : Meaning W M V) (old new : Core) (q : CallValue M)
     (result : Poll (Result V Error)) : Type 0 where
   pub held : IsHeld s new q
@@ -207,7 +207,7 @@ pub record LeavesCall {W M V : Type 0} (s : Meaning W M V) (old new : Core) (q :
   pub others : KeepsOtherTickets old new Ended q.stage
 
 -- A poll did the next move of each plan that the call is what is left of, whatever its replies to come. The call may be
--- polled on or given up, and awaits a reply where it has no answer; its machine stays what it was, the core holds what
+-- polled on or given up, and awaits a reply where it has no answer; its runner stays what it was, the core holds what
 -- belongs to the value, every grant stays, what others await, and the session open.
 pub record Stepped {W M V : Type 0} (s : Meaning W M V) (old new : Core) (p q : CallValue M)
     (result : Poll (Result V Error)) : Type 0 where
@@ -219,7 +219,7 @@ pub record Stepped {W M V : Type 0} (s : Meaning W M V) (old new : Core) (p q : 
   pub holds : HoldsReady s new result
   pub grants : KeepsGrants old new
   pub others : KeepsOtherTickets old new p.stage q.stage
-  pub stays : s.stays p.machine q.machine
+  pub stays : s.stays p.runner q.runner
 
 -- ---- a cancel
 

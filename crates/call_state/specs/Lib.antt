@@ -1,5 +1,5 @@
 pub mod Told
 pub mod Asked
-pub mod Machines
+pub mod Runners
 pub mod Calls
 pub mod Keeping

@@ -7,12 +7,12 @@ ghost use Rattle.call_state.specs.declared.stage.Stage.TheVariants as stage;
 ghost use Rattle.call_state.specs.Asked.{IsReady};
 ghost use Rattle.call_state.specs.Calls.{BeginsCall, Cancels, IsHeld, LeavesCall, MayGoOn, MayPoll, MaySend, Started, Stepped, Went, is_ended, ticket_of};
 ghost use Rattle.call_state.specs.Keeping.{KeepsHeld};
-ghost use Rattle.call_state.specs.Machines.{GoesBehind, MayAsk};
+ghost use Rattle.call_state.specs.Runners.{GoesBehind, MayAsk};
 ghost use Rattle.call_state.specs.Told.{reply_of};
 
 use crate::asking::{Asking, Unsubmitted, refusal, submit};
-use crate::machine::{PlanMachine, Then};
 use crate::poll::Poll;
+use crate::runner::{PlanRunner, Then};
 use crate::stage::Stage;
 use crate::told::{Told, Untold, take_told};
 use sftp_core::{Core, Ended, Ticket};
@@ -25,7 +25,7 @@ use std::mem;
 #[must_use]
 pub struct Call<M> {
     stage: Stage,
-    machine: M,
+    runner: M,
 }
 
 impl<M> Model for Call<M> {
@@ -33,18 +33,18 @@ impl<M> Model for Call<M> {
 
     ghost Value = { CallValue M };
 
-    ghost view = { λ c. record { stage = c.stage; machine = c.machine } };
+    ghost view = { λ c. record { stage = c.stage; runner = c.runner } };
 }
 
-impl<M: PlanMachine> Call<M> {
+impl<M: PlanRunner> Call<M> {
     /// Submits a request of the call, and awaits its reply.
     fn send(&mut self, core: &mut Core, asking: Asking) -> Poll<Result<M::Value, Error>>
         requires { MaySend M.meaning core.old self.old asking }
         ensures went { (w : M.World) (plan : Plan) (answers : Answers)
-            → GoesBehind M.meaning w plan answers asking self.old.machine
+            → GoesBehind M.meaning w plan answers asking self.old.runner
             → Went M.meaning w plan answers core.old core.new self.new result }
         ensures leaves { LeavesCall M.meaning core.old core.new self.new result }
-        ensures machine { self.new.machine ≡ self.old.machine }
+        ensures runner { self.new.runner ≡ self.old.runner }
     {
         match submit(core, asking) {
             Ok(ticket) => {
@@ -64,14 +64,14 @@ impl<M: PlanMachine> Call<M> {
     /// Goes on with the reply that came.
     fn go_on(&mut self, core: &mut Core, told: Told) -> Poll<Result<M::Value, Error>>
         requires { MayGoOn M.meaning core.old self.old told }
-        ensures went { (w : M.World) (plan : Plan) (answers : Answers) → M.meaning.known self.old.machine answers
-            → answers (M.meaning.place self.old.machine) ≡ Some (reply_of told)
-            → ((later : Own) → plan later answers ≡ M.meaning.left w self.old.machine later answers)
+        ensures went { (w : M.World) (plan : Plan) (answers : Answers) → M.meaning.known self.old.runner answers
+            → answers (M.meaning.place self.old.runner) ≡ Some (reply_of told)
+            → ((later : Own) → plan later answers ≡ M.meaning.left w self.old.runner later answers)
             → Went M.meaning w plan answers core.old core.new self.new result }
         ensures leaves { LeavesCall M.meaning core.old core.new self.new result }
-        ensures stays { M.meaning.stays self.old.machine self.new.machine }
+        ensures stays { M.meaning.stays self.old.runner self.new.runner }
     {
-        match self.machine.on(told) {
+        match self.runner.on(told) {
             Then::Done(value) => Poll::Ready(value),
             Then::Ask(asking) => self.send(core, asking),
             Then::Short(told) => {
@@ -92,7 +92,7 @@ impl<M: PlanMachine> Call<M> {
     {
         match self.stage.take() {
             Stage::Ended => unreachable!(),
-            Stage::Ready => match self.machine.at_once() {
+            Stage::Ready => match self.runner.at_once() {
                 Some(value) => Poll::Ready(Ok(value)),
                 None => unreachable!(),
             },
@@ -110,27 +110,27 @@ impl<M: PlanMachine> Call<M> {
     }
 
     /// Submits the first request of a call. Refused by a kept fault or for want of memory, the core is as before.
-    pub fn ask(core: &mut Core, asking: Asking, machine: M) -> Result<Call<M>, Error>
+    pub fn ask(core: &mut Core, asking: Asking, runner: M) -> Result<Call<M>, Error>
         requires ready { IsReady core.old }
-        requires asks { MayAsk M.meaning asking machine }
+        requires asks { MayAsk M.meaning asking runner }
         ensures started { (w : M.World) (refused : ErrorValue → Move) (plan : Plan) (answers : Answers)
-            → GoesBehind M.meaning w plan answers asking machine
+            → GoesBehind M.meaning w plan answers asking runner
             → Started M.meaning w refused plan answers core.old core.new result }
-        ensures begins { IfOk result (BeginsCall M.meaning asking machine core.old core.new) }
+        ensures begins { IfOk result (BeginsCall M.meaning asking runner core.old core.new) }
         ensures keeps { KeepsHeld core.old core.new }
     {
         match submit(core, asking) {
             Ok(ticket) => Ok(Call {
                 stage: Stage::Asked(ticket),
-                machine,
+                runner,
             }),
             Err(e) => Err(refusal(e)),
         }
     }
 }
 
-/// A machine that works on nothing of its caller.
-pub trait Alone: PlanMachine {}
+/// A runner that works on nothing of its caller.
+pub trait Alone: PlanRunner {}
 
 impl<M: Alone> Call<M> {
     /// Polls what the call awaits, and goes on with it. `Pending` exactly where the reply was not taken and no fault is
@@ -139,65 +139,65 @@ impl<M: Alone> Call<M> {
     /// `BackgroundTaskFailure`, where the reply was not taken, or a further request is asked, and the core keeps a
     /// fault; `OutOfMemory`, after which the call may be polled again. The errors of the call's own are its plan's.
     pub fn poll(&mut self, core: &mut Core) -> Poll<Result<M::Value, Error>>
-        requires { MayPoll M.PlanMachine.meaning core.old self.old }
-        ensures { Stepped M.PlanMachine.meaning core.old core.new self.old self.new result }
+        requires { MayPoll M.PlanRunner.meaning core.old self.old }
+        ensures { Stepped M.PlanRunner.meaning core.old core.new self.old self.new result }
     {
         self.step(core)
     }
 }
 
-impl<M: PlanMachine> Call<M> {
+impl<M: PlanRunner> Call<M> {
     /// Gives the call up: its request stays under way, its reply is dropped, and a handle that came or comes is closed.
     pub fn cancel(self, core: &mut Core)
         requires { IsHeld M.meaning core.old self }
         ensures { Cancels core.old core.new self.stage }
     {
-        let Call { stage, machine: _ } = self;
+        let Call { stage, runner: _ } = self;
         stage.cancel(core);
     }
 
     /// Lets the call go where its core was given up.
     pub fn let_go(self, core: Ended) {
-        let Call { stage, machine: _ } = self;
+        let Call { stage, runner: _ } = self;
         stage.let_go(core);
     }
 }
 
 impl<M> Call<M> {
     /// A call that needs no request: its first poll gives the value.
-    pub fn ready(machine: M) -> Call<M>
-        ensures { result ≡ record { stage = stage.Ready; machine = machine } }
+    pub fn ready(runner: M) -> Call<M>
+        ensures { result ≡ record { stage = stage.Ready; runner = runner } }
     {
         Call {
             stage: Stage::Ready,
-            machine,
+            runner,
         }
     }
 
     /// A call that awaits a ticket that is out.
-    pub fn awaiting(ticket: Ticket, machine: M) -> Call<M>
-        ensures { result ≡ record { stage = stage.Asked ticket; machine = machine } }
+    pub fn awaiting(ticket: Ticket, runner: M) -> Call<M>
+        ensures { result ≡ record { stage = stage.Asked ticket; runner = runner } }
     {
         Call {
             stage: Stage::Asked(ticket),
-            machine,
+            runner,
         }
     }
 
     /// How the call goes on.
-    pub fn machine(&self) -> &M
-        ensures { result.now ≡ self.now.machine }
+    pub fn runner(&self) -> &M
+        ensures { result.now ≡ self.now.runner }
     {
-        &self.machine
+        &self.runner
     }
 
-    /// Puts another machine in the place of the call's, and hands that one out. What the call awaits stays: it may be
-    /// polled where the new machine awaits the same.
-    pub fn replace_machine(&mut self, machine: M) -> M
-        ensures was { result ≡ self.old.machine }
-        ensures now { self.new ≡ record self.old { machine = machine } }
+    /// Puts another runner in the place of the call's, and hands that one out. What the call awaits stays: it may be
+    /// polled where the new runner awaits the same.
+    pub fn replace_runner(&mut self, runner: M) -> M
+        ensures was { result ≡ self.old.runner }
+        ensures now { self.new ≡ record self.old { runner = runner } }
     {
-        mem::replace(&mut self.machine, machine)
+        mem::replace(&mut self.runner, runner)
     }
 
     /// The number of the request whose reply is awaited.

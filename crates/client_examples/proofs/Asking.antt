@@ -29,13 +29,13 @@ use Rattle.client_examples.specs.Sizes.{AreAwaited, IsAsked, IsAwaiting}
 awaiting_by : (core : Core) (call : CallValue Telling) (ticket : ℕ) → IsUnderWay telling core call → call.stage ≡ Asked ticket
     → IsAwaiting core call ticket
 awaiting_by core call ticket h is =
-    record { awaits = is; holds = subst (λ (s : Stage). IsHeldAt telling core call.machine s) is h.held }
+    record { awaits = is; holds = subst (λ (s : Stage). IsHeldAt telling core call.runner s) is h.held }
 
 pub under_way_of : (core : Core) (call : CallValue Telling) (ticket : ℕ) → IsAwaiting core call ticket → IsUnderWay telling core call
 under_way_of core call ticket h =
     record {
       over = ap is_ended h.awaits;
-      held = subst (λ (s : Stage). IsHeldAt telling core call.machine s) (sym h.awaits) h.holds;
+      held = subst (λ (s : Stage). IsHeldAt telling core call.runner s) (sym h.awaits) h.holds;
     }
 
 -- a lane in which nothing is open, and no reply that came
@@ -57,7 +57,7 @@ asked_by path old new call starts left = from (starts.starts nowhere (λ place. 
       free = asks.submitted.free;
       left = left;
     }
-    from (inr ready) = absurd (subst (λ (s : Stage). IsHeldAt telling new.core call.machine s) ready.1 starts.under_way.held)
+    from (inr ready) = absurd (subst (λ (s : Stage). IsHeldAt telling new.core call.runner s) ready.1 starts.under_way.held)
 
 -- what is held is not free
 held_apart : (core : Core) (one two : ℕ) (kind : Expected) → HoldsTicket core one kind → at core two ≡ None → one ≢ two

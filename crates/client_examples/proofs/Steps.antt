@@ -9,7 +9,7 @@ use Rattle.call_state.specs.Calls.{CallValue}
 use Rattle.sftp_core.specs.Grant.{GrantValue}
 use Rattle.sftp_core.specs.Table.{asks_handle}
 use Rattle.call_state.specs.Keeping.{KeepsHeld}
-use Rattle.call_state.specs.Machines.{Meaning}
+use Rattle.call_state.specs.Runners.{Meaning}
 use Rattle.sftp_model.specs.declared.slot.FileAt.{FileAt}
 use Rattle.call_state.proofs.Keeping.{grant_kept}
 use Rattle.sftp_file.specs.Files.{FileValue, Starts}

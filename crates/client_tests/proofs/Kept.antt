@@ -53,7 +53,7 @@ pub bytes_stay : (old new : Core) (call : CallValue ReadAllValue) → KeepsHeld 
 bytes_stay old new call k on h = (still_under_way reading_all old new call k (record { over = on; held = h })).held
 
 pub bytes_held : (old new : Core) (p q : CallValue ReadAllValue) (before after : FileValue) (result : Poll (Result Filled ReadAllError))
-    → ReadsAll old new p q before after result → IsHeld reading_all new q × (q.machine.file ≡ file_at after)
+    → ReadsAll old new p q before after result → IsHeld reading_all new q × (q.runner.file ≡ file_at after)
 bytes_held old new p q before after result h = reads_held old new p q before after result h
 
 pub copy_stays : (old new : Core) (call : CallValue CopyValue) → KeepsHeld old new → is_ended call.stage ≡ false

@@ -146,9 +146,9 @@ pub(crate) fn answer<M: Alone>(
     frame: &[u8],
     reply: &[u8],
 ) -> Poll<Result<M::Value, Error>>
-    requires call { IsUnderWay M.PlanMachine.meaning core.old call }
-    requires once { M.PlanMachine.meaning.again ≡ false }
-    ensures { HoldsReady M.PlanMachine.meaning core.new result }
+    requires call { IsUnderWay M.PlanRunner.meaning core.old call }
+    requires once { M.PlanRunner.meaning.again ≡ false }
+    ensures { HoldsReady M.PlanRunner.meaning core.new result }
 {
     let mut call = call;
     assert!(rt; may_ask(core));

@@ -66,9 +66,9 @@ fn answer_on<M: OnFile>(
     row: &Row,
 ) -> (bool, Poll<Result<M::Value, Error>>)
     requires opened { IsSome (info_of core.old.phase) }
-    requires call { IsUnderWay M.PlanMachine.meaning core.old call }
-    requires once { M.PlanMachine.meaning.again ≡ false }
-    requires stands { M.file call.machine ≡ file_at file.old }
+    requires call { IsUnderWay M.PlanRunner.meaning core.old call }
+    requires once { M.PlanRunner.meaning.again ≡ false }
+    requires stands { M.file call.runner ≡ file_at file.old }
 {
     let mut call = call;
     let sent = exchanged(core, row);

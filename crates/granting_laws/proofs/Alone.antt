@@ -10,7 +10,7 @@ use Rattle.session_model.specs.declared.entry.Entry.TheVariants as entry
 use Rattle.session_model.specs.declared.event.Event.TheVariants.{Submit, Send, Take}
 use Rattle.session_model.specs.declared.event.Owner.TheVariants as owner
 use Rattle.session_model.specs.Calls.{Setting, added}
-use Rattle.session_model.specs.Grants.{closed, first_below, is_grant, is_granted, is_orphan, letting_go, orphan}
+use Rattle.session_model.specs.Grants.{closed, first_below, is_grant, is_granted, is_due, letting_go, next_due}
 use Rattle.session_model.specs.Readings.{AskedRequest, answer, asked, asked_at, bearer, ended, is_at, own}
 use Rattle.session_model.specs.Served.{requests_of}
 use Rattle.session_model.specs.Turns.{ClosesTo, RulesTo, is_full}
@@ -66,9 +66,9 @@ none_below f zero none = refl
 none_below f (suc n) none = rw (none_below f n none, none n) refl
 
 -- nothing is to be closed
-pub none_orphan : (s : Setting) (past : List Entry) → GrantsNone past → orphan s past ≡ None
-none_orphan s past g =
-    rw (lets_none_go s past g) (none_below (is_orphan s past (closed s past)) (asked past) (λ k. rw (grants_none past k g) refl))
+pub none_next_due : (s : Setting) (past : List Entry) → GrantsNone past → next_due s past ≡ None
+none_next_due s past g =
+    rw (lets_none_go s past g) (none_below (is_due s past (closed s past)) (asked past) (λ k. rw (grants_none past k g) refl))
 
 pub none_added : (past : List Entry) (lane : ℕ) → GrantsNone past → added past lane ≡ []
 none_added [] lane g = refl
@@ -81,16 +81,16 @@ none_added (_ ∷ past) lane g = none_added past lane g
 -- ---- what follows an event
 
 -- where nothing is to be closed, no CLOSE follows
-closes_same : (s : Setting) (before now : List Entry) → orphan s before ≡ None → ClosesTo s before now → now ≡ before
+closes_same : (s : Setting) (before now : List Entry) → next_due s before ≡ None → ClosesTo s before now → now ≡ before
 closes_same s before [] none e = sym e
 closes_same s before (e ∷ past) none (inl same) = sym same
 closes_same s before (e ∷ past) none (inr (due, rest)) =
     absurd (let same : past ≡ before = closes_same s before past none rest in
-    let some : orphan s before ≡ Some due.0 = subst (λ (p : List Entry). orphan s p ≡ Some due.0) same due.1.0 in
+    let some : next_due s before ≡ Some due.0 = subst (λ (p : List Entry). next_due s p ≡ Some due.0) same due.1.0 in
     let both : None ≡ Some due.0 = sym none ∙ some in cc)
 
 -- a Send at most
-pub through : (P : List Entry → Type 0) (s : Setting) (before now : List Entry) → ((p : List Entry) → P p → P (entry.Event Send ∷ p)) → orphan s before ≡ None
+pub through : (P : List Entry → Type 0) (s : Setting) (before now : List Entry) → ((p : List Entry) → P p → P (entry.Event Send ∷ p)) → next_due s before ≡ None
     → RulesTo s before now → P before → P now
 through P s before now sends none to p =
     let same : to.0 ≡ before = closes_same s before to.0 none to.1.0.0 in

@@ -64,7 +64,7 @@ use Rattle.session_model.specs.Served.{requests_of}
 use Rattle.session_model.specs.Turns.{MovesBy, RulesTo, Stage, TurnTo}
 use Rattle.session_model.proofs.CountLaws.{count_pos}
 use Rattle.session_model.proofs.RequestLaws.{answer_beyond, answer_other, sent_asked}
-use Rattle.granting_laws.proofs.Alone.{GrantsNone, IsQuiet, Told, asked_quiet, none_added, none_orphan, through, told}
+use Rattle.granting_laws.proofs.Alone.{GrantsNone, IsQuiet, Told, asked_quiet, none_added, none_next_due, through, told}
 use Rattle.granting_laws.specs.FirstMkdirs.{unless_too_long, mkdir_of}
 
 -- ---- the calls
@@ -268,11 +268,11 @@ step_rests s lane calls n before now go (g, (r, far)) to =
         let o : Outcome = outcome.Refused (error.IOError kind.PathTooLong) in
         let new : List Entry = entry.Event (End lane (ended past lane) o) ∷ past in
         let rest = rests_end lane calls past o path (ended past lane) is r.later r.came made in
-        through (Is lane (Goes1 calls n)) s new now.past (λ p h. h) (none_orphan s new g) to.1
+        through (Is lane (Goes1 calls n)) s new now.past (λ p h. h) (none_next_due s new g) to.1
         (g, inl (rest.0, far_next calls n (told lane past) (told lane new) far rest.1))
     by_length path is false short to =
         let new : List Entry = entry.Event (Submit (owner.Call lane (ended past lane)) to.1.0 (mkdir_of path)) ∷ past in
-        through (Is lane (Goes1 calls n)) s new now.past (λ p h. h) (none_orphan s new (quiet_mkdir path, g)) to.1.1.1
+        through (Is lane (Goes1 calls n)) s new now.past (λ p h. h) (none_next_due s new (quiet_mkdir path, g)) to.1.1.1
         (asks_now s lane calls n past path to.1.0 g r far is short)
 
     by_call : (c : Option Call) → slice_get calls (ended past lane) ≡ c
@@ -338,7 +338,7 @@ step_has s lane calls n before now go (g, (h, far)) to =
     let rest = rests_end lane calls past d.0 h.asks.path (ended past lane) h.asks.is h.asks.later h.came
     (h.asks.made ∙ ap (λ (w : List Request). mkdirs_of (take (ended past lane) calls) ++ w) (sym fits)) in
     let new : List Entry = entry.Event (End lane (ended past lane) d.0) ∷ past in
-    through (Is lane (λ t. Rests calls t × IsFar calls (n + 1) t)) s new now.past (λ p k. k) (none_orphan s new g) ends.1
+    through (Is lane (λ t. Rests calls t × IsFar calls (n + 1) t)) s new now.past (λ p k. k) (none_next_due s new g) ends.1
     (g, (rest.0, far_next calls n (told lane past) (told lane new) far rest.1))
   where
     past : List Entry
@@ -354,7 +354,7 @@ pub flush_keeps : (P : List Entry → Type 0) (s : Setting) (before now : Stage)
 flush_keeps P s before now sends g p to = by_test (nat_lt (sent before.past) (asked before.past)) to
   where
     by_test : (b : Bool) → MatchBool b ((now.begun ≡ before.begun) × RulesTo s (entry.Event Send ∷ before.past) now.past) (now ≡ before) → P now.past
-    by_test true to = through P s (entry.Event Send ∷ before.past) now.past sends (none_orphan s (entry.Event Send ∷ before.past) g) to.1 (sends before.past p)
+    by_test true to = through P s (entry.Event Send ∷ before.past) now.past sends (none_next_due s (entry.Event Send ∷ before.past) g) to.1 (sends before.past p)
     by_test false e = subst (λ (x : Stage). P x.past) (sym e) p
 
 -- what waits is sent
@@ -368,7 +368,7 @@ flush_waits s lane calls n before now (g, (w, far)) to = by_test (nat_lt (sent b
     by_test : (b : Bool) → nat_lt (sent before.past) (asked before.past) ≡ b
         → MatchBool b ((now.begun ≡ before.begun) × RulesTo s (entry.Event Send ∷ before.past) now.past) (now ≡ before) → IsSent calls lane n now.past
     by_test true is to = through (IsSent calls lane n) s (entry.Event Send ∷ before.past) now.past
-        (λ p h. (h.0, (h.1.0, (h.1.0.there, h.1.1.1)))) (none_orphan s (entry.Event Send ∷ before.past) g) to.1 (g, (w, (w.there, far)))
+        (λ p h. (h.0, (h.1.0, (h.1.0.there, h.1.1.1)))) (none_next_due s (entry.Event Send ∷ before.past) g) to.1 (g, (w, (w.there, far)))
     by_test false is e = subst (λ (x : Stage). IsSent calls lane n x.past) (sym e)
         (g, (w, (let ge : asked before.past ≤ sent before.past = grind (arith, nat_tests) in let lt = w.there in omega (arith, ge, lt), far)))
 
@@ -442,7 +442,7 @@ take_waits s lane calls n before now (g, (w, (is_sent, far))) to = by_test (nat_
         let le : sent past ≤ asked past = sent_asked past in omega (arith, lt, le)) may.1.0.2 in
         let quiet : is_handle y ≡ false = replies_quiet past (asked_at past may.0) may.0 y g refl may.1.1 in
         let new : List Entry = entry.Event (Take id y) ∷ past in
-        through (Is lane (λ t. Has calls t × IsFar calls n t)) s new now.past (λ p h. h) (none_orphan s new (quiet, g)) to.1.1.1.1
+        through (Is lane (λ t. Has calls t × IsFar calls n t)) s new now.past (λ p h. h) (none_next_due s new (quiet, g)) to.1.1.1.1
         (taken id y may.0 same may.1.0.0 quiet)
     by_test false is e =
         absurd (let none : is_none (answer past place) ≡ true = rw (w.open_yet) refl in

@@ -21,7 +21,7 @@ use Rattle.session_model.specs.declared.event.Owner.TheVariants as owner
 use Rattle.session_model.specs.declared.turn.Turn.{Turn}
 use Rattle.session_model.specs.declared.turn.Turn.TheVariants as turn
 use Rattle.session_model.specs.Calls.{Setting, current, lane_calls, move_at, move_of, site_of}
-use Rattle.session_model.specs.Grants.{orphan}
+use Rattle.session_model.specs.Grants.{next_due}
 use Rattle.session_model.specs.Journals.{IsJournal, IsNext, MayCome, MayTake, MustClose, cancelled_end}
 use Rattle.session_model.specs.Readings.{answer, asked, awaited, ended, last_cancel, outcomes_of, own, sent}
 use Rattle.session_model.specs.Runs.{at_first, DrainsTo, EndsTo, IsRun, LetsGoTo, Opens, RoundsTo, TurnsTo, round_of}
@@ -127,14 +127,14 @@ record EndsBy (s : Setting) (past : List Entry) (lane : ℕ) (o : Outcome) : Typ
 ends_by : (s : Setting) (past : List Entry) (lane k : ℕ) (o : Outcome) → CancelsNone past → IsNext s past (entry.Event (End lane k o)) → EndsBy s past lane o
 ends_by s past lane k o none next = by_cancel (last_cancel past) (none_cancels past none) next
   where
-    by_orphan : (g : Option ℕ) → MatchOption g (MayCome s past (entry.Event (End lane k o))) (λ grant. MustClose past grant (entry.Event (End lane k o)))
+    by_next_due : (g : Option ℕ) → MatchOption g (MayCome s past (entry.Event (End lane k o))) (λ grant. MustClose past grant (entry.Event (End lane k o)))
         → EndsBy s past lane o
-    by_orphan None may = record { site = may.1.0; moves = may.1.1 }
-    by_orphan (Some g) must = absurd (cc must.1.1)
+    by_next_due None may = record { site = may.1.0; moves = may.1.1 }
+    by_next_due (Some g) must = absurd (cc must.1.1)
 
-    by_cancel : (c : Option ℕ) → c ≡ None → MatchOption c (MatchOption (orphan s past) (MayCome s past (entry.Event (End lane k o)))
+    by_cancel : (c : Option ℕ) → c ≡ None → MatchOption c (MatchOption (next_due s past) (MayCome s past (entry.Event (End lane k o)))
         (λ grant. MustClose past grant (entry.Event (End lane k o)))) (λ l. entry.Event (End lane k o) ≡ cancelled_end past l) → EndsBy s past lane o
-    by_cancel None is h = by_orphan (orphan s past) h
+    by_cancel None is h = by_next_due (next_due s past) h
     by_cancel (Some l) is h = absurd cc
 
 get_last : {A : Type 0} (xs : List A) (x : A) (n : ℕ) (y : A) → slice_get (xs ++ x ∷ []) n ≡ Some y → (slice_get xs n ≡ Some y) ⊎ (x ≡ y)

@@ -34,8 +34,8 @@ pub root_is_no_tree : IsTree (named (([], node.Directory) ∷ [])) → ⊥
 root_is_no_tree tree = absurd (let both : Some node.Directory ≡ None = tree.rootless in cc)
 
 -- a parent that is missing, and one that is a file
-pub orphan_is_no_tree : IsTree (named ((ab, node.File 0) ∷ [])) → ⊥
-orphan_is_no_tree tree = absurd (let both : false ≡ true = tree.parents in cc)
+pub next_due_is_no_tree : IsTree (named ((ab, node.File 0) ∷ [])) → ⊥
+next_due_is_no_tree tree = absurd (let both : false ≡ true = tree.parents in cc)
 
 pub in_a_file_is_no_tree : IsTree (named ((a, node.File 0) ∷ (ab, node.Directory) ∷ [])) → ⊥
 in_a_file_is_no_tree tree = absurd (let both : false ≡ true = tree.parents in cc)

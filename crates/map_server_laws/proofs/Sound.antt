@@ -45,7 +45,7 @@ use Rattle.session_model.specs.declared.entry.Entry.{Entry}
 use Rattle.session_model.specs.declared.entry.Entry.TheVariants as entry
 use Rattle.session_model.specs.Readings.{answer, bearer, is_at, last_cancel}
 use Rattle.session_model.specs.Calls.{Setting}
-use Rattle.session_model.specs.Grants.{orphan}
+use Rattle.session_model.specs.Grants.{next_due}
 use Rattle.session_model.specs.Journals.{IsJournal, MayCome, MustClose, cancelled_end}
 use Rattle.session_model.proofs.JournalLaws.{submit_free}
 use Rattle.session_model.specs.Shown.{Shows, IsFrameOf}
@@ -156,7 +156,7 @@ pub sound : (s : Setting) (tells : Bool) (past : List Entry) → (s.limits ≡ t
 sound s tells [] t ok k j f = tt
 sound s tells (entry.Event (Submit by id r) ∷ past) t ok k j f = (
   (submit_free s past by id r j.0).0,
-  fits_next s tells past by id r (last_cancel past) (orphan s past) t ok j.1
+  fits_next s tells past by id r (last_cancel past) (next_due s past) t ok j.1
       (grants_fit past f) k j.0,
   sound s tells past t ok k j.1 f,
 )

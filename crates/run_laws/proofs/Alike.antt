@@ -15,7 +15,7 @@ use Rattle.session_model.specs.declared.entry.Entry.{Entry}
 use Rattle.session_model.specs.declared.entry.Entry.TheVariants as entry
 use Rattle.session_model.specs.Readings.{asked, sent, awaited, ended, unanswered}
 use Rattle.session_model.specs.Calls.{Setting, current, move_of}
-use Rattle.session_model.specs.Grants.{orphan}
+use Rattle.session_model.specs.Grants.{next_due}
 use Rattle.session_model.specs.Journals.{close_of}
 use Rattle.session_model.specs.Turns.{Stage, TurnTo, MovesBy, RulesTo, SettlesTo, ClosesTo, is_full, begun_with, begun_but}
 use Rattle.session_model.specs.Runs.{TurnsTo, round_of, EndsTo, LetsGoTo, DrainsTo}
@@ -31,7 +31,7 @@ use Rattle.run_laws.proofs.Placed.{
   placed_ended,
   placed_current,
   placed_move,
-  placed_orphan,
+  placed_next_due,
 }
 use Rattle.run_laws.proofs.Back.{GoesBack, rules_back, turns_back, Repeats, HasCall, Awaits, rounds_repeat, drains_repeat, repeats_back}
 
@@ -93,13 +93,13 @@ with_close None past = past
 with_close (Some grant) past = close_of past grant (asked past) ∷ past
 
 abbrev close_next : Setting → List Entry → List Entry
-close_next s past = with_close (orphan s past) past
+close_next s past = with_close (next_due s past) past
 
-closed_next : (s : Setting) (past : List Entry) (grant id : ℕ) → orphan s past ≡ Some grant
+closed_next : (s : Setting) (past : List Entry) (grant id : ℕ) → next_due s past ≡ Some grant
     → placed (close_of past grant id ∷ past) ≡ close_next s (placed past)
 closed_next s past grant id due =
     (λ i. entry.Event (Submit owner.Close (sym (placed_asked past) i) (request.Close (handle_of (sym (placed_answers past) i grant)))) ∷ placed past)
-    ∙ sym (ap (λ (g : Option ℕ). with_close g (placed past)) (placed_orphan s past ∙ due))
+    ∙ sym (ap (λ (g : Option ℕ). with_close g (placed past)) (placed_next_due s past ∙ due))
 
 closes_turn : (s : Setting) (before now : List Entry) → ClosesTo s before now → (n : ℕ) × (placed now ≡ turned n (close_next s) (placed before))
 closes_turn s before [] e = (zero, ap placed (sym e))
@@ -111,8 +111,8 @@ closes_turn s before (e ∷ past) (inr (due, rest)) =
     (closed_next s past due.0 due.1.1.0 due.1.0) in
     (suc old.0, new ∙ (ap (close_next s) old.1 ∙ sym (turned_last old.0 (close_next s) (placed before))))
 
-settled_still : (s : Setting) (past : List Entry) → orphan s past ≡ None → close_next s (placed past) ≡ placed past
-settled_still s past e = ap (λ (g : Option ℕ). with_close g (placed past)) (placed_orphan s past ∙ e)
+settled_still : (s : Setting) (past : List Entry) → next_due s past ≡ None → close_next s (placed past) ≡ placed past
+settled_still s past e = ap (λ (g : Option ℕ). with_close g (placed past)) (placed_next_due s past ∙ e)
 
 settles_same : (s : Setting) (a b now_a now_b : List Entry) → Same a b → SettlesTo s a now_a → SettlesTo s b now_b → Same now_a now_b
 settles_same s a b now_a now_b h x y =

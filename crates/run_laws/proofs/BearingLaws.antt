@@ -32,11 +32,11 @@ use Rattle.session_model.specs.declared.event.Event.TheVariants.{Submit}
 use Rattle.session_model.specs.declared.event.Owner.{Owner}
 use Rattle.session_model.specs.declared.event.Owner.TheVariants as owner
 use Rattle.session_model.specs.Calls.{Setting, current, held_by, held_site, move_at, site_of}
-use Rattle.session_model.specs.Grants.{closed, closed_by, closes, first_below, holds, is_close, is_granted, is_held, is_one_of, is_unended_asker, orphan}
+use Rattle.session_model.specs.Grants.{closed, closed_by, closes, first_below, holds, is_close, is_granted, is_held, is_one_of, is_unended_asker, next_due}
 use Rattle.session_model.specs.Journals.{IsJournal, MayCome, MustClose, cancelled_end}
 use Rattle.session_model.specs.Readings.{answer, asked, ended, last_cancel, own}
 use Rattle.session_model.proofs.CallLaws.{has_place, next_submit}
-use Rattle.session_model.proofs.ClosedLaws.{IsClosing, closing, gone_loose, lane_there}
+use Rattle.session_model.proofs.ClosedLaws.{IsClosing, closing, gone_unheld, lane_there}
 use Rattle.session_model.proofs.GrantLaws.{any_passes, below_none, first_passes}
 use Rattle.session_model.proofs.HolderLaws.{may_of, own_asked, slots_owned}
 use Rattle.session_model.proofs.LetGoLaws.{granted_below}
@@ -210,7 +210,7 @@ first_held s past lane a later is =
 pub unclosed_held : (s : Setting) (past : List Entry) (g lane : ℕ) → IsJournal s past → lane < length s.lanes
     → holds s past g lane ≡ true → is_one_of (closed s past) g ≡ false
 unclosed_held s past g lane j there holder =
-    false_from_ne_true (is_one_of (closed s past) g) (λ e. both_ways (is_held s past g) (gone_loose s past g j e).1
+    false_from_ne_true (is_one_of (closed s past) g) (λ e. both_ways (is_held s past g) (gone_unheld s past g j e).1
     (any_passes (holds s past g) (length s.lanes) lane there holder))
 
 -- ---- what is submitted
@@ -270,11 +270,11 @@ close_bears : (s : Setting) (past : List Entry) (by : Owner) (id : ℕ) (handle 
     → IsJournal s (entry.Event (Submit by id (request.Close handle)) ∷ past) → handle ≡ h
     → BearsGrant s past by (request.Close handle) h
 close_bears s past by id handle h j b =
-    let c : IsClosing s past by id handle = closing s past by id handle j (λ g. gone_loose s past g j.1) in
+    let c : IsClosing s past by id handle = closing s past by id handle j (λ g. gone_unheld s past g j.1) in
     record {
       grant = c.grant;
       is = c.is;
-      came = grant_came (answer past c.grant) h c.loose.0 (c.bears ∙ b);
+      came = grant_came (answer past c.grant) h c.unheld.0 (c.bears ∙ b);
       unclosed =
           c.unclosed;
       may = closer_may s past by id c.grant handle j c.is;
@@ -282,7 +282,7 @@ close_bears s past by id handle h j b =
 
 -- what the session submits bears a handle in a CLOSE alone
 pub session_bears : (s : Setting) (past : List Entry) (id : ℕ) (r : Request) → IsJournal s (entry.Event (Submit owner.Close id r) ∷ past) → is_close r ≡ true
-session_bears s past id r j = by_due (last_cancel past) (orphan s past) j.0
+session_bears s past id r j = by_due (last_cancel past) (next_due s past) j.0
   where
     e : Entry
     e = entry.Event (Submit owner.Close id r)

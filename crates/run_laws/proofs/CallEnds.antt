@@ -43,7 +43,7 @@ use Rattle.session_model.specs.declared.entry.Entry.{Entry}
 use Rattle.session_model.specs.declared.entry.Entry.TheVariants as entry
 use Rattle.session_model.specs.declared.event.Event.TheVariants.{End}
 use Rattle.session_model.specs.Calls.{Setting, call_at, current, lane_calls, move_at, move_of, site_of}
-use Rattle.session_model.specs.Grants.{orphan}
+use Rattle.session_model.specs.Grants.{next_due}
 use Rattle.session_model.specs.Journals.{IsJournal, IsNext, MayCome, MustClose, cancelled_end}
 use Rattle.session_model.specs.Readings.{answer, ended, last_cancel, outcomes_of, own}
 use Rattle.run_laws.specs.CallsAmong.{HasEnded}
@@ -86,7 +86,7 @@ end_may : (s : Setting) (past : List Entry) (lane k : ℕ) (o : Outcome) → o �
     → IsNext s past (entry.Event (End lane k o)) → (last_cancel past ≡ None)
     × MayCome s past (entry.Event (End lane k o))
 end_may s past lane k o ne h =
-    calm_next (last_cancel past) (orphan s past) _ (λ g. MustClose past g (entry.Event (End lane k o)))
+    calm_next (last_cancel past) (next_due s past) _ (λ g. MustClose past g (entry.Event (End lane k o)))
     (λ l. entry.Event (End lane k o) ≡ cancelled_end past l) h
     (λ g m. cc (m.1.1)) (λ l e. ne (let same : o ≡ outcome.Cancelled = cc in same))
 

@@ -38,7 +38,7 @@ use Rattle.session_model.proofs.CallLaws.{ended_end, next_submit, next_take}
 use Rattle.session_model.proofs.CallsSoFar.{calls_so_far}
 use Rattle.session_model.proofs.RequestLaws.{answer_stays}
 use Rattle.session_model.specs.Calls.{Setting, current, move_at, site_of}
-use Rattle.session_model.specs.Grants.{orphan}
+use Rattle.session_model.specs.Grants.{next_due}
 use Rattle.session_model.specs.Journals.{IsJournal, IsNext, MayCome, MustClose, cancelled_end}
 use Rattle.session_model.specs.Readings.{answer, ended, last_cancel, own}
 use Rattle.plan_model.specs.declared.call.Call.{Call}
@@ -103,7 +103,7 @@ calm_next (Some n) g P Q R calm h f = absurd cc
 end_may : (s : Setting) (past : List Entry) (lane call : ℕ) (o : Outcome) → last_cancel past ≡ None
     → IsNext s past (entry.Event (End lane call o)) → MayCome s past (entry.Event (End lane call o))
 end_may s past lane call o calm h =
-    calm_next (last_cancel past) (orphan s past) _ (λ g. MustClose past g (entry.Event (End lane call o)))
+    calm_next (last_cancel past) (next_due s past) _ (λ g. MustClose past g (entry.Event (End lane call o)))
     (λ l. entry.Event (End lane call o) ≡ cancelled_end past l) calm h (λ g m. cc (m.1.1))
 
 -- A call that ended by its plan, with anything after its end.

@@ -44,7 +44,7 @@ use Rattle.session_model.specs.declared.entry.Entry.{Entry}
 use Rattle.session_model.specs.declared.entry.Entry.TheVariants as entry
 use Rattle.session_model.specs.declared.event.Event.TheVariants.{Cancel, End}
 use Rattle.session_model.specs.Calls.{GoesByPlan, Setting, call_at, current, has_waited, is_wait, lane_calls, move_at, move_of, site_left, site_of}
-use Rattle.session_model.specs.Grants.{orphan}
+use Rattle.session_model.specs.Grants.{next_due}
 use Rattle.session_model.specs.Journals.{IsJournal, MayCome, MustClose, cancelled_end, is_some_asked, may_cancel}
 use Rattle.session_model.specs.Readings.{answer, ended, last_cancel, own}
 use Rattle.session_model.proofs.CallLaws.{added_here, added_other, ended_end, ended_other, site_end, site_other}
@@ -235,7 +235,7 @@ some_there (Some c) some = (c, refl)
 -- an end behind a Cancel is one of the lane that was cancelled
 end_mine : (s : Setting) (past : List Entry) (lane k : ℕ) (o : Outcome) (l : ℕ)
     → IsJournal s (entry.Event (End lane k o) ∷ past) → last_cancel past ≡ Some l → l ≡ lane
-end_mine s past lane k o l j is = by_cancel (last_cancel past) (orphan s past) is j.0
+end_mine s past lane k o l j is = by_cancel (last_cancel past) (next_due s past) is j.0
   where
     e : Entry
     e = entry.Event (End lane k o)

@@ -12,7 +12,7 @@ use Rattle.session_model.specs.declared.entry.Entry.{Entry}
 use Rattle.session_model.specs.declared.entry.Entry.TheVariants as entry
 use Rattle.session_model.specs.Readings.{asked, asked_at, answer, sent}
 use Rattle.session_model.specs.Calls.{Setting}
-use Rattle.session_model.specs.Grants.{orphan}
+use Rattle.session_model.specs.Grants.{next_due}
 use Rattle.session_model.specs.Readings.{last_cancel}
 use Rattle.session_model.specs.Journals.{IsJournal, IsNext, MayCome, MustClose, cancelled_end}
 use Rattle.session_model.specs.Served.{counted, requests_of, requests_sent, is_query, IsPicked}
@@ -123,7 +123,7 @@ sent_has (_ ∷ past) p lt other = sent_has past p lt other
 next_setup : (s : Setting) (past : List Entry) (id : ℕ) (r : Request)
     → IsNext s past (entry.Event (Submit owner.Setup id r)) → MayCome s past (entry.Event (Submit owner.Setup id r))
 next_setup s past id r h =
-    next_by (last_cancel past) (orphan s past) _ (λ g. MustClose past g (entry.Event (Submit owner.Setup id r)))
+    next_by (last_cancel past) (next_due s past) _ (λ g. MustClose past g (entry.Event (Submit owner.Setup id r)))
     (λ l. entry.Event (Submit owner.Setup id r) ≡ cancelled_end past l) h
     (λ g m. cc (m.1.1)) (λ l e. cc e)
 

@@ -37,16 +37,16 @@ use Rattle.session_model.specs.Grants.{
   holds,
   any_below,
   is_one_of,
-  is_orphan,
+  is_due,
   first_below,
   letting_go,
-  orphan_at,
+  next_due_at,
   closed_by,
   closes,
   is_close,
   with_closed,
   closed,
-  orphan,
+  next_due,
 }
 use Rattle.session_model.specs.Served.{counted, requests_of, requests_sent, is_query, those_below, waiting, bears_query, taken, picked}
 use Rattle.session_model.specs.Turns.{is_full}
@@ -202,13 +202,13 @@ placed_holds : (s : Setting) (past : List Entry) (grant lane : ℕ) → holds s 
 placed_holds s past grant lane =
     λ i. has_grant (held_by (placed_current s past lane i) (placed_own_now past lane i) (placed_site s past lane i)) grant || placed_asker past lane grant i
 
-placed_orphans : (s : Setting) (past : List Entry) (gone : List (Option ℕ)) (place : ℕ) → is_orphan s (placed past) gone place ≡ is_orphan s past gone place
-placed_orphans s past gone place =
+placed_next_dues : (s : Setting) (past : List Entry) (gone : List (Option ℕ)) (place : ℕ) → is_due s (placed past) gone place ≡ is_due s past gone place
+placed_next_dues s past gone place =
     λ i. is_granted (placed_answer past place i) && not (any_below (λ lane. placed_holds s past place lane i) (length s.lanes)) && not (is_one_of gone place)
 
-orphan_same : (s : Setting) (past : List Entry) (gone : List (Option ℕ)) (site : Option Site) → orphan_at s (placed past) gone site ≡ orphan_at s past gone site
-orphan_same s past gone None = λ i. first_below (λ place. placed_orphans s past gone place i) (placed_asked past i)
-orphan_same s past gone (Some site) = refl
+next_due_same : (s : Setting) (past : List Entry) (gone : List (Option ℕ)) (site : Option Site) → next_due_at s (placed past) gone site ≡ next_due_at s past gone site
+next_due_same s past gone None = λ i. first_below (λ place. placed_next_dues s past gone place i) (placed_asked past i)
+next_due_same s past gone (Some site) = refl
 
 placed_letting : (s : Setting) (past : List Entry) → letting_go s (placed past) ≡ letting_go s past
 placed_letting s [] = refl
@@ -219,7 +219,7 @@ placed_letting s (_ ∷ past) = refl
 placed_closes : (s : Setting) (past : List Entry) (gone : List (Option ℕ)) (by : Owner) → closes s (placed past) gone by ≡ closes s past gone by
 placed_closes s past gone (owner.Call lane c) = λ i. closed_by (placed_call s past lane c i) (placed_site s past lane i)
 placed_closes s past gone owner.Setup = refl
-placed_closes s past gone owner.Close = ap (orphan_at s (placed past) gone) (placed_letting s past) ∙ orphan_same s past gone (letting_go s past)
+placed_closes s past gone owner.Close = ap (next_due_at s (placed past) gone) (placed_letting s past) ∙ next_due_same s past gone (letting_go s past)
 
 placed_closed : (s : Setting) (past : List Entry) → closed s (placed past) ≡ closed s past
 placed_closed s [] = refl
@@ -228,9 +228,9 @@ placed_closed s (entry.Event (Submit by id r) ∷ past) =
     λ i. with_closed (is_close r) (now i) (placed_closed s past i)
 placed_closed s (_ ∷ past) = placed_closed s past
 
-pub placed_orphan : (s : Setting) (past : List Entry) → orphan s (placed past) ≡ orphan s past
-placed_orphan s past = (λ i. orphan_at s (placed past) (placed_closed s past i) (placed_letting s past i))
-    ∙ orphan_same s past (closed s past) (letting_go s past)
+pub placed_next_due : (s : Setting) (past : List Entry) → next_due s (placed past) ≡ next_due s past
+placed_next_due s past = (λ i. next_due_at s (placed past) (placed_closed s past i) (placed_letting s past i))
+    ∙ next_due_same s past (closed s past) (letting_go s past)
 
 -- ---- picks
 

@@ -47,7 +47,7 @@ use Rattle.session_model.specs.Grants.{closed, closes, holds, is_asked_by, is_cl
 use Rattle.session_model.specs.Journals.{IsJournal, MayReply}
 use Rattle.session_model.specs.Readings.{AskedRequest, answer, asked, asked_at, ended, is_by, own}
 use Rattle.session_model.proofs.CallLaws.{asker_owns, has_place, next_submit, next_take}
-use Rattle.session_model.proofs.ClosedLaws.{gone_loose}
+use Rattle.session_model.proofs.ClosedLaws.{gone_unheld}
 use Rattle.session_model.proofs.HolderLaws.{slots_owned}
 use Rattle.session_model.proofs.LetGoLaws.{granted_below}
 use Rattle.session_model.proofs.PlannedLaws.{held_less}
@@ -262,7 +262,7 @@ front_of (x ∷ xs) y first later e = inr (
 none_closed : (s : Setting) (past : List Entry) (g : ℕ) → IsJournal s past → asked past ≤ g → is_one_of (closed s past) g ≡ false
 none_closed s past g j le =
     false_from_ne_true (is_one_of (closed s past) g) (λ e. let below : g < asked past =
-    granted_below past g (gone_loose s past g j e).0 in absurd (omega (arith, below, le)))
+    granted_below past g (gone_unheld s past g j e).0 in absurd (omega (arith, below, le)))
 
 call_first : (s : Setting) (past : List Entry) (lane n id : ℕ) (r : Request) (first : ℕ × Request) (later : Own)
     → IsJournal s (entry.Event (Submit (owner.Call lane n) id r) ∷ past) → own past lane n ++ (asked past, r) ∷ []

@@ -30,7 +30,7 @@ use Rattle.session_model.specs.declared.event.Event.TheVariants.{Submit}
 use Rattle.session_model.specs.declared.event.Owner.{Owner}
 use Rattle.session_model.specs.declared.event.Owner.TheVariants as owner
 use Rattle.session_model.specs.Calls.{Setting}
-use Rattle.session_model.specs.Grants.{closed, closes, first_below, holds, is_asked_by, is_close, is_one_of, orphan}
+use Rattle.session_model.specs.Grants.{closed, closes, first_below, holds, is_asked_by, is_close, is_one_of, next_due}
 use Rattle.session_model.specs.Readings.{AskedRequest, answer, asked, asked_at, own}
 
 -- ---- handles
@@ -87,7 +87,7 @@ used s (_ ∷ past) place h = used s past place h
 abbrev pub MayUse : Setting → List Entry → Owner → ℕ → Type 0
 MayUse s past (owner.Call lane call) g = holds s past g lane ≡ true
 MayUse s past owner.Setup g = ⊥
-MayUse s past owner.Close g = orphan s past ≡ Some g
+MayUse s past owner.Close g = next_due s past ≡ Some g
 
 -- The request, submitted next, bears the handle of a grant: a HANDLE brought it, the grant has no CLOSE yet, and who
 -- asks may use it.

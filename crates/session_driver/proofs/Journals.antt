@@ -8,7 +8,7 @@ use Rattle.session_model.specs.declared.entry.Entry.TheVariants as entry
 use Rattle.session_model.specs.Readings.{asked, sent, awaited, unanswered, count_below, answer}
 use Rattle.session_model.specs.Calls.{Setting}
 use Rattle.session_model.specs.Turns.{Stage, SendsTo, RulesTo, SettlesTo, FlushesBy, is_full}
-use Rattle.session_model.specs.Grants.{orphan}
+use Rattle.session_model.specs.Grants.{next_due}
 use Rattle.session_driver.specs.Session.{IsLater, LetsGo, Flushed}
 
 -- ---- later
@@ -43,7 +43,7 @@ some_unsent : (m a b : ℕ) → nat_lt m (a - b) ≡ true → nat_lt b a ≡ tru
 some_unsent m a b t = grind (arith, nat_tests)
 
 -- after a Send no rule acts
-sends_rules : (s : Setting) (past now : List Entry) → now ≡ entry.Event Send ∷ past → orphan s (entry.Event Send ∷ past)
+sends_rules : (s : Setting) (past now : List Entry) → now ≡ entry.Event Send ∷ past → next_due s (entry.Event Send ∷ past)
     ≡ None → RulesTo s (entry.Event Send ∷ past) now
 sends_rules s past now is none =
     subst (λ (w : List Entry). RulesTo s (entry.Event Send ∷ past) w) (sym is)
@@ -54,7 +54,7 @@ flush_turns s before now f = by_test (nat_lt (sent before.past) (asked before.pa
   where
     by_test : (b : Bool)
         → MatchBool b ((now ≡ record { past = entry.Event Send ∷ before.past; begun = before.begun })
-        × (orphan s (entry.Event Send ∷ before.past) ≡ None)) (now ≡ before)
+        × (next_due s (entry.Event Send ∷ before.past) ≡ None)) (now ≡ before)
         → MatchBool b ((now.begun ≡ before.begun) × RulesTo s (entry.Event Send ∷ before.past) now.past) (now ≡ before)
     by_test true f = (ap (λ (w : Stage). w.begun) f.0, sends_rules s before.past now.past (ap (λ (w : Stage). w.past) f.0) f.1)
     by_test false same = same
@@ -69,7 +69,7 @@ pub full_begun : (s : Setting) (before now : Stage) → Flushed s before now →
 full_begun s before now f = by_test (nat_lt (sent before.past) (asked before.past)) f
   where
     by_test : (b : Bool) → MatchBool b ((now ≡ record { past = entry.Event Send ∷ before.past; begun = before.begun })
-        × (orphan s (entry.Event Send ∷ before.past) ≡ None)) (now ≡ before) → now.begun ≡ before.begun
+        × (next_due s (entry.Event Send ∷ before.past) ≡ None)) (now ≡ before) → now.begun ≡ before.begun
     by_test true f = ap (λ (w : Stage). w.begun) f.0
     by_test false same = ap (λ (w : Stage). w.begun) same
 
@@ -94,7 +94,7 @@ flush_awaits s before now f some = by_test (nat_lt (sent before.past) (asked bef
   where
     by_test : (b : Bool) → nat_lt (sent before.past) (asked before.past) ≡ b
         → MatchBool b ((now ≡ record { past = entry.Event Send ∷ before.past; begun = before.begun })
-        × (orphan s (entry.Event Send ∷ before.past) ≡ None)) (now ≡ before) → 0 < awaited now.past
+        × (next_due s (entry.Event Send ∷ before.past) ≡ None)) (now ≡ before) → 0 < awaited now.past
     by_test true e f = subst (λ (w : Stage). 0 < awaited w.past) (sym f.0) some
     by_test false e same =
         let le = not_below (asked before.past) (sent before.past) e in

@@ -40,7 +40,7 @@ use Rattle.session_model.specs.Readings.{asked, sent, ended, unanswered, unsent_
 use Rattle.session_model.specs.Calls.{Setting, current}
 use Rattle.session_model.specs.Settings.{greeting, setting_of}
 use Rattle.sftp_model.specs.Lengths.{offers_limits}
-use Rattle.session_model.specs.Grants.{orphan}
+use Rattle.session_model.specs.Grants.{next_due}
 use Rattle.session_model.specs.Journals.{IsNext, IsFree, MayTake, cancelled_end}
 use Rattle.session_model.specs.Runs.{Opens, at_first}
 use Rattle.session_model.specs.Turns.{Stage, SettlesTo, begun_with, begun_but}
@@ -226,7 +226,7 @@ HandsOut s before None now = (nat_lt (sent before.past) (asked before.past) ≡ 
 HandsOut s before (Some bytes) now =
     (nat_lt (sent before.past) (asked before.past) ≡ true) × (bytes ≡ unsent_bytes before.past)
     × (now ≡ record { past = entry.Event Send ∷ before.past; begun = before.begun })
-    × (orphan s (entry.Event Send ∷ before.past) ≡ None)
+    × (next_due s (entry.Event Send ∷ before.past) ≡ None)
     × IsNext s before.past (entry.Event Send)
 
 -- a step moved a lane, or there was nothing to do
@@ -245,7 +245,7 @@ abbrev pub Flushed : Setting → Stage → Stage → Type 0
 Flushed s before now =
     MatchBool (nat_lt (sent before.past) (asked before.past))
     ((now ≡ record { past = entry.Event Send ∷ before.past; begun = before.begun })
-    × (orphan s (entry.Event Send ∷ before.past) ≡ None))
+    × (next_due s (entry.Event Send ∷ before.past) ≡ None))
     (now ≡ before)
 
 -- a lane was moved, or it has no call left, or something is unanswered

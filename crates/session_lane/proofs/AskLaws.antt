@@ -143,7 +143,7 @@ turned_unreplied c facts place core new v now r n (Err e) was looks ran asks by 
 turned_unreplied c facts place core new v now r n (Ok m) was looks ran asks by ended settles =
     Unreplied (record { answer = n; ended = ended; running = r; was = was; looks = looks; asks = asks; by = by; ran = ran; settles = settles })
 
--- ---- what a machine may ask
+-- ---- what a runner may ask
 
 pub plain_call : (r : Request) → IsPlain r → (is_call r ≡ true) × (is_close r ≡ false)
 plain_call (request.Init version) p = absurd p

@@ -1,4 +1,4 @@
--- A session between two states of a lane's machine: its reply was polled, its request submitted, its call ended.
+-- A session between two states of a lane's runner: its reply was polled, its request submitted, its call ended.
 use Rattle.std.proofs.Common.{
   ◌≡◌,
   ◌≢◌,
@@ -45,7 +45,7 @@ use Rattle.session_model.specs.Journals.{IsJournal}
 use Rattle.session_model.proofs.CallLaws.{ended_end, ended_other, site_other}
 use Rattle.session_model.proofs.RequestLaws.{asked_new}
 use Rattle.session_laws.specs.Changes.{IsBare, asking_lane, ended_lane, with_lane}
-use Rattle.session_laws.specs.Dues.{loose_of}
+use Rattle.session_laws.specs.Dues.{unheld_of}
 use Rattle.session_laws.specs.Lanes.{
   CoreTied,
   Held,
@@ -134,7 +134,7 @@ holds_with s now core lanes lane v dues work table ends holds others =
       others = λ w lt ne. subst (λ (x : LaneValue). LaneTied s now w x dues) (sym (with_there lanes lane v w ne)) (others w lt ne);
     }
 
--- its machine is elsewhere
+-- its runner is elsewhere
 pub holds_set : (s : Setting) (past : List Entry) (core : Core) (lanes : ℕ → LaneValue) (lane : ℕ) (v : LaneValue)
     (dues : List ℕ) → HoldsLane s past core lanes lane dues → v.tickets ≡ (lanes lane).tickets → v.grants
     ≡ (lanes lane).grants → v.ended ≡ (lanes lane).ended
@@ -158,7 +158,7 @@ bare_grants : (past : List Entry) (core : Core) (lanes : ℕ → LaneValue) (s :
 bare_grants past core lanes s id w table none l = free_bare_grants past (tickets_of lanes) (grants_of lanes) (at core)
     id w table none l.held_of (λ g e. (l.holding g e).0) l.apart
 
--- the lane's machine asked something else than a CLOSE
+-- the lane's runner asked something else than a CLOSE
 pub request_holds : (s : Setting) (past : List Entry) (core : Core) (lanes : ℕ → LaneValue) (lane id : ℕ) (q : Request)
     (r : Running) (site : Site) → HoldsLane s past core lanes lane [] → IsJournal s (own_request past lane id q ∷ past)
     → is_close q ≡ false → at core id ≡ None
@@ -225,11 +225,11 @@ other_end s past lane w o ne =
 pub end_holding : (s : Setting) (past : List Entry) (core : Core) (lanes : ℕ → LaneValue) (lane : ℕ) (o : Outcome)
     (site : Site) → HoldsLane s past core lanes lane [] → IsJournal s (entry.Event (End lane (ended past lane) o) ∷ past)
     → HoldsLane s (entry.Event (End lane (ended past lane) o) ∷ past) core (with_lane lanes lane (ended_lane (lanes lane) site)) lane
-    (loose_of (site_of s (entry.Event (End lane (ended past lane) o) ∷ past) lane) (grant_places (lanes lane).grants))
+    (unheld_of (site_of s (entry.Event (End lane (ended past lane) o) ∷ past) lane) (grant_places (lanes lane).grants))
 end_holding s past core lanes lane o site h j =
     let now : List Entry = entry.Event (End lane (ended past lane) o) ∷ past in
     let v : LaneValue = lanes lane in
-    let dues : List ℕ = loose_of (site_of s now lane) (grant_places v.grants) in
+    let dues : List ℕ = unheld_of (site_of s now lane) (grant_places v.grants) in
     holds_with s now core lanes lane (ended_lane v site) dues (core_on s past now core refl h.work)
     (table_kept now lanes lane (ended_lane v site) (at core) refl refl (λ id. h.table id))
     (ap (λ (n : ℕ). n + 1) h.ends ∙ sym (ended_end past lane (ended past lane) o)) (end_holds s past lane o v.tickets v.grants j h.holds)

@@ -13,7 +13,7 @@ pub mod Rests
 pub mod WentLaws
 mod Forgotten
 mod Flushed
-mod Loose
+mod Unheld
 mod GivenUp
 mod LettingGo
 mod OneByOne

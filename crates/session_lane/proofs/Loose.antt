@@ -6,27 +6,27 @@ use Rattle.sftp_model.specs.Slots.{grant_of, has_grant, slot_has}
 use Rattle.sftp_model.specs.declared.slot.Site.{Site}
 use Rattle.sftp_model.specs.declared.slot.Slot.{Slot}
 use Rattle.session_laws.specs.Ends.{StaysOpen}
-use Rattle.session_laws.specs.Dues.{loose_of}
+use Rattle.session_laws.specs.Dues.{unheld_of}
 use Rattle.session_laws.specs.Lanes.{Held, grant_places}
 use Rattle.session_laws.specs.Places.{is_in, without}
 use Rattle.session_lane.proofs.Polling.{grants_out}
 
 -- ---- the first that no slot has
 
-pub none_loose : (site : Site) (gs : List Held) → ((i : ℕ) (g : Held) → slice_get gs i ≡ Some g → has_grant site g.place
-    ≡ true) → loose_of site (grant_places gs) ≡ []
-none_loose site [] all = refl
-none_loose site (x ∷ xs) all = rw (all 0 x refl) (none_loose site xs (λ i g got. all (suc i) g got))
+pub none_unheld : (site : Site) (gs : List Held) → ((i : ℕ) (g : Held) → slice_get gs i ≡ Some g → has_grant site g.place
+    ≡ true) → unheld_of site (grant_places gs) ≡ []
+none_unheld site [] all = refl
+none_unheld site (x ∷ xs) all = rw (all 0 x refl) (none_unheld site xs (λ i g got. all (suc i) g got))
 
-pub first_loose : (site : Site) (gs : List Held) (k : ℕ) (g : Held) → slice_get gs k ≡ Some g → has_grant site g.place
+pub first_unheld : (site : Site) (gs : List Held) (k : ℕ) (g : Held) → slice_get gs k ≡ Some g → has_grant site g.place
     ≡ false → ((i : ℕ) (h : Held) → i < k → slice_get gs i ≡ Some h → has_grant site h.place ≡ true)
-    → loose_of site (grant_places gs) ≡ g.place ∷ loose_of site (grant_places (without k gs))
-first_loose site [] k g got loose before = absurd cc
-first_loose site (x ∷ xs) zero g got loose before = (let e : x ≡ g = cc in
-    rw (ap (λ (h : Held). has_grant site h.place) e ∙ loose) (ap
-    (λ (h : Held). h.place ∷ loose_of site (grant_places xs)) e))
-first_loose site (x ∷ xs) (suc k) g got loose before = rw (before 0 x (omega arith) refl)
-    (first_loose site xs k g got loose (λ i h lt here. before (suc i) h (omega (arith, lt)) here))
+    → unheld_of site (grant_places gs) ≡ g.place ∷ unheld_of site (grant_places (without k gs))
+first_unheld site [] k g got unheld before = absurd cc
+first_unheld site (x ∷ xs) zero g got unheld before = (let e : x ≡ g = cc in
+    rw (ap (λ (h : Held). has_grant site h.place) e ∙ unheld) (ap
+    (λ (h : Held). h.place ∷ unheld_of site (grant_places xs)) e))
+first_unheld site (x ∷ xs) (suc k) g got unheld before = rw (before 0 x (omega arith) refl)
+    (first_unheld site xs k g got unheld (λ i h lt here. before (suc i) h (omega (arith, lt)) here))
 
 -- ---- the grant of a slot
 

@@ -1,4 +1,4 @@
--- A session behind a reply that was polled, before its machine goes on.
+-- A session behind a reply that was polled, before its runner goes on.
 use Rattle.std.proofs.Common.{◌≡◌, ◌<◌, ℕ, Bool, true, false, List, [], ◌∷◌, ◌++◌, Option, Some, None, refl, ap, sym, ◌∙◌, subst}
 use Rattle.std.specs.Prelude.{length, slice_get}
 use Rattle.sftp_model.specs.Answers.{is_handle}

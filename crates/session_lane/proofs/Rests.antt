@@ -192,7 +192,7 @@ waited_fits : (past : List Entry) (r : Running) (site : Site) → ((y : Reply) �
 waited_fits past r site (inl all) reads p a y looks there may = all y
 waited_fits past r site (inr window) reads p a y looks there may = window_fits past r site window reads p a y looks there may
 
--- ---- what becomes of a machine's answer
+-- ---- what becomes of a runner's answer
 
 -- of a call that was begun
 settles_on : (s : Setting) (past : List Entry) (core c new : Core) (lanes : ℕ → LaneValue) (begun : ℕ → Bool) (lane : ℕ)

@@ -18,7 +18,7 @@ use Rattle.session_model.specs.Ids.{ReadsId}
 use Rattle.session_model.specs.Journals.{IsJournal}
 use Rattle.session_model.proofs.IdLaws.{reads}
 use Rattle.session_laws.specs.Changes.{asking_lane, ended_lane, with_lane}
-use Rattle.session_laws.specs.Dues.{Dues, loose_of}
+use Rattle.session_laws.specs.Dues.{Dues, unheld_of}
 use Rattle.session_laws.specs.Going.{LaneGoesOn}
 use Rattle.session_laws.specs.Lanes.{Held, LaneGoes, LaneHolds, LaneValue, SessionTied, Ticketed, grant_places, ticket_places}
 use Rattle.session_laws.specs.Places.{is_in}
@@ -60,7 +60,7 @@ filled_for s past lane ts gs dues a q l is =
     (let here : q ≡ filled a (answer past) = is (answer past) (bears s past lane ts gs dues (answer past) l (λ p r e. e)) in
     (here, λ answers more. sym (is answers (bears s past lane ts gs dues answers l more)) ∙ here))
 
--- ---- what a machine's answer makes of its lane, where its reply was polled
+-- ---- what a runner's answer makes of its lane, where its reply was polled
 
 -- it awaits another reply
 pub wait_tied : (s : Setting) (past : List Entry) (c new : Core) (lanes : ℕ → LaneValue) (lane : ℕ) (now : LaneValue)
@@ -85,9 +85,9 @@ done_tied s past c new lanes lane now o h d j calm none ec et eg ee goes =
     λ i. record { running = None; site = now.site; tickets = sym et i; grants = sym eg i; ended = sym ee i + 1 } in
     let e : Entry = entry.Event (End lane (ended past lane) o) in
     let site : site_of s (e ∷ past) lane ≡ now.site = sym (goes.1 j calm).runs.1 in
-    let due : loose_of (site_of s (e ∷ past) lane) (grant_places v.grants)
-    ≡ loose_of now.site (grant_places now.grants) = λ i. loose_of (site i) (grant_places (sym eg i)) in
-    let dues : List ℕ = loose_of (site_of s (e ∷ past) lane) (grant_places v.grants) in
+    let due : unheld_of (site_of s (e ∷ past) lane) (grant_places v.grants)
+    ≡ unheld_of now.site (grant_places now.grants) = λ i. unheld_of (site i) (grant_places (sym eg i)) in
+    let dues : List ℕ = unheld_of (site_of s (e ∷ past) lane) (grant_places v.grants) in
     record {
       move = goes.0;
       tied = λ next. subst (λ (ds : List ℕ). Dues s (e ∷ past) ds × SessionTied s (e ∷ past) new (with_lane lanes lane (ended_lane now now.site)) ds) due (

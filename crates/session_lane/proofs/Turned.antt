@@ -23,7 +23,7 @@ use Rattle.session_model.specs.Grants.{is_grant, is_granted}
 use Rattle.session_model.specs.Journals.{IsJournal}
 use Rattle.session_laws.specs.Changes.{asking_lane, with_lane}
 use Rattle.session_laws.specs.Dues.{Dues}
-use Rattle.session_laws.specs.Going.{LaneGoesOn, MachineStep, MachineWidens}
+use Rattle.session_laws.specs.Going.{LaneGoesOn, RunnerStep, RunnerWidens}
 use Rattle.session_laws.specs.Lanes.{CoreTied, Held, LaneGoes, LaneTied, LaneValue, MayGoOn as MayRun, SessionTied, Ticketed, ticket_places}
 use Rattle.session_laws.specs.Places.{IsRising, is_in, without}
 use Rattle.session_laws.specs.Running.{own_request}
@@ -65,13 +65,13 @@ use Rattle.plan_runner.specs.declared.next.Next.TheVariants as step
 use Rattle.sftp_core.specs.declared.phase.Phase.TheVariants as phases
 use Rattle.plan_model.specs.CallPlans.{next}
 
--- the clauses of a machine's answer, by the journal
+-- the clauses of a runner's answer, by the journal
 step_of : (s : Setting) (past : List Entry) (c : Call) (plan : Plan) (leave : Leaving) (before : ℕ → ℕ) (old new : Site)
     (n : Next) → AnswersByPlan c s.facts (asked past) plan leave before old new n
-    → MachineStep s past c plan leave before old new n
+    → RunnerStep s past c plan leave before old new n
 step_of s past c plan leave before old new n ran = record { goes = ran.goes; left = ran.left; sound = ran.sound; pends = ran.pends }
 
--- ---- a machine's answer that asks no CLOSE
+-- ---- a runner's answer that asks no CLOSE
 
 settled : (s : Setting) (past : List Entry) (c new : Core) (lanes : ℕ → LaneValue) (lane : ℕ) (now : LaneValue)
     (n : Next) (m : Moved) → HoldsLane s past c lanes lane [] → Dues s past [] → IsJournal s past → last_cancel past ≡ None
@@ -256,7 +256,7 @@ none_missing past lane v r place only runs looks missing p has = by_test (is_gra
 
 -- the clauses of an answer that came meanwhile, by the journal
 widens_of : (s : Setting) (past : List Entry) (c : Call) (r : Running) (site : Site) (n : Next)
-    → Widened r c s.facts (asked past) site n → MachineWidens s past c r site n
+    → Widened r c s.facts (asked past) site n → RunnerWidens s past c r site n
 widens_of s past c r site n ran = record { goes = ran.goes; left = ran.left; sound = ran.sound; pends = ran.pends }
 
 widened_by : (s : Setting) (past : List Entry) (core new : Core) (lanes : ℕ → LaneValue) (lane : ℕ) (call : Call)

@@ -20,7 +20,7 @@ fewer [] k t here = absurd cc
 fewer (x ∷ xs) zero t here = omega arith
 fewer (x ∷ xs) (suc k) t here = (let less : length (without k xs) < length xs = fewer xs k t here in omega (arith, less))
 
--- what a machine that goes on without an entry waits for
+-- what a runner that goes on without an entry waits for
 abbrev LooksAt : LaneValue → Next → Type 0
 LooksAt now (step.Wait r) = is_some (awaited r now.site) ≡ true
 LooksAt now other = Unit {0}

@@ -1,4 +1,4 @@
--- A session between two states of a lane's machine: all but what that lane goes on with is what the journal says.
+-- A session between two states of a lane's runner: all but what that lane goes on with is what the journal says.
 use Rattle.std.specs.Prelude.{◌≡◌, ◌≢◌, ◌<◌, ℕ, true, List, [], ◌∷◌, length, Some, None}
 use Rattle.sftp_model.specs.declared.outcome.Outcome.{Outcome}
 use Rattle.sftp_model.specs.declared.slot.Move.TheVariants.{Ask, Wait, Done}
@@ -12,7 +12,7 @@ use Rattle.session_model.specs.Calls.{Setting, current, move_of}
 use Rattle.session_model.specs.Grants.{is_grant, is_unended_asker}
 use Rattle.session_model.specs.Journals.{IsJournal}
 use Rattle.session_laws.specs.Changes.{ended_lane, with_lane}
-use Rattle.session_laws.specs.Dues.{Dues, loose_of}
+use Rattle.session_laws.specs.Dues.{Dues, unheld_of}
 use Rattle.session_laws.specs.Lanes.{
   CoreTied,
   LaneHolds,
@@ -60,9 +60,9 @@ pub record EndTied (s : Setting) (past : List Entry) (core : Core) (lanes : Lane
     (now : LaneValue) (o : Outcome) : Type 0 where
   pub move : move_of s past lane ≡ Some (Done o now.site)
   pub tied : IsJournal s (entry.Event (End lane (ended past lane) o) ∷ past)
-      → Dues s (entry.Event (End lane (ended past lane) o) ∷ past) (loose_of now.site (grant_places now.grants))
+      → Dues s (entry.Event (End lane (ended past lane) o) ∷ past) (unheld_of now.site (grant_places now.grants))
       × SessionTied s (entry.Event (End lane (ended past lane) o) ∷ past) core (lanes (ended_lane now now.site))
-      (loose_of now.site (grant_places now.grants))
+      (unheld_of now.site (grant_places now.grants))
 
 -- What a turn was is the lane's move, and the invariant holds behind its entry.
 abbrev pub TurnTied : Setting → List Entry → Core → (LaneValue → ℕ → LaneValue) → ℕ → LaneValue → Moved → Type 0

@@ -15,7 +15,7 @@ use Rattle.session_model.specs.Calls.{Setting, current, move_of}
 use Rattle.session_model.specs.Journals.{IsFree, IsNext}
 use Rattle.session_model.specs.Turns.{begun_but, begun_with}
 use Rattle.session_laws.specs.Changes.{ended_lane, with_lane}
-use Rattle.session_laws.specs.Dues.{loose_of}
+use Rattle.session_laws.specs.Dues.{unheld_of}
 use Rattle.session_laws.specs.Lanes.{LaneValue, grant_places}
 use Rattle.session_laws.specs.Running.{own_request}
 use Rattle.sftp_model.specs.declared.slot.Facts.{Facts}
@@ -57,7 +57,7 @@ pub record Ended (s : Setting) (past : List Entry) (core new : Core) (lanes : �
   pub move : move_of s past lane ≡ Some (Done o now.site)
   pub next : IsNext s past (entry.Event (End lane (ended past lane) o))
   pub between : Between s (entry.Event (End lane (ended past lane) o) ∷ past) new lanes (begun_but begun lane)
-      (loose_of now.site (grant_places now.grants))
+      (unheld_of now.site (grant_places now.grants))
   pub work : weigh new ≤ weigh core
 
 -- What a turn was is the lane's move. `now` is the lane behind it, which has one more call behind it where one ended.

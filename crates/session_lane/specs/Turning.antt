@@ -66,9 +66,9 @@ abbrev pub joined_of : Call → List ℕ
 joined_of (call.WriteParts slot parts) = joined_parts parts
 joined_of other = []
 
--- ---- what a machine answers
+-- ---- what a runner answers
 
--- The clauses of a machine's answer, where its request would bear this place. The site was the first one, and is the
+-- The clauses of a runner's answer, where its request would bear this place. The site was the first one, and is the
 -- second.
 pub record AnswersByPlan (c : Call) (facts : Facts) (place : ℕ) (plan : Plan) (leave : Leaving) (before : ℕ → ℕ)
     (old new : Site)
@@ -126,7 +126,7 @@ AsksOrCloses old new tickets now grants held place (asked.Close g) id r =
     Releases old new tickets now grants held place g id r
 AsksOrCloses old new tickets now grants held place a id r = Submits old new tickets now grants held place a id r
 
--- a machine may answer this: what it asks bears handles of these grants
+-- a runner may answer this: what it asks bears handles of these grants
 abbrev pub MayAsk : List Held → Next → Type 0
 MayAsk grants (step.Ask a r) = NamesHeld grants a × IsOfCall a
 MayAsk grants other = Unit {0}
@@ -146,7 +146,7 @@ pub record IsOpen (core : Core) : Type 0 where
   pub unfailed : core.fault ≡ None
   pub ready : IsSome (info_of core.phase)
 
--- ---- what becomes of a machine's answer
+-- ---- what becomes of a runner's answer
 
 abbrev pub SettlesAsk : Core → Core → List Ticketed → List Ticketed → List Held → List Held → Option Running → ℕ → Asked
     → Running → Moved → Type 0

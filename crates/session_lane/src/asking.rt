@@ -132,7 +132,7 @@ fn ask(
     Ok((id, request))
 }
 
-/// Does what the machine of a call answered. Refused only for want of memory.
+/// Does what the runner of a call answered. Refused only for want of memory.
 pub(crate) fn settle(
     core: &mut Core,
     next: Next,
@@ -163,7 +163,7 @@ pub(crate) fn settle(
     }
 }
 
-/// Does what the machine of a call answered while the reply that it awaits is missing. Refused only for want of memory.
+/// Does what the runner of a call answered while the reply that it awaits is missing. Refused only for want of memory.
 pub(crate) fn settle_meanwhile(
     core: &mut Core,
     next: Next,

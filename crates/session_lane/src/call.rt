@@ -1,4 +1,4 @@
-// The calls of lanes, each by its plan machine: nothing else here has a case for a call.
+// The calls of lanes, each by its runner: nothing else here has a case for a call.
 ghost use Rattle.std.specs.Prelude.{◌≡◌, length, true, Some, None, IfOk, OnErr};
 ghost use Rattle.plan_model.specs.TransferPlans.{joined_parts};
 ghost use Rattle.plan_runner.specs.Runners.{bytes_of};

@@ -4,7 +4,7 @@ ghost use Rattle.std.specs.List.{list_any};
 ghost use Rattle.sftp_model.specs.Slots.{grant_of, has_grant, slot_has};
 ghost use Rattle.session_laws.specs.Ends.{StaysOpen, let_go};
 ghost use Rattle.session_laws.specs.Changes.{closed_lane};
-ghost use Rattle.session_laws.specs.Dues.{loose_of};
+ghost use Rattle.session_laws.specs.Dues.{unheld_of};
 ghost use Rattle.session_laws.specs.Lanes.{Held, grant_places};
 ghost use Rattle.session_laws.specs.Places.{without};
 ghost use Rattle.session_lane.specs.Tokens.{AreGrants};
@@ -16,7 +16,7 @@ use sftp_core::Core;
 use sftp_model::{Handle, Site, Slot};
 
 /// Which grant is the first that no slot has.
-fn loose_at(grants: &[Granted], site: &Site) -> Option<usize>
+fn unheld_at(grants: &[Granted], site: &Site) -> Option<usize>
     ensures within { IfSome result (λ k. k < length grants.now) }
     ensures found { (k : ℕ) (g : Held) → result ≡ Some k → slice_get grants.now k ≡ Some g → has_grant site.now g.place ≡ false }
     ensures before { (k : ℕ) (i : ℕ) (g : Held) → result ≡ Some k → i < k → slice_get grants.now i ≡ Some g → has_grant site.now g.place ≡ true }
@@ -45,12 +45,12 @@ impl LaneState {
     }
 
     /// Which of its grants is the first that no slot has.
-    pub fn loose(&self) -> Option<usize>
-        ensures none { result ≡ None → loose_of self.now.site (grant_places self.now.grants) ≡ [] }
+    pub fn unheld(&self) -> Option<usize>
+        ensures none { result ≡ None → unheld_of self.now.site (grant_places self.now.grants) ≡ [] }
         ensures first { (k : ℕ) → result ≡ Some k → (g : Held) × ((slice_get self.now.grants k ≡ Some g)
-            × (loose_of self.now.site (grant_places self.now.grants) ≡ g.place ∷ loose_of self.now.site (grant_places (without k self.now.grants)))) }
+            × (unheld_of self.now.site (grant_places self.now.grants) ≡ g.place ∷ unheld_of self.now.site (grant_places (without k self.now.grants)))) }
     {
-        loose_at(&self.tokens.grants, &self.site)
+        unheld_at(&self.tokens.grants, &self.site)
     }
 
     /// Which of its grants is that of a slot, where no later slot has it.

@@ -7,7 +7,7 @@ pub fn turns_keep_sessions()
     ensures { TurnsKeep }
 {}
 
-/// A lane of a session has what a turn asks for: the core counts its tickets and grants, and its machine may go on.
+/// A lane of a session has what a turn asks for: the core counts its tickets and grants, and its runner may go on.
 pub fn lanes_may_turn()
     ensures { LanesMayTurn }
 {}

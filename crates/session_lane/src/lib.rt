@@ -1,4 +1,4 @@
-//! A lane that goes on by the plan machine of its call: the call that runs, its site, and what it holds of a core.
+//! A lane that goes on by the runner of its call: the call that runs, its site, and what it holds of a core.
 #![tactic(auto)]
 
 mod asking;

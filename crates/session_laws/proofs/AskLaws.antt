@@ -178,7 +178,7 @@ ask_dues s past lane id r j d =
             | inr t ↦ other_holder s past (owner.Call lane (ended past lane)) id r g who.0
                 (not_by lane who.0 (ended past lane) (ended past who.0) t.1) granted ∙ who.1.1
           ]));
-      loose = tt;
+      unheld = tt;
       rising = tt;
     }
 

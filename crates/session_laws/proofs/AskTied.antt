@@ -1,4 +1,4 @@
--- A session on machines, as a lane's machine asks: a plain request, or the CLOSE of a grant.
+-- A session on runners, as a lane's runner asks: a plain request, or the CLOSE of a grant.
 use Rattle.std.proofs.Common.{◌≡◌, ◌≢◌, ◌<◌, ℕ, Bool, true, false, List, [], ◌∷◌, ◌++◌, Some, None, refl, ap, sym, ◌∙◌, subst}
 use Rattle.std.specs.Prelude.{length, slice_get}
 use Rattle.sftp_model.specs.Answers.{expected_of}
@@ -53,7 +53,7 @@ grant_bare s past core lanes dues id w h none lt =
     let l : LaneTied s past w (lanes w) dues = h.each w lt in
     free_bare_grants past (tickets_of lanes) (grants_of lanes) (at core) id w h.table none l.holds.held_of (λ g e. (l.holds.holding g e).0) l.holds.apart
 
--- A plain request of a lane's machine, under an id under which the core had nothing.
+-- A plain request of a lane's runner, under an id under which the core had nothing.
 pub request_tied : (s : Setting) (past : List Entry) (core now : Core) (lanes : ℕ → LaneValue) (lane id : ℕ)
     (q : Request) (r : Running) (site : Site) → SessionTied s past core lanes [] → lane < length s.lanes
     → IsJournal s (own_request past lane id q ∷ past) → is_close q ≡ false → CoreTied s (own_request past lane id q ∷ past) now
@@ -70,7 +70,7 @@ request_tied s past core now lanes lane id q r site h there j plain work none he
     other_ask s past lane w id q (lanes w) j ne o (ticket_bare s past core lanes [] id w h none lt) (grant_bare s past core lanes [] id w h none lt)
     (λ g e. ap (λ c. is_one_of c g) same ∙ (o.holds.holding g e).1.0) (λ g e. still_unclosed s past lane id g q e)))
 
--- The CLOSE that a lane's machine asks, under the id of the grant that it closes.
+-- The CLOSE that a lane's runner asks, under the id of the grant that it closes.
 pub close_request_tied : (s : Setting) (past : List Entry) (core now : Core) (lanes : ℕ → LaneValue) (lane id g k : ℕ)
     (handle : List ℕ) (q : Request) (r : Running) (site : Site) → SessionTied s past core lanes []
     → lane < length s.lanes

@@ -24,7 +24,7 @@ use Rattle.session_model.specs.declared.entry.Entry.{Entry}
 use Rattle.session_model.specs.declared.entry.Entry.TheVariants as entry
 use Rattle.session_model.specs.Readings.{AskedRequest, answer, asked, asked_at, bearer, ended, last_cancel, own}
 use Rattle.session_model.specs.Calls.{Setting, current, move_at, move_of, site_of}
-use Rattle.session_model.specs.Grants.{orphan}
+use Rattle.session_model.specs.Grants.{next_due}
 use Rattle.session_model.specs.Journals.{IsJournal, IsNext, MayCome, MustClose, cancelled_end, goes_on, is_opened, opened}
 use Rattle.session_model.proofs.CallLaws.{next_by, next_submit}
 use Rattle.session_model.proofs.JournalLaws.{submit_free}
@@ -78,11 +78,11 @@ asked_in other = request.LimitsQuery
 submit_came : (s : Setting) (past : List Entry) (by : Owner) (id : ℕ) (r : Request) → IsNext s past (entry.Event (Submit by id r)) → CameBy s (asked past) by r
 submit_came s past (owner.Call lane c) id r next = move_asks s past lane r (next_submit s past lane c id r next).1
 submit_came s past owner.Setup id r next =
-    let may = next_by (last_cancel past) (orphan s past) (MayCome s past (entry.Event (Submit owner.Setup id r)))
+    let may = next_by (last_cancel past) (next_due s past) (MayCome s past (entry.Event (Submit owner.Setup id r)))
     (λ g. MustClose past g (entry.Event (Submit owner.Setup id r)))
     (λ k. entry.Event (Submit owner.Setup id r) ≡ cancelled_end past k) next (λ g m. cc (m.1.1)) (λ k e. cc e) in
     (may.1, may.0)
-submit_came s past owner.Close id r next = by_what (last_cancel past) (orphan s past) next
+submit_came s past owner.Close id r next = by_what (last_cancel past) (next_due s past) next
   where
     by_what : (c g : Option ℕ) → MatchOption c (MatchOption g (MayCome s past (entry.Event (Submit owner.Close id r)))
         (λ grant. MustClose past grant (entry.Event (Submit owner.Close id r))))

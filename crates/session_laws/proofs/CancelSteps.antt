@@ -54,7 +54,7 @@ use Rattle.session_model.proofs.HolderLaws.{slots_owned}
 use Rattle.session_model.proofs.PlannedLaws.{held_less}
 use Rattle.session_model.proofs.RunLaws.{end_good, wait_more}
 use Rattle.session_laws.specs.Changes.{brought, ended_lane, granted_lane, spent_lane, with_lane}
-use Rattle.session_laws.specs.Dues.{Dues, loose_of}
+use Rattle.session_laws.specs.Dues.{Dues, unheld_of}
 use Rattle.session_laws.specs.Lanes.{LaneGoes, LaneTied, LaneValue, SessionTied, Ticketed, grant_places, ticket_places, tickets_for}
 use Rattle.session_laws.specs.Places.{IsBelow, is_in, without}
 use Rattle.session_laws.specs.Running.{leaving}
@@ -130,12 +130,12 @@ own_alone running site tickets p own le =
 
 -- ---- the grants that are due
 
-loose_push : (site : Site) (p : ℕ) (gs : List ℕ) → has_grant site p ≡ false → loose_of site (gs ++ p ∷ []) ≡ loose_of site gs ++ p ∷ []
-loose_push site p [] out = ap (λ (b : Bool). if b then [] else p ∷ []) out
-loose_push site p (g ∷ gs) out = by_test (has_grant site g) (loose_push site p gs out)
+unheld_push : (site : Site) (p : ℕ) (gs : List ℕ) → has_grant site p ≡ false → unheld_of site (gs ++ p ∷ []) ≡ unheld_of site gs ++ p ∷ []
+unheld_push site p [] out = ap (λ (b : Bool). if b then [] else p ∷ []) out
+unheld_push site p (g ∷ gs) out = by_test (has_grant site g) (unheld_push site p gs out)
   where
-    by_test : (b : Bool) → loose_of site (gs ++ p ∷ []) ≡ loose_of site gs ++ p ∷ []
-        → (if b then loose_of site (gs ++ p ∷ []) else g ∷ loose_of site (gs ++ p ∷ [])) ≡ (if b then loose_of site gs else g ∷ loose_of site gs) ++ p ∷ []
+    by_test : (b : Bool) → unheld_of site (gs ++ p ∷ []) ≡ unheld_of site gs ++ p ∷ []
+        → (if b then unheld_of site (gs ++ p ∷ []) else g ∷ unheld_of site (gs ++ p ∷ [])) ≡ (if b then unheld_of site gs else g ∷ unheld_of site gs) ++ p ∷ []
     by_test true e = e
     by_test false e = ap (λ (l : List ℕ). g ∷ l) e
 
@@ -163,7 +163,7 @@ record Ended (s : Setting) (past : List Entry) (core : Core) (lanes : ℕ → La
   pub mid : SessionTied s (entry.Event (Cancel lane) ∷ past) core lanes []
   pub due : Dues s (entry.Event (Cancel lane) ∷ past) []
   pub tied : SessionTied s (cancelled_past past lane) core (with_lane lanes lane (ended_lane (lanes lane) site))
-      (loose_of site (grant_places (lanes lane).grants))
+      (unheld_of site (grant_places (lanes lane).grants))
   pub spends : (new : Core) (y : LaneValue) → y.running ≡ None → kept new ≤ kept core → Spends s (cancelled_past past lane) new (with_lane lanes lane y)
 
 both_entries : (s : Setting) (past : List Entry) (core : Core) (lanes : ℕ → LaneValue) (begun : ℕ → Bool) (lane : ℕ)
@@ -187,7 +187,7 @@ both_entries s past core lanes begun lane c site h there is any runs leaves less
     cancelled_lane s past lane v [] c outcome.Cancelled site l is run (left v.running refl runs)
     (stays.count ∙ l.goes.sixteen) (stays.limit l.goes.within) (λ q. fewer q (l.goes.awaits q)) in
     let mid : SessionTied s middle core lanes [] = cancel_keeps s past core lanes [] lane b.tied in
-    let end : SessionTied s now core (with_lane lanes lane (ended_lane v site)) (loose_of (site_of s now lane) (grant_places v.grants)) =
+    let end : SessionTied s now core (with_lane lanes lane (ended_lane v site)) (unheld_of (site_of s now lane) (grant_places v.grants)) =
     end_keeps s middle core lanes lane outcome.Cancelled site mid there (cancelled_next s past lane, run) goes in
     record {
       first = first;
@@ -196,7 +196,7 @@ both_entries s past core lanes begun lane c site h there is any runs leaves less
       goes = goes;
       mid = mid;
       due = cancel_dues s past [] lane b.due;
-      tied = subst (λ (x : Site). SessionTied s now core (with_lane lanes lane (ended_lane v site)) (loose_of x (grant_places v.grants))) (sym goes.runs.1) end;
+      tied = subst (λ (x : Site). SessionTied s now core (with_lane lanes lane (ended_lane v site)) (unheld_of x (grant_places v.grants))) (sym goes.runs.1) end;
       spends = λ new y idle less. spends_end s past now core new lanes lane c y there is
           (λ l ne. spending_end s middle l lane (ended past lane) outcome.Cancelled (lanes l).running ne) refl
           (ended_end middle lane (ended past lane) outcome.Cancelled) idle less b.spends;
@@ -229,9 +229,9 @@ now_between : (s : Setting) (past : List Entry) (core new : Core) (lanes : ℕ �
     (site : Site) (y : LaneValue) → AtRest s past core lanes begun → Ended s past core lanes begun lane site → y.running
     ≡ None
     → ((p : ℕ) → is_in p (ticket_places y.tickets) ≡ true → IsTransferAt past p)
-    → Dues s (cancelled_past past lane) (loose_of y.site (grant_places y.grants))
+    → Dues s (cancelled_past past lane) (unheld_of y.site (grant_places y.grants))
     → SessionTied s (cancelled_past past lane) new (with_lane lanes lane y)
-    (loose_of y.site (grant_places y.grants)) → Counted past new → kept new ≤ kept core
+    (unheld_of y.site (grant_places y.grants)) → Counted past new → kept new ≤ kept core
     → Cancels s past new lanes begun lane y
 now_between s past core new lanes begun lane site y h e idle transfers due tied counted less =
     let now : List Entry = cancelled_past past lane in
@@ -317,14 +317,14 @@ drop_cancels s past core lanes begun lane k t g ungranted =
     let v : LaneValue = lanes lane in
     let b = g.rest.between in
     let x : LaneValue = ended_lane v v.site in
-    let dues : List ℕ = loose_of v.site (grant_places v.grants) in
+    let dues : List ℕ = unheld_of v.site (grant_places v.grants) in
     let is_x : with_lane lanes lane x lane ≡ x = with_here lanes lane x in
     let mine : is_unended_asker past lane t.place ≡ true = asked_it s past core lanes begun lane k t g in
     let plain : is_grant past t.place ≡ false = ap is_granted (sym
     (replies_agree s past core lanes [] lane k t b.tied g.there g.here))
     ∙ by_reply (reply_in (at core t.ticket)) refl in
     let more : ended now lane ≡ ended past lane + 1 = ended_end middle lane (ended past lane) outcome.Cancelled in
-    let due : Dues s now dues = subst (λ (z : Site). Dues s now (loose_of z (grant_places v.grants))) (sym g.ended.goes.runs.1)
+    let due : Dues s now dues = subst (λ (z : Site). Dues s now (unheld_of z (grant_places v.grants))) (sym g.ended.goes.runs.1)
     (ended_dues s middle core lanes lane outcome.Cancelled g.ended.mid g.there (g.ended.first, b.good.run) g.ended.due
     (λ p has. false_from_ne_true (is_grant past p) (λ grant.
     (let same : p ≡ t.place = one_ticket s past core lanes begun lane k t g p has grant in
@@ -363,8 +363,8 @@ poll_cancels s past core lanes begun lane k t handle g came =
     let b = g.rest.between in
     let l : LaneTied s past lane v [] = b.tied.each lane g.there in
     let x : LaneValue = ended_lane v v.site in
-    let before : List ℕ = loose_of v.site (grant_places v.grants) in
-    let dues : List ℕ = loose_of v.site (grant_places (v.grants ++ brought t handle ∷ [])) in
+    let before : List ℕ = unheld_of v.site (grant_places v.grants) in
+    let dues : List ℕ = unheld_of v.site (grant_places (v.grants ++ brought t handle ∷ [])) in
     let is_x : with_lane lanes lane x lane ≡ x = with_here lanes lane x in
     let has : is_in p (ticket_places v.tickets) ≡ true = ticket_in v k t g.here in
     let mine : is_unended_asker past lane p ≡ true = asked_it s past core lanes begun lane k t g in
@@ -372,10 +372,10 @@ poll_cancels s past core lanes begun lane k t handle g came =
     let grant : is_grant past p ≡ true = ap is_granted got in
     let newer : IsBelow p (grant_places v.grants) = handles_are_newer s past lane p v [] l b.good.run has grant mine in
     let places : grant_places v.grants ++ p ∷ [] ≡ grant_places (v.grants ++ brought t handle ∷ []) = sym (places_push v.grants (brought t handle)) in
-    let pushed : before ++ p ∷ [] ≡ dues = sym (loose_push v.site p (grant_places v.grants)
-    (unslotted s past lane p v [] b.good.run l mine)) ∙ ap (loose_of v.site) places in
-    let due : Dues s now dues = subst (λ (ps : List ℕ). Dues s now (loose_of v.site ps)) places
-    (subst (λ (z : Site). Dues s now (loose_of z (grant_places v.grants ++ p ∷ []))) (sym g.ended.goes.runs.1)
+    let pushed : before ++ p ∷ [] ≡ dues = sym (unheld_push v.site p (grant_places v.grants)
+    (unslotted s past lane p v [] b.good.run l mine)) ∙ ap (unheld_of v.site) places in
+    let due : Dues s now dues = subst (λ (ps : List ℕ). Dues s now (unheld_of v.site ps)) places
+    (subst (λ (z : Site). Dues s now (unheld_of z (grant_places v.grants ++ p ∷ []))) (sym g.ended.goes.runs.1)
     (cancelled_dues s middle core lanes lane p outcome.Cancelled g.ended.mid g.there (g.ended.first, b.good.run)
     g.ended.due has grant mine (λ q in_it granted. one_ticket s past core lanes begun lane k t g q in_it granted)))
     in
@@ -407,7 +407,7 @@ keep_cancels s past core lanes begun lane site h there none e =
     let b = h.between in
     let transfers : (p : ℕ) → is_in p (ticket_places v.tickets) ≡ true → IsTransferAt past p =
     λ p has. other_transfers past lane p v (b.asks lane there) (none_own v.running p none) has in
-    let due : Dues s now (loose_of site (grant_places v.grants)) = subst (λ (z : Site). Dues s now (loose_of z (grant_places v.grants))) (sym e.goes.runs.1)
+    let due : Dues s now (unheld_of site (grant_places v.grants)) = subst (λ (z : Site). Dues s now (unheld_of z (grant_places v.grants))) (sym e.goes.runs.1)
     (ended_dues s middle core lanes lane outcome.Cancelled e.mid there (e.first, b.good.run) e.due
     (λ p has. transfer_ungranted s past p b.good.run (transfers p has))) in
     now_between s past core core lanes begun lane site (ended_lane v site) h e refl transfers due e.tied b.counted (omega arith)

@@ -1,4 +1,4 @@
--- A session on machines, as it closes a grant that is due.
+-- A session on runners, as it closes a grant that is due.
 use Rattle.std.proofs.Common.{◌≡◌, ◌≢◌, ◌<◌, ℕ, zero, suc, Bool, true, false, List, [], ◌∷◌, Option, Some, None, refl, ap, sym, ◌∙◌, subst, inl, inr}
 use Rattle.std.specs.Prelude.{length, slice_get}
 use Rattle.std.proofs.lemmas.Bool.Decides.{eqb_tells}
@@ -13,7 +13,7 @@ use Rattle.session_model.specs.declared.event.Event.TheVariants.{Submit}
 use Rattle.session_model.specs.declared.entry.Entry.{Entry}
 use Rattle.session_model.specs.Readings.{AskedRequest, answer, asked, bearer}
 use Rattle.session_model.specs.Calls.{Setting}
-use Rattle.session_model.specs.Grants.{closed, is_one_of, orphan}
+use Rattle.session_model.specs.Grants.{closed, is_one_of, next_due}
 use Rattle.session_model.specs.Ids.{Replied, id_state, ReadsId}
 use Rattle.session_model.proofs.IdLaws.{reads}
 use Rattle.session_model.specs.Journals.{IsJournal, close_of}
@@ -97,7 +97,7 @@ out_more g q dues ne e = elim (eqb_tells g q) [ inl t ↦ absurd (ne (sym t.1)) 
 
 -- a lane that has no such grant any more
 close_lane : (s : Setting) (past : List Entry) (lane g id : ℕ) (v : LaneValue) (left : List Held) (dues rest : List ℕ)
-    → IsJournal s (close_of past g id ∷ past) → orphan s past ≡ Some g → FewerDue g dues rest
+    → IsJournal s (close_of past g id ∷ past) → next_due s past ≡ Some g → FewerDue g dues rest
     → LaneTied s past lane v dues
     → place_of (id_state past id) ≡ Some g → is_in g (ticket_places v.tickets) ≡ false → is_in g (grant_places left) ≡ false
     → GrantsTied past left → AllOf past lane (grant_places left) → IsRising (grant_places left)
@@ -162,7 +162,7 @@ among_new past id r places = ap (λ x. by_asker x (λ l. is_in (asked past) (pla
 -- The grant that is due next has its CLOSE; the others are due.
 pub close_tied : (s : Setting) (past : List Entry) (core now : Core) (lanes : ℕ → LaneValue) (dues rest : List ℕ)
     (g id k lane : ℕ) (handle : List ℕ) → SessionTied s past core lanes dues → IsJournal s (close_of past g id ∷ past)
-    → orphan s past ≡ Some g → FewerDue g dues rest → lane < length s.lanes
+    → next_due s past ≡ Some g → FewerDue g dues rest → lane < length s.lanes
     → slice_get (lanes lane).grants k ≡ Some (record { place = g; grant = record { id = id; handle = handle } })
     → CoreTied s (close_of past g id ∷ past) now → at now id ≡ Some
     (Waiting (expected_of (request.Close (handle_of (answer past g)))) false false)
@@ -225,7 +225,7 @@ close_tied s past core now lanes dues rest g id k lane handle h j due fewer ther
 
 -- what is due next has its CLOSE, where it is no ticket and no grant of a lane
 pub close_unheld_tied : (s : Setting) (past : List Entry) (core now : Core) (lanes : ℕ → LaneValue) (dues rest : List ℕ)
-    (g id : ℕ) → SessionTied s past core lanes dues → IsJournal s (close_of past g id ∷ past) → orphan s past ≡ Some g
+    (g id : ℕ) → SessionTied s past core lanes dues → IsJournal s (close_of past g id ∷ past) → next_due s past ≡ Some g
     → FewerDue g dues rest
     → place_of (id_state past id) ≡ Some g → among past (tickets_of lanes) g ≡ false → among past (grants_of lanes) g ≡ false
     → CoreTied s (close_of past g id ∷ past) now → at now id ≡ Some

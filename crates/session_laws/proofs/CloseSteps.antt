@@ -10,7 +10,7 @@ use Rattle.plan_runner.specs.Pending.{pends}
 use Rattle.session_model.specs.declared.event.Event.TheVariants.{Submit}
 use Rattle.session_model.specs.declared.entry.Entry.{Entry}
 use Rattle.session_model.specs.Calls.{Setting, current}
-use Rattle.session_model.specs.Grants.{orphan, letting_go}
+use Rattle.session_model.specs.Grants.{next_due, letting_go}
 use Rattle.session_model.specs.Journals.{IsJournal, IsNext, MustClose, close_of}
 use Rattle.session_model.specs.Steady.{Good}
 use Rattle.session_model.proofs.CallLaws.{due_next}
@@ -22,7 +22,7 @@ use Rattle.session_laws.specs.Dues.{Dues}
 use Rattle.session_laws.specs.Lanes.{Held, LaneTied, LaneValue, SessionTied, grant_places, ticket_places, tickets_for}
 use Rattle.session_laws.specs.Places.{is_in, without}
 use Rattle.session_laws.proofs.CloseLaws.{grant_index, grant_state, grant_without, out_more}
-use Rattle.session_laws.proofs.DueLaws.{dues_close, none_next, orphan_first}
+use Rattle.session_laws.proofs.DueLaws.{dues_close, none_next, next_due_first}
 use Rattle.session_laws.proofs.FilledLaws.{handles_agree}
 use Rattle.session_laws.proofs.LaneLaws.{grants_count}
 use Rattle.session_laws.proofs.PlaceLaws.{without_other}
@@ -83,7 +83,7 @@ pub record Closing (s : Setting) (past : List Entry) (core : Core) (lanes : ℕ 
 pub closing : (s : Setting) (past : List Entry) (core : Core) (lanes : ℕ → LaneValue) (dues : List ℕ) (begun : ℕ → Bool)
     (lane k : ℕ) (g : Held) → Good s past begun → SessionTied s past core lanes dues → Counted past core
     → ((w : ℕ) → w < length s.lanes → LaneAsks past w (lanes w))
-    → orphan s past ≡ Some g.place → lane < length s.lanes → slice_get (lanes lane).grants k ≡ Some g
+    → next_due s past ≡ Some g.place → lane < length s.lanes → slice_get (lanes lane).grants k ≡ Some g
     → g.grant.id < 2 ^ 32 → opened_in (lanes lane).running ≢ Some g.place
     → Closing s past core lanes begun lane k g
 closing s past core lanes dues begun lane k g good tied counted asks due there got small apart =
@@ -127,7 +127,7 @@ pub due_closed : (s : Setting) (past : List Entry) (core : Core) (lanes : ℕ �
     → slice_get (lanes lane).grants k ≡ Some g → g.grant.id < 2 ^ 32 → opened_in (lanes lane).running ≢ Some g.place
     → ClosesDue s past core lanes begun lane k g rest
 due_closed s past core lanes begun lane k g rest b letting there got small apart =
-    let due : orphan s past ≡ Some g.place = orphan_first s past g.place rest letting b.due in
+    let due : next_due s past ≡ Some g.place = next_due_first s past g.place rest letting b.due in
     let c : Closing s past core lanes begun lane k g = closing s past core lanes (g.place ∷ rest) begun lane k g b.good
     b.tied b.counted b.asks due there got small apart in
     let j : IsJournal s (close_of past g.place g.grant.id ∷ past) = subst (λ (e : Entry). IsJournal s (e ∷ past)) c.is c.good.run in

@@ -10,7 +10,7 @@ use Rattle.session_model.proofs.CallLaws.{has_place, asker_owns, ended_end, own_
 use Rattle.session_model.specs.Grants.{is_asked_by, is_grant}
 use Rattle.session_model.proofs.HolderLaws.{holds_back}
 use Rattle.session_model.specs.Journals.{IsJournal}
-use Rattle.session_laws.specs.Dues.{Dues, loose_of}
+use Rattle.session_laws.specs.Dues.{Dues, unheld_of}
 use Rattle.session_laws.specs.Places.{is_in}
 use Rattle.session_laws.specs.Lanes.{Held, LaneHolds, Ticketed, grant_places, ticket_places}
 use Rattle.session_laws.proofs.EndLaws.{dues_end, holds_ended, kept}
@@ -22,7 +22,7 @@ use Rattle.session_model.specs.declared.entry.Entry.TheVariants as entry
 pub end_holds : (s : Setting) (past : List Entry) (lane : ℕ) (o : Outcome) (ts : List Ticketed) (gs : List Held)
     → IsJournal s (entry.Event (End lane (ended past lane) o) ∷ past) → LaneHolds s past lane ts gs []
     → LaneHolds s (entry.Event (End lane (ended past lane) o) ∷ past) lane ts gs
-    (loose_of (site_of s (entry.Event (End lane (ended past lane) o) ∷ past) lane) (grant_places gs))
+    (unheld_of (site_of s (entry.Event (End lane (ended past lane) o) ∷ past) lane) (grant_places gs))
 end_holds s past lane o ts gs j h =
     let now : List Entry = entry.Event (End lane (ended past lane) o) ∷ past in
     let site : Site = site_of s now lane in
@@ -50,5 +50,5 @@ pub end_dues : (s : Setting) (past : List Entry) (lane : ℕ) (o : Outcome) (ts 
     → IsJournal s past → Dues s past [] → LaneHolds s past lane ts gs []
     → ((p : ℕ) → is_in p (ticket_places ts) ≡ true → is_grant past p ≡ false)
     → Dues s (entry.Event (End lane (ended past lane) o) ∷ past)
-    (loose_of (site_of s (entry.Event (End lane (ended past lane) o) ∷ past) lane) (grant_places gs))
+    (unheld_of (site_of s (entry.Event (End lane (ended past lane) o) ∷ past) lane) (grant_places gs))
 end_dues s past lane o ts gs j d h polled = dues_end s past lane o (grant_places gs) j d (are_grants s past lane ts gs j h polled)

@@ -14,7 +14,7 @@ use Rattle.session_model.proofs.CallLaws.{has_place, asker_owns, own_fresh, ende
 use Rattle.session_model.specs.Grants.{is_grant, is_held, holds, is_one_of, is_asked_by, is_unended_asker, closed}
 use Rattle.session_model.proofs.GrantLaws.{any_passes, any_where}
 use Rattle.session_model.specs.Journals.{IsJournal}
-use Rattle.session_laws.specs.Dues.{IsDue, Dues, AllDue, loose_of}
+use Rattle.session_laws.specs.Dues.{IsDue, Dues, AllDue, unheld_of}
 use Rattle.session_laws.specs.Places.{IsRising, IsAbove, is_in}
 use Rattle.session_laws.proofs.GoneLaws.{held_idle}
 use Rattle.session_model.specs.declared.entry.Entry.TheVariants as entry
@@ -39,49 +39,49 @@ in_more h g gs e = by_head (h == g) e
     by_head true e = refl
     by_head false e = e
 
-above_loose : (site : Site) (k : ℕ) (gs : List ℕ) → IsAbove k gs → IsAbove k (loose_of site gs)
-above_loose site k [] a = tt
-above_loose site k (g ∷ gs) a = by_test (has_grant site g) a.0 (above_loose site k gs a.1)
+above_unheld : (site : Site) (k : ℕ) (gs : List ℕ) → IsAbove k gs → IsAbove k (unheld_of site gs)
+above_unheld site k [] a = tt
+above_unheld site k (g ∷ gs) a = by_test (has_grant site g) a.0 (above_unheld site k gs a.1)
   where
-    by_test : (b : Bool) → k < g → IsAbove k (loose_of site gs) → IsAbove k (if b then loose_of site gs else g ∷ loose_of site gs)
+    by_test : (b : Bool) → k < g → IsAbove k (unheld_of site gs) → IsAbove k (if b then unheld_of site gs else g ∷ unheld_of site gs)
     by_test true lt rest = rest
     by_test false lt rest = (lt, rest)
 
-rising_loose : (site : Site) (gs : List ℕ) → IsRising gs → IsRising (loose_of site gs)
-rising_loose site [] r = tt
-rising_loose site (g ∷ gs) r = by_test (has_grant site g) (above_loose site g gs r.0) (rising_loose site gs r.1)
+rising_unheld : (site : Site) (gs : List ℕ) → IsRising gs → IsRising (unheld_of site gs)
+rising_unheld site [] r = tt
+rising_unheld site (g ∷ gs) r = by_test (has_grant site g) (above_unheld site g gs r.0) (rising_unheld site gs r.1)
   where
-    by_test : (b : Bool) → IsAbove g (loose_of site gs) → IsRising (loose_of site gs) → IsRising (if b then loose_of site gs else g ∷ loose_of site gs)
+    by_test : (b : Bool) → IsAbove g (unheld_of site gs) → IsRising (unheld_of site gs) → IsRising (if b then unheld_of site gs else g ∷ unheld_of site gs)
     by_test true above rest = rest
     by_test false above rest = (above, rest)
 
--- what isn't loose is in a slot
-pub kept : (site : Site) (g : ℕ) (gs : List ℕ) → is_in g gs ≡ true → is_in g (loose_of site gs) ≡ false → has_grant site g ≡ true
+-- what isn't unheld is in a slot
+pub kept : (site : Site) (g : ℕ) (gs : List ℕ) → is_in g gs ≡ true → is_in g (unheld_of site gs) ≡ false → has_grant site g ≡ true
 kept site g [] e out = absurd cc
 kept site g (h ∷ hs) e out = elim (eqb_tells h g) [
   | inl t ↦ subst (λ (n : ℕ). has_grant site n ≡ true) t.1 (by_test (has_grant site h) t.0 out)
   | inr t ↦ kept site g hs (rw t.0 at e) (by_rest (has_grant site h) t.0 out)
 ]
   where
-    by_test : (b : Bool) → (h == g) ≡ true → is_in g (if b then loose_of site hs else h ∷ loose_of site hs) ≡ false → b ≡ true
+    by_test : (b : Bool) → (h == g) ≡ true → is_in g (if b then unheld_of site hs else h ∷ unheld_of site hs) ≡ false → b ≡ true
     by_test true same out = refl
     by_test false same out = absurd (let clash : true ≡ false = rw same at out in cc)
 
-    by_rest : (b : Bool) → (h == g) ≡ false → is_in g (if b then loose_of site hs else h ∷ loose_of site hs) ≡ false → is_in g (loose_of site hs) ≡ false
+    by_rest : (b : Bool) → (h == g) ≡ false → is_in g (if b then unheld_of site hs else h ∷ unheld_of site hs) ≡ false → is_in g (unheld_of site hs) ≡ false
     by_rest true apart out = out
     by_rest false apart out = rw apart at out
 
--- each that is loose is one of them, and in no slot
-all_loose : (P : List ℕ → Type 0) (site : Site) (mine gs : List ℕ) (L : ℕ → Type 0) → P []
+-- each that is unheld is one of them, and in no slot
+all_unheld : (P : List ℕ → Type 0) (site : Site) (mine gs : List ℕ) (L : ℕ → Type 0) → P []
     → ((g : ℕ) (rest : List ℕ) → L g → P rest → P (g ∷ rest)) →
-    ((g : ℕ) → is_in g gs ≡ true → has_grant site g ≡ false → L g) → P (loose_of site gs)
-all_loose P site mine [] L nil more each = nil
-all_loose P site mine (g ∷ gs) L nil more each = by_test (has_grant site g) refl
-    (all_loose P site mine gs L nil more (λ k e out. each k (in_more g k gs e) out))
+    ((g : ℕ) → is_in g gs ≡ true → has_grant site g ≡ false → L g) → P (unheld_of site gs)
+all_unheld P site mine [] L nil more each = nil
+all_unheld P site mine (g ∷ gs) L nil more each = by_test (has_grant site g) refl
+    (all_unheld P site mine gs L nil more (λ k e out. each k (in_more g k gs e) out))
   where
-    by_test : (b : Bool) → has_grant site g ≡ b → P (loose_of site gs) → P (if b then loose_of site gs else g ∷ loose_of site gs)
+    by_test : (b : Bool) → has_grant site g ≡ b → P (unheld_of site gs) → P (if b then unheld_of site gs else g ∷ unheld_of site gs)
     by_test true is rest = rest
-    by_test false is rest = more g (loose_of site gs) (each g (in_self g gs) is) rest
+    by_test false is rest = more g (unheld_of site gs) (each g (in_self g gs) is) rest
 
 -- ---- the end
 
@@ -119,7 +119,7 @@ holds_other s past lane w o g ne = elim (eqb_tells lane w) [ inl t ↦ absurd (n
 
 -- behind an end all grants of the lane that no slot has are due, whichever and how many they are
 pub dues_end : (s : Setting) (past : List Entry) (lane : ℕ) (o : Outcome) (mine : List ℕ) → IsJournal s past → Dues s past [] → AreGrants s past lane mine
-    → Dues s (entry.Event (End lane (ended past lane) o) ∷ past) (loose_of (site_of s (entry.Event (End lane (ended past lane) o) ∷ past) lane) mine)
+    → Dues s (entry.Event (End lane (ended past lane) o) ∷ past) (unheld_of (site_of s (entry.Event (End lane (ended past lane) o) ∷ past) lane) mine)
 dues_end s past lane o mine j d a =
     let now : List Entry = entry.Event (End lane (ended past lane) o) ∷ past in
     let site : Site = site_of s now lane in
@@ -132,7 +132,7 @@ dues_end s past lane o mine j d a =
                 subst (λ (n : ℕ). holds s now g n ≡ true) same (holds_ended s past lane o g j ∙ kept site g mine (a.all g granted unclosed had) out))
             | inr t ↦ holds_other s past lane who.0 o g t.1 ∙ who.1.1
           ]));
-      loose = all_loose (λ gs. AllDue s now gs) site mine mine (λ g. IsDue s now g) tt (λ g rest l all. (l, all))
+      unheld = all_unheld (λ gs. AllDue s now gs) site mine mine (λ g. IsDue s now g) tt (λ g rest l all. (l, all))
           (λ g is out. record {
             granted = a.granted g is;
             unheld = false_of (is_held s now g) (λ h.
@@ -145,5 +145,5 @@ dues_end s past lane o mine j d a =
                 ]));
             unclosed = a.unclosed g is;
           });
-      rising = rising_loose site mine a.rising;
+      rising = rising_unheld site mine a.rising;
     }

@@ -19,7 +19,7 @@ use Rattle.session_model.specs.declared.entry.Entry.{Entry}
 use Rattle.session_model.specs.declared.entry.Entry.TheVariants as entry
 use Rattle.session_model.specs.Readings.{AskedRequest, asked_at, awaiting, sent, asked}
 use Rattle.session_model.specs.Calls.{Setting}
-use Rattle.session_model.specs.Grants.{is_held, orphan}
+use Rattle.session_model.specs.Grants.{is_held, next_due}
 use Rattle.session_model.specs.Ids.{IdState, Free, Pending, Replied, ReadsId, id_state}
 use Rattle.session_model.specs.Journals.{IsFree, IsJournal, IsNext, MayTake, MustClose, close_of, goes_on, opened}
 use Rattle.session_model.specs.Steady.{Good}
@@ -30,7 +30,7 @@ use Rattle.session_model.proofs.RunLaws.{good_plain}
 use Rattle.session_laws.specs.Dues.{Dues}
 use Rattle.session_laws.specs.Lanes.{SessionTied, among, grants_of, tickets_of, LaneValue}
 use Rattle.session_laws.specs.Tables.{Tabled, replied, stand}
-use Rattle.session_laws.proofs.DueLaws.{dues_close, none_next, orphan_first}
+use Rattle.session_laws.proofs.DueLaws.{dues_close, none_next, next_due_first}
 use Rattle.session_laws.proofs.ReplyLaws.{taken_keeps, unwanted_keeps}
 use Rattle.session_laws.proofs.RestLaws.{sent_dues, taken_dues, unheld_dues}
 use Rattle.session_laws.proofs.TurnLaws.{sent_keeps}
@@ -175,8 +175,8 @@ unwanted_closed s past core lanes begun id handle h x unwanted =
     let read = subst (ReadsId past id) p.state (reads past id) in
     let none_wants : w p.place ≡ false = sym p.wanted_is ∙ unwanted in
     let unheld : is_held s past p.place ≡ false = unwanted_unheld s past core lanes [] p.place b.good.run b.tied read.1 none_wants in
-    let loose : Dues s mid (p.place ∷ []) = unheld_dues s past id p.place p.asked true r b.good.run p.state refl unheld b.due in
-    let orphan_is : orphan s mid ≡ Some p.place = orphan_first s mid p.place [] refl loose in
+    let unheld : Dues s mid (p.place ∷ []) = unheld_dues s past id p.place p.asked true r b.good.run p.state refl unheld b.due in
+    let next_due_is : next_due s mid ≡ Some p.place = next_due_first s mid p.place [] refl unheld in
     let close_is : close ≡ close_of mid p.place id = ap (λ (x : List ℕ). entry.Event
     (Submit owner.Close id (request.Close x))) (sym (ap handle_of (answer_new past id p.place r read.0))) in
     let free : IsFree mid id = (
@@ -185,20 +185,20 @@ unwanted_closed s past core lanes begun id handle h x unwanted =
           (eq-eqb id id refl),
     ) in
     let must : MustClose mid p.place close = (id, (free, close_is)) in
-    let last : IsNext s mid close = due_next s mid p.place close refl orphan_is must in
+    let last : IsNext s mid close = due_next s mid p.place close refl next_due_is must in
     let run : IsJournal s (close_of mid p.place id ∷ mid) = subst (λ (y : Entry). IsJournal s (y ∷ mid)) close_is (last, good.run) in
-    let due : Dues s now [] = subst (λ (y : Entry). Dues s (y ∷ mid) []) (sym close_is) (dues_close s mid p.place id [] refl loose) in
+    let due : Dues s now [] = subst (λ (y : Entry). Dues s (y ∷ mid) []) (sym close_is) (dues_close s mid p.place id [] refl unheld) in
     let here : at core id ≡ Some (Waiting x.kind true false) = x.here ∙ ap (λ (y : Bool). Some (Waiting x.kind true y)) unwanted in
     record {
       may = may;
       next = next;
-      closes = inr ((p.place, (orphan_is, must)), inl refl);
+      closes = inr ((p.place, (next_due_is, must)), inl refl);
       rest = record {
         between = record {
           good = good_plain s mid begun close good last tt;
           due = due;
           tied = subst (λ (y : Entry). SessionTied s (y ∷ mid) (take_leaves core id r (at core id)) lanes []) (sym close_is)
-              (unwanted_keeps s past core lanes id p.place p.asked true handle b.tied run p.state none_wants orphan_is);
+              (unwanted_keeps s past core lanes id p.place p.asked true handle b.tied run p.state none_wants next_due_is);
           counted = counted_take_drop past core id r x.kind handle here may refl b.counted;
           spends = spends_same s past now core (take_leaves core id r (at core id)) lanes lanes (λ l lt. refl) (kept_taken core id r) b.spends;
           asks = λ lane lt. asks_on past now lane (lanes lane) (λ q below. asked_other mid owner.Close id q

@@ -1,4 +1,4 @@
--- What a lane's machine asks bears the handles of the lane's grants, and its CLOSE is that of the grant that the journal says.
+-- What a lane's runner asks bears the handles of the lane's grants, and its CLOSE is that of the grant that the journal says.
 use Rattle.std.proofs.Common.{◌≡◌, ◌==◌, ℕ, Bool, true, false, List, [], ◌∷◌, Option, Some, None, refl, ap, sym, ◌∙◌, subst, inl, inr, if◌then◌else◌}
 use Rattle.std.specs.Prelude.{◌||◌, ◌<◌, ◌≤◌, slice_get}
 use Rattle.std.proofs.lemmas.Bool.Decides.{eqb_tells}

@@ -1,4 +1,4 @@
--- What a lane's machine goes on with behind its answer, once for all calls: by the clauses `goes`, `left`, `sound` and `pends`.
+-- What a lane's runner goes on with behind its answer, once for all calls: by the clauses `goes`, `left`, `sound` and `pends`.
 use Rattle.std.specs.Prelude.{slice_get}
 use Rattle.std.proofs.Common.{refl, ◌≡◌, ◌≢◌, ◌≤◌, ℕ, false, List, [], ◌∷◌, ◌++◌, length, Option, Some, None, ap, sym, ◌∙◌, subst}
 use Rattle.sftp_model.specs.declared.outcome.Outcome.{Outcome}
@@ -22,7 +22,7 @@ use Rattle.session_model.specs.Journals.{IsJournal}
 use Rattle.session_laws.specs.Running.{StepsByMove, CancelSteps, CancelTied, IsFilled, request_of, IsFrom, LeavesFrom, RunTied, leaving}
 use Rattle.session_laws.specs.Places.{is_in, IsRising, without}
 use Rattle.session_laws.specs.Lanes.{LaneGoes, tickets_for}
-use Rattle.session_laws.specs.Going.{LaneGoesOn, MachineStep, MachineWidens}
+use Rattle.session_laws.specs.Going.{LaneGoesOn, RunnerStep, RunnerWidens}
 use Rattle.session_laws.proofs.CancelLaws.{cancel_leaves, cancel_idle, cancel_steps}
 use Rattle.session_laws.proofs.PendLaws.{awaits_step, polled_has}
 use Rattle.session_laws.proofs.RunningLaws.{from_none, from_reply, steps, tied_idle, widens}
@@ -38,7 +38,7 @@ one_call c d x a b = cc
 no_none : (x : Option Call) (c : Call) → x ≡ Some c → x ≢ None
 no_none x c a b = absurd cc
 
--- the machine awaits another reply
+-- the runner awaits another reply
 pub wait_goes : (s : Setting) (past : List Entry) (lane place : ℕ) (c : Call) (old site : Site) (tickets : List ℕ)
     (before : ℕ → ℕ) (r : Running) → current s past lane ≡ Some c → length old.slots ≡ 16 → AreWithin s.facts old
     → StepsByMove s past lane (step.Wait r) site → CancelSteps s past lane (step.Wait r) site
@@ -54,7 +54,7 @@ wait_goes s past lane place c old site tickets before r is sixteen within runs l
       awaits = awaits_step before place site tickets (step.Wait r) pend new all;
     }
 
--- the machine asks
+-- the runner asks
 pub ask_goes : (s : Setting) (past : List Entry) (lane id : ℕ) (c : Call) (old site : Site) (tickets : List ℕ)
     (before : ℕ → ℕ) (a : Asked) (r : Running) → current s past lane ≡ Some c → length old.slots ≡ 16
     → AreWithin s.facts old
@@ -71,7 +71,7 @@ ask_goes s past lane id c old site tickets before a r is sixteen within runs lea
       awaits = awaits_step before (asked past) site tickets (step.Ask a r) pend new all;
     }
 
--- the machine ends
+-- the runner ends
 pub done_goes : (s : Setting) (past : List Entry) (lane : ℕ) (o : Outcome) (c : Call) (old site : Site)
     (tickets : List ℕ) (before : ℕ → ℕ) → IsJournal s past → last_cancel past ≡ None → length old.slots ≡ 16
     → AreWithin s.facts old
@@ -120,9 +120,9 @@ cancelled_goes s past lane o running old site c tickets j tied is left sixteen w
       awaits = awaits;
     }
 
--- ---- from a machine's clauses to its lane
+-- ---- from a runner's clauses to its lane
 
--- what the lane's machine answered makes of the lane
+-- what the lane's runner answered makes of the lane
 answer_goes : (s : Setting) (past : List Entry) (lane : ℕ) (c : Call) (old site : Site) (tickets : List ℕ)
     (before : ℕ → ℕ) (n : Next) → current s past lane ≡ Some c → length old.slots ≡ 16 → AreWithin s.facts old
     → is_in (asked past) tickets ≡ false → ((q : ℕ) → before q ≤ tickets_for tickets q) → StepsByMove s past lane n site
@@ -138,14 +138,14 @@ answer_goes s past lane c old site tickets before (step.Wait r) is sixteen withi
 answer_goes s past lane c old site tickets before (step.Done o) is sixteen within new all st left sounds pend =
     (st, λ j calm. done_goes s past lane o c old site tickets before j calm sixteen within st sounds pend new all)
 
--- what the lane's machine answers, from this plan
-machine_goes : (s : Setting) (past : List Entry) (lane : ℕ) (c : Call) (running : Option Running) (old site : Site)
+-- what the lane's runner answers, from this plan
+runner_goes : (s : Setting) (past : List Entry) (lane : ℕ) (c : Call) (running : Option Running) (old site : Site)
     (tickets : List ℕ) (plan : Plan) (leave : Leaving) (before : ℕ → ℕ) (n : Next) → current s past lane ≡ Some c
     → RunTied s past lane running old → CancelTied s past lane running old → length old.slots ≡ 16
     → AreWithin s.facts old → IsFrom past running c old s.facts plan → LeavesFrom past running c old s.facts leave
     → is_in (asked past) tickets ≡ false → ((q : ℕ) → before q ≤ tickets_for tickets q)
-    → MachineStep s past c plan leave before old site n → LaneGoesOn s past lane tickets site n
-machine_goes s past lane c running old site tickets plan leave before n is runs cancels sixteen within from leaves_from new all a =
+    → RunnerStep s past c plan leave before old site n → LaneGoesOn s past lane tickets site n
+runner_goes s past lane c running old site tickets plan leave before n is runs cancels sixteen within from leaves_from new all a =
     answer_goes s past lane c old site tickets before n is sixteen within new all
     (steps s past lane running old site c plan n runs is from a.goes)
     (cancel_steps s past lane running old site c leave n cancels is leaves_from a.left) a.sound a.pends
@@ -153,9 +153,9 @@ machine_goes s past lane c running old site tickets plan leave before n is runs 
 -- The lane's next call begins.
 pub begin_goes : (s : Setting) (past : List Entry) (lane : ℕ) (c : Call) (old site : Site) (tickets : List ℕ) (n : Next)
     → current s past lane ≡ Some c → LaneGoes s past lane None old tickets → is_in (asked past) tickets ≡ false
-    → MachineStep s past c (next c old s.facts) (cancelled c old s.facts) (pends_idle old) old site n → LaneGoesOn s past lane tickets site n
+    → RunnerStep s past c (next c old s.facts) (cancelled c old s.facts) (pends_idle old) old site n → LaneGoesOn s past lane tickets site n
 begin_goes s past lane c old site tickets n is l new a =
-    machine_goes s past lane c None old site tickets (next c old s.facts) (cancelled c old s.facts) (pends_idle old) n
+    runner_goes s past lane c None old site tickets (next c old s.facts) (cancelled c old s.facts) (pends_idle old) n
     is (tied_idle s past lane old l.runs.0 l.runs.1) (cancel_idle s past lane old l.runs.0 l.runs.1) l.sixteen
     l.within
     (λ answers known later. refl) (λ answers known later. refl) new l.awaits a
@@ -164,10 +164,10 @@ begin_goes s past lane c old site tickets n is l new a =
 pub reply_goes : (s : Setting) (past : List Entry) (lane k p : ℕ) (c : Call) (r : Running) (y : Reply) (old site : Site)
     (tickets : List ℕ) (n : Next) → current s past lane ≡ Some c → LaneGoes s past lane (Some r) old tickets
     → IsRising tickets → slice_get tickets k ≡ Some p → awaited r old ≡ Some p → answer past p ≡ Some y → is_in (asked past) tickets ≡ false
-    → MachineStep s past c (after r (bytes_of c) old s.facts (Some y)) (left_after r (bytes_of c) old s.facts (Some y))
+    → RunnerStep s past c (after r (bytes_of c) old s.facts (Some y)) (left_after r (bytes_of c) old s.facts (Some y))
     (pends_after r old (Some y)) old site n → LaneGoesOn s past lane (without k tickets) site n
 reply_goes s past lane k p c r y old site tickets n is l rising at awaits got new a =
-    machine_goes s past lane c (Some r) old site (without k tickets) (after r (bytes_of c) old s.facts (Some y))
+    runner_goes s past lane c (Some r) old site (without k tickets) (after r (bytes_of c) old s.facts (Some y))
     (left_after r (bytes_of c) old s.facts (Some y)) (pends_after r old (Some y)) n is l.runs.0 l.runs.1 l.sixteen
     l.within
     (from_reply past r c old s.facts p y awaits got) (λ answers known later. left_came r (bytes_of c) old s.facts later
@@ -178,17 +178,17 @@ reply_goes s past lane k p c r y old site tickets n is l rising at awaits got ne
 pub unreplied_goes : (s : Setting) (past : List Entry) (lane : ℕ) (c : Call) (r : Running) (old site : Site)
     (tickets : List ℕ) (n : Next) → current s past lane ≡ Some c → LaneGoes s past lane (Some r) old tickets
     → awaited r old ≡ None → is_in (asked past) tickets ≡ false
-    → MachineStep s past c (after r (bytes_of c) old s.facts None) (left_after r (bytes_of c) old s.facts None)
+    → RunnerStep s past c (after r (bytes_of c) old s.facts None) (left_after r (bytes_of c) old s.facts None)
     (pends_after r old None) old site n → LaneGoesOn s past lane tickets site n
 unreplied_goes s past lane c r old site tickets n is l awaits new a =
-    machine_goes s past lane c (Some r) old site tickets (after r (bytes_of c) old s.facts None)
+    runner_goes s past lane c (Some r) old site tickets (after r (bytes_of c) old s.facts None)
     (left_after r (bytes_of c) old s.facts None) (pends_after r old None) n is l.runs.0 l.runs.1 l.sixteen l.within
     (from_none past r c old s.facts awaits) (λ answers known later. left_none r (bytes_of c) old s.facts later answers) new l.awaits a
 
 -- A call answers while the reply that it awaits is missing.
 pub widen_goes : (s : Setting) (past : List Entry) (lane p : ℕ) (c : Call) (r : Running) (site : Site)
     (tickets : List ℕ) (n : Next) → current s past lane ≡ Some c → LaneGoes s past lane (Some r) site tickets
-    → awaited r site ≡ Some p → answer past p ≡ None → is_in (asked past) tickets ≡ false → MachineWidens s past c r site n → LaneGoesOn s past lane tickets site n
+    → awaited r site ≡ Some p → answer past p ≡ None → is_in (asked past) tickets ≡ false → RunnerWidens s past c r site n → LaneGoesOn s past lane tickets site n
 widen_goes s past lane p c r site tickets n is l awaits none new a =
     answer_goes s past lane c site site tickets (λ q. pends q (Some r) site) n is l.sixteen l.within new l.awaits
     (widens s past lane r site c p n l.runs.0 is awaits none a.goes)

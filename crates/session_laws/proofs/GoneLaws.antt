@@ -9,14 +9,14 @@ use Rattle.session_model.specs.declared.event.Event.TheVariants.{Submit}
 use Rattle.session_model.specs.declared.entry.Entry.{Entry}
 use Rattle.session_model.specs.Readings.{asked}
 use Rattle.session_model.specs.Calls.{Setting, held_by}
-use Rattle.session_model.specs.Grants.{closed, is_grant, is_unended_asker, orphan}
+use Rattle.session_model.specs.Grants.{closed, is_grant, is_unended_asker, next_due}
 use Rattle.session_model.specs.Journals.{close_of}
 use Rattle.session_model.proofs.LetGoLaws.{granted_below}
 use Rattle.plan_model.specs.declared.call.Call.TheVariants as call
 use Rattle.session_model.specs.declared.entry.Entry.TheVariants as entry
 
 -- what the session's own CLOSE adds
-pub closed_own : (s : Setting) (past : List Entry) (g id : ℕ) → orphan s past ≡ Some g → closed s (close_of past g id ∷ past) ≡ Some g ∷ closed s past
+pub closed_own : (s : Setting) (past : List Entry) (g id : ℕ) → next_due s past ≡ Some g → closed s (close_of past g id ∷ past) ≡ Some g ∷ closed s past
 closed_own s past g id due = ap (λ (o : Option ℕ). o ∷ closed s past) due
 
 -- the asker of a grant is as it was

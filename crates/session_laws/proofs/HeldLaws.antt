@@ -1,4 +1,4 @@
--- The grants of a machine's site are those that its lane holds: no invariant says it, for what a cancelled call leaves has them.
+-- The grants of a runner's site are those that its lane holds: no invariant says it, for what a cancelled call leaves has them.
 use Rattle.std.proofs.Common.{Option, None, true, false, ◌≡◌, ℕ, List, [], ◌∷◌, Some, refl, ap, sym, ◌∙◌}
 use Rattle.sftp_model.specs.declared.slot.Facts.{Facts}
 use Rattle.sftp_model.specs.declared.slot.Slot.{Slot}
@@ -104,7 +104,7 @@ kept_grants : (slot : Option ℕ) (site : Site) (facts : Facts) (own : Own) (ans
 kept_grants None site facts own answers g = refl
 kept_grants (Some slot) site facts own answers g = transfer_grants slot site facts own answers g
 
--- and those of the machine's site
+-- and those of the runner's site
 pub left_grants : (r : Running) (bytes : List ℕ) (site : Site) (facts : Facts) (answers : Answers) (g : ℕ)
     → has_grant (left_behind r bytes site facts [] answers) g ≡ has_grant site g
 left_grants (running.Gathering place slot file got left len) bytes site facts answers g = transfer_grants slot site facts [] answers g

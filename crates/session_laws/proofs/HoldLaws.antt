@@ -40,7 +40,7 @@ use Rattle.session_model.proofs.HolderLaws.{slots_owned}
 use Rattle.session_model.proofs.PlannedLaws.{held_less}
 use Rattle.session_model.specs.Ids.{Replied, id_state}
 use Rattle.session_model.specs.Journals.{IsJournal}
-use Rattle.session_model.proofs.ClosedLaws.{gone_loose}
+use Rattle.session_model.proofs.ClosedLaws.{gone_unheld}
 use Rattle.session_laws.specs.Places.{IsRising, is_in, without, IsBelow}
 use Rattle.session_laws.specs.Tables.{place_of}
 use Rattle.session_laws.specs.Lanes.{AllOf, GrantsTied, Held, LaneHolds, Ticketed, TicketsTied, grant_places, is_of, ticket_places}
@@ -191,7 +191,7 @@ granted_holds s past lane k ts gs dues t handle h at b =
 pub held_unclosed : (s : Setting) (past : List Entry) (g lane : ℕ) → IsJournal s past → lane < length s.lanes
     → holds s past g lane ≡ true → is_one_of (closed s past) g ≡ false
 held_unclosed s past g lane j there holder = open_still (is_one_of (closed s past) g)
-    (λ e. (let lost : is_held s past g ≡ false = (gone_loose s past g j e).1 in let kept : is_held s past g ≡ true =
+    (λ e. (let lost : is_held s past g ≡ false = (gone_unheld s past g j e).1 in let kept : is_held s past g ≡ true =
     any_passes (holds s past g) (length s.lanes) lane there holder in
     let clash : false ≡ true = sym lost ∙ kept in absurd cc))
   where

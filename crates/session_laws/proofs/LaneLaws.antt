@@ -1,4 +1,4 @@
--- What a lane's machine does, and what the core has for it, from the lane's tie to the journal.
+-- What a lane's runner does, and what the core has for it, from the lane's tie to the journal.
 use Rattle.std.proofs.Common.{◌≡◌, ◌<◌, ℕ, true, false, List, [], ◌∷◌, Option, Some, None, refl, ap, sym, ◌∙◌, subst, arith}
 use Rattle.std.specs.Prelude.{length, slice_get, ◌≤◌}
 use Rattle.sftp_model.specs.declared.reply.Reply.{Reply}
@@ -50,7 +50,7 @@ use Rattle.plan_runner.specs.Cancelling.{left_after}
 use Rattle.plan_runner.specs.Sound.{AreWithin}
 use Rattle.session_model.specs.declared.event.Event.TheVariants.{Cancel, End}
 use Rattle.session_model.specs.Journals.{IsJournal}
-use Rattle.session_laws.specs.Going.{LaneGoesOn, MachineStep, MachineWidens}
+use Rattle.session_laws.specs.Going.{LaneGoesOn, RunnerStep, RunnerWidens}
 use Rattle.sftp_model.specs.declared.reply.Reply.TheVariants as reply
 use Rattle.session_model.specs.declared.entry.Entry.TheVariants as entry
 use Rattle.plan_model.specs.CallPlans.{cancelled, next}
@@ -107,7 +107,7 @@ grants_count s past core lanes dues lane k g h there got =
     (among_self past (tickets_of lanes) lane g.place mine.0 mine.1.0 mine.1.1 ∙ l.holds.apart g.place here)
     (among_self past (grants_of lanes) lane g.place mine.0 mine.1.0 mine.1.1 ∙ here)
 
--- ---- what the lane's machine does
+-- ---- what the lane's runner does
 
 -- the next request bears a place of which the lane has no ticket
 new_place : (past : List Entry) (lane : ℕ) (ps : List ℕ) → AllOf past lane ps → is_in (asked past) ps ≡ false
@@ -124,7 +124,7 @@ goes_with s past lane v dues x l is = subst (λ (r : Option Running). LaneGoes s
 -- The lane's next call begins.
 pub begin_lane : (s : Setting) (past : List Entry) (lane : ℕ) (v : LaneValue) (dues : List ℕ) (c : Call) (site : Site)
     (n : Next) → LaneTied s past lane v dues → current s past lane ≡ Some c → v.running ≡ None
-    → MachineStep s past c (next c v.site s.facts) (cancelled c v.site s.facts) (pends_idle v.site) v.site site n
+    → RunnerStep s past c (next c v.site s.facts) (cancelled c v.site s.facts) (pends_idle v.site) v.site site n
     → LaneGoesOn s past lane (ticket_places v.tickets) site n
 begin_lane s past lane v dues c site n l is none a =
     begin_goes s past lane c v.site site (ticket_places v.tickets) n is (goes_with s past lane v dues None l none)
@@ -135,7 +135,7 @@ pub reply_lane : (s : Setting) (past : List Entry) (lane k : ℕ) (v : LaneValue
     (t : Ticketed) (y : Reply) (site : Site) (n : Next) → LaneTied s past lane v dues → current s past lane ≡ Some c
     → v.running ≡ Some r
     → slice_get v.tickets k ≡ Some t → awaited r v.site ≡ Some t.place → answer past t.place ≡ Some y
-    → MachineStep s past c (after r (bytes_of c) v.site s.facts (Some y))
+    → RunnerStep s past c (after r (bytes_of c) v.site s.facts (Some y))
     (left_after r (bytes_of c) v.site s.facts (Some y)) (pends_after r v.site (Some y)) v.site site n
     → LaneGoesOn s past lane (without k (ticket_places v.tickets)) site n
 reply_lane s past lane k v dues c r t y site n l is running at_k awaits got a =
@@ -147,7 +147,7 @@ reply_lane s past lane k v dues c r t y site n l is running at_k awaits got a =
 pub unreplied_lane :
     (s : Setting) (past : List Entry) (lane : ℕ) (v : LaneValue) (dues : List ℕ) (c : Call) (r : Running)
     (site : Site) (n : Next) → LaneTied s past lane v dues → current s past lane ≡ Some c → v.running ≡ Some r
-    → awaited r v.site ≡ None → MachineStep s past c (after r (bytes_of c) v.site s.facts None)
+    → awaited r v.site ≡ None → RunnerStep s past c (after r (bytes_of c) v.site s.facts None)
     (left_after r (bytes_of c) v.site s.facts None) (pends_after r v.site None) v.site site n
     → LaneGoesOn s past lane (ticket_places v.tickets) site n
 unreplied_lane s past lane v dues c r site n l is running awaits a =
@@ -159,7 +159,7 @@ unreplied_lane s past lane v dues c r site n l is running awaits a =
 pub widen_lane : (s : Setting) (past : List Entry) (lane p : ℕ) (v : LaneValue) (dues : List ℕ) (c : Call) (r : Running)
     (n : Next) → LaneTied s past lane v dues → current s past lane ≡ Some c → v.running ≡ Some r → awaited r v.site
     ≡ Some p
-    → answer past p ≡ None → MachineWidens s past c r v.site n → LaneGoesOn s past lane (ticket_places v.tickets) v.site n
+    → answer past p ≡ None → RunnerWidens s past c r v.site n → LaneGoesOn s past lane (ticket_places v.tickets) v.site n
 widen_lane s past lane p v dues c r n l is running awaits none a =
     widen_goes s past lane p c r v.site (ticket_places v.tickets) n is (goes_with s past lane v dues (Some r) l running)
     awaits none (new_place past lane (ticket_places v.tickets) l.holds.tied_of) a

@@ -1,4 +1,4 @@
--- A session on machines, as a lane is let go.
+-- A session on runners, as a lane is let go.
 use Rattle.std.proofs.Common.{subst, ◌≡◌, ◌≢◌, ◌<◌, ℕ, true, false, List, [], ◌∷◌, Option, Some, None, refl, ap, sym, ◌∙◌, inl, inr}
 use Rattle.std.specs.Prelude.{◌||◌, length, slice_get, ◌++◌}
 use Rattle.std.specs.List.{list_any}
@@ -124,13 +124,13 @@ pub let_go_close_tied : (s : Setting) (past : List Entry) (core now : Core) (lan
     → ((i : ℕ) → i ≢ id → at now i ≡ at core i)
     → SessionTied s (close_of past g id ∷ past) now (with_lane lanes lane (closed_lane (lanes lane) k))
     (grant_places (without k (lanes lane).grants)) × Letting s (close_of past g id ∷ past) site rest
-let_go_close_tied s past core now lanes lane g id k handle site slot rest h j l is loose there got work here elsewhere =
+let_go_close_tied s past core now lanes lane g id k handle site slot rest h j l is unheld there got work here elsewhere =
     let gs : List ℕ = grant_places (lanes lane).grants in
     let at_k : slice_get gs k ≡ Some g = grant_index (lanes lane).grants k (record { place = g; grant = record { id = id; handle = handle } }) got in
     let left : grant_places (without k (lanes lane).grants) ≡ without k gs = grant_without (lanes lane).grants k in (
-      close_tied s past core now lanes gs (grant_places (without k (lanes lane).grants)) g id k lane handle h j (letting_due s past site slot rest g l is loose)
+      close_tied s past core now lanes gs (grant_places (without k (lanes lane).grants)) g id k lane handle h j (letting_due s past site slot rest g l is unheld)
           (λ q ne out. sym (without_other gs k g q at_k ne) ∙ (ap (is_in q) (sym left) ∙ out)) there got work here elsewhere,
-      letting_close s past site slot rest g id l is loose,
+      letting_close s past site slot rest g id l is unheld,
     )
 
 -- other grants may be due, where each grant of a lane that is not due is held

@@ -9,7 +9,7 @@ use Rattle.sftp_model.specs.Slots.{grant_of, slot_has}
 use Rattle.session_model.specs.declared.entry.Entry.{Entry}
 use Rattle.session_model.specs.Readings.{is_at}
 use Rattle.session_model.specs.Calls.{Setting, site_of}
-use Rattle.session_model.specs.Grants.{is_one_of, closed, orphan, orphan_at, first_let_go, grant_or}
+use Rattle.session_model.specs.Grants.{is_one_of, closed, next_due, next_due_at, first_let_go, grant_or}
 use Rattle.session_model.specs.Journals.{close_of}
 use Rattle.session_model.proofs.LetGoLaws.{close_leaves}
 use Rattle.session_laws.specs.Letting.{Letting, StaysOrCloses}
@@ -42,9 +42,9 @@ pub letting_start : (s : Setting) (past : List Entry) (lane : ℕ) → Letting s
 letting_start s past lane = record { letting = refl; skips = λ more. refl }
 
 -- what is due next
-pub letting_orphan : (s : Setting) (past : List Entry) (site : Site) (rest : List Slot) → Letting s past site rest
-    → orphan s past ≡ first_let_go (closed s past) rest
-letting_orphan s past site rest l = ap (orphan_at s past (closed s past)) l.letting ∙ l.skips []
+pub letting_next_due : (s : Setting) (past : List Entry) (site : Site) (rest : List Slot) → Letting s past site rest
+    → next_due s past ≡ first_let_go (closed s past) rest
+letting_next_due s past site rest l = ap (next_due_at s past (closed s past)) l.letting ∙ l.skips []
 
 -- a slot whose grant stays is passed
 pub letting_skip : (s : Setting) (past : List Entry) (site : Site) (slot : Slot) (rest : List Slot)
@@ -60,20 +60,20 @@ letting_skip s past site slot rest l stays =
 -- the grant of a slot that no later slot has is due
 pub letting_due : (s : Setting) (past : List Entry) (site : Site) (slot : Slot) (rest : List Slot) (g : ℕ)
     → Letting s past site (slot ∷ rest) → grant_of slot ≡ Some g
-    → (list_any (slot_has g) rest || is_one_of (closed s past) g) ≡ false → orphan s past ≡ Some g
-letting_due s past site slot rest g l is loose =
-    letting_orphan s past site (slot ∷ rest) l ∙ (ap (λ x. grant_or x
+    → (list_any (slot_has g) rest || is_one_of (closed s past) g) ≡ false → next_due s past ≡ Some g
+letting_due s past site slot rest g l is unheld =
+    letting_next_due s past site (slot ∷ rest) l ∙ (ap (λ x. grant_or x
     (λ h. list_any (slot_has h) rest || is_one_of (closed s past) h) (first_let_go (closed s past) rest)) is
-    ∙ rw loose refl)
+    ∙ rw unheld refl)
 
 -- and behind its CLOSE the slot is passed
 pub letting_close : (s : Setting) (past : List Entry) (site : Site) (slot : Slot) (rest : List Slot) (g id : ℕ)
     → Letting s past site (slot ∷ rest) → grant_of slot ≡ Some g
     → (list_any (slot_has g) rest || is_one_of (closed s past) g) ≡ false
     → Letting s (close_of past g id ∷ past) site rest
-letting_close s past site slot rest g id l is loose =
+letting_close s past site slot rest g id l is unheld =
     let now : List Entry = close_of past g id ∷ past in
-    let gone : closed s now ≡ Some g ∷ closed s past = closed_own s past g id (letting_due s past site slot rest g l is loose) in
+    let gone : closed s now ≡ Some g ∷ closed s past = closed_own s past g id (letting_due s past site slot rest g l is unheld) in
     let still : Letting s now site (slot ∷ rest) = record {
       letting = (close_leaves s past g id).letting ∙ l.letting;
       skips = λ more. (let same : more ++ closed s now ≡ (more ++ Some g ∷ []) ++ closed s past =
@@ -93,5 +93,5 @@ letting_close s past site slot rest g id l is loose =
     has h e = rw (self g h e) refl
 
 -- at the end nothing is due
-pub letting_end : (s : Setting) (past : List Entry) (site : Site) → Letting s past site [] → orphan s past ≡ None
-letting_end s past site l = letting_orphan s past site [] l
+pub letting_end : (s : Setting) (past : List Entry) (site : Site) → Letting s past site [] → next_due s past ≡ None
+letting_end s past site l = letting_next_due s past site [] l

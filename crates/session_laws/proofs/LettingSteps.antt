@@ -11,7 +11,7 @@ use Rattle.plan_runner.specs.declared.next.Running.{Running}
 use Rattle.plan_runner.specs.Pending.{own_place}
 use Rattle.session_model.specs.declared.entry.Entry.{Entry}
 use Rattle.session_model.specs.Calls.{Setting, current, held_site, site_of}
-use Rattle.session_model.specs.Grants.{closed, holds, is_grant, is_one_of, is_unended_asker, orphan}
+use Rattle.session_model.specs.Grants.{closed, holds, is_grant, is_one_of, is_unended_asker, next_due}
 use Rattle.session_model.specs.Journals.{IsJournal, IsNext, close_of}
 use Rattle.session_model.specs.Steady.{Good}
 use Rattle.session_model.specs.Turns.{ClosesTo}
@@ -179,13 +179,13 @@ slots_closed s past core lanes begun lane k g slot rest l there is none got smal
     let tied : LaneTied s past lane v gs = l.tied.each lane there in
     let at_k : slice_get gs k ≡ Some g.place = grant_index v.grants k g got in
     let unclosed : is_one_of (closed s past) g.place ≡ false = (tied.holds.holding g.place (at_in gs k g.place at_k)).1.0 in
-    let loose : (list_any (slot_has g.place) rest || is_one_of (closed s past) g.place) ≡ false = rw (none, unclosed) refl in
-    let due : orphan s past ≡ Some g.place = letting_due s past l.site slot rest g.place l.letting is loose in
+    let unheld : (list_any (slot_has g.place) rest || is_one_of (closed s past) g.place) ≡ false = rw (none, unclosed) refl in
+    let due : next_due s past ≡ Some g.place = letting_due s past l.site slot rest g.place l.letting is unheld in
     let idle : v.running ≡ None = (at_rest s past lane v gs tied (calls_stay s (entry.LetGo lane ∷ l.from) past lane l.closes ∙ l.over)).0 in
     let c : Closing s past core lanes begun lane k g = closing s past core lanes gs begun lane k g l.good l.tied
     l.counted l.asks due there got small (none_opened v.running g.place idle) in
     let j : IsJournal s (close_of past g.place g.grant.id ∷ past) = subst (λ (e : Entry). IsJournal s (e ∷ past)) c.is c.good.run in
-    let both = let_go_closed_keeps s past core lanes lane g.place k g.grant l.site slot rest l.tied there j l.letting is loose got in
+    let both = let_go_closed_keeps s past core lanes lane g.place k g.grant l.site slot rest l.tied there j l.letting is unheld got in
     record {
       due = due;
       must = c.must;
@@ -221,7 +221,7 @@ slots_closed s past core lanes begun lane k g slot rest l there is none got smal
 pub letting_ends : (s : Setting) (past : List Entry) (core : Core) (lanes : ℕ → LaneValue) (begun : ℕ → Bool) (lane : ℕ)
     → LettingGo s past core lanes begun lane [] → AtRest s past core lanes begun
 letting_ends s past core lanes begun lane l =
-    let settled : orphan s past ≡ None = letting_end s past l.site l.letting in
+    let settled : next_due s past ≡ None = letting_end s past l.site l.letting in
     let due : Dues s past [] = settled_dues s past (let_go_settled s l.from past lane l.plain l.over l.closes settled) in
     record {
       between = record {

@@ -148,7 +148,7 @@ asked_has n tickets place new all q = elim (eqb_tells q place) [
       ap (λ (b : Bool). if b then 1 else 0) (push_other tickets place q t.1) in omega (arith, here, le, same))
 ]
 
--- ---- what a machine's answer awaits
+-- ---- what a runner's answer awaits
 
 abbrev pub AwaitsStep : ℕ → Site → List ℕ → Next → Type 0
 AwaitsStep place site tickets (step.Ask a r) = (q : ℕ) → pends q (Some r) site ≤ tickets_for (tickets ++ place ∷ []) q

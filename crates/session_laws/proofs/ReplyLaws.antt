@@ -42,8 +42,8 @@ use Rattle.sftp_model.specs.declared.slot.Slot.{Slot}
 use Rattle.sftp_model.specs.Slots.{grant_of, slot_has}
 use Rattle.sftp_core.specs.Grant.{GrantValue}
 use Rattle.plan_model.specs.declared.call.Call.{Call}
-use Rattle.session_model.specs.Grants.{closed, is_one_of, orphan}
-use Rattle.session_laws.specs.Dues.{loose_of}
+use Rattle.session_model.specs.Grants.{closed, is_one_of, next_due}
+use Rattle.session_laws.specs.Dues.{unheld_of}
 use Rattle.session_laws.specs.Letting.{Letting}
 
 -- ---- replies
@@ -96,7 +96,7 @@ pub unwanted_keeps : (s : Setting) (past : List Entry) (core : Core) (lanes : �
     (b : Bool) (handle : List ℕ)
     → SessionTied s past core lanes [] → IsJournal s (close_of (entry.Event (Take id (reply.Handle handle)) ∷ past) p id
     ∷ entry.Event (Take id (reply.Handle handle)) ∷ past) → id_state past id ≡ Pending p a b
-    → among past (tickets_of lanes) p ≡ false → orphan s (entry.Event (Take id (reply.Handle handle)) ∷ past) ≡ Some p
+    → among past (tickets_of lanes) p ≡ false → next_due s (entry.Event (Take id (reply.Handle handle)) ∷ past) ≡ Some p
     → SessionTied s (close_of (entry.Event (Take id (reply.Handle handle)) ∷ past) p id ∷ entry.Event
     (Take id (reply.Handle handle)) ∷ past) (take_leaves core id (reply.Handle handle) (at core id)) lanes []
 unwanted_keeps s past c lanes id p a b handle h j is unwanted due =
@@ -139,7 +139,7 @@ pub end_keeps : (s : Setting) (past : List Entry) (core : Core) (lanes : ℕ →
     → LaneGoes s (entry.Event (End lane (ended past lane) o) ∷ past) lane None site (ticket_places (lanes lane).tickets)
     → SessionTied s (entry.Event (End lane (ended past lane) o) ∷ past) core
     (with_lane lanes lane (ended_lane (lanes lane) site))
-    (loose_of (site_of s (entry.Event (End lane (ended past lane) o) ∷ past) lane) (grant_places (lanes lane).grants))
+    (unheld_of (site_of s (entry.Event (End lane (ended past lane) o) ∷ past) lane) (grant_places (lanes lane).grants))
 end_keeps s past c lanes lane o site h there j goes = end_tied s past c lanes lane o site h there j
     (core_on s past (entry.Event (End lane (ended past lane) o) ∷ past) c refl h.work) goes
 
@@ -173,8 +173,8 @@ pub let_go_closed_keeps : (s : Setting) (past : List Entry) (core : Core) (lanes
     → SessionTied s (close_of past g grant.id ∷ past) (abandoned (released core grant) grant.id)
     (with_lane lanes lane (closed_lane (lanes lane) k)) (grant_places (without k (lanes lane).grants))
     × Letting s (close_of past g grant.id ∷ past) site rest
-let_go_closed_keeps s past c lanes lane g k grant site slot rest h there j l is loose got =
-    let both = let_go_close_tied s past c (closing_core c grant.id grant.handle) lanes lane g grant.id k grant.handle site slot rest h j l is loose there got
+let_go_closed_keeps s past c lanes lane g k grant site slot rest h there j l is unheld got =
+    let both = let_go_close_tied s past c (closing_core c grant.id grant.handle) lanes lane g grant.id k grant.handle site slot rest h j l is unheld there got
     (closing_work s past c lanes (grants_of lanes lane) lane g k grant h there got)
     (put_here (queued_last c grant.id (request.Close grant.handle) true).table grant.id
     (Waiting (expected_of (request.Close grant.handle)) false false)) (closing_elsewhere c grant.id grant.handle) in (

@@ -9,7 +9,7 @@ use Rattle.session_laws.proofs.SameLaws.{dues_same}
 use Rattle.session_laws.proofs.DueLaws.{dues_settled, settled_dues}
 use Rattle.session_laws.proofs.EndHolds.{end_dues}
 use Rattle.session_laws.proofs.SendLaws.{send_same}
-use Rattle.session_laws.proofs.TakeDues.{take_held, take_loose}
+use Rattle.session_laws.proofs.TakeDues.{take_held, take_unheld}
 use Rattle.session_laws.proofs.HoldLaws.{are_grants_with}
 use Rattle.session_laws.proofs.EndLaws.{dues_end}
 use Rattle.session_laws.proofs.HandleLaws.{handles_are_newer}
@@ -26,7 +26,7 @@ use Rattle.session_model.specs.Calls.{Setting, site_of}
 use Rattle.session_model.specs.Grants.{IsSettled, is_grant, is_held, is_unended_asker}
 use Rattle.session_model.specs.Journals.{IsJournal}
 use Rattle.session_laws.specs.Places.{is_in}
-use Rattle.session_laws.specs.Dues.{Dues, loose_of}
+use Rattle.session_laws.specs.Dues.{Dues, unheld_of}
 
 -- Nothing is due just where no grant is to be closed by the order of places.
 pub none_due_is_settled : (s : Setting) (past : List Entry) → (IsSettled s past → Dues s past [])
@@ -44,7 +44,7 @@ pub unheld_dues : (s : Setting) (past : List Entry) (id p : ℕ) (a : AskedReque
     → id_state past id ≡ Pending p a b → is_handle r ≡ true → is_held s past p ≡ false → Dues s past []
     → Dues s (entry.Event (Take id r) ∷ past) (p ∷ [])
 unheld_dues s past id p a b r j is came unheld d = (let read = subst (ReadsId past id) is (reads past id) in
-    take_loose s past id p r j read.0 read.1 came unheld d)
+    take_unheld s past id p r j read.0 read.1 came unheld d)
 
 -- The end of a call leaves due the grants of its lane that no slot has any more, where none of the lane's tickets has a
 -- HANDLE that was taken.
@@ -52,7 +52,7 @@ pub ended_dues : (s : Setting) (past : List Entry) (core : Core) (lanes : ℕ �
     → SessionTied s past core lanes [] → lane < length s.lanes → IsJournal s past → Dues s past []
     → ((p : ℕ) → is_in p (ticket_places (lanes lane).tickets) ≡ true → is_grant past p ≡ false)
     → Dues s (entry.Event (End lane (ended past lane) o) ∷ past)
-    (loose_of (site_of s (entry.Event (End lane (ended past lane) o) ∷ past) lane)
+    (unheld_of (site_of s (entry.Event (End lane (ended past lane) o) ∷ past) lane)
     (grant_places (lanes lane).grants))
 ended_dues s past core lanes lane o h there j d polled = end_dues s past lane o (lanes lane).tickets (lanes lane).grants j d (h.each lane there).holds polled
 
@@ -63,7 +63,7 @@ pub cancelled_dues : (s : Setting) (past : List Entry) (core : Core) (lanes : �
     → is_in p (ticket_places (lanes lane).tickets) ≡ true → is_grant past p ≡ true → is_unended_asker past lane p ≡ true
     → ((q : ℕ) → is_in q (ticket_places (lanes lane).tickets) ≡ true → is_grant past q ≡ true → q ≡ p)
     → Dues s (entry.Event (End lane (ended past lane) o) ∷ past)
-    (loose_of (site_of s (entry.Event (End lane (ended past lane) o) ∷ past) lane)
+    (unheld_of (site_of s (entry.Event (End lane (ended past lane) o) ∷ past) lane)
     (grant_places (lanes lane).grants ++ p ∷ []))
 cancelled_dues s past core lanes lane p o h there j d has grant mine only =
     dues_end s past lane o (grant_places (lanes lane).grants ++ p ∷ []) j d

@@ -61,7 +61,7 @@ pub tied_other : (s : Setting) (past : List Entry) (lane id : ℕ) (by : Owner) 
 tied_other s past lane id by r running site other tied =
     tied_by s past (entry.Event (Submit by id r) ∷ past) lane running site refl refl (own_other past by id r lane (ended past lane) other) (λ place q e. e) tied
 
--- ---- what the lane's machine does
+-- ---- what the lane's runner does
 
 pub from_reply : (past : List Entry) (running : Running) (c : Call) (site : Site) (facts : Facts) (p : ℕ) (y : Reply)
     → awaited running site ≡ Some p → answer past p ≡ Some y →

@@ -127,7 +127,7 @@ dues_same s past now dues k d =
     record {
       each = λ g granted unclosed out. held g ∙ d.each g (ap is_granted (sym ((k 0).answers g)) ∙ granted)
           (ap (λ c. is_one_of c g) (sym (k 0).gone) ∙ unclosed) out;
-      loose = all_same dues d.loose;
+      unheld = all_same dues d.unheld;
       rising = d.rising;
     }
   where

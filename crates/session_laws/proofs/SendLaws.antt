@@ -1,4 +1,4 @@
--- A session on machines, as what is queued is sent.
+-- A session on runners, as what is queued is sent.
 use Rattle.std.proofs.Common.{◌≡◌, ℕ, List, ◌∷◌, refl, ap}
 use Rattle.std.specs.Option.{option_map}
 use Rattle.sftp_core.specs.Core.{Core, at}

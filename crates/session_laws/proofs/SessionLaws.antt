@@ -1,4 +1,4 @@
--- A session of lanes on machines, as one lane changes, as a call ends, and as entries come that change no lane.
+-- A session of lanes on runners, as one lane changes, as a call ends, and as entries come that change no lane.
 use Rattle.std.proofs.Common.{◌≡◌, ◌≢◌, ◌<◌, ◌+◌, ◌==◌, ℕ, Bool, true, false, List, [], ◌∷◌, Option, None, refl, ap, sym, ◌∙◌, subst, if◌then◌else◌, inl, inr}
 use Rattle.std.specs.Prelude.{◌||◌, ◌⊎◌, length, slice_get}
 use Rattle.std.proofs.lemmas.Bool.{eq-eqb, or_left}
@@ -22,7 +22,7 @@ use Rattle.session_model.proofs.AllClosedLaws.{asker_called}
 use Rattle.session_laws.specs.Lanes.{CoreTied, LaneGoes, LaneTied, LaneValue, SessionTied, among, grant_places, grants_of, ticket_places, tickets_of}
 use Rattle.session_laws.specs.Tables.{Tabled}
 use Rattle.session_laws.specs.Changes.{ended_lane, with_lane}
-use Rattle.session_laws.specs.Dues.{loose_of}
+use Rattle.session_laws.specs.Dues.{unheld_of}
 use Rattle.session_laws.specs.Places.{with_places}
 use Rattle.session_laws.proofs.SameLaws.{Same, lane_same}
 use Rattle.session_laws.proofs.EndHolds.{end_holds}
@@ -110,13 +110,13 @@ pub end_tied : (s : Setting) (past : List Entry) (core : Core) (lanes : ℕ → 
     → IsJournal s (entry.Event (End lane (ended past lane) o) ∷ past) → CoreTied s (entry.Event (End lane (ended past lane) o) ∷ past) core
     → LaneGoes s (entry.Event (End lane (ended past lane) o) ∷ past) lane None site (ticket_places (lanes lane).tickets)
     → SessionTied s (entry.Event (End lane (ended past lane) o) ∷ past) core (with_lane lanes lane (ended_lane (lanes lane) site))
-    (loose_of (site_of s (entry.Event (End lane (ended past lane) o) ∷ past) lane) (grant_places (lanes lane).grants))
+    (unheld_of (site_of s (entry.Event (End lane (ended past lane) o) ∷ past) lane) (grant_places (lanes lane).grants))
 end_tied s past core lanes lane o site h there j work goes =
     let now : List Entry = entry.Event (End lane (ended past lane) o) ∷ past in
     let old : LaneValue = lanes lane in
     let v : LaneValue = ended_lane old site in
     let l : LaneTied s past lane old [] = h.each lane there in
-    let dues : List ℕ = loose_of (site_of s now lane) (grant_places old.grants) in
+    let dues : List ℕ = unheld_of (site_of s now lane) (grant_places old.grants) in
     record {
       work = work;
       table = table_kept now lanes lane v (at core) refl refl (λ id. h.table id);

@@ -114,7 +114,7 @@ pub start_dues : (s : Setting) (past : List Entry) → Unbegun s past → Dues s
 start_dues s past u = record {
   each = λ g granted unclosed out. absurd
       (let clash : false ≡ true = sym (u.ungranted g) ∙ granted in cc);
-  loose = tt;
+  unheld = tt;
   rising = tt;
 }
 

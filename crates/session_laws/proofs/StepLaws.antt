@@ -1,4 +1,4 @@
--- A session on machines, as a lane asks, polls and drops.
+-- A session on runners, as a lane asks, polls and drops.
 use Rattle.std.proofs.Common.{◌≡◌, ◌≢◌, ◌<◌, ℕ, Bool, true, false, List, [], ◌∷◌, ◌++◌, Option, Some, None, refl, ap, sym, ◌∙◌, subst, arith, inl, inr}
 use Rattle.std.specs.Prelude.{length, slice_get}
 use Rattle.std.proofs.lemmas.Bool.Decides.{eqb_tells}

@@ -19,7 +19,7 @@ use Rattle.session_model.specs.Calls.{Setting, current, move_at, site_of}
 use Rattle.session_model.specs.Grants.{closed, is_grant, is_granted, is_held, is_one_of}
 use Rattle.session_model.specs.Journals.{IsJournal}
 use Rattle.session_model.proofs.CallLaws.{next_submit}
-use Rattle.session_model.proofs.ClosedLaws.{gone_loose, lane_there}
+use Rattle.session_model.proofs.ClosedLaws.{gone_unheld, lane_there}
 use Rattle.session_model.proofs.RequestLaws.{answer_new, answer_other}
 use Rattle.session_laws.specs.Dues.{Dues}
 use Rattle.session_laws.specs.Lanes.{LaneValue, SessionTied, among, by_asker, by_owner, grants_of, is_of}
@@ -42,15 +42,15 @@ take_held s past id p r here held d =
             subst (λ (n : ℕ). is_held s past n ≡ true) same (held (sym (ap is_granted (answer_new past id p r here)) ∙ at_p)))
         | inr was ↦ d.each g was unclosed refl
       ];
-      loose = tt;
+      unheld = tt;
       rising = tt;
     }
 
 -- or nothing holds it, and it is due
-pub take_loose : (s : Setting) (past : List Entry) (id p : ℕ) (r : Reply) → IsJournal s past → bearer past id ≡ Some p
+pub take_unheld : (s : Setting) (past : List Entry) (id p : ℕ) (r : Reply) → IsJournal s past → bearer past id ≡ Some p
     → answer past p ≡ None → is_handle r ≡ true → is_held s past p ≡ false → Dues s past []
     → Dues s (entry.Event (Take id r) ∷ past) (p ∷ [])
-take_loose s past id p r j here none came unheld d =
+take_unheld s past id p r j here none came unheld d =
     record {
       each = λ g granted unclosed out. elim (granted_new past id p g r here granted) [
         | inl same ↦ absurd (let found : is_in g (p ∷ []) ≡ true =
@@ -58,12 +58,12 @@ take_loose s past id p r j here none came unheld d =
             sym found ∙ out in cc)
         | inr was ↦ d.each g was unclosed refl
       ];
-      loose = (
+      unheld = (
         record {
           granted = ap is_granted (answer_new past id p r here) ∙ came;
           unheld = unheld;
           unclosed = never (is_one_of (closed s past) p) (λ h. (let was : is_grant past p ≡ true =
-              (gone_loose s past p j h).0 in let clash : false ≡ true = sym (ap is_granted none) ∙ was in cc));
+              (gone_unheld s past p j h).0 in let clash : false ≡ true = sym (ap is_granted none) ∙ was in cc));
         },
         tt,
       );

@@ -35,7 +35,7 @@ use Rattle.session_model.specs.declared.event.Event.TheVariants.{Submit, Send}
 use Rattle.session_model.specs.declared.entry.Entry.{Entry}
 use Rattle.session_model.specs.Readings.{asked, AskedRequest, answer, asked_at, ended}
 use Rattle.session_model.specs.Calls.{Setting}
-use Rattle.session_model.specs.Grants.{closed, holds, is_one_of, is_grant, is_granted, closes, is_asked_by, is_close, is_unended_asker, orphan}
+use Rattle.session_model.specs.Grants.{closed, holds, is_one_of, is_grant, is_granted, closes, is_asked_by, is_close, is_unended_asker, next_due}
 use Rattle.session_model.specs.Ids.{IdState, Free, Pending, Replied, ReadsId, id_state}
 use Rattle.session_model.specs.Journals.{close_of, IsJournal}
 use Rattle.session_model.proofs.IdLaws.{reads}
@@ -197,7 +197,7 @@ pub granted_due_keeps :
     (granted_lane (lanes lane) k t handle running site)) dues
 granted_due_keeps s past c lanes dues lane k t handle running site d h there at_k came due newer goes =
     handle_keeps s past c lanes dues lane k t handle running site h there at_k came
-    (due_in dues t.place d.loose due).unclosed (λ out. absurd (let clash : true ≡ false = sym due ∙ out in cc))
+    (due_in dues t.place d.unheld due).unclosed (λ out. absurd (let clash : true ≡ false = sym due ∙ out in cc))
     newer goes
   where
     due_in : (gs : List ℕ) (g : ℕ) → AllDue s past gs → is_in g gs ≡ true → IsDue s past g
@@ -304,7 +304,7 @@ one_user s past c lanes dues lane g k grant h there got =
     (among_self past (grants_of lanes) lane g mine.0 mine.1.0 mine.1.1 ∙ here) in
     ap (λ p. release_leaves c grant (users_of p)) stands
 
--- The lane's machine asked the CLOSE of a grant, which the lane released.
+-- The lane's runner asked the CLOSE of a grant, which the lane released.
 pub close_request_keeps : (s : Setting) (past : List Entry) (core : Core) (lanes : ℕ → LaneValue) (lane g k : ℕ)
     (grant : GrantValue) (running : Running) (site : Site)
     → SessionTied s past core lanes [] → lane < length s.lanes
@@ -362,7 +362,7 @@ closing_elsewhere c id handle i ne =
 pub closed_keeps : (s : Setting) (past : List Entry) (core : Core) (lanes : ℕ → LaneValue) (dues rest : List ℕ)
     (lane g k : ℕ) (grant : GrantValue)
     → SessionTied s past core lanes dues → lane < length s.lanes → IsJournal s (close_of past g grant.id ∷ past)
-    → orphan s past ≡ Some g → FewerDue g dues rest
+    → next_due s past ≡ Some g → FewerDue g dues rest
     → slice_get (lanes lane).grants k ≡ Some (record { place = g; grant = grant })
     → SessionTied s (close_of past g grant.id ∷ past) (abandoned (released core grant) grant.id)
     (with_lane lanes lane (closed_lane (lanes lane) k)) rest

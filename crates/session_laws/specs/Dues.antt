@@ -22,13 +22,13 @@ AllDue s past (g ∷ gs) = IsDue s past g × AllDue s past gs
 pub record Dues (s : Setting) (past : List Entry) (dues : List ℕ) : Type 0 where
   pub each : (g : ℕ) → is_grant past g ≡ true → is_one_of (closed s past) g ≡ false → is_in g dues ≡ false
       → is_held s past g ≡ true
-  pub loose : AllDue s past dues
+  pub unheld : AllDue s past dues
   pub rising : IsRising dues
 
 -- of these places those whose grant no slot has
-abbrev pub loose_of : Site → List ℕ → List ℕ
-loose_of site [] = []
-loose_of site (g ∷ gs) = if has_grant site g then loose_of site gs else g ∷ loose_of site gs
+abbrev pub unheld_of : Site → List ℕ → List ℕ
+unheld_of site [] = []
+unheld_of site (g ∷ gs) = if has_grant site g then unheld_of site gs else g ∷ unheld_of site gs
 
 -- but for this grant, each that is due before is due behind its CLOSE
 abbrev pub FewerDue : ℕ → List ℕ → List ℕ → Type 0

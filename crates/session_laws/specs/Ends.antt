@@ -39,12 +39,12 @@ use Rattle.session_model.specs.declared.entry.Entry.{Entry}
 use Rattle.session_model.specs.declared.entry.Entry.TheVariants as entry
 use Rattle.session_model.specs.Readings.{answer}
 use Rattle.session_model.specs.Calls.{Setting, current}
-use Rattle.session_model.specs.Grants.{IsSettled, closed, is_one_of, orphan}
+use Rattle.session_model.specs.Grants.{IsSettled, closed, is_one_of, next_due}
 use Rattle.session_model.specs.Journals.{IsNext, MustClose, cancelled_end}
 use Rattle.session_model.specs.Steady.{Good}
 use Rattle.session_model.specs.Turns.{ClosesTo, begun_but}
 use Rattle.session_laws.specs.Changes.{closed_lane, ended_lane, granted_lane, spent_lane, with_lane}
-use Rattle.session_laws.specs.Dues.{loose_of}
+use Rattle.session_laws.specs.Dues.{unheld_of}
 use Rattle.session_laws.specs.Lanes.{Held, LaneValue, SessionTied, Ticketed, grant_places}
 use Rattle.session_laws.specs.Letting.{Letting}
 use Rattle.session_laws.specs.Places.{is_in}
@@ -64,7 +64,7 @@ let_go core grant = abandoned (released core grant) grant.id
 -- The grant at index k of a lane, which is due next, is closed.
 pub record ClosesDue (s : Setting) (past : List Entry) (core : Core) (lanes : ℕ → LaneValue) (begun : ℕ → Bool)
     (lane k : ℕ) (g : Held) (rest : List ℕ) : Type 0 where
-  pub due : orphan s past ≡ Some g.place
+  pub due : next_due s past ≡ Some g.place
   pub must : MustClose past g.place (close_entry g.grant)
   pub next : IsNext s past (close_entry g.grant)
   pub between : Between s (close_entry g.grant ∷ past) (let_go core g.grant)
@@ -83,7 +83,7 @@ pub record Cancels (s : Setting) (past : List Entry) (core : Core) (lanes : ℕ 
   pub first : IsNext s past (entry.Event (Cancel lane))
   pub second : IsNext s (entry.Event (Cancel lane) ∷ past) (cancelled_end (entry.Event (Cancel lane) ∷ past) lane)
   pub between : Between s (cancelled_past past lane) core (with_lane lanes lane v) (begun_but begun lane)
-      (loose_of v.site (grant_places v.grants))
+      (unheld_of v.site (grant_places v.grants))
 
 -- the ticket of the call's own request is dropped: its reply is missing, or brings no handle
 pub record Drops (core new : Core) (v now : LaneValue) : Type 0 where
@@ -163,7 +163,7 @@ StaysOpen grants slot rest = (g : ℕ) → grant_of slot ≡ Some g → (list_an
 -- The grant of a slot, at index k of the lane's, is closed, and the slot is passed.
 pub record ClosesSlot (s : Setting) (past : List Entry) (core : Core) (lanes : ℕ → LaneValue) (begun : ℕ → Bool)
     (lane k : ℕ) (g : Held) (rest : List Slot) : Type 0 where
-  pub due : orphan s past ≡ Some g.place
+  pub due : next_due s past ≡ Some g.place
   pub must : MustClose past g.place (close_entry g.grant)
   pub next : IsNext s past (close_entry g.grant)
   pub letting : LettingGo s (close_entry g.grant ∷ past) (let_go core g.grant)

@@ -1,4 +1,4 @@
--- What a machine's answer makes of its lane, whatever the call.
+-- What a runner's answer makes of its lane, whatever the call.
 use Rattle.std.specs.Prelude.{◌≡◌, ℕ, List, [], ◌∷◌, ◌++◌, Some, None}
 use Rattle.sftp_model.specs.declared.slot.Move.TheVariants.{Ask, Done}
 use Rattle.sftp_model.specs.declared.slot.Site.{Site}
@@ -20,9 +20,9 @@ use Rattle.session_laws.specs.Lanes.{LaneGoes}
 use Rattle.plan_runner.specs.declared.next.Next.TheVariants as step
 use Rattle.session_model.specs.declared.entry.Entry.TheVariants as entry
 
--- The clauses of a machine's answer: it goes by this plan, leaves what a call leaves that is cancelled, and awaits no
+-- The clauses of a runner's answer: it goes by this plan, leaves what a call leaves that is cancelled, and awaits no
 -- more than what was awaited before and its own request. The lane's site was the first one, and is the second.
-pub record MachineStep (s : Setting) (past : List Entry) (c : Call) (plan : Plan) (leave : Leaving) (before : ℕ → ℕ)
+pub record RunnerStep (s : Setting) (past : List Entry) (c : Call) (plan : Plan) (leave : Leaving) (before : ℕ → ℕ)
     (old new : Site) (n : Next) : Type 0 where
   pub goes : RunsByPlan plan (asked past) (bytes_of c) new s.facts n
   pub left : LeavesCancelled leave (asked past) (bytes_of c) new s.facts n
@@ -30,14 +30,14 @@ pub record MachineStep (s : Setting) (past : List Entry) (c : Call) (plan : Plan
   pub pends : Pends before (asked past) new n
 
 -- The clauses of its answer while the reply that its call awaits is missing. The site stays.
-pub record MachineWidens (s : Setting) (past : List Entry) (c : Call) (running : Running) (site : Site) (n : Next) :
+pub record RunnerWidens (s : Setting) (past : List Entry) (c : Call) (running : Running) (site : Site) (n : Next) :
     Type 0 where
   pub goes : Widens running (asked past) (bytes_of c) site s.facts n
   pub left : LeavesCancelled (left_behind running (bytes_of c) site s.facts) (asked past) (bytes_of c) site s.facts n
   pub sound : IsSound (bytes_of c) site s.facts n
   pub pends : Pends (λ q. pends q (Some running) site) (asked past) site n
 
--- A request is the lane's move, and the lane goes on from it; an end alike. Where the machine waits for another reply
+-- A request is the lane's move, and the lane goes on from it; an end alike. Where the runner waits for another reply
 -- the lane goes on without an entry. Tickets of these places are left.
 abbrev pub LaneGoesOn : Setting → List Entry → ℕ → List ℕ → Site → Next → Type 0
 LaneGoesOn s past lane tickets site (step.Ask a r) =

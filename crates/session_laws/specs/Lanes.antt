@@ -1,4 +1,4 @@
--- Lanes of plan machines: what each holds and awaits, by the journal of their session.
+-- Lanes of runners: what each holds and awaits, by the journal of their session.
 use Rattle.std.specs.Prelude.{
   ◌≡◌,
   ◌≢◌,
@@ -123,7 +123,7 @@ AtTied s past lane None site = (own past lane (ended past lane) ≡ []) × (site
 AtTied s past lane (Some r) site = RunTied s past lane (Some r) site × CancelTied s past lane (Some r) site
     × (current s past lane ≢ None)
 
--- a machine may go on
+-- a runner may go on
 abbrev pub MayGoOn : Setting → List Entry → ℕ → Option Running → Site → Type 0
 MayGoOn s past lane None site = Unit {0}
 MayGoOn s past lane (Some r) site = (c : Call) → current s past lane ≡ Some c → Sound r (bytes_of c) site s.facts
@@ -132,7 +132,7 @@ MayGoOn s past lane (Some r) site = (c : Call) → current s past lane ≡ Some 
 abbrev pub tickets_for : List ℕ → ℕ → ℕ
 tickets_for tickets q = if is_in q tickets then 1 else 0
 
--- What a lane's machine goes on with, where tickets of these places are left.
+-- What a lane's runner goes on with, where tickets of these places are left.
 pub record LaneGoes (s : Setting) (past : List Entry) (lane : ℕ) (running : Option Running) (site : Site)
     (tickets : List ℕ) : Type 0 where
   pub sixteen : length site.slots ≡ 16

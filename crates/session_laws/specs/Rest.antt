@@ -33,7 +33,7 @@ use Rattle.plan_runner.specs.Sound.{Fits}
 use Rattle.session_model.specs.declared.entry.Entry.{Entry}
 use Rattle.session_model.specs.Readings.{AskedRequest, asked_at, awaited, unanswered}
 use Rattle.session_model.specs.Calls.{Setting}
-use Rattle.session_model.specs.Grants.{is_asked_by, orphan}
+use Rattle.session_model.specs.Grants.{is_asked_by, next_due}
 use Rattle.session_model.specs.Steady.{Good}
 use Rattle.session_laws.specs.Dues.{Dues}
 use Rattle.session_laws.specs.Lanes.{LaneValue, SessionTied, grant_places, ticket_places}
@@ -118,4 +118,4 @@ pub record Between (s : Setting) (past : List Entry) (core : Core) (lanes : ℕ 
 pub record AtRest (s : Setting) (past : List Entry) (core : Core) (lanes : ℕ → LaneValue) (begun : ℕ → Bool) : Type 0
   where
     pub between : Between s past core lanes begun []
-    pub settled : orphan s past ≡ None
+    pub settled : next_due s past ≡ None

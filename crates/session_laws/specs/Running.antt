@@ -48,7 +48,7 @@ CancelTied s past lane running site =
     → cancelled c (site_of s past lane) s.facts (own past lane (ended past lane) ++ later) answers
     ≡ leaving running c site s.facts later answers
 
--- ---- what a step of a machine makes of its lane
+-- ---- what a step of a runner makes of its lane
 
 -- the places of the grants whose handles a request bears
 abbrev pub grants_named : Asked → List ℕ
@@ -70,11 +70,11 @@ IsFilled a known = (answers : Answers) → Extends known answers → filled a an
 abbrev pub own_request : List Entry → ℕ → ℕ → Request → Entry
 own_request past lane id r = entry.Event (Submit (owner.Call lane (ended past lane)) id r)
 
--- and that which its machine asks
+-- and that which its runner asks
 abbrev pub request_of : List Entry → ℕ → ℕ → Asked → Entry
 request_of past lane id a = own_request past lane id (filled a (answer past))
 
--- the plan that a machine goes by from here: that of its call, or what comes after the reply that it awaited
+-- the plan that a runner goes by from here: that of its call, or what comes after the reply that it awaited
 abbrev pub IsFrom : List Entry → Option Running → Call → Site → Facts → Plan → Type 0
 IsFrom past running c site facts plan =
     (answers : Answers) → Extends (answer past) answers → (later : Own) → remaining running c site facts later answers
@@ -86,7 +86,7 @@ LeavesFrom past running c site facts leave =
     (answers : Answers) → Extends (answer past) answers → (later : Own) → leaving running c site facts later answers
     ≡ leave later answers
 
--- What a machine answers is the lane's move, and the lane's call goes by what remains of its plan then.
+-- What a runner answers is the lane's move, and the lane's call goes by what remains of its plan then.
 abbrev pub StepsByMove : Setting → List Entry → ℕ → Next → Site → Type 0
 StepsByMove s past lane (step.Ask a r) site =
     (move_of s past lane ≡ Some (Ask (filled a (answer past))))

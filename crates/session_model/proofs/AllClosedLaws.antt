@@ -52,7 +52,7 @@ use Rattle.session_model.specs.Grants.{is_granted, is_grant, is_asked_by, is_une
 use Rattle.session_model.specs.Journals.{IsJournal, IsNext, IsOver}
 use Rattle.session_model.specs.Runs.{IsRun}
 use Rattle.session_model.proofs.CallLaws.{next_submit, next_take}
-use Rattle.session_model.proofs.ClosedLaws.{IsClosing, closing, gone_loose, closed_once, some_counted, count_by-cons}
+use Rattle.session_model.proofs.ClosedLaws.{IsClosing, closing, gone_unheld, closed_once, some_counted, count_by-cons}
 use Rattle.session_model.specs.Closes.{with_granted, granted_handles, closed_handles, times, AreClosed, closes_of}
 use Rattle.session_model.proofs.CountLaws.{count_same, count_one, count_some}
 use Rattle.session_model.proofs.GrantLaws.{any_where}
@@ -195,7 +195,7 @@ take_balance s past id r handle j old =
     let few : sent past ≤ asked past = sent_asked past in
     let small : p < sent past = may.1.0.1 in
     let unclosed : is_one_of (closed s past) p ≡ false = false_from_ne_true (is_one_of (closed s past) p)
-    (λ h. both_ways (is_grant past p) (ap is_granted may.1.0.2) (gone_loose s past p j.1 h).0) in
+    (λ h. both_ways (is_grant past p) (ap is_granted may.1.0.2) (gone_unheld s past p j.1 h).0) in
     let opens : is_open s now handle p ≡ brings handle (Some r) =
     ap (λ b. not b && brings handle (answer now p)) unclosed ∙ ap (brings handle) (answer_new past id p r may.1.0.0)
     in
@@ -210,15 +210,15 @@ submit_balance : (s : Setting) (past : List Entry) (by : Owner) (id : ℕ) (r : 
     → IsBalanced s (entry.Event (Submit by id r) ∷ past) handle
 submit_balance s past by id (request.Close h) handle j old =
     let now : List Entry = entry.Event (Submit by id (request.Close h)) ∷ past in
-    let c : IsClosing s past by id h = closing s past by id h j (λ k. gone_loose s past k j.1) in
+    let c : IsClosing s past by id h = closing s past by id h j (λ k. gone_unheld s past k j.1) in
     let g : ℕ = c.grant in
     let at : (q : ℕ) → is_open s now handle q ≡ (not (is_at (Some g) q || is_one_of (closed s past) q)
     && brings handle (answer past q)) = λ q. ap (λ x. not (is_at x q || is_one_of (closed s past) q)
     && brings handle (answer past q)) c.is in
     let was : is_open s past handle g ≡ bytes_eq handle h = ap (λ b. not b && brings handle (answer past g)) c.unclosed
-    ∙ brings_of handle h (answer past g) c.loose.0 c.bears in
+    ∙ brings_of handle h (answer past g) c.unheld.0 c.bears in
     let counts = count_at (is_open s past handle) (is_open s now handle) (asked past) g (bytes_eq handle h)
-    (granted_below past g c.loose.0) was (at g ∙ rw (eq-eqb g g refl) refl) (λ q ne. at q ∙ rw (ne_eqb g q ne) refl)
+    (granted_below past g c.unheld.0) was (at g ∙ rw (eq-eqb g g refl) refl) (λ q ne. at q ∙ rw (ne_eqb g q ne) refl)
     in
     let more = count_by-cons (bytes_eq handle) h (closed_handles past) in
     let beyond = count_past (is_open s now handle) (asked past) (and_right _ _ (ap (brings handle) (answer_beyond past (asked past) (omega arith)))) in

@@ -46,7 +46,7 @@ use Rattle.session_model.specs.declared.entry.Entry.{Entry}
 use Rattle.session_model.specs.declared.entry.Entry.TheVariants as entry
 use Rattle.session_model.specs.Readings.{asked, asked_at, answer, own, is_by, ended, last_cancel}
 use Rattle.session_model.specs.Calls.{Setting, added, calls_of, lane_calls, call_at, current, left_by, site_of, site_left, move_at, move_of}
-use Rattle.session_model.specs.Grants.{orphan, is_asked_by}
+use Rattle.session_model.specs.Grants.{next_due, is_asked_by}
 use Rattle.session_model.specs.Journals.{IsJournal, IsNext, MayCome, MustClose, cancelled_end}
 use Rattle.plan_model.specs.CallPlans.{next}
 
@@ -57,23 +57,23 @@ next_by None None P Q R h f e = h
 next_by None (Some n) P Q R h f e = absurd (f n h)
 next_by (Some n) g P Q R h f e = absurd (e n h)
 
-next_at : (s : Setting) (past : List Entry) (e : Entry) (c g : Option ℕ) → last_cancel past ≡ c → orphan s past ≡ g
+next_at : (s : Setting) (past : List Entry) (e : Entry) (c g : Option ℕ) → last_cancel past ≡ c → next_due s past ≡ g
     → MatchOption c (MatchOption g (MayCome s past e) (λ grant. MustClose past grant e)) (λ lane. e ≡ cancelled_end past lane) → IsNext s past e
 next_at s past e c g ec eg h = rw (ec, eg) h
 
-at_next : (s : Setting) (past : List Entry) (e : Entry) (c g : Option ℕ) → last_cancel past ≡ c → orphan s past ≡ g → IsNext s past e
+at_next : (s : Setting) (past : List Entry) (e : Entry) (c g : Option ℕ) → last_cancel past ≡ c → next_due s past ≡ g → IsNext s past e
     → MatchOption c (MatchOption g (MayCome s past e) (λ grant. MustClose past grant e)) (λ lane. e ≡ cancelled_end past lane)
 at_next s past e c g ec eg h = rw (ec, eg) at h
 
 -- where nothing is due, what may come comes next, and nothing else
-pub may_next : (s : Setting) (past : List Entry) (e : Entry) → last_cancel past ≡ None → orphan s past ≡ None → MayCome s past e → IsNext s past e
+pub may_next : (s : Setting) (past : List Entry) (e : Entry) → last_cancel past ≡ None → next_due s past ≡ None → MayCome s past e → IsNext s past e
 may_next s past e calm settled may = next_at s past e None None calm settled may
 
-pub next_may : (s : Setting) (past : List Entry) (e : Entry) → last_cancel past ≡ None → orphan s past ≡ None → IsNext s past e → MayCome s past e
+pub next_may : (s : Setting) (past : List Entry) (e : Entry) → last_cancel past ≡ None → next_due s past ≡ None → IsNext s past e → MayCome s past e
 next_may s past e calm settled next = at_next s past e None None calm settled next
 
 -- the CLOSE that is due comes next
-pub due_next : (s : Setting) (past : List Entry) (g : ℕ) (e : Entry) → last_cancel past ≡ None → orphan s past ≡ Some g → MustClose past g e → IsNext s past e
+pub due_next : (s : Setting) (past : List Entry) (g : ℕ) (e : Entry) → last_cancel past ≡ None → next_due s past ≡ Some g → MustClose past g e → IsNext s past e
 due_next s past g e calm due must = next_at s past e None (Some g) calm due must
 
 -- behind a Cancel its end comes next
@@ -86,7 +86,7 @@ pub next_submit : (s : Setting) (past : List Entry) (lane call id : ℕ) (r : Re
     → IsNext s past (entry.Event (Submit (owner.Call lane call) id r))
     → MayCome s past (entry.Event (Submit (owner.Call lane call) id r))
 next_submit s past lane call id r h =
-    next_by (last_cancel past) (orphan s past) _ (λ g. MustClose past g
+    next_by (last_cancel past) (next_due s past) _ (λ g. MustClose past g
     (entry.Event (Submit (owner.Call lane call) id r))) (λ l. entry.Event (Submit (owner.Call lane call) id r)
     ≡ cancelled_end past l) h
     (λ g m. cc (m.1.1)) (λ l e. cc e)
@@ -94,7 +94,7 @@ next_submit s past lane call id r h =
 -- a reply that is taken is one to a sent, unanswered request
 pub next_take : (s : Setting) (past : List Entry) (id : ℕ) (r : Reply) → IsNext s past (entry.Event (Take id r)) → MayCome s past (entry.Event (Take id r))
 next_take s past id r h =
-    next_by (last_cancel past) (orphan s past) _ (λ g. MustClose past g (entry.Event (Take id r))) (λ l. entry.Event (Take id r) ≡ cancelled_end past l) h
+    next_by (last_cancel past) (next_due s past) _ (λ g. MustClose past g (entry.Event (Take id r))) (λ l. entry.Event (Take id r) ≡ cancelled_end past l) h
     (λ g m. cc (m.1.1)) (λ l e. cc e)
 
 -- ---- a call's requests

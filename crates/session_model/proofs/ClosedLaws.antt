@@ -55,12 +55,12 @@ use Rattle.session_model.specs.Grants.{
   holds,
   is_held,
   is_one_of,
-  is_orphan,
+  is_due,
   grant_or,
   first_let_go,
   letting_go,
-  orphan_at,
-  orphan,
+  next_due_at,
+  next_due,
   closed_by,
   closes,
   is_close,
@@ -79,11 +79,11 @@ use Rattle.session_model.proofs.RequestLaws.{asked_other}
 -- ---- grants that nothing holds
 
 -- a grant that nothing holds
-abbrev pub IsLoose : Setting → List Entry → ℕ → Type 0
-IsLoose s past g = (is_grant past g ≡ true) × (is_held s past g ≡ false)
+abbrev pub IsUnheld : Setting → List Entry → ℕ → Type 0
+IsUnheld s past g = (is_grant past g ≡ true) × (is_held s past g ≡ false)
 
-loose_stays : (s : Setting) (past : List Entry) (e : Entry) (g : ℕ) → IsJournal s (e ∷ past) → IsLoose s past g → IsLoose s (e ∷ past) g
-loose_stays s past e g j l = (
+unheld_stays : (s : Setting) (past : List Entry) (e : Entry) (g : ℕ) → IsJournal s (e ∷ past) → IsUnheld s past g → IsUnheld s (e ∷ past) g
+unheld_stays s past e g j l = (
   grant_stays s past e g j l.0,
   false_from_ne_true (is_held s (e ∷ past) g)
       (λ h. let who = any_where (holds s (e ∷ past) g) (length s.lanes) h in
@@ -91,9 +91,9 @@ loose_stays s past e g j l = (
 )
 
 -- what a lane asked for and holds no more, nothing holds
-left_loose : (s : Setting) (past : List Entry) (lane g : ℕ) → IsJournal s past → IsOwned past lane g
-    → (has_grant (held_site s past lane) g ≡ true → ⊥) → IsLoose s past g
-left_loose s past lane g j o left = (
+left_unheld : (s : Setting) (past : List Entry) (lane g : ℕ) → IsJournal s past → IsOwned past lane g
+    → (has_grant (held_site s past lane) g ≡ true → ⊥) → IsUnheld s past g
+left_unheld s past lane g j o left = (
   o.0,
   false_from_ne_true (is_held s past g)
       (λ h. let who = any_where (holds s past g) (length s.lanes) h in
@@ -102,18 +102,18 @@ left_loose s past lane g j o left = (
 )
 
 -- what stood in the slots of a lane that is being let go, nothing holds
-letting_loose : (s : Setting) (past : List Entry) (site : Site) (g : ℕ) → IsJournal s past → letting_go s past
-    ≡ Some site → has_grant site g ≡ true → IsLoose s past g
-letting_loose s [] site g j e h = absurd cc
-letting_loose s (entry.LetGo lane ∷ past) site g j e h =
+letting_unheld : (s : Setting) (past : List Entry) (site : Site) (g : ℕ) → IsJournal s past → letting_go s past
+    ≡ Some site → has_grant site g ≡ true → IsUnheld s past g
+letting_unheld s [] site g j e h = absurd cc
+letting_unheld s (entry.LetGo lane ∷ past) site g j e h =
     let now : List Entry = entry.LetGo lane ∷ past in
     let is : site_of s past lane ≡ site = cc in
-    left_loose s now lane g j (slots_owned s past lane g j.1 (ap (λ x. has_grant x g) is ∙ h))
+    left_unheld s now lane g j (slots_owned s past lane g j.1 (ap (λ x. has_grant x g) is ∙ h))
     (λ held. let slot : has_grant (site_of s now lane) g ≡ true = held_less (current s now lane) (own now lane (ended now lane)) (site_of s now lane) g held in
     let none : false ≡ true = rw (eq-eqb lane lane refl) at slot in cc)
-letting_loose s (entry.Event (Submit owner.Close id r) ∷ past) site g j e h =
-    loose_stays s past (entry.Event (Submit owner.Close id r)) g j (letting_loose s past site g j.1 e h)
-letting_loose s (_ ∷ past) site g j e h = absurd cc
+letting_unheld s (entry.Event (Submit owner.Close id r) ∷ past) site g j e h =
+    unheld_stays s past (entry.Event (Submit owner.Close id r)) g j (letting_unheld s past site g j.1 e h)
+letting_unheld s (_ ∷ past) site g j e h = absurd cc
 
 -- ---- the grant that is to be closed
 
@@ -141,18 +141,18 @@ let_go_passes gone (Empty ∷ slots) g e = let_go_passes gone slots g e
 let_go_passes gone (File file ∷ slots) g e = let_go_first gone slots file.grant g (let_go_passes gone slots g) e
 let_go_passes gone (Buffered file buffer ∷ slots) g e = let_go_first gone slots file.grant g (let_go_passes gone slots g) e
 
-orphan_parts : (grant held gone : Bool) → (grant && not held && not gone) ≡ true → (grant ≡ true) × (held ≡ false) × (gone ≡ false)
-orphan_parts true false false e = (refl, refl, refl)
-orphan_parts true false true e = absurd cc
-orphan_parts true true gone e = absurd cc
-orphan_parts false held gone e = absurd cc
+next_due_parts : (grant held gone : Bool) → (grant && not held && not gone) ≡ true → (grant ≡ true) × (held ≡ false) × (gone ≡ false)
+next_due_parts true false false e = (refl, refl, refl)
+next_due_parts true false true e = absurd cc
+next_due_parts true true gone e = absurd cc
+next_due_parts false held gone e = absurd cc
 
-orphan_loose : (s : Setting) (past : List Entry) (g : ℕ) (x : Option Site) → IsJournal s past → letting_go s past ≡ x
-    → orphan_at s past (closed s past) x ≡ Some g → IsLoose s past g × (is_one_of (closed s past) g ≡ false)
-orphan_loose s past g (Some site) j is e = let p = let_go_passes (closed s past) site.slots g e in (letting_loose s past site g j is p.0, p.1)
-orphan_loose s past g None j is e =
-    let p = orphan_parts (is_grant past g) (is_held s past g) (is_one_of (closed s past) g)
-    (first_passes (is_orphan s past (closed s past)) (asked past) g e).1 in ((p.0, p.1), p.2)
+next_due_unheld : (s : Setting) (past : List Entry) (g : ℕ) (x : Option Site) → IsJournal s past → letting_go s past ≡ x
+    → next_due_at s past (closed s past) x ≡ Some g → IsUnheld s past g × (is_one_of (closed s past) g ≡ false)
+next_due_unheld s past g (Some site) j is e = let p = let_go_passes (closed s past) site.slots g e in (letting_unheld s past site g j is p.0, p.1)
+next_due_unheld s past g None j is e =
+    let p = next_due_parts (is_grant past g) (is_held s past g) (is_one_of (closed s past) g)
+    (first_passes (is_due s past (closed s past)) (asked past) g e).1 in ((p.0, p.1), p.2)
 
 -- ---- what a CLOSE closes
 
@@ -162,24 +162,24 @@ pub record IsClosing (s : Setting) (past : List Entry) (by : Owner) (id : ℕ) (
   pub is : closes s past (closed s past) by ≡ Some grant
   pub unclosed : is_one_of (closed s past) grant ≡ false
   pub bears : handle_of (answer past grant) ≡ handle
-  pub loose : IsLoose s (entry.Event (Submit by id (request.Close handle)) ∷ past) grant
+  pub unheld : IsUnheld s (entry.Event (Submit by id (request.Close handle)) ∷ past) grant
 
 own_closing : (s : Setting) (past : List Entry) (id : ℕ) (handle : List ℕ)
     → IsJournal s (entry.Event (Submit owner.Close id (request.Close handle)) ∷ past)
     → IsClosing s past owner.Close id handle
-own_closing s past id handle j = by_due (last_cancel past) (orphan s past) refl j.0
+own_closing s past id handle j = by_due (last_cancel past) (next_due s past) refl j.0
   where
     e : Entry
     e = entry.Event (Submit owner.Close id (request.Close handle))
 
-    by_due : (c g : Option ℕ) → orphan s past ≡ g → MatchOption c
+    by_due : (c g : Option ℕ) → next_due s past ≡ g → MatchOption c
         (MatchOption g (MayCome s past e) (λ grant. MustClose past grant e)) (λ l. e ≡ cancelled_end past l)
         → IsClosing s past owner.Close id handle
     by_due (Some l) g is h = absurd (cc h)
     by_due None None is may = absurd may
     by_due None (Some g) is must =
-        let l = orphan_loose s past g (letting_go s past) j.1 refl is in
-        record { grant = g; is = is; unclosed = l.1; bears = cc (must.1.1); loose = loose_stays s past e g j l.0 }
+        let l = next_due_unheld s past g (letting_go s past) j.1 refl is in
+        record { grant = g; is = is; unclosed = l.1; bears = cc (must.1.1); unheld = unheld_stays s past e g j l.0 }
 
 added_none : (s : Setting) (past : List Entry) (lane : ℕ) → IsJournal s past → length s.lanes ≤ lane → added past lane ≡ []
 added_none s [] lane j le = refl
@@ -199,7 +199,7 @@ lane_there s past lane j some =
 
 call_closing : (s : Setting) (past : List Entry) (lane c id : ℕ) (handle : List ℕ)
     → IsJournal s (entry.Event (Submit (owner.Call lane c) id (request.Close handle)) ∷ past)
-    → ((g : ℕ) → is_one_of (closed s past) g ≡ true → IsLoose s past g) → IsClosing s past (owner.Call lane c) id handle
+    → ((g : ℕ) → is_one_of (closed s past) g ≡ true → IsUnheld s past g) → IsClosing s past (owner.Call lane c) id handle
 call_closing s past lane c id handle j gone =
     let now : List Entry = entry.Event (Submit (owner.Call lane c) id (request.Close handle)) ∷ past in
     let may = next_submit s past lane c id (request.Close handle) j.0 in
@@ -225,7 +225,7 @@ call_closing s past lane c id handle j gone =
           (λ h. both_ways (is_held s past g) (gone g h).1 (any_passes (holds s past g) (length s.lanes) lane there
           (or_left (has_grant (held_site s past lane) g) _ held)));
       bears = sym w.bears;
-      loose = left_loose s now lane g j (
+      unheld = left_unheld s now lane g j (
         o.0,
         (
           o.1.0,
@@ -241,7 +241,7 @@ call_closing s past lane c id handle j gone =
     }
 
 pub closing : (s : Setting) (past : List Entry) (by : Owner) (id : ℕ) (handle : List ℕ) → IsJournal s (entry.Event (Submit by id (request.Close handle)) ∷ past)
-    → ((g : ℕ) → is_one_of (closed s past) g ≡ true → IsLoose s past g) → IsClosing s past by id handle
+    → ((g : ℕ) → is_one_of (closed s past) g ≡ true → IsUnheld s past g) → IsClosing s past by id handle
 closing s past (owner.Call lane c) id handle j gone = call_closing s past lane c id handle j gone
 closing s past owner.Close id handle j gone = own_closing s past id handle j
 closing s past owner.Setup id handle j gone =
@@ -255,21 +255,21 @@ one_more g k gone P here there e = elim (eqb_tells g k) [ inl t ↦ here t.1 | i
 
 gone_by : (s : Setting) (past : List Entry) (by : Owner) (id : ℕ) (r : Request) (k : ℕ)
     → IsJournal s (entry.Event (Submit by id r) ∷ past) → ((g : ℕ) → is_one_of (closed s past) g ≡ true
-    → IsLoose s past g)
-    → is_one_of (with_closed (is_close r) (closes s past (closed s past) by) (closed s past)) k ≡ true → IsLoose s (entry.Event (Submit by id r) ∷ past) k
+    → IsUnheld s past g)
+    → is_one_of (with_closed (is_close r) (closes s past (closed s past) by) (closed s past)) k ≡ true → IsUnheld s (entry.Event (Submit by id r) ∷ past) k
 gone_by s past by id (request.Close handle) k j gone h =
     let e : Entry = entry.Event (Submit by id (request.Close handle)) in
     let c : IsClosing s past by id handle = closing s past by id handle j gone in
-    one_more c.grant k (closed s past) (IsLoose s (e ∷ past) k) (λ same. subst (IsLoose s (e ∷ past)) same c.loose)
-    (λ was. loose_stays s past e k j (gone k was))
+    one_more c.grant k (closed s past) (IsUnheld s (e ∷ past) k) (λ same. subst (IsUnheld s (e ∷ past)) same c.unheld)
+    (λ was. unheld_stays s past e k j (gone k was))
     (ap (λ x. is_one_of (x ∷ closed s past) k) (sym c.is) ∙ h)
-gone_by s past by id other k j gone h = loose_stays s past (entry.Event (Submit by id other)) k j (gone k h)
+gone_by s past by id other k j gone h = unheld_stays s past (entry.Event (Submit by id other)) k j (gone k h)
 
 -- a grant that has a CLOSE is one, and nothing holds it
-pub gone_loose : (s : Setting) (past : List Entry) (g : ℕ) → IsJournal s past → is_one_of (closed s past) g ≡ true → IsLoose s past g
-gone_loose s [] g j h = absurd cc
-gone_loose s (entry.Event (Submit by id r) ∷ past) g j h = gone_by s past by id r g j (λ k was. gone_loose s past k j.1 was) h
-gone_loose s (e ∷ past) g j h = loose_stays s past e g j (gone_loose s past g j.1 h)
+pub gone_unheld : (s : Setting) (past : List Entry) (g : ℕ) → IsJournal s past → is_one_of (closed s past) g ≡ true → IsUnheld s past g
+gone_unheld s [] g j h = absurd cc
+gone_unheld s (entry.Event (Submit by id r) ∷ past) g j h = gone_by s past by id r g j (λ k was. gone_unheld s past k j.1 was) h
+gone_unheld s (e ∷ past) g j h = unheld_stays s past e g j (gone_unheld s past g j.1 h)
 
 -- ---- how often
 
@@ -295,7 +295,7 @@ once_by : (s : Setting) (past : List Entry) (by : Owner) (id : ℕ) (r : Request
     → IsJournal s (entry.Event (Submit by id r) ∷ past) → closes_of s past k ≤ 1
     → count_by (λ x. is_at x k) (with_closed (is_close r) (closes s past (closed s past) by) (closed s past)) ≤ 1
 once_by s past by id (request.Close handle) k j was =
-    let c : IsClosing s past by id handle = closing s past by id handle j (λ g. gone_loose s past g j.1) in
+    let c : IsClosing s past by id handle = closing s past by id handle j (λ g. gone_unheld s past g j.1) in
     rw (c.is, count_by-cons (λ x. is_at x k) (Some c.grant) (closed s past)) (elim (eqb_tells c.grant k) [
       | inl t ↦ rw t.0 (let none : closes_of s past k ≡ 0 = none_counted (closed s past) k
           (ap (is_one_of (closed s past)) (sym t.1) ∙ c.unclosed) in omega arith)

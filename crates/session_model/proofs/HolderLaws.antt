@@ -50,7 +50,7 @@ use Rattle.session_model.specs.declared.entry.Entry.{Entry}
 use Rattle.session_model.specs.declared.entry.Entry.TheVariants as entry
 use Rattle.session_model.specs.Readings.{AskedRequest, asked, asked_at, answer, is_by, own, ended, last_cancel}
 use Rattle.session_model.specs.Calls.{Setting, added, calls_of, call_at, current, left_by, site_of, site_left, held_by, held_site, move_at, move_of}
-use Rattle.session_model.specs.Grants.{is_granted, is_grant, is_asked_by, is_unended_asker, holds, orphan}
+use Rattle.session_model.specs.Grants.{is_granted, is_grant, is_asked_by, is_unended_asker, holds, next_due}
 use Rattle.session_model.specs.Journals.{IsJournal, IsNext, MayCome, MustClose, cancelled_end}
 use Rattle.session_model.proofs.CallLaws.{next_by, next_take, has_place, asker_owns, own_fresh, ended_end, site_end}
 use Rattle.session_model.proofs.LetGoLaws.{granted_below}
@@ -105,7 +105,7 @@ left_has (Some c) None site facts own answers g ends h =
 -- what may come came, unless a CLOSE was due or the end of a cancelled call
 pub may_of : (s : Setting) (past : List Entry) (e : Entry) → IsNext s past e → ((g : ℕ) → MustClose past g e → ⊥)
     → ((lane : ℕ) → e ≡ cancelled_end past lane → ⊥) → MayCome s past e
-may_of s past e next no_close no_end = next_by (last_cancel past) (orphan s past) (MayCome s past e)
+may_of s past e next no_close no_end = next_by (last_cancel past) (next_due s past) (MayCome s past e)
     (λ g. MustClose past g e) (λ lane. e ≡ cancelled_end past lane) next no_close no_end
 
 cancelled_call : (s : Setting) (past : List Entry) (lane : ℕ) → IsJournal s past → last_cancel past ≡ Some lane → current s past lane ≢ None
@@ -123,7 +123,7 @@ pub record IsEnding (s : Setting) (past : List Entry) (lane call : ℕ) : Type 0
   pub ends : Ends (last_cancel past) (move_of s past lane)
 
 pub ending : (s : Setting) (past : List Entry) (lane call : ℕ) (o : Outcome) → IsJournal s (entry.Event (End lane call o) ∷ past) → IsEnding s past lane call
-ending s past lane call o j = by_due (last_cancel past) (orphan s past) refl j.0
+ending s past lane call o j = by_due (last_cancel past) (next_due s past) refl j.0
   where
     e : Entry
     e = entry.Event (End lane call o)

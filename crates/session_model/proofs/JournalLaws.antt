@@ -11,7 +11,7 @@ use Rattle.session_model.specs.declared.entry.Entry.{Entry}
 use Rattle.session_model.specs.declared.entry.Entry.TheVariants as entry
 use Rattle.session_model.specs.Readings.{AskedRequest, asked, asked_at, bearer, answer, is_at, awaiting, last_cancel}
 use Rattle.session_model.specs.Calls.{Setting}
-use Rattle.session_model.specs.Grants.{orphan}
+use Rattle.session_model.specs.Grants.{next_due}
 use Rattle.session_model.specs.Journals.{IsJournal, IsNext, IsFree, MayCome, MustClose, cancelled_end}
 use Rattle.session_model.proofs.RequestLaws.{is_awaiting}
 
@@ -34,7 +34,7 @@ free_by s past by id r None None h = may_free s past by id r h
 
 -- a request is submitted under a free id
 pub submit_free : (s : Setting) (past : List Entry) (by : Owner) (id : ℕ) (r : Request) → IsNext s past (entry.Event (Submit by id r)) → IsFree past id
-submit_free s past by id r h = free_by s past by id r (last_cancel past) (orphan s past) h
+submit_free s past by id r h = free_by s past by id r (last_cancel past) (next_due s past) h
 
 still_none : (b : Bool) (r : Reply) (old : Option Reply) → (if b then Some r else old) ≡ None → old ≡ None
 still_none true r old e = absurd cc

@@ -42,13 +42,13 @@ use Rattle.session_model.specs.Grants.{
   holds,
   is_held,
   is_one_of,
-  is_orphan,
+  is_due,
   first_below,
   grant_or,
   first_let_go,
   letting_go,
-  orphan_at,
-  orphan,
+  next_due_at,
+  next_due,
   closes,
   closed,
   is_unended_asker,
@@ -163,11 +163,11 @@ closes_leave s before (e ∷ past) (inr (due, rest)) =
 
 -- ---- the letting go
 
-no_orphan : (grant held gone : Bool) → (grant ≡ true → gone ≡ false → held ≡ true) → (grant && not held && not gone) ≡ false
-no_orphan false held gone h = refl
-no_orphan true true gone h = refl
-no_orphan true false true h = refl
-no_orphan true false false h = absurd (let no_way : false ≡ true = h refl refl in cc)
+no_next_due : (grant held gone : Bool) → (grant ≡ true → gone ≡ false → held ≡ true) → (grant && not held && not gone) ≡ false
+no_next_due false held gone h = refl
+no_next_due true true gone h = refl
+no_next_due true false true h = refl
+no_next_due true false false h = absurd (let no_way : false ≡ true = h refl refl in cc)
 
 was_held : (grant held gone : Bool) → (grant && not held && not gone) ≡ false → grant ≡ true → gone ≡ false → held ≡ true
 was_held false held gone e g c = absurd cc
@@ -224,15 +224,15 @@ held_on s past now lane k who idle slots left held =
     ]
 
 pub let_go_settled : (s : Setting) (past now : List Entry) (lane : ℕ) → IsSettled s past → current s past lane ≡ None
-    → ClosesTo s (entry.LetGo lane ∷ past) now → orphan s now ≡ None → IsSettled s now
+    → ClosesTo s (entry.LetGo lane ∷ past) now → next_due s now ≡ None → IsSettled s now
 let_go_settled s past now lane settled idle to bare =
     let more : Leaves s (entry.LetGo lane ∷ past) now = closes_leave s (entry.LetGo lane ∷ past) now to in
-    let slots : first_let_go (closed s now) (site_of s past lane).slots ≡ None = ap (orphan_at s now (closed s now)) (sym more.letting) ∙ bare in
-    none_below (is_orphan s now (closed s now)) (asked now) (λ k lt. no_orphan (is_grant now k) (is_held s now k) (is_one_of (closed s now) k)
+    let slots : first_let_go (closed s now) (site_of s past lane).slots ≡ None = ap (next_due_at s now (closed s now)) (sym more.letting) ∙ bare in
+    none_below (is_due s now (closed s now)) (asked now) (λ k lt. no_next_due (is_grant now k) (is_held s now k) (is_one_of (closed s now) k)
     (λ granted left. let before : is_grant past k ≡ true = sym (more.granted k) ∙ granted in
     let unclosed : is_one_of (closed s past) k ≡ false = not_gone (is_one_of (closed s past) k) (is_one_of (closed s now) k) (more.gone k) left in
     let held : is_held s past k ≡ true = was_held (is_grant past k) (is_held s past k) (is_one_of (closed s past) k)
-    (below_none (is_orphan s past (closed s past)) (asked past) settled k (granted_below past k before)) before
+    (below_none (is_due s past (closed s past)) (asked past) settled k (granted_below past k before)) before
     unclosed in
     let who = any_where (holds s past k) (length s.lanes) held in
     let still : holds s (entry.LetGo lane ∷ past) k who.0 ≡ true = held_on s past now lane k who.0 idle slots left who.1.1 in
@@ -247,30 +247,30 @@ none_granted false held gone e = refl
 unasked : (past : List Entry) (g : ℕ) → asked past ≤ g → is_grant past g ≡ false
 unasked past g beyond = ap is_granted (answer_beyond past g beyond)
 
-settled_by : (s : Setting) (past : List Entry) (g : ℕ) (b : Bool) → nat_lt g (asked past) ≡ b → IsSettled s past → is_orphan s past (closed s past) g ≡ false
-settled_by s past g true is settled = below_none (is_orphan s past (closed s past)) (asked past) settled g (grind (arith, nat_tests))
+settled_by : (s : Setting) (past : List Entry) (g : ℕ) (b : Bool) → nat_lt g (asked past) ≡ b → IsSettled s past → is_due s past (closed s past) g ≡ false
+settled_by s past g true is settled = below_none (is_due s past (closed s past)) (asked past) settled g (grind (arith, nat_tests))
 settled_by s past g false is settled = none_granted (is_grant past g) (is_held s past g) (is_one_of (closed s past) g)
     (unasked past g (grind (arith, nat_tests)))
 
 -- no grant is to be closed, said of each, and the other way round
-pub settled_each : (s : Setting) (past : List Entry) (g : ℕ) → IsSettled s past → is_orphan s past (closed s past) g ≡ false
+pub settled_each : (s : Setting) (past : List Entry) (g : ℕ) → IsSettled s past → is_due s past (closed s past) g ≡ false
 settled_each s past g settled = settled_by s past g (nat_lt g (asked past)) refl settled
 
-pub each_settled : (s : Setting) (past : List Entry) → ((g : ℕ) → is_orphan s past (closed s past) g ≡ false) → IsSettled s past
-each_settled s past each = none_below (is_orphan s past (closed s past)) (asked past) (λ g lt. each g)
+pub each_settled : (s : Setting) (past : List Entry) → ((g : ℕ) → is_due s past (closed s past) g ≡ false) → IsSettled s past
+each_settled s past each = none_below (is_due s past (closed s past)) (asked past) (λ g lt. each g)
 
--- while no lane is let go, `orphan` is the one by the order of places
-pub orphan_plain : (s : Setting) (past : List Entry) → letting_go s past ≡ None → orphan s past ≡ first_below (is_orphan s past (closed s past)) (asked past)
-orphan_plain s past none = ap (orphan_at s past (closed s past)) none
+-- while no lane is let go, `next_due` is the one by the order of places
+pub next_due_plain : (s : Setting) (past : List Entry) → letting_go s past ≡ None → next_due s past ≡ first_below (is_due s past (closed s past)) (asked past)
+next_due_plain s past none = ap (next_due_at s past (closed s past)) none
 
-is_granted_orphan : (grant held gone : Bool) → (grant && not held && not gone) ≡ true → grant ≡ true
-is_granted_orphan true held gone e = refl
-is_granted_orphan false held gone e = absurd cc
+is_granted_next_due : (grant held gone : Bool) → (grant && not held && not gone) ≡ true → grant ≡ true
+is_granted_next_due true held gone e = refl
+is_granted_next_due false held gone e = absurd cc
 
 -- where one grant alone is to be closed, it is next
-pub orphan_one : (s : Setting) (past : List Entry) (g : ℕ) → letting_go s past ≡ None → is_orphan s past (closed s past) g ≡ true
-    → ((k : ℕ) → k ≢ g → is_orphan s past (closed s past) k ≡ false) → orphan s past ≡ Some g
-orphan_one s past g none is others =
-    orphan_plain s past none ∙ one_below (is_orphan s past (closed s past)) (asked past) g
-    (granted_below past g (is_granted_orphan (is_grant past g) (is_held s past g) (is_one_of (closed s past) g) is))
+pub next_due_one : (s : Setting) (past : List Entry) (g : ℕ) → letting_go s past ≡ None → is_due s past (closed s past) g ≡ true
+    → ((k : ℕ) → k ≢ g → is_due s past (closed s past) k ≡ false) → next_due s past ≡ Some g
+next_due_one s past g none is others =
+    next_due_plain s past none ∙ one_below (is_due s past (closed s past)) (asked past) g
+    (granted_below past g (is_granted_next_due (is_grant past g) (is_held s past g) (is_one_of (closed s past) g) is))
     is others

@@ -11,7 +11,7 @@ use Rattle.session_model.specs.declared.entry.Entry.{Entry}
 use Rattle.session_model.specs.declared.entry.Entry.TheVariants as entry
 use Rattle.session_model.specs.Readings.{asked, sent, answer, bearer, is_at, last_cancel}
 use Rattle.session_model.specs.Calls.{Setting, site_of}
-use Rattle.session_model.specs.Grants.{is_granted, is_grant, is_orphan, first_let_go, letting_go, orphan_at, orphan, closed}
+use Rattle.session_model.specs.Grants.{is_granted, is_grant, is_due, first_let_go, letting_go, next_due_at, next_due, closed}
 use Rattle.session_model.specs.Journals.{IsJournal, IsNext, MayCome, MayTake, is_opened, opened}
 use Rattle.session_model.proofs.CallLaws.{may_next, next_may}
 use Rattle.session_model.proofs.GrantLaws.{none_below}
@@ -33,19 +33,19 @@ pub record Unopened (past : List Entry) : Type 0 where
   pub bare : (t : Setting) (lane : ℕ) → (site_of t past lane).slots ≡ fresh_site.slots
   pub letting : (t : Setting) → IsBare (letting_go t past)
 
-not_orphan : (grant held gone : Bool) → grant ≡ false → (grant && held && gone) ≡ false
-not_orphan true held gone e = absurd cc
-not_orphan false held gone e = refl
+not_next_due : (grant held gone : Bool) → grant ≡ false → (grant && held && gone) ≡ false
+not_next_due true held gone e = absurd cc
+not_next_due false held gone e = refl
 
-bare_orphan : (t : Setting) (past : List Entry) (site : Option Site) → IsBare site
-    → ((place : ℕ) → answer past place ≡ None) → orphan_at t past (closed t past) site ≡ None
-bare_orphan t past None bare silent =
-    none_below (is_orphan t past (closed t past)) (asked past) (λ k lt. not_orphan (is_grant past k) _ _ (ap is_granted (silent k)))
-bare_orphan t past (Some site) bare silent = ap (first_let_go (closed t past)) bare
+bare_next_due : (t : Setting) (past : List Entry) (site : Option Site) → IsBare site
+    → ((place : ℕ) → answer past place ≡ None) → next_due_at t past (closed t past) site ≡ None
+bare_next_due t past None bare silent =
+    none_below (is_due t past (closed t past)) (asked past) (λ k lt. not_next_due (is_grant past k) _ _ (ap is_granted (silent k)))
+bare_next_due t past (Some site) bare silent = ap (first_let_go (closed t past)) bare
 
 -- no grant is to be closed
-pub unopened_settled : (t : Setting) (past : List Entry) → Unopened past → orphan t past ≡ None
-unopened_settled t past u = bare_orphan t past (letting_go t past) (u.letting t) u.silent
+pub unopened_settled : (t : Setting) (past : List Entry) → Unopened past → next_due t past ≡ None
+unopened_settled t past u = bare_next_due t past (letting_go t past) (u.letting t) u.silent
 
 before_opened : (limits b : Bool) (r : Reply) (old : Option Reply) → is_opened limits (if b then Some r else old) ≡ false → is_opened limits old ≡ false
 before_opened false b r old e = absurd cc

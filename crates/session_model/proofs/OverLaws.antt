@@ -40,7 +40,7 @@ use Rattle.session_model.specs.declared.entry.Entry.{Entry}
 use Rattle.session_model.specs.declared.entry.Entry.TheVariants as entry
 use Rattle.session_model.specs.Readings.{asked, asked_at, answer, bearer, is_at, was_let_go}
 use Rattle.session_model.specs.Calls.{Setting, current}
-use Rattle.session_model.specs.Grants.{is_granted, is_grant, is_orphan, closed, IsSettled}
+use Rattle.session_model.specs.Grants.{is_granted, is_grant, is_due, closed, IsSettled}
 use Rattle.session_model.specs.Journals.{IsJournal, IsNext, MayTake, MayReply, IsFree, brings_limits, is_opened, IsOver}
 use Rattle.session_model.specs.Turns.{Stage, is_full}
 use Rattle.session_model.specs.Runs.{Opens, queried, LetGoTo, LetsGoTo, at_first, IsRun}
@@ -74,9 +74,9 @@ none_granted : (b : Bool) (r : Reply) → is_handle r ≡ false → is_granted (
 none_granted true r e = e
 none_granted false r e = refl
 
-not_orphan : (grant held gone : Bool) → grant ≡ false → (grant && held && gone) ≡ false
-not_orphan true held gone e = absurd cc
-not_orphan false held gone e = refl
+not_next_due : (grant held gone : Bool) → grant ≡ false → (grant && held && gone) ≡ false
+not_next_due true held gone e = absurd cc
+not_next_due false held gone e = refl
 
 -- the query, its sending and its reply
 query_good : (s : Setting) (id : ℕ) (r : Reply) → s.limits ≡ true → IsFree [] id → MayTake (queried id) id r
@@ -89,10 +89,10 @@ query_good s id r e free may =
     let borne : bearer (queried id) id ≡ Some 0 = rw (eq-eqb id id refl) refl in
     let there : answer (entry.Event (Take id r) ∷ queried id) 0 ≡ Some r = answer_new (queried id) id 0 r borne in
     let past : List Entry = entry.Event (Take id r) ∷ queried id in
-    let none : (k : ℕ) → is_orphan s past (closed s past) k ≡ false =
-    λ k. not_orphan (is_grant past k) _ _ (none_granted (is_at (bearer (queried id) id) k) r
+    let none : (k : ℕ) → is_due s past (closed s past) k ≡ false =
+    λ k. not_next_due (is_grant past k) _ _ (none_granted (is_at (bearer (queried id) id) k) r
     (no_handle r (brought id r may))) in
-    let plain : IsSettled s past = none_below (is_orphan s past (closed s past)) (asked past) (λ k lt. none k) in
+    let plain : IsSettled s past = none_below (is_due s past (closed s past)) (asked past) (λ k lt. none k) in
     record {
       good = record {
         run = (third, (second, (first, tt)));

@@ -44,7 +44,7 @@ use Rattle.session_model.specs.declared.entry.Entry.{Entry}
 use Rattle.session_model.specs.declared.entry.Entry.TheVariants as entry
 use Rattle.session_model.specs.Readings.{asked, sent, answer, bearer, is_at, is_by, own, ended, was_kept, awaited}
 use Rattle.session_model.specs.Calls.{Setting, current, move_of, is_wait, has_waited}
-use Rattle.session_model.specs.Grants.{letting_go, orphan_at, closed, IsSettled}
+use Rattle.session_model.specs.Grants.{letting_go, next_due_at, closed, IsSettled}
 use Rattle.session_model.specs.Journals.{IsJournal, IsNext, MayTake, IsFree, close_of, is_opened, opened, is_some_asked, may_cancel, cancelled_end}
 use Rattle.session_model.specs.Turns.{Stage, TurnTo, MovesBy, RulesTo, ClosesTo, SendsTo, is_full, begun_with, begun_but}
 use Rattle.session_model.proofs.CallLaws.{may_next, due_next, cancelled_next, own_submit}
@@ -180,7 +180,7 @@ rules_good : (s : Setting) (first now : List Entry) (begun : ℕ → Bool) → G
 rules_good s first now begun g letting to =
     let good : Good s to.0 begun = closes_good s first to.0 begun g to.1.0.0 in
     let none : letting_go s to.0 ≡ None = (closes_leave s first to.0 to.1.0.0).letting ∙ letting in
-    let plain : IsSettled s to.0 = ap (orphan_at s to.0 (closed s to.0)) (sym none) ∙ to.1.0.1 in
+    let plain : IsSettled s to.0 = ap (next_due_at s to.0 (closed s to.0)) (sym none) ∙ to.1.0.1 in
     sends_good s to.0 now begun good (record { settled = to.1.0.1; plain = plain }) to.1.1
 
 -- ---- turns

@@ -78,8 +78,8 @@ abbrev pub is_one_of : List (Option ℕ) → ℕ → Bool
 is_one_of grants grant = list_any (λ g. is_at g grant) grants
 
 -- a grant without holders that has no CLOSE, where the grants of this list have one
-abbrev pub is_orphan : Setting → List Entry → List (Option ℕ) → ℕ → Bool
-is_orphan s past closed place = is_grant past place && not (is_held s past place) && not (is_one_of closed place)
+abbrev pub is_due : Setting → List Entry → List (Option ℕ) → ℕ → Bool
+is_due s past closed place = is_grant past place && not (is_held s past place) && not (is_one_of closed place)
 
 -- the first that passed, or this number where it passes
 abbrev pub first_or : Option ℕ → Bool → ℕ → Option ℕ
@@ -111,9 +111,9 @@ letting_go s (_ ∷ past) = None
 
 -- The grant to be closed next, where these have a CLOSE: while a lane is let go the first by its slots, else
 -- the one of the least place.
-abbrev pub orphan_at : Setting → List Entry → List (Option ℕ) → Option Site → Option ℕ
-orphan_at s past closed (Some site) = first_let_go closed site.slots
-orphan_at s past closed None = first_below (is_orphan s past closed) (asked past)
+abbrev pub next_due_at : Setting → List Entry → List (Option ℕ) → Option Site → Option ℕ
+next_due_at s past closed (Some site) = first_let_go closed site.slots
+next_due_at s past closed None = first_below (is_due s past closed) (asked past)
 
 -- ---- the grants that have a CLOSE
 
@@ -126,7 +126,7 @@ closed_by other site = None
 abbrev pub closes : Setting → List Entry → List (Option ℕ) → Owner → Option ℕ
 closes s past closed (owner.Call lane c) = closed_by (call_at s past lane c) (site_of s past lane)
 closes s past closed owner.Setup = None
-closes s past closed owner.Close = orphan_at s past closed (letting_go s past)
+closes s past closed owner.Close = next_due_at s past closed (letting_go s past)
 
 -- the request is a CLOSE
 abbrev pub is_close : Request → Bool
@@ -146,9 +146,9 @@ closed s (entry.Event (Submit by id r) ∷ past) = with_closed (is_close r) (clo
 closed s (_ ∷ past) = closed s past
 
 -- the grant that is to be closed next
-abbrev pub orphan : Setting → List Entry → Option ℕ
-orphan s past = orphan_at s past (closed s past) (letting_go s past)
+abbrev pub next_due : Setting → List Entry → Option ℕ
+next_due s past = next_due_at s past (closed s past) (letting_go s past)
 
 -- no grant is to be closed, by the order of places
 abbrev pub IsSettled : Setting → List Entry → Type 0
-IsSettled s past = first_below (is_orphan s past (closed s past)) (asked past) ≡ None
+IsSettled s past = first_below (is_due s past (closed s past)) (asked past) ≡ None

@@ -55,7 +55,7 @@ use Rattle.session_model.specs.Readings.{
   unanswered,
 }
 use Rattle.session_model.specs.Calls.{Setting, current, move_of, has_waited}
-use Rattle.session_model.specs.Grants.{orphan}
+use Rattle.session_model.specs.Grants.{next_due}
 
 -- ---- replies
 
@@ -157,7 +157,7 @@ cancelled_end past lane = entry.Event (End lane (ended past lane) outcome.Cancel
 abbrev pub IsNext : Setting → List Entry → Entry → Type 0
 IsNext s past e =
     MatchOption (last_cancel past)
-    (MatchOption (orphan s past) (MayCome s past e) (λ grant. MustClose past grant e))
+    (MatchOption (next_due s past) (MayCome s past e) (λ grant. MustClose past grant e))
     (λ lane. e ≡ cancelled_end past lane)
 
 -- The journal is a run so far: each entry may come behind those before it.
@@ -167,5 +167,5 @@ IsJournal s (e ∷ past) = IsNext s past e × IsJournal s past
 
 -- The session is over: each lane was let go, nothing is to be closed, and nothing is unanswered.
 abbrev pub IsOver : Setting → List Entry → Type 0
-IsOver s past = ((lane : ℕ) → lane < length s.lanes → was_let_go past lane ≡ true) × (orphan s past ≡ None)
+IsOver s past = ((lane : ℕ) → lane < length s.lanes → was_let_go past lane ≡ true) × (next_due s past ≡ None)
     × (unanswered past ≡ 0)

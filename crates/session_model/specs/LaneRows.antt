@@ -9,7 +9,7 @@ use Rattle.plan_model.specs.declared.call.Call.TheVariants as call
 use Rattle.session_model.specs.declared.entry.Entry.{Entry}
 use Rattle.session_model.specs.declared.entry.Entry.TheVariants as entry
 use Rattle.session_model.specs.Calls.{Setting}
-use Rattle.session_model.specs.Grants.{orphan}
+use Rattle.session_model.specs.Grants.{next_due}
 use Rattle.session_model.specs.Journals.{IsJournal, IsNext, IsOver}
 use Rattle.session_model.specs.RowWords.{
   refusal,
@@ -175,7 +175,7 @@ abbrev pub cancelled_open : List Entry
 cancelled_open = end 0 0 outcome.Cancelled ∷ cancel 0 ∷ take 0 (granted 7) ∷ send ∷ submit 0 0 0 (open_of (codes "a")) ∷
     []
 
-pub cancelled_is_due : orphan opens cancelled_open ≡ Some 0
+pub cancelled_is_due : next_due opens cancelled_open ≡ Some 0
 unfolding request_body attributes string uint32
 cancelled_is_due = refl
 

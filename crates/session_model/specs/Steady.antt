@@ -3,7 +3,7 @@ use Rattle.std.specs.Prelude.{◌≡◌, ℕ, Bool, true, false, List, None}
 use Rattle.session_model.specs.declared.entry.Entry.{Entry}
 use Rattle.session_model.specs.Readings.{last_cancel, was_kept}
 use Rattle.session_model.specs.Calls.{Setting}
-use Rattle.session_model.specs.Grants.{orphan, IsSettled}
+use Rattle.session_model.specs.Grants.{next_due, IsSettled}
 use Rattle.session_model.specs.Journals.{IsJournal, opened, may_cancel}
 
 -- a run so far whose lanes that were begun may be cancelled
@@ -16,5 +16,5 @@ pub record Good (s : Setting) (past : List Entry) (begun : ℕ → Bool) : Type 
 
 -- no grant is to be closed
 pub record Still (s : Setting) (past : List Entry) : Type 0 where
-  pub settled : orphan s past ≡ None
+  pub settled : next_due s past ≡ None
   pub plain : IsSettled s past

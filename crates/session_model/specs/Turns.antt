@@ -31,7 +31,7 @@ use Rattle.session_model.specs.declared.entry.Entry.{Entry}
 use Rattle.session_model.specs.declared.entry.Entry.TheVariants as entry
 use Rattle.session_model.specs.Readings.{asked, sent, awaited, ended}
 use Rattle.session_model.specs.Calls.{Setting, current, move_of}
-use Rattle.session_model.specs.Grants.{orphan}
+use Rattle.session_model.specs.Grants.{next_due}
 use Rattle.session_model.specs.Journals.{MayTake, IsFree, MustClose, cancelled_end}
 
 -- ---- what follows each event
@@ -40,7 +40,7 @@ use Rattle.session_model.specs.Journals.{MayTake, IsFree, MustClose, cancelled_e
 abbrev pub ClosesTo : Setting → List Entry → List Entry → Type 0
 ClosesTo s before [] = before ≡ []
 ClosesTo s before (e ∷ past) = (before ≡ e ∷ past) ⊎ (((grant : ℕ)
-    × ((orphan s past ≡ Some grant) × MustClose past grant e)) × ClosesTo s before past)
+    × ((next_due s past ≡ Some grant) × MustClose past grant e)) × ClosesTo s before past)
 
 -- more requests are unsent than may be
 abbrev pub is_full : Setting → List Entry → Bool
@@ -52,7 +52,7 @@ SendsTo s before now = MatchBool (is_full s before) (now ≡ entry.Event Send �
 
 -- all grants are closed that were to be closed
 abbrev pub SettlesTo : Setting → List Entry → List Entry → Type 0
-SettlesTo s before now = ClosesTo s before now × (orphan s now ≡ None)
+SettlesTo s before now = ClosesTo s before now × (next_due s now ≡ None)
 
 -- what follows each event: all grants are closed that are to be closed, and then too many unsent requests are sent
 abbrev pub RulesTo : Setting → List Entry → List Entry → Type 0

@@ -17,7 +17,7 @@ ghost use Rattle.session_model.specs.Calls.{Setting, current, GoesByPlan, site_o
 ghost use Rattle.session_model.specs.Ids.{id_state, ReadsId};
 ghost use Rattle.session_model.specs.Journals.{IsJournal, IsOver, MayTake};
 ghost use Rattle.session_model.specs.Grants.{IsSettled};
-ghost use Rattle.session_model.specs.Grants.{orphan, is_grant, is_held, is_one_of, closed};
+ghost use Rattle.session_model.specs.Grants.{next_due, is_grant, is_held, is_one_of, closed};
 ghost use Rattle.session_model.specs.Closes.{granted_handles, closed_handles, times, AreClosed, closes_of};
 ghost use Rattle.session_model.specs.Submitted.{submitted_at};
 ghost use Rattle.session_model.specs.Runs.{IsRun};
@@ -64,7 +64,7 @@ pub fn runs_are_journals()
 /// Where a lane was let go and its grants are closed in the order of its slots, no grant at all is to be closed.
 pub fn letting_go_settles()
     ensures { (s : Setting) (past now : List Entry) (lane : ℕ) → IsSettled s past
-        → current s past lane ≡ None → ClosesTo s (entry.LetGo lane ∷ past) now → orphan s now ≡ None
+        → current s past lane ≡ None → ClosesTo s (entry.LetGo lane ∷ past) now → next_due s now ≡ None
         → IsSettled s now }
 {}
 

@@ -41,7 +41,7 @@ use Rattle.session_model.specs.Calls.{Setting, calls_of, current}
 use Rattle.session_model.specs.Readings.{answer, ended}
 use Rattle.session_model.specs.Turns.{begun_but}
 use Rattle.session_driver.proofs.Journals.{later_on, later_self}
-use Rattle.session_laws.specs.Dues.{loose_of}
+use Rattle.session_laws.specs.Dues.{unheld_of}
 use Rattle.session_laws.specs.Places.{IsRising}
 use Rattle.session_laws.specs.Lanes.{AtTied, LaneValue, grant_places, ticket_places}
 use Rattle.session_laws.proofs.LaneLaws.{replies_agree}
@@ -159,10 +159,10 @@ cancelling s lane c new now w there begun runs gives behind =
         plain = refl;
         idle = ap (λ (y : LaneValue). y.running) here ∙ gives_idle c.core new (lane_in c.states lane) now gives;
         between = subst (λ (y : LaneValue). Between s (cancelled_past c.past lane) new
-            (lane_in (slice_set c.states lane now)) (begun_but c.begun lane) (loose_of y.site (grant_places y.grants)))
+            (lane_in (slice_set c.states lane now)) (begun_but c.begun lane) (unheld_of y.site (grant_places y.grants)))
             (sym here)
             (subst (λ (f : ℕ → LaneValue). Between s (cancelled_past c.past lane) new f (begun_but c.begun lane)
-            (loose_of now.site (grant_places now.grants))) (sym (lane_set c.states lane now lt)) x.between);
+            (unheld_of now.site (grant_places now.grants))) (sym (lane_set c.states lane now lt)) x.between);
         closes = inl refl;
         later = inl refl;
       };

@@ -9,7 +9,7 @@ use Rattle.session_model.specs.declared.entry.Entry.TheVariants as entry
 use Rattle.session_model.specs.Calls.{Setting}
 use Rattle.session_model.specs.Readings.{asked}
 use Rattle.session_laws.specs.Changes.{closed_lane}
-use Rattle.session_laws.specs.Dues.{loose_of}
+use Rattle.session_laws.specs.Dues.{unheld_of}
 use Rattle.session_laws.specs.Lanes.{Held, LaneValue, grant_places}
 use Rattle.session_laws.specs.Places.{without}
 use Rattle.session_laws.proofs.LaneLaws.{grants_count}
@@ -62,12 +62,12 @@ goes_self s before lane c h = record { closing = h; begun = refl; left = refl; w
 
 pub goes_next : (s : Setting) (before : List Entry) (lane k : ℕ) (c : LanesValue) (g : Held) → Closing s before lane c
     → slice_get (lane_in c.states lane).grants k ≡ Some g
-    → loose_of (lane_in c.states lane).site (grant_places (lane_in c.states lane).grants)
-    ≡ g.place ∷ loose_of (lane_in c.states lane).site (grant_places (without k (lane_in c.states lane).grants))
+    → unheld_of (lane_in c.states lane).site (grant_places (lane_in c.states lane).grants)
+    ≡ g.place ∷ unheld_of (lane_in c.states lane).site (grant_places (without k (lane_in c.states lane).grants))
     → g.grant.id < 2 ^ 32 → Goes s before lane c (closed_in c lane k g)
 goes_next s before lane k c g h here first small =
     let v : LaneValue = lane_in c.states lane in
-    let rest : List ℕ = loose_of v.site (grant_places (without k v.grants)) in
+    let rest : List ℕ = unheld_of v.site (grant_places (without k v.grants)) in
     let lt : lane < length c.states = there_in s before lane c h in
     let due : Between s c.past c.core (lane_in c.states) c.begun (g.place ∷ rest) =
     subst (λ (ds : List ℕ). Between s c.past c.core (lane_in c.states) c.begun ds) first h.between in
@@ -82,7 +82,7 @@ goes_next s before lane k c g h here first small =
         plain = h.plain;
         idle = ap (λ (y : LaneValue). y.running) here_now ∙ h.idle;
         between = subst (λ (y : LaneValue). Between s (close_entry g.grant ∷ c.past) (let_go c.core g.grant) now c.begun
-            (loose_of y.site (grant_places y.grants))) (sym here_now)
+            (unheld_of y.site (grant_places y.grants))) (sym here_now)
             (subst (λ (f : ℕ → LaneValue). Between s (close_entry g.grant ∷ c.past) (let_go c.core g.grant) f c.begun
             rest) (sym (lane_set c.states lane (closed_lane v k) lt)) x.between);
         closes = inr ((g.place, (x.due, x.must)), h.closes);
@@ -105,7 +105,7 @@ goes_on s before lane a b c x y =
 
 -- none is left: the session is at rest
 pub closed_all : (s : Setting) (before : List Entry) (lane : ℕ) (old new : LanesValue) → Goes s before lane old new
-    → loose_of (lane_in new.states lane).site (grant_places (lane_in new.states lane).grants) ≡ []
+    → unheld_of (lane_in new.states lane).site (grant_places (lane_in new.states lane).grants) ≡ []
     → IsClosed s before old new
 closed_all s before lane old new x none =
     record {

@@ -23,7 +23,7 @@ use Rattle.session_driver.specs.Session.{StepsTo}
 use Rattle.session_driver.specs.declared.session.Stepped.TheVariants as stepped
 use Rattle.session_driver.proofs.Journals.{later_on, later_self}
 use Rattle.session_laws.specs.Changes.{ended_lane, fresh_lane, with_lane}
-use Rattle.session_laws.specs.Dues.{loose_of}
+use Rattle.session_laws.specs.Dues.{unheld_of}
 use Rattle.session_laws.specs.Lanes.{LaneValue, grant_places}
 use Rattle.session_laws.specs.Running.{own_request}
 use Rattle.session_laws.specs.Rest.{AtRest, Between, begun_of, weigh}
@@ -196,9 +196,9 @@ ended_closing s lane o old c t =
       plain = refl;
       idle = ap (λ (v : LaneValue). v.running) last_here;
       between = subst (λ (v : LaneValue). Between s now t.new (lane_in (slice_set mid lane last))
-          (begun_but old.begun lane) (loose_of v.site (grant_places v.grants))) (sym last_here)
+          (begun_but old.begun lane) (unheld_of v.site (grant_places v.grants))) (sym last_here)
           (subst (λ (f : ℕ → LaneValue). Between s now t.new f (begun_but old.begun lane)
-          (loose_of t.now.site (grant_places t.now.grants))) (sym lanes_are) x.between);
+          (unheld_of t.now.site (grant_places t.now.grants))) (sym lanes_are) x.between);
       closes = inl refl;
       later = inl refl;
     })

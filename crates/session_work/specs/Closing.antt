@@ -6,7 +6,7 @@ use Rattle.session_model.specs.Grants.{letting_go}
 use Rattle.session_model.specs.Turns.{ClosesTo}
 use Rattle.session_driver.specs.Session.{IsLater}
 use Rattle.session_laws.specs.Changes.{closed_lane}
-use Rattle.session_laws.specs.Dues.{loose_of}
+use Rattle.session_laws.specs.Dues.{unheld_of}
 use Rattle.session_laws.specs.Lanes.{Held, grant_places}
 use Rattle.session_laws.specs.Ends.{close_entry, let_go}
 use Rattle.session_laws.specs.Rest.{Between, weigh}
@@ -47,7 +47,7 @@ pub record Closing (s : Setting) (before : List Entry) (lane : ℕ) (c : LanesVa
   pub plain : letting_go s c.past ≡ None
   pub idle : (lane_in c.states lane).running ≡ None
   pub between : Between s c.past c.core (lane_in c.states) c.begun
-      (loose_of (lane_in c.states lane).site (grant_places (lane_in c.states lane).grants))
+      (unheld_of (lane_in c.states lane).site (grant_places (lane_in c.states lane).grants))
   pub closes : ClosesTo s before c.past
   pub later : IsLater s before c.past
 

@@ -39,7 +39,7 @@ impl Lanes {
                 outcome: Outcome::Cancelled,
             }),
         );
-        self.close_loose(lane);
+        self.close_unheld(lane);
         Ok(true)
     }
 }

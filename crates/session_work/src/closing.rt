@@ -78,14 +78,14 @@ impl Lanes {
 
     /// Closes each grant of a lane that no slot has, the one of the least place first, and drops each ticket that no
     /// slot awaits.
-    pub(crate) fn close_loose(&mut self, lane: u32)
+    pub(crate) fn close_unheld(&mut self, lane: u32)
         requires closing { IsClosing lane self.old }
         requires room { vec_len self.old.journal + length (lane_in self.old.states.items lane).grants < vec_capacity self.old.journal }
         ensures closed { (s : Setting) (before : List EntryValue) → Closed s before lane (contents_of self.old) (contents_of self.new) }
         ensures reports { LeavesReports self.old self.new }
         ensures room { vec_len self.new.journal < vec_capacity self.new.journal }
     {
-        while let Some(k) = self.states[lane as usize].loose() {
+        while let Some(k) = self.states[lane as usize].unheld() {
             self.close(lane, k);
         }
         self.forget_unawaited(lane);

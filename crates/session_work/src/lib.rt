@@ -1,4 +1,4 @@
-//! The lanes of an open session at work: each goes on by the plan machine of its call over one core, and what happens is
+//! The lanes of an open session at work: each goes on by the runner of its call over one core, and what happens is
 //! noted in one journal. What is sent and taken, cancels, and lanes that are let go keep what core and lanes are by the
 //! journal.
 #![tactic(auto)]

@@ -107,7 +107,7 @@ impl Lanes {
             }
             Moved::Ended { outcome } => {
                 self.note_ended(lane, call, outcome);
-                self.close_loose(lane);
+                self.close_unheld(lane);
                 Stepped::Ended
             }
         }

@@ -10,7 +10,7 @@ use Rattle.sftp_core.specs.Info.{info_of}
 use Rattle.sftp_link.specs.Views.{LinkView}
 use Rattle.call_state.specs.Calls.{CallValue, Cancels, HoldsReady, IsHeld, IsHeldAt, IsUnderWay, KeepsOtherTickets, Stepped, cancelled, is_ended}
 use Rattle.call_state.specs.Keeping.{KeepsHeld, KeepsGrants}
-use Rattle.call_state.specs.Machines.{Meaning}
+use Rattle.call_state.specs.Runners.{Meaning}
 use Rattle.call_state.specs.declared.poll.Poll.{Poll}
 use Rattle.call_state.specs.declared.stage.Stage.{Stage}
 use Rattle.call_state.specs.declared.stage.Stage.TheVariants.{Ended, Ready, Unsent, Asked, Came}
@@ -242,7 +242,7 @@ pending_on s old new p q (inr h) = absurd cc
 pending_awaits : {W M V L : Type 0} (s : Meaning W M V) (old new : SftpValue L) (p q : CallValue M)
     → PolledIn s old new p q poll.Pending → AwaitsOne new.core
 pending_awaits s old new p q (inl h) =
-    let held : IsHeldAt s new.core q.machine (Asked h.0.awaits.0) = subst (λ x. IsHeldAt s new.core q.machine x) h.0.awaits.1.0 h.0.held in
+    let held : IsHeldAt s new.core q.runner (Asked h.0.awaits.0) = subst (λ x. IsHeldAt s new.core q.runner x) h.0.awaits.1.0 h.0.held in
     record { ticket = h.0.awaits.0; counted = held.counted; missing = h.0.awaits.1.1 }
 pending_awaits s old new p q (inr h) = absurd cc
 
@@ -411,51 +411,51 @@ MovesOnly before after = after ≡ record before { offset = after.offset }
 moves_both : (a b c : FileAt) → MovesOnly a b → MovesOnly b c → MovesOnly a c
 moves_both a b c x y = y ∙ (λ i. record (x i) { offset = c.offset })
 
--- what stays of a machine keeps its file but for the offset
+-- what stays of a runner keeps its file but for the offset
 abbrev pub KeepsFile : {W M V : Type 0} → Meaning W M V → (M → FileAt) → Type 0
 KeepsFile {M = M} s at = (m next : M) → s.stays m next → MovesOnly (at m) (at next)
 
 poll_moves : {W M V L : Type 0} (s : Meaning W M V) (at : M → FileAt) → KeepsFile s at → (old new : SftpValue L) (p q : CallValue M)
-    (result : Poll (Result V Error)) → PolledIn s old new p q result → MovesOnly (at p.machine) (at q.machine)
-poll_moves s at keeps old new p q result (inl h) = keeps p.machine q.machine h.0.stays
-poll_moves s at keeps old new p q result (inr h) = subst (λ x. MovesOnly (at p.machine) (at x.machine)) (sym h.1.1.1) refl
+    (result : Poll (Result V Error)) → PolledIn s old new p q result → MovesOnly (at p.runner) (at q.runner)
+poll_moves s at keeps old new p q result (inl h) = keeps p.runner q.runner h.0.stays
+poll_moves s at keeps old new p q result (inr h) = subst (λ x. MovesOnly (at p.runner) (at x.runner)) (sym h.1.1.1) refl
 
 rounds_move : {W M V L S : Type 0} (s : Meaning W M V) (at : M → FileAt) → KeepsFile s at → (state : L → LinkView S) (n : ℕ)
-    (old new : SftpValue L) (p q : CallValue M) → ArePollRounds (WaitsIn s) state n old new p q → MovesOnly (at p.machine) (at q.machine)
-rounds_move s at keeps state zero old new p q h = subst (λ x. MovesOnly (at p.machine) (at x.machine)) (sym h.1) refl
+    (old new : SftpValue L) (p q : CallValue M) → ArePollRounds (WaitsIn s) state n old new p q → MovesOnly (at p.runner) (at q.runner)
+rounds_move s at keeps state zero old new p q h = subst (λ x. MovesOnly (at p.runner) (at x.runner)) (sym h.1) refl
 rounds_move s at keeps state (suc n) old new p q h =
-    moves_both (at p.machine) (at h.1.0.machine) (at q.machine) (rounds_move s at keeps state n old h.0 p h.1.0 h.1.1.0)
+    moves_both (at p.runner) (at h.1.0.runner) (at q.runner) (rounds_move s at keeps state n old h.0 p h.1.0 h.1.1.0)
     (poll_moves s at keeps h.0 h.1.1.1.mid h.1.0 q poll.Pending h.1.1.1.waits)
 
 ends_move : {W M V L S : Type 0} (s : Meaning W M V) (at : M → FileAt) → KeepsFile s at → (state : L → LinkView S)
     (old new : SftpValue L) (p q : CallValue M) (result : Result V Error) → WaitEnds s state old new p q result
-    → MovesOnly (at p.machine) (at q.machine)
+    → MovesOnly (at p.runner) (at q.runner)
 ends_move s at keeps state old new p q result (inl h) = poll_moves s at keeps old new p q (poll.Ready result) h
 ends_move s at keeps state old new p q result (inr h) = poll_moves s at keeps old h.0 p q poll.Pending h.1.1.0
 
 stops_move : {W M V L S : Type 0} (s : Meaning W M V) (at : M → FileAt) → KeepsFile s at → (state : L → LinkView S) (count : ℕ)
     (old new : SftpValue L) (p q : CallValue M) (result : Result V Error) → WaitStops s state count old new p q result
-    → MovesOnly (at p.machine) (at q.machine)
+    → MovesOnly (at p.runner) (at q.runner)
 stops_move s at keeps state count old new p q result (inl h) = ends_move s at keeps state old new p q result h
-stops_move s at keeps state count old new p q result (inr h) = subst (λ x. MovesOnly (at p.machine) (at x.machine)) (sym h.1.1.1) refl
+stops_move s at keeps state count old new p q result (inr h) = subst (λ x. MovesOnly (at p.runner) (at x.runner)) (sym h.1.1.1) refl
 
 -- where the file of a place stands after the call was run
 pub moved_at : {W M V L S : Type 0} (s : Meaning W M V) (at : M → FileAt) → KeepsFile s at → (place : ℕ) (state : L → LinkView S)
     (old new : SftpValue L) (p q : CallValue M) (before after : FileValue) (result : Result V Error)
-    → at p.machine ≡ file_in place before → after ≡ record before { offset = (at q.machine).offset }
-    → HasWaited s state old new p q result → (at q.machine ≡ file_in place after) × (after ≡ record before { offset = after.offset })
+    → at p.runner ≡ file_in place before → after ≡ record before { offset = (at q.runner).offset }
+    → HasWaited s state old new p q result → (at q.runner ≡ file_in place after) × (after ≡ record before { offset = after.offset })
 moved_at s at keeps place state old new p q before after result stands is w =
-    let only = moves_both (at p.machine) (at w.call.machine) (at q.machine) (rounds_move s at keeps state w.count old w.mid p w.call w.rounds)
+    let only = moves_both (at p.runner) (at w.call.runner) (at q.runner) (rounds_move s at keeps state w.count old w.mid p w.call w.rounds)
     (stops_move s at keeps state w.count w.mid new w.call q result w.ends)
     in (
-      only ∙ ((λ i. record (stands i) { offset = (at q.machine).offset }) ∙ sym (ap (file_in place) is)),
+      only ∙ ((λ i. record (stands i) { offset = (at q.runner).offset }) ∙ sym (ap (file_in place) is)),
       is ∙ (λ i. record before { offset = (sym (ap (λ (f : FileValue). f.offset) is)) i }),
     )
 
 pub moved_by : {W M V L S : Type 0} (s : Meaning W M V) (at : M → FileAt) → KeepsFile s at → (state : L → LinkView S)
     (old new : SftpValue L) (p q : CallValue M) (before after : FileValue) (result : Result V Error)
-    → at p.machine ≡ file_at before → after ≡ record before { offset = (at q.machine).offset }
-    → HasWaited s state old new p q result → IsMoved before after (at q.machine)
+    → at p.runner ≡ file_at before → after ≡ record before { offset = (at q.runner).offset }
+    → HasWaited s state old new p q result → IsMoved before after (at q.runner)
 moved_by s at keeps state old new p q before after result stands is w =
     let moved = moved_at s at keeps 0 state old new p q before after result stands is w in record { stands = moved.0; rest = moved.1 }
 
@@ -490,4 +490,4 @@ pub finish_keeps : {W M V L S : Type 0} (s : Meaning W M V) (state : L → LinkV
     → KeepsGrants old.core new.core
 finish_keeps s state old new p result none h =
     grants_both old.core h.mid.core new.core h.waited.grants
-    (cancelled_keeps s h.mid.core new.core h.last (none h.last.machine) h.waited.held h.given_up)
+    (cancelled_keeps s h.mid.core new.core h.last (none h.last.runner) h.waited.held h.given_up)

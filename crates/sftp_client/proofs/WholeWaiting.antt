@@ -11,7 +11,7 @@ use Rattle.call_state.specs.Keeping.{KeepsHeld, KeepsGrants}
 use Rattle.call_state.specs.declared.poll.Poll.{Poll}
 use Rattle.call_state.specs.declared.poll.Poll.TheVariants as poll
 use Rattle.call_state.specs.Calls.{CallValue, Cancels}
-use Rattle.call_state.specs.Machines.{Meaning}
+use Rattle.call_state.specs.Runners.{Meaning}
 use Rattle.sftp_file.specs.Copies.{CopyValue, StandsAt, copying}
 use Rattle.sftp_file.specs.Files.{FileValue, IsMoved}
 use Rattle.sftp_file.specs.Gathers.{GivesBytes, ReadAllValue, reading_all}
@@ -205,21 +205,21 @@ finished_copy state old mid inside new p last f f' g g' result w same cancels le
     let h = finished_last copying state old mid inside new p last result w.waited same cancels left in
     record {
       finished = h.0;
-      source = subst (λ (x : CallValue CopyValue). StandsAt 0 f f' x.machine.source) (sym h.1) w.source;
-      target = subst (λ (x : CallValue CopyValue). StandsAt 1 g g' x.machine.target) (sym h.1) w.target;
+      source = subst (λ (x : CallValue CopyValue). StandsAt 0 f f' x.runner.source) (sym h.1) w.source;
+      target = subst (λ (x : CallValue CopyValue). StandsAt 1 g g' x.runner.target) (sym h.1) w.target;
     }
 
 pub finished_bytes : {L S : Type 0} (state : L → LinkView S) (old mid inside new : SftpValue L) (p last : CallValue ReadAllValue)
     (before after : FileValue) (answer : Result (Unit {0}) Error) (result : Result Filled ReadAllError) (got : List ℕ)
     → HasWaited reading_all state old mid p last answer → inside ≡ mid → Cancels inside.core new.core last.stage
-    → new ≡ with_core inside new.core → got ≡ last.machine.before ++ last.machine.got → GivesBytes got answer result
-    → IsMoved before after last.machine.file → HasReadBytes state old new p before after result
+    → new ≡ with_core inside new.core → got ≡ last.runner.before ++ last.runner.got → GivesBytes got answer result
+    → IsMoved before after last.runner.file → HasReadBytes state old new p before after result
 finished_bytes state old mid inside new p last before after answer result got w same cancels left bytes gives moved =
     let h = finished_last reading_all state old mid inside new p last answer w same cancels left in
     record {
       answer = answer;
       finished = h.0;
-      gives = subst (λ (x : CallValue ReadAllValue). GivesBytes (x.machine.before ++ x.machine.got) answer result) (sym h.1)
+      gives = subst (λ (x : CallValue ReadAllValue). GivesBytes (x.runner.before ++ x.runner.got) answer result) (sym h.1)
           (subst (λ (l : List ℕ). GivesBytes l answer result) bytes gives);
-      moved = subst (λ (x : CallValue ReadAllValue). IsMoved before after x.machine.file) (sym h.1) moved;
+      moved = subst (λ (x : CallValue ReadAllValue). IsMoved before after x.runner.file) (sym h.1) moved;
     }

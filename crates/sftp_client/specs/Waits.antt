@@ -19,7 +19,7 @@ use Rattle.call_state.specs.Calls.{
   Stepped,
 }
 use Rattle.call_state.specs.Keeping.{KeepsGrants}
-use Rattle.call_state.specs.Machines.{Meaning}
+use Rattle.call_state.specs.Runners.{Meaning}
 use Rattle.call_state.specs.declared.poll.Poll.{Poll}
 use Rattle.call_state.specs.declared.poll.Poll.TheVariants as poll
 use Rattle.sftp_file.specs.Files.{FileValue, IsMoved, file_at}
@@ -129,16 +129,16 @@ pub record HasFinished {W M V L S : Type 0} (s : Meaning W M V) (state : L → L
 pub record MayWaitOn {W M V : Type 0} (s : Meaning W M V) (at : M → FileAt) (core : Core) (call : CallValue M)
     (file : FileValue) : Type 0 where
   pub may : MayWait s core call
-  pub stands : at call.machine ≡ file_at file
+  pub stands : at call.runner ≡ file_at file
 
 -- and the file stands where the call has come
 pub record HasWaitedOn {W M V L S : Type 0} (s : Meaning W M V) (at : M → FileAt) (state : L → LinkView S)
     (old new : SftpValue L) (p q : CallValue M) (before after : FileValue) (result : Result V Error) : Type 0 where
   pub waited : HasWaited s state old new p q result
-  pub moved : IsMoved before after (at q.machine)
+  pub moved : IsMoved before after (at q.runner)
 
 -- it was run to its end and given up there, and the file stands where the call has come
 pub record HasFinishedOn {W M V L S : Type 0} (s : Meaning W M V) (at : M → FileAt) (state : L → LinkView S)
     (old new : SftpValue L) (p : CallValue M) (before after : FileValue) (result : Result V Error) : Type 0 where
   pub finished : HasFinished s state old new p result
-  pub moved : IsMoved before after (at finished.last.machine)
+  pub moved : IsMoved before after (at finished.last.runner)

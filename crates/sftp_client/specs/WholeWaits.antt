@@ -39,29 +39,29 @@ use Rattle.sftp_client.specs.Waits.{HasFinished, HasWaited, MayWait, RoundFails,
 -- it can be run to its end on the files where they stand
 pub record MayWaitCopy (core : Core) (call : CallValue CopyValue) (f g : FileValue) : Type 0 where
   pub may : MayWait copying core call
-  pub source : call.machine.source ≡ file_in 0 f
-  pub target : call.machine.target ≡ file_in 1 g
+  pub source : call.runner.source ≡ file_in 0 f
+  pub target : call.runner.target ≡ file_in 1 g
 
 -- and both stand where it has come
 pub record HasWaitedCopy {L S : Type 0} (state : L → LinkView S) (old new : SftpValue L) (p q : CallValue CopyValue)
     (f f' g g' : FileValue) (result : Result (Unit {0}) Error) : Type 0 where
   pub waited : HasWaited copying state old new p q result
-  pub source : StandsAt 0 f f' q.machine.source
-  pub target : StandsAt 1 g g' q.machine.target
+  pub source : StandsAt 0 f f' q.runner.source
+  pub target : StandsAt 1 g g' q.runner.target
 
 -- it was run to its end and given up there
 pub record HasCopied {L S : Type 0} (state : L → LinkView S) (old new : SftpValue L) (p : CallValue CopyValue)
     (f f' g g' : FileValue) (result : Result (Unit {0}) Error) : Type 0 where
   pub finished : HasFinished copying state old new p result
-  pub source : StandsAt 0 f f' finished.last.machine.source
-  pub target : StandsAt 1 g g' finished.last.machine.target
+  pub source : StandsAt 0 f f' finished.last.runner.source
+  pub target : StandsAt 1 g g' finished.last.runner.target
 
 -- ---- so many bytes
 
 -- the read can be run to its end on the file where it stands
 pub record MayWaitBytes (core : Core) (call : CallValue ReadAllValue) (file : FileValue) : Type 0 where
   pub may : MayWait reading_all core call
-  pub stands : call.machine.file ≡ file_at file
+  pub stands : call.runner.file ≡ file_at file
 
 -- it was run to its end; where it has ended its bytes were handed out, and else it keeps them
 pub record HasWaitedBytes {L S : Type 0} (state : L → LinkView S) (old new : SftpValue L) (p q : CallValue ReadAllValue)
@@ -71,15 +71,15 @@ pub record HasWaitedBytes {L S : Type 0} (state : L → LinkView S) (old new : S
   pub waited : HasWaited reading_all state old new p last answer
   pub gives : GivesBytes (bytes_out last) answer result
   pub left : q ≡ without_bytes last
-  pub moved : IsMoved before after last.machine.file
+  pub moved : IsMoved before after last.runner.file
 
 -- it was run to its end and given up there; all bytes were handed out, whatever it answered
 pub record HasReadBytes {L S : Type 0} (state : L → LinkView S) (old new : SftpValue L) (p : CallValue ReadAllValue)
     (before after : FileValue) (result : Result Filled ReadAllError) : Type 0 where
   pub answer : Result (Unit {0}) Error
   pub finished : HasFinished reading_all state old new p answer
-  pub gives : GivesBytes (finished.last.machine.before ++ finished.last.machine.got) answer result
-  pub moved : IsMoved before after finished.last.machine.file
+  pub gives : GivesBytes (finished.last.runner.before ++ finished.last.runner.got) answer result
+  pub moved : IsMoved before after finished.last.runner.file
 
 -- ---- a whole read
 

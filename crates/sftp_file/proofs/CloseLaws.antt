@@ -20,7 +20,7 @@ use Rattle.sftp_core.proofs.Elsewhere.{put_here}
 use Rattle.call_state.specs.declared.asking.Asking.TheVariants.{Whole}
 use Rattle.call_state.specs.declared.stage.Stage.{Stage}
 use Rattle.call_state.specs.Calls.{CallValue, IsHeldAt, IsUnderWay}
-use Rattle.call_state.specs.Machines.{GoesBehind}
+use Rattle.call_state.specs.Runners.{GoesBehind}
 use Rattle.call_state.proofs.Keeping.{holds_at}
 use Rattle.sftp_file.specs.declared.settling.Settling.{Settling}
 use Rattle.sftp_file.specs.Closes.{ReleasesFile, ClosesBy, closing}
@@ -63,22 +63,22 @@ closes_with : (b : Bool) (f : FileValue) (old new : Core) (call : CallValue Sett
     → new ≡ (if b then queued_last old f.grant.id (request.Close f.grant.handle) true else new)
     → IsUnderWay settling new call × ((slot place : ℕ) (site : Site) (facts : Facts) (answers : Answers) → IsInSlot f slot place site answers
     → has_grant (with_slot site slot slots.Empty) place ≡ not b
-    → ClosesBy f (with_slot site slot slots.Empty) (close_next slot site facts) answers call.machine call.stage)
+    → ClosesBy f (with_slot site slot slots.Empty) (close_next slot site facts) answers call.runner call.stage)
 closes_with true f old new call is stage queued = (
   record {
     over = rw stage refl;
-    held = subst (λ (x : Stage). IsHeldAt settling new call.machine x) (sym stage)
+    held = subst (λ (x : Stage). IsHeldAt settling new call.runner x) (sym stage)
         (holds_at new f.grant.id expected.Status (Some (Waiting expected.Status false true))
         (ap (λ (c : Core). at c f.grant.id) queued ∙ put_here old.table f.grant.id (Waiting expected.Status false true)) refl refl);
   },
   λ slot place site facts answers h has. subst (λ (x : Stage). ClosesBy f (with_slot site slot slots.Empty)
-      (close_next slot site facts) answers call.machine x) (sym stage)
-      (last_asks f slot place site facts answers call.machine h has),
+      (close_next slot site facts) answers call.runner x) (sym stage)
+      (last_asks f slot place site facts answers call.runner h has),
 )
 closes_with false f old new call is stage same = (
-  record { over = rw stage refl; held = subst (λ (x : Stage). IsHeldAt settling new call.machine x) (sym stage) tt },
+  record { over = rw stage refl; held = subst (λ (x : Stage). IsHeldAt settling new call.runner x) (sym stage) tt },
   λ slot place site facts answers h has. subst (λ (x : Stage). ClosesBy f (with_slot site slot slots.Empty)
-      (close_next slot site facts) answers call.machine x) (sym stage)
+      (close_next slot site facts) answers call.runner x) (sym stage)
       (other_ends f slot place site facts answers h has),
 )
 

@@ -18,7 +18,7 @@ use Rattle.call_state.specs.declared.asking.Asking.{Asking}
 use Rattle.call_state.specs.declared.asking.Asking.TheVariants.{Whole}
 use Rattle.call_state.specs.Calls.{BeginsCall, CallValue, IsUnderWay}
 use Rattle.call_state.specs.Keeping.{KeepsHeld}
-use Rattle.call_state.specs.Machines.{GoesBehind}
+use Rattle.call_state.specs.Runners.{GoesBehind}
 use Rattle.call_state.proofs.Keeping.{keeps_same}
 use Rattle.sftp_file.specs.Copies.{CopyStarts, CopyValue, both, copy_left, copying}
 use Rattle.sftp_file.specs.Files.{FileValue, facts_of, file_in}
@@ -70,8 +70,8 @@ under_way_by asking m old new (Err e) h = tt
 files_by : (f g : FileValue) (asking : Asking) (m : CopyValue) (old new : Core)
     (result : Result (CallValue CopyValue) Error) → m.source ≡ file_in 0 f → m.target ≡ file_in 1 g
     → IfOk result (BeginsCall copying asking m old new)
-    → IfOk result (λ (call : CallValue CopyValue). (call.machine.source ≡ file_in 0 f) × (call.machine.target ≡ file_in 1 g))
-files_by f g asking m old new (Ok call) from to h = (ap (λ (x : CopyValue). x.source) h.machine ∙ from, ap (λ (x : CopyValue). x.target) h.machine ∙ to)
+    → IfOk result (λ (call : CallValue CopyValue). (call.runner.source ≡ file_in 0 f) × (call.runner.target ≡ file_in 1 g))
+files_by f g asking m old new (Ok call) from to h = (ap (λ (x : CopyValue). x.source) h.runner ∙ from, ap (λ (x : CopyValue). x.target) h.runner ∙ to)
 files_by f g asking m old new (Err e) from to h = tt
 
 pub copy_starts : (f g : FileValue) (source target : FileAt) (n : ℕ) (asking : Asking) (old new : Core)

@@ -17,12 +17,12 @@ use Rattle.call_state.specs.declared.stage.Stage.TheVariants.{Asked, Came, Ended
 use Rattle.call_state.specs.Calls.{CallValue, IsHeld, IsHeldAt, is_ended}
 use Rattle.call_state.specs.declared.poll.Poll.{Poll}
 use Rattle.bytes.specs.Filled.{Filled}
-use Rattle.call_state.specs.Machines.{GoesBehind}
+use Rattle.call_state.specs.Runners.{GoesBehind}
 use Rattle.sftp_file.specs.Files.{Brought, FileValue, alone, file_at, one_slot}
 use Rattle.sftp_file.specs.declared.gathering.ReadAllError.{ReadAllError}
 use Rattle.sftp_file.specs.Gathers.{IsNextRead, ReadAllValue, ReadsAll, first_read, gathered, missing_from, next_len, next_read, read_all_left, reading_all, with_buffer}
 
--- the move of the plan where the machine stands
+-- the move of the plan where the runner stands
 abbrev pub MovesAs : ReadAllValue → Answers → Move → Type 0
 MovesAs m answers move = handle_of (answers m.file.grant) ≡ m.handle → missing_from m.file m.got m.missing m.facts [] answers ≡ move
 
@@ -88,12 +88,12 @@ held_with core m bytes (Came told) h = record { allowed = h.allowed; formed = h.
 
 -- a call stays one that may be polled on or given up, on the file where it stands
 pub reads_held : (old new : Core) (p q : CallValue ReadAllValue) (before after : FileValue) (result : Poll (Result Filled ReadAllError))
-    → ReadsAll old new p q before after result → IsHeld reading_all new q × (q.machine.file ≡ file_at after)
+    → ReadsAll old new p q before after result → IsHeld reading_all new q × (q.runner.file ≡ file_at after)
 reads_held old new p q before after result h =
-    subst (λ (x : CallValue ReadAllValue). IsHeld reading_all new x × (x.machine.file ≡ file_at after)) (sym h.left)
+    subst (λ (x : CallValue ReadAllValue). IsHeld reading_all new x × (x.runner.file ≡ file_at after)) (sym h.left)
     (by_end (is_ended h.last.stage))
   where
-    by_end : (b : Bool) → IsHeld reading_all new (if b then record h.last { machine = with_buffer h.last.machine [] } else h.last)
-        × ((if b then record h.last { machine = with_buffer h.last.machine [] } else h.last).machine.file ≡ file_at after)
-    by_end true = (held_with new h.last.machine [] h.last.stage h.stepped.held, h.moved.stands)
+    by_end : (b : Bool) → IsHeld reading_all new (if b then record h.last { runner = with_buffer h.last.runner [] } else h.last)
+        × ((if b then record h.last { runner = with_buffer h.last.runner [] } else h.last).runner.file ≡ file_at after)
+    by_end true = (held_with new h.last.runner [] h.last.stage h.stepped.held, h.moved.stands)
     by_end false = (h.stepped.held, h.moved.stands)

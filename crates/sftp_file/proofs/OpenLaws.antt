@@ -18,7 +18,7 @@ use Rattle.call_state.specs.declared.asking.Asking.{Asking}
 use Rattle.call_state.specs.declared.asking.Asking.TheVariants.{Whole}
 use Rattle.call_state.specs.Calls.{BeginsCall, CallValue, IsUnderWay}
 use Rattle.call_state.specs.Keeping.{KeepsHeld}
-use Rattle.call_state.specs.Machines.{GoesBehind}
+use Rattle.call_state.specs.Runners.{GoesBehind}
 use Rattle.call_state.proofs.Keeping.{keeps_same}
 use Rattle.sftp_file.specs.declared.opening.Opening.{Opening}
 use Rattle.sftp_file.specs.Opens.{HasRights, OpenStarts, opened_at, opening}
@@ -66,8 +66,8 @@ under_way_by asking m old new (Ok call) h = h.under_way
 under_way_by asking m old new (Err e) h = tt
 
 rights_by : (flags : OpenFlags) (asking : Asking) (m : Opening) (old new : Core) (result : Result (CallValue Opening) Error) → HasRights flags m
-    → IfOk result (BeginsCall opening asking m old new) → IfOk result (λ (call : CallValue Opening). HasRights flags call.machine)
-rights_by flags asking m old new (Ok call) rights h = subst (λ (x : Opening). HasRights flags x) (sym h.machine) rights
+    → IfOk result (BeginsCall opening asking m old new) → IfOk result (λ (call : CallValue Opening). HasRights flags call.runner)
+rights_by flags asking m old new (Ok call) rights h = subst (λ (x : Opening). HasRights flags x) (sym h.runner) rights
 rights_by flags asking m old new (Err e) rights h = tt
 
 pub open_starts : (flags : OpenFlags) (path : List ℕ) (asking : Asking) (m : Opening) (old new : Core) (result : Result (CallValue Opening) Error)

@@ -22,7 +22,7 @@ use Rattle.call_state.specs.declared.asking.Asking.TheVariants.{Whole}
 use Rattle.call_state.specs.declared.stage.Stage.TheVariants.{Ready}
 use Rattle.call_state.specs.Calls.{BeginsCall, CallValue, IsUnderWay, Started}
 use Rattle.call_state.specs.Keeping.{KeepsHeld}
-use Rattle.call_state.specs.Machines.{GoesBehind, Meaning}
+use Rattle.call_state.specs.Runners.{GoesBehind, Meaning}
 use Rattle.call_state.proofs.Keeping.{keeps_same}
 use Rattle.sftp_file.specs.Files.{Brought, FilePlan, FileValue, Starts, alone, facts_of, file_at}
 use Rattle.sftp_file.specs.Outcomes.{looked}
@@ -57,7 +57,7 @@ starts_asking s w plan f asking m old new result behind started begins keeps =
 -- a start that needs no request
 pub starts_ready : {W M V : Type 0} (s : Meaning W M V) (w : W) (plan : FilePlan) (f : FileValue) (m : M) (core : Core)
     → ((answers : Answers) → Brought f answers → plan (alone f) (facts_of core) [] answers ≡ s.first w m) → s.ready m
-    → Starts s w plan f core core (Ok (record { stage = Ready; machine = m }))
+    → Starts s w plan f core core (Ok (record { stage = Ready; runner = m }))
 starts_ready s w plan f m core first may =
     record {
       starts = λ answers brought. inr (first answers brought, refl, refl);

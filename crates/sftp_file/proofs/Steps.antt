@@ -14,7 +14,7 @@ use Rattle.call_state.specs.declared.told.Told.TheVariants as told
 use Rattle.call_state.specs.Asked.{IsReady}
 use Rattle.call_state.specs.Calls.{Cancels, CallValue, HoldsReady, IsGrantOf, IsHeld, IsHeldAt, IsOver, IsUnderWay, MayPoll, is_ended}
 use Rattle.call_state.specs.Keeping.{KeepsGrants}
-use Rattle.call_state.specs.Machines.{Meaning}
+use Rattle.call_state.specs.Runners.{Meaning}
 use Rattle.call_state.proofs.Keeping.{
   grant_at,
   grant_kept,
@@ -62,12 +62,12 @@ owns_nothing s core m (Asked ticket) id none h own = own
 
 -- giving up a call that no HANDLE answers leaves every grant
 pub cancelled_keeps : {W M V : Type 0} (s : Meaning W M V) (old new : Core) (call : CallValue M)
-    → asks_handle (s.expected call.machine) ≡ false → IsHeld s old call → Cancels old new call.stage
+    → asks_handle (s.expected call.runner) ≡ false → IsHeld s old call → Cancels old new call.stage
     → KeepsGrants old new
 cancelled_keeps s old new call none h cancels =
     record {
       grants = λ id handle users here. cancels.grants id handle users
-          (owns_nothing s old call.machine call.stage id none h) here;
+          (owns_nothing s old call.runner call.stage id none h) here;
       opened = cancels.opened;
     }
 

@@ -22,7 +22,7 @@ use Rattle.call_state.specs.declared.stage.Stage.TheVariants.{Asked, Ready}
 use Rattle.call_state.specs.Asked.{queued_by}
 use Rattle.call_state.specs.Calls.{BeginsCall, CallValue}
 use Rattle.call_state.specs.Keeping.{KeepsHeld}
-use Rattle.call_state.specs.Machines.{GoesBehind}
+use Rattle.call_state.specs.Runners.{GoesBehind}
 use Rattle.sftp_file.specs.Files.{Brought, FileValue, Starts, alone, facts_of, file_at, one_slot}
 use Rattle.sftp_file.specs.Outcomes.{looked}
 use Rattle.sftp_file.specs.declared.writing.Part.{Part}
@@ -65,11 +65,11 @@ some_next f bytes facts answers some = rw some refl
 -- for no bytes nothing is asked
 pub write_none : (f : FileValue) (file : FileAt) (parts : List (List ℕ)) (core : Core) (len : ℕ) → file ≡ file_at f
     → len ≡ length (joined parts) → len ≡ 0 → 1 ≤ (facts_of core).write_len
-    → WritesParts f parts core core (Ok (record { stage = Ready; machine = record { file = file; len = 0 } }))
+    → WritesParts f parts core core (Ok (record { stage = Ready; runner = record { file = file; len = 0 } }))
 write_none f file parts core len at is zero one =
     record {
       starts = λ bytes joins. subst (λ (x : FileAt). Starts writing tt (write_next 0 bytes) f core core
-          (Ok (record { stage = Ready; machine = record { file = x; len = 0 } }))) (sym at)
+          (Ok (record { stage = Ready; runner = record { file = x; len = 0 } }))) (sym at)
           (starts_ready writing tt (write_next 0 bytes) f (record { file = file_at f; len = 0 }) core
           (λ answers brought. none_next f bytes (facts_of core) answers (none_asked (facts_of core) bytes (joined parts) one joins (sym is ∙ zero))) tt);
       shared = λ ticket stage. absurd cc;
@@ -120,8 +120,8 @@ write_behind f file bytes parts len facts answers look u at is some joins brough
 
 file_by : (f : FileValue) (asking : Asking) (m : WriteValue) (old new : Core)
     (result : Result (CallValue WriteValue) Error) → m.file ≡ file_at f → IfOk result (BeginsCall writing asking m old new)
-    → IfOk result (λ (call : CallValue WriteValue). call.machine.file ≡ file_at f)
-file_by f asking m old new (Ok call) at h = ap (λ (x : WriteValue). x.file) h.machine ∙ at
+    → IfOk result (λ (call : CallValue WriteValue). call.runner.file ≡ file_at f)
+file_by f asking m old new (Ok call) at h = ap (λ (x : WriteValue). x.file) h.runner ∙ at
 file_by f asking m old new (Err e) at h = tt
 
 shared_by : (f : FileValue) (parts : List (List ℕ)) (asking : Asking) (m : WriteValue) (old new : Core)

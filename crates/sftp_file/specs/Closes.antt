@@ -12,7 +12,7 @@ use Rattle.call_state.specs.declared.asking.Asking.TheVariants.{Whole}
 use Rattle.call_state.specs.declared.stage.Stage.{Stage}
 use Rattle.call_state.specs.declared.stage.Stage.TheVariants.{Ready, Asked}
 use Rattle.call_state.specs.Calls.{CallValue, IsLeftAt, IsUnderWay}
-use Rattle.call_state.specs.Machines.{GoesBehind}
+use Rattle.call_state.specs.Runners.{GoesBehind}
 use Rattle.sftp_file.specs.declared.settling.Settling.{Settling}
 use Rattle.sftp_file.specs.Files.{FileValue, IsInSlot}
 use Rattle.sftp_file.specs.Settles.{settling}
@@ -37,4 +37,4 @@ pub record ReleasesFile (f : FileValue) (old new : Core) (call : CallValue Settl
   pub under_way : IsUnderWay settling new call
   pub starts : (slot place : ℕ) (site : Site) (facts : Facts) (answers : Answers) → IsInSlot f slot place site answers
       → has_grant (with_slot site slot slots.Empty) place ≡ not (users_of (at old f.grant.id) == 1)
-      → ClosesBy f (with_slot site slot slots.Empty) (close_next slot site facts) answers call.machine call.stage
+      → ClosesBy f (with_slot site slot slots.Empty) (close_next slot site facts) answers call.runner call.stage

@@ -12,7 +12,7 @@ use Rattle.plan_model.specs.Moves.{Answers, Own, Plan, handle_of, on_status, onc
 use Rattle.sftp_core.specs.Core.{Core}
 use Rattle.call_state.specs.Calls.{CallValue, IsUnderWay, MayPoll, Started, Stepped}
 use Rattle.call_state.specs.Keeping.{KeepsHeld}
-use Rattle.call_state.specs.Machines.{Meaning}
+use Rattle.call_state.specs.Runners.{Meaning}
 use Rattle.call_state.specs.declared.poll.Poll.{Poll}
 use Rattle.sftp_file.specs.Files.{FileValue, facts_of, file_in}
 use Rattle.sftp_file.specs.Outcomes.{done_outcome}
@@ -69,14 +69,14 @@ pub record CopyStarts (f g : FileValue) (n : ℕ) (old new : Core) (result : Res
         answers
         old new result
     pub under_way : IfOk result (IsUnderWay copying new)
-    pub files : IfOk result (λ call. (call.machine.source ≡ file_in 0 f) × (call.machine.target ≡ file_in 1 g))
+    pub files : IfOk result (λ call. (call.runner.source ≡ file_in 0 f) × (call.runner.target ≡ file_in 1 g))
     pub keeps : KeepsHeld old new
 
 -- a copy may be polled on the files that it works on
 pub record MayCopy (core : Core) (call : CallValue CopyValue) (f g : FileValue) : Type 0 where
   pub poll : MayPoll copying core call
-  pub source : call.machine.source ≡ file_in 0 f
-  pub target : call.machine.target ≡ file_in 1 g
+  pub source : call.runner.source ≡ file_in 0 f
+  pub target : call.runner.target ≡ file_in 1 g
 
 -- where a file stands after a poll
 pub record StandsAt (place : ℕ) (old new : FileValue) (file : FileAt) : Type 0 where
@@ -88,5 +88,5 @@ pub record Copied (old new : Core) (p q : CallValue CopyValue) (f f' g g' : File
     (result : Poll (Result (Unit {0}) Error)) :
     Type 0 where
   pub stepped : Stepped copying old new p q result
-  pub source : StandsAt 0 f f' q.machine.source
-  pub target : StandsAt 1 g g' q.machine.target
+  pub source : StandsAt 0 f f' q.runner.source
+  pub target : StandsAt 1 g g' q.runner.target

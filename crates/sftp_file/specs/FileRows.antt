@@ -8,8 +8,8 @@ use Rattle.sftp_model.specs.declared.slot.FileAt.{FileAt}
 use Rattle.sftp_model.specs.declared.slot.Move.TheVariants.{Wait}
 use Rattle.sftp_model.specs.OpenOptions.{nothing_chosen, flags_of}
 use Rattle.plan_model.specs.Moves.{Answers}
-use Rattle.call_state.specs.Machines.{Follows}
-use Rattle.call_state.specs.declared.machine.Then.TheVariants as then
+use Rattle.call_state.specs.Runners.{Follows}
+use Rattle.call_state.specs.declared.runner.Then.TheVariants as then
 use Rattle.sftp_file.specs.Outcomes.{read_answer, status_answer}
 use Rattle.sftp_file.specs.Parts.{cut_at}
 use Rattle.sftp_file.specs.Reads.{ReadValue, reading}

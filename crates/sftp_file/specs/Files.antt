@@ -16,7 +16,7 @@ use Rattle.sftp_core.specs.Info.{info_of}
 use Rattle.sftp_core.specs.declared.info.Info.{Info}
 use Rattle.call_state.specs.Calls.{CallValue, IsUnderWay, Started}
 use Rattle.call_state.specs.Keeping.{KeepsHeld}
-use Rattle.call_state.specs.Machines.{Meaning}
+use Rattle.call_state.specs.Runners.{Meaning}
 
 -- a file: its grant, its rights, and its offset in bytes
 pub record FileValue : Type 0 where

@@ -71,12 +71,12 @@ two_row = refl
 abbrev got_three : ReadAllValue
 got_three = gathered asks_four (codes "abc")
 
-pub out_row : bytes_out (record { stage = Ended; machine = got_three }) ≡ codes "<abc"
+pub out_row : bytes_out (record { stage = Ended; runner = got_three }) ≡ codes "<abc"
 out_row = refl
 
-pub kept_row : bytes_out (record { stage = Asked 7; machine = got_three }) ≡ []
+pub kept_row : bytes_out (record { stage = Asked 7; runner = got_three }) ≡ []
 kept_row = refl
 
-pub left_row : without_bytes (record { stage = Asked 7; machine = got_three })
-    ≡ record { stage = Asked 7; machine = got_three }
+pub left_row : without_bytes (record { stage = Asked 7; runner = got_three })
+    ≡ record { stage = Asked 7; runner = got_three }
 left_row = refl

@@ -41,7 +41,7 @@ use Rattle.sftp_model.specs.Frames.{is_too_long}
 use Rattle.sftp_core.specs.Core.{Core}
 use Rattle.call_state.specs.Asked.{request_of}
 use Rattle.call_state.specs.Calls.{CallValue, MayPoll, Stepped, is_ended}
-use Rattle.call_state.specs.Machines.{Meaning}
+use Rattle.call_state.specs.Runners.{Meaning}
 use Rattle.call_state.specs.declared.asking.Asking.{Asking}
 use Rattle.call_state.specs.declared.asking.Asking.TheVariants.{Whole}
 use Rattle.call_state.specs.declared.poll.Poll.{Poll}
@@ -158,10 +158,10 @@ with_buffer m bytes = record m { before = bytes; got = [] }
 
 -- a call that has ended hands out the bytes that were handed in, and behind them those that came; any other keeps them
 abbrev pub bytes_out : CallValue ReadAllValue → List ℕ
-bytes_out call = if is_ended call.stage then call.machine.before ++ call.machine.got else []
+bytes_out call = if is_ended call.stage then call.runner.before ++ call.runner.got else []
 
 abbrev pub without_bytes : CallValue ReadAllValue → CallValue ReadAllValue
-without_bytes call = if is_ended call.stage then record call { machine = with_buffer call.machine [] } else call
+without_bytes call = if is_ended call.stage then record call { runner = with_buffer call.runner [] } else call
 
 -- what is answered with the bytes
 abbrev pub GivesBytes : List ℕ → Result (Unit {0}) Error → Result Filled ReadAllError → Type 0
@@ -178,8 +178,8 @@ plain_start (Err failed) = Err failed.error
 
 -- the call has the bytes that were handed in, and else they are handed back
 abbrev pub KeepsBytes : List ℕ → FileValue → Result (CallValue ReadAllValue) ReadAllError → Type 0
-KeepsBytes buffer f (Ok call) = (call.machine.file ≡ file_at f) × (call.machine.before ≡ buffer)
-    × (call.machine.got ≡ [])
+KeepsBytes buffer f (Ok call) = (call.runner.file ≡ file_at f) × (call.runner.before ≡ buffer)
+    × (call.runner.got ≡ [])
 KeepsBytes buffer f (Err failed) = failed.got.items ≡ buffer
 
 pub record StartsReadAll (n : ℕ) (buffer : List ℕ) (f : FileValue) (old new : Core)
@@ -192,7 +192,7 @@ pub record StartsReadAll (n : ℕ) (buffer : List ℕ) (f : FileValue) (old new 
 -- it may be polled on the file that it works on
 pub record MayReadAll (core : Core) (call : CallValue ReadAllValue) (file : FileValue) : Type 0 where
   pub poll : MayPoll reading_all core call
-  pub stands : call.machine.file ≡ file_at file
+  pub stands : call.runner.file ≡ file_at file
 
 abbrev pub GivesPolled : List ℕ → Poll (Result (Unit {0}) Error) → Poll (Result Filled ReadAllError) → Type 0
 GivesPolled bytes poll.Pending poll.Pending = Unit {0}
@@ -208,4 +208,4 @@ pub record ReadsAll (old new : Core) (p q : CallValue ReadAllValue) (before afte
   pub stepped : Stepped reading_all old new p last answer
   pub gives : GivesPolled (bytes_out last) answer result
   pub left : q ≡ without_bytes last
-  pub moved : IsMoved before after last.machine.file
+  pub moved : IsMoved before after last.runner.file

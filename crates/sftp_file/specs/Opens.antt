@@ -19,7 +19,7 @@ use Rattle.sftp_core.specs.Core.{Core, at}
 use Rattle.sftp_core.specs.declared.place.Place.TheVariants.{Granted}
 use Rattle.call_state.specs.Calls.{CallValue, IsUnderWay, Started}
 use Rattle.call_state.specs.Keeping.{KeepsHeld}
-use Rattle.call_state.specs.Machines.{Meaning}
+use Rattle.call_state.specs.Runners.{Meaning}
 use Rattle.sftp_file.specs.declared.opening.Opening.{Opening}
 use Rattle.sftp_file.specs.Files.{FileValue}
 
@@ -75,5 +75,5 @@ pub record OpenStarts (flags : OpenFlags) (path : List ℕ) (old new : Core) (re
       → Started opening (slot, site) (λ e. Done (outcome.Refused e) site) (open_next slot flags path site facts) answers
       old new result
   pub under_way : IfOk result (IsUnderWay opening new)
-  pub rights : IfOk result (λ call. HasRights flags call.machine)
+  pub rights : IfOk result (λ call. HasRights flags call.runner)
   pub keeps : KeepsHeld old new

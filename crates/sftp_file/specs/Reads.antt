@@ -6,7 +6,7 @@ use Rattle.sftp_model.specs.declared.slot.FileAt.{FileAt}
 use Rattle.sftp_model.specs.declared.slot.Move.TheVariants.{Done, Wait}
 use Rattle.plan_model.specs.Moves.{Answers, Own, Plan, once_answered}
 use Rattle.plan_model.specs.TransferPlans.{was_read}
-use Rattle.call_state.specs.Machines.{Meaning}
+use Rattle.call_state.specs.Runners.{Meaning}
 use Rattle.sftp_file.specs.Files.{one_slot}
 use Rattle.sftp_file.specs.Outcomes.{read_outcome}
 

@@ -5,7 +5,7 @@ use Rattle.sftp_model.specs.declared.file_attrs.FileAttrs.{FileAttrs}
 use Rattle.sftp_model.specs.declared.slot.Move.TheVariants.{Done, Wait}
 use Rattle.sftp_model.specs.declared.slot.Site.{Site}
 use Rattle.plan_model.specs.Moves.{Answers, Own, once_answered, told_by}
-use Rattle.call_state.specs.Machines.{Meaning}
+use Rattle.call_state.specs.Runners.{Meaning}
 use Rattle.sftp_file.specs.declared.telling.Telling.{Telling}
 use Rattle.sftp_file.specs.Outcomes.{attrs_outcome}
 

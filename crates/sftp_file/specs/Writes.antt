@@ -16,7 +16,7 @@ use Rattle.sftp_model.specs.Frames.{is_too_long}
 use Rattle.sftp_core.specs.Core.{Core, is_call, queued_parts}
 use Rattle.call_state.specs.Asked.{request_of}
 use Rattle.call_state.specs.Calls.{CallValue}
-use Rattle.call_state.specs.Machines.{IsOwn, Meaning}
+use Rattle.call_state.specs.Runners.{IsOwn, Meaning}
 use Rattle.call_state.specs.declared.asking.Asking.{Asking}
 use Rattle.call_state.specs.declared.asking.Asking.TheVariants.{Parts}
 use Rattle.call_state.specs.declared.stage.Stage.TheVariants.{Asked}
@@ -66,7 +66,7 @@ pub record WritesParts (f : FileValue) (parts : List (List ℕ)) (old new : Core
       → Starts writing tt (write_next 0 bytes) f old new result
   pub shared : IfOk result (λ call. (ticket : ℕ) → call.stage ≡ Asked ticket
       → new ≡ queued_parts old ticket f.grant.handle f.offset parts)
-  pub file : IfOk result (λ call. call.machine.file ≡ file_at f)
+  pub file : IfOk result (λ call. call.runner.file ≡ file_at f)
 
 -- ---- write_all: part by part
 
@@ -156,7 +156,7 @@ IsNext file facts pieces done (part.Ask asking len) = IsWrite facts pieces done 
     × (len ≡ part_len facts (drop done (joined pieces)))
     × (file.offset + len < 2 ^ 64)
 
--- the machine behind this part
+-- the runner behind this part
 abbrev pub after_this_part : WriteAllValue → WriteAllValue
 after_this_part m = record m { file = behind_part m; place = m.place + 1; done = m.done + this_part m }
 

@@ -14,7 +14,7 @@ use crate::facts::facts;
 use crate::file::File;
 use crate::looks::{offers, overflows};
 use crate::settling::settled;
-use call_state::{Asking, Call, PlanMachine, Poll, Then, Told};
+use call_state::{Asking, Call, PlanRunner, Poll, Then, Told};
 use sftp_core::Core;
 use sftp_model::numbers::SSH_FX_OK;
 use sftp_model::{Error, Extensions, FileAt, IoKind, Reply, Request};
@@ -42,7 +42,7 @@ impl Model for Copying {
 /// A copy under way.
 pub type CopyCall = Call<Copying>;
 
-impl PlanMachine for Copying {
+impl PlanRunner for Copying {
     type Value = ();
 
     ghost World = { Unit {0} };
@@ -115,7 +115,7 @@ impl PollCopy for Call<Copying> {
 
     fn poll(&mut self, core: &mut Core, from: &mut File, to: &mut File) -> Poll<Result<(), Error>> {
         let polled = self.step(core);
-        let (source, target) = self.machine().offsets();
+        let (source, target) = self.runner().offsets();
         from.stand(source);
         to.stand(target);
         polled
@@ -174,12 +174,12 @@ impl File {
         if overflows(target.offset, n) {
             return Err(Error::IOError(IoKind::OffsetOverflow));
         }
-        let machine = Copying {
+        let runner = Copying {
             source,
             target,
             len: n,
         };
-        Call::ask(core, self.copy_request(to, n), machine)
+        Call::ask(core, self.copy_request(to, n), runner)
     }
 
     /// The request for a copy. It fits a frame, since a handle has at most 256 bytes.

@@ -16,7 +16,7 @@ use crate::file::File;
 use crate::looks::may_read;
 use crate::reading::read_request;
 use bytes::BytesMut;
-use call_state::{Asking, Call, PlanMachine, Poll, Then, Told};
+use call_state::{Asking, Call, PlanRunner, Poll, Then, Told};
 use sftp_core::Core;
 use sftp_model::numbers::SSH_FX_EOF;
 use sftp_model::{Error, Facts, FileAt, Handle, IoKind, Reply};
@@ -133,7 +133,7 @@ impl Gathering {
         buffer
     }
 
-    /// The machine with these bytes handed in, and none that came.
+    /// The runner with these bytes handed in, and none that came.
     fn with_buffer(&self, buffer: BytesMut) -> Gathering
         ensures { result ≡ with_buffer self.now buffer.items }
     {
@@ -152,7 +152,7 @@ impl Gathering {
     }
 }
 
-impl PlanMachine for Gathering {
+impl PlanRunner for Gathering {
     type Value = ();
 
     ghost World = { Unit {0} };
@@ -225,13 +225,13 @@ pub fn read_all_answer(
 /// that came.
 pub fn cancel_read_all(call: ReadAllCall, core: &mut Core) -> BytesMut
     requires { IsHeld reading_all core.old call }
-    ensures bytes { result.items ≡ call.machine.before ++ call.machine.got }
+    ensures bytes { result.items ≡ call.runner.before ++ call.runner.got }
     ensures cancels { Cancels core.old core.new call.stage }
 {
     let mut call = call;
-    let empty = BytesMut::new(call.machine().alloc);
-    let machine = call.machine().with_buffer(empty);
-    let bytes = call.replace_machine(machine).into_bytes();
+    let empty = BytesMut::new(call.runner().alloc);
+    let runner = call.runner().with_buffer(empty);
+    let bytes = call.replace_runner(runner).into_bytes();
     call.cancel(core);
     bytes
 }
@@ -241,12 +241,12 @@ fn take_bytes(call: &mut ReadAllCall) -> BytesMut
     ensures bytes { result.items ≡ bytes_out call.old }
     ensures left { call.new ≡ without_bytes call.old }
 {
-    let empty = BytesMut::new(call.machine().alloc);
+    let empty = BytesMut::new(call.runner().alloc);
     if !call.is_ended() {
         return empty;
     }
-    let machine = call.machine().with_buffer(empty);
-    call.replace_machine(machine).into_bytes()
+    let runner = call.runner().with_buffer(empty);
+    call.replace_runner(runner).into_bytes()
 }
 
 /// The poll of a `read_all`.
@@ -279,7 +279,7 @@ impl PollReadAll for Call<Gathering> {
 
     fn poll(&mut self, core: &mut Core, file: &mut File) -> Poll<Result<BytesMut, ReadAllError>> {
         let polled = self.step(core);
-        file.stand(self.machine().offset());
+        file.stand(self.runner().offset());
         match polled {
             Poll::Pending => Poll::Pending,
             Poll::Ready(answer) => Poll::Ready(read_all_answer(self, answer)),
@@ -306,9 +306,9 @@ impl File {
         ensures starts { StartsReadAll n buffer.items self.old core.old core.new result }
         ensures left { self.new ≡ self.old }
     {
-        let mut machine = self.gathering(core, n);
-        let asking = match machine.next() {
-            Ok(None) => return Ok(Call::ready(machine.with_buffer(buffer))),
+        let mut runner = self.gathering(core, n);
+        let asking = match runner.next() {
+            Ok(None) => return Ok(Call::ready(runner.with_buffer(buffer))),
             Ok(Some(asking)) => asking,
             Err(why) => {
                 return Err(ReadAllError {
@@ -317,13 +317,13 @@ impl File {
                 });
             }
         };
-        match Call::ask(core, asking, machine) {
+        match Call::ask(core, asking, runner) {
             Ok(call) => Ok(hand_in(call, buffer)),
             Err(error) => Err(ReadAllError { error, got: buffer }),
         }
     }
 
-    /// The machine of a read of so many bytes of which none came, and none were handed in.
+    /// The runner of a read of so many bytes of which none came, and none were handed in.
     fn gathering(&self, core: &Core, n: usize) -> Gathering
         requires { IsReady core.now }
         ensures { result ≡ first_read self.now (facts_of core.now) n }
@@ -344,10 +344,10 @@ impl File {
 
 /// The call with these bytes handed in.
 fn hand_in(call: ReadAllCall, buffer: BytesMut) -> ReadAllCall
-    ensures { result ≡ record call { machine = with_buffer call.machine buffer.items } }
+    ensures { result ≡ record call { runner = with_buffer call.runner buffer.items } }
 {
     let mut call = call;
-    let machine = call.machine().with_buffer(buffer);
-    let _empty = call.replace_machine(machine);
+    let runner = call.runner().with_buffer(buffer);
+    let _empty = call.replace_runner(runner);
     call
 }

@@ -9,12 +9,12 @@ ghost use Rattle.sftp_file.specs.Files.{FileValue};
 ghost use Rattle.sftp_file.specs.OnFiles.{MayPollOn, PolledOn};
 
 use crate::file::File;
-use call_state::{Call, PlanMachine, Poll};
+use call_state::{Call, PlanRunner, Poll};
 use sftp_core::Core;
 use sftp_model::Error;
 
-/// A machine that moves a file.
-pub trait OnFile: PlanMachine {
+/// A runner that moves a file.
+pub trait OnFile: PlanRunner {
     // The file, where the call has come.
     ghost file: { Self → FileAtValue };
 
@@ -22,8 +22,8 @@ pub trait OnFile: PlanMachine {
     fn offset(&self) -> u64
         ensures { result ≡ (file self.now).offset };
 
-    // Nothing but the offset changes as the machine goes on.
-    ghost moves: { (m next : Self) → Self.PlanMachine.meaning.stays m next
+    // Nothing but the offset changes as the runner goes on.
+    ghost moves: { (m next : Self) → Self.PlanRunner.meaning.stays m next
         → file next ≡ record (file m) { offset = (file next).offset } };
 }
 
@@ -54,13 +54,13 @@ pub trait PollFile {
 impl<M: OnFile> PollFile for Call<M> {
     type Value = M::Value;
 
-    ghost may = { MayPollOn M.PlanMachine.meaning M.file };
+    ghost may = { MayPollOn M.PlanRunner.meaning M.file };
 
-    ghost did = { PolledOn M.PlanMachine.meaning M.file };
+    ghost did = { PolledOn M.PlanRunner.meaning M.file };
 
     fn poll(&mut self, core: &mut Core, file: &mut File) -> Poll<Result<M::Value, Error>> {
         let polled = self.step(core);
-        file.stand(self.machine().offset());
+        file.stand(self.runner().offset());
         polled
     }
 }

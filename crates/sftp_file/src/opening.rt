@@ -10,7 +10,7 @@ ghost use Rattle.call_state.specs.declared.asking.Asking.TheVariants as asking;
 ghost use Rattle.sftp_file.specs.Opens.{OpenStarts, open_waits, opening};
 
 use crate::file::File;
-use call_state::{Alone, Asking, Call, PlanMachine, Then, Told};
+use call_state::{Alone, Asking, Call, PlanRunner, Then, Told};
 use sftp_core::Core;
 use sftp_model::{Error, FileAttrs, IoKind, OpenOptions, RemotePath, Reply, Request};
 use ssh_encoding::OutOfMemory;
@@ -34,7 +34,7 @@ pub type OpenCall = Call<Opening>;
 
 impl Alone for Opening {}
 
-impl PlanMachine for Opening {
+impl PlanRunner for Opening {
     type Value = File;
 
     ghost World = { ℕ × Site };
@@ -95,11 +95,11 @@ impl StartOpen for OpenOptions {
             Ok(request) => request,
             Err(OutOfMemory) => return Err(Error::OutOfMemory),
         };
-        let machine = Opening {
+        let runner = Opening {
             readable: self.may_read(),
             writable: self.may_write(),
         };
-        Call::ask(core, request, machine)
+        Call::ask(core, request, runner)
     }
 }
 

@@ -14,7 +14,7 @@ use crate::file::File;
 use crate::looks::may_read;
 use crate::on_file::OnFile;
 use bytes::Bytes;
-use call_state::{Asking, Call, PlanMachine, Then, Told};
+use call_state::{Asking, Call, PlanRunner, Then, Told};
 use sftp_core::Core;
 use sftp_model::numbers::SSH_FX_EOF;
 use sftp_model::{Error, FileAt, Handle, Reply, Request};
@@ -44,7 +44,7 @@ impl Model for Reading {
 /// A read of a file under way. It gives the bytes, 1 or more; None at the end of the file, and for a read of no bytes.
 pub type ReadCall = Call<Reading>;
 
-impl PlanMachine for Reading {
+impl PlanRunner for Reading {
     type Value = Option<Bytes>;
 
     ghost World = { Unit {0} };
@@ -114,7 +114,7 @@ impl File {
     pub fn start_read(&mut self, core: &mut Core, n: u32) -> Result<ReadCall, Error>
         requires { IsReady core.old }
         ensures starts { Starts reading tt (read_next 0 n) self.old core.old core.new result }
-        ensures file { IfOk result (λ call. call.machine.file ≡ file_at self.old) }
+        ensures file { IfOk result (λ call. call.runner.file ≡ file_at self.old) }
         ensures left { self.new ≡ self.old }
     {
         let file = self.at();

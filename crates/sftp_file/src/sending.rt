@@ -17,7 +17,7 @@ use crate::on_file::OnFile;
 use crate::parts::{cut, one_piece};
 use crate::writing::write_request;
 use bytes::Bytes;
-use call_state::{Call, PlanMachine, Then, Told};
+use call_state::{Call, PlanRunner, Then, Told};
 use sftp_core::Core;
 use sftp_model::numbers::SSH_FX_OK;
 use sftp_model::{Error, FileAt, Reply};
@@ -47,7 +47,7 @@ impl Model for Sending {
 /// A write of a file under way. It gives how many bytes were written.
 pub type WriteCall = Call<Sending>;
 
-impl PlanMachine for Sending {
+impl PlanRunner for Sending {
     type Value = usize;
 
     ghost World = { Unit {0} };
@@ -111,7 +111,7 @@ impl File {
     pub fn start_write(&mut self, core: &mut Core, buf: &[u8]) -> Result<WriteCall, Error>
         requires { IsReady core.old }
         ensures starts { Starts writing tt (write_next 0 buf.now) self.old core.old core.new result }
-        ensures file { IfOk result (λ call. call.machine.file ≡ file_at self.old) }
+        ensures file { IfOk result (λ call. call.runner.file ≡ file_at self.old) }
         ensures left { self.new ≡ self.old }
     {
         let len = buf.len().min(facts(core).write_len as usize);
@@ -133,7 +133,7 @@ impl File {
         ensures shared { IfOk result (λ call. (ticket : ℕ) → call.stage ≡ stage.Asked ticket → core.new
             ≡ queued_parts core.old ticket self.old.grant.handle self.old.offset
             (cut_at 0 (facts_of core.old).write_len bufs.now)) }
-        ensures file { IfOk result (λ call. call.machine.file ≡ file_at self.old) }
+        ensures file { IfOk result (λ call. call.runner.file ≡ file_at self.old) }
         ensures left { self.new ≡ self.old }
     {
         let limit = facts(core).write_len as usize;
@@ -154,7 +154,7 @@ impl File {
         ensures shared { IfOk result (λ call. (ticket : ℕ) → call.stage ≡ stage.Asked ticket → core.new
             ≡ queued_parts core.old ticket self.old.grant.handle self.old.offset
             (cut_at 0 (facts_of core.old).write_len bufs.now)) }
-        ensures file { IfOk result (λ call. call.machine.file ≡ file_at self.old) }
+        ensures file { IfOk result (λ call. call.runner.file ≡ file_at self.old) }
         ensures left { self.new ≡ self.old }
     {
         self.start_write_vectorized(core, bufs)

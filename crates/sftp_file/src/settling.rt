@@ -16,7 +16,7 @@ use crate::facts::facts;
 use crate::file::File;
 use crate::looks::offers;
 use bitflags::Flags;
-use call_state::{Alone, Asking, Call, PlanMachine, Then, Told};
+use call_state::{Alone, Asking, Call, PlanRunner, Then, Told};
 use sftp_core::{Core, Ticket};
 use sftp_meta::{MetaData, Permissions};
 use sftp_model::numbers::SSH_FX_OK;
@@ -53,7 +53,7 @@ pub fn close_call(ticket: Option<Ticket>) -> CloseCall
 
 impl Alone for Settling {}
 
-impl PlanMachine for Settling {
+impl PlanRunner for Settling {
     type Value = ();
 
     ghost World = { Site };

@@ -11,7 +11,7 @@ ghost use Rattle.sftp_file.specs.Files.{Starts, alone};
 ghost use Rattle.sftp_file.specs.Tells.{telling, tells_wait};
 
 use crate::file::File;
-use call_state::{Alone, Asking, Call, PlanMachine, Then, Told};
+use call_state::{Alone, Asking, Call, PlanRunner, Then, Told};
 use sftp_core::{Core, Ticket};
 use sftp_meta::MetaData;
 use sftp_model::{Error, IoKind, Reply, Request};
@@ -32,7 +32,7 @@ pub fn attrs_call(ticket: Ticket) -> AttrsCall
 
 impl Alone for Telling {}
 
-impl PlanMachine for Telling {
+impl PlanRunner for Telling {
     type Value = MetaData;
 
     ghost World = { Site };

@@ -17,7 +17,7 @@ use crate::looks::may_write;
 use crate::on_file::OnFile;
 use crate::parts::{cut, one_piece, shared};
 use bytes::Bytes;
-use call_state::{Asking, Call, PlanMachine, Then, Told};
+use call_state::{Asking, Call, PlanRunner, Then, Told};
 use sftp_core::Core;
 use sftp_model::numbers::SSH_FX_OK;
 use sftp_model::{Error, Facts, FileAt, Handle, Reply};
@@ -163,7 +163,7 @@ impl WritingAll {
     }
 }
 
-impl PlanMachine for WritingAll {
+impl PlanRunner for WritingAll {
     type Value = ();
 
     ghost World = { Unit {0} };
@@ -232,7 +232,7 @@ impl File {
     pub fn start_write_all(&mut self, core: &mut Core, buf: &[u8]) -> Result<WriteAllCall, Error>
         requires { IsReady core.old }
         ensures starts { Starts writing_all tt (write_all_next 0 buf.now) self.old core.old core.new result }
-        ensures file { IfOk result (λ call. call.machine.file ≡ file_at self.old) }
+        ensures file { IfOk result (λ call. call.runner.file ≡ file_at self.old) }
         ensures left { self.new ≡ self.old }
     {
         match one_piece(core.alloc(), buf) {
@@ -250,8 +250,8 @@ impl File {
     ) -> Result<WriteAllCall, Error>
         requires { IsReady core.old }
         ensures starts { Starts writing_all tt (write_all_next 0 (joined bufs.now)) self.old core.old core.new result }
-        ensures shared { IfOk result (λ call. (call.machine.pieces ≡ bufs.now) × (call.machine.done ≡ 0)) }
-        ensures file { IfOk result (λ call. call.machine.file ≡ file_at self.old) }
+        ensures shared { IfOk result (λ call. (call.runner.pieces ≡ bufs.now) × (call.runner.done ≡ 0)) }
+        ensures file { IfOk result (λ call. call.runner.file ≡ file_at self.old) }
         ensures left { self.new ≡ self.old }
     {
         match shared(core.alloc(), bufs) {
@@ -268,8 +268,8 @@ impl File {
     ) -> Result<WriteAllCall, Error>
         requires { IsReady core.old }
         ensures starts { Starts writing_all tt (write_all_next 0 (joined bufs.now)) self.old core.old core.new result }
-        ensures shared { IfOk result (λ call. (call.machine.pieces ≡ bufs.now) × (call.machine.done ≡ 0)) }
-        ensures file { IfOk result (λ call. call.machine.file ≡ file_at self.old) }
+        ensures shared { IfOk result (λ call. (call.runner.pieces ≡ bufs.now) × (call.runner.done ≡ 0)) }
+        ensures file { IfOk result (λ call. call.runner.file ≡ file_at self.old) }
         ensures left { self.new ≡ self.old }
     {
         self.start_write_all_vectorized(core, bufs)
@@ -280,8 +280,8 @@ impl File {
         requires { IsReady core.old }
         ensures starts { Starts writing_all tt (write_all_next 0 (joined pieces.items)) self.now
             core.old core.new result }
-        ensures shared { IfOk result (λ call. (call.machine.pieces ≡ pieces.items) × (call.machine.done ≡ 0)) }
-        ensures file { IfOk result (λ call. call.machine.file ≡ file_at self.now) }
+        ensures shared { IfOk result (λ call. (call.runner.pieces ≡ pieces.items) × (call.runner.done ≡ 0)) }
+        ensures file { IfOk result (λ call. call.runner.file ≡ file_at self.now) }
     {
         let alloc = core.alloc();
         let (file, facts) = (self.at(), facts(core));
@@ -292,15 +292,15 @@ impl File {
         };
         match part {
             Part::Ask(asking, len) => {
-                let machine = self.writing(alloc, facts, pieces, len);
-                Call::ask(core, asking, machine)
+                let runner = self.writing(alloc, facts, pieces, len);
+                Call::ask(core, asking, runner)
             }
             Part::Over(Ok(())) => Ok(Call::ready(self.writing(alloc, facts, pieces, 0))),
             Part::Over(Err(e)) => Err(e),
         }
     }
 
-    /// The machine of a whole write whose first part has this length.
+    /// The runner of a whole write whose first part has this length.
     fn writing(&self, alloc: Global, facts: Facts, pieces: Vec<Bytes>, len: usize) -> WritingAll
         requires part { len ≡ part_len facts (joined pieces.items) }
         requires room { self.now.offset + len < 2 ^ 64 }

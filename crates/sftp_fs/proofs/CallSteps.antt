@@ -11,7 +11,7 @@ use Rattle.call_state.specs.declared.stage.Stage.{Stage}
 use Rattle.call_state.specs.declared.stage.Stage.TheVariants.{Ended, Ready, Unsent, Asked, Came}
 use Rattle.call_state.specs.Calls.{CallValue, Cancels, HoldsReady, IsOver, cancelled, is_ended}
 use Rattle.call_state.specs.Keeping.{KeepsHeld}
-use Rattle.call_state.specs.Machines.{Meaning}
+use Rattle.call_state.specs.Runners.{Meaning}
 use Rattle.call_state.proofs.Keeping.{grant_at, grant_kept}
 use Rattle.sftp_fs.specs.Listings.{IsAwaiting, IsListing, ListingValue, fresh_listing}
 

@@ -45,20 +45,20 @@ closes_with : (b : Bool) (dir : GrantValue) (old new : Core) (call : CallValue S
     → call.stage ≡ closing (if b then Some dir.id else None)
     → new ≡ (if b then queued_last old dir.id (request.Close dir.handle) true else new)
     → IsUnderWay settling new call × ((site : Site) (answers : Answers)
-    → ClosesBy dir.handle site (close_dir_next b dir.handle site) answers call.machine call.stage)
+    → ClosesBy dir.handle site (close_dir_next b dir.handle site) answers call.runner call.stage)
 closes_with true dir old new call is stage queued = (
   record {
     over = rw stage refl;
-    held = subst (λ (x : Stage). IsHeldAt settling new call.machine x) (sym stage)
+    held = subst (λ (x : Stage). IsHeldAt settling new call.runner x) (sym stage)
         (holds_at new dir.id expected.Status (Some (Waiting expected.Status false true))
         (ap (λ (c : Core). at c dir.id) queued ∙ put_here old.table dir.id (Waiting expected.Status false true)) refl refl);
   },
-  λ site answers. subst (λ (x : Stage). ClosesBy dir.handle site (close_dir_next true dir.handle site) answers call.machine x)
+  λ site answers. subst (λ (x : Stage). ClosesBy dir.handle site (close_dir_next true dir.handle site) answers call.runner x)
       (sym stage) (record { asks = refl; rest = λ later. refl; knows = tt }),
 )
 closes_with false dir old new call is stage same = (
-  record { over = rw stage refl; held = subst (λ (x : Stage). IsHeldAt settling new call.machine x) (sym stage) tt },
-  λ site answers. subst (λ (x : Stage). ClosesBy dir.handle site (close_dir_next false dir.handle site) answers call.machine x)
+  record { over = rw stage refl; held = subst (λ (x : Stage). IsHeldAt settling new call.runner x) (sym stage) tt },
+  λ site answers. subst (λ (x : Stage). ClosesBy dir.handle site (close_dir_next false dir.handle site) answers call.runner x)
       (sym stage) refl,
 )
 

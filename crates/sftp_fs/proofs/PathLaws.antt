@@ -17,7 +17,7 @@ use Rattle.call_state.specs.declared.asking.Asking.{Asking}
 use Rattle.call_state.specs.declared.asking.Asking.TheVariants.{Whole}
 use Rattle.call_state.specs.Calls.{BeginsCall, CallValue, IsUnderWay, Started}
 use Rattle.call_state.specs.Keeping.{KeepsHeld}
-use Rattle.call_state.specs.Machines.{Meaning}
+use Rattle.call_state.specs.Runners.{Meaning}
 use Rattle.call_state.proofs.Keeping.{keeps_same}
 use Rattle.sftp_file.specs.Files.{facts_of}
 use Rattle.sftp_file.proofs.Starting.{StartsAny}

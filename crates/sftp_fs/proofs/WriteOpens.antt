@@ -91,12 +91,12 @@ use Rattle.sftp_fs.specs.declared.granting.Granting.{Granting}
 use Rattle.sftp_fs.proofs.CallSteps.{ended_leaves}
 use Rattle.sftp_fs.proofs.WriteSteps.{closes_besides, grants_same}
 
--- a machine that awaits a HANDLE is what is left of such a plan, whatever is done with the handle
+-- a runner that awaits a HANDLE is what is left of such a plan, whatever is done with the handle
 pub left_any : (core : Core) (call : CallValue Granting) (w : WithHandle) (answers : Answers) → IsUnderWay granting core call
     → IsLeft granting w (granted_left w) answers call
 left_any core call w answers h = left_at call.stage h.over h.held
   where
-    left_at : (s : Stage) → is_ended s ≡ false → IsHeldAt granting core call.machine s → IsLeftAt granting w (granted_left w) answers call.machine s
+    left_at : (s : Stage) → is_ended s ≡ false → IsHeldAt granting core call.runner s → IsLeftAt granting w (granted_left w) answers call.runner s
     left_at stage.Ended over held = tt
     left_at stage.Ready over held = absurd held
     left_at (stage.Unsent asking) over held = absurd (let clash : false ≡ true = held.1 in cc)
@@ -109,8 +109,8 @@ pub left_later : (core : Core) (call : CallValue Granting) (w : WithHandle) (pla
     → IsLeft granting (w.0, λ handle own. w.1 handle later) (λ own a. plan later a) answers call
 left_later core call w plan answers later h left = left_at call.stage h.held left
   where
-    left_at : (s : Stage) → IsHeldAt granting core call.machine s → IsLeftAt granting w plan answers call.machine s
-        → IsLeftAt granting (w.0, λ handle own. w.1 handle later) (λ own a. plan later a) answers call.machine s
+    left_at : (s : Stage) → IsHeldAt granting core call.runner s → IsLeftAt granting w plan answers call.runner s
+        → IsLeftAt granting (w.0, λ handle own. w.1 handle later) (λ own a. plan later a) answers call.runner s
     left_at stage.Ended held l = tt
     left_at stage.Ready held l = absurd held
     left_at (stage.Unsent asking) held l = absurd (let clash : false ≡ true = held.1 in cc)
@@ -188,7 +188,7 @@ pub left_now : (core : Core) (call : CallValue Granting) (w : WithHandle) (plan 
     → IsLeft granting w plan answers call → plan [] answers ≡ granted_left w [] answers
 left_now core call w plan answers h left = now_at call.stage h.over h.held left
   where
-    now_at : (s : Stage) → is_ended s ≡ false → IsHeldAt granting core call.machine s → IsLeftAt granting w plan answers call.machine s
+    now_at : (s : Stage) → is_ended s ≡ false → IsHeldAt granting core call.runner s → IsLeftAt granting w plan answers call.runner s
         → plan [] answers ≡ granted_left w [] answers
     now_at stage.Ended over held l = absurd (let clash : true ≡ false = over in cc)
     now_at stage.Ready over held l = absurd held
@@ -379,7 +379,7 @@ pub ready_behind : (old mid late : Core) (call next : CallValue Granting) (grant
     → Stepped granting old mid call next (Ready (Ok grant)) → is_ended next.stage ≡ true → late ≡ cancelled mid next.stage → IsReady late
 ready_behind old mid late call next grant ready held h ended left =
     let w : WithHandle = (record { slots = []; directory = [] }, λ handle later. Done outcome.Done (record { slots = []; directory = [] })) in
-    let told = told_at old call.machine call.stage in
+    let told = told_at old call.runner call.stage in
     let same : late ≡ polled_core old call.stage = left ∙ (ended_leaves mid next.stage ended
     ∙ granted_same w (granted_left w) told.0 old mid call next grant
     (h.polled w (granted_left w) told.0 (left_any old call w told.0 held) told.1)) in

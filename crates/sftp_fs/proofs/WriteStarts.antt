@@ -56,7 +56,7 @@ write_asked path content cwd named kept facts m old new call is fixed same h =
       same,
       fixed,
     )
-    asks_of site answers (inr s) = absurd (subst (λ (x : Stage). IsHeldAt granting new call.machine x) s.1 h.under_way.held)
+    asks_of site answers (inr s) = absurd (subst (λ (x : Stage). IsHeldAt granting new call.runner x) s.1 h.under_way.held)
 
 pub write_refused : (path content cwd named : List ℕ) (m : Granting) (old new : Core) (e : Error) → named ≡ joined_path cwd path
     → AsksFirst {V = GrantValue} granting (open_request to_replace named) m old new (Err e) → WritesFrom path content cwd old new (Err e)

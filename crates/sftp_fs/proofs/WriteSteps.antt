@@ -57,7 +57,7 @@ use Rattle.call_state.specs.Calls.{
   Started,
   Stepped,
 }
-use Rattle.call_state.specs.Machines.{GoesBehind}
+use Rattle.call_state.specs.Runners.{GoesBehind}
 use Rattle.sftp_fs.specs.Parts.{IsPart, PartValue, first_part, rest_from, writing_parts}
 use Rattle.sftp_fs.specs.WholeWrites.{
   Began,
@@ -128,7 +128,7 @@ parts_wrote : (facts : Facts) (old new : Core) (grant : GrantValue) (call next :
     → Wrote site facts plan answers old new (writing.Parts grant call) (writing.Parts grant next) told
 parts_wrote facts old new grant call next Pending site plan answers on over (inl h) =
     inl (record {
-      place = call.machine.place;
+      place = call.runner.place;
       waits = h.waits;
       unfailed = h.unfailed;
       core = h.core;

@@ -36,7 +36,7 @@ use Rattle.call_state.specs.declared.stage.Stage.{Stage}
 use Rattle.call_state.specs.declared.stage.Stage.TheVariants.{Ready, Asked}
 use Rattle.call_state.specs.Calls.{CallValue, IsUnderWay, Started}
 use Rattle.call_state.specs.Keeping.{KeepsHeld}
-use Rattle.call_state.specs.Machines.{GoesBehind, Meaning}
+use Rattle.call_state.specs.Runners.{GoesBehind, Meaning}
 use Rattle.sftp_file.specs.Closes.{closing}
 use Rattle.sftp_file.specs.Files.{facts_of}
 use Rattle.sftp_file.specs.Settles.{settling}
@@ -119,7 +119,7 @@ pub record ClosesDir (dir : GrantValue) (old new : Core) (call : CallValue Settl
   pub core : new ≡ released old dir
   pub under_way : IsUnderWay settling new call
   pub starts : (site : Site) (answers : Answers) → ClosesBy dir.handle site
-      (close_dir_next (users_of (at old dir.id) == 1) dir.handle site) answers call.machine call.stage
+      (close_dir_next (users_of (at old dir.id) == 1) dir.handle site) answers call.runner call.stage
 
 -- ---- made
 

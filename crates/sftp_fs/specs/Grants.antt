@@ -6,7 +6,7 @@ use Rattle.plan_model.specs.Moves.{Answers, Own}
 use Rattle.sftp_core.specs.Core.{at}
 use Rattle.sftp_core.specs.Grant.{GrantValue}
 use Rattle.sftp_core.specs.declared.place.Place.TheVariants.{Granted}
-use Rattle.call_state.specs.Machines.{Meaning}
+use Rattle.call_state.specs.Runners.{Meaning}
 use Rattle.sftp_fs.specs.Directories.{WithHandle, granted_ended, granted_left}
 use Rattle.sftp_fs.specs.declared.granting.Granting.{Granting}
 

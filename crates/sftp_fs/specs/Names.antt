@@ -8,7 +8,7 @@ use Rattle.sftp_model.specs.declared.slot.Move.TheVariants.{Done, Wait}
 use Rattle.sftp_model.specs.declared.slot.Site.{Site}
 use Rattle.plan_model.specs.Moves.{Answers, Own, once_answered}
 use Rattle.plan_model.specs.PathPlans.{named_by}
-use Rattle.call_state.specs.Machines.{Meaning}
+use Rattle.call_state.specs.Runners.{Meaning}
 use Rattle.sftp_fs.specs.declared.naming.Naming.{Naming}
 
 -- the outcome of a call that gives a path

@@ -11,7 +11,7 @@ use Rattle.plan_model.specs.TransferPlans.{next_part, part_len, rest_next}
 use Rattle.plan_model.specs.WholePlans.{nowhere, to_replace}
 use Rattle.sftp_model.specs.Frames.{is_too_long}
 use Rattle.call_state.specs.Asked.{request_of}
-use Rattle.call_state.specs.Machines.{Meaning}
+use Rattle.call_state.specs.Runners.{Meaning}
 use Rattle.call_state.specs.declared.asking.Asking.{Asking}
 use Rattle.call_state.specs.declared.asking.Asking.TheVariants.{Parts}
 use Rattle.sftp_file.specs.Outcomes.{done_outcome}
@@ -86,7 +86,7 @@ abbrev pub IsNextPart : PartValue → Option (Asking × ℕ) → Type 0
 IsNextPart m None = m.rest ≡ []
 IsNextPart m (Some next) = IsPart m next.0 × (next.1 ≡ part_len m.facts m.rest)
 
--- the machine stands there, or nothing is left
+-- the runner stands there, or nothing is left
 abbrev pub IsBehind : PartValue → PartValue → Option Asking → Type 0
 IsBehind m next None = (next ≡ m) × ((after_part m).rest ≡ [])
 IsBehind m next (Some asking) = (next ≡ after_part m) × IsPart next asking

@@ -11,7 +11,7 @@ use Rattle.plan_model.specs.Moves.{Answers, Own, Plan, ask_path}
 use Rattle.sftp_core.specs.Core.{Core, is_call}
 use Rattle.call_state.specs.Calls.{CallValue, IsUnderWay, Started}
 use Rattle.call_state.specs.Keeping.{KeepsHeld}
-use Rattle.call_state.specs.Machines.{Meaning}
+use Rattle.call_state.specs.Runners.{Meaning}
 use Rattle.call_state.specs.declared.asking.Asking.TheVariants.{Whole}
 use Rattle.sftp_file.specs.Files.{facts_of}
 
@@ -30,13 +30,13 @@ pub record StartsFrom {M V : Type 0} (s : Meaning Site M V) (plan : PathPlan) (c
 
 -- ---- the first request, whatever the call
 
--- a machine may await the reply to this request
+-- a runner may await the reply to this request
 pub record MayAskFirst {W M V : Type 0} (s : Meaning W M V) (r : Request) (m : M) : Type 0 where
   pub call : is_call r ≡ true
   pub expects : s.expected m ≡ expected_of r
   pub cut : s.cut m (Whole r)
 
--- a plan asks this, where it fits a frame, and the machine goes on with it behind the reply
+-- a plan asks this, where it fits a frame, and the runner goes on with it behind the reply
 pub record FirstAsks {W M V : Type 0} (s : Meaning W M V) (w : W) (site : Site) (plan : Plan) (answers : Answers)
     (r : Request) (m : M) : Type 0 where
   pub first : plan [] answers ≡ ask_path r site

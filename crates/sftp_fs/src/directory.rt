@@ -11,7 +11,7 @@ ghost use Rattle.sftp_fs.specs.Listings.{fresh_listing};
 use crate::asks::ask;
 use crate::fs::Fs;
 use crate::read_dir::ReadDir;
-use call_state::{Alone, Call, PlanMachine, Then, Told};
+use call_state::{Alone, Call, PlanRunner, Then, Told};
 use sftp_core::{Core, Ended, Grant};
 use sftp_file::{CloseCall, close_call};
 use sftp_model::{Error, Reply, Request};
@@ -82,7 +82,7 @@ pub type DirCall = Call<OpeningDir>;
 
 impl Alone for OpeningDir {}
 
-impl PlanMachine for OpeningDir {
+impl PlanRunner for OpeningDir {
     type Value = Dir;
 
     ghost World = { Site × (List ℕ → Own → Move) };

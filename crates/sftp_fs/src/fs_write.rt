@@ -141,7 +141,7 @@ fn begin(
             close(core, grant);
             (Poll::Ready(Ok(())), Writing::Ended)
         }
-        Ok(Some((asking, machine))) => match Call::ask(core, asking, machine) {
+        Ok(Some((asking, runner))) => match Call::ask(core, asking, runner) {
             Ok(call) => (Poll::Pending, Writing::Parts(grant, call)),
             Err(e) => unbegun(core, grant, content, e),
         },

@@ -5,7 +5,7 @@ ghost use Rattle.sftp_model.specs.declared.slot.Move.{Move};
 ghost use Rattle.sftp_model.specs.declared.slot.Site.{Site};
 ghost use Rattle.sftp_fs.specs.Grants.{granting, grants_wait};
 
-use call_state::{PlanMachine, Then, Told};
+use call_state::{PlanRunner, Then, Told};
 use sftp_core::Grant;
 use sftp_model::{Error, Reply};
 
@@ -13,7 +13,7 @@ use sftp_model::{Error, Reply};
 #[derive(Drop)]
 pub struct Granting {}
 
-impl PlanMachine for Granting {
+impl PlanRunner for Granting {
     type Value = Grant;
 
     ghost World = { Site × (List ℕ → Own → Move) };

@@ -17,7 +17,7 @@ ghost use Rattle.sftp_fs.specs.PathStarts.{IsPathPlan, PathPlan, StartsFrom};
 
 use crate::asks::{ask, offers};
 use crate::fs::Fs;
-use call_state::{Alone, Call, PlanMachine, Then, Told};
+use call_state::{Alone, Call, PlanRunner, Then, Told};
 use sftp_core::Core;
 use sftp_model::{Error, Extensions, NameEntry, RemotePath, Reply, Request};
 use sftp_values::Items;
@@ -32,7 +32,7 @@ pub type PathCall = Call<Naming>;
 
 impl Alone for Naming {}
 
-impl PlanMachine for Naming {
+impl PlanRunner for Naming {
     type Value = RemotePath;
 
     ghost World = { Site };

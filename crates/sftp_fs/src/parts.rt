@@ -5,7 +5,7 @@ ghost use Rattle.sftp_model.specs.declared.slot.Site.{Site};
 ghost use Rattle.sftp_fs.specs.Parts.{IsBehind, IsFirst, IsNextPart, PartValue, parts_wait, writing_parts};
 
 use bytes::Bytes;
-use call_state::{Asking, PlanMachine, Then, Told};
+use call_state::{Asking, PlanRunner, Then, Told};
 use sftp_model::numbers::SSH_FX_OK;
 use sftp_model::{Error, Facts, Handle, Reply};
 use sftp_values::Items;
@@ -101,7 +101,7 @@ impl WritingParts {
         let Some((asking, len)) = next_part(alloc, handle, &facts, content, 0, 2)? else {
             return Ok(None);
         };
-        let machine = WritingParts {
+        let runner = WritingParts {
             alloc,
             handle: handle.copied(),
             facts,
@@ -110,7 +110,7 @@ impl WritingParts {
             done: 0,
             len,
         };
-        Ok(Some((asking, machine)))
+        Ok(Some((asking, runner)))
     }
 
     /// Goes on behind the part that was written. Refused only for want of memory, it is as before then.
@@ -141,7 +141,7 @@ impl WritingParts {
     }
 }
 
-impl PlanMachine for WritingParts {
+impl PlanRunner for WritingParts {
     type Value = ();
 
     ghost World = { Site };

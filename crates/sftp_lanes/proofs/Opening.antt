@@ -28,7 +28,7 @@ use Rattle.session_model.specs.declared.event.Owner.TheVariants as owner
 use Rattle.session_model.specs.declared.entry.Entry.{Entry}
 use Rattle.session_model.specs.declared.entry.Entry.TheVariants as entry
 use Rattle.session_model.specs.Calls.{Setting}
-use Rattle.session_model.specs.Grants.{orphan}
+use Rattle.session_model.specs.Grants.{next_due}
 use Rattle.session_model.specs.Ids.{Free, Pending, id_state, now_replied, now_sent}
 use Rattle.session_model.specs.Journals.{is_opened}
 use Rattle.session_model.specs.Readings.{AskedRequest, answer, asked, awaited, count_below, unanswered, unsent}
@@ -85,7 +85,7 @@ fresh_asks past lane = record {
 -- no lane has done anything, and nothing is granted, queued or unanswered
 pub record IsIdle (s : Setting) (past : List Entry) : Type 0 where
   pub good : Good s past none_begun
-  pub settled : orphan s past ≡ None
+  pub settled : next_due s past ≡ None
   pub unbegun : Unbegun s past
   pub unsent : [] ≡ unsent past
   pub free : (id : ℕ) → stand (λ p. false) (λ p. false) (id_state past id) ≡ None
@@ -356,7 +356,7 @@ open_count lanes options version known w phase is open_is =
 -- and no grant of theirs is to be closed
 pub open_settled : (lanes : List Lane) (options : SftpOptions) (version : Option Reply) (known : Option Info) (w : Lanes)
     (phase : Phase) → IsSession lanes options version known w phase → phase ≡ Open
-    → orphan (setting_by lanes options version known) (past_of w) ≡ None
+    → next_due (setting_by lanes options version known) (past_of w) ≡ None
 open_settled lanes options version known w phase is open_is =
     let works : IsWorking (setting_by lanes options version known) w = in_phase lanes options version known w phase Open is open_is in works.rest.settled
 

@@ -13,7 +13,7 @@ use Rattle.session_model.specs.declared.event.Owner.TheVariants as owner
 use Rattle.session_model.specs.declared.entry.Entry.{Entry}
 use Rattle.session_model.specs.declared.entry.Entry.TheVariants as entry
 use Rattle.session_model.specs.Calls.{Setting, current, site_of}
-use Rattle.session_model.specs.Grants.{closed, first_let_go, letting_go, orphan}
+use Rattle.session_model.specs.Grants.{closed, first_let_go, letting_go, next_due}
 use Rattle.session_model.specs.Journals.{IsFree, MayTake}
 use Rattle.session_model.specs.Readings.{asked, sent, was_kept, was_let_go}
 use Rattle.session_model.proofs.CallLaws.{may_next}
@@ -23,7 +23,7 @@ use Rattle.session_laws.proofs.StartLaws.{start_dues, unbegun_added, unbegun_sen
 use Rattle.sftp_lanes.specs.Seen.{IsIdleRun}
 
 -- nothing is to be closed
-plain : (s : Setting) (past : List Entry) → letting_go s past ≡ None → Unbegun s past → orphan s past ≡ None
+plain : (s : Setting) (past : List Entry) → letting_go s past ≡ None → Unbegun s past → next_due s past ≡ None
 plain s past letting u = none_next s past letting (start_dues s past u)
 
 pub unmoved_start : (s : Setting) → IsIdleRun s []

@@ -31,7 +31,7 @@ use Rattle.plan_model.specs.Lanes.{are_ok}
 use Rattle.session_model.specs.declared.report.Report.{Report}
 use Rattle.session_model.specs.declared.entry.Entry.{Entry}
 use Rattle.session_model.specs.declared.entry.Entry.TheVariants as entry
-use Rattle.session_model.specs.Grants.{orphan}
+use Rattle.session_model.specs.Grants.{next_due}
 use Rattle.session_model.specs.Journals.{IsJournal}
 use Rattle.session_model.specs.Readings.{asked, last_cancel, outcomes_below, trace_of}
 use Rattle.session_model.specs.Settings.{facts_of}
@@ -110,7 +110,7 @@ without_lanes (e ∷ past) = e ∷ without_lanes past
 pub record IsIdleRun (s : Setting) (past : List Entry) : Type 0 where
   pub run : IsJournal s past
   pub calm : last_cancel past ≡ None
-  pub settled : orphan s past ≡ None
+  pub settled : next_due s past ≡ None
   pub unbegun : Unbegun s past
 
 -- whatever the server tells: it offers its limits where they were asked for

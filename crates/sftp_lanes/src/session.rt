@@ -5,7 +5,7 @@ ghost use Rattle.sftp_core.specs.Core.{failed_with};
 ghost use Rattle.plan_model.specs.Lanes.{are_ok};
 ghost use Rattle.session_model.specs.Readings.{outcomes_of as of_lane, was_let_go};
 ghost use Rattle.session_model.specs.declared.entry.Entry.TheVariants as entry;
-ghost use Rattle.session_model.specs.Grants.{orphan};
+ghost use Rattle.session_model.specs.Grants.{next_due};
 ghost use Rattle.session_model.specs.Journals.{IsJournal, IsNext};
 ghost use Rattle.session_driver.specs.declared.session.Phase.TheVariants as phases;
 ghost use Rattle.sftp_lanes.specs.Adding.{AddsCall, CanAdd, CannotAdd, IsSame};
@@ -97,7 +97,7 @@ impl Session {
         ensures value { reverse result.now ≡ past_of self.now.work }
         ensures so_far { IsJournal (setting_at self.now) (past_of self.now.work) }
         ensures fixed { self.now.version ≢ None → IsFixed (given_of self.now) self.now.version (past_of self.now.work) (setting_at self.now) }
-        ensures settled { self.now.phase ≡ phases.Open → orphan (setting_at self.now) (past_of self.now.work) ≡ None }
+        ensures settled { self.now.phase ≡ phases.Open → next_due (setting_at self.now) (past_of self.now.work) ≡ None }
     {
         self.work.journal.as_slice()
     }

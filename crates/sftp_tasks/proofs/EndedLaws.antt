@@ -40,7 +40,7 @@ use Rattle.session_model.specs.declared.entry.Entry.{Entry}
 use Rattle.session_model.specs.declared.entry.Entry.TheVariants as entry
 use Rattle.session_model.specs.declared.event.Event.TheVariants.{Cancel, End}
 use Rattle.session_model.specs.Calls.{Setting, added, calls_of, current, lane_calls, move_at}
-use Rattle.session_model.specs.Grants.{orphan}
+use Rattle.session_model.specs.Grants.{next_due}
 use Rattle.session_model.specs.Journals.{IsJournal, MayCome, MustClose, cancelled_end}
 use Rattle.session_model.specs.Readings.{ended, last_cancel}
 
@@ -71,7 +71,7 @@ same_some a b e = cc e
 -- the lane whose Cancel is the newest entry has a call left
 cancel_current : (s : Setting) (past : List Entry) (lane : ℕ) → IsJournal s past → last_cancel past ≡ Some lane → current s past lane ≢ None
 cancel_current s (entry.Event (Cancel l) ∷ past) lane j is =
-    subst (λ (k : ℕ). current s past k ≢ None) (same_some l lane is) (may (last_cancel past) (orphan s past) j.0)
+    subst (λ (k : ℕ). current s past k ≢ None) (same_some l lane is) (may (last_cancel past) (next_due s past) j.0)
   where
     may : (c g : Option ℕ) → MatchOption c (MatchOption g (MayCome s past (entry.Event (Cancel l))) (λ grant. MustClose past grant (entry.Event (Cancel l))))
         (λ k. entry.Event (Cancel l) ≡ cancelled_end past k) → current s past l ≢ None
@@ -83,7 +83,7 @@ cancel_current s past lane j is = absurd cc
 -- a call that ends was the lane's next
 end_current : (s : Setting) (past : List Entry) (lane call : ℕ) (o : Outcome) → IsJournal s (entry.Event (End lane call o) ∷ past)
     → current s past lane ≢ None
-end_current s past lane call o j = may (last_cancel past) (orphan s past) refl j.0
+end_current s past lane call o j = may (last_cancel past) (next_due s past) refl j.0
   where
     may : (c g : Option ℕ) → last_cancel past ≡ c → MatchOption c
         (MatchOption g (MayCome s past (entry.Event (End lane call o))) (λ grant. MustClose past grant (entry.Event (End lane call o))))

@@ -6,7 +6,7 @@ use Rattle.sftp_model.specs.declared.error.Error.TheVariants as error
 use Rattle.sftp_link.specs.Views.{LinkView}
 use Rattle.session_model.specs.declared.entry.Entry.{Entry}
 use Rattle.session_model.specs.Calls.{Setting, added, current}
-use Rattle.session_model.specs.Grants.{orphan}
+use Rattle.session_model.specs.Grants.{next_due}
 use Rattle.session_model.specs.Journals.{IsJournal}
 use Rattle.session_model.specs.Readings.{outcomes_of, unanswered, was_let_go}
 use Rattle.session_model.specs.Runs.{LetsGoTo}
@@ -120,7 +120,7 @@ module _ {S : Type 0} where
           over = (
             only_lane d.seen.setting d.seen.stage.past (ap (λ (x : Setting). length x.lanes) (stays ∙ same) ∙ ap length idle.lanes)
                 (ap (λ (p : List Entry). was_let_go p 0) past ∙ g.let_go),
-            ap (λ (x : Setting). orphan x d.seen.stage.past) stays ∙ s.settled,
+            ap (λ (x : Setting). next_due x d.seen.stage.past) stays ∙ s.settled,
             ap unanswered past ∙ second.went.whole.answered,
           );
           adds = ap (λ (p : List Entry). added p 0) past ∙ g.adds;

@@ -1,7 +1,7 @@
 -- A step of an idle lane, which does nothing, and what it tells of the lanes.
 use Rattle.std.specs.Prelude.{◌≡◌, ◌++◌, ℕ, None, length, slice_get}
 use Rattle.session_model.specs.Calls.{added, calls_of}
-use Rattle.session_model.specs.Grants.{orphan}
+use Rattle.session_model.specs.Grants.{next_due}
 use Rattle.session_driver.specs.Session.{StaysInPhase}
 use Rattle.session_work.specs.Working.{past_of}
 use Rattle.sftp_lanes.specs.Seen.{SessionValue, seen_of, setting_at}
@@ -14,4 +14,4 @@ pub record StepsIdly (old new : SessionValue) : Type 0 where
   pub count : length new.work.calls ≡ length new.lanes
   pub each : (lane : ℕ) → calls_of (slice_get new.work.calls lane)
       ≡ calls_of (slice_get new.lanes lane) ++ added (past_of new.work) lane
-  pub settled : orphan (setting_at old) (past_of new.work) ≡ None
+  pub settled : next_due (setting_at old) (past_of new.work) ≡ None

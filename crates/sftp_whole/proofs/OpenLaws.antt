@@ -110,7 +110,7 @@ read_asked path cwd named facts m old new call is fixed fits h =
           (fs_read_next path None site (facts_of old)) answers old new call) (sym fixed) s,
       fixed,
     )
-    asks_of site answers (inr s) = absurd (subst (λ (x : Stage). IsHeldAt granting new call.machine x) s.1 h.under_way.held)
+    asks_of site answers (inr s) = absurd (subst (λ (x : Stage). IsHeldAt granting new call.runner x) s.1 h.under_way.held)
 
 pub read_refused : (path cwd named : List ℕ) (m : Granting) (old new : Core) (e : Error) → named ≡ joined_path cwd path
     → AsksFirst {V = GrantValue} granting (open_request to_read named) m old new (Err e) → ReadsFrom path cwd old new (Err e)
@@ -157,7 +157,7 @@ open_wrote : (facts : Facts) (old new : Core) (call next : CallValue Granting) (
 open_wrote facts old new call next Pending site plan answers held h on over left tells =
     let s = still site answers old new call next held tells h in
     let w = reads_by_window site facts answers in
-    let same : old ≡ polled_core old call.stage = still_same old call.machine call.stage answers held.over held.held tells s.missing s.unfailed in
+    let same : old ≡ polled_core old call.stage = still_same old call.runner call.stage answers held.over held.held tells s.missing s.unfailed in
     inl (record {
       place = 1;
       waits = left_now old call w plan answers held left ∙ rw s.missing refl;

@@ -20,7 +20,7 @@ use Rattle.session_model.specs.declared.event.Event.TheVariants.{Submit, Send, T
 use Rattle.session_model.specs.declared.entry.Entry.{Entry}
 use Rattle.session_model.specs.declared.entry.Entry.TheVariants as entry
 use Rattle.session_model.specs.Calls.{Setting, current, move_at, site_of}
-use Rattle.session_model.specs.Grants.{orphan}
+use Rattle.session_model.specs.Grants.{next_due}
 use Rattle.session_model.specs.Journals.{IsJournal, MayCome, MustClose, cancelled_end}
 use Rattle.session_model.specs.Readings.{answer, ended, last_cancel, own, trace_of}
 use Rattle.share_replay.specs.Replays.{NoHello, is_uncounted}
@@ -85,7 +85,7 @@ comes_next s past by id r None None due = may_come s past by id r due
 
 pub asks_next : (s : Setting) (past : List Entry) (by : Owner) (id : ℕ) (r : Request) → IsJournal s (entry.Event (Submit by id r) ∷ past)
     → IsAfterHello r × Asks by r
-asks_next s past by id r j = comes_next s past by id r (last_cancel past) (orphan s past) j.0
+asks_next s past by id r j = comes_next s past by id r (last_cancel past) (next_due s past) j.0
 
 in_order_none : (s : Setting) (past : List Entry) → IsJournal s past → NoHello (in_order past)
 in_order_none s [] j = tt

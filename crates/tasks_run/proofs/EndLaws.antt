@@ -37,7 +37,7 @@ use Rattle.session_model.specs.declared.entry.Entry.{Entry}
 use Rattle.session_model.specs.declared.entry.Entry.TheVariants as entry
 use Rattle.session_model.specs.declared.event.Event.TheVariants.{Submit, Send, Take, Cancel, End}
 use Rattle.session_model.specs.Calls.{Setting}
-use Rattle.session_model.specs.Grants.{orphan}
+use Rattle.session_model.specs.Grants.{next_due}
 use Rattle.session_model.specs.Journals.{IsJournal, MayCome}
 use Rattle.session_model.specs.Readings.{count_below, last_cancel, unanswered, was_let_go}
 use Rattle.session_model.proofs.CallLaws.{next_by, next_take}
@@ -111,7 +111,7 @@ none_below zero = refl
 none_below (suc n) = let none = none_below n in omega (arith, none)
 
 lane_goes : (s : Setting) (past : List Entry) (lane : ℕ) → IsJournal s (entry.LetGo lane ∷ past) → MayCome s past (entry.LetGo lane)
-lane_goes s past lane j = next_by (last_cancel past) (orphan s past) _ _ _ j.0 (λ n due. cc (due.1.1)) (λ n due. cc due)
+lane_goes s past lane j = next_by (last_cancel past) (next_due s past) _ _ _ j.0 (λ n due. cc (due.1.1)) (λ n due. cc due)
 
 gone : (s : Setting) (past : List Entry) → IsJournal s past → count_below (was_let_go past) (length s.lanes) ≡ length (filter is_let_go past)
 gone s [] j = none_below (length s.lanes)

@@ -32,7 +32,7 @@ may_await_status state asked old new ticket call going s status rest awaits =
       going = going_with state old new going rest o.phase o.fault;
       under_way = record {
         over = subst (λ (x : Stage). is_ended x ≡ false) (sym awaits) refl;
-        held = subst (λ (x : Stage). IsHeldAt settling new.core call.machine x) (sym awaits)
+        held = subst (λ (x : Stage). IsHeldAt settling new.core call.runner x) (sym awaits)
             (submitted_holds old.core new.core (Whole asked) ticket expected.Status s (sym status));
       };
     }

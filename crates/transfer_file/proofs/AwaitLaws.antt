@@ -57,7 +57,7 @@ use Rattle.call_state.specs.Calls.{
   polled_core,
 }
 use Rattle.call_state.specs.Keeping.{KeepsGrants}
-use Rattle.call_state.specs.Machines.{Meaning}
+use Rattle.call_state.specs.Runners.{Meaning}
 use Rattle.call_state.specs.Told.{reply_of}
 use Rattle.call_state.specs.declared.told.Told.TheVariants as told
 use Rattle.call_state.proofs.Keeping.{grant_at, grants_both, keeps_same, still_under_way}
@@ -135,25 +135,25 @@ pub stepped_open : {W M V : Type 0} (s : Meaning W M V) (plain : IsPlain s) (old
 stepped_open s plain old new p q result unfailed way stepped = by_stage p.stage refl
   where
     plan_ready : Plan
-    plan_ready later answers = s.first plain.world p.machine
+    plan_ready later answers = s.first plain.world p.runner
 
     plan_left : Plan
-    plan_left later answers = s.left plain.world p.machine later answers
+    plan_left later answers = s.left plain.world p.runner later answers
 
     by_stage : (stage : Stage) → p.stage ≡ stage → IsAsOpen old new
     by_stage Ended is = (let over = ap is_ended (sym is) ∙ way.over in absurd cc)
     by_stage Ready is =
         polled_as_open s plain.world plan_ready (λ place. None) old new p q result unfailed
         (stepped.polled plain.world plan_ready (λ place. None) (rw is refl) (rw is tt))
-    by_stage (Unsent asking) is = (let held = subst (λ x. IsHeldAt s old p.machine x) is way.held in let never = sym plain.once ∙ held.1 in absurd cc)
+    by_stage (Unsent asking) is = (let held = subst (λ x. IsHeldAt s old p.runner x) is way.held in let never = sym plain.once ∙ held.1 in absurd cc)
     by_stage (Asked t) is =
         let answers : Answers = λ place. reply_in (at old t) in
         polled_as_open s plain.world plan_left answers old new p q result unfailed
-        (stepped.polled plain.world plan_left answers (rw is (plain.known p.machine answers, λ later. refl)) (rw is refl))
+        (stepped.polled plain.world plan_left answers (rw is (plain.known p.runner answers, λ later. refl)) (rw is refl))
     by_stage (Came told) is =
         let answers : Answers = λ place. Some (reply_of told) in
         polled_as_open s plain.world plan_left answers old new p q result unfailed
-        (stepped.polled plain.world plan_left answers (rw is (plain.known p.machine answers, λ later. refl)) (rw is refl))
+        (stepped.polled plain.world plan_left answers (rw is (plain.known p.runner answers, λ later. refl)) (rw is refl))
 
 -- ---- a session of which the core is another that is as open
 

@@ -58,14 +58,14 @@ opened_at_start old new p q f stepped = by_stage p.stage refl
     ends plan answers (inr went) = went.0
 
     plan_left : Plan
-    plan_left later answers = open_left (0, one_lane) p.machine later answers
+    plan_left later answers = open_left (0, one_lane) p.runner later answers
 
     plan_waits : Plan
     plan_waits later answers = Wait 1
 
     plan_asks : Asking → Plan
     plan_asks asking [] answers = Ask (request_of asking)
-    plan_asks asking (asked ∷ later) answers = open_left (0, one_lane) p.machine later answers
+    plan_asks asking (asked ∷ later) answers = open_left (0, one_lane) p.runner later answers
 
     by_stage : (stage : Stage) → p.stage ≡ stage → f.offset ≡ 0
     by_stage Ended is =
@@ -80,9 +80,9 @@ opened_at_start old new p q f stepped = by_stage p.stage refl
         (rw is (record { asks = refl; rest = λ later. refl; knows = tt })) (rw is tt)) in absurd cc)
     by_stage (Asked t) is =
         let answers : Answers = λ place. reply_in (at old t) in
-        by_reply p.machine f (reply_in (at old t)) (ends plan_left answers
+        by_reply p.runner f (reply_in (at old t)) (ends plan_left answers
         (stepped.polled (0, one_lane) plan_left answers (rw is (tt, λ later. refl)) (rw is refl)))
     by_stage (Came told) is =
         let answers : Answers = λ place. Some (reply_of told) in
-        by_reply p.machine f (Some (reply_of told)) (ends plan_left answers
+        by_reply p.runner f (Some (reply_of told)) (ends plan_left answers
         (stepped.polled (0, one_lane) plan_left answers (rw is (tt, λ later. refl)) (rw is refl)))

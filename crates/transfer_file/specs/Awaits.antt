@@ -7,7 +7,7 @@ use Rattle.sftp_link.specs.Views.{LinkView}
 use Rattle.plan_model.specs.Moves.{Answers}
 use Rattle.call_state.specs.Calls.{CallValue, IsHeld, IsUnderWay, Stepped, is_ended}
 use Rattle.call_state.specs.Keeping.{KeepsGrants}
-use Rattle.call_state.specs.Machines.{Meaning}
+use Rattle.call_state.specs.Runners.{Meaning}
 use Rattle.call_state.specs.declared.poll.Poll.{Poll}
 use Rattle.call_state.specs.declared.poll.Poll.TheVariants as poll
 use Rattle.sftp_client.specs.Sessions.{SftpValue, with_core}

@@ -43,9 +43,9 @@ fn settled<V>(answer: Result<V, Error>) -> Result<V, Failure>
 
 /// Turns until a call has answered, or a turn failed.
 fn answer_of<L: Link, M: Alone>(sftp: &mut Sftp<L>, call: &mut Call<M>) -> Result<M::Value, Failure>
-    requires plain { IsPlain M.PlanMachine.meaning }
-    requires may { MayAwait L.LinkState.state M.PlanMachine.meaning (record { session = sftp.old; call = call.old }) }
-    ensures { AnsweredCall L.LinkState.state M.PlanMachine.meaning (record { session = sftp.old; call = call.old })
+    requires plain { IsPlain M.PlanRunner.meaning }
+    requires may { MayAwait L.LinkState.state M.PlanRunner.meaning (record { session = sftp.old; call = call.old }) }
+    ensures { AnsweredCall L.LinkState.state M.PlanRunner.meaning (record { session = sftp.old; call = call.old })
         (record { session = sftp.new; call = call.new }) result }
 {
     for _ in 0..u64::MAX {
@@ -66,9 +66,9 @@ fn answer_of<L: Link, M: Alone>(sftp: &mut Sftp<L>, call: &mut Call<M>) -> Resul
 
 /// What a call answers. A call that has not answered is given up.
 pub fn await_call<L: Link, M: Alone>(sftp: &mut Sftp<L>, call: Call<M>) -> Result<M::Value, Failure>
-    requires plain { IsPlain M.PlanMachine.meaning }
-    requires may { MayAwait L.LinkState.state M.PlanMachine.meaning (record { session = sftp.old; call = call }) }
-    ensures { Awaited L.LinkState.state M.PlanMachine.meaning (record { session = sftp.old; call = call }) sftp.new result }
+    requires plain { IsPlain M.PlanRunner.meaning }
+    requires may { MayAwait L.LinkState.state M.PlanRunner.meaning (record { session = sftp.old; call = call }) }
+    ensures { Awaited L.LinkState.state M.PlanRunner.meaning (record { session = sftp.old; call = call }) sftp.new result }
 {
     let mut call = call;
     let answer = answer_of(sftp, &mut call);

@@ -6,7 +6,7 @@ use Rattle.sftp_core.specs.Core.{Core}
 use Rattle.sftp_link.specs.Views.{LinkView}
 use Rattle.call_state.specs.Calls.{CallValue}
 use Rattle.call_state.specs.Keeping.{KeepsHeld}
-use Rattle.call_state.specs.Machines.{Meaning}
+use Rattle.call_state.specs.Runners.{Meaning}
 use Rattle.sftp_client.specs.Sessions.{SftpValue, with_core}
 use Rattle.sftp_model.specs.declared.slot.Move.TheVariants.{Wait}
 use Rattle.sftp_fs.specs.Directories.{opening_dir}

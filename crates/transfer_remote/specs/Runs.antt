@@ -6,7 +6,7 @@ use Rattle.sftp_core.specs.Info.{info_of}
 use Rattle.sftp_link.specs.Views.{LinkView}
 use Rattle.call_state.specs.Asked.{IsReady}
 use Rattle.call_state.specs.Calls.{CallValue}
-use Rattle.call_state.specs.Machines.{Meaning}
+use Rattle.call_state.specs.Runners.{Meaning}
 use Rattle.sftp_client.specs.Sessions.{SftpValue, with_core}
 use Rattle.transfer_file.specs.Awaits.{AnswersCall, Calling}
 use Rattle.transfer_file.specs.Sessions.{IsGoing}

@@ -42,10 +42,10 @@ pub(crate) fn finish<L: Link, M: Alone>(
     sftp: &mut Sftp<L>,
     started: Result<Call<M>, Error>,
 ) -> Result<M::Value, Failure>
-    requires plain { IsPlain M.PlanMachine.meaning }
+    requires plain { IsPlain M.PlanRunner.meaning }
     requires live { IsLive L.LinkState.state sftp.old }
-    requires under_way { IfOk started (IsUnderWay M.PlanMachine.meaning sftp.old.core) }
-    ensures { Finishes L.LinkState.state M.PlanMachine.meaning started sftp.old sftp.new result }
+    requires under_way { IfOk started (IsUnderWay M.PlanRunner.meaning sftp.old.core) }
+    ensures { Finishes L.LinkState.state M.PlanRunner.meaning started sftp.old sftp.new result }
 {
     match started {
         Ok(call) => await_call(sftp, call),

@@ -220,7 +220,7 @@ module _ (s : Setting) (config : ServerConfig) (first : FileTree) (steps : List 
       dues : Dues s (entry.Event (End 0 (ended q 0) o) ∷ q) []
       dues = record {
         each = λ g granted unclosed out. still_held g granted (r.dues.each g granted unclosed out);
-        loose = tt;
+        unheld = tt;
         rising = tt;
       }
 

@@ -45,7 +45,7 @@ use Rattle.plan_model.specs.OwnRequests.{Extends}
 use Rattle.plan_model.specs.declared.call.Call.{Call}
 use Rattle.plan_model.specs.declared.call.Lane.{Lane}
 use Rattle.session_model.specs.Calls.{Setting, current, held_by, held_site, move_at, move_of, site_of}
-use Rattle.session_model.specs.Grants.{closed, first_let_go, holds, is_asked_by, is_held, is_unended_asker, orphan}
+use Rattle.session_model.specs.Grants.{closed, first_let_go, holds, is_asked_by, is_held, is_unended_asker, next_due}
 use Rattle.session_model.specs.Journals.{IsJournal, MayReply, MayTake}
 use Rattle.session_model.specs.Readings.{AskedRequest, answer, asked, asked_at, bearer, ended, is_at, is_by, own, was_let_go}
 use Rattle.session_model.specs.Served.{requests_of}
@@ -94,7 +94,7 @@ pub record Reached (s : Setting) (config : ServerConfig) (first : FileTree) (ste
   pub is : IsAt (answer q) (after config first xs) (site_of s q 0) handle at
   pub asks : AsksNow s q handle (offset_in at.slot) c (own q 0 (ended q 0))
   pub dues : Dues s q []
-  pub idle : orphan s q ≡ None
+  pub idle : next_due s q ≡ None
   pub expected : (p : ℕ) (a : AskedRequest) → asked_at q p ≡ Some a → answer q p ≡ None → IsExpected q a
 
 -- the call may be made; or, once the lane was let go, nothing is open
@@ -229,7 +229,7 @@ module _ (s : Setting) (one : s.lanes ≡ only_lane) (config : ServerConfig) (fi
 
   -- what is due stays so where no reading of it changes
   kept_dues : (q : List Entry) (fault : Fault) → Dues s q [] → Dues s (entry.Kept fault ∷ q) []
-  kept_dues q fault d = record { each = λ g granted unclosed out. d.each g granted unclosed out; loose = tt; rising = tt }
+  kept_dues q fault d = record { each = λ g granted unclosed out. d.each g granted unclosed out; unheld = tt; rising = tt }
 
   pub keeps_fault : (q : List Entry) (fault : Fault) (at : FilesAt) → Then q at → Then (entry.Kept fault ∷ q) at
   keeps_fault q fault at h guard =
@@ -255,7 +255,7 @@ module _ (s : Setting) (one : s.lanes ≡ only_lane) (config : ServerConfig) (fi
       let now : List Entry = entry.Event (Submit owner.Setup id r) ∷ q in
       let dues : Dues s now [] = record {
         each = λ g granted unclosed out. absurd (let lt = granted_below q g granted in omega (arith, lt, none));
-        loose = tt;
+        unheld = tt;
         rising = tt;
       } in
       record {
@@ -406,7 +406,7 @@ module _ (s : Setting) (one : s.lanes ≡ only_lane) (config : ServerConfig) (fi
             asks = subst (λ (x : Option Call). AsksNow s (entry.LetGo 0 ∷ q) r.handle (offset_in at.slot) x (own q 0 (ended q 0))) (sym idle) nothing;
             dues = record {
               each = λ g granted unclosed out. absurd (unheld r fresh nothing g (r.dues.each g granted unclosed out));
-              loose = tt;
+              unheld = tt;
               rising = tt;
             };
             idle = (λ i. first_let_go (closed s q) (fresh i).slots);

@@ -31,11 +31,11 @@ type Case = (&'static str, u64, &'static [Step]);
 /// Polls a copy, where it may be polled.
 fn polled(core: &mut Core, call: &mut CopyCall, from: &mut File, to: &mut File) -> Seen
     requires held { IsHeld copying core.old call.old }
-    requires source { call.old.machine.source ≡ file_in 0 from.old }
-    requires target { call.old.machine.target ≡ file_in 1 to.old }
+    requires source { call.old.runner.source ≡ file_in 0 from.old }
+    requires target { call.old.runner.target ≡ file_in 1 to.old }
     ensures held { IsHeld copying core.new call.new }
-    ensures source { call.new.machine.source ≡ file_in 0 from.new }
-    ensures target { call.new.machine.target ≡ file_in 1 to.new }
+    ensures source { call.new.runner.source ≡ file_in 0 from.new }
+    ensures target { call.new.runner.target ≡ file_in 1 to.new }
 {
     if !may_ask(core) || call.is_ended() {
         return Seen::Other;
@@ -63,11 +63,11 @@ fn exchanged(core: &mut Core, call: &CopyCall, step: Step) -> bool
 /// Whether a step went as it says.
 fn went(core: &mut Core, call: &mut CopyCall, from: &mut File, to: &mut File, step: Step) -> bool
     requires held { IsHeld copying core.old call.old }
-    requires source { call.old.machine.source ≡ file_in 0 from.old }
-    requires target { call.old.machine.target ≡ file_in 1 to.old }
+    requires source { call.old.runner.source ≡ file_in 0 from.old }
+    requires target { call.old.runner.target ≡ file_in 1 to.old }
     ensures held { IsHeld copying core.new call.new }
-    ensures source { call.new.machine.source ≡ file_in 0 from.new }
-    ensures target { call.new.machine.target ≡ file_in 1 to.new }
+    ensures source { call.new.runner.source ≡ file_in 0 from.new }
+    ensures target { call.new.runner.target ≡ file_in 1 to.new }
 {
     match step {
         Step::Polls(seen, source, target) => {
@@ -86,8 +86,8 @@ fn steps_met(
     steps: &[Step],
 ) -> usize
     requires held { IsHeld copying core.old call.old }
-    requires source { call.old.machine.source ≡ file_in 0 from.old }
-    requires target { call.old.machine.target ≡ file_in 1 to.old }
+    requires source { call.old.runner.source ≡ file_in 0 from.old }
+    requires target { call.old.runner.target ≡ file_in 1 to.old }
     ensures { IsHeld copying core.new call.new }
 {
     let mut met = 0;

@@ -43,9 +43,9 @@ fn bytes_seen(told: &Poll<Result<BytesMut, ReadAllError>>, bytes: &[u8]) -> Seen
 #[tactic(auto, using(crate::proofs::Kept::bytes_held))]
 fn polled(core: &mut Core, call: &mut ReadAllCall, file: &mut File, bytes: &[u8]) -> Seen
     requires held { IsHeld reading_all core.old call.old }
-    requires stands { call.old.machine.file ≡ file_at file.old }
+    requires stands { call.old.runner.file ≡ file_at file.old }
     ensures held { IsHeld reading_all core.new call.new }
-    ensures stands { call.new.machine.file ≡ file_at file.new }
+    ensures stands { call.new.runner.file ≡ file_at file.new }
 {
     if !may_ask(core) || call.is_ended() {
         return Seen::Other;
@@ -73,9 +73,9 @@ fn exchanged(core: &mut Core, call: &ReadAllCall, step: Step) -> bool
 /// Whether a step went as it says.
 fn went(core: &mut Core, call: &mut ReadAllCall, file: &mut File, step: Step) -> bool
     requires held { IsHeld reading_all core.old call.old }
-    requires stands { call.old.machine.file ≡ file_at file.old }
+    requires stands { call.old.runner.file ≡ file_at file.old }
     ensures held { IsHeld reading_all core.new call.new }
-    ensures stands { call.new.machine.file ≡ file_at file.new }
+    ensures stands { call.new.runner.file ≡ file_at file.new }
 {
     match step {
         Step::Polls(seen, bytes, at) => {
@@ -88,7 +88,7 @@ fn went(core: &mut Core, call: &mut ReadAllCall, file: &mut File, step: Step) ->
 /// How many steps went as they say, before one that did not.
 fn steps_met(core: &mut Core, call: &mut ReadAllCall, file: &mut File, steps: &[Step]) -> usize
     requires held { IsHeld reading_all core.old call.old }
-    requires stands { call.old.machine.file ≡ file_at file.old }
+    requires stands { call.old.runner.file ≡ file_at file.old }
     ensures { IsHeld reading_all core.new call.new }
 {
     let mut met = 0;

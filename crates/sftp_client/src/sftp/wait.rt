@@ -5,7 +5,7 @@ ghost use Rattle.call_state.specs.Calls.{IsUnderWay};
 ghost use Rattle.sftp_client.specs.Waits.{HasFinished, HasFinishedOn, HasWaited, HasWaitedOn, MayWait, MayWaitOn, PolledIn, RoundEnds};
 
 use super::Sftp;
-use call_state::{Alone, Call, PlanMachine, Poll};
+use call_state::{Alone, Call, PlanRunner, Poll};
 use sftp_core::MAX_IDS;
 use sftp_file::{File, OnFile};
 use sftp_link::Link;
@@ -19,9 +19,9 @@ impl<L: Link> Sftp<L> {
     /// call has not ended, and is to be given up. `OutOfMemory` comes also where 2147483648 ids are in use: the call
     /// may be run on then.
     pub fn wait<M: Alone>(&mut self, call: &mut Call<M>) -> Result<M::Value, Error>
-        requires may { MayWait M.PlanMachine.meaning self.old.core call.old }
+        requires may { MayWait M.PlanRunner.meaning self.old.core call.old }
         requires count { (L.LinkState.state self.old.link).faults < 2 ^ 64 - 1 }
-        ensures { HasWaited M.PlanMachine.meaning L.LinkState.state self.old self.new call.old call.new result }
+        ensures { HasWaited M.PlanRunner.meaning L.LinkState.state self.old self.new call.old call.new result }
     {
         self.run(call)
     }
@@ -33,21 +33,21 @@ impl<L: Link> Sftp<L> {
         call: &mut Call<M>,
         file: &mut File,
     ) -> Result<M::Value, Error>
-        requires may { MayWaitOn M.PlanMachine.meaning M.file self.old.core call.old file.old }
+        requires may { MayWaitOn M.PlanRunner.meaning M.file self.old.core call.old file.old }
         requires count { (L.LinkState.state self.old.link).faults < 2 ^ 64 - 1 }
-        ensures { HasWaitedOn M.PlanMachine.meaning M.file L.LinkState.state self.old self.new call.old call.new file.old file.new result }
+        ensures { HasWaitedOn M.PlanRunner.meaning M.file L.LinkState.state self.old self.new call.old call.new file.old file.new result }
     {
         let value = self.run(call);
-        file.stand(call.machine().offset());
+        file.stand(call.runner().offset());
         value
     }
 
     /// Runs a call to its end, and gives its answer. After an error nothing is left of the call: a reply that still
     /// comes is dropped, and a handle that comes is closed. To go on after `OutOfMemory`, use `wait`.
     pub fn finish<M: Alone>(&mut self, call: Call<M>) -> Result<M::Value, Error>
-        requires may { MayWait M.PlanMachine.meaning self.old.core call }
+        requires may { MayWait M.PlanRunner.meaning self.old.core call }
         requires count { (L.LinkState.state self.old.link).faults < 2 ^ 64 - 1 }
-        ensures { HasFinished M.PlanMachine.meaning L.LinkState.state self.old self.new call result }
+        ensures { HasFinished M.PlanRunner.meaning L.LinkState.state self.old self.new call result }
     {
         let mut call = call;
         let answer = self.run(&mut call);
@@ -62,9 +62,9 @@ impl<L: Link> Sftp<L> {
         call: Call<M>,
         file: &mut File,
     ) -> Result<M::Value, Error>
-        requires may { MayWaitOn M.PlanMachine.meaning M.file self.old.core call file.old }
+        requires may { MayWaitOn M.PlanRunner.meaning M.file self.old.core call file.old }
         requires count { (L.LinkState.state self.old.link).faults < 2 ^ 64 - 1 }
-        ensures { HasFinishedOn M.PlanMachine.meaning M.file L.LinkState.state self.old self.new call file.old file.new result }
+        ensures { HasFinishedOn M.PlanRunner.meaning M.file L.LinkState.state self.old self.new call file.old file.new result }
     {
         let mut call = call;
         let answer = self.wait_on(&mut call, file);
@@ -73,7 +73,7 @@ impl<L: Link> Sftp<L> {
     }
 
     /// Polls a call, and does a round where it has no answer, until it answers or a round goes wrong.
-    pub(super) fn run<M: PlanMachine>(&mut self, call: &mut Call<M>) -> Result<M::Value, Error>
+    pub(super) fn run<M: PlanRunner>(&mut self, call: &mut Call<M>) -> Result<M::Value, Error>
         requires may { MayWait M.meaning self.old.core call.old }
         requires count { (L.LinkState.state self.old.link).faults < 2 ^ 64 - 1 }
         ensures { HasWaited M.meaning L.LinkState.state self.old self.new call.old call.new result }
@@ -88,7 +88,7 @@ impl<L: Link> Sftp<L> {
     }
 
     /// Polls a call, where an id is left for a request of it.
-    fn poll_call<M: PlanMachine>(&mut self, call: &mut Call<M>) -> Poll<Result<M::Value, Error>>
+    fn poll_call<M: PlanRunner>(&mut self, call: &mut Call<M>) -> Poll<Result<M::Value, Error>>
         requires opened { IsSome (info_of self.old.core.phase) }
         requires under_way { IsUnderWay M.meaning self.old.core call.old }
         ensures { PolledIn M.meaning self.old self.new call.old call.new result }

@@ -26,7 +26,7 @@ impl<L: Link> Sftp<L> {
         ensures { HasWaitedCopy L.LinkState.state self.old self.new call.old call.new from.old from.new to.old to.new result }
     {
         let answer = self.run(call);
-        let (source, target) = call.machine().offsets();
+        let (source, target) = call.runner().offsets();
         from.stand(source);
         to.stand(target);
         answer
@@ -63,7 +63,7 @@ impl<L: Link> Sftp<L> {
         ensures { HasWaitedBytes L.LinkState.state self.old self.new call.old call.new file.old file.new result }
     {
         let answer = self.run(call);
-        file.stand(call.machine().offset());
+        file.stand(call.runner().offset());
         read_all_answer(call, answer)
     }
 
@@ -79,7 +79,7 @@ impl<L: Link> Sftp<L> {
     {
         let mut call = call;
         let answer = self.run(&mut call);
-        file.stand(call.machine().offset());
+        file.stand(call.runner().offset());
         let got = cancel_read_all(call, &mut self.core);
         with_bytes(answer, got)
     }

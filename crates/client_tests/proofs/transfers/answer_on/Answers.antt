@@ -6,7 +6,7 @@ pub poll-told-requires : goal.poll-told-requires
 poll-told-requires g c =
     record {
       poll = record {
-        under_way = still_under_way g.M.PlanMachine.meaning c.args.core.now c.exchanged-sent.new.core c.args.call c.exchanged-sent.ensures c.requires.call;
+        under_way = still_under_way g.M.PlanRunner.meaning c.args.core.now c.exchanged-sent.new.core c.args.call c.exchanged-sent.ensures c.requires.call;
         ready = λ again. absurd (let both = sym again ∙ c.requires.once in cc);
       };
       stands = c.requires.stands;

@@ -7,7 +7,7 @@ use Rattle.transfer_remote.proofs.RunLaws.{finished}
 use Rattle.transfer_remote.proofs.asks.finish.Goals as goal
 
 pub returns-in-Ok : goal.returns-in-Ok
-returns-in-Ok g c = subst (λ (x : Result (CallValue _) Error). Finishes g.L.LinkState.state g.M.PlanMachine.meaning x
+returns-in-Ok g c = subst (λ (x : Result (CallValue _) Error). Finishes g.L.LinkState.state g.M.PlanRunner.meaning x
     c.args.sftp.now c.await_call.new.sftp c.await_call.result) (sym c.in-Ok.is)
-    (finished g.L.LinkState.state g.M.PlanMachine.meaning c.in-Ok.call c.args.sftp.now c.await_call.new.sftp
+    (finished g.L.LinkState.state g.M.PlanRunner.meaning c.in-Ok.call c.args.sftp.now c.await_call.new.sftp
     c.await_call.result c.await_call.ensures)

@@ -7,10 +7,10 @@ returns-in-Ok-clause-begins g c =
     record {
       under_way = record {
         over = refl;
-        held = submitted_holds c.args.core.now c.submit.new.core c.args.asking c.in-Ok.ticket (g.M.PlanMachine.meaning.expected c.args.machine)
+        held = submitted_holds c.args.core.now c.submit.new.core c.args.asking c.in-Ok.ticket (g.M.PlanRunner.meaning.expected c.args.runner)
             c.in-Ok.ensures.ok c.requires.asks.expects;
       };
-      machine = refl;
+      runner = refl;
       ticket = c.in-Ok.ticket;
       awaits = refl;
       submitted = c.in-Ok.ensures.ok;

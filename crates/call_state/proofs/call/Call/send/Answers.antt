@@ -7,15 +7,15 @@ use Rattle.call_state.proofs.call.Call.send.Goals as goal
 
 pub returns-in-Ok-clause-went : goal.returns-in-Ok-clause-went
 returns-in-Ok-clause-went g c = λ w plan answers b.
-    sent_by g.M.PlanMachine.meaning w plan answers c.args.core.now c.submit.new.core c.args.self.now.machine c.args.asking c.in-Ok.ticket _ c.put.ensures
-    (ap (λ (x : CallValue g.row.M.Denot). x.machine) c.self.view_is) b c.requires.asks.cut c.in-Ok.ensures.ok
+    sent_by g.M.PlanRunner.meaning w plan answers c.args.core.now c.submit.new.core c.args.self.now.runner c.args.asking c.in-Ok.ticket _ c.put.ensures
+    (ap (λ (x : CallValue g.row.M.Denot). x.runner) c.self.view_is) b c.requires.asks.cut c.in-Ok.ensures.ok
 
 pub returns-in-Ok-clause-leaves : goal.returns-in-Ok-clause-leaves
 returns-in-Ok-clause-leaves g c =
     let stands : c.put.new.self ≡ Asked c.in-Ok.ticket = c.put.ensures in
     record {
       held = rw stands (submitted_holds c.args.core.now c.submit.new.core c.args.asking c.in-Ok.ticket _ c.in-Ok.ensures.ok
-          (ap (λ (x : CallValue g.row.M.Denot). g.M.PlanMachine.meaning.expected x.machine) c.self.view_is ∙ c.requires.asks.expects));
+          (ap (λ (x : CallValue g.row.M.Denot). g.M.PlanRunner.meaning.expected x.runner) c.self.view_is ∙ c.requires.asks.expects));
       over = rw stands refl;
       awaits = (c.in-Ok.ticket, (stands, submitted_missing c.args.core.now c.submit.new.core c.args.asking c.in-Ok.ticket c.in-Ok.ensures.ok));
       holds = tt;

@@ -1,7 +1,7 @@
 use Rattle.std.proofs.Common.{rules, ◌≡◌, ap, sym, ◌∙◌, subst, IsTrue}
 use Rattle.sftp_core.specs.Core.{at, is_ticket}
 use Rattle.call_state.specs.declared.stage.Stage.TheVariants.{Asked, Came, Ended, Unsent}
-use Rattle.call_state.specs.Machines.{GoesBehind}
+use Rattle.call_state.specs.Runners.{GoesBehind}
 use Rattle.call_state.specs.Calls.{CallValue, Went}
 use Rattle.call_state.specs.Told.{reply_of}
 use Rattle.call_state.proofs.Going.{GoesOn, asked_polled, came_polled, unsent_polled}
@@ -10,15 +10,15 @@ use Rattle.call_state.proofs.call.Call.step.Goals as goal
 
 pub returns-in-Unsent : goal.returns-in-Unsent
 returns-in-Unsent g c =
-    let m : c.self.inside.machine ≡ c.args.self.now.machine = ap (λ (x : CallValue g.row.M.Denot). x.machine) c.self.view_is in
+    let m : c.self.inside.runner ≡ c.args.self.now.runner = ap (λ (x : CallValue g.row.M.Denot). x.runner) c.self.view_is in
     let is : c.args.self.now.stage ≡ Unsent c.in-Unsent.asking =
     ap (λ (x : CallValue g.row.M.Denot). x.stage) (sym c.self.view_is) ∙ (sym c.take.ensures.was ∙ c.in-Unsent.is)
     in
     record {
       polled = λ w plan answers left tells.
-          unsent_polled g.M.PlanMachine.meaning w plan answers c.args.core.now c.send.new.core c.args.self.now
+          unsent_polled g.M.PlanRunner.meaning w plan answers c.args.core.now c.send.new.core c.args.self.now
           c.send.new.self c.send.result c.in-Unsent.asking is left
-          (λ b. c.send.ensures.went w plan answers (subst (λ x. GoesBehind g.M.PlanMachine.meaning w plan answers c.in-Unsent.asking x) (sym m) b));
+          (λ b. c.send.ensures.went w plan answers (subst (λ x. GoesBehind g.M.PlanRunner.meaning w plan answers c.in-Unsent.asking x) (sym m) b));
       held = c.send.ensures.leaves.held;
       over = c.send.ensures.leaves.over;
       awaits = c.send.ensures.leaves.awaits;
@@ -30,15 +30,15 @@ returns-in-Unsent g c =
 
 pub returns-in-Came : goal.returns-in-Came
 returns-in-Came g c =
-    let m : c.self.inside.machine ≡ c.args.self.now.machine = ap (λ (x : CallValue g.row.M.Denot). x.machine) c.self.view_is in
+    let m : c.self.inside.runner ≡ c.args.self.now.runner = ap (λ (x : CallValue g.row.M.Denot). x.runner) c.self.view_is in
     let is : c.args.self.now.stage ≡ Came c.in-Came.told = ap (λ (x : CallValue g.row.M.Denot). x.stage)
     (sym c.self.view_is) ∙ (sym c.take.ensures.was ∙ c.in-Came.is) in
     record {
       polled = λ w plan answers left tells.
-          came_polled g.M.PlanMachine.meaning w plan answers c.args.core.now c.go_on.new.core c.args.self.now
+          came_polled g.M.PlanRunner.meaning w plan answers c.args.core.now c.go_on.new.core c.args.self.now
           c.go_on.new.self c.go_on.result c.in-Came.told is left tells
-          (subst (λ x. GoesOn g.M.PlanMachine.meaning w plan answers x (reply_of c.in-Came.told)
-          (Went g.M.PlanMachine.meaning w plan answers c.args.core.now c.go_on.new.core c.go_on.new.self
+          (subst (λ x. GoesOn g.M.PlanRunner.meaning w plan answers x (reply_of c.in-Came.told)
+          (Went g.M.PlanRunner.meaning w plan answers c.args.core.now c.go_on.new.core c.go_on.new.self
           c.go_on.result)) m
           (c.go_on.ensures.went w plan answers));
       held = c.go_on.ensures.leaves.held;
@@ -52,18 +52,18 @@ returns-in-Came g c =
 
 pub returns-in-Ok : goal.returns-in-Ok
 returns-in-Ok g c =
-    let m : c.self.inside.machine ≡ c.args.self.now.machine = ap (λ (x : CallValue g.row.M.Denot). x.machine) c.self.view_is in
+    let m : c.self.inside.runner ≡ c.args.self.now.runner = ap (λ (x : CallValue g.row.M.Denot). x.runner) c.self.view_is in
     let is : c.args.self.now.stage ≡ Asked c.in-Asked.ticket =
     ap (λ (x : CallValue g.row.M.Denot). x.stage) (sym c.self.view_is) ∙ (sym c.take.ensures.was ∙ c.in-Asked.is) in
     let counted : IsTrue (is_ticket (at c.args.core.now c.in-Asked.ticket)) = search rules in
     record {
       polled = λ w plan answers left tells.
-          asked_polled g.M.PlanMachine.meaning w plan answers c.args.core.now c.take_told.new.core
+          asked_polled g.M.PlanRunner.meaning w plan answers c.args.core.now c.take_told.new.core
           c.go_on-in-Ok.new.core c.args.self.now c.go_on-in-Ok.new.self c.go_on-in-Ok.result c.in-Asked.ticket
           (reply_of c.in-Ok.told) is
           c.take_told.ensures.core c.in-Ok.ensures.came.taken left tells
-          (subst (λ x. GoesOn g.M.PlanMachine.meaning w plan answers x (reply_of c.in-Ok.told)
-          (Went g.M.PlanMachine.meaning w plan answers c.take_told.new.core c.go_on-in-Ok.new.core
+          (subst (λ x. GoesOn g.M.PlanRunner.meaning w plan answers x (reply_of c.in-Ok.told)
+          (Went g.M.PlanRunner.meaning w plan answers c.take_told.new.core c.go_on-in-Ok.new.core
           c.go_on-in-Ok.new.self c.go_on-in-Ok.result)) m
           (c.go_on-in-Ok.ensures.went w plan answers));
       held = c.go_on-in-Ok.ensures.leaves.held;

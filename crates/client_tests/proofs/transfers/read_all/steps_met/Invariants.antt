@@ -5,4 +5,4 @@ use Rattle.sftp_file.specs.Gathers.{reading_all}
 use Rattle.client_tests.proofs.transfers.read_all.steps_met.Given as goal
 
 abbrev pub invariant-loop-step : goal.invariant-loop-step
-invariant-loop-step l = IsHeld reading_all l.core l.call × (l.call.machine.file ≡ file_at l.file)
+invariant-loop-step l = IsHeld reading_all l.core l.call × (l.call.runner.file ≡ file_at l.file)

@@ -3,7 +3,7 @@ use Rattle.std.specs.Prelude.{slice_get}
 use Rattle.std.specs.List.{list_any}
 use Rattle.sftp_model.specs.Slots.{grant_of, slot_has}
 use Rattle.session_laws.specs.Lanes.{Held, LaneValue}
-use Rattle.session_lane.proofs.Loose.{held_no_more, later_has, some_at}
+use Rattle.session_lane.proofs.Unheld.{held_no_more, later_has, some_at}
 use Rattle.session_lane.proofs.lane.LaneState.closing.Goals as goal
 
 pub returns-then-some_has-clause-none : goal.returns-then-some_has-clause-none

@@ -67,8 +67,8 @@ give_up-requires-clause-may c =
       few = m.few;
     }
 
-pub close_loose-requires-clause-closing : goal.close_loose-requires-clause-closing
-close_loose-requires-clause-closing c =
+pub close_unheld-requires-clause-closing : goal.close_unheld-requires-clause-closing
+close_unheld-requires-clause-closing c =
     let there : c.args.lane < length c.args.self.now.states.items = search rules in
     let runs : is_some c.index.result.now.running ≡ true = search rules in
     let begun : begun_of (lane_in c.args.self.now.states.items) c.args.lane ≡ true =
@@ -170,9 +170,9 @@ returns-clause-cancels c =
       states = slice_set old.states c.args.lane c.give_up.new.self;
       begun = left i;
     } in
-    cancels_call s c.args.lane old (contents_of c.close_loose.new.self) c.give_up.new.core c.give_up.new.self begun x
-    (subst (λ (y : LanesValue). IsClosed s (cancelled_past old.past c.args.lane) y (contents_of c.close_loose.new.self)) (sym same)
-    (c.close_loose.ensures.closed s (cancelled_past old.past c.args.lane)
+    cancels_call s c.args.lane old (contents_of c.close_unheld.new.self) c.give_up.new.core c.give_up.new.self begun x
+    (subst (λ (y : LanesValue). IsClosed s (cancelled_past old.past c.args.lane) y (contents_of c.close_unheld.new.self)) (sym same)
+    (c.close_unheld.ensures.closed s (cancelled_past old.past c.args.lane)
     (subst (λ (y : LanesValue). Closing s (cancelled_past old.past c.args.lane) c.args.lane y) same x.closing)))
 
 pub keep_outcome-requires : goal.keep_outcome-requires
@@ -222,5 +222,5 @@ returns-clause-intact c =
     ∙ ap (λ (es : List Entry). started ∷ reverse es) kept) in
     let told : c.keep_outcome.new.lists ≡ with_outcome c.args.self.now.outcomes c.args.lane outcome.Cancelled = search rules in
     cancelled_intact (length c.args.self.now.calls) c.args.lane c.ended-call.result c.args.self.now _
-    c.close_loose.new.self c.requires.intact lt told refl past c.close_loose.ensures.reports
-    (λ none. c.close_loose.ensures.room)
+    c.close_unheld.new.self c.requires.intact lt told refl past c.close_unheld.ensures.reports
+    (λ none. c.close_unheld.ensures.room)

@@ -42,8 +42,8 @@ note_ended-requires-clause-few c =
     let old : LanesValue = o.1.0 in
     turning_few o.0 c.args.lane old (with_begun old.begun (contents_of c.args.self.now)) c.args.moved o.1.1.0
 
-pub close_loose-requires-clause-closing : goal.close_loose-requires-clause-closing
-close_loose-requires-clause-closing c =
+pub close_unheld-requires-clause-closing : goal.close_unheld-requires-clause-closing
+close_unheld-requires-clause-closing c =
     let o = c.requires.turning in
     let old : LanesValue = o.1.0 in
     let mid : LanesValue = with_begun old.begun (contents_of c.args.self.now) in
@@ -91,8 +91,8 @@ returns-in-Ended-clause-noted c = λ s old t others.
     others (turned_there s c.args.lane old mid c.args.moved t) c.note_ended.ensures.noted in
     let closing : Closing s now c.args.lane (contents_of c.note_ended.new.self) =
     subst (λ (x : LanesValue). Closing s now c.args.lane x) noted (ended_closing s c.args.lane o old mid ends) in
-    ended_step s c.args.lane o old mid (contents_of c.close_loose.new.self) ends
-    (subst (λ (x : LanesValue). IsClosed s now x (contents_of c.close_loose.new.self)) (sym noted) (c.close_loose.ensures.closed s now closing))
+    ended_step s c.args.lane o old mid (contents_of c.close_unheld.new.self) ends
+    (subst (λ (x : LanesValue). IsClosed s now x (contents_of c.close_unheld.new.self)) (sym noted) (c.close_unheld.ensures.closed s now closing))
 
 pub returns-in-Asked-clause-reports : goal.returns-in-Asked-clause-reports
 returns-in-Asked-clause-reports c =
@@ -103,6 +103,6 @@ returns-in-Asked-clause-reports c =
 pub returns-in-Ended-clause-reports : goal.returns-in-Ended-clause-reports
 returns-in-Ended-clause-reports c =
     let p : List Entry = past_of c.args.self.now in
-    subst (λ (m : Moved). HasReports (ended_past c.args.lane c.args.call m p) c.args.self.now c.close_loose.new.self) (sym c.in-Ended.is)
+    subst (λ (m : Moved). HasReports (ended_past c.args.lane c.args.call m p) c.args.self.now c.close_unheld.new.self) (sym c.in-Ended.is)
     (leaves_on (entry.Event (End c.args.lane c.args.call c.in-Ended.outcome) ∷ p) c.args.self.now c.note_ended.new.self
-    c.close_loose.new.self c.note_ended.ensures.reports c.close_loose.ensures.reports)
+    c.close_unheld.new.self c.note_ended.ensures.reports c.close_unheld.ensures.reports)

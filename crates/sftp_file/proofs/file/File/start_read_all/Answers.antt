@@ -13,8 +13,8 @@ returns-in-Err-clause-starts c =
     record {
       starts = record {
         starts = λ answers brought. (
-          first_read_refused c.args.self.now (facts_of c.args.core.now) c.args.n c.gathering-machine.result c.in-Err.why answers
-              c.gathering-machine.ensures (c.in-Err.ensures.goes answers) brought,
+          first_read_refused c.args.self.now (facts_of c.args.core.now) c.args.n c.gathering-runner.result c.in-Err.why answers
+              c.gathering-runner.ensures (c.in-Err.ensures.goes answers) brought,
           refl,
         );
         under_way = tt;
@@ -29,10 +29,10 @@ returns-in-Err-ask-clause-starts c =
     record {
       starts = starts_asking reading_all tt (read_all_next 0 c.args.n) c.args.self.now c.in-Ok-Some.asking _ c.args.core.now
           c.ask.new.core _
-          (λ answers brought. first_read_behind c.args.self.now (facts_of c.args.core.now) c.args.n c.gathering-machine.result
-          c.next.new.self c.in-Ok-Some.asking answers c.gathering-machine.ensures
-          (subst (λ (o : Option Asking). IsNextRead c.gathering-machine.result c.next.new.self (Ok o)) given c.in-Ok-Some.ensures.is)
-          (subst (λ (o : Option Asking). MovesAs c.gathering-machine.result answers (next_read c.gathering-machine.result (Ok o))) given
+          (λ answers brought. first_read_behind c.args.self.now (facts_of c.args.core.now) c.args.n c.gathering-runner.result
+          c.next.new.self c.in-Ok-Some.asking answers c.gathering-runner.ensures
+          (subst (λ (o : Option Asking). IsNextRead c.gathering-runner.result c.next.new.self (Ok o)) given c.in-Ok-Some.ensures.is)
+          (subst (λ (o : Option Asking). MovesAs c.gathering-runner.result answers (next_read c.gathering-runner.result (Ok o))) given
           (c.in-Ok-Some.ensures.goes answers)) brought)
           c.in-Err-ask.ensures.started c.in-Err-ask.ensures.begins c.in-Err-ask.ensures.keeps;
       bytes = refl;

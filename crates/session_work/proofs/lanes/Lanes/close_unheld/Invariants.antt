@@ -6,7 +6,7 @@ use Rattle.session_work.specs.Closing.{Closing}
 use Rattle.session_work.specs.Reports.{LeavesReports}
 use Rattle.session_work.specs.Working.{contents_of, lane_in}
 use Rattle.session_work.proofs.ClosingLaws.{Goes}
-use Rattle.session_work.proofs.lanes.Lanes.close_loose.Given as goal
+use Rattle.session_work.proofs.lanes.Lanes.close_unheld.Given as goal
 
 abbrev pub invariant-loop-k : goal.invariant-loop-k
 invariant-loop-k l =

@@ -4,33 +4,33 @@ ghost use Rattle.sftp_model.specs.Answers.{allows};
 ghost use Rattle.sftp_model.specs.declared.slot.Move.TheVariants.{Wait};
 ghost use Rattle.plan_model.specs.Moves.{Answers, Own};
 ghost use Rattle.sftp_core.specs.Core.{Core as CoreValue};
-ghost use Rattle.call_state.specs.Machines.{Follows, HoldsValue, IsStep, Meaning};
+ghost use Rattle.call_state.specs.Runners.{Follows, HoldsValue, IsStep, Meaning};
 ghost use Rattle.call_state.specs.Told.{IsBack, IsCounted, IsFormed, reply_of};
 
 use crate::asking::Asking;
 use crate::told::Told;
 use sftp_model::Error;
 
-/// What a machine does behind the reply that it awaited.
+/// What a runner does behind the reply that it awaited.
 pub enum Then<V> {
     /// The call gives this.
     Done(Result<V, Error>),
     /// This request is asked.
     Ask(Asking),
-    /// There was no memory: the reply is given back, and the machine is as before.
+    /// There was no memory: the reply is given back, and the runner is as before.
     Short(Told),
 }
 
-/// A plan machine: what is left of a call's plan behind the request whose reply is awaited, as a value. It owes nothing
+/// A runner: what is left of a call's plan behind the request whose reply is awaited, as a value. It owes nothing
 /// about tickets, faults, the memory of a submission, or the core.
-pub trait PlanMachine: Sized + Drop {
+pub trait PlanRunner: Sized + Drop {
     /// What the call gives.
     type Value;
 
     // What they mean is said in such a world.
     ghost World: { Type 0 };
 
-    // What the machines of this kind mean.
+    // What the runners of this kind mean.
     ghost meaning: { Meaning World Self Self.Value };
 
     /// What the call gives without a reply: Some where it needs none.
@@ -56,6 +56,6 @@ pub trait PlanMachine: Sized + Drop {
     ghost waits: { (w : World) (m : Self) (later : Own) (answers : Answers)
         → answers (meaning.place m) ≡ None → meaning.left w m later answers ≡ Wait (meaning.place m) };
 
-    /// A machine that goes nowhere stays.
+    /// A runner that goes nowhere stays.
     ghost stays: { (m : Self) → meaning.stays m m };
 }

@@ -1,7 +1,7 @@
 use Rattle.std.proofs.Common.{◌≡◌, ◌<◌, ◌+◌, ◌∷◌, [], ℕ, List, Some, length, ap, sym, subst, ◌∙◌, arith, refl}
 use Rattle.std.specs.Prelude.{slice_get, vec_capacity, vec_len}
 use Rattle.std.proofs.lemmas.Option.{slice_get_within}
-use Rattle.session_laws.specs.Dues.{loose_of}
+use Rattle.session_laws.specs.Dues.{unheld_of}
 use Rattle.session_laws.specs.Lanes.{LaneValue, grant_places}
 use Rattle.session_laws.specs.Places.{without}
 use Rattle.session_work.specs.Closing.{HasClosed, IsClosed, closed_in}
@@ -10,7 +10,7 @@ use Rattle.session_work.proofs.ClosingLaws.{Goes, closed_all, counted_in, goes_n
 use Rattle.session_work.proofs.Contents.{state_at}
 use Rattle.session_work.proofs.ReportLaws.{leaves_on}
 use Rattle.session_work.proofs.UnnotedLaws.{closed_on}
-use Rattle.session_work.proofs.lanes.Lanes.close_loose.Goals as goal
+use Rattle.session_work.proofs.lanes.Lanes.close_unheld.Goals as goal
 
 pub index-requires : goal.index-requires
 index-requires c =
@@ -27,7 +27,7 @@ close-requires c =
     let going = (c.loop-k.invariant.1 o.0 o.1.0 o.1.1).closing in
     let there = there_in o.0 o.1.0 c.args.lane (contents_of c.loop-k.self) going in
     let is : v ≡ lane_in states c.args.lane = state_at states c.args.lane v there c.index.ensures in
-    let f = c.loose.ensures.first c.in-Some.k c.in-Some.is in
+    let f = c.unheld.ensures.first c.in-Some.k c.in-Some.is in
     let few = counted_in o.0 (contents_of c.loop-k.self) c.loop-k.self.journal.items going.stands refl in
     let len = c.loop-k.self.journal.ok.0 in
     let room = c.loop-k.invariant.0 in
@@ -46,7 +46,7 @@ loop-k-smaller c =
     let v : LaneValue = c.index.result.now in
     let lt = there_in o.0 o.1.0 c.args.lane (contents_of c.loop-k.self) (c.loop-k.invariant.1 o.0 o.1.0 o.1.1).closing in
     let is : v ≡ lane_in states c.args.lane = state_at states c.args.lane v lt c.index.ensures in
-    let f = c.loose.ensures.first c.in-Some.k c.in-Some.is in
+    let f = c.unheld.ensures.first c.in-Some.k c.in-Some.is in
     let here : slice_get (lane_in states c.args.lane).grants c.in-Some.k ≡ Some f.0 = ap (λ (y : LaneValue). slice_get y.grants c.in-Some.k) (sym is) ∙ f.1.0 in
     let closed : HasClosed (contents_of c.loop-k.self) (contents_of c.close.new.self) c.args.lane c.in-Some.k f.0 = c.close.ensures.closed f.0 here in
     let less = grants_left (contents_of c.loop-k.self) c.args.lane c.in-Some.k f.0 lt
@@ -63,13 +63,13 @@ loop-k-preserved c =
     let v : LaneValue = c.index.result.now in
     let lt = there_in o.0 o.1.0 c.args.lane (contents_of c.loop-k.self) (c.loop-k.invariant.1 o.0 o.1.0 o.1.1).closing in
     let is : v ≡ lane_in states c.args.lane = state_at states c.args.lane v lt c.index.ensures in
-    let f = c.loose.ensures.first c.in-Some.k c.in-Some.is in
+    let f = c.unheld.ensures.first c.in-Some.k c.in-Some.is in
     let k : ℕ = c.in-Some.k in
     let here : slice_get (lane_in states c.args.lane).grants k ≡ Some f.0 = ap (λ (y : LaneValue). slice_get y.grants k) (sym is) ∙ f.1.0 in
-    let first : loose_of (lane_in states c.args.lane).site (grant_places (lane_in states c.args.lane).grants)
-    ≡ f.0.place ∷ loose_of (lane_in states c.args.lane).site
+    let first : unheld_of (lane_in states c.args.lane).site (grant_places (lane_in states c.args.lane).grants)
+    ≡ f.0.place ∷ unheld_of (lane_in states c.args.lane).site
     (grant_places (without k (lane_in states c.args.lane).grants)) =
-    subst (λ (y : LaneValue). loose_of y.site (grant_places y.grants) ≡ f.0.place ∷ loose_of y.site (grant_places (without k y.grants))) is f.1.1 in
+    subst (λ (y : LaneValue). unheld_of y.site (grant_places y.grants) ≡ f.0.place ∷ unheld_of y.site (grant_places (without k y.grants))) is f.1.1 in
     let closed : HasClosed (contents_of c.loop-k.self) (contents_of c.close.new.self) c.args.lane k f.0 = c.close.ensures.closed f.0 here in
     let less = grants_left (contents_of c.loop-k.self) c.args.lane k f.0 lt (slice_get_within (lane_in states c.args.lane).grants k f.0 here) in
     let same : length (lane_in c.close.new.self.states.items c.args.lane).grants
@@ -98,8 +98,8 @@ forget_unawaited-requires c =
       opened = (
         o.0,
         (closed_all o.0 o.1.0 c.args.lane (contents_of c.args.self.now) (contents_of c.loop-k.self) was
-            (subst (λ (y : LaneValue). loose_of y.site (grant_places y.grants) ≡ []) is
-            (c.loose.ensures.none c.in_default.is))).works,
+            (subst (λ (y : LaneValue). unheld_of y.site (grant_places y.grants) ≡ []) is
+            (c.unheld.ensures.none c.in_default.is))).works,
       );
       there = there;
       idle = was.closing.idle;
@@ -114,8 +114,8 @@ returns-clause-closed c = λ s before base.
     (there_in s before c.args.lane (contents_of c.loop-k.self) was.closing) c.index.ensures in
     let closed : IsClosed s before (contents_of c.args.self.now) (contents_of c.loop-k.self) =
     closed_all s before c.args.lane (contents_of c.args.self.now) (contents_of c.loop-k.self) was
-    (subst (λ (y : LaneValue). loose_of y.site (grant_places y.grants) ≡ []) is
-    (c.loose.ensures.none c.in_default.is)) in
+    (subst (λ (y : LaneValue). unheld_of y.site (grant_places y.grants) ≡ []) is
+    (c.unheld.ensures.none c.in_default.is)) in
     closed_on s before (contents_of c.args.self.now) (contents_of c.loop-k.self)
     (contents_of c.forget_unawaited.new.self) closed (c.forget_unawaited.ensures.forgets s closed.works)
 

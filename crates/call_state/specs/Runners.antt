@@ -1,4 +1,4 @@
--- How a machine goes on, by what is left of its call's plan.
+-- How a runner goes on, by what is left of its call's plan.
 use Rattle.std.specs.Prelude.{◌≡◌, ℕ, Bool, true, false, [], ◌∷◌, Result, Ok, Err}
 use Rattle.sftp_model.specs.Answers.{expected_of}
 use Rattle.sftp_model.specs.declared.answers.Expected.{Expected}
@@ -10,11 +10,11 @@ use Rattle.plan_model.specs.Moves.{Answers, Own, Plan}
 use Rattle.sftp_model.specs.Frames.{is_too_long}
 use Rattle.sftp_core.specs.Core.{Core, is_call}
 use Rattle.call_state.specs.declared.asking.Asking.{Asking}
-use Rattle.call_state.specs.declared.machine.Then.{Then}
-use Rattle.call_state.specs.declared.machine.Then.TheVariants as then
+use Rattle.call_state.specs.declared.runner.Then.{Then}
+use Rattle.call_state.specs.declared.runner.Then.TheVariants as then
 use Rattle.call_state.specs.Asked.{request_of}
 
--- What the machines of one kind mean, in a world of what they don't hold themselves.
+-- What the runners of one kind mean, in a world of what they don't hold themselves.
 pub record Meaning (W M V : Type 0) : Type 1 where
   -- what is left of the call's plan behind the awaited request
   pub left : W → M → Plan
@@ -28,9 +28,9 @@ pub record Meaning (W M V : Type 0) : Type 1 where
   pub ended : W → M → Result V Error → Move
   -- what is known of the replies
   pub known : M → Answers → Type 0
-  -- what stays of a machine as it goes on
+  -- what stays of a runner as it goes on
   pub stays : M → M → Type 0
-  -- the machine needs no reply, and how the plan ends then
+  -- the runner needs no reply, and how the plan ends then
   pub ready : M → Type 0
   pub first : W → M → Move
   -- whether it may ask a further request
@@ -38,14 +38,14 @@ pub record Meaning (W M V : Type 0) : Type 1 where
   -- what a core holds for a value
   pub holds : Core → V → Type 0
 
--- a plan asks this, and the machine goes on with it behind the reply
+-- a plan asks this, and the runner goes on with it behind the reply
 pub record GoesBehind {W M V : Type 0} (s : Meaning W M V) (w : W) (plan : Plan) (answers : Answers) (asking : Asking)
     (m : M) : Type 0 where
   pub asks : plan [] answers ≡ Ask (request_of asking)
   pub rest : (later : Own) → plan ((s.place m, request_of asking) ∷ later) answers ≡ s.left w m later answers
   pub knows : s.known m answers
 
--- a machine may ask this: it is a call's request, it fits a frame, and it is what the machine awaits
+-- a runner may ask this: it is a call's request, it fits a frame, and it is what the runner awaits
 pub record MayAsk {W M V : Type 0} (s : Meaning W M V) (asking : Asking) (m : M) : Type 0 where
   pub call : is_call (request_of asking) ≡ true
   pub short : is_too_long (request_of asking) ≡ false
@@ -58,7 +58,7 @@ IsOwn (Err error.OutOfMemory) = ⊥
 IsOwn (Err (error.BackgroundTaskFailure fault)) = ⊥
 IsOwn other = Unit {0}
 
--- what a machine does is the next move of what is left of its plan; it was the first one, and is the second
+-- what a runner does is the next move of what is left of its plan; it was the first one, and is the second
 abbrev pub Follows : {W M V : Type 0} → Meaning W M V → W → M → M → Answers → Then V → Type 0
 Follows s w m next answers (then.Done value) = s.left w m [] answers ≡ s.ended w next value
 Follows s w m next answers (then.Ask asking) = GoesBehind s w (s.left w m) answers asking next
