@@ -32,8 +32,8 @@ use Rattle.sftp_model.specs.declared.error.Fault.{Fault}
 use Rattle.sftp_model.specs.declared.frame_error.FrameError.{FrameError}
 use Rattle.sftp_model.specs.declared.reply.Reply.{Reply}
 use Rattle.sftp_core.specs.declared.errors.TakeError.{TakeError}
-use Rattle.sftp_core.specs.declared.phase.Phase.{Phase}
-use Rattle.sftp_core.specs.declared.phase.Phase.TheVariants.{Greeting, Asking as AskingLimits, Open}
+use Rattle.sftp_core.specs.declared.handshake.Handshake.{Handshake}
+use Rattle.sftp_core.specs.declared.handshake.Handshake.TheVariants.{Greeting, Asking as AskingLimits, Open}
 use Rattle.sftp_core.specs.declared.place.Place.{Place}
 use Rattle.sftp_core.specs.declared.place.Place.TheVariants.{Waiting, Answered, Granted}
 use Rattle.sftp_core.specs.declared.tokens.Taken.{Taken}
@@ -86,7 +86,7 @@ use Rattle.call_state.specs.Keeping.{IsDropped, KeepsHeld, KeepsGrants, StaysOpe
 -- ---- an open session
 
 opened_by : (old new : Core) → new.phase ≡ old.phase → StaysOpen old new
-opened_by old new same h = subst (λ (p : Phase). IsSome (info_of p)) (sym same) h
+opened_by old new same h = subst (λ (p : Handshake). IsSome (info_of p)) (sym same) h
 
 queued_opened : (core : Core) (ticket : ℕ) (asking : Asking) → StaysOpen core (queued_by core ticket asking)
 queued_opened core ticket (Whole asked) h = h
@@ -256,7 +256,7 @@ took_grant core id r other handle users right here =
     take_elsewhere core id r (at core id) other
     (λ same. waiting_there id r (at core id) handle users (ap (λ (q : ℕ). at core q) (sym same) ∙ here) right) ∙ here
 
-took_keeps : (core : Core) (phase : Phase) (id : Option ℕ) (r : Reply) → IsSome (info_of phase)
+took_keeps : (core : Core) (phase : Handshake) (id : Option ℕ) (r : Reply) → IsSome (info_of phase)
     → wrong_in core phase id r ≡ None → KeepsHeld core (taken_in core phase id r)
 took_keeps core Greeting id r open_now right = cc
 took_keeps core (AskingLimits extensions) id r open_now right = cc

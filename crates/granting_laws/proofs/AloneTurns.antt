@@ -61,7 +61,7 @@ use Rattle.session_model.specs.Calls.{Setting, calls_of, current, move_at, site_
 use Rattle.session_model.specs.Journals.{MayReply, MayTake}
 use Rattle.session_model.specs.Readings.{AskedRequest, answer, asked, asked_at, awaited, bearer, ended, own, sent}
 use Rattle.session_model.specs.Served.{requests_of}
-use Rattle.session_model.specs.Turns.{MovesBy, RulesTo, Stage, TurnTo}
+use Rattle.session_model.specs.Turns.{MovesBy, RulesTo, RunProgress, TurnTo}
 use Rattle.session_model.proofs.CountLaws.{count_pos}
 use Rattle.session_model.proofs.RequestLaws.{answer_beyond, answer_other, sent_asked}
 use Rattle.granting_laws.proofs.Alone.{GrantsNone, IsQuiet, Told, asked_quiet, none_added, none_next_due, through, told}
@@ -244,7 +244,7 @@ asks_now s lane calls n past path id g r far is short = (
   ),
 )
 
-pub step_rests : (s : Setting) (lane : ℕ) (calls : List Call) (n : ℕ) (before now : Stage) → Goes s lane calls
+pub step_rests : (s : Setting) (lane : ℕ) (calls : List Call) (n : ℕ) (before now : RunProgress) → Goes s lane calls
     → Is lane (λ t. Rests calls t × IsFar calls n t) before.past → TurnTo s (turn.Step lane) before now → Is lane (Goes1 calls n) now.past
 step_rests s lane calls n before now go (g, (r, far)) to =
     by_call (slice_get calls (ended past lane)) refl
@@ -277,7 +277,7 @@ step_rests s lane calls n before now go (g, (r, far)) to =
 
     by_call : (c : Option Call) → slice_get calls (ended past lane) ≡ c
         → MovesBy (RulesTo s) lane before now (move_at c site s.facts [] (answer past)) → Is lane (Goes1 calls n) now.past
-    by_call None is e = subst (λ (w : Stage). Is lane (Goes1 calls n) w.past) (sym e) (g, inl (r, inr (got_beyond calls (ended past lane) is)))
+    by_call None is e = subst (λ (w : RunProgress). Is lane (Goes1 calls n) w.past) (sym e) (g, inl (r, inr (got_beyond calls (ended past lane) is)))
     by_call (Some c) is to =
         let made = go.make (ended past lane) c is in
         let home : from_directory site made.0 ≡ made.0 = go.home past made.0 g in
@@ -288,7 +288,7 @@ step_rests s lane calls n before now go (g, (r, far)) to =
 
 -- ---- a turn within a call
 
-pub step_waits : (s : Setting) (lane : ℕ) (calls : List Call) (n : ℕ) (before now : Stage) → Goes s lane calls
+pub step_waits : (s : Setting) (lane : ℕ) (calls : List Call) (n : ℕ) (before now : RunProgress) → Goes s lane calls
     → Is lane (λ t. Waits calls t × IsFar calls n t) before.past → TurnTo s (turn.Step lane) before now
     → Is lane (λ t. Waits calls t × IsFar calls n t) now.past
 step_waits s lane calls n before now go (g, (w, far)) to =
@@ -305,7 +305,7 @@ step_waits s lane calls n before now go (g, (w, far)) to =
 
     by_answer : (o : Option Reply) → o ≡ None → MovesBy (RulesTo s) lane before now (Some (once_answered w.asks.place o (done_by site)))
         → Is lane (λ t. Waits calls t × IsFar calls n t) now.past
-    by_answer None is e = subst (λ (x : Stage). Is lane (λ t. Waits calls t × IsFar calls n t) x.past) (sym e) (g, (w, far))
+    by_answer None is e = subst (λ (x : RunProgress). Is lane (λ t. Waits calls t × IsFar calls n t) x.past) (sym e) (g, (w, far))
     by_answer (Some y) is e = absurd cc
 
 done_is : (site : Site) (y : Reply) → (o : Outcome) × ((left : Site) × (done_by site y ≡ Done o left))
@@ -322,7 +322,7 @@ done_is site (reply.Names names) = (_, (_, refl))
 done_is site (reply.Attrs attrs) = (_, (_, refl))
 done_is site (reply.Extended content) = (_, (_, refl))
 
-pub step_has : (s : Setting) (lane : ℕ) (calls : List Call) (n : ℕ) (before now : Stage) → Goes s lane calls
+pub step_has : (s : Setting) (lane : ℕ) (calls : List Call) (n : ℕ) (before now : RunProgress) → Goes s lane calls
     → Is lane (λ t. Has calls t × IsFar calls n t) before.past → TurnTo s (turn.Step lane) before now
     → Is lane (λ t. Rests calls t × IsFar calls (n + 1) t) now.past
 step_has s lane calls n before now go (g, (h, far)) to =
@@ -349,19 +349,19 @@ step_has s lane calls n before now go (g, (h, far)) to =
 
 -- ---- a flush
 
-pub flush_keeps : (P : List Entry → Type 0) (s : Setting) (before now : Stage) → ((p : List Entry) → P p → P (entry.Event Send ∷ p))
+pub flush_keeps : (P : List Entry → Type 0) (s : Setting) (before now : RunProgress) → ((p : List Entry) → P p → P (entry.Event Send ∷ p))
     → GrantsNone before.past → P before.past → TurnTo s turn.Flush before now → P now.past
 flush_keeps P s before now sends g p to = by_test (nat_lt (sent before.past) (asked before.past)) to
   where
     by_test : (b : Bool) → MatchBool b ((now.begun ≡ before.begun) × RulesTo s (entry.Event Send ∷ before.past) now.past) (now ≡ before) → P now.past
     by_test true to = through P s (entry.Event Send ∷ before.past) now.past sends (none_next_due s (entry.Event Send ∷ before.past) g) to.1 (sends before.past p)
-    by_test false e = subst (λ (x : Stage). P x.past) (sym e) p
+    by_test false e = subst (λ (x : RunProgress). P x.past) (sym e) p
 
 -- what waits is sent
 abbrev IsSent : List Call → ℕ → ℕ → List Entry → Type 0
 IsSent calls lane n past = GrantsNone past × ((w : Waits calls (told lane past)) × ((w.asks.place < sent past) × IsFar calls n (told lane past)))
 
-pub flush_waits : (s : Setting) (lane : ℕ) (calls : List Call) (n : ℕ) (before now : Stage) → Is lane (λ t. Waits calls t × IsFar calls n t) before.past
+pub flush_waits : (s : Setting) (lane : ℕ) (calls : List Call) (n : ℕ) (before now : RunProgress) → Is lane (λ t. Waits calls t × IsFar calls n t) before.past
     → TurnTo s turn.Flush before now → IsSent calls lane n now.past
 flush_waits s lane calls n before now (g, (w, far)) to = by_test (nat_lt (sent before.past) (asked before.past)) refl to
   where
@@ -369,12 +369,12 @@ flush_waits s lane calls n before now (g, (w, far)) to = by_test (nat_lt (sent b
         → MatchBool b ((now.begun ≡ before.begun) × RulesTo s (entry.Event Send ∷ before.past) now.past) (now ≡ before) → IsSent calls lane n now.past
     by_test true is to = through (IsSent calls lane n) s (entry.Event Send ∷ before.past) now.past
         (λ p h. (h.0, (h.1.0, (h.1.0.there, h.1.1.1)))) (none_next_due s (entry.Event Send ∷ before.past) g) to.1 (g, (w, (w.there, far)))
-    by_test false is e = subst (λ (x : Stage). IsSent calls lane n x.past) (sym e)
+    by_test false is e = subst (λ (x : RunProgress). IsSent calls lane n x.past) (sym e)
         (g, (w, (let ge : asked before.past ≤ sent before.past = grind (arith, nat_tests) in let lt = w.there in omega (arith, ge, lt), far)))
 
 -- ---- a take
 
-pub take_rests : (s : Setting) (lane : ℕ) (calls : List Call) (n : ℕ) (before now : Stage) → Is lane (λ t. Rests calls t × IsFar calls n t) before.past
+pub take_rests : (s : Setting) (lane : ℕ) (calls : List Call) (n : ℕ) (before now : RunProgress) → Is lane (λ t. Rests calls t × IsFar calls n t) before.past
     → TurnTo s turn.Take before now → Is lane (λ t. Rests calls t × IsFar calls n t) now.past
 take_rests s lane calls n before now (g, (r, far)) to = by_test (nat_lt 0 (awaited before.past)) to
   where
@@ -385,13 +385,13 @@ take_rests s lane calls n before now (g, (r, far)) to = by_test (nat_lt 0 (await
         let may = to.1.1.1.0 in
         absurd (r.came may.0 (let lt : may.0 < sent before.past = may.1.0.1 in let le : sent before.past ≤ asked before.past = sent_asked before.past
         in omega (arith, lt, le)) may.1.0.2)
-    by_test false e = subst (λ (x : Stage). Is lane (λ t. Rests calls t × IsFar calls n t) x.past) (sym e) (g, (r, far))
+    by_test false e = subst (λ (x : RunProgress). Is lane (λ t. Rests calls t × IsFar calls n t) x.past) (sym e) (g, (r, far))
 
 replies_quiet : (past : List Entry) (o : Option AskedRequest) (place : ℕ) (y : Reply) → GrantsNone past → asked_at past place ≡ o → MayReply o y → is_handle y ≡ false
 replies_quiet past None place y g is may = absurd may
 replies_quiet past (Some a) place y g is may = asked_quiet past place a g is y may.0
 
-pub take_waits : (s : Setting) (lane : ℕ) (calls : List Call) (n : ℕ) (before now : Stage) → IsSent calls lane n before.past
+pub take_waits : (s : Setting) (lane : ℕ) (calls : List Call) (n : ℕ) (before now : RunProgress) → IsSent calls lane n before.past
     → TurnTo s turn.Take before now → Is lane (λ t. Has calls t × IsFar calls n t) now.past
 take_waits s lane calls n before now (g, (w, (is_sent, far))) to = by_test (nat_lt 0 (awaited past)) refl to
   where

@@ -63,7 +63,7 @@ use Rattle.session_model.specs.Journals.{MayReply, MayTake}
 use Rattle.session_model.specs.Readings.{AskedRequest, answer, asked, asked_at, is_by, sent, unanswered}
 use Rattle.session_model.specs.Runs.{IsRun, Opens, TurnsTo, at_first, queried}
 use Rattle.session_model.specs.Served.{counted, requests_of, requests_sent}
-use Rattle.session_model.specs.Turns.{Stage}
+use Rattle.session_model.specs.Turns.{RunProgress}
 use Rattle.session_model.proofs.CountLaws.{count_none}
 use Rattle.session_model.proofs.OverLaws.{runs_are_journals, runs_are_over}
 use Rattle.session_model.proofs.RequestLaws.{sent_asked}
@@ -94,15 +94,15 @@ use Rattle.granting_laws.specs.StandsBelow.{MakeOthers, NoDirectory, NoneLong, S
 
 -- ---- turns of a lane that goes alone
 
-turns_parts : (s : Setting) (xs ys : List Turn) (before now : Stage) → TurnsTo s (xs ++ ys) before now → (mid : Stage)
+turns_parts : (s : Setting) (xs ys : List Turn) (before now : RunProgress) → TurnsTo s (xs ++ ys) before now → (mid : RunProgress)
     × (TurnsTo s xs before mid × TurnsTo s ys mid now)
 turns_parts s [] ys before now to = (before, (refl, to))
 turns_parts s (x ∷ xs) ys before now to = (let m = turns_parts s xs ys to.0 now to.1.1 in (m.0, ((to.0, (to.1.0, m.1.0)), m.1.1)))
 
 -- the journal after them
-calls_go : (s : Setting) (lane : ℕ) (calls : List Call) (n m : ℕ) (later : List Turn) (before now : Stage)
+calls_go : (s : Setting) (lane : ℕ) (calls : List Call) (n m : ℕ) (later : List Turn) (before now : RunProgress)
     → Goes s lane calls → Is lane (IsAtCall calls m) before.past
-    → TurnsTo s (times_then n (call_turns lane) later) before now → (mid : Stage) × (Is lane (IsAtCall calls (m + n)) mid.past × TurnsTo s later mid now)
+    → TurnsTo s (times_then n (call_turns lane) later) before now → (mid : RunProgress) × (Is lane (IsAtCall calls (m + n)) mid.past × TurnsTo s later mid now)
 calls_go s lane calls zero m later before now go is to =
     (before, ((is.0, subst (λ (k : ℕ). IsAtCall calls k (told lane before.past)) (let same : m ≡ m + 0 = omega arith in same) is.1), to))
 calls_go s lane calls (suc n) m later before now go is to =

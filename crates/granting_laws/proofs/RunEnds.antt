@@ -10,7 +10,7 @@ use Rattle.session_model.specs.declared.turn.Turn.{Turn}
 use Rattle.session_model.specs.Calls.{Setting, calls_of, current, lane_calls}
 use Rattle.session_model.specs.Readings.{ended, outcomes_of}
 use Rattle.session_model.specs.Runs.{IsRun, LetsGoTo}
-use Rattle.session_model.specs.Turns.{Stage, is_full}
+use Rattle.session_model.specs.Turns.{RunProgress, is_full}
 use Rattle.session_model.proofs.WholeRunLaws.{Keeps, closes_keep, drains_pass, ends_pass, sends_keep}
 use Rattle.run_laws.specs.ReadsBack.{call_in, calls_in}
 use Rattle.run_laws.specs.RoundTrips.{outcome_at}
@@ -18,9 +18,9 @@ use Rattle.run_laws.proofs.CallEnds.{outcomes_count}
 use Rattle.run_laws.proofs.ReadsBackLaws.{AreHandedIn}
 use Rattle.granting_laws.proofs.AloneTurns.{got_beyond}
 
-idle_lets_go : (s : Setting) (n : ℕ) (before now : Stage) (lane : ℕ) → LetsGoTo s n before now
+idle_lets_go : (s : Setting) (n : ℕ) (before now : RunProgress) (lane : ℕ) → LetsGoTo s n before now
     → current s before.past lane ≡ None → current s now.past lane ≡ None
-idle_lets_go s zero before now lane e none = subst (λ (w : Stage). current s w.past lane ≡ None) (sym e) none
+idle_lets_go s zero before now lane e none = subst (λ (w : RunProgress). current s w.past lane ≡ None) (sym e) none
 idle_lets_go s (suc n) before now lane to none =
     let mid : current s to.0.past lane ≡ None = idle_lets_go s n before to.0 lane to.1.0 none in
     let first : List Entry = entry.LetGo n ∷ to.0.past in

@@ -25,7 +25,7 @@ use Rattle.session_model.specs.Grants.{next_due}
 use Rattle.session_model.specs.Journals.{IsJournal, IsNext, MayCome, MayTake, MustClose, cancelled_end}
 use Rattle.session_model.specs.Readings.{answer, asked, awaited, ended, last_cancel, outcomes_of, own, sent}
 use Rattle.session_model.specs.Runs.{at_first, DrainsTo, EndsTo, IsRun, LetsGoTo, Opens, RoundsTo, TurnsTo, round_of}
-use Rattle.session_model.specs.Turns.{ClosesTo, MovesBy, RulesTo, Stage, TurnTo, is_full}
+use Rattle.session_model.specs.Turns.{ClosesTo, MovesBy, RulesTo, RunProgress, TurnTo, is_full}
 use Rattle.run_laws.specs.RoundTrips.{outcome_at}
 use Rattle.run_laws.proofs.LaneCalls.{all_before, each_is}
 use Rattle.granting_laws.specs.PlainCalls.{is_calm}
@@ -39,8 +39,8 @@ CancelsNone (_ ∷ past) = CancelsNone past
 abbrev Stays : List Entry → List Entry → Type 0
 Stays before now = CancelsNone before → CancelsNone now
 
-same_stays : (before now : Stage) → now ≡ before → Stays before.past now.past
-same_stays before now e p = subst (λ (w : Stage). CancelsNone w.past) (sym e) p
+same_stays : (before now : RunProgress) → now ≡ before → Stays before.past now.past
+same_stays before now e p = subst (λ (w : RunProgress). CancelsNone w.past) (sym e) p
 
 closes_stay : (s : Setting) (before now : List Entry) → ClosesTo s before now → Stays before now
 closes_stay s before [] e p = tt
@@ -54,14 +54,14 @@ sends_stay false mid now e p = subst CancelsNone (sym e) p
 rules_stay : (s : Setting) (before now : List Entry) → RulesTo s before now → Stays before now
 rules_stay s before now to p = sends_stay (is_full s to.0) to.0 now to.1.1 (closes_stay s before to.0 to.1.0.0 p)
 
-moves_stay : (s : Setting) (lane : ℕ) (before now : Stage) (m : Option Move) → MovesBy (RulesTo s) lane before now m → Stays before.past now.past
+moves_stay : (s : Setting) (lane : ℕ) (before now : RunProgress) (m : Option Move) → MovesBy (RulesTo s) lane before now m → Stays before.past now.past
 moves_stay s lane before now None e p = same_stays before now e p
-moves_stay s lane before now (Some (Wait place)) e p = subst (λ (w : Stage). CancelsNone w.past) (sym e) p
+moves_stay s lane before now (Some (Wait place)) e p = subst (λ (w : RunProgress). CancelsNone w.past) (sym e) p
 moves_stay s lane before now (Some (Ask r)) to p = rules_stay s
     (entry.Event (Submit (owner.Call lane (ended before.past lane)) to.1.0 r) ∷ before.past) now.past to.1.1.1 p
 moves_stay s lane before now (Some (Done o site)) to p = rules_stay s (entry.Event (End lane (ended before.past lane) o) ∷ before.past) now.past to.1 p
 
-turn_stays : (s : Setting) (t : Turn) (before now : Stage) → is_calm t ≡ true → TurnTo s t before now → Stays before.past now.past
+turn_stays : (s : Setting) (t : Turn) (before now : RunProgress) → is_calm t ≡ true → TurnTo s t before now → Stays before.past now.past
 turn_stays s (turn.Step lane) before now calm to p = moves_stay s lane before now (move_of s before.past lane) to p
 turn_stays s turn.Flush before now calm to p = by_test (nat_lt (sent before.past) (asked before.past)) to
   where
@@ -77,25 +77,25 @@ turn_stays s turn.Take before now calm to p = by_test (nat_lt 0 (awaited before.
     by_test false e = same_stays before now e p
 turn_stays s (turn.Cancel lane) before now calm to p = absurd cc
 
-turns_stay : (s : Setting) (turns : List Turn) (before now : Stage) → list_all is_calm turns ≡ true → TurnsTo s turns before now → Stays before.past now.past
+turns_stay : (s : Setting) (turns : List Turn) (before now : RunProgress) → list_all is_calm turns ≡ true → TurnsTo s turns before now → Stays before.past now.past
 turns_stay s [] before now calm e p = same_stays before now e p
 turns_stay s (t ∷ turns) before now calm to p =
     let both = and_parts (is_calm t) (list_all is_calm turns) calm in
     turns_stay s turns to.0 now both.1 to.1.1 (turn_stays s t before to.0 both.0 to.1.0 p)
 
-rounds_stay : (s : Setting) (lane n : ℕ) (before now : Stage) → RoundsTo s lane n before now → Stays before.past now.past
+rounds_stay : (s : Setting) (lane n : ℕ) (before now : RunProgress) → RoundsTo s lane n before now → Stays before.past now.past
 rounds_stay s lane zero before now e p = same_stays before now e p
 rounds_stay s lane (suc n) before now to p = rounds_stay s lane n to.1.0 now to.1.1.1 (turns_stay s (round_of lane) before to.1.0 refl to.1.1.0 p)
 
-ends_stay : (s : Setting) (n : ℕ) (before now : Stage) → EndsTo s n before now → Stays before.past now.past
+ends_stay : (s : Setting) (n : ℕ) (before now : RunProgress) → EndsTo s n before now → Stays before.past now.past
 ends_stay s zero before now e p = same_stays before now e p
 ends_stay s (suc lane) before now to p = rounds_stay s lane to.1.1.0 to.0 now to.1.1.1 (ends_stay s lane before to.0 to.1.0 p)
 
-lets_go_stay : (s : Setting) (n : ℕ) (before now : Stage) → LetsGoTo s n before now → Stays before.past now.past
+lets_go_stay : (s : Setting) (n : ℕ) (before now : RunProgress) → LetsGoTo s n before now → Stays before.past now.past
 lets_go_stay s zero before now e p = same_stays before now e p
 lets_go_stay s (suc lane) before now to p = rules_stay s (entry.LetGo lane ∷ to.0.past) now.past to.1.1.1 (lets_go_stay s lane before to.0 to.1.0 p)
 
-drains_stay : (s : Setting) (n : ℕ) (before now : Stage) → DrainsTo s n before now → Stays before.past now.past
+drains_stay : (s : Setting) (n : ℕ) (before now : RunProgress) → DrainsTo s n before now → Stays before.past now.past
 drains_stay s zero before now e p = same_stays before now e p
 drains_stay s (suc n) before now to p = drains_stay s n to.1.0 now to.1.1.1 (turns_stay s (turn.Flush ∷ turn.Take ∷ []) before to.1.0 refl to.1.1.0 p)
 

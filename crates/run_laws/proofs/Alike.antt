@@ -17,7 +17,7 @@ use Rattle.session_model.specs.Readings.{asked, sent, awaited, ended, unanswered
 use Rattle.session_model.specs.Calls.{Setting, current, move_of}
 use Rattle.session_model.specs.Grants.{next_due}
 use Rattle.session_model.specs.Journals.{close_of}
-use Rattle.session_model.specs.Turns.{Stage, TurnTo, MovesBy, RulesTo, SettlesTo, ClosesTo, is_full, begun_with, begun_but}
+use Rattle.session_model.specs.Turns.{RunProgress, TurnTo, MovesBy, RulesTo, SettlesTo, ClosesTo, is_full, begun_with, begun_but}
 use Rattle.session_model.specs.Runs.{TurnsTo, round_of, EndsTo, LetsGoTo, DrainsTo}
 use Rattle.run_laws.proofs.Placed.{
   place_of,
@@ -42,7 +42,7 @@ abbrev pub Same : List Entry → List Entry → Type 0
 Same a b = placed a ≡ placed b
 
 -- the stages are one, but for ids
-pub record Alike (a b : Stage) : Type 0 where
+pub record Alike (a b : RunProgress) : Type 0 where
   pub past : Same a.past b.past
   pub begun : a.begun ≡ b.begun
 
@@ -60,12 +60,12 @@ follows_back next (_) past p = p
 pub read : {A : Type 0} (f : List Entry → A) → ((past : List Entry) → f (placed past) ≡ f past) → (a b : List Entry) → Same a b → f a ≡ f b
 read f h a b e = sym (h a) ∙ (ap f e ∙ h b)
 
-stay_same : (a b now_a now_b : Stage) → Alike a b → now_a ≡ a → now_b ≡ b → Alike now_a now_b
+stay_same : (a b now_a now_b : RunProgress) → Alike a b → now_a ≡ a → now_b ≡ b → Alike now_a now_b
 stay_same a b now_a now_b h x y =
     record {
-      past = ap (λ (w : Stage). placed w.past) x ∙ (h.past ∙ sym (ap (λ (w : Stage). placed w.past) y));
+      past = ap (λ (w : RunProgress). placed w.past) x ∙ (h.past ∙ sym (ap (λ (w : RunProgress). placed w.past) y));
       begun =
-          ap (λ (w : Stage). w.begun) x ∙ (h.begun ∙ sym (ap (λ (w : Stage). w.begun) y));
+          ap (λ (w : RunProgress). w.begun) x ∙ (h.begun ∙ sym (ap (λ (w : RunProgress). w.begun) y));
     }
 
 -- ---- CLOSEs, one after another, until none is due
@@ -140,11 +140,11 @@ rules_same s a b now_a now_b h x y =
 -- ---- turns
 
 -- an event, and what follows it
-events_same : (s : Setting) (a b : List Entry) (begun_a begun_b : ℕ → Bool) (now_a now_b : Stage) → Same a b → begun_a ≡ begun_b
+events_same : (s : Setting) (a b : List Entry) (begun_a begun_b : ℕ → Bool) (now_a now_b : RunProgress) → Same a b → begun_a ≡ begun_b
     → (now_a.begun ≡ begun_a) × RulesTo s a now_a.past → (now_b.begun ≡ begun_b) × RulesTo s b now_b.past → Alike now_a now_b
 events_same s a b begun_a begun_b now_a now_b h e x y = record { past = rules_same s a b now_a.past now_b.past h x.1 y.1; begun = x.0 ∙ (e ∙ sym y.0) }
 
-tests_same : (t u : Bool) (A B : Type 0) (a b now_a now_b : Stage) → Alike a b → t ≡ u → (A → B → Alike now_a now_b)
+tests_same : (t u : Bool) (A B : Type 0) (a b now_a now_b : RunProgress) → Alike a b → t ≡ u → (A → B → Alike now_a now_b)
     → MatchBool t A (now_a ≡ a) → MatchBool u B (now_b ≡ b) → Alike now_a now_b
 tests_same true true A B a b now_a now_b h e f x y = f x y
 tests_same false false A B a b now_a now_b h e f x y = stay_same a b now_a now_b h x y
@@ -154,7 +154,7 @@ tests_same false true A B a b now_a now_b h e f x y = absurd cc
 number : (lane : ℕ) (a b : List Entry) → Same a b → ended a lane ≡ ended b lane
 number lane a b h = read (λ (w : List Entry). ended w lane) (λ w. placed_ended w lane) a b h
 
-moves_same : (s : Setting) (lane : ℕ) (a b now_a now_b : Stage) (m : Option Move) → Alike a b
+moves_same : (s : Setting) (lane : ℕ) (a b now_a now_b : RunProgress) (m : Option Move) → Alike a b
     → MovesBy (RulesTo s) lane a now_a m → MovesBy (RulesTo s) lane b now_b m → Alike now_a now_b
 moves_same s lane a b now_a now_b None h x y = stay_same a b now_a now_b h x y
 moves_same s lane a b now_a now_b (Some (Wait place)) h x y =
@@ -174,7 +174,7 @@ pub taken_same : (next : List Entry → Entry) (a b : List Entry) (i j : ℕ) (r
     → Same (entry.Event (Take i r) ∷ a) (entry.Event (Take j q) ∷ b)
 taken_same next a b i j r q h p k = (λ n. p.0 n ∷ placed a) ∙ (ap (λ (w : List Entry). next w ∷ w) h ∙ (λ n. sym k.0 n ∷ placed b))
 
-turn_same : (next : List Entry → Entry) (s : Setting) (t : Turn) (a b now_a now_b : Stage) → Alike a b → TurnTo s t a now_a → TurnTo s t b now_b
+turn_same : (next : List Entry → Entry) (s : Setting) (t : Turn) (a b now_a now_b : RunProgress) → Alike a b → TurnTo s t a now_a → TurnTo s t b now_b
     → Follows next now_a.past → Follows next now_b.past → Alike now_a now_b
 turn_same next s (turn.Step lane) a b now_a now_b h x y p q =
     let move = read (λ (w : List Entry). move_of s w lane) (λ w. placed_move s w lane) a.past b.past h.past in
@@ -200,7 +200,7 @@ turn_same next s (turn.Cancel lane) a b now_a now_b h x y p q =
 
 -- ---- parts of a run
 
-pub turns_same : (next : List Entry → Entry) (s : Setting) (turns : List Turn) (a b now_a now_b : Stage) → Alike a b
+pub turns_same : (next : List Entry → Entry) (s : Setting) (turns : List Turn) (a b now_a now_b : RunProgress) → Alike a b
     → TurnsTo s turns a now_a → TurnsTo s turns b now_b
     → Follows next now_a.past → Follows next now_b.past → Alike now_a now_b
 turns_same next s [] a b now_a now_b h x y p q = stay_same a b now_a now_b h x y
@@ -209,20 +209,20 @@ turns_same next s (t ∷ turns) a b now_a now_b h x y p q =
     turns_same next s turns x.0 y.0 now_a now_b (turn_same next s t a b x.0 y.0 h x.1.0 y.1.0 (back x.0 now_a x.1.1 p) (back y.0 now_b y.1.1 q)) x.1.1 y.1.1 p q
 
 -- where nothing is left in the end, the same turns were repeated equally often
-repeats_same : (next : List Entry → Entry) (IsLeft : List Entry → Type 0) (s : Setting) (turns : List Turn) (n m : ℕ) (a b now_a now_b : Stage)
+repeats_same : (next : List Entry → Entry) (IsLeft : List Entry → Type 0) (s : Setting) (turns : List Turn) (n m : ℕ) (a b now_a now_b : RunProgress)
     → ((c d : List Entry) → Same c d → IsLeft c → IsLeft d) → Alike a b → Repeats IsLeft s turns n a now_a → Repeats IsLeft s turns m b now_b
     → (IsLeft now_a.past → ⊥) → (IsLeft now_b.past → ⊥) → Follows next now_a.past → Follows next now_b.past → Alike now_a now_b
 repeats_same next IsLeft s turns zero zero a b now_a now_b f h x y e d p q = stay_same a b now_a now_b h x y
 repeats_same next IsLeft s turns zero (suc m) a b now_a now_b f h x y e d p q =
-    absurd (e (f b.past now_a.past (sym h.past ∙ ap (λ (w : Stage). placed w.past) (sym x)) y.0))
+    absurd (e (f b.past now_a.past (sym h.past ∙ ap (λ (w : RunProgress). placed w.past) (sym x)) y.0))
 repeats_same next IsLeft s turns (suc n) zero a b now_a now_b f h x y e d p q =
-    absurd (d (f a.past now_b.past (h.past ∙ ap (λ (w : Stage). placed w.past) (sym y)) x.0))
+    absurd (d (f a.past now_b.past (h.past ∙ ap (λ (w : RunProgress). placed w.past) (sym y)) x.0))
 repeats_same next IsLeft s turns (suc n) (suc m) a b now_a now_b f h x y e d p q =
     let back = repeats_back (Follows next) (follows_back next) IsLeft s turns in
     let mid = turns_same next s turns a b x.1.0 y.1.0 h x.1.1.0 y.1.1.0 (back n x.1.0 now_a x.1.1.1 p) (back m y.1.0 now_b y.1.1.1 q) in
     repeats_same next IsLeft s turns n m x.1.0 y.1.0 now_a now_b f mid x.1.1.1 y.1.1.1 e d p q
 
-pub ends_same : (next : List Entry → Entry) (s : Setting) (n : ℕ) (a b now_a now_b : Stage) → Alike a b → EndsTo s n a now_a → EndsTo s n b now_b
+pub ends_same : (next : List Entry → Entry) (s : Setting) (n : ℕ) (a b now_a now_b : RunProgress) → Alike a b → EndsTo s n a now_a → EndsTo s n b now_b
     → Follows next now_a.past → Follows next now_b.past → Alike now_a now_b
 ends_same next s zero a b now_a now_b h x y p q = stay_same a b now_a now_b h x y
 ends_same next s (suc lane) a b now_a now_b h x y p q =
@@ -234,13 +234,13 @@ ends_same next s (suc lane) a b now_a now_b h x y p q =
     (λ c d e some none. some (read (λ (w : List Entry). current s w lane) (λ w. placed_current s w lane) c d e ∙ none))
     mid one other (λ some. some x.1.2) (λ some. some y.1.2) p q
 
-pub lets_go_same : (s : Setting) (n : ℕ) (a b now_a now_b : Stage) → Alike a b → LetsGoTo s n a now_a → LetsGoTo s n b now_b → Alike now_a now_b
+pub lets_go_same : (s : Setting) (n : ℕ) (a b now_a now_b : RunProgress) → Alike a b → LetsGoTo s n a now_a → LetsGoTo s n b now_b → Alike now_a now_b
 lets_go_same s zero a b now_a now_b h x y = stay_same a b now_a now_b h x y
 lets_go_same s (suc lane) a b now_a now_b h x y =
     let mid = lets_go_same s lane a b x.0 y.0 h x.1.0 y.1.0 in
     events_same s _ _ _ _ now_a now_b (λ i. entry.LetGo lane ∷ mid.past i) mid.begun x.1.1 y.1.1
 
-pub drains_same : (next : List Entry → Entry) (s : Setting) (n m : ℕ) (a b now_a now_b : Stage) → Alike a b → DrainsTo s n a now_a → DrainsTo s m b now_b
+pub drains_same : (next : List Entry → Entry) (s : Setting) (n m : ℕ) (a b now_a now_b : RunProgress) → Alike a b → DrainsTo s n a now_a → DrainsTo s m b now_b
     → unanswered now_a.past ≡ 0 → unanswered now_b.past ≡ 0 → Follows next now_a.past → Follows next now_b.past → Alike now_a now_b
 drains_same next s n m a b now_a now_b h x y e d p q =
     repeats_same next Awaits s (turn.Flush ∷ turn.Take ∷ []) n m a b now_a now_b

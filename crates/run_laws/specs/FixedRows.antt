@@ -21,7 +21,7 @@ use Rattle.session_model.specs.RowWords.{close, end, handle, ok, open_of, send, 
 use Rattle.session_model.specs.Served.{IsNumbered, Serves}
 use Rattle.session_model.specs.ServedRows.{config, hello_file}
 use Rattle.session_model.specs.Settings.{setting_of}
-use Rattle.session_model.specs.Turns.{Stage, none_begun}
+use Rattle.session_model.specs.Turns.{RunProgress, none_begun}
 use Rattle.run_laws.specs.Fixed.{IsFixedBy}
 
 abbrev pub opens_a : List Lane
@@ -51,7 +51,7 @@ opened_once =
 abbrev so_far : ℕ → List Entry
 so_far n = drop (8 - n) opened_once
 
-abbrev at : ℕ → (ℕ → Bool) → Stage
+abbrev at : ℕ → (ℕ → Bool) → RunProgress
 at n begun = record { past = so_far n; begun = begun }
 
 opened_once_runs : IsRun (setting_of opens_a default_options nothing_offered opened_once) [] opened_once

@@ -42,7 +42,7 @@ use Rattle.session_model.specs.Readings.{answer, outcomes_below}
 use Rattle.session_model.specs.RowWords.{close, end, handle, ok, send, setting_with, submit, take, to_read}
 use Rattle.session_model.specs.Runs.{IsRun, TurnsTo, round_of}
 use Rattle.session_model.specs.Served.{requests_sent}
-use Rattle.session_model.specs.Turns.{Stage, begun_but, none_begun}
+use Rattle.session_model.specs.Turns.{RunProgress, begun_but, none_begun}
 use Rattle.run_laws.specs.DeferredWrites.{OthersLeave, WritesAlone, tree_at}
 use Rattle.run_laws.specs.ListedRows.{begun, begun_ended}
 use Rattle.run_laws.specs.Steps.{AreServed, Step, asked_in}
@@ -96,7 +96,7 @@ none_ended = λ i l. neither_way (0 == l) i
 abbrev so_far : ℕ → List Entry
 so_far n = drop (15 - n) flushed_run
 
-abbrev at : ℕ → (ℕ → Bool) → Stage
+abbrev at : ℕ → (ℕ → Bool) → RunProgress
 at n lanes = record { past = so_far n; begun = lanes }
 
 round_1 : TurnsTo writes_flushed (round_of 0) (at 0 none_begun) (at 3 begun)

@@ -20,7 +20,7 @@ use Rattle.session_model.specs.Readings.{outcomes_of}
 use Rattle.session_model.specs.RowWords.{close, end, handle, ok, refusal, send, setting_with, submit, take}
 use Rattle.session_model.specs.Runs.{IsRun, TurnsTo, round_of}
 use Rattle.session_model.specs.Served.{Serves}
-use Rattle.session_model.specs.Turns.{Stage, begun_but, begun_with, none_begun}
+use Rattle.session_model.specs.Turns.{RunProgress, begun_but, begun_with, none_begun}
 use Rattle.run_laws.specs.Listings.{IsListed}
 use Rattle.run_laws.specs.Steps.{FeignNoEnd}
 
@@ -85,7 +85,7 @@ begun_ended = λ i l. neither_way (0 == l) i
 abbrev so_far : ℕ → List Entry
 so_far n = drop (14 - n) listed_run
 
-abbrev at : ℕ → (ℕ → Bool) → Stage
+abbrev at : ℕ → (ℕ → Bool) → RunProgress
 at n lanes = record { past = so_far n; begun = lanes }
 
 round_1 : TurnsTo lists (round_of 0) (at 0 none_begun) (at 3 begun)

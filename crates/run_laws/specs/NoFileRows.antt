@@ -16,7 +16,7 @@ use Rattle.session_model.specs.Readings.{asked_at}
 use Rattle.session_model.specs.RowWords.{end, open_of, refusal, send, setting_with, submit, take}
 use Rattle.session_model.specs.Runs.{IsRun, TurnsTo, round_of}
 use Rattle.session_model.specs.Served.{Serves}
-use Rattle.session_model.specs.Turns.{Stage, none_begun}
+use Rattle.session_model.specs.Turns.{RunProgress, none_begun}
 use Rattle.session_model.proofs.RequestLaws.{asked_beyond}
 use Rattle.run_laws.specs.CallsAmong.{HasNoFile}
 use Rattle.run_laws.specs.InJournals.{KeepsOff}
@@ -49,7 +49,7 @@ nothing_read =
 abbrev nothing_so_far : ℕ → List Entry
 nothing_so_far n = drop (5 - n) nothing_read
 
-abbrev nothing_at : ℕ → (ℕ → Bool) → Stage
+abbrev nothing_at : ℕ → (ℕ → Bool) → RunProgress
 nothing_at n begun = record { past = nothing_so_far n; begun = begun }
 
 nothing_round_1 : TurnsTo reads_alone (round_of 0) (nothing_at 0 none_begun) (nothing_at 3 (only 0))

@@ -16,7 +16,7 @@ use Rattle.session_model.specs.declared.entry.Entry.TheVariants as entry
 use Rattle.session_model.specs.Calls.{Setting}
 use Rattle.session_model.specs.RowWords.{close, end, ok, open_of, refusal, send, setting_with, submit, take}
 use Rattle.session_model.specs.Runs.{TurnsTo, round_of}
-use Rattle.session_model.specs.Turns.{Stage, begun_but, begun_with, none_begun}
+use Rattle.session_model.specs.Turns.{RunProgress, begun_but, begun_with, none_begun}
 
 -- ---- the run
 
@@ -94,7 +94,7 @@ only_ended lane = λ i l. neither_way (lane == l) i
 abbrev pub so_far : ℕ → List Entry
 so_far n = drop (29 - n) written_then_read
 
-abbrev pub at : ℕ → (ℕ → Bool) → Stage
+abbrev pub at : ℕ → (ℕ → Bool) → RunProgress
 at n begun = record { past = so_far n; begun = begun }
 
 pub round_1 : TurnsTo writes_then_reads (round_of 0) (at 0 none_begun) (at 3 (only 0))

@@ -5,7 +5,7 @@ use Rattle.sftp_model.specs.declared.error.Error.{Error}
 use Rattle.sftp_link.specs.declared.piece.Piece.{Piece}
 use Rattle.sftp_link.specs.Views.{LinkView}
 use Rattle.plan_model.specs.declared.call.Call.{Call}
-use Rattle.session_model.specs.Turns.{Stage}
+use Rattle.session_model.specs.Turns.{RunProgress}
 use Rattle.session_driver.specs.Adding.{AddsTo, added_to, call_of}
 use Rattle.session_driver.specs.Logs.{KeepsTrace}
 use Rattle.session_driver.specs.Ongoing.{At, EndsLane, IsReady, Nothing, Ongoing, Part, at, lane_of}
@@ -16,8 +16,8 @@ use Rattle.session_driver.proofs.Joining.{join, quiet, stays_hold, stays_self}
 abbrev pub adding : ℕ → Call → Part
 adding lane call = record { whole = λ s a b. b ≡ added_to a lane call; so_far = Nothing }
 
-add_keeps : (lane : ℕ) (call : Call) (a b : Stage) → b ≡ added_to a lane call → (log : List Piece) → KeepsTrace a.past b.past log log
-add_keeps lane call a b is log = subst (λ (w : Stage). KeepsTrace a.past w.past log log) (sym is) (λ hello first shown. shown)
+add_keeps : (lane : ℕ) (call : Call) (a b : RunProgress) → b ≡ added_to a lane call → (log : List Piece) → KeepsTrace a.past b.past log log
+add_keeps lane call a b is log = subst (λ (w : RunProgress). KeepsTrace a.past w.past log log) (sym is) (λ hello first shown. shown)
 
 pub add_on : {S : Type 0} (lane : ℕ) (call : Call) (a b : Seen) (x : LinkView S) → AddsTo lane call a b
     → IsReady (at a x) → Ongoing (adding lane call) (at a x) (at b x) (Ok tt)
@@ -27,8 +27,8 @@ pub call_is : {S : Type 0} (lane : ℕ) (call : Call) {a b c : At S} {result : R
     → Ongoing (adding lane call) a b (Ok tt) → Ongoing (lane_of lane) b c result
     → Ongoing (call_of lane call) a c result
 call_is lane call {a = a} {b = b} {c = c} added went =
-    join (λ u v. subst (λ (w : Stage). EndsLane a.seen.setting lane w c.seen.stage) u v)
-    (λ u past part. inr (subst (λ (w : Stage). RoundsSoFar a.seen.setting lane w past) u part)) added went
+    join (λ u v. subst (λ (w : RunProgress). EndsLane a.seen.setting lane w c.seen.stage) u v)
+    (λ u past part. inr (subst (λ (w : RunProgress). RoundsSoFar a.seen.setting lane w past) u part)) added went
 
 -- there was no memory for the call
 pub unmoved_self : (a b : Seen) → b ≡ a → IsUnmoved a b

@@ -50,7 +50,7 @@ use Rattle.sftp_core.specs.declared.place.Place.{Place}
 use Rattle.sftp_core.specs.declared.place.Place.TheVariants.{Waiting}
 use Rattle.sftp_core.specs.declared.tokens.Taken.{Taken}
 use Rattle.sftp_core.specs.declared.tokens.Taken.TheVariants as taken_of
-use Rattle.sftp_core.specs.declared.phase.Phase.TheVariants as core_phase
+use Rattle.sftp_core.specs.declared.handshake.Handshake.TheVariants as core_phase
 use Rattle.sftp_core.specs.Info.{info_with}
 use Rattle.sftp_model.specs.Lengths.{offers_limits}
 use Rattle.session_model.specs.Settings.{greeting, setting_of}
@@ -72,7 +72,7 @@ use Rattle.session_model.specs.Readings.{asked, sent, ended, own, answer, awaite
 use Rattle.session_model.specs.Calls.{Setting, calls_of, current, move_of, move_at, site_of}
 use Rattle.session_model.specs.Journals.{MayTake, is_read, brings_limits}
 use Rattle.session_model.specs.Runs.{at_first, queried}
-use Rattle.session_model.specs.Turns.{Stage}
+use Rattle.session_model.specs.Turns.{RunProgress}
 use Rattle.session_driver.specs.declared.session.Phase.{Phase}
 use Rattle.session_driver.specs.declared.session.Phase.TheVariants.{Fresh, Greeted, Asking, Queried, Open, Failed}
 use Rattle.session_driver.specs.declared.session.Stepped.TheVariants as stepped
@@ -136,7 +136,7 @@ idle_unanswered options core past o = ap unanswered_of o.calm ∙ (let none = co
 pub idle_queued : (options : SftpOptions) (core : Core) (past : List Entry) → IsOpen options core past → queued_of core ≡ 0
 idle_queued options core past o = ap queued_of o.calm
 
-pub step_idle : (s : Setting) (lane : ℕ) (at : Stage) → current s at.past lane ≡ None → StepsTo s lane at at (move_of s at.past lane) stepped.Nothing
+pub step_idle : (s : Setting) (lane : ℕ) (at : RunProgress) → current s at.past lane ≡ None → StepsTo s lane at at (move_of s at.past lane) stepped.Nothing
 step_idle s lane at none =
     subst (λ (m : Option Move). StepsTo s lane at at m stepped.Nothing)
     (sym (ap (λ c. move_at c (site_of s at.past lane) s.facts (own at.past lane (ended at.past lane))

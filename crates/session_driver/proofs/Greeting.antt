@@ -13,7 +13,7 @@ use Rattle.session_model.specs.declared.entry.Entry.{Entry}
 use Rattle.session_model.specs.declared.entry.Entry.TheVariants as entry
 use Rattle.session_model.specs.declared.event.Event.TheVariants.{Send}
 use Rattle.session_model.specs.Shown.{hello_frame}
-use Rattle.session_model.specs.Turns.{Stage}
+use Rattle.session_model.specs.Turns.{RunProgress}
 use Rattle.session_driver.specs.declared.session.Phase.{Phase}
 use Rattle.session_driver.specs.declared.session.Phase.TheVariants.{Greeted, Queried}
 use Rattle.session_exchange.specs.Causes.{Caused, SentBy}
@@ -29,7 +29,7 @@ use Rattle.session_driver.proofs.Stopping.{hello_refused, hello_unbegun, hello_u
 
 -- ---- what the opening leaves of a session
 
-opening_holds : (a b : Seen) (phase : Phase) (stage : Stage) → b ≡ record a { phase = phase; stage = stage; work = b.work } → KeepsMade a b
+opening_holds : (a b : Seen) (phase : Phase) (stage : RunProgress) → b ≡ record a { phase = phase; stage = stage; work = b.work } → KeepsMade a b
 opening_holds a b phase stage e = e ∙ (λ i. record a { phase = (sym e i).phase; stage = (sym e i).stage; work = b.work })
 
 pub greeted_holds : (a b : Seen) → IsGreeted a b → KeepsMade a b
@@ -40,7 +40,7 @@ queried_holds a b e = opening_holds a b Queried (record { past = entry.Event Sen
 
 -- nothing had happened, and nothing has but the hello
 none_yet : (a : Seen) → IsFresh a → a.stage.past ≡ []
-none_yet a fresh = ap (λ (w : Stage). w.past) fresh.rest
+none_yet a fresh = ap (λ (w : RunProgress). w.past) fresh.rest
 
 none_then : (a b : Seen) → IsFresh a → IsGreeted a b → b.stage.past ≡ []
 none_then a b fresh greeted = ap (λ (w : Seen). w.stage.past) greeted ∙ none_yet a fresh

@@ -7,7 +7,7 @@ use Rattle.session_model.specs.declared.entry.Entry.{Entry}
 use Rattle.session_model.specs.declared.entry.Entry.TheVariants as entry
 use Rattle.session_model.specs.Readings.{asked, sent, awaited, unanswered, count_below, answer}
 use Rattle.session_model.specs.Calls.{Setting}
-use Rattle.session_model.specs.Turns.{Stage, SendsTo, RulesTo, SettlesTo, FlushesBy, is_full}
+use Rattle.session_model.specs.Turns.{RunProgress, SendsTo, RulesTo, SettlesTo, FlushesBy, is_full}
 use Rattle.session_model.specs.Grants.{next_due}
 use Rattle.session_driver.specs.Session.{IsLater, LetsGo, Flushed}
 
@@ -49,29 +49,29 @@ sends_rules s past now is none =
     subst (λ (w : List Entry). RulesTo s (entry.Event Send ∷ past) w) (sym is)
     (entry.Event Send ∷ past, ((inl refl, none), match_false _ _ _ (no_more s.max_pending (asked past)) refl))
 
-pub flush_turns : (s : Setting) (before now : Stage) → Flushed s before now → FlushesBy (RulesTo s) before now
+pub flush_turns : (s : Setting) (before now : RunProgress) → Flushed s before now → FlushesBy (RulesTo s) before now
 flush_turns s before now f = by_test (nat_lt (sent before.past) (asked before.past)) f
   where
     by_test : (b : Bool)
         → MatchBool b ((now ≡ record { past = entry.Event Send ∷ before.past; begun = before.begun })
         × (next_due s (entry.Event Send ∷ before.past) ≡ None)) (now ≡ before)
         → MatchBool b ((now.begun ≡ before.begun) × RulesTo s (entry.Event Send ∷ before.past) now.past) (now ≡ before)
-    by_test true f = (ap (λ (w : Stage). w.begun) f.0, sends_rules s before.past now.past (ap (λ (w : Stage). w.past) f.0) f.1)
+    by_test true f = (ap (λ (w : RunProgress). w.begun) f.0, sends_rules s before.past now.past (ap (λ (w : RunProgress). w.past) f.0) f.1)
     by_test false same = same
 
 -- too much was unsent, and it was sent
-pub full_sends : (s : Setting) (before now : Stage) → is_full s before.past ≡ true → Flushed s before now → SendsTo s before.past now.past
+pub full_sends : (s : Setting) (before now : RunProgress) → is_full s before.past ≡ true → Flushed s before now → SendsTo s before.past now.past
 full_sends s before now full f =
     let sends = when_true _ _ _ (some_unsent s.max_pending (asked before.past) (sent before.past) full) f in
-    match_true _ _ _ full (ap (λ (w : Stage). w.past) sends.0)
+    match_true _ _ _ full (ap (λ (w : RunProgress). w.past) sends.0)
 
-pub full_begun : (s : Setting) (before now : Stage) → Flushed s before now → now.begun ≡ before.begun
+pub full_begun : (s : Setting) (before now : RunProgress) → Flushed s before now → now.begun ≡ before.begun
 full_begun s before now f = by_test (nat_lt (sent before.past) (asked before.past)) f
   where
     by_test : (b : Bool) → MatchBool b ((now ≡ record { past = entry.Event Send ∷ before.past; begun = before.begun })
         × (next_due s (entry.Event Send ∷ before.past) ≡ None)) (now ≡ before) → now.begun ≡ before.begun
-    by_test true f = ap (λ (w : Stage). w.begun) f.0
-    by_test false same = ap (λ (w : Stage). w.begun) same
+    by_test true f = ap (λ (w : RunProgress). w.begun) f.0
+    by_test false same = ap (λ (w : RunProgress). w.begun) same
 
 below_more : (f : ℕ → Bool) (m n : ℕ) → m ≤ n → count_below f m ≤ count_below f n
 below_more f m zero le = let none : m ≡ 0 = omega (arith, le) in subst (λ (w : ℕ). count_below f m ≤ count_below f w) none (omega arith)
@@ -89,24 +89,24 @@ not_below : (a b : ℕ) → nat_lt b a ≡ false → a ≤ b
 not_below a b f = grind (arith, nat_tests)
 
 -- when all is sent, what is unanswered is awaited
-pub flush_awaits : (s : Setting) (before now : Stage) → Flushed s before now → 0 < unanswered before.past → 0 < awaited now.past
+pub flush_awaits : (s : Setting) (before now : RunProgress) → Flushed s before now → 0 < unanswered before.past → 0 < awaited now.past
 flush_awaits s before now f some = by_test (nat_lt (sent before.past) (asked before.past)) refl f
   where
     by_test : (b : Bool) → nat_lt (sent before.past) (asked before.past) ≡ b
         → MatchBool b ((now ≡ record { past = entry.Event Send ∷ before.past; begun = before.begun })
         × (next_due s (entry.Event Send ∷ before.past) ≡ None)) (now ≡ before) → 0 < awaited now.past
-    by_test true e f = subst (λ (w : Stage). 0 < awaited w.past) (sym f.0) some
+    by_test true e f = subst (λ (w : RunProgress). 0 < awaited w.past) (sym f.0) some
     by_test false e same =
         let le = not_below (asked before.past) (sent before.past) e in
         let more = below_more (λ place. is_none (answer before.past place)) (asked before.past) (sent before.past) le in
-        subst (λ (w : Stage). 0 < awaited w.past) (sym same) (omega (arith, more, some))
+        subst (λ (w : RunProgress). 0 < awaited w.past) (sym same) (omega (arith, more, some))
 
 -- ---- a lane is let go
 
 is_below : (lane n : ℕ) → lane < n → nat_lt lane n ≡ true
 is_below lane n there = grind (arith, nat_tests)
 
-pub lets_go : (s : Setting) (lane : ℕ) (before now : Stage) → LetsGo s lane before now → lane < length s.lanes
+pub lets_go : (s : Setting) (lane : ℕ) (before now : RunProgress) → LetsGo s lane before now → lane < length s.lanes
     → (now.begun ≡ before.begun) × SettlesTo s (entry.LetGo lane ∷ before.past) now.past
 lets_go s lane before now t there =
     subst (λ (b : Bool). MatchBool b ((now.begun ≡ before.begun)

@@ -19,7 +19,7 @@ use Rattle.session_model.specs.declared.entry.Entry.TheVariants as entry
 use Rattle.session_model.specs.Readings.{sent, awaited, unanswered}
 use Rattle.session_model.specs.Calls.{Setting, move_of}
 use Rattle.session_model.specs.Journals.{cancelled_end}
-use Rattle.session_model.specs.Turns.{Stage, TurnTo, MovesBy, SettlesTo, RulesTo, begun_but, is_full}
+use Rattle.session_model.specs.Turns.{RunProgress, TurnTo, MovesBy, SettlesTo, RulesTo, begun_but, is_full}
 use Rattle.session_model.specs.Runs.{LetGoTo}
 use Rattle.session_driver.specs.RunsSoFar.{TurnSoFar, LetGoSoFar}
 use Rattle.session_driver.specs.declared.session.Stepped.{Stepped}
@@ -49,8 +49,8 @@ use Rattle.session_driver.proofs.Joining.{quiet, idle, join, as_part, went_of, p
 
 -- ---- a flush
 
-later_same : (s : Setting) (before now : Stage) → now ≡ before → IsLater s before.past now.past
-later_same s before now same = subst (λ (w : Stage). IsLater s before.past w.past) (sym same) (later_self s before.past)
+later_same : (s : Setting) (before now : RunProgress) → now ≡ before → IsLater s before.past now.past
+later_same s before now same = subst (λ (w : RunProgress). IsLater s before.past w.past) (sym same) (later_self s before.past)
 
 pub flush_none : {S : Type 0} (a now : Seen) (x : LinkView S) (u : Unit {0}) → HandsOut a.setting a.stage None now.stage
     → StaysInPhase a now → IsReady (at a x) → Ongoing flushing (at a x) (at now x) (Ok u)
@@ -67,9 +67,9 @@ flush_sent a mid now x y sent bytes v u ready out stays is same by =
     (record {
       went = record {
         whole = match_true _ _ _ out.0 (out.2, out.3);
-        later = subst (λ (w : Stage). IsLater a.setting a.stage.past w.past) (sym out.2) (inr (out.4, later_self a.setting a.stage.past));
+        later = subst (λ (w : RunProgress). IsLater a.setting a.stage.past w.past) (sym out.2) (inr (out.4, later_self a.setting a.stage.past));
         stays = stays;
-        log = keeps_sent a.stage.past mid.stage.past sent x.log y.log (ap (λ (w : Stage). w.past) out.2) (same ∙ out.1) by.log;
+        log = keeps_sent a.stage.past mid.stage.past sent x.log y.log (ap (λ (w : RunProgress). w.past) out.2) (same ∙ out.1) by.log;
         ready = record { is_open = phase_stays a mid stays ready.is_open; count = subst (λ (n : ℕ). n < 2 ^ 64 - 1) (sym by.caused.cause) ready.count };
       };
       stopped = tt;
@@ -85,7 +85,7 @@ flush_unsent a now x y sent bytes e out stays same by =
       stopped = record {
         past = a.stage.past;
         is = record { later = later_self a.setting a.stage.past; so_far = refl };
-        ahead = by_send by.log.0 (ap (λ (w : Stage). w.past) out.2);
+        ahead = by_send by.log.0 (ap (λ (w : RunProgress). w.past) out.2);
         holds = stays_hold a now stays;
         log = sent_here y.ended e a.stage.past sent x.log y.log (same ∙ out.1) by.log.0 by.log.1;
       };
@@ -94,21 +94,21 @@ flush_unsent a now x y sent bytes e out stays same by =
 
 -- ---- a step
 
-pub steps_by : (s : Setting) (lane : ℕ) (a b : Stage) (m : Option Move) (event : Stepped) → StepsTo s lane a b m event → MovesBy (SettlesTo s) lane a b m
+pub steps_by : (s : Setting) (lane : ℕ) (a b : RunProgress) (m : Option Move) (event : Stepped) → StepsTo s lane a b m event → MovesBy (SettlesTo s) lane a b m
 steps_by s lane a b None event t = t.1
 steps_by s lane a b (Some (Wait place)) event t = t.1
 steps_by s lane a b (Some (Ask r)) event t = (t.1, t.2)
 steps_by s lane a b (Some (Done o site)) event t = (t.1, t.2)
 
 -- there was nothing to do, or the call waits
-pub steps_nothing : (s : Setting) (lane : ℕ) (a b : Stage) (m : Option Move) (event : Stepped) → event ≡ stepped.Nothing
+pub steps_nothing : (s : Setting) (lane : ℕ) (a b : RunProgress) (m : Option Move) (event : Stepped) → event ≡ stepped.Nothing
     → StepsTo s lane a b m event → MovesBy (RulesTo s) lane a b m
 steps_nothing s lane a b None event none t = t.1
 steps_nothing s lane a b (Some (Wait place)) event none t = t.1
 steps_nothing s lane a b (Some (Ask r)) event none t = (let e = t.0 in absurd cc)
 steps_nothing s lane a b (Some (Done o site)) event none t = (let e = t.0 in absurd cc)
 
-pub steps_settle : (s : Setting) (lane : ℕ) (a b c : Stage) (m : Option Move) (event : Stepped)
+pub steps_settle : (s : Setting) (lane : ℕ) (a b c : RunProgress) (m : Option Move) (event : Stepped)
     → event ≢ stepped.Nothing → StepsTo s lane a b m event → Settled s b c → MovesBy (RulesTo s) lane a c m
 steps_settle s lane a b c None event some t settled = absurd (some t.0)
 steps_settle s lane a b c (Some (Wait place)) event some t settled = absurd (some t.0)
@@ -135,14 +135,14 @@ pub stepped_on : {S : Type 0} (lane : ℕ) (event : Stepped) (a b : Seen) (x : L
 stepped_on lane event a b x t goes ready = quiet (stepping lane event) a b x tt t goes
     (step_keeps a.setting lane a.stage b.stage (move_of a.setting a.stage.past lane) event t) ready
 
-pub half_step : (s : Setting) (lane : ℕ) (event : Stepped) (a b : Stage)
+pub half_step : (s : Setting) (lane : ℕ) (event : Stepped) (a b : RunProgress)
     → StepsTo s lane a b (move_of s a.past lane) event → (past : List Entry) → past ≡ b.past
     → TurnSoFar s (turn.Step lane) a past
 half_step s lane event a b t past is = inr (record { now = b; event = steps_by s lane a b (move_of s a.past lane) event t; is = sym is })
 
 -- ---- a cancel
 
-cancels_by : (s : Setting) (lane : ℕ) (a b at : Stage) (cond event : Bool) → MatchBool cond
+cancels_by : (s : Setting) (lane : ℕ) (a b at : RunProgress) (cond event : Bool) → MatchBool cond
     ((event ≡ true) × (b.begun ≡ at.begun) × SettlesTo s (cancelled_end (entry.Event (Cancel lane) ∷ a.past) lane ∷ entry.Event (Cancel lane) ∷ a.past) b.past)
     ((event ≡ false) × (b ≡ a)) → MatchBool cond
     ((b.begun ≡ at.begun) × SettlesTo s (cancelled_end (entry.Event (Cancel lane) ∷ a.past) lane ∷ entry.Event (Cancel lane) ∷ a.past) b.past)
@@ -150,7 +150,7 @@ cancels_by : (s : Setting) (lane : ℕ) (a b at : Stage) (cond event : Bool) →
 cancels_by s lane a b at true event t = (t.1, t.2)
 cancels_by s lane a b at false event t = t.1
 
-cancels_settle : (s : Setting) (lane : ℕ) (a b c at : Stage) (cond event : Bool) → event ≡ true → MatchBool cond
+cancels_settle : (s : Setting) (lane : ℕ) (a b c at : RunProgress) (cond event : Bool) → event ≡ true → MatchBool cond
     ((event ≡ true) × (b.begun ≡ at.begun) × SettlesTo s (cancelled_end (entry.Event (Cancel lane) ∷ a.past) lane ∷ entry.Event (Cancel lane) ∷ a.past) b.past)
     ((event ≡ false) × (b ≡ a)) → Settled s b c → MatchBool cond
     ((c.begun ≡ at.begun) × RulesTo s (cancelled_end (entry.Event (Cancel lane) ∷ a.past) lane ∷ entry.Event (Cancel lane) ∷ a.past) c.past)
@@ -158,7 +158,7 @@ cancels_settle : (s : Setting) (lane : ℕ) (a b c at : Stage) (cond event : Boo
 cancels_settle s lane a b c at true event is t settled = (settled.begun ∙ t.1, (b.past, (t.2, settled.sends)))
 cancels_settle s lane a b c at false event is t settled = (let e = t.0 in absurd cc)
 
-cancels_nothing : (s : Setting) (lane : ℕ) (a b at : Stage) (cond event : Bool) → event ≡ false → MatchBool cond
+cancels_nothing : (s : Setting) (lane : ℕ) (a b at : RunProgress) (cond event : Bool) → event ≡ false → MatchBool cond
     ((event ≡ true) × (b.begun ≡ at.begun) × SettlesTo s (cancelled_end (entry.Event (Cancel lane) ∷ a.past) lane ∷ entry.Event (Cancel lane) ∷ a.past) b.past)
     ((event ≡ false) × (b ≡ a)) → MatchBool cond
     ((b.begun ≡ at.begun) × RulesTo s (cancelled_end (entry.Event (Cancel lane) ∷ a.past) lane ∷ entry.Event (Cancel lane) ∷ a.past) b.past)
@@ -167,7 +167,7 @@ cancels_nothing s lane a b at true event is t = (let e = t.0 in absurd cc)
 cancels_nothing s lane a b at false event is t = t.1
 
 -- the lanes that were begun, but this one
-abbrev ended_stage : ℕ → Stage → Stage
+abbrev ended_stage : ℕ → RunProgress → RunProgress
 ended_stage lane a = record { past = a.past; begun = begun_but a.begun lane }
 
 abbrev pub cancelling : ℕ → Bool → Part
@@ -178,14 +178,14 @@ pub cancelled_on : {S : Type 0} (lane : ℕ) (event : Bool) (a b : Seen) (x : Li
     → Ongoing (cancelling lane event) (at a x) (at b x) (Ok tt)
 cancelled_on lane event a b x t goes ready = quiet (cancelling lane event) a b x tt t goes (cancel_keeps a.setting lane a.stage b.stage event t) ready
 
-pub cancel_settles : (s : Setting) (lane : ℕ) (event : Bool) (a b c : Stage) → event ≡ true → Cancels s lane a b event
+pub cancel_settles : (s : Setting) (lane : ℕ) (event : Bool) (a b c : RunProgress) → event ≡ true → Cancels s lane a b event
     → Settled s b c → TurnTo s (turn.Cancel lane) a c
 cancel_settles s lane event a b c is t settled = cancels_settle s lane a b c (ended_stage lane a) _ event is t settled
 
-pub cancel_nothing : (s : Setting) (lane : ℕ) (event : Bool) (a b : Stage) → event ≡ false → Cancels s lane a b event → TurnTo s (turn.Cancel lane) a b
+pub cancel_nothing : (s : Setting) (lane : ℕ) (event : Bool) (a b : RunProgress) → event ≡ false → Cancels s lane a b event → TurnTo s (turn.Cancel lane) a b
 cancel_nothing s lane event a b is t = cancels_nothing s lane a b (ended_stage lane a) _ event is t
 
-pub half_cancel : (s : Setting) (lane : ℕ) (event : Bool) (a b : Stage) → Cancels s lane a b event → (past : List Entry)
+pub half_cancel : (s : Setting) (lane : ℕ) (event : Bool) (a b : RunProgress) → Cancels s lane a b event → (past : List Entry)
     → past ≡ b.past → TurnSoFar s (turn.Cancel lane) a past
 half_cancel s lane event a b t past is =
     inr (record { now = b; event = cancels_by s lane a b (ended_stage lane a) _ event t; is = sym is })
@@ -211,17 +211,17 @@ taken_on a b x y r body bytes ready some t goes framed short got caused =
       caused = record { cause = caused.cause; end = tt; only = tt; service = caused.service };
     }
 
-pub take_settles : (s : Setting) (body : List ℕ) (a b c : Stage) → (nat_lt 0 (awaited a.past) ≡ true)
+pub take_settles : (s : Setting) (body : List ℕ) (a b c : RunProgress) → (nat_lt 0 (awaited a.past) ≡ true)
     × TakesAndSettles s (reply_at body) a b → Settled s b c → TurnTo s turn.Take a c
 take_settles s body a b c t settled =
     match_true _ _ _ t.0 (settled.begun ∙ t.1.1.1.2, (t.1.0, (t.1.1.0, (t.1.1.1.1, (b.past, (t.1.1.1.3, settled.sends))))))
 
-pub half_take : (s : Setting) (body : List ℕ) (a b : Stage) → (nat_lt 0 (awaited a.past) ≡ true)
+pub half_take : (s : Setting) (body : List ℕ) (a b : RunProgress) → (nat_lt 0 (awaited a.past) ≡ true)
     × TakesAndSettles s (reply_at body) a b → (past : List Entry) → past ≡ b.past → TurnSoFar s turn.Take a past
 half_take s body a b t past is =
     inr (record { now = b; event = match_true _ _ _ t.0 (t.1.1.1.2, (t.1.0, (t.1.1.0, (t.1.1.1.1, t.1.1.1.3)))); is = sym is })
 
-pub take_nothing : (s : Setting) (a : Stage) → nat_lt 0 (awaited a.past) ≡ false → TurnTo s turn.Take a a
+pub take_nothing : (s : Setting) (a : RunProgress) → nat_lt 0 (awaited a.past) ≡ false → TurnTo s turn.Take a a
 take_nothing s a none = match_false _ _ _ none refl
 
 -- no frame came
@@ -272,11 +272,11 @@ let_go_on lane a b x t there goes ready =
     let l = lets_go a.setting lane a.stage b.stage t there in
     quiet (letting_go lane) a b x tt l goes (let_go_keeps a.setting lane a.stage.past b.stage.past l.1) ready
 
-pub let_go_settles : (s : Setting) (lane : ℕ) (a b c : Stage) → (b.begun ≡ a.begun)
+pub let_go_settles : (s : Setting) (lane : ℕ) (a b c : RunProgress) → (b.begun ≡ a.begun)
     × SettlesTo s (entry.LetGo lane ∷ a.past) b.past → Settled s b c → LetGoTo s lane a c
 let_go_settles s lane a b c t settled = (settled.begun ∙ t.0, (b.past, (t.1, settled.sends)))
 
-pub half_let_go : (s : Setting) (lane : ℕ) (a b : Stage) → (b.begun ≡ a.begun)
+pub half_let_go : (s : Setting) (lane : ℕ) (a b : RunProgress) → (b.begun ≡ a.begun)
     × SettlesTo s (entry.LetGo lane ∷ a.past) b.past → (past : List Entry) → past ≡ b.past → LetGoSoFar s lane a past
 half_let_go s lane a b t past is = inr (subst (λ (p : List Entry). SettlesTo s (entry.LetGo lane ∷ a.past) p) (sym is) t.1)
 

@@ -40,7 +40,7 @@ use Rattle.session_model.specs.declared.entry.Entry.TheVariants as entry
 use Rattle.session_model.specs.Readings.{asked, sent, awaited, ended}
 use Rattle.session_model.specs.Calls.{Setting, move_of}
 use Rattle.session_model.specs.Journals.{MayTake, cancelled_end}
-use Rattle.session_model.specs.Turns.{Stage, ClosesTo, SettlesTo, RulesTo, TurnTo, MovesBy, begun_but, is_full}
+use Rattle.session_model.specs.Turns.{RunProgress, ClosesTo, SettlesTo, RulesTo, TurnTo, MovesBy, begun_but, is_full}
 use Rattle.session_model.specs.Runs.{TurnsTo, RoundsTo, EndsTo, LetsGoTo, DrainsTo, Opens, at_first, round_of}
 use Rattle.session_model.specs.RowWords.{submit, open_of}
 use Rattle.session_model.specs.SlotRows.{two_lanes}
@@ -80,8 +80,8 @@ both a b c x y = (y.0 ++ x.0, y.1 ∙ ap (λ (w : List Entry). y.0 ++ w) x.1 ∙
 after_one : (e : Entry) (past now : List Entry) → Extends (e ∷ past) now → Extends past now
 after_one e past now x = both past (e ∷ past) now (one_more e past) x
 
-same_stage : (before now : Stage) → now ≡ before → Extends before.past now.past
-same_stage before now is = same before.past now.past (ap (λ (w : Stage). w.past) is)
+same_stage : (before now : RunProgress) → now ≡ before → Extends before.past now.past
+same_stage before now is = same before.past now.past (ap (λ (w : RunProgress). w.past) is)
 
 by_closes : (s : Setting) (before now : List Entry) → ClosesTo s before now → Extends before now
 by_closes s before [] c = ([], sym c)
@@ -101,23 +101,23 @@ by_rules s before now t = both before t.0 now (by_settling s before t.0 t.1.0) (
 -- ---- turns
 
 module _ (Follows : List Entry → List Entry → Type 0) (grows : (before now : List Entry) → Follows before now → Extends before now) where
-  by_move : (lane : ℕ) (a b : Stage) (m : Option Move) → MovesBy Follows lane a b m → Extends a.past b.past
+  by_move : (lane : ℕ) (a b : RunProgress) (m : Option Move) → MovesBy Follows lane a b m → Extends a.past b.past
   by_move lane a b None t = same_stage a b t
-  by_move lane a b (Some (Wait place)) t = same a.past b.past (ap (λ (w : Stage). w.past) t)
+  by_move lane a b (Some (Wait place)) t = same a.past b.past (ap (λ (w : RunProgress). w.past) t)
   by_move lane a b (Some (Ask r)) t = after_one (entry.Event (Submit (owner.Call lane (ended a.past lane)) t.1.0 r)) a.past b.past (grows _ b.past t.1.1.1)
   by_move lane a b (Some (Done o site)) t = after_one (entry.Event (End lane (ended a.past lane) o)) a.past b.past (grows _ b.past t.1)
 
-  by_flush : (a b : Stage) (some : Bool) → MatchBool some ((b.begun ≡ a.begun) × Follows (entry.Event Send ∷ a.past) b.past) (b ≡ a) → Extends a.past b.past
+  by_flush : (a b : RunProgress) (some : Bool) → MatchBool some ((b.begun ≡ a.begun) × Follows (entry.Event Send ∷ a.past) b.past) (b ≡ a) → Extends a.past b.past
   by_flush a b true t = after_one (entry.Event Send) a.past b.past (grows _ b.past t.1)
   by_flush a b false t = same_stage a b t
 
-  by_take : (a b : Stage) (some : Bool)
+  by_take : (a b : RunProgress) (some : Bool)
       → MatchBool some ((b.begun ≡ a.begun) × ((id : ℕ) × ((r : Reply)
       × (MayTake a.past id r × Follows (entry.Event (Take id r) ∷ a.past) b.past)))) (b ≡ a) → Extends a.past b.past
   by_take a b true t = after_one (entry.Event (Take t.1.0 t.1.1.0)) a.past b.past (grows _ b.past t.1.1.1.1)
   by_take a b false t = same_stage a b t
 
-  by_cancel : (lane : ℕ) (a b at : Stage) (some : Bool)
+  by_cancel : (lane : ℕ) (a b at : RunProgress) (some : Bool)
       → MatchBool some ((b.begun ≡ at.begun) × Follows (cancelled_end (entry.Event (Cancel lane) ∷ a.past) lane ∷
       entry.Event (Cancel lane) ∷ a.past) b.past) (b ≡ a) → Extends a.past b.past
   by_cancel lane a b at true t =
@@ -126,66 +126,66 @@ module _ (Follows : List Entry → List Entry → Type 0) (grows : (before now :
       (grows _ b.past t.1))
   by_cancel lane a b at false t = same_stage a b t
 
-  by_turn_by : (s : Setting) (t : Turn) (a b : Stage) → TurnBy Follows s t a b → Extends a.past b.past
+  by_turn_by : (s : Setting) (t : Turn) (a b : RunProgress) → TurnBy Follows s t a b → Extends a.past b.past
   by_turn_by s (turn.Step lane) a b t = by_move lane a b (move_of s a.past lane) t
   by_turn_by s turn.Flush a b t = by_flush a b (nat_lt (sent a.past) (asked a.past)) t
   by_turn_by s turn.Take a b t = by_take a b (nat_lt 0 (awaited a.past)) t
   by_turn_by s (turn.Cancel lane) a b t = by_cancel lane a b (record { past = a.past; begun = begun_but a.begun lane }) _ t
 
-by_turn : (s : Setting) (t : Turn) (a b : Stage) → TurnTo s t a b → Extends a.past b.past
+by_turn : (s : Setting) (t : Turn) (a b : RunProgress) → TurnTo s t a b → Extends a.past b.past
 by_turn s (turn.Step lane) a b t = by_turn_by (RulesTo s) (by_rules s) s (turn.Step lane) a b t
 by_turn s turn.Flush a b t = by_turn_by (RulesTo s) (by_rules s) s turn.Flush a b t
 by_turn s turn.Take a b t = by_turn_by (RulesTo s) (by_rules s) s turn.Take a b t
 by_turn s (turn.Cancel lane) a b t = by_turn_by (RulesTo s) (by_rules s) s (turn.Cancel lane) a b t
 
-by_turns : (s : Setting) (ts : List Turn) (a b : Stage) → TurnsTo s ts a b → Extends a.past b.past
+by_turns : (s : Setting) (ts : List Turn) (a b : RunProgress) → TurnsTo s ts a b → Extends a.past b.past
 by_turns s [] a b t = same_stage a b t
 by_turns s (u ∷ ts) a b t = both a.past t.0.past b.past (by_turn s u a t.0 t.1.0) (by_turns s ts t.0 b t.1.1)
 
 -- ---- parts that are whole
 
-by_rounds : (s : Setting) (lane n : ℕ) (a b : Stage) → RoundsTo s lane n a b → Extends a.past b.past
+by_rounds : (s : Setting) (lane n : ℕ) (a b : RunProgress) → RoundsTo s lane n a b → Extends a.past b.past
 by_rounds s lane zero a b t = same_stage a b t
 by_rounds s lane (suc n) a b t = both a.past t.1.0.past b.past (by_turns s (round_of lane) a t.1.0 t.1.1.0) (by_rounds s lane n t.1.0 b t.1.1.1)
 
-by_ends : (s : Setting) (n : ℕ) (a b : Stage) → EndsTo s n a b → Extends a.past b.past
+by_ends : (s : Setting) (n : ℕ) (a b : RunProgress) → EndsTo s n a b → Extends a.past b.past
 by_ends s zero a b t = same_stage a b t
 by_ends s (suc lane) a b t = both a.past t.0.past b.past (by_ends s lane a t.0 t.1.0) (by_rounds s lane t.1.1.0 t.0 b t.1.1.1)
 
-by_letting_go : (s : Setting) (n : ℕ) (a b : Stage) → LetsGoTo s n a b → Extends a.past b.past
+by_letting_go : (s : Setting) (n : ℕ) (a b : RunProgress) → LetsGoTo s n a b → Extends a.past b.past
 by_letting_go s zero a b t = same_stage a b t
 by_letting_go s (suc lane) a b t = both a.past t.0.past b.past (by_letting_go s lane a t.0 t.1.0)
     (after_one (entry.LetGo lane) t.0.past b.past (by_rules s (entry.LetGo lane ∷ t.0.past) b.past t.1.1.1))
 
-by_drains : (s : Setting) (n : ℕ) (a b : Stage) → DrainsTo s n a b → Extends a.past b.past
+by_drains : (s : Setting) (n : ℕ) (a b : RunProgress) → DrainsTo s n a b → Extends a.past b.past
 by_drains s zero a b t = same_stage a b t
 by_drains s (suc n) a b t = both a.past t.1.0.past b.past (by_turns s drain_of a t.1.0 t.1.1.0) (by_drains s n t.1.0 b t.1.1.1)
 
 -- ---- parts that were stopped
 
-so_far_turn : (s : Setting) (t : Turn) (a : Stage) (past : List Entry) → TurnSoFar s t a past → Extends a.past past
+so_far_turn : (s : Setting) (t : Turn) (a : RunProgress) (past : List Entry) → TurnSoFar s t a past → Extends a.past past
 so_far_turn s t a past (inl is) = same a.past past is
 so_far_turn s t a past (inr half) = subst (Extends a.past) half.is (by_turn_by (SettlesTo s) (by_settling s) s t a half.now half.event)
 
-so_far_turns : (s : Setting) (ts : List Turn) (a : Stage) (past : List Entry) → TurnsSoFar s ts a past → Extends a.past past
+so_far_turns : (s : Setting) (ts : List Turn) (a : RunProgress) (past : List Entry) → TurnsSoFar s ts a past → Extends a.past past
 so_far_turns s [] a past is = same a.past past is
 so_far_turns s (t ∷ ts) a past (inl part) = so_far_turn s t a past part
 so_far_turns s (t ∷ ts) a past (inr next) = both a.past next.0.past past (by_turn s t a next.0 next.1.0) (so_far_turns s ts next.0 past next.1.1)
 
-so_far_ends : (s : Setting) (n : ℕ) (a : Stage) (past : List Entry) → EndsSoFar s n a past → Extends a.past past
+so_far_ends : (s : Setting) (n : ℕ) (a : RunProgress) (past : List Entry) → EndsSoFar s n a past → Extends a.past past
 so_far_ends s n a past p =
     both a.past p.mid.past past (by_ends s p.lane a p.mid p.whole)
     (both p.mid.past p.part.mid.past past (by_rounds s p.lane p.part.rounds p.mid p.part.mid p.part.whole)
     (so_far_turns s (round_of p.lane) p.part.mid past p.part.part))
 
-so_far_letting_go : (s : Setting) (n : ℕ) (a : Stage) (past : List Entry) → LetsGoSoFar s n a past → Extends a.past past
+so_far_letting_go : (s : Setting) (n : ℕ) (a : RunProgress) (past : List Entry) → LetsGoSoFar s n a past → Extends a.past past
 so_far_letting_go s n a past p = both a.past p.mid.past past (by_letting_go s p.lane a p.mid p.whole) (last p.part)
   where
     last : (past ≡ p.mid.past) ⊎ SettlesTo s (entry.LetGo p.lane ∷ p.mid.past) past → Extends p.mid.past past
     last (inl is) = same p.mid.past past is
     last (inr t) = after_one (entry.LetGo p.lane) p.mid.past past (by_settling s (entry.LetGo p.lane ∷ p.mid.past) past t)
 
-so_far_drains : (s : Setting) (a : Stage) (past : List Entry) → DrainsSoFar s a past → Extends a.past past
+so_far_drains : (s : Setting) (a : RunProgress) (past : List Entry) → DrainsSoFar s a past → Extends a.past past
 so_far_drains s a past p = both a.past p.mid.past past (by_drains s p.drains a p.mid p.whole) (so_far_turns s drain_of p.mid past p.part)
 
 -- ---- the first turn
@@ -198,7 +198,7 @@ none_opened : (limits : Bool) (past : List Entry) → limits ≡ false → Opens
 none_opened true past is opens = absurd cc
 none_opened false past is opens = opens
 
-asks_first : (s : Setting) (lane : ℕ) (r : Request) (a b : Stage) (Follows : List Entry → List Entry → Type 0)
+asks_first : (s : Setting) (lane : ℕ) (r : Request) (a b : RunProgress) (Follows : List Entry → List Entry → Type 0)
     → ((before now : List Entry) → Follows before now → Extends before now) → a.past ≡ [] → (m : Option Move) → m
     ≡ Some (Ask r)
     → MovesBy Follows lane a b m → BeginsWith lane r b.past
@@ -216,7 +216,7 @@ module _ (s : Setting) (lane : ℕ) (turns : List Turn) (r : Request) (unasked :
   none_at_first : (opened : List Entry) → Opens s.limits opened → opened ≡ []
   none_at_first opened opens = none_opened s.limits opened unasked opens
 
-  turned_first : (opened : List Entry) (turned : Stage) → Opens s.limits opened
+  turned_first : (opened : List Entry) (turned : RunProgress) → Opens s.limits opened
       → TurnsTo s (turn.Step lane ∷ turns) (at_first opened) turned → BeginsWith lane r turned.past
   turned_first opened turned opens t =
       let none = none_at_first opened opens in

@@ -22,7 +22,7 @@ use Rattle.session_model.specs.declared.entry.Entry.TheVariants as entry
 use Rattle.session_model.specs.Readings.{awaited, ended, unsent_bytes}
 use Rattle.session_model.specs.Calls.{Setting}
 use Rattle.session_model.specs.Journals.{cancelled_end}
-use Rattle.session_model.specs.Turns.{Stage, ClosesTo, SettlesTo}
+use Rattle.session_model.specs.Turns.{RunProgress, ClosesTo, SettlesTo}
 use Rattle.session_model.specs.Shown.{Shows, hello_frame}
 use Rattle.session_driver.specs.declared.session.Phase.{Phase}
 use Rattle.session_driver.specs.declared.session.Stepped.{Stepped}
@@ -55,26 +55,26 @@ closes_keep s before (e ∷ past) hello first log (inr c) shown =
     let rest : Shows hello past first log = closes_keep s before past hello first log c.1 shown in
     subst (λ (w : Entry). Shows hello (w ∷ past) first log) (sym c.0.1.1.1.1) rest
 
-pub same_keep : (before now : Stage) → now ≡ before → (log : List Piece) → KeepsTrace before.past now.past log log
-same_keep before now same log hello first shown = subst (λ (w : Stage). Shows hello w.past first log) (sym same) shown
+pub same_keep : (before now : RunProgress) → now ≡ before → (log : List Piece) → KeepsTrace before.past now.past log log
+same_keep before now same log hello first shown = subst (λ (w : RunProgress). Shows hello w.past first log) (sym same) shown
 
-pub step_keeps : (s : Setting) (lane : ℕ) (before now : Stage) (m : Option Move) (event : Stepped)
+pub step_keeps : (s : Setting) (lane : ℕ) (before now : RunProgress) (m : Option Move) (event : Stepped)
     → StepsTo s lane before now m event → (log : List Piece) → KeepsTrace before.past now.past log log
 step_keeps s lane before now None event t log hello first shown = same_keep before now t.1 log hello first shown
-step_keeps s lane before now (Some (Wait place)) event t log hello first shown = subst (λ (w : Stage). Shows hello w.past first log) (sym t.1) shown
+step_keeps s lane before now (Some (Wait place)) event t log hello first shown = subst (λ (w : RunProgress). Shows hello w.past first log) (sym t.1) shown
 step_keeps s lane before now (Some (Ask r)) event t log hello first shown =
     closes_keep s (entry.Event (Submit (owner.Call lane (ended before.past lane)) t.2.0 r) ∷ before.past) now.past hello first log t.2.1.1.0 shown
 step_keeps s lane before now (Some (Done o site)) event t log hello first shown =
     closes_keep s (entry.Event (End lane (ended before.past lane) o) ∷ before.past) now.past hello first log t.2.0 shown
 
-cancels_keep : (s : Setting) (lane : ℕ) (before now : Stage) (b event : Bool) (Begun : Type 0) → MatchBool b
+cancels_keep : (s : Setting) (lane : ℕ) (before now : RunProgress) (b event : Bool) (Begun : Type 0) → MatchBool b
     ((event ≡ true) × Begun × SettlesTo s (cancelled_end (entry.Event (Cancel lane) ∷ before.past) lane ∷ entry.Event (Cancel lane) ∷ before.past) now.past)
     ((event ≡ false) × (now ≡ before)) → (log : List Piece) → KeepsTrace before.past now.past log log
 cancels_keep s lane before now true event Begun t log hello first shown =
     closes_keep s (cancelled_end (entry.Event (Cancel lane) ∷ before.past) lane ∷ entry.Event (Cancel lane) ∷ before.past) now.past hello first log t.2.0 shown
 cancels_keep s lane before now false event Begun t log hello first shown = same_keep before now t.1 log hello first shown
 
-pub cancel_keeps : (s : Setting) (lane : ℕ) (before now : Stage) (event : Bool) → Cancels s lane before now event
+pub cancel_keeps : (s : Setting) (lane : ℕ) (before now : RunProgress) (event : Bool) → Cancels s lane before now event
     → (log : List Piece) → KeepsTrace before.past now.past log log
 cancel_keeps s lane before now event t = cancels_keep s lane before now _ event _ t
 
@@ -83,7 +83,7 @@ pub let_go_keeps : (s : Setting) (lane : ℕ) (before now : List Entry) → Sett
 let_go_keeps s lane before now t log hello first shown = closes_keep s (entry.LetGo lane ∷ before) now hello first log t.0 shown
 
 -- a reply was got and taken
-pub keeps_taken : (s : Setting) (before now : Stage) (body bytes : List ℕ) (x y : Option (List Piece)) → TakesAndSettles s (reply_at body) before now
+pub keeps_taken : (s : Setting) (before now : RunProgress) (body bytes : List ℕ) (x y : Option (List Piece)) → TakesAndSettles s (reply_at body) before now
     → bytes ≡ string body → length body ≤ 1048575 → Told (GotAll bytes) x y → Told (KeepsTrace before.past now.past) x y
 keeps_taken s before now body bytes x y t framed short got =
     told_as _ _ x y got

@@ -8,7 +8,7 @@ use Rattle.session_model.specs.declared.turn.Turn.{Turn}
 use Rattle.session_model.specs.declared.entry.Entry.{Entry}
 use Rattle.session_model.specs.Readings.{was_let_go}
 use Rattle.session_model.specs.Calls.{Setting, current}
-use Rattle.session_model.specs.Turns.{Stage}
+use Rattle.session_model.specs.Turns.{RunProgress}
 use Rattle.session_model.specs.Runs.{TurnsTo, EndsTo, LetsGoTo, Opens, IsRun, at_first}
 use Rattle.session_driver.specs.RunsSoFar.{OpensSoFar, RunSoFar, in_opening, in_turns, in_rounds, in_letting_go, in_drains}
 use Rattle.session_driver.specs.Session.{Given, Seen, IsFixed, IsOpened, IsSoFar, at_rest}
@@ -26,14 +26,14 @@ use Rattle.session_driver.proofs.Loops.{whole_join, stop_join, stops_as, same_se
 use Rattle.session_driver.proofs.Rounds.{begins_at_first, is_run, opened_holds, held_on, ended_done}
 
 -- the schedule's turns, and then rounds until no lane has a call left
-pub record Ended (schedule : List Turn) (s : Setting) (a c : Stage) : Type 0 where
-  pub turned : Stage
+pub record Ended (schedule : List Turn) (s : Setting) (a c : RunProgress) : Type 0 where
+  pub turned : RunProgress
   pub turns : TurnsTo s schedule a turned
   pub ends : EndsTo s (length s.lanes) turned c
 
 -- and then each lane is let go
-pub record Gone (schedule : List Turn) (s : Setting) (a c : Stage) : Type 0 where
-  pub ended : Stage
+pub record Gone (schedule : List Turn) (s : Setting) (a c : RunProgress) : Type 0 where
+  pub ended : RunProgress
   pub first : Ended schedule s a ended
   pub goes : LetsGoTo s (length s.lanes) ended c
 
@@ -50,8 +50,8 @@ to_ends schedule = record { whole = Ended schedule; so_far = (run_on schedule).s
 abbrev pub to_gone : List Turn → Part
 to_gone schedule = record { whole = Gone schedule; so_far = (run_on schedule).so_far }
 
-from_first : (s : Setting) (schedule : List Turn) (a b : Stage) → a.begun ≡ at_rest.begun → TurnsTo s schedule a b → TurnsTo s schedule (at_first a.past) b
-from_first s schedule a b none turns = subst (λ (w : Stage). TurnsTo s schedule w b) (begins_at_first a none) turns
+from_first : (s : Setting) (schedule : List Turn) (a b : RunProgress) → a.begun ≡ at_rest.begun → TurnsTo s schedule a b → TurnsTo s schedule (at_first a.past) b
+from_first s schedule a b none turns = subst (λ (w : RunProgress). TurnsTo s schedule w b) (begins_at_first a none) turns
 
 module _ {S : Type 0} where
   pub turns_stopped : (schedule : List Turn) {a b : At S} {e : Error} → Ongoing (turns_of schedule) a b (Err e) → Ongoing (run_on schedule) a b (Err e)
@@ -61,7 +61,7 @@ module _ {S : Type 0} where
       by_first : (schedule : List Turn) (a : At S) (past : List Entry) → a.seen.stage.begun ≡ at_rest.begun
           → (turns_of schedule).so_far a.seen.setting a.seen.stage past
           → (turns_of schedule).so_far a.seen.setting (at_first a.seen.stage.past) past
-      by_first schedule a past none so_far = subst (λ (w : Stage). (turns_of schedule).so_far a.seen.setting w past) (begins_at_first a.seen.stage none) so_far
+      by_first schedule a past none so_far = subst (λ (w : RunProgress). (turns_of schedule).so_far a.seen.setting w past) (begins_at_first a.seen.stage none) so_far
 
   pub ends_stopped : (schedule : List Turn) {a b c : At S} {u : Unit {0}} {e : Error}
       → Ongoing (turns_of schedule) a b (Ok u) → Ongoing lanes_end b c (Err e) → Ongoing (run_on schedule) a c (Err e)

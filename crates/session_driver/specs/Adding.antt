@@ -6,7 +6,7 @@ use Rattle.session_model.specs.declared.entry.Entry.TheVariants as entry
 use Rattle.plan_model.specs.Lanes.{are_ok}
 use Rattle.session_model.specs.Calls.{calls_of}
 use Rattle.session_model.specs.Readings.{was_let_go}
-use Rattle.session_model.specs.Turns.{Stage}
+use Rattle.session_model.specs.Turns.{RunProgress}
 use Rattle.session_driver.specs.declared.session.Phase.TheVariants.{Open}
 use Rattle.session_driver.specs.Ongoing.{EndsLane, Part}
 use Rattle.session_driver.specs.RunsSoFar.{RoundsSoFar}
@@ -24,7 +24,7 @@ pub record MayAdd (lane : ℕ) (call : Call) (seen : Seen) (calls : List Lane) :
   pub ok : are_ok (with_call calls lane call) ≡ true
 
 -- the call's entry is the newest of the journal
-abbrev pub added_to : Stage → ℕ → Call → Stage
+abbrev pub added_to : RunProgress → ℕ → Call → RunProgress
 added_to before lane call = record { past = entry.Added lane call ∷ before.past; begun = before.begun }
 
 -- the call was added, and nothing else has changed

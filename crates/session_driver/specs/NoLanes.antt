@@ -1,7 +1,7 @@
 -- A session without lanes.
 use Rattle.std.specs.Prelude.{◌≡◌, ◌⊎◌, true, false, List, [], ◌∷◌, Option, Some, None}
 use Rattle.sftp_model.specs.declared.options.SftpOptions.{SftpOptions}
-use Rattle.sftp_core.specs.declared.phase.Phase.TheVariants as core_phase
+use Rattle.sftp_core.specs.declared.handshake.Handshake.TheVariants as core_phase
 use Rattle.std.specs.FinMap as fin
 use Rattle.sftp_core.specs.Core.{Core, fresh, handed_out, queued_last}
 use Rattle.sftp_core.specs.declared.info.Info.{Info}

@@ -27,7 +27,7 @@ use Rattle.session_model.specs.declared.turn.Turn.{Turn}
 use Rattle.session_model.specs.declared.entry.Entry.{Entry}
 use Rattle.session_model.specs.Readings.{unanswered}
 use Rattle.session_model.specs.Calls.{Setting, current}
-use Rattle.session_model.specs.Turns.{Stage, TurnTo, SendsTo, SettlesTo}
+use Rattle.session_model.specs.Turns.{RunProgress, TurnTo, SendsTo, SettlesTo}
 use Rattle.session_model.specs.Runs.{TurnsTo, RoundsTo, EndsTo, LetGoTo, LetsGoTo, DrainsTo}
 use Rattle.session_driver.specs.ServingLinks.{ServesLanes}
 use Rattle.session_driver.specs.RunsSoFar.{
@@ -65,11 +65,11 @@ pub record IsReady {Service : Type 0} (x : At Service) : Type 0 where
 
 -- how a journal goes on by a part that is whole, and what it may be where the part was stopped
 pub record Part : Type 1 where
-  pub whole : Setting → Stage → Stage → Type 0
-  pub so_far : Setting → Stage → List Entry → Type 0
+  pub whole : Setting → RunProgress → RunProgress → Type 0
+  pub so_far : Setting → RunProgress → List Entry → Type 0
 
 -- nothing of the part
-abbrev pub Nothing : Setting → Stage → List Entry → Type 0
+abbrev pub Nothing : Setting → RunProgress → List Entry → Type 0
 Nothing s before past = past ≡ before.past
 
 -- what is unsent is sent, where something is
@@ -77,7 +77,7 @@ abbrev pub flushing : Part
 flushing = record { whole = Flushed; so_far = Nothing }
 
 -- what is unsent is sent, where more is than may be
-pub record Settled (s : Setting) (before now : Stage) : Type 0 where
+pub record Settled (s : Setting) (before now : RunProgress) : Type 0 where
   pub begun : now.begun ≡ before.begun
   pub sends : SendsTo s before.past now.past
 
@@ -95,7 +95,7 @@ abbrev pub turns_of : List Turn → Part
 turns_of ts = record { whole = λ s. TurnsTo s ts; so_far = λ s. TurnsSoFar s ts }
 
 -- rounds of a lane until it has no call left
-pub record EndsLane (s : Setting) (lane : ℕ) (before now : Stage) : Type 0 where
+pub record EndsLane (s : Setting) (lane : ℕ) (before now : RunProgress) : Type 0 where
   pub rounds : ℕ
   pub went : RoundsTo s lane rounds before now
   pub done : current s now.past lane ≡ None
@@ -114,7 +114,7 @@ abbrev pub lanes_go : Part
 lanes_go = record { whole = λ s. LetsGoTo s (length s.lanes); so_far = λ s. LetsGoSoFar s (length s.lanes) }
 
 -- flushes and takes until nothing is unanswered
-pub record Drained (s : Setting) (before now : Stage) : Type 0 where
+pub record Drained (s : Setting) (before now : RunProgress) : Type 0 where
   pub drains : ℕ
   pub went : DrainsTo s drains before now
   pub answered : unanswered now.past ≡ 0

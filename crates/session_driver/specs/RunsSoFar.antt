@@ -10,7 +10,7 @@ use Rattle.session_model.specs.declared.entry.Entry.TheVariants as entry
 use Rattle.session_model.specs.Readings.{unanswered}
 use Rattle.session_model.specs.Calls.{Setting, current, move_of}
 use Rattle.session_model.specs.Journals.{IsFree}
-use Rattle.session_model.specs.Turns.{Stage, TurnTo, MovesBy, FlushesBy, TakesBy, CancelsBy, SettlesTo}
+use Rattle.session_model.specs.Turns.{RunProgress, TurnTo, MovesBy, FlushesBy, TakesBy, CancelsBy, SettlesTo}
 use Rattle.session_model.specs.Runs.{
   TurnsTo,
   RoundsTo,
@@ -25,52 +25,52 @@ use Rattle.session_model.specs.Runs.{
 }
 
 -- one turn, where `Follows` says what follows its event
-abbrev pub TurnBy : (List Entry → List Entry → Type 0) → Setting → Turn → Stage → Stage → Type 0
+abbrev pub TurnBy : (List Entry → List Entry → Type 0) → Setting → Turn → RunProgress → RunProgress → Type 0
 TurnBy Follows s (turn.Step lane) before now = MovesBy Follows lane before now (move_of s before.past lane)
 TurnBy Follows s turn.Flush before now = FlushesBy Follows before now
 TurnBy Follows s turn.Take before now = TakesBy Follows before now
 TurnBy Follows s (turn.Cancel lane) before now = CancelsBy Follows s lane before now
 
 -- the event of a turn and the CLOSEs that are due then, and not the Send that may follow
-pub record HalfTurn (s : Setting) (t : Turn) (before : Stage) (past : List Entry) : Type 0 where
-  pub now : Stage
+pub record HalfTurn (s : Setting) (t : Turn) (before : RunProgress) (past : List Entry) : Type 0 where
+  pub now : RunProgress
   pub event : TurnBy (SettlesTo s) s t before now
   pub is : now.past ≡ past
 
 -- of a turn there is nothing, or all but the Send that may follow its event
-abbrev pub TurnSoFar : Setting → Turn → Stage → List Entry → Type 0
+abbrev pub TurnSoFar : Setting → Turn → RunProgress → List Entry → Type 0
 TurnSoFar s t before past = (past ≡ before.past) ⊎ HalfTurn s t before past
 
 -- some of the turns are whole, and of the next there is a part
-abbrev pub TurnsSoFar : Setting → List Turn → Stage → List Entry → Type 0
+abbrev pub TurnsSoFar : Setting → List Turn → RunProgress → List Entry → Type 0
 TurnsSoFar s [] before past = past ≡ before.past
 TurnsSoFar s (t ∷ turns) before past = TurnSoFar s t before past
-    ⊎ ((mid : Stage) × (TurnTo s t before mid × TurnsSoFar s turns mid past))
+    ⊎ ((mid : RunProgress) × (TurnTo s t before mid × TurnsSoFar s turns mid past))
 
 -- some rounds of a lane are whole, it has a call left, and of the next round there is a part
-pub record RoundsSoFar (s : Setting) (lane : ℕ) (before : Stage) (past : List Entry) : Type 0 where
+pub record RoundsSoFar (s : Setting) (lane : ℕ) (before : RunProgress) (past : List Entry) : Type 0 where
   pub rounds : ℕ
-  pub mid : Stage
+  pub mid : RunProgress
   pub whole : RoundsTo s lane rounds before mid
   pub left : current s mid.past lane ≢ None
   pub part : TurnsSoFar s (round_of lane) mid past
 
 -- some of the first lanes have no call left, and of the next one's rounds there is a part
-pub record EndsSoFar (s : Setting) (lanes : ℕ) (before : Stage) (past : List Entry) : Type 0 where
+pub record EndsSoFar (s : Setting) (lanes : ℕ) (before : RunProgress) (past : List Entry) : Type 0 where
   pub lane : ℕ
-  pub mid : Stage
+  pub mid : RunProgress
   pub there : lane < lanes
   pub whole : EndsTo s lane before mid
   pub part : RoundsSoFar s lane mid past
 
 -- a lane isn't let go, or it is and the CLOSEs are there that are due then
-abbrev pub LetGoSoFar : Setting → ℕ → Stage → List Entry → Type 0
+abbrev pub LetGoSoFar : Setting → ℕ → RunProgress → List Entry → Type 0
 LetGoSoFar s lane before past = (past ≡ before.past) ⊎ SettlesTo s (entry.LetGo lane ∷ before.past) past
 
 -- some of the first lanes were let go, and of the next one's letting go there is a part
-pub record LetsGoSoFar (s : Setting) (lanes : ℕ) (before : Stage) (past : List Entry) : Type 0 where
+pub record LetsGoSoFar (s : Setting) (lanes : ℕ) (before : RunProgress) (past : List Entry) : Type 0 where
   pub lane : ℕ
-  pub mid : Stage
+  pub mid : RunProgress
   pub there : lane < lanes
   pub whole : LetsGoTo s lane before mid
   pub part : LetGoSoFar s lane mid past
@@ -80,9 +80,9 @@ abbrev pub drain_of : List Turn
 drain_of = turn.Flush ∷ turn.Take ∷ []
 
 -- some drains are whole, something is unanswered, and of the next drain there is a part
-pub record DrainsSoFar (s : Setting) (before : Stage) (past : List Entry) : Type 0 where
+pub record DrainsSoFar (s : Setting) (before : RunProgress) (past : List Entry) : Type 0 where
   pub drains : ℕ
-  pub mid : Stage
+  pub mid : RunProgress
   pub whole : DrainsTo s drains before mid
   pub left : 0 < unanswered mid.past
   pub part : TurnsSoFar s drain_of mid past
@@ -99,13 +99,13 @@ pub data RunSoFar (s : Setting) (schedule : List Turn) (past : List Entry) : Typ
   in_opening : OpensSoFar s.limits past → RunSoFar s schedule past
   in_turns : (opened : List Entry) → Opens s.limits opened → TurnsSoFar s schedule (at_first opened) past
       → RunSoFar s schedule past
-  in_rounds : (opened : List Entry) (turned : Stage) → Opens s.limits opened
+  in_rounds : (opened : List Entry) (turned : RunProgress) → Opens s.limits opened
       → TurnsTo s schedule (at_first opened) turned
       → EndsSoFar s (length s.lanes) turned past → RunSoFar s schedule past
-  in_letting_go : (opened : List Entry) (turned ended : Stage) → Opens s.limits opened
+  in_letting_go : (opened : List Entry) (turned ended : RunProgress) → Opens s.limits opened
       → TurnsTo s schedule (at_first opened) turned
       → EndsTo s (length s.lanes) turned ended → LetsGoSoFar s (length s.lanes) ended past → RunSoFar s schedule past
-  in_drains : (opened : List Entry) (turned ended let_go : Stage) → Opens s.limits opened
+  in_drains : (opened : List Entry) (turned ended let_go : RunProgress) → Opens s.limits opened
       → TurnsTo s schedule (at_first opened) turned
       → EndsTo s (length s.lanes) turned ended → LetsGoTo s (length s.lanes) ended let_go → DrainsSoFar s let_go past
       → RunSoFar s schedule past

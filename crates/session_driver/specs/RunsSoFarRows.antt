@@ -9,7 +9,7 @@ use Rattle.session_model.specs.declared.entry.Entry.TheVariants as entry
 use Rattle.session_model.specs.declared.turn.Turn.TheVariants as turn
 use Rattle.session_model.specs.Calls.{Setting}
 use Rattle.session_model.specs.Readings.{unanswered}
-use Rattle.session_model.specs.Turns.{Stage, begun_with}
+use Rattle.session_model.specs.Turns.{RunProgress, begun_with}
 use Rattle.session_model.specs.Runs.{DrainsTo, at_first}
 use Rattle.session_model.specs.RowWords.{setting_with, submit, send, open_of}
 use Rattle.session_model.specs.LaneRows.{opens}
@@ -24,7 +24,7 @@ hasty = record opens { max_pending = 0 }
 abbrev pub submitted : List Entry
 submitted = submit 0 0 0 (open_of (codes "a")) ∷ []
 
-abbrev pub stepped : List Entry → Stage
+abbrev pub stepped : List Entry → RunProgress
 stepped past = record { past = past; begun = begun_with (at_first []).begun 0 }
 
 -- the request was submitted, and the Send that follows has not come
@@ -47,8 +47,9 @@ cut_after_turn = in_turns [] refl (inr (
 
 -- ---- no call is added in a run
 
-drained_none : (s : Setting) (n : ℕ) (before now : Stage) → before.past ≡ [] → DrainsTo s n before now → now.past ≡ []
-drained_none s zero before now none drains = ap (λ (w : Stage). w.past) drains ∙ none
+drained_none : (s : Setting) (n : ℕ) (before now : RunProgress) → before.past ≡ [] → DrainsTo s n before now → now.past
+    ≡ []
+drained_none s zero before now none drains = ap (λ (w : RunProgress). w.past) drains ∙ none
 drained_none s (suc n) before now none drains = absurd (let some = drains.0 in let zero : unanswered before.past ≡ 0 =
     ap unanswered none in omega (arith, some, zero))
 
@@ -59,14 +60,14 @@ with_added c (in_rounds opened turned opens turns part) = (let there = part.ther
 with_added c (in_letting_go opened turned ended opens turns ends part) =
     (let there = part.there in absurd (omega (arith, there)))
 with_added c (in_drains opened turned ended let_go opens turns ends goes part) =
-    let none : let_go.past ≡ [] = ap (λ (w : Stage). w.past) (goes ∙ ends ∙ turns) ∙ opens in
+    let none : let_go.past ≡ [] = ap (λ (w : RunProgress). w.past) (goes ∙ ends ∙ turns) ∙ opens in
     let zero : unanswered part.mid.past ≡ 0 = ap unanswered (drained_none (setting_with []) part.drains let_go part.mid
     none part.whole) in
     let some = part.left in
     absurd (omega (arith, some, zero))
 with_added c (whole run) =
     let by = run.1.0 in
-    let none : run.0.let_go.past ≡ [] = ap (λ (w : Stage). w.past) (by.lets_go ∙ by.ends ∙ by.turns) ∙ by.opens in
+    let none : run.0.let_go.past ≡ [] = ap (λ (w : RunProgress). w.past) (by.lets_go ∙ by.ends ∙ by.turns) ∙ by.opens in
     let empty = drained_none (setting_with []) by.drains.0 run.0.let_go run.0.drained none by.drains.1 in
     let same = run.1.1 in
     absurd cc

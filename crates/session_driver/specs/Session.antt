@@ -43,7 +43,7 @@ use Rattle.sftp_model.specs.Lengths.{offers_limits}
 use Rattle.session_model.specs.Grants.{next_due}
 use Rattle.session_model.specs.Journals.{IsNext, IsFree, MayTake, cancelled_end}
 use Rattle.session_model.specs.Runs.{Opens, at_first}
-use Rattle.session_model.specs.Turns.{Stage, SettlesTo, begun_with, begun_but}
+use Rattle.session_model.specs.Turns.{RunProgress, SettlesTo, begun_with, begun_but}
 use Rattle.session_driver.specs.Refusals.{Notes}
 use Rattle.session_driver.specs.declared.session.Phase.{Phase}
 use Rattle.session_driver.specs.declared.session.Phase.TheVariants.{Fresh, Greeted, Asking, Queried, Open}
@@ -63,11 +63,11 @@ pub record Seen : Type 0 where
   pub setting : Setting
   pub phase : Phase
   pub version : Option Reply
-  pub stage : Stage
+  pub stage : RunProgress
   pub work : ℕ
 
 -- nothing has happened
-abbrev pub at_rest : Stage
+abbrev pub at_rest : RunProgress
 at_rest = at_first []
 
 -- a session whose hello stands in the queue
@@ -186,7 +186,7 @@ pub record Continues (before now : Seen) : Type 0 where
 -- ---- calls of an open session
 
 -- one step of a lane, what it was, and the CLOSEs that are due then
-abbrev pub StepsTo : Setting → ℕ → Stage → Stage → Option Move → Stepped → Type 0
+abbrev pub StepsTo : Setting → ℕ → RunProgress → RunProgress → Option Move → Stepped → Type 0
 StepsTo s lane before now None event = (event ≡ stepped.Nothing) × (now ≡ before)
 StepsTo s lane before now (Some (Wait place)) event = (event ≡ stepped.Nothing)
     × (now ≡ record { past = before.past; begun = begun_with before.begun lane })
@@ -199,7 +199,7 @@ StepsTo s lane before now (Some (Done o site)) event =
     × SettlesTo s (entry.Event (End lane (ended before.past lane) o) ∷ before.past) now.past
 
 -- the call of a begun lane is cancelled, and the CLOSEs that are due then
-abbrev pub Cancels : Setting → ℕ → Stage → Stage → Bool → Type 0
+abbrev pub Cancels : Setting → ℕ → RunProgress → RunProgress → Bool → Type 0
 Cancels s lane before now event =
     MatchBool (is_some (current s before.past lane) && before.begun lane)
     ((event ≡ true) × (now.begun ≡ begun_but before.begun lane)
@@ -208,20 +208,20 @@ Cancels s lane before now event =
     ((event ≡ false) × (now ≡ before))
 
 -- a lane that is there is let go, and the CLOSEs that are due then
-abbrev pub LetsGo : Setting → ℕ → Stage → Stage → Type 0
+abbrev pub LetsGo : Setting → ℕ → RunProgress → RunProgress → Type 0
 LetsGo s lane before now =
     MatchBool (nat_lt lane (length s.lanes)) ((now.begun ≡ before.begun)
     × SettlesTo s (entry.LetGo lane ∷ before.past) now.past) (now ≡ before)
 
 -- a body is a reply that may be taken, it is taken, and the CLOSEs that are due then
-abbrev pub TakesAndSettles : Setting → Result (Option ℕ × Reply) FrameError → Stage → Stage → Type 0
+abbrev pub TakesAndSettles : Setting → Result (Option ℕ × Reply) FrameError → RunProgress → RunProgress → Type 0
 TakesAndSettles s body_reads before now =
     (id : ℕ) × ((r : Reply)
     × ((body_reads ≡ Ok (Some id, r)) × MayTake before.past id r × (now.begun ≡ before.begun)
     × SettlesTo s (entry.Event (Take id r) ∷ before.past) now.past))
 
 -- what is unsent was handed out, where something is
-abbrev pub HandsOut : Setting → Stage → Option (List ℕ) → Stage → Type 0
+abbrev pub HandsOut : Setting → RunProgress → Option (List ℕ) → RunProgress → Type 0
 HandsOut s before None now = (nat_lt (sent before.past) (asked before.past) ≡ false) × (now ≡ before)
 HandsOut s before (Some bytes) now =
     (nat_lt (sent before.past) (asked before.past) ≡ true) × (bytes ≡ unsent_bytes before.past)
@@ -241,7 +241,7 @@ LessBy true before now = now < before
 LessBy false before now = now ≤ before
 
 -- what is unsent was sent, where something is
-abbrev pub Flushed : Setting → Stage → Stage → Type 0
+abbrev pub Flushed : Setting → RunProgress → RunProgress → Type 0
 Flushed s before now =
     MatchBool (nat_lt (sent before.past) (asked before.past))
     ((now ≡ record { past = entry.Event Send ∷ before.past; begun = before.begun })

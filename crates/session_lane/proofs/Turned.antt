@@ -9,7 +9,7 @@ use Rattle.sftp_model.specs.declared.slot.Move.TheVariants.{Ask}
 use Rattle.sftp_model.specs.declared.slot.Site.{Site}
 use Rattle.sftp_core.specs.Core.{Core, after_poll, released}
 use Rattle.sftp_core.specs.Info.{info_of}
-use Rattle.sftp_core.specs.declared.phase.Phase.{Phase}
+use Rattle.sftp_core.specs.declared.handshake.Handshake.{Handshake}
 use Rattle.plan_model.specs.Moves.{Plan, handle_of}
 use Rattle.plan_runner.specs.Cancelling.{Leaving}
 use Rattle.plan_runner.specs.declared.next.Next.{Next}
@@ -62,7 +62,7 @@ use Rattle.session_lane.proofs.TurnLaws.{ask_tied, done_tied, filled_for, wait_t
 use Rattle.sftp_model.specs.declared.request.Request.TheVariants as request
 use Rattle.plan_runner.specs.declared.next.Asked.TheVariants as ask
 use Rattle.plan_runner.specs.declared.next.Next.TheVariants as step
-use Rattle.sftp_core.specs.declared.phase.Phase.TheVariants as phases
+use Rattle.sftp_core.specs.declared.handshake.Handshake.TheVariants as phases
 use Rattle.plan_model.specs.CallPlans.{next}
 
 -- the clauses of a runner's answer, by the journal
@@ -314,7 +314,7 @@ turns_keep s past core new lanes lane c now m h there j calm d is only (Waiting 
 -- ---- what a turn asks for
 
 open_is : (s : Setting) (past : List Entry) (core : Core) → CoreTied s past core → IsOpen core
-open_is s past core t = record { unfailed = t.unfailed; ready = subst (λ (p : Phase). IsSome (info_of p)) (sym t.phase) (by_info t.info) }
+open_is s past core t = record { unfailed = t.unfailed; ready = subst (λ (p : Handshake). IsSome (info_of p)) (sym t.phase) (by_info t.info) }
   where
     by_info : (i : _) → IsSome (info_of (phases.Open i))
     by_info i = search rules

@@ -37,7 +37,7 @@ use Rattle.session_laws.specs.Running.{CancelTied, RunTied}
 use Rattle.session_laws.specs.Places.{IsRising, is_in}
 use Rattle.session_laws.specs.Tables.{Tabled, place_of}
 use Rattle.sftp_model.specs.declared.reply.Reply.TheVariants as reply
-use Rattle.sftp_core.specs.declared.phase.Phase.TheVariants as core_phase
+use Rattle.sftp_core.specs.declared.handshake.Handshake.TheVariants as core_phase
 use Rattle.session_model.specs.declared.event.Owner.TheVariants as owner
 
 -- ---- a lane

@@ -42,7 +42,7 @@ use Rattle.session_model.specs.Readings.{asked, asked_at, answer, bearer, is_at,
 use Rattle.session_model.specs.Calls.{Setting, current}
 use Rattle.session_model.specs.Grants.{is_granted, is_grant, is_due, closed, IsSettled}
 use Rattle.session_model.specs.Journals.{IsJournal, IsNext, MayTake, MayReply, IsFree, brings_limits, is_opened, IsOver}
-use Rattle.session_model.specs.Turns.{Stage, is_full}
+use Rattle.session_model.specs.Turns.{RunProgress, is_full}
 use Rattle.session_model.specs.Runs.{Opens, queried, LetGoTo, LetsGoTo, at_first, IsRun}
 use Rattle.session_model.proofs.CallLaws.{may_next}
 use Rattle.session_model.proofs.GrantLaws.{none_below}
@@ -124,13 +124,13 @@ opens_good s past to = opens_by s s.limits past refl to
 -- ---- the letting go
 
 -- lanes without a call, of which the first n were let go
-pub record Gone (s : Setting) (n : ℕ) (at : Stage) : Type 0 where
+pub record Gone (s : Setting) (n : ℕ) (at : RunProgress) : Type 0 where
   pub good : GoodStage s at
   pub idle : (lane : ℕ) → lane < length s.lanes → current s at.past lane ≡ None
   pub let_go : (lane : ℕ) → lane < n → was_let_go at.past lane ≡ true
   pub kept : (lane : ℕ) → n ≤ lane → was_let_go at.past lane ≡ false
 
-let_go_one : (s : Setting) (n : ℕ) (before now : Stage) → n < length s.lanes → Gone s n before → LetGoTo s n before now → Gone s (suc n) now
+let_go_one : (s : Setting) (n : ℕ) (before now : RunProgress) → n < length s.lanes → Gone s n before → LetGoTo s n before now → Gone s (suc n) now
 let_go_one s n before now lt g to =
     let first : List Entry = entry.LetGo n ∷ before.past in
     let next : IsNext s before.past (entry.LetGo n) = may_next s before.past (entry.LetGo n) g.good.good.calm
@@ -153,7 +153,7 @@ let_go_one s n before now lt g to =
       ];
     }
 
-lets_go_good : (s : Setting) (n : ℕ) (before now : Stage) → n ≤ length s.lanes → Gone s 0 before → LetsGoTo s n before now → Gone s n now
+lets_go_good : (s : Setting) (n : ℕ) (before now : RunProgress) → n ≤ length s.lanes → Gone s 0 before → LetsGoTo s n before now → Gone s n now
 lets_go_good s zero before now le g e = subst (Gone s 0) (sym e) g
 lets_go_good s (suc n) before now le g to = let_go_one s n to.0 now (omega arith) (lets_go_good s n before to.0 (omega arith) g to.1.0) to.1.1
 

@@ -46,14 +46,14 @@ use Rattle.session_model.specs.Readings.{asked, sent, answer, bearer, is_at, is_
 use Rattle.session_model.specs.Calls.{Setting, current, move_of, is_wait, has_waited}
 use Rattle.session_model.specs.Grants.{letting_go, next_due_at, closed, IsSettled}
 use Rattle.session_model.specs.Journals.{IsJournal, IsNext, MayTake, IsFree, close_of, is_opened, opened, is_some_asked, may_cancel, cancelled_end}
-use Rattle.session_model.specs.Turns.{Stage, TurnTo, MovesBy, RulesTo, ClosesTo, SendsTo, is_full, begun_with, begun_but}
+use Rattle.session_model.specs.Turns.{RunProgress, TurnTo, MovesBy, RulesTo, ClosesTo, SendsTo, is_full, begun_with, begun_but}
 use Rattle.session_model.proofs.CallLaws.{may_next, due_next, cancelled_next, own_submit}
 use Rattle.session_model.proofs.LetGoLaws.{closes_leave}
 use Rattle.session_model.specs.Steady.{Good, Still}
 
 -- ---- what a run keeps
 
-pub record GoodStage (s : Setting) (at : Stage) : Type 0 where
+pub record GoodStage (s : Setting) (at : RunProgress) : Type 0 where
   pub good : Good s at.past at.begun
   pub still : Still s at.past
 
@@ -197,10 +197,10 @@ but_begun begun l lane e =
       | inr t ↦ (t.1, rw t.0 at e)
     ]
 
-stage_good : (s : Setting) (now : Stage) (begun : ℕ → Bool) → now.begun ≡ begun → Good s now.past begun × Still s now.past → GoodStage s now
+stage_good : (s : Setting) (now : RunProgress) (begun : ℕ → Bool) → now.begun ≡ begun → Good s now.past begun × Still s now.past → GoodStage s now
 stage_good s now begun e h = record { good = subst (λ (begun : ℕ → Bool). Good s now.past begun) (sym e) h.0; still = h.1 }
 
-same_good : (s : Setting) (before now : Stage) → now ≡ before → GoodStage s before → GoodStage s now
+same_good : (s : Setting) (before now : RunProgress) → now ≡ before → GoodStage s before → GoodStage s now
 same_good s before now e g = subst (GoodStage s) (sym e) g
 
 pub submit_good : (s : Setting) (past : List Entry) (begun : ℕ → Bool) (lane id : ℕ) (r : Request) → Good s past begun
@@ -235,7 +235,7 @@ end_good s past begun lane o run ready unkept cancels next =
       cancels = λ l b. let h = but_begun begun lane l b in end_cancels s past lane (ended past lane) l o h.0 (cancels l h.1);
     }
 
-moves_good : (s : Setting) (lane : ℕ) (before now : Stage) (m : Option Move) → move_of s before.past lane ≡ m
+moves_good : (s : Setting) (lane : ℕ) (before now : RunProgress) (m : Option Move) → move_of s before.past lane ≡ m
     → GoodStage s before → MovesBy (RulesTo s) lane before now m → GoodStage s now
 moves_good s lane before now None move g e = same_good s before now e g
 moves_good s lane before now (Some (Wait place)) move g e =
@@ -267,7 +267,7 @@ moves_good s lane before now (Some (Done o site)) move g to =
 lt_is : (n m : ℕ) → nat_lt n m ≡ true → n < m
 lt_is n m e = grind (arith, nat_tests)
 
-flush_by : (s : Setting) (before now : Stage) (b : Bool) → nat_lt (sent before.past) (asked before.past) ≡ b → GoodStage s before
+flush_by : (s : Setting) (before now : RunProgress) (b : Bool) → nat_lt (sent before.past) (asked before.past) ≡ b → GoodStage s before
     → MatchBool b ((now.begun ≡ before.begun) × RulesTo s (entry.Event Send ∷ before.past) now.past) (now ≡ before) → GoodStage s now
 flush_by s before now false is g e = same_good s before now e g
 flush_by s before now true is g to =
@@ -276,7 +276,7 @@ flush_by s before now true is g to =
     stage_good s now before.begun to.0 (rules_good s (entry.Event Send ∷ before.past) now.past before.begun
     (good_plain s before.past before.begun (entry.Event Send) g.good next tt) refl to.1)
 
-take_by : (s : Setting) (before now : Stage) (b : Bool) → GoodStage s before
+take_by : (s : Setting) (before now : RunProgress) (b : Bool) → GoodStage s before
     → MatchBool b ((now.begun ≡ before.begun) × ((id : ℕ) × ((r : Reply)
     × (MayTake before.past id r × RulesTo s (entry.Event (Take id r) ∷ before.past) now.past)))) (now ≡ before)
     → GoodStage s now
@@ -295,7 +295,7 @@ some_call : (c : Option Call) → is_some c ≡ true → c ≢ None
 some_call None e = absurd cc
 some_call (Some c) e = λ none. absurd cc
 
-cancel_by : (s : Setting) (lane : ℕ) (before now : Stage) (b : Bool) → (is_some (current s before.past lane) && before.begun lane) ≡ b → GoodStage s before
+cancel_by : (s : Setting) (lane : ℕ) (before now : RunProgress) (b : Bool) → (is_some (current s before.past lane) && before.begun lane) ≡ b → GoodStage s before
     → MatchBool b ((now.begun ≡ begun_but before.begun lane)
     × RulesTo s (cancelled_end (entry.Event (Cancel lane) ∷ before.past) lane ∷ entry.Event (Cancel lane) ∷ before.past)
     now.past) (now ≡ before) → GoodStage s now
@@ -311,7 +311,7 @@ cancel_by s lane before now true is g to =
     (λ l b. wait_more (is_some_asked (own before.past l (ended before.past l))) _ (has_waited s before.past l)
     (g.good.cancels l b)) (cancelled_next s before.past lane)) refl to.1)
 
-pub turn_good : (s : Setting) (t : Turn) (before now : Stage) → GoodStage s before → TurnTo s t before now → GoodStage s now
+pub turn_good : (s : Setting) (t : Turn) (before now : RunProgress) → GoodStage s before → TurnTo s t before now → GoodStage s now
 turn_good s (turn.Step lane) before now g to = moves_good s lane before now (move_of s before.past lane) refl g to
 turn_good s turn.Flush before now g to = flush_by s before now (nat_lt (sent before.past) (asked before.past)) refl g to
 turn_good s turn.Take before now g to = take_by s before now (nat_lt 0 (awaited before.past)) g to

@@ -17,7 +17,7 @@ use Rattle.session_model.specs.declared.entry.Entry.TheVariants as entry
 use Rattle.session_model.specs.Readings.{asked, sent, answer, own, ended, was_let_go, awaited}
 use Rattle.session_model.specs.Calls.{Setting, current, site_of, move_at, move_of}
 use Rattle.session_model.specs.Journals.{MayTake, close_of, cancelled_end}
-use Rattle.session_model.specs.Turns.{Stage, TurnTo, MovesBy, RulesTo, ClosesTo, is_full, begun_but}
+use Rattle.session_model.specs.Turns.{RunProgress, TurnTo, MovesBy, RulesTo, ClosesTo, is_full, begun_but}
 use Rattle.session_model.specs.Runs.{TurnsTo, round_of, RoundsTo, EndsTo, DrainsTo}
 use Rattle.session_model.proofs.RunLaws.{GoodStage, turn_good}
 
@@ -71,10 +71,10 @@ has_call c m some f = λ none. some (f none)
 no_move : (s : Setting) (past : List Entry) (lane : ℕ) → current s past lane ≡ None → move_of s past lane ≡ None
 no_move s past lane e = ap (λ (c : Option Call). move_at c (site_of s past lane) s.facts (own past lane (ended past lane)) (answer past)) e
 
-moves_keep : (s : Setting) (lane : ℕ) (before now : Stage) (m : Option Move) → move_of s before.past lane ≡ m
+moves_keep : (s : Setting) (lane : ℕ) (before now : RunProgress) (m : Option Move) → move_of s before.past lane ≡ m
     → MovesBy (RulesTo s) lane before now m → Keeps s before.past now.past
-moves_keep s lane before now None move e = keeps_same s before.past now.past (ap (λ (x : Stage). x.past) e)
-moves_keep s lane before now (Some (Wait place)) move e = keeps_same s before.past now.past (ap (λ (x : Stage). x.past) e)
+moves_keep s lane before now None move e = keeps_same s before.past now.past (ap (λ (x : RunProgress). x.past) e)
+moves_keep s lane before now (Some (Wait place)) move e = keeps_same s before.past now.past (ap (λ (x : RunProgress). x.past) e)
 moves_keep s lane before now (Some (Ask r)) move to =
     let e : Entry = entry.Event (Submit (owner.Call lane (ended before.past lane)) to.1.0 r) in
     keeps_on s before.past (e ∷ before.past) now.past (record { idle = λ l none. none; unlet = λ l. refl }) (rules_keep s (e ∷ before.past) now.past to.1.1.1)
@@ -84,20 +84,20 @@ moves_keep s lane before now (Some (Done o site)) move to =
     keeps_on s before.past (e ∷ before.past) now.past (end_keeps s before.past lane (ended before.past lane) o some)
     (rules_keep s (e ∷ before.past) now.past to.1)
 
-flush_keeps : (s : Setting) (before now : Stage) (b : Bool) →
+flush_keeps : (s : Setting) (before now : RunProgress) (b : Bool) →
     MatchBool b ((now.begun ≡ before.begun) × RulesTo s (entry.Event Send ∷ before.past) now.past) (now ≡ before)
     → Keeps s before.past now.past
-flush_keeps s before now false e = keeps_same s before.past now.past (ap (λ (x : Stage). x.past) e)
+flush_keeps s before now false e = keeps_same s before.past now.past (ap (λ (x : RunProgress). x.past) e)
 flush_keeps s before now true to =
     keeps_on s before.past (entry.Event Send ∷ before.past) now.past
     (record { idle = λ l none. none; unlet = λ l. refl }) (rules_keep s (entry.Event Send ∷ before.past) now.past
     to.1)
 
-take_keeps : (s : Setting) (before now : Stage) (b : Bool)
+take_keeps : (s : Setting) (before now : RunProgress) (b : Bool)
     → MatchBool b ((now.begun ≡ before.begun) × ((id : ℕ) × ((r : Reply)
     × (MayTake before.past id r × RulesTo s (entry.Event (Take id r) ∷ before.past) now.past)))) (now ≡ before)
     → Keeps s before.past now.past
-take_keeps s before now false e = keeps_same s before.past now.past (ap (λ (x : Stage). x.past) e)
+take_keeps s before now false e = keeps_same s before.past now.past (ap (λ (x : RunProgress). x.past) e)
 take_keeps s before now true to =
     let e : Entry = entry.Event (Take to.1.0 to.1.1.0) in
     keeps_on s before.past (e ∷ before.past) now.past (record { idle = λ l none. none; unlet = λ l. refl }) (rules_keep s (e ∷ before.past) now.past to.1.1.1.1)
@@ -106,11 +106,11 @@ some_call : (c : Option Call) (b : Bool) → (is_some c && b) ≡ true → c ≢
 some_call None b e = absurd cc
 some_call (Some c) b e = λ none. absurd cc
 
-cancel_keeps : (s : Setting) (lane : ℕ) (before now : Stage) (b : Bool) → (is_some (current s before.past lane) && before.begun lane) ≡ b
+cancel_keeps : (s : Setting) (lane : ℕ) (before now : RunProgress) (b : Bool) → (is_some (current s before.past lane) && before.begun lane) ≡ b
     → MatchBool b ((now.begun ≡ begun_but before.begun lane)
     × RulesTo s (cancelled_end (entry.Event (Cancel lane) ∷ before.past) lane ∷ entry.Event (Cancel lane) ∷ before.past)
     now.past) (now ≡ before) → Keeps s before.past now.past
-cancel_keeps s lane before now false is e = keeps_same s before.past now.past (ap (λ (x : Stage). x.past) e)
+cancel_keeps s lane before now false is e = keeps_same s before.past now.past (ap (λ (x : RunProgress). x.past) e)
 cancel_keeps s lane before now true is to =
     let c : Entry = entry.Event (Cancel lane) in
     let some : current s before.past lane ≢ None = some_call (current s before.past lane) (before.begun lane) is in
@@ -121,7 +121,7 @@ cancel_keeps s lane before now true is to =
     (keeps_on s (c ∷ before.past) (cancelled_end (c ∷ before.past) lane ∷ c ∷ before.past) now.past second
     (rules_keep s (cancelled_end (c ∷ before.past) lane ∷ c ∷ before.past) now.past to.1))
 
-turn_keeps : (s : Setting) (t : Turn) (before now : Stage) → TurnTo s t before now → Keeps s before.past now.past
+turn_keeps : (s : Setting) (t : Turn) (before now : RunProgress) → TurnTo s t before now → Keeps s before.past now.past
 turn_keeps s (turn.Step lane) before now to = moves_keep s lane before now (move_of s before.past lane) refl to
 turn_keeps s turn.Flush before now to = flush_keeps s before now (nat_lt (sent before.past) (asked before.past)) to
 turn_keeps s turn.Take before now to = take_keeps s before now (nat_lt 0 (awaited before.past)) to
@@ -129,17 +129,17 @@ turn_keeps s (turn.Cancel lane) before now to = cancel_keeps s lane before now (
 
 -- ---- turns, rounds and drains
 
-pub record Passes (s : Setting) (before now : Stage) : Type 0 where
+pub record Passes (s : Setting) (before now : RunProgress) : Type 0 where
   pub good : GoodStage s before → GoodStage s now
   pub keeps : Keeps s before.past now.past
 
-passes_self : (s : Setting) (before now : Stage) → now ≡ before → Passes s before now
-passes_self s before now e = record { good = λ g. subst (GoodStage s) (sym e) g; keeps = keeps_same s before.past now.past (ap (λ (x : Stage). x.past) e) }
+passes_self : (s : Setting) (before now : RunProgress) → now ≡ before → Passes s before now
+passes_self s before now e = record { good = λ g. subst (GoodStage s) (sym e) g; keeps = keeps_same s before.past now.past (ap (λ (x : RunProgress). x.past) e) }
 
-passes_on : (s : Setting) (a b c : Stage) → Passes s a b → Passes s b c → Passes s a c
+passes_on : (s : Setting) (a b c : RunProgress) → Passes s a b → Passes s b c → Passes s a c
 passes_on s a b c p q = record { good = λ g. q.good (p.good g); keeps = keeps_on s a.past b.past c.past p.keeps q.keeps }
 
-pub turns_pass : (s : Setting) (turns : List Turn) (before now : Stage) → TurnsTo s turns before now → Passes s before now
+pub turns_pass : (s : Setting) (turns : List Turn) (before now : RunProgress) → TurnsTo s turns before now → Passes s before now
 turns_pass s [] before now e = passes_self s before now e
 turns_pass s (t ∷ turns) before now to =
     passes_on s before to.0 now (record {
@@ -148,18 +148,18 @@ turns_pass s (t ∷ turns) before now to =
           turn_keeps s t before to.0 to.1.0;
     }) (turns_pass s turns to.0 now to.1.1)
 
-rounds_pass : (s : Setting) (lane n : ℕ) (before now : Stage) → RoundsTo s lane n before now → Passes s before now
+rounds_pass : (s : Setting) (lane n : ℕ) (before now : RunProgress) → RoundsTo s lane n before now → Passes s before now
 rounds_pass s lane zero before now e = passes_self s before now e
 rounds_pass s lane (suc n) before now to = passes_on s before to.1.0 now
     (turns_pass s (round_of lane) before to.1.0 to.1.1.0) (rounds_pass s lane n to.1.0 now to.1.1.1)
 
-pub drains_pass : (s : Setting) (n : ℕ) (before now : Stage) → DrainsTo s n before now → Passes s before now
+pub drains_pass : (s : Setting) (n : ℕ) (before now : RunProgress) → DrainsTo s n before now → Passes s before now
 drains_pass s zero before now e = passes_self s before now e
 drains_pass s (suc n) before now to = passes_on s before to.1.0 now
     (turns_pass s (turn.Flush ∷ turn.Take ∷ []) before to.1.0 to.1.1.0) (drains_pass s n to.1.0 now to.1.1.1)
 
 -- the first n lanes have no call left
-pub ends_pass : (s : Setting) (n : ℕ) (before now : Stage) → EndsTo s n before now → Passes s before now
+pub ends_pass : (s : Setting) (n : ℕ) (before now : RunProgress) → EndsTo s n before now → Passes s before now
     × ((lane : ℕ) → lane < n → current s now.past lane ≡ None)
 ends_pass s zero before now e = (passes_self s before now e, λ lane lt. absurd (omega arith))
 ends_pass s (suc n) before now to =

@@ -13,7 +13,7 @@ use Rattle.session_model.specs.declared.entry.Entry.TheVariants as entry
 use Rattle.session_model.specs.declared.turn.Turn.TheVariants as turn
 use Rattle.session_model.specs.Calls.{Setting}
 use Rattle.session_model.specs.Journals.{IsJournal, IsNext, IsOver}
-use Rattle.session_model.specs.Turns.{Stage, none_begun, begun_with}
+use Rattle.session_model.specs.Turns.{RunProgress, none_begun, begun_with}
 use Rattle.session_model.specs.Runs.{IsRun, TurnsTo, at_first}
 use Rattle.session_model.specs.RowWords.{
   to_read,
@@ -152,7 +152,7 @@ hasty = record two_lanes { max_pending = 1 }
 abbrev pub hasty_over : List Entry
 hasty_over = send ∷ submit 1 0 1 (open_of (codes "b")) ∷ submit 0 0 0 (open_of (codes "a")) ∷ []
 
-abbrev pub hasty_at : ℕ → (ℕ → Bool) → Stage
+abbrev pub hasty_at : ℕ → (ℕ → Bool) → RunProgress
 hasty_at n begun = record { past = drop (3 - n) hasty_over; begun = begun }
 
 -- the second step sends both
@@ -181,7 +181,7 @@ asks = record (setting_with ([] ∷ [])) { limits = true }
 pub run_of_limits : IsRun asks [] (entry.LetGo 0 ∷ told_limits)
 unfolding limits_at
 run_of_limits =
-    let last : Stage = record { past = entry.LetGo 0 ∷ told_limits; begun = none_begun } in (
+    let last : RunProgress = record { past = entry.LetGo 0 ∷ told_limits; begun = none_begun } in (
       record {
         opened = told_limits;
         turned = at_first told_limits;

@@ -8,7 +8,7 @@ use Rattle.sftp_model.specs.Frames.{request_body, attributes}
 use Rattle.session_model.specs.declared.entry.Entry.{Entry}
 use Rattle.session_model.specs.declared.entry.Entry.TheVariants as entry
 use Rattle.session_model.specs.declared.turn.Turn.TheVariants as turn
-use Rattle.session_model.specs.Turns.{Stage, none_begun, begun_with, begun_but}
+use Rattle.session_model.specs.Turns.{RunProgress, none_begun, begun_with, begun_but}
 use Rattle.session_model.specs.Runs.{IsRun, TurnsTo, DrainsTo, round_of, at_first}
 use Rattle.session_model.specs.RowWords.{
   setting_with,
@@ -31,7 +31,7 @@ use Rattle.session_model.specs.Readings.{outcomes_below}
 
 pub run_of_nothing : IsRun (setting_with ([] ∷ [])) [] (entry.LetGo 0 ∷ [])
 run_of_nothing =
-    let end : Stage = record { past = entry.LetGo 0 ∷ []; begun = none_begun } in (
+    let end : RunProgress = record { past = entry.LetGo 0 ∷ []; begun = none_begun } in (
       record { opened = []; turned = at_first []; ended = at_first []; let_go = end; drained = end },
       (
         record {
@@ -64,7 +64,7 @@ zero_ended = λ i lane. neither (0 == lane) i
     neither true = refl
     neither false = refl
 
-abbrev pub at : ℕ → (ℕ → Bool) → Stage
+abbrev pub at : ℕ → (ℕ → Bool) → RunProgress
 at n begun = record { past = so_far n; begun = begun }
 
 pub round_1 : TurnsTo s (round_of 0) (at 0 none_begun) (at 3 zero_begun)
@@ -293,7 +293,7 @@ cancelled_over =
 abbrev pub cancelled_so_far : ℕ → List Entry
 cancelled_so_far n = drop (9 - n) cancelled_over
 
-abbrev pub cancelled_at : ℕ → (ℕ → Bool) → Stage
+abbrev pub cancelled_at : ℕ → (ℕ → Bool) → RunProgress
 cancelled_at n begun = record { past = cancelled_so_far n; begun = begun }
 
 pub cancelled_turns : TurnsTo opens (turn.Step 0 ∷ turn.Flush ∷ turn.Cancel 0 ∷ []) (cancelled_at 0 none_begun)

@@ -12,12 +12,12 @@ use Rattle.session_model.specs.declared.entry.Entry.TheVariants as entry
 use Rattle.session_model.specs.Readings.{unanswered}
 use Rattle.session_model.specs.Calls.{Setting, current}
 use Rattle.session_model.specs.Journals.{MayTake, IsFree}
-use Rattle.session_model.specs.Turns.{Stage, TurnTo, RulesTo, none_begun}
+use Rattle.session_model.specs.Turns.{RunProgress, TurnTo, RulesTo, none_begun}
 
 -- these turns, the first of them first
-abbrev pub TurnsTo : Setting → List Turn → Stage → Stage → Type 0
+abbrev pub TurnsTo : Setting → List Turn → RunProgress → RunProgress → Type 0
 TurnsTo s [] before now = now ≡ before
-TurnsTo s (t ∷ turns) before now = (mid : Stage) × (TurnTo s t before mid × TurnsTo s turns mid now)
+TurnsTo s (t ∷ turns) before now = (mid : RunProgress) × (TurnTo s t before mid × TurnsTo s turns mid now)
 
 -- the query for limits, sent
 abbrev pub queried : ℕ → List Entry
@@ -34,47 +34,47 @@ abbrev pub round_of : ℕ → List Turn
 round_of lane = turn.Step lane ∷ turn.Flush ∷ turn.Take ∷ []
 
 -- n whole rounds, each begun where the lane has a call left
-abbrev pub RoundsTo : Setting → ℕ → ℕ → Stage → Stage → Type 0
+abbrev pub RoundsTo : Setting → ℕ → ℕ → RunProgress → RunProgress → Type 0
 RoundsTo s lane zero before now = now ≡ before
 RoundsTo s lane (suc n) before now =
-    (current s before.past lane ≢ None) × ((mid : Stage) × (TurnsTo s (round_of lane) before mid
+    (current s before.past lane ≢ None) × ((mid : RunProgress) × (TurnsTo s (round_of lane) before mid
     × RoundsTo s lane n mid now))
 
 -- rounds for each of the first n lanes in order, until it has no call left
-abbrev pub EndsTo : Setting → ℕ → Stage → Stage → Type 0
+abbrev pub EndsTo : Setting → ℕ → RunProgress → RunProgress → Type 0
 EndsTo s zero before now = now ≡ before
 EndsTo s (suc lane) before now =
-    (mid : Stage) × (EndsTo s lane before mid × ((n : ℕ) × RoundsTo s lane n mid now)
+    (mid : RunProgress) × (EndsTo s lane before mid × ((n : ℕ) × RoundsTo s lane n mid now)
     × (current s now.past lane ≡ None))
 
 -- A lane is let go: the CLOSEs by the order of its slots, and then, once, a Send where too much is unsent.
-abbrev pub LetGoTo : Setting → ℕ → Stage → Stage → Type 0
+abbrev pub LetGoTo : Setting → ℕ → RunProgress → RunProgress → Type 0
 LetGoTo s lane before now =
     (now.begun ≡ before.begun)
     × RulesTo s (entry.LetGo lane ∷ before.past) now.past
 
 -- the first n lanes are let go in order
-abbrev pub LetsGoTo : Setting → ℕ → Stage → Stage → Type 0
+abbrev pub LetsGoTo : Setting → ℕ → RunProgress → RunProgress → Type 0
 LetsGoTo s zero before now = now ≡ before
-LetsGoTo s (suc lane) before now = (mid : Stage) × (LetsGoTo s lane before mid × LetGoTo s lane mid now)
+LetsGoTo s (suc lane) before now = (mid : RunProgress) × (LetsGoTo s lane before mid × LetGoTo s lane mid now)
 
 -- n rounds of a flush and a take, each begun where something is unanswered
-abbrev pub DrainsTo : Setting → ℕ → Stage → Stage → Type 0
+abbrev pub DrainsTo : Setting → ℕ → RunProgress → RunProgress → Type 0
 DrainsTo s zero before now = now ≡ before
 DrainsTo s (suc n) before now =
-    (0 < unanswered before.past) × ((mid : Stage) × (TurnsTo s (turn.Flush ∷ turn.Take ∷ []) before mid
+    (0 < unanswered before.past) × ((mid : RunProgress) × (TurnsTo s (turn.Flush ∷ turn.Take ∷ []) before mid
     × DrainsTo s n mid now))
 
 -- how far a run is after each of its parts
 pub record Stages : Type 0 where
   pub opened : List Entry
-  pub turned : Stage
-  pub ended : Stage
-  pub let_go : Stage
-  pub drained : Stage
+  pub turned : RunProgress
+  pub ended : RunProgress
+  pub let_go : RunProgress
+  pub drained : RunProgress
 
 -- a journal whose lanes were not begun
-abbrev pub at_first : List Entry → Stage
+abbrev pub at_first : List Entry → RunProgress
 at_first past = record { past = past; begun = none_begun }
 
 -- the parts of a run, each from where the one before it stopped

@@ -61,7 +61,7 @@ RulesTo s before now = (mid : List Entry) × (SettlesTo s before mid × SendsTo 
 -- ---- stages
 
 -- A journal, and which lanes' call was begun: a turn stepped it, and it hasn't ended.
-pub record Stage : Type 0 where
+pub record RunProgress : Type 0 where
   pub past : List Entry
   pub begun : ℕ → Bool
 
@@ -80,7 +80,7 @@ begun_but begun lane = λ l. not (lane == l) && begun l
 -- ---- single turns, where `Follows` says what follows their event
 
 -- a lane makes its next move
-abbrev pub MovesBy : (List Entry → List Entry → Type 0) → ℕ → Stage → Stage → Option Move → Type 0
+abbrev pub MovesBy : (List Entry → List Entry → Type 0) → ℕ → RunProgress → RunProgress → Option Move → Type 0
 MovesBy Follows lane before now None = now ≡ before
 MovesBy Follows lane before now (Some (Wait place)) = now ≡ record
     { past = before.past; begun = begun_with before.begun lane }
@@ -93,14 +93,14 @@ MovesBy Follows lane before now (Some (Done o site)) =
     before.past) now.past
 
 -- what is unsent is sent
-abbrev pub FlushesBy : (List Entry → List Entry → Type 0) → Stage → Stage → Type 0
+abbrev pub FlushesBy : (List Entry → List Entry → Type 0) → RunProgress → RunProgress → Type 0
 FlushesBy Follows before now =
     MatchBool (nat_lt (sent before.past) (asked before.past))
     ((now.begun ≡ before.begun) × Follows (entry.Event Send ∷ before.past) now.past)
     (now ≡ before)
 
 -- where a sent request is unanswered, one reply is taken
-abbrev pub TakesBy : (List Entry → List Entry → Type 0) → Stage → Stage → Type 0
+abbrev pub TakesBy : (List Entry → List Entry → Type 0) → RunProgress → RunProgress → Type 0
 TakesBy Follows before now =
     MatchBool (nat_lt 0 (awaited before.past))
     ((now.begun ≡ before.begun)
@@ -109,7 +109,7 @@ TakesBy Follows before now =
     (now ≡ before)
 
 -- the call of a begun lane is cancelled
-abbrev pub CancelsBy : (List Entry → List Entry → Type 0) → Setting → ℕ → Stage → Stage → Type 0
+abbrev pub CancelsBy : (List Entry → List Entry → Type 0) → Setting → ℕ → RunProgress → RunProgress → Type 0
 CancelsBy Follows s lane before now =
     MatchBool (is_some (current s before.past lane) && before.begun lane)
     ((now.begun ≡ begun_but before.begun lane)
@@ -120,7 +120,7 @@ CancelsBy Follows s lane before now =
 -- ---- one turn
 
 -- one turn, and what follows its event
-abbrev pub TurnTo : Setting → Turn → Stage → Stage → Type 0
+abbrev pub TurnTo : Setting → Turn → RunProgress → RunProgress → Type 0
 TurnTo s (turn.Step lane) before now = MovesBy (RulesTo s) lane before now (move_of s before.past lane)
 TurnTo s turn.Flush before now = FlushesBy (RulesTo s) before now
 TurnTo s turn.Take before now = TakesBy (RulesTo s) before now

@@ -21,7 +21,7 @@ ghost use Rattle.session_model.specs.Grants.{next_due, is_grant, is_held, is_one
 ghost use Rattle.session_model.specs.Closes.{granted_handles, closed_handles, times, AreClosed, closes_of};
 ghost use Rattle.session_model.specs.Submitted.{submitted_at};
 ghost use Rattle.session_model.specs.Runs.{IsRun};
-ghost use Rattle.session_model.specs.Turns.{Stage, ClosesTo};
+ghost use Rattle.session_model.specs.Turns.{RunProgress, ClosesTo};
 ghost use Rattle.session_model.specs.declared.turn.Turn.{Turn};
 
 /// A reply that was taken stays, whatever is taken behind it.

@@ -41,8 +41,8 @@ use Rattle.sftp_core.specs.Table.{brings}
 use Rattle.sftp_core.specs.Take.{Read, TakenFrom, answered, take_leaves, take_refusal, taken_in, told_in, wrong_at, wrong_in}
 use Rattle.sftp_core.specs.declared.errors.TakeError.{TakeError}
 use Rattle.sftp_core.specs.declared.info.Info.{Info}
-use Rattle.sftp_core.specs.declared.phase.Phase.{Phase}
-use Rattle.sftp_core.specs.declared.phase.Phase.TheVariants as phase
+use Rattle.sftp_core.specs.declared.handshake.Handshake.{Handshake}
+use Rattle.sftp_core.specs.declared.handshake.Handshake.TheVariants as phase
 use Rattle.sftp_core.specs.declared.place.Place.{Place}
 use Rattle.sftp_core.specs.declared.place.Place.TheVariants.{Answered, Granted, Waiting}
 use Rattle.sftp_core.specs.declared.tokens.Taken.{Taken}
@@ -130,14 +130,14 @@ answering : (read : Result Read FrameError) (told : Taken) (old new : Core) (inf
     → (k : Option ℕ) (r : Reply) → read ≡ Ok (k, r) → told ≡ told_in old.phase k r
     → new ≡ taken_in old old.phase k r → wrong_in old old.phase k r ≡ None → IsAnswer read old new told
 answering read told old new info open_now None r is tells leaves right =
-    absurd (let wrong : wrong_in old (phase.Open info) None r ≡ None = ap (λ (x : Phase). wrong_in old x None r) (sym open_now) ∙ right in cc)
+    absurd (let wrong : wrong_in old (phase.Open info) None r ≡ None = ap (λ (x : Handshake). wrong_in old x None r) (sym open_now) ∙ right in cc)
 answering read told old new info open_now (Some id) r is tells leaves right =
-    subst (IsAnswer read old new) (sym (tells ∙ ap (λ (x : Phase). told_in x (Some id) r) open_now))
+    subst (IsAnswer read old new) (sym (tells ∙ ap (λ (x : Handshake). told_in x (Some id) r) open_now))
     (record {
       reads = is;
-      right = ap (λ (x : Phase). wrong_in old x (Some id) r) (sym open_now) ∙ right;
+      right = ap (λ (x : Handshake). wrong_in old x (Some id) r) (sym open_now) ∙ right;
       leaves = leaves
-          ∙ ap (λ (x : Phase). taken_in old x (Some id) r) open_now;
+          ∙ ap (λ (x : Handshake). taken_in old x (Some id) r) open_now;
     })
 
 is_answer : (read : Result Read FrameError) (told : Taken) (old new : Core) (info : Info) → old.phase ≡ phase.Open info

@@ -12,7 +12,7 @@ use Rattle.sftp_core.specs.Core.{Core, at}
 use Rattle.sftp_core.specs.Take.{First, IsFirst, IsTakeError, Read, Refused, fault_of, take_refusal, wrong_at, wrong_in}
 use Rattle.sftp_core.specs.declared.errors.TakeError.{TakeError}
 use Rattle.sftp_core.specs.declared.errors.TakeError.TheVariants as take
-use Rattle.sftp_core.specs.declared.phase.Phase.{Phase}
+use Rattle.sftp_core.specs.declared.handshake.Handshake.{Handshake}
 use Rattle.sftp_core.specs.declared.place.Place.{Place}
 use Rattle.sftp_core.specs.declared.place.Place.TheVariants.{Waiting}
 use Rattle.session_model.specs.declared.entry.Entry.{Entry}
@@ -90,10 +90,10 @@ wrong_is s past w g table id r run ready t = ap (wrong_at id r) (t id) ∙ by_st
 -- an open core refuses what the journal refuses
 refusal_is : (s : Setting) (c : LanesValue) → Works s c → (read : Result Read FrameError) → take_refusal c.core read ≡ refuses c.past read
 refusal_is s c w (Err e) = refl
-refusal_is s c w (Ok (None, r)) = ap (λ (x : Phase). wrong_in c.core x None r) w.rest.between.tied.work.phase
+refusal_is s c w (Ok (None, r)) = ap (λ (x : Handshake). wrong_in c.core x None r) w.rest.between.tied.work.phase
 refusal_is s c w (Ok (Some id, r)) =
     let b = w.rest.between in
-    ap (λ (x : Phase). wrong_in c.core x (Some id) r) b.tied.work.phase ∙ wrong_is s c.past _ _ (at c.core) id r b.good.run b.good.ready b.tied.table
+    ap (λ (x : Handshake). wrong_in c.core x (Some id) r) b.tied.work.phase ∙ wrong_is s c.past _ _ (at c.core) id r b.good.run b.good.ready b.tied.table
 
 first_by : (e : TakeError) (kept : Option Fault) (refusal : Option TakeError) (old new : Core) → Refused e kept refusal old new → First e kept refusal
 first_by e None refusal old new h = tt

@@ -36,7 +36,7 @@ use Rattle.session_model.specs.declared.entry.Entry.{Entry}
 use Rattle.session_model.specs.Calls.{Setting, calls_of, current, lane_calls, move_of}
 use Rattle.plan_model.specs.Lanes.{are_ok}
 use Rattle.session_model.specs.Readings.{asked, ended, own, unanswered}
-use Rattle.session_model.specs.Turns.{Stage}
+use Rattle.session_model.specs.Turns.{RunProgress}
 use Rattle.session_driver.specs.declared.session.Stepped.{Stepped}
 use Rattle.session_driver.specs.Session.{IsLater, StepsTo, Cancels, LetsGo, TakesAndSettles, HandsOut, LessBy, is_event}
 use Rattle.session_laws.specs.Changes.{fresh_lane}
@@ -76,10 +76,10 @@ contents_of w =
 abbrev pub past_of : Lanes → List Entry
 past_of w = reverse w.journal.items
 
-abbrev pub stage_in : LanesValue → Stage
+abbrev pub stage_in : LanesValue → RunProgress
 stage_in c = record { past = c.past; begun = c.begun }
 
-abbrev pub stage_of : Lanes → Stage
+abbrev pub stage_of : Lanes → RunProgress
 stage_of w = stage_in (contents_of w)
 
 -- ---- what is left to do

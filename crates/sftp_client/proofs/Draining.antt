@@ -5,7 +5,7 @@ use Rattle.sftp_model.specs.ReplyReadings.{reply_at}
 use Rattle.sftp_model.specs.declared.error.Error.{Error}
 use Rattle.sftp_core.specs.Core.{Core, awaited_of, handed_out, unanswered_of}
 use Rattle.sftp_core.specs.Info.{info_of}
-use Rattle.sftp_core.specs.declared.phase.Phase.{Phase}
+use Rattle.sftp_core.specs.declared.handshake.Handshake.{Handshake}
 use Rattle.sftp_link.specs.Views.{LinkView}
 use Rattle.sftp_client.specs.Sessions.{Flushes, SftpValue, TakesOrKept, TakesFrame}
 use Rattle.sftp_client.specs.Rounds.{Drains, HasRounds, RoundStops}
@@ -31,7 +31,7 @@ drains_first state old new u opened flushed =
       out = ap (λ (s : SftpValue _). s.core) sends.left;
       sent = ap (λ (s : SftpValue _). s.unsent) sends.left;
       unfailed = ap (λ (s : SftpValue _). s.core.fault) sends.left ∙ flushed.0;
-      opened = subst (λ (p : Phase). IsSome (info_of p)) (sym (ap (λ (s : SftpValue _). s.core.phase) sends.left)) opened;
+      opened = subst (λ (p : Handshake). IsSome (info_of p)) (sym (ap (λ (s : SftpValue _). s.core.phase) sends.left)) opened;
       unfaulted = sends.unfaulted.cause;
     }
 
@@ -66,7 +66,7 @@ drains_next state old mid took new u d takes flushed =
       out = ap (λ (s : SftpValue _). s.core) sends.left;
       sent = ap (λ (s : SftpValue _). s.unsent) sends.left;
       unfailed = ap (λ (s : SftpValue _). s.core.fault) sends.left ∙ flushed.0;
-      opened = subst (λ (p : Phase). IsSome (info_of p)) (sym (ap (λ (s : SftpValue _). s.core.phase) sends.left)) opened;
+      opened = subst (λ (p : Handshake). IsSome (info_of p)) (sym (ap (λ (s : SftpValue _). s.core.phase) sends.left)) opened;
       unfaulted = sends.unfaulted.cause ∙ (takes.unfaulted.cause ∙ d.unfaulted);
     }
 

@@ -12,8 +12,8 @@ use Rattle.sftp_core.specs.Core.{Core, at, awaited_of, dropped, handed_out, unan
 use Rattle.sftp_core.specs.Info.{info_of}
 use Rattle.sftp_core.specs.Table.{all_sent, asks_handle, brings, count, is_owing, is_waiting, tally}
 use Rattle.sftp_core.specs.Take.{Read, TakenFrom, answered, take_leaves, take_refusal, taken_in, wrong_at, wrong_in}
-use Rattle.sftp_core.specs.declared.phase.Phase.{Phase}
-use Rattle.sftp_core.specs.declared.phase.Phase.TheVariants.{Greeting, Asking, Open}
+use Rattle.sftp_core.specs.declared.handshake.Handshake.{Handshake}
+use Rattle.sftp_core.specs.declared.handshake.Handshake.TheVariants.{Greeting, Asking, Open}
 use Rattle.sftp_core.specs.declared.place.Place.{Place}
 use Rattle.sftp_core.specs.declared.place.Place.TheVariants.{Waiting, Answered, Granted}
 use Rattle.sftp_core.specs.declared.tokens.Taken.{Taken}
@@ -75,7 +75,7 @@ answer_lowers core id r (Some (Answered e other)) is right = absurd cc
 answer_lowers core id r (Some (Granted handle users)) is right = absurd cc
 answer_lowers core id r None is right = absurd cc
 
-by_id : (core : Core) (id : Option ℕ) (r : Reply) (phase : Phase) → IsSome (info_of phase) → wrong_in core phase id r ≡ None
+by_id : (core : Core) (id : Option ℕ) (r : Reply) (phase : Handshake) → IsSome (info_of phase) → wrong_in core phase id r ≡ None
     → still_due (taken_in core phase id r) < still_due core
 by_id core id r Greeting opened right = absurd cc
 by_id core id r (Asking extensions) opened right = absurd cc
@@ -90,7 +90,7 @@ take_lowers core new read told opened right taken =
     subst (λ (c : Core). still_due c < still_due core) (sym taken.leaves) (by_id core taken.reading.0 taken.reading.1 core.phase opened no)
 
 -- a session that was open stays so
-stays_in : (core : Core) (id : Option ℕ) (r : Reply) (phase : Phase) → core.phase ≡ phase → IsSome (info_of phase)
+stays_in : (core : Core) (id : Option ℕ) (r : Reply) (phase : Handshake) → core.phase ≡ phase → IsSome (info_of phase)
     → (taken_in core phase id r).phase ≡ core.phase
 stays_in core id r Greeting is opened = absurd cc
 stays_in core id r (Asking extensions) is opened = absurd cc
@@ -112,7 +112,7 @@ pub take_stays_open : (core new : Core) (read : Result Read FrameError) (told : 
     → TakenFrom read told core new → IsSome (info_of new.phase)
 take_stays_open core new read told opened taken =
     let same : new.phase ≡ core.phase = ap (λ (c : Core). c.phase) taken.leaves ∙ stays_in core taken.reading.0 taken.reading.1 core.phase refl opened in
-    subst (λ (p : Phase). IsSome (info_of p)) (sym same) opened
+    subst (λ (p : Handshake). IsSome (info_of p)) (sym same) opened
 
 -- where all was handed out, what is unanswered is awaited
 pub all_awaited : (core : Core) → IsSome (info_of core.phase) → unanswered_of core ≡ awaited_of (handed_out core)

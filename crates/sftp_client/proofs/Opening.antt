@@ -32,8 +32,8 @@ use Rattle.sftp_core.specs.Take.{
   wrong_in,
   wrong_version,
 }
-use Rattle.sftp_core.specs.declared.phase.Phase.{Phase}
-use Rattle.sftp_core.specs.declared.phase.Phase.TheVariants.{Greeting, Asking, Open}
+use Rattle.sftp_core.specs.declared.handshake.Handshake.{Handshake}
+use Rattle.sftp_core.specs.declared.handshake.Handshake.TheVariants.{Greeting, Asking, Open}
 use Rattle.sftp_core.specs.declared.place.Place.{Place}
 use Rattle.sftp_core.specs.declared.place.Place.TheVariants.{Waiting, Answered, Granted}
 use Rattle.sftp_core.specs.declared.tokens.Taken.{Taken}
@@ -118,7 +118,7 @@ greeted_fault core (Some extensions) = elim (offers_limits extensions) as
     (λ b. (if b then record (queued_last core 0 LimitsQuery false) { phase = Asking extensions } else opened core extensions None).fault ≡ core.fault)
     [ true ↦ refl | false ↦ refl ]
 
-taken_fault : (core : Core) (id : Option ℕ) (r : Reply) (phase : Phase) → (taken_in core phase id r).fault ≡ core.fault
+taken_fault : (core : Core) (id : Option ℕ) (r : Reply) (phase : Handshake) → (taken_in core phase id r).fault ≡ core.fault
 taken_fault core id r Greeting = greeted_fault core (extensions_in r)
 taken_fault core None r (Asking extensions) = refl
 taken_fault core (Some id) r (Asking extensions) = leaves_fault core id r (at core id)
@@ -151,7 +151,7 @@ told_extensions (reply.Names names) right = absurd cc
 told_extensions (reply.Attrs attrs) right = absurd cc
 told_extensions (reply.Extended content) right = absurd cc
 
-greets : (core : Core) (id : Option ℕ) (r : Reply) (phase : Phase) → phase ≡ Greeting → wrong_in core phase id r ≡ None
+greets : (core : Core) (id : Option ℕ) (r : Reply) (phase : Handshake) → phase ≡ Greeting → wrong_in core phase id r ≡ None
     → info_of (taken_in core phase id r).phase ≡ None → (x : Extensions) × ((taken_in core phase id r).phase ≡ Asking x)
 greets core None r Greeting is right none = asks_next core (extensions_in r) (told_extensions r right) none
 greets core (Some id) r Greeting is right none = absurd cc
@@ -166,7 +166,7 @@ greeting_asks core new read told is right taken none =
     (ap (λ (c : Core). info_of c.phase) (sym taken.leaves) ∙ none) in
     (found.0, ap (λ (c : Core). c.phase) taken.leaves ∙ found.1)
 
-opens : (core : Core) (id : Option ℕ) (r : Reply) (phase : Phase) (x : Extensions) → phase ≡ Asking x → wrong_in core phase id r ≡ None
+opens : (core : Core) (id : Option ℕ) (r : Reply) (phase : Handshake) (x : Extensions) → phase ≡ Asking x → wrong_in core phase id r ≡ None
     → IsSome (info_of (taken_in core phase id r).phase)
 opens core None r (Asking extensions) x is right = absurd cc
 opens core (Some id) r (Asking extensions) x is right = refl

@@ -36,8 +36,8 @@ use Rattle.sftp_model.specs.Answers.{expected_of}
 use Rattle.sftp_model.specs.Frames.{request_body}
 use Rattle.sftp_model.specs.declared.request.Request.{Request}
 use Rattle.sftp_model.specs.declared.request.Request.TheVariants as request
-use Rattle.sftp_core.specs.declared.phase.Phase.{Phase}
-use Rattle.sftp_core.specs.declared.phase.Phase.TheVariants.{Greeting, Asking, Open}
+use Rattle.sftp_core.specs.declared.handshake.Handshake.{Handshake}
+use Rattle.sftp_core.specs.declared.handshake.Handshake.TheVariants.{Greeting, Asking, Open}
 use Rattle.sftp_core.specs.declared.place.Place.{Place}
 use Rattle.sftp_core.specs.declared.place.Place.TheVariants.{Waiting, Answered, Granted}
 use Rattle.sftp_core.specs.Info.{most_ids, hello_of, info_of, IsRanged}
@@ -118,13 +118,13 @@ short-measured None asked copy id measures some same = absurd cc
 -- ---- a phase
 
 -- nothing is kept before the greeting
-pub none_kept : (p : Phase) (t : Places) → fin.len t ≤ most_ids p → p ≡ Greeting → fin.len t ≡ 0
+pub none_kept : (p : Handshake) (t : Places) → fin.len t ≤ most_ids p → p ≡ Greeting → fin.len t ≡ 0
 none_kept p t few is = let most : fin.len t ≤ 0 = rw is at few in omega (arith, most)
 
-pub none_here : (p : Phase) (t : Places) → fin.len t ≤ most_ids p → p ≡ Greeting → (id : ℕ) → fin.get t id ≡ None
+pub none_here : (p : Handshake) (t : Places) → fin.len t ≤ most_ids p → p ≡ Greeting → (id : ℕ) → fin.get t id ≡ None
 none_here p t few is id = rw (fin.empty_of_len t (none_kept p t few is), fin.get-empty nat_cmp id) refl
 
-pub most_open : (p : Phase) → IsSome (info_of p) → most_ids p ≡ 2147483648
+pub most_open : (p : Handshake) → IsSome (info_of p) → most_ids p ≡ 2147483648
 most_open Greeting h = absurd cc
 most_open (Asking extensions) h = refl
 most_open (Open info) h = refl
@@ -132,7 +132,7 @@ most_open (Open info) h = refl
 -- ---- a change
 
 -- another in the place of what stood there
-pub sound-replace : (h : Bool) (p : Phase) (qs qs' : List (ℕ × Request)) (q r q' r' : ℕ) (t : Places) (id : ℕ)
+pub sound-replace : (h : Bool) (p : Handshake) (qs qs' : List (ℕ × Request)) (q r q' r' : ℕ) (t : Places) (id : ℕ)
     (v w : Place) → IsSound h p qs q r t → Some w ≡ fin.get t id
     → q' + tally is_unsent w ≡ q + tally is_unsent v → q' + tally is_owing v ≤ q + tally is_owing w → r ≤ r' → All IsShort qs' → IsAllowed (Some v)
     → ((k : ℕ) → stands k qs' ≡ false → stands k qs ≡ false) → (stands id qs' ≡ false → is_unsent v ≡ false) → IsSound h p qs' q' r' (fin.insert t id v)
@@ -153,14 +153,14 @@ sound-replace h p qs qs' q r q' r' t id v w s some eq eo room short one less her
     }
 
 -- of the same kinds
-pub sound-same : (h : Bool) (p : Phase) (qs : List (ℕ × Request)) (q r : ℕ) (t : Places) (id : ℕ) (v w : Place) → IsSound h p qs q r t → Some w ≡ fin.get t id
+pub sound-same : (h : Bool) (p : Handshake) (qs : List (ℕ × Request)) (q r : ℕ) (t : Places) (id : ℕ) (v w : Place) → IsSound h p qs q r t → Some w ≡ fin.get t id
     → is_unsent v ≡ is_unsent w → is_owing v ≡ is_owing w → IsAllowed (Some v) → IsSound h p qs q r (fin.insert t id v)
 sound-same h p qs q r t id v w s some eq eo one =
     sound-replace h p qs qs q r q r t id v w s some (ap (λ b. q + cond b 1 0) (sym eq)) (rw eo (omega arith)) (omega arith) s.short one (λ k out. out)
     (λ out. eq ∙ ap is_unsent_at some ∙ s.listed id out)
 
 -- nothing in the place of what is not queued
-pub sound-gone : (h : Bool) (p : Phase) (qs : List (ℕ × Request)) (q r : ℕ) (t : Places) (id : ℕ) (w : Place)
+pub sound-gone : (h : Bool) (p : Handshake) (qs : List (ℕ × Request)) (q r : ℕ) (t : Places) (id : ℕ) (w : Place)
     → IsSound h p qs q r t → Some w ≡ fin.get t id → is_unsent w ≡ false → IsSound h p qs q r (fin.remove t id)
 sound-gone h p qs q r t id w s some eq =
     let x = count-remove is_unsent t id w (sym some) in
@@ -179,7 +179,7 @@ sound-gone h p qs q r t id w s some eq =
       range = s.range;
     }
 
-pub sound-freed : (h : Bool) (p : Phase) (qs : List (ℕ × Request)) (q r : ℕ) (t : Places) (id : ℕ)
+pub sound-freed : (h : Bool) (p : Handshake) (qs : List (ℕ × Request)) (q r : ℕ) (t : Places) (id : ℕ)
     → IsSound h p qs q r t → MayFree (fin.get t id) → IsSound h p qs q r (fin.remove t id)
 sound-freed h p qs q r t id s may = by_place (fin.get t id) refl may
   where
@@ -188,7 +188,7 @@ sound-freed h p qs q r t id s may = by_place (fin.get t id) refl may
     by_place (Some w) is free = sound-gone h p qs q r t id w s (sym is) free
 
 -- there is room for a CLOSE that is owed
-pub room_for_close : (h : Bool) (p : Phase) (qs : List (ℕ × Request)) (q r : ℕ) (t : Places) (id : ℕ) (w : Place)
+pub room_for_close : (h : Bool) (p : Handshake) (qs : List (ℕ × Request)) (q r : ℕ) (t : Places) (id : ℕ) (w : Place)
     → IsSound h p qs q r t → Some w ≡ fin.get t id → is_owing w ≡ true → q < r
 room_for_close h p qs q r t id w s some owes =
     let z = count-remove is_owing t id w (sym some) in
@@ -196,7 +196,7 @@ room_for_close h p qs q r t id w s some owes =
     let so = s.reserved in omega (arith, z, one, so)
 
 -- it is queued in the place of what owed it
-pub sound-close : (h : Bool) (p : Phase) (qs qs' : List (ℕ × Request)) (q r q' r' : ℕ) (t : Places) (id : ℕ)
+pub sound-close : (h : Bool) (p : Handshake) (qs qs' : List (ℕ × Request)) (q r q' r' : ℕ) (t : Places) (id : ℕ)
     (handle : List ℕ) (wanted : Bool) (w : Place) → IsSound h p qs q r t → Some w ≡ fin.get t id
     → is_owing w ≡ true → is_unsent w ≡ false → length handle ≤ 256 → qs' ≡ qs ++ (id, request.Close handle) ∷ [] → q'
     ≡ q + 1 → r ≤ r' → IsSound h p qs' q' r' (fin.insert t id
@@ -208,7 +208,7 @@ sound-close h p qs qs' q r q' r' t id handle wanted w s some owes unsent small i
     (λ k out. not_before k id (request.Close handle) qs qs' is out) (λ out. is_last id (request.Close handle) qs qs' is out)
 
 -- a new request stands last in the queue
-pub sound-last : (h : Bool) (p p' : Phase) (qs qs' : List (ℕ × Request)) (q r q' r' : ℕ) (t t' : Places) (id : ℕ)
+pub sound-last : (h : Bool) (p p' : Handshake) (qs qs' : List (ℕ × Request)) (q r q' r' : ℕ) (t t' : Places) (id : ℕ)
     (asked : Request) (wanted : Bool) → IsSound h p qs q r t → fin.get t id ≡ None
     → fin.len t < most_ids p' → IsRanged p' → IsShort (id, asked) → qs' ≡ qs ++ (id, asked) ∷ [] → q' ≡ q + 1 → t'
     ≡ fin.insert t id (Waiting (expected_of asked) false wanted)
@@ -229,7 +229,7 @@ sound-last h p p' qs qs' q r q' r' t t' id asked wanted s none few range one is 
     }
 
 -- more room, and a later phase
-pub sound-later : (h : Bool) (p p' : Phase) (qs : List (ℕ × Request)) (q r r' : ℕ) (t : Places) → IsSound h p qs q r t
+pub sound-later : (h : Bool) (p p' : Handshake) (qs : List (ℕ × Request)) (q r r' : ℕ) (t : Places) → IsSound h p qs q r t
     → most_ids p ≤ most_ids p' → IsRanged p' → r ≤ r' → IsSound h p' qs q r' t
 sound-later h p p' qs q r r' t s most range room =
     let so = s.reserved in let sf = s.few in
@@ -244,7 +244,7 @@ sound-later h p p' qs q r r' t s most range room =
     }
 
 -- the queue is emptied and keeps its room
-pub sound-sent : (h : Bool) (p : Phase) (qs qs' : List (ℕ × Request)) (q r q' r' : ℕ) (t t' : Places)
+pub sound-sent : (h : Bool) (p : Handshake) (qs qs' : List (ℕ × Request)) (q r q' r' : ℕ) (t t' : Places)
     → IsSound h p qs q r t → qs' ≡ [] → q' ≡ 0 → r' ≡ r → t' ≡ marked_all t qs → IsSound true p qs' q' r' t'
 sound-sent h p qs qs' q r q' r' t t' s is none room marks =
     let sent : t' ≡ all_sent t = marks ∙ marks_all qs t s.listed in
@@ -287,7 +287,7 @@ pub record AreFew (h : Bool) (queued : ℕ) (table : Places) : Type 0 where
   pub owing : count is_owing table ≤ 2147483648
   pub all : fin.len table ≤ 2147483648
 
-most_few : (p : Phase) → most_ids p ≤ 2147483648
+most_few : (p : Handshake) → most_ids p ≤ 2147483648
 most_few p = elim p as (λ x. most_ids x ≤ 2147483648) [ Greeting ↦ lit≤ tt | Asking extensions ↦ lit≤ tt | Open info ↦ lit≤ tt ]
 
 queued_small : (h : Bool) → hello_queued h ≤ 1
@@ -295,10 +295,10 @@ queued_small true = lit≤ tt
 queued_small false = lit≤ tt
 
 -- the hello counts once
-pub hello_small : (p : Phase) → hello_of p ≤ 1
+pub hello_small : (p : Handshake) → hello_of p ≤ 1
 hello_small p = elim p as (λ x. hello_of x ≤ 1) [ Greeting ↦ lit≤ tt | Asking extensions ↦ lit≤ tt | Open info ↦ lit≤ tt ]
 
-pub few : (h : Bool) (p : Phase) (qs : List (ℕ × Request)) (q r : ℕ) (t : Places) → IsSound h p qs q r t → AreFew h q t
+pub few : (h : Bool) (p : Handshake) (qs : List (ℕ × Request)) (q r : ℕ) (t : Places) → IsSound h p qs q r t → AreFew h q t
 few h p qs q r t s =
     let x = unsent_waiting t in let w = waiting_split t in let y = count_len is_waiting t in let z = count_len is_owing t in
     let m = most_few p in let one = queued_small h in

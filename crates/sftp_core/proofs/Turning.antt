@@ -11,8 +11,8 @@ use Rattle.sftp_model.specs.declared.flags.Extensions.{Extensions}
 use Rattle.sftp_model.specs.declared.reply.Reply.{Reply}
 use Rattle.sftp_model.specs.declared.request.Request.TheVariants.{Close, LimitsQuery}
 use Rattle.sftp_model.specs.declared.options.SftpOptions.{SftpOptions}
-use Rattle.sftp_core.specs.declared.phase.Phase.{Phase}
-use Rattle.sftp_core.specs.declared.phase.Phase.TheVariants.{Greeting, Asking, Open}
+use Rattle.sftp_core.specs.declared.handshake.Handshake.{Handshake}
+use Rattle.sftp_core.specs.declared.handshake.Handshake.TheVariants.{Greeting, Asking, Open}
 use Rattle.sftp_core.specs.declared.place.Place.{Place}
 use Rattle.sftp_core.specs.declared.place.Place.TheVariants.{Waiting, Answered, Granted}
 use Rattle.sftp_core.specs.Grant.{GrantValue}
@@ -162,7 +162,7 @@ answer_shown core k r id (Some (Granted handle users)) is = record { turns = tt;
 answer_shown core k r id None is = record { turns = tt; ends = refl }
 
 -- no id is in use before the greeting
-abbrev IsBlank : Phase → Places → Type 0
+abbrev IsBlank : Handshake → Places → Type 0
 IsBlank Greeting t = (id : ℕ) → fin.get t id ≡ None
 IsBlank (Asking extensions) t = Unit {0}
 IsBlank (Open info) t = Unit {0}
@@ -176,7 +176,7 @@ greet_shown core id (Some extensions) none = by_test (offers_limits extensions)
     by_test true = record { turns = ((λ same. ap waits (none id)), tt); ends = sym (put_waits core.table 0 _ id) }
     by_test false = record { turns = tt; ends = refl }
 
-take_shown : (core : Core) (p : Phase) (k : Option ℕ) (r : Reply) (id : ℕ) → IsBlank p core.table → Shown core (taken_in core p k r) id (take_signs core p k r)
+take_shown : (core : Core) (p : Handshake) (k : Option ℕ) (r : Reply) (id : ℕ) → IsBlank p core.table → Shown core (taken_in core p k r) id (take_signs core p k r)
 take_shown core Greeting k r id blank = greet_shown core id (extensions_in r) blank
 take_shown core (Asking extensions) None r id blank = record { turns = tt; ends = refl }
 take_shown core (Asking extensions) (Some k) r id blank = let x = answer_shown core k r id (at core k) refl in record { turns = x.turns; ends = x.ends }
@@ -230,12 +230,12 @@ shown core (Fail f) id blank may = record { turns = tt; ends = refl }
 -- ---- no call before the greeting takes an id
 
 -- a call that no table without places allows
-blank_by : (p p' : Phase) (t t' : Places) → p' ≡ p → (((id : ℕ) → fin.get t id ≡ None) → (id : ℕ) → fin.get t' id ≡ None) → IsBlank p t → IsBlank p' t'
+blank_by : (p p' : Handshake) (t t' : Places) → p' ≡ p → (((id : ℕ) → fin.get t id ≡ None) → (id : ℕ) → fin.get t' id ≡ None) → IsBlank p t → IsBlank p' t'
 blank_by Greeting p' t t' same step blank = subst (λ x. IsBlank x t') (sym same) (step blank)
 blank_by (Asking extensions) p' t t' same step blank = subst (λ x. IsBlank x t') (sym same) tt
 blank_by (Open info) p' t t' same step blank = subst (λ x. IsBlank x t') (sym same) tt
 
-blank_open : (p : Phase) (t : Places) → IsSome (info_of p) → IsBlank p t
+blank_open : (p : Handshake) (t : Places) → IsSome (info_of p) → IsBlank p t
 blank_open Greeting t h = absurd cc
 blank_open (Asking extensions) t h = tt
 blank_open (Open info) t h = tt
@@ -256,7 +256,7 @@ blank_greeted core (Some extensions) blank = by_test (offers_limits extensions)
     by_test true = tt
     by_test false = tt
 
-blank_taken : (core : Core) (p : Phase) (k : Option ℕ) (r : Reply) → core.phase ≡ p → IsBlank core.phase core.table
+blank_taken : (core : Core) (p : Handshake) (k : Option ℕ) (r : Reply) → core.phase ≡ p → IsBlank core.phase core.table
     → IsBlank (taken_in core p k r).phase (taken_in core p k r).table
 blank_taken core Greeting k r is blank = blank_greeted core (extensions_in r) blank
 blank_taken core (Asking extensions) None r is blank = blank

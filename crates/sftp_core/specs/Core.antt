@@ -34,8 +34,8 @@ use Rattle.sftp_model.specs.declared.request.Request.TheVariants as request
 use Rattle.sftp_model.specs.declared.reply.Reply.{Reply}
 use Rattle.sftp_model.specs.declared.error.Fault.{Fault}
 use Rattle.sftp_model.specs.declared.options.SftpOptions.{SftpOptions}
-use Rattle.sftp_core.specs.declared.phase.Phase.{Phase}
-use Rattle.sftp_core.specs.declared.phase.Phase.TheVariants.{Greeting}
+use Rattle.sftp_core.specs.declared.handshake.Handshake.{Handshake}
+use Rattle.sftp_core.specs.declared.handshake.Handshake.TheVariants.{Greeting}
 use Rattle.sftp_core.specs.declared.errors.SubmitError.{SubmitError}
 use Rattle.sftp_core.specs.declared.errors.SubmitError.TheVariants as submit
 use Rattle.sftp_core.specs.declared.tokens.Polled.{Polled}
@@ -54,7 +54,7 @@ use Rattle.sftp_core.specs.Table.{Places, count, all_sent, is_waiting, is_sent, 
 pub record Core : Type 0 where
   pub options : SftpOptions
   pub hello_sent : Bool
-  pub phase : Phase
+  pub phase : Handshake
   pub queue : List (ℕ × Request)
   pub pieces : List (List ℕ)
   pub table : Places

@@ -6,8 +6,8 @@ use Rattle.sftp_model.specs.declared.config.Limits.{Limits}
 use Rattle.sftp_model.specs.declared.flags.Extensions.{Extensions}
 use Rattle.sftp_model.specs.declared.options.SftpOptions.{SftpOptions}
 use Rattle.sftp_core.specs.declared.info.Info.{Info}
-use Rattle.sftp_core.specs.declared.phase.Phase.{Phase}
-use Rattle.sftp_core.specs.declared.phase.Phase.TheVariants.{Greeting, Asking, Open}
+use Rattle.sftp_core.specs.declared.handshake.Handshake.{Handshake}
+use Rattle.sftp_core.specs.declared.handshake.Handshake.TheVariants.{Greeting, Asking, Open}
 
 -- the read length and the write length of a session with these limits and options
 abbrev pub lengths_of : Option Limits → SftpOptions → ℕ × ℕ
@@ -23,7 +23,7 @@ info_with extensions limits options =
     }
 
 -- what is known of the server, once the greeting is over
-abbrev pub info_of : Phase → Option Info
+abbrev pub info_of : Handshake → Option Info
 info_of Greeting = None
 info_of (Asking extensions) = None
 info_of (Open info) = Some info
@@ -34,13 +34,13 @@ pub record HasLengths (info : Info) : Type 0 where
   pub write : (1 ≤ info.write_len) × (info.write_len ≤ MAX_TRANSFER_LEN)
 
 -- an open session has such lengths
-abbrev pub IsRanged : Phase → Type 0
+abbrev pub IsRanged : Handshake → Type 0
 IsRanged Greeting = Unit {0}
 IsRanged (Asking extensions) = Unit {0}
 IsRanged (Open info) = HasLengths info
 
 -- 1 for the hello while its VERSION was not taken
-abbrev pub hello_of : Phase → ℕ
+abbrev pub hello_of : Handshake → ℕ
 hello_of Greeting = 1
 hello_of (Asking extensions) = 0
 hello_of (Open info) = 0
@@ -50,7 +50,7 @@ abbrev pub MAX_IDS : ℕ
 MAX_IDS = 2147483648
 
 -- the most ids that may be in use
-abbrev pub most_ids : Phase → ℕ
+abbrev pub most_ids : Handshake → ℕ
 most_ids Greeting = 0
 most_ids (Asking extensions) = MAX_IDS
 most_ids (Open info) = MAX_IDS

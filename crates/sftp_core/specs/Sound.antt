@@ -3,7 +3,7 @@ use Rattle.std.specs.Prelude.{◌≡◌, ℕ, ◌+◌, ◌≤◌, Bool, List, if
 use Rattle.std.specs.FinMap as fin
 use Rattle.std.specs.List.{All}
 use Rattle.sftp_model.specs.declared.request.Request.{Request}
-use Rattle.sftp_core.specs.declared.phase.Phase.{Phase}
+use Rattle.sftp_core.specs.declared.handshake.Handshake.{Handshake}
 use Rattle.sftp_core.specs.Info.{IsRanged, most_ids}
 use Rattle.sftp_core.specs.Frames.{IsShort}
 use Rattle.sftp_core.specs.Table.{Places, count, is_unsent, is_owing, IsAllowed, AllListed}
@@ -15,7 +15,7 @@ hello_queued sent = if sent then 0 else 1
 -- Of the queue its length and its capacity: each queued request is counted, each request that was not handed out stands
 -- in it, and each CLOSE that may come fits. No id is in use before the greeting, each kept answer is allowed, each
 -- queued frame is within the limit, and an open session has lengths from 1 to 1048275.
-pub record IsSound (hello_sent : Bool) (phase : Phase) (queue : List (ℕ × Request)) (queued capacity : ℕ)
+pub record IsSound (hello_sent : Bool) (phase : Handshake) (queue : List (ℕ × Request)) (queued capacity : ℕ)
     (table : Places) : Type 0 where
   pub unsent : queued ≡ count is_unsent table + hello_queued hello_sent
   pub listed : AllListed queue table

@@ -15,8 +15,8 @@ use Rattle.sftp_model.specs.declared.reply.Reply.{Reply}
 use Rattle.sftp_model.specs.declared.reply.Reply.TheVariants as reply
 use Rattle.sftp_core.specs.declared.errors.TakeError.{TakeError}
 use Rattle.sftp_core.specs.declared.errors.TakeError.TheVariants as take
-use Rattle.sftp_core.specs.declared.phase.Phase.{Phase}
-use Rattle.sftp_core.specs.declared.phase.Phase.TheVariants.{Greeting, Asking, Open}
+use Rattle.sftp_core.specs.declared.handshake.Handshake.{Handshake}
+use Rattle.sftp_core.specs.declared.handshake.Handshake.TheVariants.{Greeting, Asking, Open}
 use Rattle.sftp_core.specs.declared.place.Place.{Place}
 use Rattle.sftp_core.specs.declared.place.Place.TheVariants.{Waiting, Answered, Granted}
 use Rattle.sftp_core.specs.declared.tokens.Taken.{Taken}
@@ -69,7 +69,7 @@ wrong_asked core None r = Some (take.InvalidResponse None)
 wrong_asked core (Some id) r = wrong_at id r (at core id)
 
 -- the first thing that is wrong with a reply that was read
-abbrev pub wrong_in : Core → Phase → Option ℕ → Reply → Option TakeError
+abbrev pub wrong_in : Core → Handshake → Option ℕ → Reply → Option TakeError
 wrong_in core Greeting None r = wrong_version r
 wrong_in core Greeting (Some id) r = Some (take.InvalidResponse (Some id))
 wrong_in core (Asking extensions) id r = or_else (wrong_asked core id r) (wrong_limits r)
@@ -143,7 +143,7 @@ greeted_by core (Some extensions) = greeted core extensions
 greeted_by core None = core
 
 -- by how far the greeting has come: VERSION, the limits, or the answer to a call
-abbrev pub taken_in : Core → Phase → Option ℕ → Reply → Core
+abbrev pub taken_in : Core → Handshake → Option ℕ → Reply → Core
 taken_in core Greeting id r = greeted_by core (extensions_in r)
 taken_in core (Asking extensions) None r = core
 taken_in core (Asking extensions) (Some id) r = opened (take_leaves core id r (at core id)) extensions (limits_in r)
@@ -155,7 +155,7 @@ abbrev pub taken : Core → Read → Core
 taken core read = taken_in core core.phase read.0 read.1
 
 -- VERSION, the limits, or the answer to a call
-abbrev pub told_in : Phase → Option ℕ → Reply → Taken
+abbrev pub told_in : Handshake → Option ℕ → Reply → Taken
 told_in phase None r = taken_of.Version r
 told_in Greeting (Some id) r = taken_of.Version r
 told_in (Asking extensions) (Some id) r = taken_of.Limits id r

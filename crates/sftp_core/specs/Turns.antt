@@ -22,8 +22,8 @@ use Rattle.sftp_model.specs.declared.error.Fault.{Fault}
 use Rattle.sftp_model.specs.declared.flags.Extensions.{Extensions}
 use Rattle.sftp_model.specs.declared.reply.Reply.{Reply}
 use Rattle.sftp_model.specs.declared.request.Request.{Request}
-use Rattle.sftp_core.specs.declared.phase.Phase.{Phase}
-use Rattle.sftp_core.specs.declared.phase.Phase.TheVariants.{Greeting, Asking, Open}
+use Rattle.sftp_core.specs.declared.handshake.Handshake.{Handshake}
+use Rattle.sftp_core.specs.declared.handshake.Handshake.TheVariants.{Greeting, Asking, Open}
 use Rattle.sftp_core.specs.declared.place.Place.{Place}
 use Rattle.sftp_core.specs.declared.place.Place.TheVariants.{Waiting, Answered, Granted}
 use Rattle.sftp_core.specs.Grant.{GrantValue}
@@ -120,7 +120,7 @@ greeting_signs (Some extensions) = if offers_limits extensions then Asked 0 ∷ 
 greeting_signs None = []
 
 -- by how far the greeting has come
-abbrev pub take_signs : Core → Phase → Option ℕ → Reply → List Sign
+abbrev pub take_signs : Core → Handshake → Option ℕ → Reply → List Sign
 take_signs core Greeting id r = greeting_signs (extensions_in r)
 take_signs core (Asking extensions) None r = []
 take_signs core (Asking extensions) (Some id) r = answer_signs id (at core id) r

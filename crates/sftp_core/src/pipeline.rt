@@ -8,8 +8,8 @@ ghost use Rattle.sftp_core.specs.Info.{MAX_IDS, info_of, HasLengths};
 ghost use Rattle.sftp_core.specs.Queue.{IsPutLast, IsUnput};
 
 use crate::errors::SubmitError;
+use crate::handshake::Handshake;
 use crate::info::Info;
-use crate::phase::Phase;
 use crate::place::Place;
 use crate::queued::Queued;
 use crate::table::Table;
@@ -34,7 +34,7 @@ pub struct Core {
     alloc: Global,
     options: SftpOptions,
     hello_sent: bool,
-    phase: Phase,
+    phase: Handshake,
     queue: Vec<Queued>,
     table: Table,
     fault: Option<Fault>,
@@ -78,7 +78,7 @@ impl Core {
             alloc,
             options: *options,
             hello_sent: false,
-            phase: Phase::Greeting,
+            phase: Handshake::Greeting,
             queue,
             table: Table::new(alloc),
             fault: None,

@@ -35,7 +35,7 @@ use Rattle.sftp_model.specs.declared.slot.Site.{Site}
 use Rattle.plan_model.specs.Moves.{Answers, Own, Plan, handle_of, on_handle, once_answered}
 use Rattle.sftp_core.specs.Core.{Core, at, poll_leaves, reply_in}
 use Rattle.sftp_core.specs.Info.{info_of}
-use Rattle.sftp_core.specs.declared.phase.Phase.{Phase}
+use Rattle.sftp_core.specs.declared.handshake.Handshake.{Handshake}
 use Rattle.sftp_core.specs.declared.place.Place.{Place}
 use Rattle.sftp_core.specs.declared.place.Place.TheVariants.{Answered, Granted, Waiting}
 use Rattle.call_state.proofs.Keeping.{grants_both, still_under_way}
@@ -360,7 +360,7 @@ phase_left core ticket fault None = refl
 pub ready_polled : (core : Core) (s : Stage) → IsReady core → IsReady (polled_core core s)
 ready_polled core (stage.Asked ticket) h =
     record {
-      opened = subst (λ (p : Phase). IsSome (info_of p)) (sym (phase_left core ticket core.fault (at core ticket))) h.opened;
+      opened = subst (λ (p : Handshake). IsSome (info_of p)) (sym (phase_left core ticket core.fault (at core ticket))) h.opened;
       few = omega (arith, polls_few core ticket, h.few);
     }
 ready_polled core stage.Ended h = h

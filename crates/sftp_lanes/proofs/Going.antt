@@ -15,7 +15,7 @@ use Rattle.session_model.specs.declared.event.Event.TheVariants.{Send}
 use Rattle.session_model.specs.declared.entry.Entry.{Entry}
 use Rattle.session_model.specs.declared.entry.Entry.TheVariants as entry
 use Rattle.session_model.specs.Calls.{Setting, added}
-use Rattle.session_model.specs.Turns.{Stage}
+use Rattle.session_model.specs.Turns.{RunProgress}
 use Rattle.session_driver.specs.declared.session.Phase.{Phase}
 use Rattle.session_driver.specs.declared.session.Phase.TheVariants.{Open, Failed}
 use Rattle.session_driver.specs.Session.{IsFixed, IsLater}
@@ -144,10 +144,10 @@ refused_by lanes options version known old new phase fault is rest noted room st
 pub hands_later : (s : Setting) (old new : LanesValue) (bytes : Option (List ℕ)) → HandsIn s old new bytes
     → IsLater s old.past new.past
 hands_later s old new None h =
-    let same : new.past ≡ old.past = ap (λ (x : Stage). x.past) h.hands.1 in
+    let same : new.past ≡ old.past = ap (λ (x : RunProgress). x.past) h.hands.1 in
     subst (λ (p : List Entry). IsLater s old.past p) (sym same) (later_self s old.past)
 hands_later s old new (Some bytes) h =
-    let more : new.past ≡ entry.Event Send ∷ old.past = ap (λ (x : Stage). x.past) h.hands.2 in
+    let more : new.past ≡ entry.Event Send ∷ old.past = ap (λ (x : RunProgress). x.past) h.hands.2 in
     subst (λ (p : List Entry). IsLater s old.past p) (sym more) (inr (h.hands.4, later_self s old.past))
 
 -- ---- a call of the lanes, as a session shows it

@@ -15,7 +15,7 @@ use Rattle.session_driver.specs.Refusals.{Notes}
 use Rattle.session_driver.specs.Session.{BeginsWithQuery, Greets, HasRefused, KeepsMade, IsLater, IsUnmoved, StaysInPhase, at_rest}
 use Rattle.session_model.specs.declared.entry.Entry.{Entry}
 use Rattle.session_model.specs.Calls.{Setting}
-use Rattle.session_model.specs.Turns.{Stage}
+use Rattle.session_model.specs.Turns.{RunProgress}
 use Rattle.session_work.specs.declared.lanes.Lanes.{Lanes}
 use Rattle.session_work.specs.SoFar.{refused_past}
 use Rattle.session_work.specs.Working.{CancelsLane, LetsLaneGo, StepsLane, past_of, stage_in, stage_of, work_in, work_of}
@@ -93,14 +93,14 @@ begins_first false phase before now none b = (b.0, b.1 ∙ none)
 pub greets_first : (body_reads : Result (Option ℕ × Reply) FrameError) (asks : Bool) (old new : SessionValue) → (seen_of old).stage ≡ at_rest
     → TakesVersion body_reads asks old new → Greets body_reads (given_of old) asks (seen_of new)
 greets_first body_reads asks old new rest v =
-    let none : past_of old.work ≡ [] = ap (λ (x : Stage). x.past) rest in
+    let none : past_of old.work ≡ [] = ap (λ (x : RunProgress). x.past) rest in
     record {
       welcomed = record {
         extensions = v.extensions;
         told = v.told;
         asked = v.asked;
         begins = begins_first asks new.phase (past_of old.work) (past_of new.work) none v.begins;
-        begun = v.begun ∙ ap (λ (x : Stage). x.begun) rest;
+        begun = v.begun ∙ ap (λ (x : RunProgress). x.begun) rest;
         later = subst (λ (p : List Entry). IsLater (setting_at new) p (past_of new.work)) none v.later;
         fixed = v.fixed;
         same = ap (λ (s : SessionValue). given_of s) v.rest;

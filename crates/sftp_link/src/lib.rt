@@ -12,7 +12,7 @@ mod logged;
 mod memory;
 mod memory_dial;
 mod piece;
-mod script;
+mod remaining;
 mod scripted_link;
 mod stream;
 mod unix;

@@ -49,7 +49,7 @@ use Rattle.session_driver.specs.declared.session.Phase.TheVariants.{Fresh, Greet
 use Rattle.session_driver.specs.declared.session.Stepped.{Stepped}
 use Rattle.session_driver.specs.Session.{Given, Seen, StepsTo, Cancels, LetsGo, TakesAndSettles, HandsOut}
 use Rattle.session_model.specs.Calls.{Setting, move_of}
-use Rattle.session_model.specs.Turns.{Stage, ClosesTo, SettlesTo, begun_but}
+use Rattle.session_model.specs.Turns.{RunProgress, ClosesTo, SettlesTo, begun_but}
 use Rattle.session_model.specs.Journals.{cancelled_end}
 use Rattle.session_model.specs.Readings.{was_let_go}
 use Rattle.session_model.specs.declared.entry.Entry.{Entry}
@@ -200,11 +200,11 @@ step_closes lane id r = refl
 pub same_lane : (lane : ℕ) → (names (Some lane) lane && names (Some lane) lane) ≡ true
 same_lane lane = let one = eq-eqb lane lane refl in and_true (lane == lane) (lane == lane) one one
 
-pub steps_to_extend : (s : Setting) (lane : ℕ) (a b : Stage) (m : Option Move) (event : Stepped)
+pub steps_to_extend : (s : Setting) (lane : ℕ) (a b : RunProgress) (m : Option Move) (event : Stepped)
     → StepsTo s lane a b m event → Extends (passes by_step (Some lane)) a.past b.past
-steps_to_extend s lane a b None event h = subst (λ (x : Stage). Extends (passes by_step (Some lane)) a.past x.past) (sym h.1) (extends_none _ a.past)
+steps_to_extend s lane a b None event h = subst (λ (x : RunProgress). Extends (passes by_step (Some lane)) a.past x.past) (sym h.1) (extends_none _ a.past)
 steps_to_extend s lane a b (Some (Wait place)) event h = subst
-    (λ (x : Stage). Extends (passes by_step (Some lane)) a.past x.past) (sym h.1) (extends_none _ a.past)
+    (λ (x : RunProgress). Extends (passes by_step (Some lane)) a.past x.past) (sym h.1) (extends_none _ a.past)
 steps_to_extend s lane a b (Some (Ask r)) event h =
     extends_on _ a.past _ b.past (extends_one (passes by_step (Some lane)) _ a.past (same_lane lane))
     (settles_extend _ (step_closes (Some lane)) s _ b.past h.2.1.1)
@@ -240,7 +240,7 @@ polls_extended lane old new polled.Waits h = steps_extended old.phase lane old n
 
 -- ---- cancels
 
-pub cancels_to_extend : (s : Setting) (lane : ℕ) (a b : Stage) (event : Bool) → Cancels s lane a b event → Extends (passes by_cancel (Some lane)) a.past b.past
+pub cancels_to_extend : (s : Setting) (lane : ℕ) (a b : RunProgress) (event : Bool) → Cancels s lane a b event → Extends (passes by_cancel (Some lane)) a.past b.past
 cancels_to_extend s lane a b event h =
     either_way _ h
     (λ (x : (event ≡ true) × (b.begun ≡ begun_but a.begun lane)
@@ -249,7 +249,7 @@ cancels_to_extend s lane a b event h =
     (extends_on _ a.past _ _ (extends_one (passes by_cancel (Some lane)) (entry.Event (Cancel lane)) a.past
     (same_lane lane)) (extends_one (passes by_cancel (Some lane)) _ _ (same_lane lane)))
     (settles_extend _ (λ id r. refl) s _ b.past x.2))
-    (λ (x : (event ≡ false) × (b ≡ a)). subst (λ (y : Stage). Extends (passes by_cancel (Some lane)) a.past y.past) (sym x.1) (extends_none _ a.past))
+    (λ (x : (event ≡ false) × (b ≡ a)). subst (λ (y : RunProgress). Extends (passes by_cancel (Some lane)) a.past y.past) (sym x.1) (extends_none _ a.past))
 
 pub cancels_extended : (p : Phase) (lane : ℕ) (old new : SessionValue) (event : Bool) → CancelsIn p lane old new event
     → Extended (passes by_cancel (Some lane)) old new
@@ -261,13 +261,13 @@ cancels_extended opening lane old new event h = same_extended _ old new h.1
 
 -- ---- lanes that are let go
 
-pub lets_go_extend : (s : Setting) (lane : ℕ) (a b : Stage) → LetsGo s lane a b → Extends (passes by_let_go (Some lane)) a.past b.past
+pub lets_go_extend : (s : Setting) (lane : ℕ) (a b : RunProgress) → LetsGo s lane a b → Extends (passes by_let_go (Some lane)) a.past b.past
 lets_go_extend s lane a b h =
     either_way _ h
     (λ (x : (b.begun ≡ a.begun) × SettlesTo s (entry.LetGo lane ∷ a.past) b.past). extends_on _ a.past _ b.past
     (extends_one (passes by_let_go (Some lane)) (entry.LetGo lane) a.past (same_lane lane))
     (settles_extend _ (λ id r. refl) s _ b.past x.1))
-    (λ (x : b ≡ a). subst (λ (y : Stage). Extends (passes by_let_go (Some lane)) a.past y.past) (sym x) (extends_none _ a.past))
+    (λ (x : b ≡ a). subst (λ (y : RunProgress). Extends (passes by_let_go (Some lane)) a.past y.past) (sym x) (extends_none _ a.past))
 
 lets_idle_go_extended : (lane : ℕ) (old new : SessionValue) → LetsIdleGo lane old new → Extended (passes by_let_go (Some lane)) old new
 lets_idle_go_extended lane old new h = record {
@@ -300,9 +300,9 @@ lets_go_extended lane old new false h = same_extended _ old new h.1
 
 -- ---- what is handed out
 
-hands_extend : (s : Setting) (a b : Stage) (bytes : Option (List ℕ)) (lane : Option ℕ) → HandsOut s a bytes b → Extends (passes by_flush lane) a.past b.past
-hands_extend s a b None lane h = subst (λ (y : Stage). Extends (passes by_flush lane) a.past y.past) (sym h.1) (extends_none _ a.past)
-hands_extend s a b (Some bytes) lane h = subst (λ (y : Stage). Extends (passes by_flush lane) a.past y.past) (sym h.2)
+hands_extend : (s : Setting) (a b : RunProgress) (bytes : Option (List ℕ)) (lane : Option ℕ) → HandsOut s a bytes b → Extends (passes by_flush lane) a.past b.past
+hands_extend s a b None lane h = subst (λ (y : RunProgress). Extends (passes by_flush lane) a.past y.past) (sym h.1) (extends_none _ a.past)
+hands_extend s a b (Some bytes) lane h = subst (λ (y : RunProgress). Extends (passes by_flush lane) a.past y.past) (sym h.2)
     (extends_one _ (entry.Event Send) a.past refl)
 
 -- what is seen of a session
@@ -327,7 +327,7 @@ hands_extended Failed lane old new bytes h = absurd h
 
 -- ---- what is taken
 
-takes_extend : (s : Setting) (body_reads : Result (Option ℕ × Reply) FrameError) (a b : Stage) (lane : Option ℕ)
+takes_extend : (s : Setting) (body_reads : Result (Option ℕ × Reply) FrameError) (a b : RunProgress) (lane : Option ℕ)
     → TakesAndSettles s body_reads a b → Extends (passes by_read lane) a.past b.past
 takes_extend s body_reads a b lane h = extends_on _ a.past _ b.past
     (extends_one (passes by_read lane) (entry.Event (Take h.0 h.1.0)) a.past refl)

@@ -12,7 +12,7 @@ use Rattle.plan_model.specs.declared.call.Lane.{Lane}
 use Rattle.session_model.specs.declared.entry.Entry.{Entry}
 use Rattle.session_model.specs.Calls.{added, calls_of}
 use Rattle.session_model.specs.Readings.{outcomes_of}
-use Rattle.session_model.specs.Turns.{Stage}
+use Rattle.session_model.specs.Turns.{RunProgress}
 use Rattle.session_driver.specs.Adding.{call_of, with_call}
 use Rattle.session_driver.specs.Logs.{KeepsTrace}
 use Rattle.session_driver.specs.Ongoing.{At, Ongoing, at}
@@ -58,7 +58,7 @@ module _ {S : Type 0} where
   stepped : {T : Type 0} (f : Doing T) (old mid : SessionValue) (link : LinkView S) → IsIdle (at (seen_of old) link) → StepsIdly old mid
       → Runs f (λ (u : Unit {0}). f) (at (seen_of old) link) (at (seen_of mid) link) (Ok tt)
   stepped f old mid link idle s =
-      let past : (seen_of mid).stage.past ≡ (seen_of old).stage.past = ap (λ (x : Stage). x.past) s.same in
+      let past : (seen_of mid).stage.past ≡ (seen_of old).stage.past = ap (λ (x : RunProgress). x.past) s.same in
       runs_still f (at (seen_of old) link) (at (seen_of mid) link)
       (quiet going_on (seen_of old) (seen_of mid) link tt tt
       (record {
@@ -73,7 +73,7 @@ module _ {S : Type 0} where
       → StepsIdly old mid → are_ok (with_call mid.work.calls 0 c) ≡ true
   call_ok c old mid link idle may s =
       let lanes : mid.lanes ≡ one_lane = (idle_still old mid link idle s).lanes in
-      let past : past_of mid.work ≡ (seen_of old).stage.past = ap (λ (x : Stage). x.past) s.same in
+      let past : past_of mid.work ≡ (seen_of old).stage.past = ap (λ (x : RunProgress). x.past) s.same in
       may_add mid.work.calls (past_of mid.work) c (subst (λ (p : List Entry). MayDo (makes c) p) (sym past) may)
       (s.count ∙ ap length lanes)
       (λ lane. s.each lane ∙ ap (λ (l : List Lane). calls_of (slice_get l lane) ++ added (past_of mid.work) lane) lanes)

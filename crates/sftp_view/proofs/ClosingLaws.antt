@@ -10,7 +10,7 @@ use Rattle.session_model.specs.Grants.{next_due}
 use Rattle.session_model.specs.Journals.{IsJournal}
 use Rattle.session_model.specs.Readings.{outcomes_of, unanswered, was_let_go}
 use Rattle.session_model.specs.Runs.{LetsGoTo}
-use Rattle.session_model.specs.Turns.{Stage}
+use Rattle.session_model.specs.Turns.{RunProgress}
 use Rattle.session_driver.specs.Logs.{KeepsTrace as LogKeeps}
 use Rattle.session_driver.specs.Ongoing.{At, Ongoing, at, draining, lanes_go}
 use Rattle.session_driver.specs.Session.{IsLater, IsUnmoved}
@@ -33,15 +33,15 @@ pub record IsGone (s : Setting) (before now : List Entry) : Type 0 where
   pub uncancelled : IsUncancelled before → IsUncancelled now
 
 -- letting go, of one lane
-gone_by : (s : Setting) (n : ℕ) (before now : Stage) → n ≡ 1 → current s before.past 0 ≡ None → LetsGoTo s n before now → IsGone s before.past now.past
+gone_by : (s : Setting) (n : ℕ) (before now : RunProgress) → n ≡ 1 → current s before.past 0 ≡ None → LetsGoTo s n before now → IsGone s before.past now.past
 gone_by s zero before now one done to = absurd (omega (arith, one))
 gone_by s (suc zero) before now one done (mid, (same, to)) =
     let k = let_go_keeps s 0 mid now to in
-    subst (λ (w : Stage). IsGone s w.past now.past) same (record {
+    subst (λ (w : RunProgress). IsGone s w.past now.past) same (record {
       adds = k.adds 0;
       ends = k.ends 0;
       let_go = k.holds 0;
-      done = k.done 0 (subst (λ (w : Stage). current s w.past 0 ≡ None) (sym same) done);
+      done = k.done 0 (subst (λ (w : RunProgress). current s w.past 0 ≡ None) (sym same) done);
       uncancelled = k.uncancelled;
     })
 gone_by s (suc (suc n)) before now one done to = absurd (omega (arith, one))
@@ -102,7 +102,7 @@ module _ {S : Type 0} where
       let c : At S = at (seen_of old) link in
       let d : At S = at (seen_of new) link in
       let g = drained a b c idle first second in
-      let past : d.seen.stage.past ≡ c.seen.stage.past = ap (λ (x : Stage). x.past) s.same in
+      let past : d.seen.stage.past ≡ c.seen.stage.past = ap (λ (x : RunProgress). x.past) s.same in
       let stays : d.seen.setting ≡ c.seen.setting = setting_stays c.seen d.seen s.stays in
       let same : c.seen.setting ≡ a.seen.setting = setting_stays b.seen c.seen second.went.stays ∙ setting_stays a.seen b.seen first.went.stays in
       let still : Ongoing going_on c d (Ok tt) = quiet going_on c.seen d.seen link tt tt

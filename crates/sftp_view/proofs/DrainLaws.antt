@@ -11,7 +11,7 @@ use Rattle.session_model.specs.Calls.{Setting, added, current}
 use Rattle.session_model.specs.Journals.{MayTake}
 use Rattle.session_model.specs.Readings.{asked, awaited, outcomes_of, sent, was_let_go}
 use Rattle.session_model.specs.Runs.{DrainsTo, LetGoTo, TurnsTo}
-use Rattle.session_model.specs.Turns.{ClosesTo, RulesTo, Stage, TurnTo, is_full}
+use Rattle.session_model.specs.Turns.{ClosesTo, RulesTo, RunProgress, TurnTo, is_full}
 use Rattle.view_model.specs.Uncancelled.{IsUncancelled}
 
 -- no call was added, none ended, none was cancelled, no lane was let go, and a lane without a call has none still
@@ -64,10 +64,10 @@ OfDrain turn.Flush = Unit {0}
 OfDrain turn.Take = Unit {0}
 OfDrain (turn.Cancel lane) = ⊥
 
-stage_same : (s : Setting) (before now : Stage) → now ≡ before → Keeps s before.past now.past
-stage_same s before now e = subst (λ (w : Stage). Keeps s before.past w.past) (sym e) (keeps_self s before.past)
+stage_same : (s : Setting) (before now : RunProgress) → now ≡ before → Keeps s before.past now.past
+stage_same s before now e = subst (λ (w : RunProgress). Keeps s before.past w.past) (sym e) (keeps_self s before.past)
 
-turn_keeps : (s : Setting) (t : Turn) (before now : Stage) → OfDrain t → TurnTo s t before now → Keeps s before.past now.past
+turn_keeps : (s : Setting) (t : Turn) (before now : RunProgress) → OfDrain t → TurnTo s t before now → Keeps s before.past now.past
 turn_keeps s (turn.Step lane) before now of to = absurd of
 turn_keeps s turn.Flush before now of to = by_test (nat_lt (sent before.past) (asked before.past)) to
   where
@@ -89,12 +89,12 @@ turn_keeps s turn.Take before now of to = by_test (nat_lt 0 (awaited before.past
     by_test false e = stage_same s before now e
 turn_keeps s (turn.Cancel lane) before now of to = absurd of
 
-pub drains_keep : (s : Setting) (n : ℕ) (before now : Stage) → DrainsTo s n before now → Keeps s before.past now.past
+pub drains_keep : (s : Setting) (n : ℕ) (before now : RunProgress) → DrainsTo s n before now → Keeps s before.past now.past
 drains_keep s zero before now e = stage_same s before now e
 drains_keep s (suc n) before now to =
     keeps_on s before.past to.1.0.past now.past (one to.1.0 to.1.1.0) (drains_keep s n to.1.0 now to.1.1.1)
   where
-    one : (mid : Stage) → TurnsTo s (turn.Flush ∷ turn.Take ∷ []) before mid → Keeps s before.past mid.past
+    one : (mid : RunProgress) → TurnsTo s (turn.Flush ∷ turn.Take ∷ []) before mid → Keeps s before.past mid.past
     one mid (a, (flush, (b, (take, e)))) =
         keeps_on s before.past b.past mid.past
         (keeps_on s before.past a.past b.past (turn_keeps s turn.Flush before a tt flush) (turn_keeps s turn.Take a b tt take))
@@ -102,5 +102,5 @@ drains_keep s (suc n) before now to =
 
 -- ---- a lane is let go
 
-pub let_go_keeps : (s : Setting) (lane : ℕ) (before now : Stage) → LetGoTo s lane before now → Keeps s (entry.LetGo lane ∷ before.past) now.past
+pub let_go_keeps : (s : Setting) (lane : ℕ) (before now : RunProgress) → LetGoTo s lane before now → Keeps s (entry.LetGo lane ∷ before.past) now.past
 let_go_keeps s lane before now to = rules_keep s (entry.LetGo lane ∷ before.past) now.past to.1

@@ -9,7 +9,7 @@ use Rattle.session_model.specs.declared.entry.Entry.{Entry}
 use Rattle.session_model.specs.Calls.{Setting, added, calls_of, current, move_at, move_of, site_of}
 use Rattle.session_model.specs.Journals.{IsJournal}
 use Rattle.session_model.specs.Readings.{answer, ended, own, was_let_go}
-use Rattle.session_model.specs.Turns.{Stage}
+use Rattle.session_model.specs.Turns.{RunProgress}
 use Rattle.session_driver.specs.declared.session.Phase.{Phase}
 use Rattle.session_driver.specs.declared.session.Phase.TheVariants.{Open}
 use Rattle.session_driver.specs.declared.session.Stepped.{Stepped}
@@ -26,7 +26,7 @@ use Rattle.sftp_view.specs.IdleSteps.{StepsIdly}
 no_move : (s : Setting) (past : List Entry) → current s past 0 ≡ None → move_of s past 0 ≡ None
 no_move s past none = ap (λ (c : Option Call). move_at c (site_of s past 0) s.facts (own past 0 (ended past 0)) (answer past)) none
 
-stays_put : (s : Setting) (before now : Stage) (m : Option Move) (event : Stepped) → m ≡ None → StepsTo s 0 before now m event → now ≡ before
+stays_put : (s : Setting) (before now : RunProgress) (m : Option Move) (event : Stepped) → m ≡ None → StepsTo s 0 before now m event → now ≡ before
 stays_put s before now m event none steps =
     (subst (λ (m : Option Move). StepsTo s 0 before now m event) none steps).1
 
@@ -50,7 +50,7 @@ module _ {S : Type 0} where
   pub idle_still : (old new : SessionValue) (link : LinkView S) → IsIdle (at (seen_of old) link) → StepsIdly old new → IsIdle (at (seen_of new) link)
   idle_still old new link idle s =
       let setting : (seen_of new).setting ≡ (seen_of old).setting = setting_stays (seen_of old) (seen_of new) s.stays in
-      let past : (seen_of new).stage.past ≡ (seen_of old).stage.past = ap (λ (x : Stage). x.past) s.same in
+      let past : (seen_of new).stage.past ≡ (seen_of old).stage.past = ap (λ (x : RunProgress). x.past) s.same in
       record {
         ready = record { is_open = phase_stays (seen_of old) (seen_of new) s.stays idle.ready.is_open; count = idle.ready.count };
         lanes = ap (λ (x : Setting). x.lanes) setting ∙ idle.lanes;

@@ -5,7 +5,7 @@ use Rattle.sftp_model.specs.ReplyReadings.{reply_at}
 use Rattle.sftp_model.specs.declared.error.Error.{Error}
 use Rattle.sftp_model.specs.declared.error.Error.TheVariants as error
 use Rattle.sftp_model.specs.declared.error.Fault.{Fault}
-use Rattle.sftp_core.specs.declared.phase.Phase.{Phase}
+use Rattle.sftp_core.specs.declared.handshake.Handshake.{Handshake}
 use Rattle.sftp_core.specs.Core.{Core, failed_with, handed_out}
 use Rattle.sftp_core.specs.Info.{info_of}
 use Rattle.sftp_link.specs.Views.{LinkView}
@@ -103,7 +103,7 @@ left_kept : {L S : Type 0} (state : L → LinkView S) (old new : SftpValue L) (e
 left_kept state old new e going unfailed core_is cause = record {
   going = record {
     opened = subst (λ (c : Core). IsSome (info_of c.phase)) (sym core_is)
-        (subst (λ (p : Phase). IsSome (info_of p)) (sym (kept_phase e old.core)) going.opened);
+        (subst (λ (p : Handshake). IsSome (info_of p)) (sym (kept_phase e old.core)) going.opened);
     alive = λ none. kept_alive e old.core (state old.link).faults (state new.link).faults cause (going.alive unfailed)
         (ap (λ (c : Core). c.fault) (sym core_is) ∙ none);
   };

@@ -26,7 +26,7 @@ use Rattle.std.proofs.Common.{
 use Rattle.std.proofs.lemmas.Bool.Decides.{nat_tests}
 use Rattle.std.specs.Prelude.{IsTrue, IsSome, Result, Ok, Err, max}
 use Rattle.sftp_model.specs.declared.answers.Expected.{Expected}
-use Rattle.sftp_core.specs.declared.phase.Phase.{Phase}
+use Rattle.sftp_core.specs.declared.handshake.Handshake.{Handshake}
 use Rattle.sftp_core.specs.declared.place.Place.{Place}
 use Rattle.sftp_core.specs.declared.place.Place.TheVariants.{Granted}
 use Rattle.sftp_core.specs.Core.{Core, at, is_ticket}
@@ -188,7 +188,7 @@ together_over core after before next (r ∷ later) spares (disjoint, apart) (may
     let both = holds_over core after before next (holding_of r.state) spares disjoint (held_of core r.state may) in
     let below = together_over core after before next later spares apart all in
     let stays : IsSome (info_of core.phase) → IsSome (info_of after.phase) =
-    λ open_now. subst (λ (p : Phase). IsSome (info_of p)) (sym spares.phase) open_now in
+    λ open_now. subst (λ (p : Handshake). IsSome (info_of p)) (sym spares.phase) open_now in
     ((go_over core after r.state stays both.0 may, own, below.0), (both.1, below.1))
 
 -- over a turn of the session

@@ -1,7 +1,7 @@
 -- Steps of copies and turns of their session.
 use Rattle.std.proofs.Common.{◌≡◌, ◌<◌, ◌-◌, ◌^◌, ◌⊎◌, inl, inr, ℕ, zero, suc, ◌+◌, List, [], ◌∷◌, refl, sym, ap, ◌∙◌, subst, Option, Some, None}
 use Rattle.std.specs.Prelude.{IsSome, Result, Ok, Err}
-use Rattle.sftp_core.specs.declared.phase.Phase.{Phase}
+use Rattle.sftp_core.specs.declared.handshake.Handshake.{Handshake}
 use Rattle.sftp_core.specs.Core.{Core}
 use Rattle.sftp_core.specs.Info.{info_of}
 use Rattle.sftp_link.specs.Views.{LinkView}
@@ -51,7 +51,7 @@ pub going_stepped : {L S F H : Type 0} (state : L → LinkView S) (done : LocalA
 going_stepped state done history old new result going s =
     let before = step_as_before done history old.session.core new.session.core old.running new.running result s.steps in
     record {
-      opened = subst (λ (p : Phase). IsSome (info_of p)) (sym before.phase) going.opened;
+      opened = subst (λ (p : Handshake). IsSome (info_of p)) (sym before.phase) going.opened;
       alive = λ none. subst (λ (x : SftpValue _). (state x.link).faults < 2 ^ 64 - 1) (sym s.rest) (going.alive (sym before.fault ∙ none));
     }
 

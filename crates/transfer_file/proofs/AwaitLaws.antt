@@ -31,7 +31,7 @@ use Rattle.std.proofs.Common.{
 use Rattle.std.specs.Prelude.{Result, Ok, Err}
 use Rattle.sftp_model.specs.declared.error.Error.{Error}
 use Rattle.sftp_model.specs.declared.error.Error.TheVariants as error
-use Rattle.sftp_core.specs.declared.phase.Phase.{Phase}
+use Rattle.sftp_core.specs.declared.handshake.Handshake.{Handshake}
 use Rattle.sftp_model.specs.declared.request.Request.TheVariants.{Close}
 use Rattle.sftp_core.specs.Grant.{GrantValue}
 use Rattle.sftp_core.specs.declared.place.Place.TheVariants.{Granted}
@@ -160,7 +160,7 @@ stepped_open s plain old new p q result unfailed way stepped = by_stage p.stage 
 pub going_with : {L S : Type 0} (state : L → LinkView S) (old new : SftpValue L) → IsGoing state old → new
     ≡ with_core old new.core → IsAsOpen old.core new.core → IsGoing state new
 going_with state old new going rest as_open = record {
-  opened = subst (λ (p : Phase). IsSome (info_of p)) (sym as_open.phase) going.opened;
+  opened = subst (λ (p : Handshake). IsSome (info_of p)) (sym as_open.phase) going.opened;
   alive = λ none. subst (λ (s : SftpValue _). (state s.link).faults < 2 ^ 64 - 1) (sym rest) (going.alive (sym as_open.fault ∙ none));
 }
 

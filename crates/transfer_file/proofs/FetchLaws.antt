@@ -32,7 +32,7 @@ use Rattle.std.specs.Prelude.{Result, Ok, Err}
 use Rattle.sftp_model.specs.declared.error.Error.{Error}
 use Rattle.call_state.proofs.Keeping.{grants_both, keeps_same}
 use Rattle.call_state.specs.declared.poll.Poll.{Poll}
-use Rattle.sftp_core.specs.declared.phase.Phase.{Phase}
+use Rattle.sftp_core.specs.declared.handshake.Handshake.{Handshake}
 use Rattle.sftp_core.specs.Core.{Core}
 use Rattle.sftp_core.specs.Info.{info_of}
 use Rattle.sftp_link.specs.Views.{LinkView}
@@ -79,7 +79,7 @@ pub going_with : {L S : Type 0} (state : L → LinkView S) (old new : SftpValue 
     ≡ with_core old new.core → new.core.phase ≡ old.core.phase
     → new.core.fault ≡ old.core.fault → IsGoing state new
 going_with state old new going rest phase fault = record {
-  opened = subst (λ (p : Phase). IsSome (info_of p)) (sym phase) going.opened;
+  opened = subst (λ (p : Handshake). IsSome (info_of p)) (sym phase) going.opened;
   alive = λ none. subst (λ (s : SftpValue _). (state s.link).faults < 2 ^ 64 - 1) (sym rest) (going.alive (sym fault ∙ none));
 }
 

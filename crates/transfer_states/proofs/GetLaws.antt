@@ -25,7 +25,7 @@ use Rattle.sftp_model.specs.declared.answers.Expected.{Expected}
 use Rattle.sftp_model.specs.declared.answers.Expected.TheVariants as expected
 use Rattle.sftp_model.specs.declared.error.Fault.{Fault}
 use Rattle.sftp_model.specs.declared.reply.Reply.{Reply}
-use Rattle.sftp_core.specs.declared.phase.Phase.{Phase}
+use Rattle.sftp_core.specs.declared.handshake.Handshake.{Handshake}
 use Rattle.sftp_core.specs.Core.{Core}
 use Rattle.sftp_core.specs.Info.{info_of}
 use Rattle.transfer_states.specs.declared.get.FileGet.{FileGet}
@@ -83,7 +83,7 @@ last_bytes ticket len kind [] = omega (arith)
 last_bytes ticket len kind (part ∷ later) = (let e = last_bytes ticket len kind later in omega (arith, e))
 
 pub still_open : (core after : Core) (h k : HoldingValue) → KeepsApart h k core after → IsSome (info_of core.phase) → IsSome (info_of after.phase)
-still_open core after h k apart opened = subst (λ (p : Phase). IsSome (info_of p)) (sym apart.spares.phase) opened
+still_open core after h k apart opened = subst (λ (p : Handshake). IsSome (info_of p)) (sym apart.spares.phase) opened
 
 pub asked_on : (core after : Core) (old : FileGet) (held : HoldingValue) (len : ℕ) → IsSome (info_of core.phase)
     → old.stage ≡ stage.Reading → IsReadingOn old → old.next + len < 2 ^ 64

@@ -40,7 +40,7 @@ use Rattle.session_model.specs.Calls.{Setting, added, move_of}
 use Rattle.session_model.specs.Journals.{MayTake}
 use Rattle.session_model.specs.Readings.{asked, awaited, ended, outcomes_of, sent, was_let_go}
 use Rattle.session_model.specs.Runs.{RoundsTo, TurnsTo, round_of}
-use Rattle.session_model.specs.Turns.{ClosesTo, MovesBy, RulesTo, Stage, TurnTo, is_full}
+use Rattle.session_model.specs.Turns.{ClosesTo, MovesBy, RulesTo, RunProgress, TurnTo, is_full}
 use Rattle.view_model.specs.Uncancelled.{IsUncancelled}
 
 -- no call was added, what had ended is what ended first, no lane was let go, and no call was cancelled
@@ -116,12 +116,12 @@ rules_behind : (s : Setting) (past now : List Entry) (e : Entry) → ((lane : �
 rules_behind s past now e adds ends holds quiet to =
     goes_on past (e ∷ past) now (goes_event past past e adds ends holds quiet (goes_self past)) (rules_go s (e ∷ past) now to)
 
-stage_same : (before now : Stage) → now ≡ before → GoesOn before.past now.past
-stage_same before now e = subst (λ (w : Stage). GoesOn before.past w.past) (sym e) (goes_self before.past)
+stage_same : (before now : RunProgress) → now ≡ before → GoesOn before.past now.past
+stage_same before now e = subst (λ (w : RunProgress). GoesOn before.past w.past) (sym e) (goes_self before.past)
 
-moves_go : (s : Setting) (lane : ℕ) (before now : Stage) (m : Option Move) → MovesBy (RulesTo s) lane before now m → GoesOn before.past now.past
+moves_go : (s : Setting) (lane : ℕ) (before now : RunProgress) (m : Option Move) → MovesBy (RulesTo s) lane before now m → GoesOn before.past now.past
 moves_go s lane before now None e = stage_same before now e
-moves_go s lane before now (Some (Wait place)) e = subst (λ (w : Stage). GoesOn before.past w.past) (sym e) (goes_self before.past)
+moves_go s lane before now (Some (Wait place)) e = subst (λ (w : RunProgress). GoesOn before.past w.past) (sym e) (goes_self before.past)
 moves_go s lane before now (Some (Ask r)) to =
     rules_behind s before.past now.past (entry.Event (Submit (owner.Call lane (ended before.past lane)) to.1.0 r))
     (λ l. refl) (λ l. refl) (λ l. refl) (λ u. u) to.1.1.1
@@ -137,7 +137,7 @@ OfRound turn.Flush = Unit {0}
 OfRound turn.Take = Unit {0}
 OfRound (turn.Cancel lane) = ⊥
 
-turn_goes : (s : Setting) (t : Turn) (before now : Stage) → OfRound t → TurnTo s t before now → GoesOn before.past now.past
+turn_goes : (s : Setting) (t : Turn) (before now : RunProgress) → OfRound t → TurnTo s t before now → GoesOn before.past now.past
 turn_goes s (turn.Step lane) before now of to = moves_go s lane before now (move_of s before.past lane) to
 turn_goes s turn.Flush before now of to = by_test (nat_lt (sent before.past) (asked before.past)) to
   where
@@ -154,12 +154,12 @@ turn_goes s turn.Take before now of to = by_test (nat_lt 0 (awaited before.past)
     by_test false e = stage_same before now e
 turn_goes s (turn.Cancel lane) before now of to = absurd of
 
-pub rounds_go : (s : Setting) (lane n : ℕ) (before now : Stage) → RoundsTo s lane n before now → GoesOn before.past now.past
+pub rounds_go : (s : Setting) (lane n : ℕ) (before now : RunProgress) → RoundsTo s lane n before now → GoesOn before.past now.past
 rounds_go s lane zero before now e = stage_same before now e
 rounds_go s lane (suc n) before now to =
     goes_on before.past to.1.0.past now.past (one to.1.0 to.1.1.0) (rounds_go s lane n to.1.0 now to.1.1.1)
   where
-    one : (mid : Stage) → TurnsTo s (round_of lane) before mid → GoesOn before.past mid.past
+    one : (mid : RunProgress) → TurnsTo s (round_of lane) before mid → GoesOn before.past mid.past
     one mid (a, (step, (b, (flush, (c, (take, e)))))) =
         goes_on before.past c.past mid.past
         (goes_on before.past b.past c.past (goes_on before.past a.past b.past

@@ -40,7 +40,7 @@ use Rattle.session_model.specs.Calls.{Setting, added, calls_of, current, lane_ca
 use Rattle.session_model.specs.Journals.{IsJournal}
 use Rattle.session_model.specs.Readings.{ended, outcomes_of}
 use Rattle.session_model.specs.Runs.{RoundsTo}
-use Rattle.session_model.specs.Turns.{Stage}
+use Rattle.session_model.specs.Turns.{RunProgress}
 use Rattle.session_model.proofs.HolderLaws.{IsEnding, ending}
 use Rattle.view_model.specs.OneCall.{HasEndedOnce}
 use Rattle.view_model.proofs.AddedLaws.{GoesOn, rounds_go}
@@ -108,7 +108,7 @@ one_of (o ∷ next ∷ more) e = absurd (omega (arith, e))
 added_here : (past : List Entry) (lane : ℕ) (c : Call) → added (entry.Added lane c ∷ past) lane ≡ added past lane ++ c ∷ []
 added_here past lane c = ap (λ (b : Bool). if b then added past lane ++ c ∷ [] else added past lane) (eq-eqb lane lane refl)
 
-pub ended_once : (s : Setting) (lane rounds : ℕ) (c : Call) (past : List Entry) (added_stage now : Stage)
+pub ended_once : (s : Setting) (lane rounds : ℕ) (c : Call) (past : List Entry) (added_stage now : RunProgress)
     → added_stage.past ≡ entry.Added lane c ∷ past → IsJournal s now.past → IsJournal s past → current s past lane
     ≡ None
     → RoundsTo s lane rounds added_stage now → current s now.past lane ≡ None → HasEndedOnce lane c past now.past

@@ -2,7 +2,7 @@ use Rattle.std.proofs.Common.{rules, ◌≡◌}
 use Rattle.std.proofs.lemmas.List.Elements.{filter_from_retain}
 use Rattle.std.specs.Prelude.{filter}
 use Rattle.sftp_link.specs.Script.{has_bytes}
-use Rattle.sftp_link.proofs.script.Script.new.Goals as goal
+use Rattle.sftp_link.proofs.remaining.Remaining.new.Goals as goal
 
 pub returns : goal.returns
 returns c =

@@ -6,7 +6,7 @@ use sftp_model::Extensions;
 
 /// How far the greeting of a session has come (draft-ietf-secsh-filexfer-02, section 4).
 #[derive(Clone, Copy, Debug, PartialEq, Eq)]
-pub enum Phase {
+pub enum Handshake {
     /// VERSION was not taken.
     Greeting,
     /// VERSION was taken, and the reply to the query for limits was not.
@@ -15,14 +15,14 @@ pub enum Phase {
     Open(Info),
 }
 
-impl Phase {
+impl Handshake {
     /// What is known of the server, once the greeting is over.
     pub(crate) fn info(self) -> Option<Info>
         ensures { result ≡ info_of self }
     {
         match self {
-            Phase::Open(info) => Some(info),
-            Phase::Greeting | Phase::Asking { .. } => None,
+            Handshake::Open(info) => Some(info),
+            Handshake::Greeting | Handshake::Asking { .. } => None,
         }
     }
 
@@ -31,8 +31,8 @@ impl Phase {
         ensures { result ≡ hello_of self }
     {
         match self {
-            Phase::Greeting => 1,
-            Phase::Asking { .. } | Phase::Open(_) => 0,
+            Handshake::Greeting => 1,
+            Handshake::Asking { .. } | Handshake::Open(_) => 0,
         }
     }
 }

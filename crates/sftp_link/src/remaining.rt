@@ -11,13 +11,13 @@ use std::marker::Model;
 
 /// What a scripted link has still to give.
 #[derive(Drop)]
-pub(crate) struct Script {
+pub(crate) struct Remaining {
     items: VecDeque<Scripted>,
     begun: Vec<u8>,
     at: usize,
 }
 
-impl Model for Script {
+impl Model for Remaining {
     ghost use Rattle.std.specs.Prelude.{◌≤◌, drop, length};
     ghost use Rattle.sftp_link.specs.Script.{Ahead};
 
@@ -61,13 +61,13 @@ fn begin_next(
     Ok(Some(bytes))
 }
 
-impl Script {
+impl Remaining {
     /// The script of these items. Those without bytes are passed over.
-    pub(crate) fn new(alloc: Global, mut items: Vec<Scripted>) -> Script
+    pub(crate) fn new(alloc: Global, mut items: Vec<Scripted>) -> Remaining
         ensures { result ≡ ahead_of items.items }
     {
         items.retain(has_bytes);
-        Script {
+        Remaining {
             items: VecDeque::from(items),
             begun: Vec::new(alloc),
             at: 0,

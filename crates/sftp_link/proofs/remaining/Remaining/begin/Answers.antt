@@ -1,6 +1,6 @@
 use Rattle.std.proofs.Common.{arith, ◌<◌, length, length-drop, drop, ℕ}
 use Rattle.sftp_link.proofs.ScriptSteps.{still_begun}
-use Rattle.sftp_link.proofs.script.Script.begin.Goals as goal
+use Rattle.sftp_link.proofs.remaining.Remaining.begin.Goals as goal
 
 pub returns-then-self-len-clause-ok : goal.returns-then-self-len-clause-ok
 returns-then-self-len-clause-ok c =
