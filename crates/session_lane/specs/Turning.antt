@@ -221,8 +221,8 @@ abbrev pub IsSafeBy : Option Running → Site → Type 0
 IsSafeBy running site = (c : Call) × ((facts : Facts) × IsSafe c facts running site)
 
 -- what its call leaves that is cancelled here, by the replies that the core has, is what the lane's slots have then
-abbrev pub LeavesCancelled : Core → LaneValue → LaneValue → Type 0
-LeavesCancelled core v now =
+abbrev pub LeavesBehind : Core → LaneValue → LaneValue → Type 0
+LeavesBehind core v now =
     (r : Running) (bytes : List ℕ) (facts : Facts) (answers : Answers) → v.running ≡ Some r
     → TellReplies core v.tickets answers → left_behind r bytes v.site facts [] answers ≡ now.site
 

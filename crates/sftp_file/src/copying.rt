@@ -4,7 +4,7 @@ ghost use Rattle.sftp_core.specs.Core.{Core as CoreValue};
 ghost use Rattle.sftp_model.specs.declared.error.Error.{Error as ErrorValue};
 ghost use Rattle.call_state.specs.declared.poll.Poll.{Poll as PollValue};
 ghost use Rattle.sftp_file.specs.Files.{FileValue};
-ghost use Rattle.sftp_core.specs.Core.{is_too_long};
+ghost use Rattle.sftp_model.specs.Frames.{is_too_long};
 ghost use Rattle.sftp_model.specs.declared.request.Request.TheVariants as request;
 ghost use Rattle.call_state.specs.Asked.{IsReady, request_of};
 ghost use Rattle.call_state.specs.declared.asking.Asking.TheVariants as asking;
