@@ -2,4 +2,14 @@
 #![tactic(auto)]
 
 #[cfg(test)]
+mod calls;
+#[cfg(test)]
+mod copies;
+#[cfg(test)]
+mod files;
+#[cfg(test)]
+mod offers;
+#[cfg(test)]
+mod script;
+#[cfg(test)]
 mod waits;

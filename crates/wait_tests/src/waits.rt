@@ -1,42 +1,12 @@
-// Each call over a scripted link (draft-ietf-secsh-filexfer-02, sections 4 and 6). A reply is that to the frame with its
-// number: the hello is 0, the OPEN 1.
-ghost use Rattle.std.specs.Prelude.{◌<◌, ◌-◌, ◌^◌, ◌≡◌, IfOk, IsSome};
+// Whole reads of a path.
+ghost use Rattle.std.specs.Prelude.{◌<◌, ◌-◌, ◌^◌, IsSome};
 ghost use Rattle.sftp_core.specs.Info.{info_of};
 
+use crate::script::{Answer, DATA, DONE, END, H, HANDLE, STATUS, VERSION, server, session};
 use bytes::BytesMut;
-use sftp_client::{Error, Link, Sftp, SftpOptions, StartRead};
-use sftp_link::{Scripted, ScriptedLink};
-use sftp_values::ByteText;
-use std::alloc::{AllocError, Global};
+use sftp_client::{Error, Link, Sftp, StartRead};
+use std::alloc::Global;
 use std::test::Fail;
-
-const VERSION: &[u8] = b"\0\0\0\x05\x02\0\0\0\x03";
-
-/// The fields of a HANDLE, of a DATA of three bytes, and of a STATUS of 1 and of 0.
-const HANDLE: &[u8] = b"\0\0\0\x01h";
-
-const DATA: &[u8] = b"\0\0\0\x03abc";
-
-const END: &[u8] = b"\0\0\0\x01\0\0\0\0\0\0\0\0";
-
-const DONE: &[u8] = b"\0\0\0\0\0\0\0\0\0\0\0\0";
-
-/// VERSION, and replies of these kinds to the frames after the hello.
-fn replies(alloc: Global, kinds: &[(u8, &'static [u8])]) -> Result<Vec<Scripted>, AllocError> {
-    let mut items = Vec::with_capacity(alloc, 8)?;
-    items.push(Scripted::Raw(ByteText::new(Vec::from_slice(alloc, VERSION)?)))?;
-    let mut request: u32 = 0;
-    for (kind, fields) in kinds {
-        request = request.saturating_add(1);
-        items.push(Scripted::To {
-            request,
-            flip: 0,
-            kind: *kind,
-            fields: ByteText::new(Vec::from_slice(alloc, fields)?),
-        })?;
-    }
-    Ok(items)
-}
 
 /// The bytes of a file, which is read as a whole.
 fn read_whole<L: Link>(alloc: Global, sftp: &mut Sftp<L>) -> Result<BytesMut, Error>
@@ -48,20 +18,33 @@ fn read_whole<L: Link>(alloc: Global, sftp: &mut Sftp<L>) -> Result<BytesMut, Er
     sftp.finish_read(call)
 }
 
-/// Whether a whole read over a link gives these bytes.
-fn reads_whole<L: Link + Drop>(alloc: Global, link: L, wanted: &[u8]) -> bool
+/// The same by a read that is kept until it has answered.
+fn read_on<L: Link>(alloc: Global, sftp: &mut Sftp<L>) -> Result<BytesMut, Error>
+    requires opened { IsSome (info_of sftp.old.core.phase) }
+    requires count { (L.LinkState.state sftp.old.link).faults < 2 ^ 64 - 1 }
+{
+    sftp.ready()?;
+    let mut call = sftp.fs().start_read(alloc, sftp.core(), b"a")?;
+    let answer = sftp.wait_read(&mut call);
+    call.cancel(sftp.core());
+    answer
+}
+
+/// Whether a whole read over a link gives these bytes, kept until it has answered or not.
+fn reads_whole<L: Link + Drop>(alloc: Global, link: L, keeps: bool, wanted: &[u8]) -> bool
     requires { (L.LinkState.state link).faults < 2 ^ 64 - 1 }
 {
-    let options = SftpOptions::new().read_window(1);
-    match Sftp::new(alloc, link, &options) {
-        Ok(sftp) => {
-            let mut sftp = sftp;
-            match read_whole(alloc, &mut sftp) {
-                Ok(bytes) => bytes.as_slice() == wanted,
-                Err(_) => false,
-            }
-        }
-        Err((_e, _link)) => false,
+    let Some(mut sftp) = session(alloc, link) else {
+        return false;
+    };
+    let answer = if keeps {
+        read_on(alloc, &mut sftp)
+    } else {
+        read_whole(alloc, &mut sftp)
+    };
+    match answer {
+        Ok(bytes) => bytes.as_slice() == wanted,
+        Err(_) => false,
     }
 }
 
@@ -69,9 +52,17 @@ fn reads_whole<L: Link + Drop>(alloc: Global, link: L, wanted: &[u8]) -> bool
 #[test]
 fn a_path_is_read_as_a_whole(rt: HostRuntime) -> Result<(), Fail> {
     let alloc = rt.alloc();
-    let kinds = [(102, HANDLE), (103, DATA), (101, END), (101, DONE)];
-    let items = replies(alloc, &kinds)?;
-    let link = ScriptedLink::new(alloc, items, Vec::new(alloc), 64);
-    assert!(rt; reads_whole(alloc, link, b"abc"));
+    for keeps in [false, true] {
+        let link = server(alloc, VERSION, &ANSWERS)?;
+        assert!(rt; reads_whole(alloc, link, keeps, b"abc"));
+    }
     Ok(())
 }
+
+/// To the OPEN, both READs and the CLOSE.
+const ANSWERS: [Answer; 4] = [
+    (HANDLE, H),
+    (DATA, b"\0\0\0\x03abc"),
+    (STATUS, END),
+    (STATUS, DONE),
+];
