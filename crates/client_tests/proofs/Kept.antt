@@ -1,6 +1,6 @@
 -- What a core keeps over a hand-out and a frame that comes.
 use Rattle.std.proofs.Common.{◌≡◌, ◌∙◌, ◌+◌, ◌<◌, true, false, arith, ap, subst, sym, Option, None, Some, Result, Ok, Err, IfOk, IfErr, OnOk, IsSome}
-use Rattle.sftp_core.specs.Core.{Core, IsGrant, at, handed_out, released, retained, users_of}
+use Rattle.sftp_core.specs.Core.{Core, IsGrant, at, failed_with, handed_out, released, retained, users_of}
 use Rattle.sftp_core.specs.Grant.{GrantValue}
 use Rattle.sftp_core.specs.declared.place.Place.{Place}
 use Rattle.sftp_core.specs.declared.place.Place.TheVariants.{Granted}
@@ -8,6 +8,7 @@ use Rattle.sftp_core.specs.Info.{info_of}
 use Rattle.sftp_core.specs.Take.{IsTakeError, Read, TakenFrom, take_refusal}
 use Rattle.sftp_core.specs.declared.errors.TakeError.{TakeError}
 use Rattle.sftp_core.specs.declared.tokens.Taken.{Taken}
+use Rattle.sftp_model.specs.declared.error.Fault.{Fault}
 use Rattle.sftp_model.specs.declared.frame_error.FrameError.{FrameError}
 use Rattle.call_state.specs.Keeping.{KeepsHeld, KeepsGrants}
 use Rattle.bytes.specs.Filled.{Filled}
@@ -18,11 +19,12 @@ use Rattle.sftp_file.specs.Files.{FileValue, file_at}
 use Rattle.sftp_file.specs.Gathers.{ReadAllValue, ReadsAll, reading_all}
 use Rattle.sftp_file.specs.declared.gathering.ReadAllError.{ReadAllError}
 use Rattle.sftp_file.proofs.GatherLaws.{reads_held}
+use Rattle.sftp_file.specs.Writes.{WriteAllValue, writing_all}
 use Rattle.sftp_whole.specs.WholeReads.{IsReadHeld}
 use Rattle.sftp_whole.specs.declared.fs_read.Whole.{Whole}
 use Rattle.sftp_whole.proofs.FsReadLaws.{read_still}
 use Rattle.sftp_file.proofs.Granting.{released_grant, retained_users}
-use Rattle.call_state.proofs.Keeping.{grant_kept, keeps_handed_out, keeps_refused, keeps_taken, still_under_way}
+use Rattle.call_state.proofs.Keeping.{grant_kept, keeps_failed, keeps_handed_out, keeps_refused, keeps_same, keeps_taken, still_under_way}
 
 pub handed : (old new : Core) → new ≡ handed_out old → KeepsHeld old new
 handed old new is = subst (λ (x : Core). KeepsHeld old x) (sym is) (keeps_handed_out old)
@@ -52,6 +54,10 @@ pub bytes_stay : (old new : Core) (call : CallValue ReadAllValue) → KeepsHeld 
     → IsHeld reading_all old call → IsHeld reading_all new call
 bytes_stay old new call k on h = (still_under_way reading_all old new call k (record { over = on; held = h })).held
 
+pub writes_stay : (old new : Core) (call : CallValue WriteAllValue) → KeepsHeld old new → is_ended call.stage ≡ false
+    → IsHeld writing_all old call → IsHeld writing_all new call
+writes_stay old new call k on h = (still_under_way writing_all old new call k (record { over = on; held = h })).held
+
 pub bytes_held : (old new : Core) (p q : CallValue ReadAllValue) (before after : FileValue) (result : Poll (Result Filled ReadAllError))
     → ReadsAll old new p q before after result → IsHeld reading_all new q × (q.runner.file ≡ file_at after)
 bytes_held old new p q before after result h = reads_held old new p q before after result h
@@ -59,3 +65,11 @@ bytes_held old new p q before after result h = reads_held old new p q before aft
 pub copy_stays : (old new : Core) (call : CallValue CopyValue) → KeepsHeld old new → is_ended call.stage ≡ false
     → IsHeld copying old call → IsHeld copying new call
 copy_stays old new call k on h = (still_under_way copying old new call k (record { over = on; held = h })).held
+
+-- ---- what comes to a core
+
+pub nothing_came : (core : Core) → KeepsHeld core core
+nothing_came core = keeps_same core
+
+pub fault_came : (old new : Core) (fault : Fault) → new ≡ failed_with old fault → KeepsHeld old new
+fault_came old new fault is = subst (λ (x : Core). KeepsHeld old x) (sym is) (keeps_failed old fault)

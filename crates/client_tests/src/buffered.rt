@@ -34,6 +34,7 @@ enum Seen {
 enum Step {
     Write(&'static [u8]),
     Flush,
+    Shutdown,
     Settle,
     /// A read of so many bytes, at most 8, which gives these.
     Read(usize, &'static [u8]),
@@ -183,6 +184,17 @@ fn flush(core: &mut Core, file: &mut TokioCompatFile) -> Seen
     }
 }
 
+fn shutdown(core: &mut Core, file: &mut TokioCompatFile) -> Seen
+    requires { IsSound core.old file.old }
+    ensures { IsSound core.new file.new }
+{
+    match file.poll_shutdown(core) {
+        Poll::Pending => Seen::Pending,
+        Poll::Ready(Ok(())) => Seen::Done,
+        Poll::Ready(Err(e)) => refused(e),
+    }
+}
+
 fn read(core: &mut Core, file: &mut TokioCompatFile, n: usize, gives: &[u8]) -> Seen
     requires { IsSound core.old file.old }
     ensures { IsSound core.new file.new }
@@ -315,6 +327,7 @@ fn made(
     match what {
         Step::Write(bytes) => Ok(write(core, file, bytes)),
         Step::Flush => Ok(flush(core, file)),
+        Step::Shutdown => Ok(shutdown(core, file)),
         Step::Settle => {
             file.settle(core);
             Ok(Seen::Done)

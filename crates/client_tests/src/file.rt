@@ -1,2 +1,4 @@
-// What a file is opened by.
+// What a file is opened by, open files without a request, and pieces that are cut.
 mod options;
+mod shared;
+mod slices;

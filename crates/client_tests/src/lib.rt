@@ -12,4 +12,6 @@ mod link;
 #[cfg(test)]
 mod paths;
 #[cfg(test)]
+mod stages;
+#[cfg(test)]
 mod transfers;

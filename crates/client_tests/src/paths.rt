@@ -13,6 +13,7 @@ mod writing;
 
 use bytes::Bytes;
 use call_state::{Alone, Call};
+pub(crate) use listing::unasked;
 use sftp_core::Core;
 use sftp_file::Poll;
 use sftp_fs::Fs;
@@ -22,7 +23,7 @@ use std::process::Abort;
 use std::test::Fail;
 
 /// Bodies of VERSION: without extensions, and with those that calls on paths use.
-const PLAIN: &[u8] = b"\x02\0\0\0\x03";
+pub(crate) const PLAIN: &[u8] = b"\x02\0\0\0\x03";
 
 const OFFERS: &[u8] =
     b"\x02\0\0\0\x03\0\0\0\x18posix-rename@openssh.com\0\0\0\x011\0\0\0\x14hardlink@openssh.com\0\0\0\x011\0\0\0\x17expand-path@openssh.com\0\0\0\x011";
@@ -91,7 +92,7 @@ pub(crate) fn may_ask(core: &Core) -> bool
 }
 
 /// The calls from `/x`.
-fn from_x(alloc: Global) -> Result<Fs, Fail> {
+pub(crate) fn from_x(alloc: Global) -> Result<Fs, Fail> {
     Ok(Fs::new(RemotePath::new(Vec::from_slice(alloc, b"/x")?)))
 }
 

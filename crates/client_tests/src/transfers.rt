@@ -1,6 +1,6 @@
 // Calls on a file over a scripted core: what each sends, what each gives for a reply, a refusal and a fault, and where
 // the file stands then (draft-ietf-secsh-filexfer-02, sections 6.3 to 6.5 and 6.8). The file has the handle `h`, whose OPEN
-// has the id 0, so that each request has the id 1.
+// has the id 0, so that each request has the id 1, or 2 where 1 is given up.
 ghost use Rattle.std.specs.Prelude.{◌≡◌, false, IfOk, IsSome};
 ghost use Rattle.sftp_core.specs.Info.{info_of};
 ghost use Rattle.call_state.specs.Asked.{IsReady};
@@ -11,6 +11,7 @@ ghost use Rattle.sftp_file.specs.Settles.{settling};
 
 mod copies;
 mod read_all;
+mod write_all;
 
 use crate::buffered::opened;
 use crate::paths::{Seen, answer, error_seen, greeted, may_ask, poll_seen, sends, takes};
@@ -58,7 +59,7 @@ struct Row {
     stands: u64,
 }
 
-/// Sends the request of a call on a file, takes a reply, and polls; and whether the request was the row's.
+/// Polls a call on a file, sends its request, takes a reply, and polls once more; and whether the request was the row's.
 fn answer_on<M: OnFile>(
     core: &mut Core,
     call: Call<M>,
@@ -71,6 +72,13 @@ fn answer_on<M: OnFile>(
     requires stands { M.file call.runner ≡ file_at file.old }
 {
     let mut call = call;
+    match call.poll(core, file) {
+        Poll::Pending => {}
+        given => {
+            call.cancel(core);
+            return (row.sends.is_empty(), given);
+        }
+    }
     let sent = exchanged(core, row);
     let told = call.poll(core, file);
     call.cancel(core);
@@ -213,7 +221,7 @@ const SETTINGS: [(u8, &[u8]); 4] = [
     ),
 ];
 
-const ROWS: [Row; 8] = [
+const ROWS: [Row; 9] = [
     // the offset moves by what came, and not by what was asked for
     Row {
         call: Transfer::Read(5),
@@ -266,10 +274,18 @@ const ROWS: [Row; 8] = [
         gives: Seen::Given,
         stands: 8,
     },
-    // a broken frame is kept as the fault, and told
+    // a read that is given up before its reply
     Row {
         call: Transfer::Read(1),
         sends: b"\0\0\0\x16\x05\0\0\0\x01\0\0\0\x01h\0\0\0\0\0\0\0\x08\0\0\0\x01",
+        reply: b"",
+        gives: Seen::Pending,
+        stands: 8,
+    },
+    // a broken frame is kept as the fault, and told
+    Row {
+        call: Transfer::Read(1),
+        sends: b"\0\0\0\x16\x05\0\0\0\x02\0\0\0\x01h\0\0\0\0\0\0\0\x08\0\0\0\x01",
         reply: BROKEN,
         gives: Seen::Failed(Fault::Format(FormatKind::Length)),
         stands: 8,

@@ -143,7 +143,7 @@ fn a_directory_is_shared(rt: HostRuntime) -> Result<(), Fail> {
 }
 
 /// What the first poll of a close gives, and how many requests are queued.
-fn unasked(core: &mut Core, call: CloseCall) -> (Seen, u32)
+pub(crate) fn unasked(core: &mut Core, call: CloseCall) -> (Seen, u32)
     requires { IsUnderWay settling core.old call }
     ensures { KeepsGrants core.old core.new }
 {

@@ -133,6 +133,15 @@ fn the_file_is_closed(rt: HostRuntime) -> Result<(), Fail> {
     Ok(())
 }
 
+#[test]
+fn a_read_is_let_go(rt: HostRuntime) -> Result<(), Fail> {
+    let (mut core, mut call) = started(rt.alloc(), 1)?;
+    let met = steps_met(&mut core, &mut call, BROKEN);
+    call.let_go(core.end());
+    assert_eq!(rt; met, BROKEN.len());
+    Ok(())
+}
+
 /// The OPEN of `/x/a` to read, with the id 0, and its HANDLE `h`.
 const OPEN: Step = Step::Sends(b"\0\0\0\x15\x03\0\0\0\0\0\0\0\x04/x/a\0\0\0\x01\0\0\0\0");
 
@@ -162,6 +171,16 @@ const WAITS: Step = Step::Polls(Seen::Pending);
 
 /// The file is open, and the first READ asked for.
 const OPENED: &[Step] = &[WAITS, OPEN, WAITS, HANDLE, WAITS];
+
+/// A broken reply to the first READ.
+const BROKEN: &[Step] = &[
+    OPEN,
+    HANDLE,
+    WAITS,
+    FIRST,
+    Step::Breaks(b"\x65\0\0\0\x01"),
+    Step::Polls(Seen::Failed(Fault::Format(FormatKind::Length))),
+];
 
 const CASES: &[Case] = &[
     (
@@ -212,18 +231,7 @@ const CASES: &[Case] = &[
             Step::Sends(b""),
         ],
     ),
-    (
-        "a broken reply",
-        1,
-        &[
-            OPEN,
-            HANDLE,
-            WAITS,
-            FIRST,
-            Step::Breaks(b"\x65\0\0\0\x01"),
-            Step::Polls(Seen::Failed(Fault::Format(FormatKind::Length))),
-        ],
-    ),
+    ("a broken reply", 1, BROKEN),
     (
         "two READs at once, and a gap behind the first",
         2,
