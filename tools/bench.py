@@ -2,9 +2,11 @@
 """Measures the program: how time and memory of the core alone, and of a run, grow with the requests in flight; how long many
 small files take over OpenSSH's server beside `sftp -b`, how long some files of a few kilobytes take up and down, and how long
 one large file takes, by scripts and by sftp_transfer; how long many reads through sftp_view's cache take; and how long OpenSSH's
-client takes over the server of crates/sftp_serve, beside its own. It prints tables, is no part of the gate, and takes half an hour or more.
+client takes over the server of crates/sftp_serve, beside its own; and what lanes take that run in threads, beside one driver
+of them. It prints tables, is no part of the gate, and takes half an hour or more.
 
     python3 tools/bench.py [FIRST] [LAST]     requests in flight, doubled from FIRST to LAST: from 5000 to 40000
+    python3 tools/bench.py threads            the table of threads alone
 
 A ratio of 2 at a doubling is linear. `sftp` waits for each reply, so it is measured at FIRST alone where replies are late.
 BENCH_LIMIT is the most seconds that one run may take: 1200. Memory below that of python3 itself, some 15 MiB, shows as that.
@@ -17,6 +19,8 @@ LOAD = ROOT + "/crates/core_load/out/core_load"
 OUR_SERVER = ROOT + "/crates/sftp_serve/out/sftp_serve"
 COPIER = ROOT + "/crates/sftp_transfer/out/sftp_transfer"
 VIEWER = ROOT + "/crates/sftp_view/out/sftp_view"
+SHARER = ROOT + "/crates/sftp_share/out/sftp_share"
+THREADED = ROOT + "/crates/share_examples/out/share_examples"
 SERVER = "/usr/lib/openssh/sftp-server"
 LIMIT = float(os.environ.get("BENCH_LIMIT", "1200"))
 # seconds by which each way to a late server is late
@@ -29,6 +33,8 @@ LARGE_DOWN, LARGE_UP = 1 << 28, 8000000
 GETS, VIEWED_BYTES, VIEW_BLOCK, VIEW_CAPACITY = 10000, 1 << 20, 4096, 64
 # what OpenSSH's client does over either server: so many files of so many bytes up and down, so many directories made and removed
 SERVED_FILES, SERVED_BYTES, SERVED_DIRECTORIES = 4, 1 << 24, 5000
+# lanes in threads, each of which so often writes a file, reads it and asks for its attributes
+THREAD_LANES, THREAD_ROUNDS = 16, 60
 
 
 # ---- scripts
@@ -84,6 +90,18 @@ def large_down(path):
     """A file that is read to its end: 64 READs are in flight at once, in as many rounds as READs of 255 KiB want."""
     lines = ["option read_window 64", "lane", f"fs_read {digits(path)} {LARGE_DOWN}", "step 0", "flush", "take"]
     return "\n".join(lines + (["step 0"] * 64 + ["flush"] + ["take"] * 64) * (LARGE_DOWN // 261120 // 64 + 2)) + "\n"
+
+
+def lanes_in_rounds(folder):
+    """Lanes that make a directory each, and write, read and look at files of five bytes there, without turns."""
+    lines = []
+    for lane in range(THREAD_LANES):
+        home = f"{folder}d{lane}"
+        lines += ["lane", "mkdir " + digits(home)]
+        for k in range(THREAD_ROUNDS):
+            name = digits(f"{home}/{k}")
+            lines += [f"fs_write {name} 68656c6c6f", f"fs_read {name} 9", f"stat {name}"]
+    return "\n".join(lines) + "\n"
 
 
 # ---- measuring
@@ -248,6 +266,22 @@ def table_of_copies(folder, path, large):
         row(words + ", sftp -b", best(folder, sftp, f"{way} {large} {copied}\n", 3))
 
 
+def table_of_threads(folder):
+    """The same lanes by one driver and by threads, whose session stands behind a lock, over the server in memory and over OpenSSH's. In
+    memory sftp_share answers all requests a second time, by its replay. Each run over OpenSSH's server is in a folder of its own."""
+    calls = 1 + 3 * THREAD_ROUNDS
+    print(f"{THREAD_LANES} lanes of {calls} calls")
+    row("in memory, one driver", best(folder, [PROGRAM, "script"], lanes_in_rounds("")))
+    row("in memory, threads, and the replay", best(folder, [SHARER], lanes_in_rounds("")))
+    path = os.path.join(folder, "threads")
+    serve(path, False)
+    for words, program in (("one driver", PROGRAM), ("threads", THREADED)):
+        runs = []
+        for _ in range(9):
+            runs.append(measure(folder, [program, "unix", path], lanes_in_rounds(tempfile.mkdtemp(dir=folder) + "/")))
+        row(f"over OpenSSH's server, {words}", min(runs) if all(runs) else None)
+
+
 def table_of_servers(folder):
     """OpenSSH's client over the server in memory, and over OpenSSH's own, whose files are in a folder of the disk."""
     print("OpenSSH's client over either server")
@@ -274,13 +308,24 @@ def made(folder, name, length):
     return path
 
 
+def main_of_threads():
+    """The table of threads alone."""
+    for needed in (PROGRAM, SHARER, THREADED, SERVER):
+        if not os.access(needed, os.X_OK):
+            sys.exit(f"bench: {needed} is missing")
+    with tempfile.TemporaryDirectory() as folder:
+        table_of_threads(folder)
+
+
 def main():
+    if sys.argv[1:] == ["threads"]:
+        return main_of_threads()
     first = int(sys.argv[1]) if len(sys.argv) > 1 else 5000
     last = int(sys.argv[2]) if len(sys.argv) > 2 else 40000
     sizes = [first]
     while sizes[-1] * 2 <= last:
         sizes.append(sizes[-1] * 2)
-    for program in (LOAD, PROGRAM, OUR_SERVER, COPIER, VIEWER):
+    for program in (LOAD, PROGRAM, OUR_SERVER, COPIER, VIEWER, SHARER, THREADED):
         if not os.access(program, os.X_OK):
             sys.exit(f"bench: {program} is missing: run 'rt ci' first")
     # each lane holds a handle of the server
@@ -293,6 +338,7 @@ def main():
         if missing:
             sys.exit(f"bench: no comparison with sftp, missing: {' '.join(missing)}")
         table_of_servers(folder)
+        table_of_threads(folder)
         names = [os.path.join(folder, str(k)) for k in range(sizes[-1])]
         for name in names:
             with open(name, "w") as f:

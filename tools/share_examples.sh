@@ -1,8 +1,9 @@
 #!/bin/sh
 # Runs the program of crates/share_examples: a hundred runs of eight lanes over the server in memory, whose receipts are compared with
-# their journals; and, where OpenSSH's SFTP server and socat are there, sixteen lanes in threads over it, with files up and down
-# that are compared, and servers that end in the middle, behind which each thread ends. It installs nothing: where the server or
-# socat is missing it says which, and passes over that part. Another program than the one that `rt ci` built may be given.
+# their journals; and, where OpenSSH's SFTP server and socat are there, sixteen lanes in threads over it, with 1,000 files up and
+# 1,000 down that are compared, and servers that end in the middle or are killed, behind which each thread ends. It installs nothing:
+# where the server or socat is missing it says which, and passes over that part. Another program than the one that `rt ci` built may
+# be given.
 set -u
 case ${1-} in
 '' | /*) program=${1-} ;;
@@ -74,39 +75,46 @@ at() {
 
 serve socket "$server"
 
-# each of sixteen lanes makes a directory, writes ten files there, reads ten files that are there and the first of its own
+# Each of sixteen lanes makes a directory, and writes its share of 1,000 files there and reads as many that are there; those that go up
+# and those that come down are alike, so that the two folders are compared. One in fifty has more bytes than one request carries here.
 mkdir "$room/up" "$room/down"
-: >"$room/script"
-: >"$room/wanted"
-lane=0
-while [ $lane -lt 16 ]; do
-    printf 'lane\nmkdir %s\n' "$(at up/$lane)" >>"$room/script"
-    printf 'lane %s call 0 done\n' $lane >>"$room/wanted"
-    mkdir "$room/from$lane" "$room/down/$lane"
-    file=0
-    while [ $file -lt 10 ]; do
-        head -c $((lane * 1000 + file * 777)) /dev/urandom >"$room/from$lane/$file"
-        head -c $((lane * 500 + file * 4096)) /dev/urandom >"$room/down/$lane/$file"
-        content=$(hex <"$room/from$lane/$file")
-        printf 'fs_write %s %s\n' "$(at up/$lane/$file)" "${content:--}" >>"$room/script"
-        printf 'lane %s call %s done\n' $lane $((1 + 2 * file)) >>"$room/wanted"
-        content=$(hex <"$room/down/$lane/$file")
-        printf 'fs_read %s 100\n' "$(at down/$lane/$file)" >>"$room/script"
-        printf 'lane %s call %s read %s\n' $lane $((2 + 2 * file)) "${content:--}" >>"$room/wanted"
-        file=$((file + 1))
-    done
-    lane=$((lane + 1))
-done
+LC_ALL=C awk -v room="$room" -v base="$(at '')" 'BEGIN {
+    for (i = 32; i < 127; i++) hex[sprintf("%c", i)] = sprintf("%02x", i)
+    for (lane = 0; lane < 16; lane++) system("mkdir " room "/down/" lane)
+    for (lane = 0; lane < 16; lane++) {
+        printf "lane\nmkdir %s\n", base spelled("up/" lane) >(room "/script")
+        print "lane", lane, "call 0 done" >(room "/wanted")
+        call = 1
+        for (file = lane; file < 1000; file += 16) {
+            name = lane "/" file
+            lines = file % 50 == 7 ? 4000 : file * 7 % 300
+            bytes = ""
+            text = ""
+            for (k = 0; k < lines; k++) {
+                line = name "/" k
+                text = text line "\n"
+                bytes = bytes spelled(line) "0a"
+            }
+            printf "%s", text >(room "/down/" name)
+            close(room "/down/" name)
+            if (bytes == "") bytes = "-"
+            print "fs_write", base spelled("up/" name), bytes >(room "/script")
+            print "fs_read", base spelled("down/" name), 100 >(room "/script")
+            print "lane", lane, "call", call++, "done" >(room "/wanted")
+            print "lane", lane, "call", call++, "read", bytes >(room "/wanted")
+        }
+    }
+}
+function spelled(text, all, i) {
+    all = ""
+    for (i = 1; i <= length(text); i++) all = all hex[substr(text, i, 1)]
+    return all
+}'
 timeout 120 "$program" unix "$room/socket" <"$room/script" >"$room/text" 2>"$room/err" &&
-    grep '^lane' "$room/text" >"$room/outcomes" && cmp "$room/wanted" "$room/outcomes"
-tell 'sixteen lanes, files up and down' $?
-lane=0
-differ=0
-while [ $lane -lt 16 ]; do
-    diff -r "$room/from$lane" "$room/up/$lane" >"$room/err" || differ=1
-    lane=$((lane + 1))
-done
-tell 'the files that went up' $differ
+    grep '^lane' "$room/text" >"$room/outcomes" && cmp "$room/wanted" "$room/outcomes" >>"$room/err"
+tell 'sixteen lanes, 1,000 files up and 1,000 down' $?
+[ "$(find "$room/up" -type f | wc -l)" -eq 1000 ] && diff -r "$room/down" "$room/up" >"$room/err"
+tell 'the files that went up' $?
 
 # ---- servers that end in the middle: after so many bytes of what they are told, or of what they tell
 
@@ -128,32 +136,39 @@ for part in 'hears 5' 'hears 40' 'hears 3000' 'hears 100000' 'tells 3000' 'tells
     tell "a server that $kind $bytes bytes, status $status" $?
 done
 
-# ---- one that is killed
+# ---- one that is killed while files go up and down: behind them each lane has two thousand calls more, so that it is in the middle
 
 printf '#!/bin/sh\necho $$ >%s/server\nexec %s\n' "$room" "$server" >"$room/named"
 chmod +x "$room/named"
+rm -rf "$room/up"
+mkdir "$room/up"
 serve killed.socket "$room/named"
-yes "stat $(printf %s /tmp | hex)" | head -n 4000 >"$room/calls"
-lane=0
-while [ $lane -lt 16 ]; do
-    echo lane
-    cat "$room/calls"
-    lane=$((lane + 1))
-done >"$room/long"
-timeout 120 "$program" unix "$room/killed.socket" <"$room/long" >"$room/text" 2>"$room/err" &
+awk -v call="stat $(printf %s /tmp | hex)" '
+function more() { for (k = 0; k < 2000; k++) print call }
+$1 == "lane" && NR > 1 { more() }
+{ print }
+END { more() }' "$room/script" >"$room/long"
+"$program" unix "$room/killed.socket" <"$room/long" >"$room/text" 2>"$room/err" &
 runner=$!
+(sleep 60 && kill -9 $runner) 2>/dev/null &
+watch=$!
 tries=0
-while ! [ -s "$room/server" ] && [ $tries -lt 100 ]; do
-    sleep 0.05
+while [ "$(find "$room/up" -type f | wc -l)" -lt 300 ] && kill -0 $runner 2>/dev/null && [ $tries -lt 1000 ]; do
+    sleep 0.01
     tries=$((tries + 1))
 done
-sleep 0.3
+[ -d /proc/$runner/task ] && threads=$(ls /proc/$runner/task | wc -l) || threads=0
 kill -9 "$(cat "$room/server")" 2>/dev/null
 killed=$?
 wait $runner
 status=$?
-[ $killed -eq 0 ] && [ $status -eq 1 ] && [ "$(wc -l <"$room/err")" -eq 1 ]
+kill $watch 2>/dev/null
+[ $killed -eq 0 ] && [ $status -eq 1 ] && [ "$(wc -l <"$room/err")" -eq 1 ] &&
+    grep -qE ': (the server ended the connection|the connection failed)$' "$room/err"
 tell "a server that is killed, status $status" $?
+went=$(find "$room/up" -type f | wc -l)
+[ "$went" -ge 300 ] && [ "$threads" -ge 18 ]
+tell "while $threads threads ran and $went files had gone up" $?
 
 echo "share_examples: $passed passed, $failed failed"
 [ "$failed" -eq 0 ]
