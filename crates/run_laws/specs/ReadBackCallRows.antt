@@ -28,6 +28,7 @@ use Rattle.run_laws.specs.ReadBackRows.{
   read,
   extends_more,
   mkdir_avoids,
+  open_avoids,
   rename_avoids,
   write_avoids,
   close_avoids,

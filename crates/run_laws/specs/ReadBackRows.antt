@@ -362,7 +362,7 @@ pub mkdir_avoids : Avoids name (at 1)
 unfolding components
 mkdir_avoids = record { denotes = apart (codes "x" ∷ []) name refl refl; moves = λ old to d. absurd d }
 
-open_avoids : Avoids name (at 3)
+pub open_avoids : Avoids name (at 3)
 unfolding components
 open_avoids = record { denotes = λ d. apart (codes "b" ∷ []) name refl refl d.1; moves = λ old to d. absurd d }
 
