@@ -1,9 +1,11 @@
 -- How a program ends with its source, at each of its exits.
 use Rattle.std.proofs.Common.{◌≡◌, ℕ, List, inl, inr, refl, sym, subst}
-use Rattle.std.specs.Prelude.{Option, Some, None, Ok, Err, IfSome}
+use Rattle.std.specs.Prelude.{Option, Some, None, Result, Ok, Err, IfSome}
+use Rattle.ssh_encoding.specs.declared.out_of_memory.OutOfMemory.{OutOfMemory as Starved}
 use Rattle.sftp_link.specs.Told.{Told, ReadUpTo}
 use Rattle.sftp_link.specs.Views.{DialView, LastLink, SinkView, SourceView}
 use Rattle.sftp_map_server.specs.Serving.{Serving}
+use Rattle.sftp_script.specs.declared.script.Script.{Script}
 use Rattle.program_ends.specs.declared.ending.Answered.{Answered}
 use Rattle.program_ends.specs.declared.ending.Answered.TheVariants.{Done, Stopped, Refused}
 use Rattle.program_ends.specs.declared.ending.Failure.{Failure}
@@ -16,16 +18,19 @@ use Rattle.program_ends.specs.Ended.{
   EndsInMemory,
   EndsOverLink,
   GaveValue,
+  IsServerOf,
   KeptInMemory,
   Only,
   ReadAs,
+  RefusesLong,
   RightInMemory,
   RightOverLink,
   read_limit,
 }
 use Rattle.program_ends.specs.Outside.{Outside}
-use Rattle.program_ends.specs.Replies.{GivesBytes, RepliesAt}
-use Rattle.program_ends.proofs.Reading.{RefusesLong, gave, gave_value}
+use Rattle.program_ends.specs.Replies.{GivesBytes, RepliesAt, RepliesInMemory}
+use Rattle.program_ends.specs.declared.printed.Printed.{Printed}
+use Rattle.program_ends.proofs.Reading.{gave, gave_value}
 use Rattle.program_ends.proofs.Writing.{at_sink, dial_stays, just, nothing_new, source_stays, wrote_as}
 
 -- what a source gives while it doesn't fail
@@ -47,73 +52,67 @@ each_kept P Q (Some server) f h = f server h
 -- ---- over a server in memory
 
 -- a server of a value that a source gave
-abbrev FromSource : {T : Type 0} → (List ℕ → ReadAs T) → (T → Serving → Type 0) → SourceView → SourceView → Serving
-    → Type 0
-FromSource {T = T} read serves from now server = (value : T) × GaveValue read value from now × serves value server
+abbrev FromSource : {T : Type 0} → (List ℕ → ReadAs T) → (T → Script) → SourceView → SourceView → Serving → Type 0
+FromSource {T = T} read setup from now server =
+    (value : T) × GaveValue read value from now × IsServerOf (setup value) server
 
--- a text that is right is so for a server of its value
-abbrev pub Serves : {T : Type 0} → (T → Serving → Type 0) → (Option Serving → T → List ℕ → Type 0) → Type 0
-Serves {T = T} serves right = (kept : Option Serving) (value : T) (text : List ℕ) → right kept value text
-    → IfSome kept (serves value)
-
-right_kept : {T : Type 0} (read : List ℕ → ReadAs T) (serves : T → Serving → Type 0)
-    (right : Option Serving → T → List ℕ → Type 0) (r : ReadAs T) (kept : Option Serving) (bytes text : List ℕ)
-    (answered : Answered) (from now : SourceView) → RefusesLong read → Serves serves right → read bytes ≡ r
-    → Read bytes from now → RightInMemory right kept r answered text → IfSome kept (FromSource read serves from now)
-right_kept read serves right (Ok value) kept bytes text Done from now long s e t p =
-    each_kept (serves value) (FromSource read serves from now) kept
-    (λ server h. (value, gave_value read bytes value from now long e t, h)) (s kept value text p)
-right_kept read serves right (Ok value) kept bytes text Stopped from now long s e t p = absurd p
-right_kept read serves right (Ok value) kept bytes text Refused from now long s e t p = absurd p
-right_kept read serves right (Err why) kept bytes text Done from now long s e t p = absurd p
-right_kept read serves right (Err why) kept bytes text Stopped from now long s e t p = absurd p
-right_kept read serves right (Err why) kept bytes text Refused from now long s e t p =
-    none_kept (FromSource read serves from now) kept p.1
+-- a server that is kept for the bytes is one of a value that the source gave
+kept_from : {T : Type 0} (read : List ℕ → ReadAs T) (setup : T → Script)
+    (right : Option Serving → T → List ℕ → Type 0) (bytes : List ℕ) (r : Result Printed Starved)
+    (kept : Option Serving) (from now : SourceView) → Read bytes from now
+    → RepliesInMemory read setup right bytes r kept → IfSome kept (FromSource read setup from now)
+kept_from {T = T} read setup right bytes r kept from now t h =
+    each_kept (λ server. (value : T) × (read bytes ≡ Ok value) × IsServerOf (setup value) server)
+    (FromSource read setup from now) kept
+    (λ server v. (v.0, gave_value read bytes v.0 from now h.long v.1 t, v.2)) h.left
 
 -- the source was not read
-pub memory_unread : {T : Type 0} (read : List ℕ → ReadAs T) (serves : T → Serving → Type 0)
+pub memory_unread : {T : Type 0} (read : List ℕ → ReadAs T) (setup : T → Script)
     (right : Option Serving → T → List ℕ → Type 0) (why : Failure) (kept : Option Serving) (from now : SourceView)
     (to : SinkView) → GivesBytes (Err why) from now → kept ≡ None
-    → EndsInMemory read serves right (Err why) kept from now to to
-memory_unread read serves right SourceFailed kept from now to g none =
+    → EndsInMemory read setup right (Err why) kept from now to to
+memory_unread read setup right SourceFailed kept from now to g none =
     record { wrote = nothing_new to.written; left = none; source = g.cause; sink = refl }
-memory_unread read serves right SinkFailed kept from now to g none = absurd (g.only.0 refl)
-memory_unread read serves right OutOfMemory kept from now to g none = record {
+memory_unread read setup right SinkFailed kept from now to g none = absurd (g.only.0 refl)
+memory_unread read setup right OutOfMemory kept from now to g none = record {
   wrote = inl (nothing_new to.written);
-  left = none_kept (FromSource read serves from now) kept none;
+  left = none_kept (FromSource read setup from now) kept none;
   source = g.cause;
   sink = refl;
 }
-memory_unread read serves right DialFailed kept from now to g none = absurd (g.only.1 refl)
+memory_unread read setup right DialFailed kept from now to g none = absurd (g.only.1 refl)
 
 -- there was no memory for the answer
-pub memory_starved : {T : Type 0} (read : List ℕ → ReadAs T) (serves : T → Serving → Type 0)
-    (right : Option Serving → T → List ℕ → Type 0) (kept : Option Serving) (bytes : List ℕ) (from now : SourceView)
-    (to : SinkView) → RefusesLong read → Read bytes from now → now.faults ≡ from.faults
-    → IfSome kept (λ server. (value : T) × (read bytes ≡ Ok value) × serves value server)
-    → EndsInMemory read serves right (Err OutOfMemory) kept from now to to
-memory_starved {T = T} read serves right kept bytes from now to long t same k = record {
+pub memory_starved : {T : Type 0} (read : List ℕ → ReadAs T) (setup : T → Script)
+    (right : Option Serving → T → List ℕ → Type 0) (bytes : List ℕ) (e : Starved) (kept : Option Serving)
+    (from now : SourceView) (to : SinkView) → Read bytes from now → now.faults ≡ from.faults
+    → RepliesInMemory read setup right bytes (Err e) kept
+    → EndsInMemory read setup right (Err OutOfMemory) kept from now to to
+memory_starved read setup right bytes e kept from now to t same r = record {
   wrote = inl (nothing_new to.written);
-  left = each_kept (λ server. (value : T) × (read bytes ≡ Ok value) × serves value server)
-      (FromSource read serves from now) kept
-      (λ server h. (h.0, gave_value read bytes h.0 from now long h.1 t, h.2)) k;
+  left = kept_from read setup right bytes (Err e) kept from now t r;
   source = same;
   sink = refl;
 }
 
 -- the answer was to be written
-pub memory_answered : {T : Type 0} (read : List ℕ → ReadAs T) (serves : T → Serving → Type 0)
-    (right : Option Serving → T → List ℕ → Type 0) (kept : Option Serving) (bytes text : List ℕ) (answered : Answered)
-    (end : End) (from now : SourceView) (to to_now : SinkView) → RefusesLong read → Serves serves right
-    → Read bytes from now → now.faults ≡ from.faults → RightInMemory right kept (read bytes) answered text
-    → EndsAtSink (Only answered text) end to to_now → EndsInMemory read serves right end kept from now to to_now
-memory_answered read serves right kept bytes text answered end from now to to_now long s t same r w =
+pub memory_answered : {T : Type 0} (read : List ℕ → ReadAs T) (setup : T → Script)
+    (right : Option Serving → T → List ℕ → Type 0) (bytes text : List ℕ) (reply : Printed) (end : End)
+    (kept : Option Serving) (from now : SourceView) (to to_now : SinkView) → Read bytes from now
+    → now.faults ≡ from.faults → RepliesInMemory read setup right bytes (Ok reply) kept → text ≡ reply.text.items
+    → EndsAtSink (Only reply.answered text) end to to_now → EndsInMemory read setup right end kept from now to to_now
+memory_answered read setup right bytes text reply end kept from now to to_now t same r is w =
+    let answered = reply.answered in
     let whole = AnswersSource read (RightInMemory right kept) from now in
-    let all : whole answered text = record { bytes = bytes; gave = gave read bytes from now long t; is = r } in
+    let all : whole answered text = record {
+      bytes = bytes;
+      gave = gave read bytes from now r.long t;
+      is = subst (λ (x : List ℕ). RightInMemory right kept (read bytes) answered x) (sym is) r.ok;
+    } in
     record {
       wrote = wrote_as (Only answered text) whole (just whole answered text all) end to to_now w.wrote;
-      left = at_sink (λ why. KeptInMemory read serves why kept from now) (Only answered text) end to to_now w tt
-          (right_kept read serves right (read bytes) kept bytes text answered from now long s refl t r);
+      left = at_sink (λ why. KeptInMemory read setup why kept from now) (Only answered text) end to to_now w tt
+          (kept_from read setup right bytes (Ok reply) kept from now t r);
       source = source_stays (Only answered text) end to to_now from.faults now.faults w same;
       sink = w.cause;
     }
@@ -149,26 +148,26 @@ read_whole read bytes from now long t h = (h.0, gave_value read bytes h.0 from n
 pub link_unanswered : {T History : Type 0} (read : List ℕ → ReadAs T)
     (right : Option LastLink → T → Answered → List ℕ → Type 0) (dialled : List ℕ → History → History)
     (path bytes : List ℕ) (why : Failure) (from now : SourceView) (to : SinkView) (dial dial_now : DialView History)
-    → RefusesLong read → Read bytes from now → now.faults ≡ from.faults
+    → Read bytes from now → now.faults ≡ from.faults
     → RepliesAt read right dialled path bytes (Err why) dial dial_now
     → EndsOverLink read right dialled path (Err why) (outside from to dial) (outside now to dial_now)
-link_unanswered read right dialled path bytes SourceFailed from now to dial dial_now long t same r =
+link_unanswered read right dialled path bytes SourceFailed from now to dial dial_now t same r =
     absurd (r.only.0 refl)
-link_unanswered read right dialled path bytes SinkFailed from now to dial dial_now long t same r =
+link_unanswered read right dialled path bytes SinkFailed from now to dial dial_now t same r =
     absurd (r.only.1 refl)
-link_unanswered read right dialled path bytes OutOfMemory from now to dial dial_now long t same r = record {
+link_unanswered read right dialled path bytes OutOfMemory from now to dial dial_now t same r = record {
   wrote = inl (nothing_new to.written);
   dial = elim r.failed [
     | inl untouched ↦ inl untouched
-    | inr after ↦ inr (read_whole read bytes from now long t after.0, after.1)
+    | inr after ↦ inr (read_whole read bytes from now r.long t after.0, after.1)
   ];
   source_cause = same;
   sink_cause = refl;
   dial_cause = r.cause;
 }
-link_unanswered read right dialled path bytes DialFailed from now to dial dial_now long t same r = record {
+link_unanswered read right dialled path bytes DialFailed from now to dial dial_now t same r = record {
   wrote = nothing_new to.written;
-  dial = (read_whole read bytes from now long t r.failed.0, r.failed.1, r.failed.2);
+  dial = (read_whole read bytes from now r.long t r.failed.0, r.failed.1, r.failed.2);
   source_cause = same;
   sink_cause = refl;
   dial_cause = r.cause;
@@ -189,20 +188,25 @@ right_dialled read right dialled path (Err why) bytes text Refused from now dial
 -- the answer was to be written
 pub link_answered : {T History : Type 0} (read : List ℕ → ReadAs T)
     (right : Option LastLink → T → Answered → List ℕ → Type 0) (dialled : List ℕ → History → History)
-    (path bytes text : List ℕ) (answered : Answered) (end : End) (from now : SourceView) (to to_now : SinkView)
-    (dial dial_now : DialView History) → RefusesLong read → Read bytes from now → now.faults ≡ from.faults
-    → dial_now.faults ≡ dial.faults → RightOverLink right dialled path dial dial_now (read bytes) answered text
-    → EndsAtSink (Only answered text) end to to_now
+    (path bytes text : List ℕ) (reply : Printed) (end : End) (from now : SourceView) (to to_now : SinkView)
+    (dial dial_now : DialView History) → Read bytes from now → now.faults ≡ from.faults
+    → RepliesAt read right dialled path bytes (Ok reply) dial dial_now → text ≡ reply.text.items
+    → EndsAtSink (Only reply.answered text) end to to_now
     → EndsOverLink read right dialled path end (outside from to dial) (outside now to_now dial_now)
-link_answered {T = T} read right dialled path bytes text answered end from now to to_now dial dial_now long t same stays r w =
+link_answered {T = T} read right dialled path bytes text reply end from now to to_now dial dial_now t same r is w =
+    let answered = reply.answered in
     let whole = AnswersSource read (RightOverLink right dialled path dial dial_now) from now in
-    let all : whole answered text = record { bytes = bytes; gave = gave read bytes from now long t; is = r } in
+    let all : whole answered text = record {
+      bytes = bytes;
+      gave = gave read bytes from now r.long t;
+      is = subst (λ (x : List ℕ). RightOverLink right dialled path dial dial_now (read bytes) answered x) (sym is) r.ok;
+    } in
     record {
       wrote = wrote_as (Only answered text) whole (just whole answered text all) end to to_now w.wrote;
       dial = at_sink (λ why. DialsAfter dialled path ((value : T) × GaveValue read value from now) why dial dial_now)
           (Only answered text) end to to_now w tt
-          (right_dialled read right dialled path (read bytes) bytes text answered from now dial dial_now long refl t r);
+          (right_dialled read right dialled path (read bytes) bytes text answered from now dial dial_now r.long refl t all.is);
       source_cause = source_stays (Only answered text) end to to_now from.faults now.faults w same;
       sink_cause = w.cause;
-      dial_cause = dial_stays (Only answered text) end to to_now dial.faults dial_now.faults w stays;
+      dial_cause = dial_stays (Only answered text) end to to_now dial.faults dial_now.faults w r.cause;
     }

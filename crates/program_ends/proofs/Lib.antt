@@ -4,3 +4,4 @@ pub mod Writing
 pub mod Exits
 pub mod Completing
 pub mod Causing
+pub mod Stopping

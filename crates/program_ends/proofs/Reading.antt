@@ -6,11 +6,8 @@ use Rattle.sftp_script.specs.declared.reason.Reason.TheVariants as reason
 use Rattle.sftp_script.specs.Scripts.{MAX_SCRIPT_LEN}
 use Rattle.sftp_link.specs.Told.{Told, ReadUpTo}
 use Rattle.sftp_link.specs.Views.{SourceView}
+pub use Rattle.program_ends.specs.Ended.{RefusesLong}
 use Rattle.program_ends.specs.Ended.{Gave, GaveAll, GaveValue, ReadAs, read_limit}
-
--- bytes that are too many are refused for their size
-abbrev pub RefusesLong : {T : Type 0} → (List ℕ → ReadAs T) → Type 0
-RefusesLong read = (bytes : List ℕ) → nat_lt MAX_SCRIPT_LEN (length bytes) ≡ true → read bytes ≡ Err (0, reason.Size)
 
 too_long : (m n : ℕ) → m < n → nat_lt m n ≡ true
 too_long m n h = grind (arith, nat_tests)

@@ -1,11 +1,32 @@
 -- How a program ends that reads a source and writes an answer: over a server in memory, over a link, or at the sink
 -- alone. What the source's bytes read as, and which answer is right for it, is each program's own.
-use Rattle.std.specs.Prelude.{◌≡◌, ◌≢◌, ◌⊎◌, ◌<◌, ℕ, List, [], Option, None, Result, Ok, Err, IfSome, IfErr}
+use Rattle.std.specs.Prelude.{
+  ◌≡◌,
+  ◌≢◌,
+  ◌⊎◌,
+  ◌<◌,
+  ℕ,
+  true,
+  List,
+  [],
+  length,
+  nat_lt,
+  Option,
+  None,
+  Result,
+  Ok,
+  Err,
+  IfSome,
+  IfErr,
+}
 use Rattle.sftp_link.specs.Told.{Told, Same, Went, WentLess, ReadUpTo}
 use Rattle.sftp_link.specs.Views.{DialView, LastLink, SinkView, SourceView}
 use Rattle.sftp_map_server.specs.Serving.{Serving, first_state, opened}
+use Rattle.sftp_map_server.specs.Unopened.{IsUnopened}
 use Rattle.sftp_script.specs.declared.reason.Reason.{Reason}
+use Rattle.sftp_script.specs.declared.reason.Reason.TheVariants as reason
 use Rattle.sftp_script.specs.declared.script.Script.{Script}
+use Rattle.sftp_script.specs.Scripts.{MAX_SCRIPT_LEN}
 use Rattle.program_ends.specs.declared.ending.Answered.{Answered}
 use Rattle.program_ends.specs.declared.ending.Answered.TheVariants.{Done, Stopped, Refused}
 use Rattle.program_ends.specs.declared.ending.Failure.{Failure}
@@ -50,6 +71,10 @@ read_limit = 16777217
 -- a value, or which line is refused, and why
 abbrev pub ReadAs : Type 0 → Type 0
 ReadAs T = Result T (ℕ × Reason)
+
+-- bytes that are too many are refused for their size
+abbrev pub RefusesLong : {T : Type 0} → (List ℕ → ReadAs T) → Type 0
+RefusesLong read = (bytes : List ℕ) → nat_lt MAX_SCRIPT_LEN (length bytes) ≡ true → read bytes ≡ Err (0, reason.Size)
 
 -- the bytes are all that was left, and none is left now
 abbrev pub GaveAll : List ℕ → List ℕ → List ℕ → Type 0
@@ -117,6 +142,12 @@ abbrev pub IsServerOf : Script → Serving → Type 0
 IsServerOf script server =
     server.first ≡ opened (first_state script.files script.dirs script.server script.choices) script.picks
 
+-- and nothing was sent to it
+pub record IsNewServer (script : Script) (server : Serving) : Type 0 where
+  pub unopened : IsUnopened server.first
+  pub quiet : server.log ≡ []
+  pub first : IsServerOf script server
+
 -- A value is run whole over a server that is kept, and the text is right for both; what is no value is refused, and
 -- nothing is kept.
 abbrev pub RightInMemory : {T : Type 0} → (Option Serving → T → List ℕ → Type 0) → Option Serving → ReadAs T
@@ -127,19 +158,19 @@ RightInMemory right kept read answered text = ⊥
 
 -- What is kept where no answer tells it: nothing where the source failed; and for want of memory, if anything, a server
 -- of the value that the source gave.
-abbrev pub KeptInMemory : {T : Type 0} → (List ℕ → ReadAs T) → (T → Serving → Type 0) → Failure → Option Serving
-    → SourceView → SourceView → Type 0
-KeptInMemory read serves SourceFailed kept before now = kept ≡ None
-KeptInMemory {T = T} read serves OutOfMemory kept before now =
-    IfSome kept (λ server. (value : T) × GaveValue read value before now × serves value server)
-KeptInMemory read serves SinkFailed kept before now = Unit {0}
-KeptInMemory read serves DialFailed kept before now = ⊥
+abbrev pub KeptInMemory : {T : Type 0} → (List ℕ → ReadAs T) → (T → Script) → Failure → Option Serving → SourceView
+    → SourceView → Type 0
+KeptInMemory read setup SourceFailed kept before now = kept ≡ None
+KeptInMemory {T = T} read setup OutOfMemory kept before now =
+    IfSome kept (λ server. (value : T) × GaveValue read value before now × IsServerOf (setup value) server)
+KeptInMemory read setup SinkFailed kept before now = Unit {0}
+KeptInMemory read setup DialFailed kept before now = ⊥
 
-pub record EndsInMemory {T : Type 0} (read : List ℕ → ReadAs T) (serves : T → Serving → Type 0)
+pub record EndsInMemory {T : Type 0} (read : List ℕ → ReadAs T) (setup : T → Script)
     (right : Option Serving → T → List ℕ → Type 0) (end : End) (kept : Option Serving) (from from_now : SourceView)
     (to to_now : SinkView) : Type 0 where
   pub wrote : Wrote (AnswersSource read (RightInMemory right kept) from from_now) end to to_now
-  pub left : IfErr end (λ why. KeptInMemory read serves why kept from from_now)
+  pub left : IfErr end (λ why. KeptInMemory read setup why kept from from_now)
   pub source : SourceCause end from.faults from_now.faults
   pub sink : SinkCause end to.faults to_now.faults
 

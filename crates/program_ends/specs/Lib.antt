@@ -2,4 +2,5 @@ pub mod Outside
 pub mod Texts
 pub mod Ended
 pub mod Replies
+pub mod Stopped
 pub mod Completed

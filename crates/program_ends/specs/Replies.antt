@@ -1,8 +1,11 @@
 -- What the parts of a run answer: the bytes of the source, and the reply to them.
-use Rattle.std.specs.Prelude.{◌≡◌, ◌≢◌, ℕ, List, Vec, Option, Result, Ok, IfOk, IfErr}
+use Rattle.std.specs.Prelude.{◌≡◌, ◌≢◌, ℕ, List, Vec, Option, Result, Ok, IfOk, IfErr, IfSome}
 use Rattle.std.specs.declared.alloc.Global.{Global}
+use Rattle.ssh_encoding.specs.declared.out_of_memory.OutOfMemory.{OutOfMemory}
 use Rattle.sftp_link.specs.Told.{Told, ReadUpTo}
 use Rattle.sftp_link.specs.Views.{DialView, LastLink, SourceView}
+use Rattle.sftp_map_server.specs.Serving.{Serving}
+use Rattle.sftp_script.specs.declared.script.Script.{Script}
 use Rattle.program_ends.specs.declared.ending.Answered.{Answered}
 use Rattle.program_ends.specs.declared.ending.Failure.{Failure}
 use Rattle.program_ends.specs.declared.ending.Failure.TheVariants.{SourceFailed, SinkFailed, DialFailed}
@@ -11,7 +14,10 @@ use Rattle.program_ends.specs.Ended.{
   DialCause,
   DialledAt,
   DialsAfter,
+  IsServerOf,
   ReadAs,
+  RefusesLong,
+  RightInMemory,
   RightOverLink,
   SourceCause,
   read_limit,
@@ -22,6 +28,14 @@ pub record GivesBytes (result : Result (Vec ℕ Global) Failure) (before now : S
   pub bytes : IfOk result (λ v. Told (ReadUpTo read_limit v.items) before.left now.left)
   pub cause : SourceCause result before.faults now.faults
   pub only : IfErr result (λ e. (e ≢ SinkFailed) × (e ≢ DialFailed))
+
+-- the reply to bytes, over a server in memory, which is kept where they read as a value
+pub record RepliesInMemory {T : Type 0} (read : List ℕ → ReadAs T) (setup : T → Script)
+    (right : Option Serving → T → List ℕ → Type 0) (bytes : List ℕ) (result : Result Printed OutOfMemory)
+    (kept : Option Serving) : Type 0 where
+  pub ok : IfOk result (λ reply. RightInMemory right kept (read bytes) reply.answered reply.text.items)
+  pub left : IfSome kept (λ server. (value : T) × (read bytes ≡ Ok value) × IsServerOf (setup value) server)
+  pub long : RefusesLong read
 
 -- the reply to a value, over a link that was dialled once
 pub record DialsFor {T History : Type 0} (right : Option LastLink → T → Answered → List ℕ → Type 0)
@@ -42,3 +56,4 @@ pub record RepliesAt {T History : Type 0} (read : List ℕ → ReadAs T)
   pub failed : IfErr result (λ e. DialsAfter dialled path ((value : T) × (read bytes ≡ Ok value)) e before now)
   pub cause : DialCause result before.faults now.faults
   pub only : IfErr result (λ e. (e ≢ SourceFailed) × (e ≢ SinkFailed))
+  pub long : RefusesLong read

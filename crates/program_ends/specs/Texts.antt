@@ -1,5 +1,5 @@
 -- The texts that programs share: of words that are other ones, of a refusal, and of an error that stopped a run.
-use Rattle.std.specs.Prelude.{ℕ, ◌==◌, List, [], ◌∷◌, ◌++◌, Option, Some, None, codes, if◌then◌else◌}
+use Rattle.std.specs.Prelude.{◌≡◌, ℕ, ◌==◌, List, [], ◌∷◌, ◌++◌, Option, Some, None, codes, if◌then◌else◌}
 use Rattle.std.specs.Str.{bytes_eq}
 use Rattle.sftp_model.specs.declared.error.Error.{Error}
 use Rattle.sftp_model.specs.declared.error.Error.TheVariants as errors
@@ -83,6 +83,10 @@ error_name (errors.BackgroundTaskFailure fault) = Some (codes "BackgroundTaskFai
 -- the line that names an error
 abbrev pub error_line : List ℕ → List ℕ
 error_line name = line (codes "error " ++ name)
+
+-- the text is the line that names an error other than want of memory
+abbrev pub IsErrorLine : Error → List ℕ → Type 0
+IsErrorLine error text = (name : List ℕ) × (error_name error ≡ Some name) × (text ≡ error_line name)
 
 -- ---- what is left
 

@@ -1,17 +1,25 @@
-//! What programs share that read a source, run what it says, and write an answer: the statuses with which they end, the lines
-//! of a refusal and of an error, and what a server in memory has left.
+//! What programs share that read a source, run what it says over a server in memory or over a link, and write an answer: how
+//! that goes, the statuses with which they end, the lines of a refusal and of an error, and what a server in memory has left.
 #![tactic(auto)]
 
 mod answer;
 mod ending;
+mod in_memory;
 mod left;
+mod over_link;
 mod printed;
+mod program;
 mod refusal;
+mod system;
 #[cfg(test)]
 mod tests;
 
 pub use answer::{Answer, answer_to};
 pub use ending::{Answered, Failure, NO_LINK, OUT_OF_MEMORY, cause_of, status_of};
+pub use in_memory::{answer_in_memory, text_in_memory};
 pub use left::{write_dirs, write_files};
+pub use over_link::answer_over_link;
 pub use printed::{Printed, read_bytes, refuse, write_answer};
-pub use refusal::{error_line, error_name, refusal_line};
+pub use program::{LinkProgram, Program};
+pub use refusal::{error_line, error_name, refusal_line, stop_reply, want_of_memory};
+pub use system::{exit_with, words_given};

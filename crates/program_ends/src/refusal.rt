@@ -1,8 +1,12 @@
 //! The lines that say why a source is refused, and with which error a run stopped.
 ghost use Rattle.std.specs.Prelude.{◌≡◌, IfOk};
 ghost use Rattle.std.specs.Option.{option_copied};
-ghost use Rattle.program_ends.specs.Texts.{error_line, error_name, reason_word, refusal_line};
+ghost use Rattle.sftp_model.specs.declared.error.Error.TheVariants as errors;
+ghost use Rattle.program_ends.specs.declared.ending.Answered.TheVariants.{Stopped};
+ghost use Rattle.program_ends.specs.Texts.{IsErrorLine, error_line, error_name, reason_word, refusal_line};
 
+use crate::ending::Answered;
+use crate::printed::Printed;
 use itoa::Buffer;
 use sftp_model::Error;
 use sftp_script::Reason;
@@ -61,6 +65,16 @@ pub fn error_name(error: &Error) -> Option<&'static str>
     }
 }
 
+/// Want of memory, which is the only error that is left to a run over a server in memory.
+pub fn want_of_memory(error: Error) -> OutOfMemory
+    requires { error ≡ errors.OutOfMemory }
+{
+    match error {
+        Error::OutOfMemory => OutOfMemory,
+        _ => unreachable!(),
+    }
+}
+
 /// The line that names the error with which a run stopped: `error NAME`. The error is want of memory.
 #[tactic(auto, using(sftp_wire::proofs::Puts::puts))]
 pub fn error_line(alloc: Global, name: &str) -> Result<Vec<u8>, OutOfMemory>
@@ -70,4 +84,20 @@ pub fn error_line(alloc: Global, name: &str) -> Result<Vec<u8>, OutOfMemory>
     text.extend_from_slice(name.as_bytes())?;
     text.push(b'\n')?;
     Ok(text)
+}
+
+/// The answer to a run that an error stopped, the line that names it. The error is want of memory, which has no line.
+pub fn stop_reply(alloc: Global, error: &Error) -> Result<Printed, OutOfMemory>
+    ensures { IfOk result (λ reply. (reply.answered ≡ Stopped) × IsErrorLine error.now reply.text.items) }
+{
+    match error_name(error) {
+        Some(name) => {
+            let text = error_line(alloc, name)?;
+            Ok(Printed {
+                answered: Answered::Stopped,
+                text,
+            })
+        }
+        None => Err(OutOfMemory),
+    }
 }

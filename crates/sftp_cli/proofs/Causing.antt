@@ -4,7 +4,7 @@ use Rattle.std.specs.Prelude.{Option}
 use Rattle.sftp_map_server.specs.Serving.{Serving}
 use Rattle.sftp_script.specs.Scripts.{script_of}
 use Rattle.program_ends.specs.Completed.{HasCauses}
-use Rattle.program_ends.specs.Ended.{End, IsServerOf, status_of}
+use Rattle.program_ends.specs.Ended.{End, status_of}
 use Rattle.program_ends.specs.Outside.{Outside}
 use Rattle.program_ends.proofs.Causing.{has_causes, memory_causes, sink_causes}
 use Rattle.sftp_cli.specs.declared.printed.Form.TheVariants as form
@@ -16,7 +16,7 @@ causes_so : {History : Type 0} (dialled : List ℕ → History → History) (ask
     (kept : Option Serving) (before now : Outside History) → EndsSo dialled asked end kept before now
     → HasCauses (status_of end) before now
 causes_so dialled InMemory end kept before now h =
-    memory_causes script_of IsServerOf (IsPrinted form.Whole) end kept before now h.0 h.1
+    memory_causes script_of (λ script. script) (IsPrinted form.Whole) end kept before now h.0 h.1
 causes_so dialled (AtPath path) end kept before now h =
     has_causes end before now h.0.source_cause h.0.sink_cause h.0.dial_cause
 causes_so dialled (Bulk n) end kept before now h = sink_causes _ end before now h.0.writes h.1 h.2

@@ -4,7 +4,7 @@ use Rattle.std.specs.Prelude.{Option, Ok}
 use Rattle.sftp_map_server.specs.Serving.{Serving}
 use Rattle.sftp_script.specs.Scripts.{script_of}
 use Rattle.program_ends.specs.declared.ending.Answered.{Answered}
-use Rattle.program_ends.specs.Ended.{End, IsServerOf, status_of}
+use Rattle.program_ends.specs.Ended.{End, status_of}
 use Rattle.program_ends.specs.Outside.{Outside}
 use Rattle.program_ends.proofs.Completing.{Unrefused, at_sink, in_memory, over_link}
 use Rattle.sftp_cli.specs.declared.printed.Form.TheVariants as form
@@ -23,7 +23,7 @@ completes_so : {History : Type 0} (dialled : List ℕ → History → History) (
     → now.source.faults ≡ before.source.faults → now.sink.faults ≡ before.sink.faults
     → Completes asked (status_of end) before.source.left
 completes_so dialled InMemory end kept before now h s k =
-    in_memory script_of IsServerOf (IsPrinted form.Whole) end kept before.source now.source before.sink now.sink
+    in_memory script_of (λ script. script) (IsPrinted form.Whole) end kept before.source now.source before.sink now.sink
     long_refused h.0 s k
 completes_so dialled (AtPath path) end kept before now h s k =
     over_link script_of RunsOver dialled path end before now long_refused unrefused h.0 s k

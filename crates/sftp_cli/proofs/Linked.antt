@@ -1,6 +1,7 @@
 -- A run of a script's lanes over a link whose log was empty, and what the dial tells of the link then.
 use Rattle.std.proofs.Common.{◌≡◌, ◌∙◌, ℕ, Bool, List, [], refl, ap, subst}
-use Rattle.std.specs.Prelude.{Some, Err, reverse}
+use Rattle.std.specs.Prelude.{Some, Result, Err, IfOk, reverse}
+use Rattle.ssh_encoding.specs.declared.out_of_memory.OutOfMemory.{OutOfMemory}
 use Rattle.sftp_link.specs.declared.piece.Piece.{Piece}
 use Rattle.sftp_link.specs.Told.{Told}
 use Rattle.sftp_model.specs.declared.error.Error.{Error}
@@ -17,9 +18,11 @@ use Rattle.sftp_lanes.specs.Reported.{IsReport}
 use Rattle.sftp_lanes.specs.Seen.{given}
 use Rattle.sftp_text.specs.Traces.{journal_of}
 use Rattle.sftp_text.proofs.TraceLaws.{trace_text}
-use Rattle.sftp_cli.proofs.Running.{from_empty}
-use Rattle.program_ends.specs.Texts.{error_line, error_name}
-use Rattle.sftp_cli.specs.Dialled.{IsShown, IsStopped}
+use Rattle.program_ends.specs.declared.ending.Answered.TheVariants.{Stopped}
+use Rattle.program_ends.specs.declared.printed.Printed.{Printed}
+use Rattle.program_ends.specs.Texts.{IsErrorLine}
+use Rattle.program_ends.proofs.Stopping.{from_empty, stopped_over}
+use Rattle.sftp_cli.specs.Dialled.{IsShown, RunsOver}
 
 pub is_shown : (script : Script) (before log : List Piece) (faults : ℕ) (ended : Bool) (report : Report) (text : List ℕ) → before ≡ []
     → IsReport script.lanes script.options script.turns (Some (reverse before)) (Some log) report → text
@@ -38,25 +41,18 @@ is_shown script before log faults ended report text none run is =
       is = is ∙ ap (λ t. text_of (journal_of t) report.outcomes) run.trace ∙ trace_text run.past report.outcomes ∙ ap (λ o. text_of run.past o) run.outcomes;
     }
 
-pub is_stopped : (script : Script) (lanes : List Lane) (turns : List Turn) (before log : List Piece) (first faults : ℕ)
-    (ended : Bool) (e : Error) (name text : List ℕ) → lanes ≡ script.lanes → turns ≡ script.turns → before ≡ [] → first
-    ≡ 0
+-- the run of a script's lanes stopped
+pub run_stopped : (script : Script) (lanes : List Lane) (turns : List Turn) (before log : List Piece)
+    (first faults : ℕ) (ended : Bool) (e : Error) (r : Result Printed OutOfMemory) → lanes ≡ script.lanes
+    → turns ≡ script.turns → before ≡ [] → first ≡ 0
     → Told (Ends (given lanes script.options) turns ended e) (Some (reverse before)) (Some log)
     → Cause {T = Report} first faults (Err e) → EndCause {T = Report} ended (Err e)
-    → error_name e ≡ Some name → text ≡ error_line name → IsStopped (Some (record { log = log; faults = faults; ended = ended })) script text
-is_stopped script lanes turns before log first faults ended e name text same order none zero stops cause end named is =
-    record {
-      error = e;
-      link = record { log = log; faults = faults; ended = ended };
-      back = refl;
-      name = name;
-      named = named;
-      cause = subst (λ (n : ℕ). Cause {T = Report} n faults (Err e)) zero cause;
-      end = end;
-      stops = subst (λ (t : List Turn). Ends (given script.lanes script.options) t ended e [] log) order
-          (subst (λ (l : List Lane). Ends (given l script.options) turns ended e [] log) same
-          (from_empty (λ (b now : List Piece). Ends (given lanes script.options) turns ended e (reverse b) now) before log none stops));
-      is = is;
-    }
-
-pub ruleset over_links = (is_shown, is_stopped)
+    → IfOk r (λ reply. (reply.answered ≡ Stopped) × IsErrorLine e reply.text.items)
+    → IfOk r (λ reply. RunsOver (Some (record { log = log; faults = faults; ended = ended })) script reply.answered
+    reply.text.items)
+run_stopped script lanes turns before log first faults ended e r same order none zero stops cause end is =
+    stopped_over Report (RunsOver (Some (record { log = log; faults = faults; ended = ended })) script)
+    (given script.lanes script.options) script.turns before log first faults ended e r none zero
+    (subst (λ (t : List Turn). Told (Ends (given script.lanes script.options) t ended e) (Some (reverse before)) (Some log)) order
+    (subst (λ (l : List Lane). Told (Ends (given l script.options) turns ended e) (Some (reverse before)) (Some log)) same stops))
+    cause end is (λ text h. h)

@@ -1,10 +1,8 @@
 -- What the program has to write for a script whose lanes run over a link to a server elsewhere.
-use Rattle.std.specs.Prelude.{◌≡◌, ℕ, List, [], length, Option, Some, Err}
+use Rattle.std.specs.Prelude.{◌≡◌, ℕ, List, [], length, Option, Some}
 use Rattle.sftp_link.specs.Views.{LastLink}
-use Rattle.sftp_model.specs.declared.error.Error.{Error}
 use Rattle.sftp_model.specs.declared.flags.Extensions.{Extensions}
 use Rattle.session_model.specs.declared.entry.Entry.{Entry}
-use Rattle.session_model.specs.declared.report.Report.{Report}
 use Rattle.sftp_script.specs.declared.script.Script.{Script}
 use Rattle.session_model.specs.Closes.{AreClosed}
 use Rattle.session_model.specs.Readings.{outcomes_below}
@@ -12,13 +10,11 @@ use Rattle.session_model.specs.Runs.{IsRun}
 use Rattle.session_model.specs.Settings.{greeting, setting_of}
 use Rattle.session_model.specs.Shown.{Shows}
 use Rattle.sftp_text.specs.Texts.{text_of}
-use Rattle.session_exchange.specs.Causes.{Cause, EndCause}
-use Rattle.session_driver.specs.Logs.{Ends}
 use Rattle.sftp_lanes.specs.Reported.{KeepsServed}
 use Rattle.sftp_lanes.specs.Seen.{given}
 use Rattle.program_ends.specs.declared.ending.Answered.{Answered}
 use Rattle.program_ends.specs.declared.ending.Answered.TheVariants.{Done, Stopped, Refused}
-use Rattle.program_ends.specs.Texts.{error_line, error_name}
+use Rattle.program_ends.specs.Stopped.{IsStopped}
 
 -- ---- a whole run
 
@@ -36,26 +32,10 @@ pub record IsShown (last : Option LastLink) (script : Script) (text : List ℕ) 
   pub files : KeepsServed script.lanes (setting_of script.lanes script.options extensions past) past
   pub is : text ≡ text_of past (outcomes_below past (length script.lanes))
 
--- ---- a run that stopped
-
--- The run stopped with an error other than want of memory, and the line names it. The link failed only where its count
--- of faults rose and ended only where its last call found the end; any other error is the first thing that is wrong
--- with the frame that came last. The log shows how far the run had come.
-pub record IsStopped (last : Option LastLink) (script : Script) (text : List ℕ) : Type 0 where
-  pub error : Error
-  pub link : LastLink
-  pub back : last ≡ Some link
-  pub name : List ℕ
-  pub named : error_name error ≡ Some name
-  pub cause : Cause {T = Report} 0 link.faults (Err error)
-  pub end : EndCause {T = Report} link.ended (Err error)
-  pub stops : Ends (given script.lanes script.options) script.turns link.ended error [] link.log
-  pub is : text ≡ error_line name
-
--- ---- both
+-- ---- any run
 
 -- what is right to write for a run over a link: the run's text, or the error that stopped it
 abbrev pub RunsOver : Option LastLink → Script → Answered → List ℕ → Type 0
 RunsOver last script Done text = IsShown last script text
-RunsOver last script Stopped text = IsStopped last script text
+RunsOver last script Stopped text = IsStopped (given script.lanes script.options) script.turns last text
 RunsOver last script Refused text = ⊥

@@ -24,7 +24,7 @@ use Rattle.sftp_cli.specs.Words.{Asked, InMemory, AtPath, Bulk, Text}
 
 -- a script that the source gives is run over a server of its own files in memory, and the text of the run is written
 abbrev pub EndsScript : End → Option Serving → SourceView → SourceView → SinkView → SinkView → Type 0
-EndsScript = EndsInMemory script_of IsServerOf (IsPrinted form.Whole)
+EndsScript = EndsInMemory script_of (λ script. script) (IsPrinted form.Whole)
 
 -- a script that the source gives is run over a link to the server at a path, and the text of the run is written
 abbrev pub EndsScriptAt : {History : Type 0} → (List ℕ → History → History) → List ℕ → End → Outside History

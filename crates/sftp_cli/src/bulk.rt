@@ -5,8 +5,8 @@ ghost use Rattle.sftp_bulk.specs.Bulk.{bulk_script};
 ghost use Rattle.sftp_cli.specs.Ended.{EndsSummed};
 ghost use Rattle.sftp_cli.specs.Words.{IsBulk, bulk_of, numbers_in};
 
-use crate::printed::{Form, text_of_run};
-use program_ends::{Answered, Failure, write_answer};
+use crate::printed::Form;
+use program_ends::{Answered, Failure, text_in_memory, write_answer};
 use sftp_bulk::bulk_script;
 use sftp_link::Sink;
 use sftp_map_server::MapServer;
@@ -81,6 +81,6 @@ pub(crate) fn run_bulk<K: Sink>(
     ensures { EndsSummed (bulk_script numbers.start numbers.lanes numbers.calls) result kept.new (K.state sink.old) (K.state sink.new) }
 {
     let script = bulk_script(alloc, numbers.start, numbers.lanes, numbers.calls)?;
-    let text = text_of_run(alloc, Form::Summary, script, kept)?;
+    let text = text_in_memory(alloc, &Form::Summary, &script, kept)?;
     write_answer(sink, Answered::Done, &text)
 }

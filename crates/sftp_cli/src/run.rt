@@ -6,8 +6,8 @@ ghost use Rattle.sftp_cli.specs.Words.{asked_by};
 
 use crate::answer::{help_text, is_script, unix_path};
 use crate::bulk::{bulk_numbers, run_bulk};
-use crate::script::{run_script, run_unix};
-use program_ends::{answer_to, status_of, write_answer};
+use crate::printed::Form;
+use program_ends::{answer_in_memory, answer_over_link, answer_to, status_of, write_answer};
 use sftp_link::{Dial, Sink, Source};
 use sftp_map_server::MapServer;
 use std::alloc::Global;
@@ -43,9 +43,9 @@ pub fn run<S: Source, K: Sink, D: Dial>(
 {
     *kept = None;
     if is_script(words) {
-        status_of(run_script(alloc, source, sink, kept))
+        status_of(answer_in_memory(alloc, &Form::Whole, source, sink, kept))
     } else if let Some(path) = unix_path(words) {
-        status_of(run_unix(alloc, path, source, sink, dial))
+        status_of(answer_over_link(alloc, &Form::Whole, path, source, sink, dial))
     } else if let Some(numbers) = bulk_numbers(words) {
         status_of(run_bulk(alloc, numbers, sink, kept))
     } else {

@@ -6,7 +6,7 @@ use Rattle.program_ends.specs.Completed.{HasCauses}
 use Rattle.program_ends.specs.Ended.{End, status_of}
 use Rattle.program_ends.specs.Outside.{Outside}
 use Rattle.program_ends.proofs.Causing.{has_causes, memory_causes, sink_causes}
-use Rattle.sftp_mirror.specs.Ended.{EndsSo, IsListServer, ProgramEnds}
+use Rattle.sftp_mirror.specs.Ended.{EndsSo, ProgramEnds}
 use Rattle.sftp_mirror.specs.Lists.{list_of}
 use Rattle.sftp_mirror.specs.Printed.{IsCopied}
 use Rattle.sftp_mirror.specs.Words.{Asked, AtPath, InMemory, Text}
@@ -15,7 +15,7 @@ causes_so : {History : Type 0} (dialled : List ℕ → History → History) (ask
     (kept : Option Serving) (before now : Outside History) → EndsSo dialled asked end kept before now
     → HasCauses (status_of end) before now
 causes_so dialled (InMemory schedule) end kept before now h =
-    memory_causes list_of IsListServer (IsCopied schedule) end kept before now h.0 h.1
+    memory_causes list_of (λ list. list.script) (IsCopied schedule) end kept before now h.0 h.1
 causes_so dialled (AtPath path schedule) end kept before now h =
     has_causes end before now h.0.source_cause h.0.sink_cause h.0.dial_cause
 causes_so dialled (Text answered text) end kept before now h = sink_causes _ end before now h.0 h.2 h.3

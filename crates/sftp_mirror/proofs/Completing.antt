@@ -9,7 +9,7 @@ use Rattle.program_ends.proofs.Completing.{Unrefused, at_sink, in_memory, over_l
 use Rattle.sftp_mirror.specs.declared.schedule.Schedule.{Schedule}
 use Rattle.sftp_mirror.specs.Completed.{Completes}
 use Rattle.sftp_mirror.specs.Dialled.{RunsOver}
-use Rattle.sftp_mirror.specs.Ended.{EndsSo, IsListServer, ProgramEnds}
+use Rattle.sftp_mirror.specs.Ended.{EndsSo, ProgramEnds}
 use Rattle.sftp_mirror.specs.Lists.{list_of}
 use Rattle.sftp_mirror.specs.Printed.{IsCopied}
 use Rattle.sftp_mirror.specs.Words.{Asked, AtPath, InMemory, Text}
@@ -23,7 +23,7 @@ completes_so : {History : Type 0} (dialled : List ℕ → History → History) (
     → now.source.faults ≡ before.source.faults → now.sink.faults ≡ before.sink.faults
     → Completes asked (status_of end) before.source.left
 completes_so dialled (InMemory schedule) end kept before now h s k =
-    in_memory list_of IsListServer (IsCopied schedule) end kept before.source now.source before.sink now.sink
+    in_memory list_of (λ list. list.script) (IsCopied schedule) end kept before.source now.source before.sink now.sink
     long_refused h.0 s k
 completes_so dialled (AtPath path schedule) end kept before now h s k =
     over_link list_of (RunsOver schedule) dialled path end before now long_refused (unrefused schedule) h.0 s k

@@ -3,7 +3,7 @@ pub mod ListLaws
 pub mod CopyLaws
 pub mod Running
 pub mod Reading
-pub mod Exits
+pub mod AskedLaws
 pub mod Linked
 pub mod Completing
 pub mod Causing

@@ -1,6 +1,7 @@
 -- Files that are copied over a link whose log was empty, and what the dial tells of the link then.
 use Rattle.std.proofs.Common.{◌≡◌, ◌∙◌, ℕ, Bool, List, [], refl, ap, sym, subst}
-use Rattle.std.specs.Prelude.{Some, Err, reverse}
+use Rattle.std.specs.Prelude.{Some, Result, Err, IfOk, reverse}
+use Rattle.ssh_encoding.specs.declared.out_of_memory.OutOfMemory.{OutOfMemory}
 use Rattle.sftp_link.specs.declared.piece.Piece.{Piece}
 use Rattle.sftp_link.specs.Told.{Told}
 use Rattle.sftp_model.specs.declared.error.Error.{Error}
@@ -18,10 +19,12 @@ use Rattle.sftp_mirror.specs.declared.copy.CopyReport.{CopyReport}
 use Rattle.sftp_mirror.specs.declared.list.CopyList.{CopyList}
 use Rattle.sftp_mirror.specs.declared.schedule.Schedule.{Schedule}
 use Rattle.sftp_mirror.specs.Copies.{CopiesServed, IsCopyReport}
-use Rattle.program_ends.specs.Texts.{error_line, error_name}
-use Rattle.sftp_mirror.specs.Dialled.{IsShown, IsStopped}
+use Rattle.program_ends.specs.declared.ending.Answered.TheVariants.{Stopped}
+use Rattle.program_ends.specs.declared.printed.Printed.{Printed}
+use Rattle.program_ends.specs.Texts.{IsErrorLine}
+use Rattle.program_ends.proofs.Stopping.{from_empty, stopped_over}
+use Rattle.sftp_mirror.specs.Dialled.{IsShown, RunsOver}
 use Rattle.sftp_mirror.specs.Printed.{verdicts_in}
-use Rattle.sftp_mirror.proofs.Running.{from_empty}
 
 pub is_shown : (schedule : Schedule) (list : CopyList) (jobs : List Job) (before log : List Piece) (faults : ℕ) (ended : Bool) (r : CopyReport) (text : List ℕ)
     → jobs ≡ list.jobs → before ≡ []
@@ -50,26 +53,20 @@ is_shown schedule list jobs before log faults ended r text same none copied is =
           is = t ∙ ap (λ (v : List Verdict). verdict_lines list.jobs v) verdicts;
         }
 
-pub is_stopped : (schedule : Schedule) (list : CopyList) (jobs : List Job) (before log : List Piece) (first faults : ℕ)
-    (ended : Bool) (e : Error) (name text : List ℕ) → jobs ≡ list.jobs → before ≡ [] → first ≡ 0
+-- the run that copies a list's files stopped
+pub copy_stopped : (schedule : Schedule) (list : CopyList) (jobs : List Job) (before log : List Piece)
+    (first faults : ℕ) (ended : Bool) (e : Error) (r : Result Printed OutOfMemory) → jobs ≡ list.jobs → before ≡ []
+    → first ≡ 0
     → Told (Ends (given (lanes_of schedule.width jobs) list.script.options)
     (turns_of schedule.width schedule.rounds jobs) ended e) (Some (reverse before)) (Some log)
     → Cause {T = CopyReport} first faults (Err e) → EndCause {T = CopyReport} ended (Err e)
-    → error_name e ≡ Some name → text ≡ error_line name → IsStopped (Some (record { log = log; faults = faults; ended = ended })) schedule list text
-is_stopped schedule list jobs before log first faults ended e name text same none zero stops cause end named is =
-    record {
-      error = e;
-      link = record { log = log; faults = faults; ended = ended };
-      back = refl;
-      name = name;
-      named = named;
-      cause = subst (λ (n : ℕ). Cause {T = CopyReport} n faults (Err e)) zero cause;
-      end = end;
-      stops = subst (λ (j : List Job). Ends (given (lanes_of schedule.width j) list.script.options)
-          (turns_of schedule.width schedule.rounds j) ended e [] log) same
-          (from_empty (λ (b now : List Piece). Ends (given (lanes_of schedule.width jobs) list.script.options)
-          (turns_of schedule.width schedule.rounds jobs) ended e (reverse b) now) before log none stops);
-      is = is;
-    }
-
-pub ruleset over_links = (is_shown, is_stopped)
+    → IfOk r (λ reply. (reply.answered ≡ Stopped) × IsErrorLine e reply.text.items)
+    → IfOk r (λ reply. RunsOver schedule (Some (record { log = log; faults = faults; ended = ended })) list reply.answered
+    reply.text.items)
+copy_stopped schedule list jobs before log first faults ended e r same none zero stops cause end is =
+    stopped_over CopyReport (RunsOver schedule (Some (record { log = log; faults = faults; ended = ended })) list)
+    (given (lanes_of schedule.width list.jobs) list.script.options)
+    (turns_of schedule.width schedule.rounds list.jobs) before log first faults ended e r none zero
+    (subst (λ (j : List Job). Told (Ends (given (lanes_of schedule.width j) list.script.options)
+    (turns_of schedule.width schedule.rounds j) ended e) (Some (reverse before)) (Some log)) same stops) cause end is
+    (λ text h. h)

@@ -1,22 +1,18 @@
 -- What the program has to write for a list whose files are copied over a link to a server elsewhere.
-use Rattle.std.specs.Prelude.{◌≡◌, ℕ, List, [], Option, Some, Err}
+use Rattle.std.specs.Prelude.{◌≡◌, ℕ, List, [], Option, Some}
 use Rattle.sftp_link.specs.Views.{LastLink}
-use Rattle.sftp_model.specs.declared.error.Error.{Error}
 use Rattle.sftp_model.specs.declared.flags.Extensions.{Extensions}
 use Rattle.session_model.specs.declared.entry.Entry.{Entry}
 use Rattle.session_model.specs.Closes.{AreClosed}
 use Rattle.session_model.specs.Runs.{IsRun}
 use Rattle.session_model.specs.Settings.{greeting, setting_of}
 use Rattle.session_model.specs.Shown.{Shows}
-use Rattle.session_exchange.specs.Causes.{Cause, EndCause}
-use Rattle.session_driver.specs.Logs.{Ends}
 use Rattle.sftp_lanes.specs.Seen.{given}
 use Rattle.mirror_jobs.specs.JobLanes.{lanes_of, turns_of}
 use Rattle.mirror_jobs.specs.Verdicts.{verdict_lines}
-use Rattle.sftp_mirror.specs.declared.copy.CopyReport.{CopyReport}
 use Rattle.program_ends.specs.declared.ending.Answered.{Answered}
 use Rattle.program_ends.specs.declared.ending.Answered.TheVariants.{Done, Stopped, Refused}
-use Rattle.program_ends.specs.Texts.{error_line, error_name}
+use Rattle.program_ends.specs.Stopped.{IsStopped}
 use Rattle.sftp_mirror.specs.declared.list.CopyList.{CopyList}
 use Rattle.sftp_mirror.specs.declared.schedule.Schedule.{Schedule}
 use Rattle.sftp_mirror.specs.Copies.{CopiesServed}
@@ -39,27 +35,11 @@ pub record IsShown (last : Option LastLink) (schedule : Schedule) (list : CopyLi
   pub copies : CopiesServed list.jobs past (verdicts_in schedule list.jobs past)
   pub is : text ≡ verdict_lines list.jobs (verdicts_in schedule list.jobs past)
 
--- ---- a run that stopped
-
--- The run stopped with an error other than want of memory, and the line names it. The link failed only where its count
--- of faults rose and ended only where its last call found the end; any other error is the first thing that is wrong
--- with the frame that came last. The log shows how far the run had come.
-pub record IsStopped (last : Option LastLink) (schedule : Schedule) (list : CopyList) (text : List ℕ) : Type 0 where
-  pub error : Error
-  pub link : LastLink
-  pub back : last ≡ Some link
-  pub name : List ℕ
-  pub named : error_name error ≡ Some name
-  pub cause : Cause {T = CopyReport} 0 link.faults (Err error)
-  pub end : EndCause {T = CopyReport} link.ended (Err error)
-  pub stops : Ends (given (lanes_of schedule.width list.jobs) list.script.options)
-      (turns_of schedule.width schedule.rounds list.jobs) link.ended error [] link.log
-  pub is : text ≡ error_line name
-
--- ---- both
+-- ---- any run
 
 -- what is right to write for a run over a link: the text of its verdicts, or the error that stopped it
 abbrev pub RunsOver : Schedule → Option LastLink → CopyList → Answered → List ℕ → Type 0
 RunsOver schedule last list Done text = IsShown last schedule list text
-RunsOver schedule last list Stopped text = IsStopped last schedule list text
+RunsOver schedule last list Stopped text = IsStopped (given (lanes_of schedule.width list.jobs) list.script.options)
+    (turns_of schedule.width schedule.rounds list.jobs) last text
 RunsOver schedule last list Refused text = ⊥

@@ -7,26 +7,20 @@ use Rattle.program_ends.specs.Ended.{
   EndsAtSink,
   EndsInMemory,
   EndsOverLink,
-  IsServerOf,
   Only,
   status_of,
 }
 use Rattle.program_ends.specs.Outside.{Outside}
-use Rattle.sftp_mirror.specs.declared.list.CopyList.{CopyList}
 use Rattle.sftp_mirror.specs.declared.schedule.Schedule.{Schedule}
 use Rattle.sftp_mirror.specs.Dialled.{RunsOver}
 use Rattle.sftp_mirror.specs.Lists.{list_of}
 use Rattle.sftp_mirror.specs.Printed.{IsCopied}
 use Rattle.sftp_mirror.specs.Words.{Asked, AtPath, InMemory, Text}
 
--- the server was made of the list's lines of setup
-abbrev pub IsListServer : CopyList → Serving → Type 0
-IsListServer list server = IsServerOf list.script server
-
 -- the files of a list that the source gives are copied over a server of its own in memory, and the text of it is
 -- written
 abbrev pub EndsList : Schedule → End → Option Serving → SourceView → SourceView → SinkView → SinkView → Type 0
-EndsList schedule = EndsInMemory list_of IsListServer (IsCopied schedule)
+EndsList schedule = EndsInMemory list_of (λ list. list.script) (IsCopied schedule)
 
 -- the files of a list that the source gives are copied over a link to the server at a path, and the text of it is
 -- written

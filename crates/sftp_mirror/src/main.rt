@@ -3,7 +3,6 @@
 
 mod answer;
 mod copy;
-mod dialled;
 mod laws;
 mod list;
 mod names;
@@ -16,47 +15,27 @@ pub use copy::{CopyReport, copy_jobs};
 pub use laws::{copies_are_complete, statuses_have_causes};
 pub use list::{CopyList, read_list};
 pub use program::mirror;
-use program_ends::{NO_LINK, OUT_OF_MEMORY, cause_of};
+use program_ends::{OUT_OF_MEMORY, exit_with, words_given};
 use sftp_link::{ReadSource, UnixDial, WriteSink};
-use std::env;
-use std::io::ErrorKind;
+use ssh_encoding::OutOfMemory;
 use std::process::ExitCode;
 
 fn main(rt: HostRuntime) -> ExitCode {
-    let mut words = Vec::new(rt.alloc());
-    let mut starved = false;
-    match env::args(&rt) {
-        Ok(args) => {
-            for word in args.skip(1) {
-                starved |= words.push(word).is_err();
-            }
-        }
-        // an argument that is no text is no word, and no words are refused
-        Err(error) => starved = error.kind() == ErrorKind::OutOfMemory,
-    }
-    let status = if starved {
-        OUT_OF_MEMORY
-    } else {
-        let mut source = ReadSource::new(rt.stdin());
-        let mut sink = WriteSink::new(rt.stdout());
-        let mut dial = UnixDial::new(&rt);
-        let mut kept = None;
-        mirror(
-            rt.alloc(),
-            &words,
-            &mut source,
-            &mut sink,
-            &mut dial,
-            &mut kept,
-        )
+    let words = match words_given(&rt) {
+        Ok(words) => words,
+        Err(OutOfMemory) => return exit_with(&rt, "sftp_mirror", OUT_OF_MEMORY, ""),
     };
-    if let Some(cause) = cause_of(status) {
-        // where standard error fails too there is nobody to tell
-        let _ = if status == NO_LINK {
-            eprintln!(rt; "sftp_mirror: {cause} at {}", schedule::path_of(&words))
-        } else {
-            eprintln!(rt; "sftp_mirror: {cause}")
-        };
-    }
-    ExitCode::from(status)
+    let mut source = ReadSource::new(rt.stdin());
+    let mut sink = WriteSink::new(rt.stdout());
+    let mut dial = UnixDial::new(&rt);
+    let mut kept = None;
+    let status = mirror(
+        rt.alloc(),
+        &words,
+        &mut source,
+        &mut sink,
+        &mut dial,
+        &mut kept,
+    );
+    exit_with(&rt, "sftp_mirror", status, schedule::path_of(&words))
 }

@@ -5,9 +5,8 @@ ghost use Rattle.program_ends.specs.Outside.{MayFail};
 ghost use Rattle.sftp_mirror.specs.Words.{asked_by};
 
 use crate::answer::help_text;
-use crate::reply::{copy_at, copy_in_memory};
 use crate::schedule::{copy_schedule, path_of, unix_schedule};
-use program_ends::{answer_to, status_of, write_answer};
+use program_ends::{answer_in_memory, answer_over_link, answer_to, status_of, write_answer};
 use sftp_link::{Dial, Sink, Source};
 use sftp_map_server::MapServer;
 use std::alloc::Global;
@@ -41,9 +40,9 @@ pub fn mirror<S: Source, K: Sink, D: Dial>(
 {
     *kept = None;
     if let Some(schedule) = copy_schedule(words) {
-        status_of(copy_in_memory(alloc, schedule, source, sink, kept))
+        status_of(answer_in_memory(alloc, &schedule, source, sink, kept))
     } else if let Some(schedule) = unix_schedule(words) {
-        status_of(copy_at(alloc, path_of(words), schedule, source, sink, dial))
+        status_of(answer_over_link(alloc, &schedule, path_of(words), source, sink, dial))
     } else {
         let answer = answer_to(words, help_text());
         status_of(write_answer(sink, answer.answered, answer.text.as_bytes()))

@@ -1,58 +1,26 @@
--- How the program ends with a list, at each of its exits.
+-- What the words ask for, and what follows of a status.
 use Rattle.std.proofs.Common.{◌≡◌, ℕ, List, ap, refl, sym, subst}
-use Rattle.std.specs.Prelude.{Option, Some, None, Ok, Err, IfSome}
-use Rattle.sftp_link.specs.Views.{SinkView, SourceView}
+use Rattle.std.specs.Prelude.{Option, Some, None, Ok}
 use Rattle.sftp_map_server.specs.Serving.{Serving}
 use Rattle.program_ends.specs.Completed.{HasCause, HasCauses}
-use Rattle.program_ends.specs.Ended.{End, EndsAtSink, IsServerOf, Only, RightInMemory, status_of}
+use Rattle.program_ends.specs.Ended.{End, status_of}
 use Rattle.program_ends.specs.Outside.{Outside}
-use Rattle.program_ends.specs.Replies.{GivesBytes}
 use Rattle.program_ends.specs.Texts.{answered_of, text_of}
 use Rattle.program_ends.specs.declared.ending.Answered.{Answered}
-use Rattle.program_ends.specs.declared.ending.Failure.{Failure}
-use Rattle.program_ends.specs.declared.ending.Failure.TheVariants.{OutOfMemory}
 use Rattle.program_ends.proofs.Causing.{memory_causes, sink_causes}
 use Rattle.program_ends.proofs.Completing.{at_sink, in_memory}
-use Rattle.program_ends.proofs.Exits as ends
-use Rattle.program_ends.proofs.Exits.{Read, Serves, some_kept}
 use Rattle.program_ends.proofs.Reading.{RefusesLong}
 use Rattle.view_lists.specs.CacheSizes.{view_of}
 use Rattle.view_lists.specs.Lists.{list_of}
 use Rattle.view_lists.specs.declared.cache_size.CacheSize.{CacheSize}
-use Rattle.view_lists.specs.declared.list.ViewList.{ViewList}
 use Rattle.sftp_view.specs.Completed.{Completes}
-use Rattle.sftp_view.specs.Ended.{EndsList, EndsSo, IsListServer, ProgramEnds, Streams}
+use Rattle.sftp_view.specs.Ended.{EndsSo, ProgramEnds, Streams}
 use Rattle.sftp_view.specs.Printed.{IsViewed}
 use Rattle.sftp_view.specs.Words.{Asked, Text, Through, asked_by, help_text}
 
 -- too many bytes are no list
-long_refused : (block : ℕ) → RefusesLong (list_of block)
+pub long_refused : (block : ℕ) → RefusesLong (list_of block)
 long_refused block bytes h = rw h refl
-
-view_serves : (size : CacheSize) → Serves IsListServer (IsViewed size)
-view_serves size kept list text p = some_kept (IsListServer list) kept p.server p.is_kept p.first
-
--- the source was not read
-pub view_unread : (size : CacheSize) (why : Failure) (kept : Option Serving) (from now : SourceView) (to : SinkView)
-    → GivesBytes (Err why) from now → kept ≡ None → EndsList size (Err why) kept from now to to
-view_unread size = ends.memory_unread (list_of size.block) IsListServer (IsViewed size)
-
--- there was no memory for the answer
-pub view_starved : (size : CacheSize) (kept : Option Serving) (bytes : List ℕ) (from now : SourceView)
-    (to : SinkView) → Read bytes from now → now.faults ≡ from.faults
-    → IfSome kept (λ server. (list : ViewList) × (list_of size.block bytes ≡ Ok list) × IsServerOf list.script server)
-    → EndsList size (Err OutOfMemory) kept from now to to
-view_starved size kept bytes from now to =
-    ends.memory_starved (list_of size.block) IsListServer (IsViewed size) kept bytes from now to (long_refused size.block)
-
--- the answer was to be written
-pub view_answered : (size : CacheSize) (kept : Option Serving) (bytes text : List ℕ) (answered : Answered)
-    (end : End) (from now : SourceView) (to to_now : SinkView) → Read bytes from now → now.faults ≡ from.faults
-    → RightInMemory (IsViewed size) kept (list_of size.block bytes) answered text
-    → EndsAtSink (Only answered text) end to to_now → EndsList size end kept from now to to_now
-view_answered size kept bytes text answered end from now to to_now =
-    ends.memory_answered (list_of size.block) IsListServer (IsViewed size) kept bytes text answered end from now to to_now
-    (long_refused size.block) (view_serves size)
 
 -- ---- what the words ask for
 
@@ -68,7 +36,7 @@ completes_so : (asked : Asked) (end : End) (kept : Option Serving) (before now :
     → now.source.faults ≡ before.source.faults → now.sink.faults ≡ before.sink.faults
     → Completes asked (status_of end) before.source.left
 completes_so (Through size) end kept before now h s k =
-    in_memory (list_of size.block) IsListServer (IsViewed size) end kept before.source now.source before.sink now.sink
+    in_memory (list_of size.block) (λ list. list.script) (IsViewed size) end kept before.source now.source before.sink now.sink
     (long_refused size.block) h s k
 completes_so (Text answered text) end kept before now h s k =
     at_sink _ (status_of (Ok answered)) end before.sink now.sink (λ a t r. ap (λ (x : Answered). status_of (Ok x)) r.0) h.0 k
@@ -86,7 +54,7 @@ without_dial x = record { source = x.source; sink = x.sink; dial = record { faul
 causes_so : (asked : Asked) (end : End) (kept : Option Serving) (before now : Streams) → EndsSo asked end kept before now
     → HasCauses (status_of end) (without_dial before) (without_dial now)
 causes_so (Through size) end kept before now h =
-    memory_causes (list_of size.block) IsListServer (IsViewed size) end kept (without_dial before) (without_dial now) h refl
+    memory_causes (list_of size.block) (λ list. list.script) (IsViewed size) end kept (without_dial before) (without_dial now) h refl
 causes_so (Text answered text) end kept before now h = sink_causes _ end (without_dial before) (without_dial now) h.0 h.2 refl
 
 pub causes : (asked : Asked) (status : ℕ) (kept : Option Serving) (before now : Streams) → ProgramEnds asked status kept before now

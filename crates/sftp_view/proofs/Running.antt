@@ -1,6 +1,6 @@
--- A view over a server that nothing was sent to: its session is served, and stops only for want of memory.
+-- A view over a server that nothing was sent to: its session is served.
 use Rattle.std.proofs.Common.{◌≡◌, ◌≤◌, ℕ, suc, true, List, [], ◌∷◌, All, refl, ap, sym, ◌∙◌, subst, arith}
-use Rattle.std.specs.Prelude.{Option, Some, None, Result, Ok, Err, IfErr, IfOk, IfSome, IsSomeAnd, Vec, nat_le}
+use Rattle.std.specs.Prelude.{Option, Some, None, Result, Ok, Err, IfOk, Vec, nat_le}
 use Rattle.std.specs.declared.alloc.Global.{Global}
 use Rattle.std.specs.List.{list_all, sum_by}
 use Rattle.std.proofs.lemmas.Bool.{and_parts}
@@ -8,35 +8,26 @@ use Rattle.std.proofs.lemmas.Bool.Decides.{nat_tests}
 use Rattle.ssh_encoding.specs.declared.out_of_memory.OutOfMemory.{OutOfMemory}
 use Rattle.sftp_model.specs.Fits.{FitsNumber}
 use Rattle.sftp_model.specs.declared.config.Choice.{Choice}
-use Rattle.sftp_model.specs.declared.error.Error.{Error}
-use Rattle.sftp_model.specs.declared.error.Error.TheVariants as error
 use Rattle.sftp_model.specs.declared.options.SftpOptions.{SftpOptions}
-use Rattle.machine_model.specs.FirstTree.{FirstFile}
 use Rattle.machine_model.specs.FitTrees.{IsFit}
 use Rattle.sftp_model.specs.Numbers.{SSH_FX_OK}
 use Rattle.machine_model.proofs.FirstFits.{first_fits}
-use Rattle.machine_model.proofs.FirstFiles.{first_well_formed}
-use Rattle.machine_model.specs.Changes.{IsWellFormed}
 use Rattle.session_model.specs.Calls.{Setting, added}
 use Rattle.session_model.specs.Readings.{answer, outcomes_of}
 use Rattle.session_model.specs.Served.{Serves}
 use Rattle.session_model.specs.Settings.{greeting, setting_of}
 use Rattle.session_model.specs.Shown.{Shows}
 use Rattle.session_model.specs.declared.entry.Entry.{Entry}
-use Rattle.sftp_link.specs.declared.piece.Piece.{Piece}
-use Rattle.sftp_lanes.specs.Complete.{StopsForMemory}
-use Rattle.sftp_lanes.specs.Seen.{given}
-use Rattle.sftp_script.specs.declared.script.Script.{Script}
-use Rattle.sftp_map_server.specs.Serving.{ServerState, IsServed, IsServing, Server, Serving, first_state, opened, server_view}
-use Rattle.sftp_map_server.specs.Unopened.{IsUnopened, unopened}
+use Rattle.sftp_map_server.specs.Serving.{ServerState, IsServed, IsServing, Server, Serving, first_state, opened}
+use Rattle.sftp_map_server.specs.Unopened.{IsUnopened}
 use Rattle.map_server_laws.proofs.Numbering.{numbered_by}
 use Rattle.map_server_laws.proofs.Owing.{due}
 use Rattle.map_server_laws.proofs.Replying.{AllCodes, greeted_at}
 use Rattle.map_server_laws.proofs.Serving.{serves_by}
 use Rattle.map_server_laws.proofs.Showing.{AnswersBy, IsFirst, answers_by, shows_served, shows_version}
 use Rattle.map_server_laws.proofs.Stopping.{sound_at}
-use Rattle.map_server_laws.proofs.Whole.{server_serves}
 use Rattle.program_ends.specs.Ended.{IsServerOf}
+use Rattle.program_ends.proofs.Stopping.{begins_well, from_empty}
 use Rattle.view_lists.specs.CacheSizes.{IsCacheSize}
 use Rattle.view_lists.specs.CanView.{CanView, refuses_nothing}
 use Rattle.run_laws.specs.Steps.{RefuseNone}
@@ -59,9 +50,6 @@ use Rattle.sftp_view.proofs.CalledLaws.{few_called}
 all_codes : (choices : List Choice) → All (λ choice. FitsNumber choice.refuse) choices → AllCodes choices
 all_codes [] h = tt
 all_codes (c ∷ choices) h = (h 0 c (omega arith), all_codes choices (λ k d lt. h (suc k) d (omega (arith, lt))))
-
-begins_well : (first : Server) → IsUnopened first → IsWellFormed first.state.machine.tree
-begins_well first u = subst (λ (x : Server). IsWellFormed x.state.machine.tree) (sym u.is) (first_well_formed u.files u.dirs u.may)
 
 first_is : (first : Server) → IsUnopened first → IsFirst first.state
 first_is first new =
@@ -101,10 +89,6 @@ few_viewed block capacity ops past may calls =
     let all = all_counted block ops may.some in
     let w = (within_viewed block capacity ops [] nothing_kept).by (outcomes_of past 0) in
     subst (AreFew call_limit) (sym calls) (record { light = w.light; few = (let x = w.few in omega (arith, x, all, sum)) })
-
--- the log was empty
-from_empty : {A : Type 0} (R : List A → List A → Type 0) (before now : List A) → before ≡ [] → R before now → R [] now
-from_empty R before now none h = subst (λ b. R b now) none h
 
 pub served_view : (size : CacheSize) (ops : List ViewOp) (options : SftpOptions) (old now : Serving) (r : ViewReport)
     → MayView size.block size.capacity ops → IsUnopened old.first → old.log ≡ [] → now.first ≡ old.first
@@ -149,27 +133,7 @@ served_view size ops options old now r may new none same serving report =
       plain = λ unrefused. report.plain f.machine.config f.choices f.machine.tree now.now.state.machine.tree unrefused (begins_well now.first fresh) serves;
     }
 
--- the error is want of memory
-pub only_for_memory : (options : SftpOptions) (old now : Serving) (e : Error) → IsUnopened old.first
-    → old.log ≡ [] → now.first ≡ old.first → IsServing now.first now.now now.log now.ended
-    → StopsForMemory (given one_lane options) (server_view old) (server_view now) e → e ≡ error.OutOfMemory
-only_for_memory options old now e new none same serving stops =
-    stops now.log (ap (λ (l : List Piece). Some l) none) refl
-    (server_serves (given one_lane options) now refl (subst IsUnopened (sym same) new) serving) refl
-
 -- ---- the text
-
--- a report that a text was made of, over a server that is kept
-abbrev ViewText : CacheSize → List ViewOp → SftpOptions → Serving → List ℕ → Type 0
-ViewText size ops options now text = (report : ViewReport) × IsServedView size ops options now report
-    × (text ≡ view_text report now.now.state.machine.tree)
-
--- the server of a script's files and directories is the script's
-first_of : (script : Script) (files : List FirstFile) (dirs : List (List ℕ)) (old : Serving) → files ≡ script.files
-    → dirs ≡ script.dirs → old ≡ unopened files dirs script.server script.choices script.picks → IsServerOf script old
-first_of script files dirs old f d is =
-    ap (λ (s : Serving). s.first) is
-    ∙ (λ i. opened (first_state (f i) (d i) script.server script.choices) script.picks)
 
 is_unrefused : (choice : Choice) → refuses_nothing choice ≡ true → choice.refuse ≡ SSH_FX_OK
 is_unrefused choice e = grind (arith, nat_tests)
@@ -180,38 +144,27 @@ unrefused (c ∷ choices) e =
     let both = and_parts (refuses_nothing c) (list_all refuses_nothing choices) e in
     (is_unrefused c both.0, unrefused choices both.1)
 
--- over the server of a list, which was kept, it is the list's
-pub viewed_if : (size : CacheSize) (list : ViewList) (kept : Option Serving) (files : List FirstFile) (dirs : List (List ℕ))
-    (ops : List ViewOp) (old : Serving) (r : Result (Vec ℕ Global) OutOfMemory)
-    → CanView size.block list → files ≡ list.script.files → dirs ≡ list.script.dirs → ops ≡ list.ops
-    → old ≡ unopened files dirs list.script.server list.script.choices list.script.picks → IsSomeAnd kept (λ now. now.first ≡ old.first)
-    → IfOk r (λ text. IsSomeAnd kept (λ now. ViewText size ops list.script.options now text.items))
-    → IfOk r (λ text. IsViewed size kept list text.items)
-viewed_if size list kept files dirs ops old (Err e) can f d o is same run = tt
-viewed_if size list None files dirs ops old (Ok text) can f d o is same run = absurd same
-viewed_if size list (Some now) files dirs ops old (Ok text) can f d o is same run =
-    let run_now : ViewText size list.ops list.script.options now text.items =
-    subst (λ (x : List ViewOp). ViewText size x list.script.options now text.items) o run in
-    let first : IsServerOf list.script now = same ∙ first_of list.script files dirs old f d is in
+-- the text of operations that were done over the server of a list
+pub is_viewed : (size : CacheSize) (list : ViewList) (ops : List ViewOp) (old now : Serving) (report : ViewReport)
+    (r : Result (Vec ℕ Global) OutOfMemory) → CanView size.block list → ops ≡ list.ops → IsServerOf list.script old
+    → now.first ≡ old.first → IsServedView size ops list.script.options now report
+    → IfOk r (λ text. text.items ≡ view_text report now.now.state.machine.tree)
+    → IfOk r (λ text. IsViewed size (Some now) list text.items)
+is_viewed size list ops old now report (Err e) can o from same run is = tt
+is_viewed size list ops old now report (Ok text) can o from same run is =
+    let run_now : IsServedView size list.ops list.script.options now report =
+    subst (λ (x : List ViewOp). IsServedView size x list.script.options now report) o run in
+    let first : IsServerOf list.script now = same ∙ from in
     record {
       server = now;
       is_kept = refl;
       first = first;
-      plain = run_now.1.plain
+      plain = run_now.plain
           (subst RefuseNone (sym (ap (λ (w : Server). w.state.choices) first)) (unrefused list.script.choices can.unrefused));
-      report = run_now.0;
-      run = run_now.1;
-      is = run_now.2;
+      report = report;
+      run = run_now;
+      is = is;
     }
-
--- and the server that is kept is the script's, whatever came of the session
-pub kept_if : (script : Script) (kept : Option Serving) (files : List FirstFile) (dirs : List (List ℕ)) (old : Serving)
-    (r : Result (Vec ℕ Global) OutOfMemory) → files ≡ script.files → dirs ≡ script.dirs
-    → old ≡ unopened files dirs script.server script.choices script.picks → IsSomeAnd kept (λ now. now.first ≡ old.first)
-    → IfErr r (λ _. IfSome kept (λ server. IsServerOf script server))
-kept_if script kept files dirs old (Ok text) f d is same = tt
-kept_if script None files dirs old (Err e) f d is same = tt
-kept_if script (Some now) files dirs old (Err e) f d is same = same ∙ first_of script files dirs old f d is
 
 -- a list that was read may be viewed
 pub may_view : (size : CacheSize) (list : ViewList) (ops : List ViewOp) → ops ≡ list.ops → IsCacheSize size → CanView size.block list

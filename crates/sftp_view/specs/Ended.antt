@@ -2,10 +2,9 @@
 use Rattle.std.specs.Prelude.{◌≡◌, ◌<◌, ◌-◌, ◌^◌, ℕ, Option, None}
 use Rattle.sftp_link.specs.Views.{SinkView, SourceView}
 use Rattle.sftp_map_server.specs.Serving.{Serving}
-use Rattle.program_ends.specs.Ended.{End, EndsAtSink, EndsInMemory, IsServerOf, Only, status_of}
+use Rattle.program_ends.specs.Ended.{End, EndsAtSink, EndsInMemory, Only, status_of}
 use Rattle.view_lists.specs.Lists.{list_of}
 use Rattle.view_lists.specs.declared.cache_size.CacheSize.{CacheSize}
-use Rattle.view_lists.specs.declared.list.ViewList.{ViewList}
 use Rattle.sftp_view.specs.Printed.{IsViewed}
 use Rattle.sftp_view.specs.Words.{Asked, Text, Through}
 
@@ -19,14 +18,10 @@ pub record MayFail (streams : Streams) : Type 0 where
   pub source : streams.source.faults < 2 ^ 64 - 1
   pub sink : streams.sink.faults < 2 ^ 64 - 1
 
--- the server was made of the list's lines of setup
-abbrev pub IsListServer : ViewList → Serving → Type 0
-IsListServer list server = IsServerOf list.script server
-
 -- the operations of a list that the source gives are done over a server of its own in memory, and the text of it is
 -- written
 abbrev pub EndsList : CacheSize → End → Option Serving → SourceView → SourceView → SinkView → SinkView → Type 0
-EndsList size = EndsInMemory (list_of size.block) IsListServer (IsViewed size)
+EndsList size = EndsInMemory (list_of size.block) (λ list. list.script) (IsViewed size)
 
 -- by what is asked for: how it ends, what is kept, and that what is not needed stays as it was
 abbrev pub EndsSo : Asked → End → Option Serving → Streams → Streams → Type 0

@@ -5,8 +5,8 @@ ghost use Rattle.sftp_view.specs.Ended.{MayFail, ProgramEnds};
 ghost use Rattle.sftp_view.specs.Words.{asked_by};
 
 use crate::answer::help_text;
-use crate::reply::view_list;
-use program_ends::{answer_to, status_of, write_answer};
+use crate::reply::CachedView;
+use program_ends::{answer_in_memory, answer_to, status_of, write_answer};
 use sftp_link::{Sink, Source};
 use sftp_map_server::MapServer;
 use std::alloc::Global;
@@ -36,7 +36,8 @@ pub fn view<S: Source, K: Sink>(
 {
     *kept = None;
     if let Some(size) = view_size(words) {
-        status_of(view_list(alloc, size, source, sink, kept))
+        let view = CachedView { size };
+        status_of(answer_in_memory(alloc, &view, source, sink, kept))
     } else {
         let answer = answer_to(words, help_text());
         status_of(write_answer(sink, answer.answered, answer.text.as_bytes()))

@@ -1,63 +1,55 @@
-//! The bytes of a list are read, its operations are done or it is refused, and the answer is written.
-ghost use Rattle.std.specs.Prelude.{◌≡◌, ◌<◌, ◌-◌, ◌^◌, None, Ok, IfOk, IfErr, IfSome};
-ghost use Rattle.program_ends.specs.Ended.{IsServerOf, RightInMemory};
+//! How the operations of a list are done through a cache, over a server in memory, and what is written of it.
 ghost use Rattle.view_lists.specs.CacheSizes.{IsCacheSize};
-ghost use Rattle.view_lists.specs.declared.list.ViewList.{ViewList};
+ghost use Rattle.view_lists.specs.CanView.{CanView};
 ghost use Rattle.view_lists.specs.Lists.{list_of};
-ghost use Rattle.sftp_view.specs.Ended.{EndsList};
 ghost use Rattle.sftp_view.specs.Printed.{IsViewed};
 
-use crate::printed::text_of_view;
-use program_ends::{Answered, Failure, Printed, read_bytes, refuse, write_answer};
-use sftp_link::{Sink, Source};
+use crate::printed::{view_served, view_text};
+use program_ends::Program;
 use sftp_map_server::MapServer;
-use sftp_script::ScriptError;
+use sftp_script::{Script, ScriptError};
 use ssh_encoding::OutOfMemory;
 use std::alloc::Global;
-use view_lists::{CacheSize, read_list};
+use view_lists::{CacheSize, ViewList, read_list};
 
-/// The answer to the bytes of a list, over a server of its files in memory, which is left in `kept`, also where the session
-/// stopped for want of memory.
-fn reply_to(
-    alloc: Global,
-    bytes: &[u8],
-    size: CacheSize,
-    kept: &mut Option<MapServer>,
-) -> Result<Printed, OutOfMemory>
-    requires size { IsCacheSize size }
-    requires none { kept.old ≡ None }
-    ensures ok { IfOk result (λ reply. RightInMemory (IsViewed size) kept.new (list_of size.block bytes.now) reply.answered reply.text.items) }
-    ensures err { IfErr result (λ _. IfSome kept.new (λ server. (list : ViewList) × (list_of size.block bytes.now ≡ Ok list) × IsServerOf list.script server)) }
-{
-    match read_list(alloc, size.block, bytes) {
-        Ok(list) => {
-            let text = text_of_view(alloc, size, list, kept)?;
-            Ok(Printed {
-                answered: Answered::Done,
-                text,
-            })
-        }
-        Err(ScriptError::OutOfMemory) => Err(OutOfMemory),
-        Err(ScriptError::Line { line, reason }) => refuse(alloc, line, reason),
-    }
+/// A view through a cache of this size.
+#[derive(Clone, Copy, Debug, PartialEq, Eq)]
+pub(crate) struct CachedView {
+    pub(crate) size: CacheSize,
 }
 
-/// Reads a list, does its operations over a server in memory and writes the text of it, or writes why the list is refused.
-/// The server is left in `kept`.
-pub(crate) fn view_list<S: Source, K: Sink>(
-    alloc: Global,
-    size: CacheSize,
-    source: &mut S,
-    sink: &mut K,
-    kept: &mut Option<MapServer>,
-) -> Result<Answered, Failure>
-    requires size { IsCacheSize size }
-    requires source { (S.state source.old).faults < 2 ^ 64 - 1 }
-    requires sink { (K.state sink.old).faults < 2 ^ 64 - 1 }
-    requires none { kept.old ≡ None }
-    ensures { EndsList size result kept.new (S.state source.old) (S.state source.new) (K.state sink.old) (K.state sink.new) }
-{
-    let bytes = read_bytes(alloc, source)?;
-    let reply = reply_to(alloc, &bytes, size, kept)?;
-    write_answer(sink, reply.answered, &reply.text)
+impl Program for CachedView {
+    type Value = ViewList;
+
+    ghost may = { λ view. IsCacheSize view.size };
+
+    ghost reads = { λ view. list_of view.size.block };
+
+    ghost can = { λ view. CanView view.size.block };
+
+    ghost setup = { λ list. list.script };
+
+    ghost right = { λ view. IsViewed view.size };
+
+    #[tactic(auto, using(crate::proofs::Exits::long_refused))]
+    fn read(&self, alloc: Global, bytes: &[u8]) -> Result<ViewList, ScriptError> {
+        read_list(alloc, self.size.block, bytes)
+    }
+
+    fn setup_of<'a>(&self, list: &'a ViewList) -> &'a Script {
+        &list.script
+    }
+
+    /// Does the operations, and gives the text of what each was answered and of what is left.
+    #[tactic(auto, using(crate::proofs::Running::is_viewed, crate::proofs::Running::may_view))]
+    fn text_over(
+        &self,
+        alloc: Global,
+        server: &mut MapServer,
+        list: &ViewList,
+    ) -> Result<Vec<u8>, OutOfMemory> {
+        let ops = list.ops.as_slice();
+        let report = view_served(alloc, server, self.size, ops, &list.script.options)?;
+        view_text(alloc, &report, server)
+    }
 }

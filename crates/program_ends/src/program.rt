@@ -1,0 +1,91 @@
+//! What a program is: what it reads, and how that is run.
+ghost use Rattle.std.specs.Prelude.{◌≡◌, [], Some, Ok, IfOk, IfErr};
+ghost use Rattle.sftp_link.specs.Views.{last_of};
+ghost use Rattle.sftp_script.specs.CanRun.{CanBegin};
+ghost use Rattle.sftp_script.specs.Refusals.{RefusesScript};
+ghost use Rattle.program_ends.specs.Ended.{IsNewServer, RefusesLong};
+
+use crate::printed::Printed;
+use sftp_link::{Link, Logged};
+use sftp_map_server::MapServer;
+use sftp_script::{Script, ScriptError};
+use ssh_encoding::OutOfMemory;
+use std::alloc::Global;
+
+/// A program that reads a value and runs it over a server in memory.
+pub trait Program {
+    ghost use Rattle.std.specs.Prelude.{ℕ, List, Option};
+    ghost use Rattle.sftp_map_server.specs.Serving.{Serving};
+    ghost use Rattle.sftp_script.specs.declared.script.Script.{Script as Setup};
+    ghost use Rattle.program_ends.specs.Ended.{ReadAs};
+
+    /// What it reads.
+    type Value: Drop;
+
+    // Whether its own numbers are within their ranges.
+    ghost may: { Self → Type 0 };
+
+    // What bytes read as.
+    ghost reads: { Self → List ℕ → ReadAs Self.Value };
+
+    // What is known of a value that was read.
+    ghost can: { Self → Self.Value → Type 0 };
+
+    // The lines of setup of a value.
+    ghost setup: { Self.Value → Setup };
+
+    // Which text is right for a value, over the server that is kept.
+    ghost right: { Self → Option Serving → Self.Value → List ℕ → Type 0 };
+
+    /// Reads a value. Refused with the number of the first line that is none of a value, and why, and for more bytes than
+    /// may be read at line 0. `OutOfMemory` may come in place of any answer.
+    fn read(&self, alloc: Global, bytes: &[u8]) -> Result<Self::Value, ScriptError>
+        ensures ok { IfOk result (λ value. reads self.now bytes.now ≡ Ok value) }
+        ensures can { IfOk result (can self.now) }
+        ensures refused { IfErr result (λ e. RefusesScript (reads self.now bytes.now) e) }
+        ensures long { RefusesLong (reads self.now) };
+
+    /// The lines of setup of a value.
+    fn setup_of<'a>(&self, value: &'a Self::Value) -> &'a Script
+        requires { can self.now value.now }
+        ensures is { result.now ≡ setup value.now }
+        ensures begins { CanBegin (setup value.now) };
+
+    /// Runs a value over its server, to which nothing was sent, and gives the text of the run and of what is left there.
+    /// The error is want of memory.
+    fn text_over(
+        &self,
+        alloc: Global,
+        server: &mut MapServer,
+        value: &Self::Value,
+    ) -> Result<Vec<u8>, OutOfMemory>
+        requires may { may self.now }
+        requires can { can self.now value.now }
+        requires new { IsNewServer (setup value.now) server.old }
+        ensures text { IfOk result (λ text. right self.now (Some server.new) value.now text.items) }
+        ensures first { server.new.first ≡ server.old.first };
+}
+
+/// A program that runs a value over any link too.
+pub trait LinkProgram: Program {
+    ghost use Rattle.std.specs.Prelude.{ℕ, List, Option};
+    ghost use Rattle.sftp_link.specs.Views.{LastLink};
+    ghost use Rattle.program_ends.specs.declared.ending.Answered.{Answered};
+
+    // Which answer is right for a value, over a link that was put back.
+    ghost over: { Self → Option LastLink → Self.Value → Answered → List ℕ → Type 0 };
+
+    /// Runs a value over a link that nothing was moved on, and gives the text of the run, or the line of the error that
+    /// stopped it. The error is want of memory.
+    fn reply_over<L: Link>(
+        &self,
+        alloc: Global,
+        link: &mut Logged<L>,
+        value: &Self::Value,
+    ) -> Result<Printed, OutOfMemory>
+        requires may { Self.may self.now }
+        requires can { Self.can self.now value.now }
+        requires quiet { link.old.pieces ≡ [] }
+        requires unfailed { (L.LinkState.state link.old.link).faults ≡ 0 }
+        ensures { IfOk result (λ reply. over self.now (Some (last_of L.LinkState.state link.new)) value.now reply.answered reply.text.items) };
+}
