@@ -2,11 +2,11 @@
 """Measures the program: how time and memory of the core alone, and of a run, grow with the requests in flight; how long many
 small files take over OpenSSH's server beside `sftp -b`, how long some files of a few kilobytes take up and down, and how long
 one large file takes, by scripts and by sftp_transfer; how long many reads through sftp_view's cache take; and how long OpenSSH's
-client takes over the server of crates/sftp_serve, beside its own; and what lanes take that run in threads, beside one driver
-of them. It prints tables, is no part of the gate, and takes half an hour or more.
+client takes over the server of crates/sftp_serve, beside its own; and what lanes take that run in threads, in time beside one driver of
+them, and in memory. It prints tables, is no part of the gate, and takes half an hour or more.
 
     python3 tools/bench.py [FIRST] [LAST]     requests in flight, doubled from FIRST to LAST: from 5000 to 40000
-    python3 tools/bench.py threads            the table of threads alone
+    python3 tools/bench.py threads            the tables of threads alone
 
 A ratio of 2 at a doubling is linear. `sftp` waits for each reply, so it is measured at FIRST alone where replies are late.
 BENCH_LIMIT is the most seconds that one run may take: 1200. Memory below that of python3 itself, some 15 MiB, shows as that.
@@ -33,8 +33,8 @@ LARGE_DOWN, LARGE_UP = 1 << 28, 8000000
 GETS, VIEWED_BYTES, VIEW_BLOCK, VIEW_CAPACITY = 10000, 1 << 20, 4096, 64
 # what OpenSSH's client does over either server: so many files of so many bytes up and down, so many directories made and removed
 SERVED_FILES, SERVED_BYTES, SERVED_DIRECTORIES = 4, 1 << 24, 5000
-# lanes in threads, each of which so often writes a file, reads it and asks for its attributes
-THREAD_LANES, THREAD_ROUNDS = 16, 60
+# lanes in threads, each of which so often writes a file, reads it and asks for its attributes; and the bytes of a file that is read whole
+THREAD_LANES, THREAD_ROUNDS, WHOLE_BYTES = 16, 60, 1 << 24
 
 
 # ---- scripts
@@ -102,6 +102,11 @@ def lanes_in_rounds(folder):
             name = digits(f"{home}/{k}")
             lines += [f"fs_write {name} 68656c6c6f", f"fs_read {name} 9", f"stat {name}"]
     return "\n".join(lines) + "\n"
+
+
+def whole_reads(path, reads):
+    """One lane that reads a file so often, each time to its end."""
+    return "\n".join(["lane", "stat " + digits(path)] + [f"fs_read {digits(path)} {WHOLE_BYTES}"] * reads) + "\n"
 
 
 # ---- measuring
@@ -282,6 +287,17 @@ def table_of_threads(folder):
         row(f"over OpenSSH's server, {words}", min(runs) if all(runs) else None)
 
 
+def table_of_receipts(folder):
+    """The memory of whole reads in a session that threads share, by a program that prints numbers alone: what a read gave stands in its
+    outcome, in the journal and in a receipt."""
+    print(f"whole reads of {WHOLE_BYTES} bytes over OpenSSH's server, by threads")
+    path = os.path.join(folder, "receipts")
+    serve(path, False)
+    large, before = made(folder, "whole", WHOLE_BYTES), None
+    for reads in (0, 1, 2, 4):
+        before = row(f"{reads} reads", best(folder, [THREADED, "counts", path], whole_reads(large, reads), 3), before)
+
+
 def table_of_servers(folder):
     """OpenSSH's client over the server in memory, and over OpenSSH's own, whose files are in a folder of the disk."""
     print("OpenSSH's client over either server")
@@ -309,12 +325,13 @@ def made(folder, name, length):
 
 
 def main_of_threads():
-    """The table of threads alone."""
+    """The tables of threads alone."""
     for needed in (PROGRAM, SHARER, THREADED, SERVER):
         if not os.access(needed, os.X_OK):
             sys.exit(f"bench: {needed} is missing")
     with tempfile.TemporaryDirectory() as folder:
         table_of_threads(folder)
+        table_of_receipts(folder)
 
 
 def main():
@@ -339,6 +356,7 @@ def main():
             sys.exit(f"bench: no comparison with sftp, missing: {' '.join(missing)}")
         table_of_servers(folder)
         table_of_threads(folder)
+        table_of_receipts(folder)
         names = [os.path.join(folder, str(k)) for k in range(sizes[-1])]
         for name in names:
             with open(name, "w") as f:

@@ -1,7 +1,7 @@
 #!/bin/sh
 # Looks for races in the programs whose threads share a session: by tools/races.py, which makes them anew for ThreadSanitizer, over the
-# server in memory, and over OpenSSH's SFTP server at a Unix socket, where that and socat are there; and by valgrind's helgrind and drd
-# over those that `rt ci` built, where there are such. It takes some minutes, is no part of the gate,
+# server in memory, over replies that are laid out, and over OpenSSH's SFTP server at a Unix socket, where that and socat are there;
+# and by valgrind's helgrind and drd over those that `rt ci` built, where there are such. It takes some minutes, is no part of the gate,
 # and installs nothing. The lock round a session is made of atomic numbers and of the system's futex, which ThreadSanitizer follows and
 # valgrind doesn't: so what helgrind and drd report is counted and shown, and the status is that of ThreadSanitizer's runs alone.
 set -u
@@ -53,6 +53,7 @@ lanes named >"$room/memory"
 lanes at >"$room/disk"
 look 'sixteen lanes over the server in memory' sftp_share <"$room/memory"
 look 'eight lanes over the server in memory, twice' share_examples runs 2 </dev/null
+look 'eight lanes over replies that are laid out' share_examples sheet </dev/null
 if [ -x "$server" ] && command -v socat >/dev/null; then
     socat "UNIX-LISTEN:$room/socket,fork" "EXEC:$server" 2>/dev/null &
     listener=$!

@@ -1,9 +1,9 @@
 #!/bin/sh
 # Runs the program of crates/share_examples: a hundred runs of eight lanes over the server in memory, whose receipts are compared with
-# their journals; and, where OpenSSH's SFTP server and socat are there, sixteen lanes in threads over it, with 1,000 files up and
-# 1,000 down that are compared, and servers that end in the middle or are killed, behind which each thread ends. It installs nothing:
-# where the server or socat is missing it says which, and passes over that part. Another program than the one that `rt ci` built may
-# be given.
+# their journals; five of eight lanes over replies that are laid out beforehand, whose outcomes are those that these replies bring;
+# and, where OpenSSH's SFTP server and socat are there, sixteen lanes in threads over it, with 1,000 files up and 1,000 down
+# that are compared, and servers that end in the middle or are killed, behind which each thread ends. It installs nothing: where the
+# server or socat is missing it says which, and passes over that part. Another program than the one that `rt ci` built may be given.
 set -u
 case ${1-} in
 '' | /*) program=${1-} ;;
@@ -40,6 +40,25 @@ tell() {
 
 timeout 300 "$program" runs 100 2>"$room/err"
 tell 'a hundred runs of eight lanes' $?
+
+# ---- replies that are laid out beforehand
+
+# the outcomes that they bring: a size spelled by the lane's letter and the call's number, MKDIR done, REMOVE refused, a file written
+awk 'BEGIN {
+    for (lane = 0; lane < 8; lane++)
+        for (k = 0; k < 200; k++) {
+            outcome = "done"
+            if (k % 4 == 0) outcome = sprintf("meta 00000001000000000000%02x%02x", 97 + lane, k)
+            if (k % 4 == 2) outcome = "refused sftp 2"
+            print "lane", lane, "call", k, outcome
+        }
+}' >"$room/wanted"
+for _ in 1 2 3 4 5; do
+    timeout 60 "$program" sheet >"$room/text" 2>"$room/err" &&
+        grep '^lane' "$room/text" >"$room/outcomes" && cmp "$room/wanted" "$room/outcomes" >>"$room/err" &&
+        [ "$(grep -c '^> ' "$room/text")" -eq 2400 ] && [ "$(grep -c '^< ' "$room/text")" -eq 2400 ]
+    tell 'replies that are laid out' $?
+done
 
 # ---- over OpenSSH's server
 

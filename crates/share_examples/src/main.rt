@@ -1,8 +1,10 @@
-//! Programs over `tasks_run`, each proved: a script whose lanes run in threads over a server at a Unix socket, and many runs over
-//! the server in memory whose receipts are compared with their journals.
+//! Programs over `tasks_run`, each proved: a script whose lanes run in threads over a server at a Unix socket, lanes over replies that
+//! are laid out beforehand, and many runs over the server in memory whose receipts are compared with their journals.
 #![tactic(auto)]
 
+mod laid_out;
 mod receipts;
+mod sheet;
 mod socket;
 
 use shared_map::MapPair;
@@ -12,28 +14,37 @@ use std::process::ExitCode;
 /// What `--help` prints.
 const USAGE: &str = "share_examples unix SOCKET\n\
     unix: runs the lanes of the script on standard input, each in a thread, over the server that listens at SOCKET\n\
+    share_examples counts SOCKET\n\
+    counts: the same, and prints how many lanes, entries, receipts and bytes that were read there are\n\
+    share_examples sheet\n\
+    sheet: runs eight lanes of 200 calls over a link whose replies are laid out beforehand\n\
     share_examples runs COUNT\n\
     runs: as often runs eight lanes of 201 calls over the server in memory, and compares journals and receipts\n";
 
-/// `share_examples unix SOCKET` runs a script's lanes over a server and prints the frames and outcomes; `runs COUNT` runs eight
-/// lanes so often over the server in memory.
+/// `share_examples unix SOCKET` runs a script's lanes over a server and prints the frames and outcomes, `counts SOCKET` prints numbers in
+/// their place; `sheet` runs eight lanes over replies that are laid out, and `runs COUNT` runs eight lanes so often over the server in
+/// memory.
 fn main(rt: HostRuntime) -> ExitCode {
     let done = match words_of(&rt) {
         Ok(words) => match words.as_slice() {
             [word] if word.as_str() == "--help" => rt
                 .print(USAGE)
                 .map_err(|_| "standard output can't be written"),
-            [word, path] if word.as_str() == "unix" => match socket::script_of(&rt) {
+            [word, path] if is_over_socket(word) => match socket::script_of(&rt) {
                 Ok(script) => match socket::run_script(&rt, rt.alloc(), path, &script) {
-                    Ok(report) => socket::print_report(&rt, &report),
+                    Ok(report) => socket::print_run(&rt, word.as_str() == "counts", &report),
                     Err(why) => Err(why),
                 },
+                Err(why) => Err(why),
+            },
+            [word] if word.as_str() == "sheet" => match laid_out::run_sheet(&rt, rt.alloc()) {
+                Ok(report) => socket::print_report(&rt, &report),
                 Err(why) => Err(why),
             },
             [word, count] if word.as_str() == "runs" => {
                 receipts::run_often(&rt, rt.alloc(), &mut MapPair::new(), count)
             }
-            _ => Err("unix and the path of a socket, or runs and a count are needed"),
+            _ => Err("unix or counts and a socket, sheet, or runs and a count are needed"),
         },
         Err(why) => Err(why),
     };
@@ -45,6 +56,11 @@ fn main(rt: HostRuntime) -> ExitCode {
             ExitCode::from(1)
         }
     }
+}
+
+/// Whether a word asks for a script over a socket.
+fn is_over_socket(word: &str) -> bool {
+    word == "unix" || word == "counts"
 }
 
 /// The words of the command line, without the program's name.

@@ -78,7 +78,7 @@ fn marks(journal: &[Entry], seen: &mut [bool], receipt: &Receipt) -> bool {
 }
 
 /// Whether the receipts of all lists are the entries of the journal at their places, each place once.
-fn are_receipts_of(
+pub(crate) fn are_receipts_of(
     alloc: Global,
     journal: &[Entry],
     lists: &[Vec<Receipt>],

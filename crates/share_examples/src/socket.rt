@@ -3,8 +3,9 @@ ghost use Rattle.std.specs.Prelude.{◌≡◌, IfOk, true};
 ghost use Rattle.plan_model.specs.Lanes.{are_ok};
 
 use sftp_link::{ReadSource, StreamLink, WriteSink, read_up_to, write_all};
+use sftp_model::Outcome;
 use sftp_script::{Script, read_script};
-use sftp_tasks::{Error, Report};
+use sftp_tasks::{Error, Report, SharedReport};
 use sftp_text::write_text;
 use std::alloc::Global;
 use std::net::Net;
@@ -54,6 +55,48 @@ fn reason(error: Error) -> &'static str {
     }
 }
 
+/// Prints what a run did, or its numbers alone.
+pub(crate) fn print_run(
+    rt: &HostRuntime,
+    counts: bool,
+    report: &SharedReport,
+) -> Result<(), &'static str> {
+    if counts {
+        print_counts(rt, report)
+    } else {
+        print_report(rt, &report.report)
+    }
+}
+
+/// Prints how many lanes, entries and receipts there are, and how many bytes the lanes' calls read.
+fn print_counts(rt: &HostRuntime, report: &SharedReport) -> Result<(), &'static str> {
+    let lanes = report.report.outcomes.as_slice();
+    let mut bytes: u64 = 0;
+    for outcomes in lanes {
+        bytes = bytes.saturating_add(bytes_of(outcomes.as_slice()));
+    }
+    let mut receipts: usize = 0;
+    for list in report.receipts.as_slice() {
+        receipts = receipts.saturating_add(list.len());
+    }
+    let lanes = lanes.len();
+    let entries = report.journal.len();
+    println!(rt; "lanes {lanes} entries {entries} receipts {receipts} bytes {bytes}").map_err(
+        |_| "standard output can't be written",
+    )
+}
+
+/// How many bytes reads gave.
+fn bytes_of(outcomes: &[Outcome]) -> u64 {
+    let mut sum: u64 = 0;
+    for outcome in outcomes {
+        if let Outcome::Bytes(bytes) = outcome {
+            sum = sum.saturating_add(bytes.as_slice().len() as u64);
+        }
+    }
+    sum
+}
+
 /// Runs the lanes of a script over the server that listens at a socket, and gives what they did. The script's server, files,
 /// choices, picks and turns are passed over.
 pub(crate) fn run_script<R: Net + Threads + Wait + Clock + Sync>(
@@ -61,7 +104,7 @@ pub(crate) fn run_script<R: Net + Threads + Wait + Clock + Sync>(
     alloc: Global,
     path: &str,
     script: &Script,
-) -> Result<Report, &'static str>
+) -> Result<SharedReport, &'static str>
     requires { are_ok script.now.lanes ≡ true }
 {
     let Ok(stream) = UnixStream::connect(rt, path) else {
@@ -79,7 +122,7 @@ pub(crate) fn run_script<R: Net + Threads + Wait + Clock + Sync>(
         &script.options,
     );
     match result {
-        Ok(report) => Ok(report.report),
+        Ok(report) => Ok(report),
         Err(error) => Err(reason(error)),
     }
 }
