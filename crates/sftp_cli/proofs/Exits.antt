@@ -1,5 +1,5 @@
 -- How the program ends with a script that three numbers make, and what its words ask for.
-use Rattle.std.proofs.Common.{◌≡◌, ℕ, false, true, List, inl, refl}
+use Rattle.std.proofs.Common.{◌≡◌, ℕ, false, true, List, inl, refl, sym, subst}
 use Rattle.std.specs.Prelude.{Option, Some, None, Err, IfSome}
 use Rattle.sftp_link.specs.Views.{SinkView}
 use Rattle.sftp_map_server.specs.Serving.{Serving}
@@ -10,7 +10,9 @@ use Rattle.program_ends.specs.Ended.{End, EndsAtSink, IsServerOf, Only}
 use Rattle.program_ends.specs.Texts.{answered_of, text_of}
 use Rattle.program_ends.proofs.Writing.{at_sink, nothing_new, right_at_sink}
 use Rattle.sftp_cli.specs.declared.bulk.Numbers.{Numbers}
+use Rattle.sftp_cli.specs.declared.printed.Form.TheVariants as form
 use Rattle.sftp_cli.specs.Ended.{EndsSummed, RightSummary}
+use Rattle.sftp_cli.specs.Printed.{IsPrinted}
 use Rattle.sftp_cli.specs.Words.{AtPath, Bulk, InMemory, Text, asked_by, bulk_of, help_text, is_script, path_of}
 
 -- ---- a script that three numbers make
@@ -20,13 +22,30 @@ pub summary_starved : (script : Script) (kept : Option Serving) (to : SinkView) 
 summary_starved script kept to k =
     record { writes = record { wrote = inl (nothing_new to.written); cause = refl; only = ((λ e. cc e), (λ e. cc e)) }; left = k }
 
-pub summary_answered : (script : Script) (kept : Option Serving) (text : List ℕ) (end : End) (to to_now : SinkView)
-    → RightSummary kept script Done text → IfSome kept (λ server. IsServerOf script server)
-    → EndsAtSink (Only Done text) end to to_now → EndsSummed script end kept to to_now
-summary_answered script kept text end to to_now r k w = record {
-  writes = right_at_sink (RightSummary kept script) Done text end to to_now r w;
-  left = at_sink (λ why. IfSome kept (λ server. IsServerOf script server)) (Only Done text) end to to_now w k k;
-}
+-- what is kept is a server of the script, under another name for it
+kept_as : (script made : Script) (kept : Option Serving) → made ≡ script → IfSome kept (λ server. IsServerOf made server)
+    → IfSome kept (λ server. IsServerOf script server)
+kept_as script made kept is k = subst (λ (s : Script). IfSome kept (λ server. IsServerOf s server)) is k
+
+pub summary_unwritten : (script made : Script) (kept : Option Serving) (to : SinkView) → made ≡ script
+    → IfSome kept (λ server. IsServerOf made server) → EndsSummed script (Err OutOfMemory) kept to to
+summary_unwritten script made kept to is k = summary_starved script kept to (kept_as script made kept is k)
+
+pub summary_answered : (script made : Script) (kept : Option Serving) (text items : List ℕ) (end : End)
+    (to to_now : SinkView) → made ≡ script → text ≡ items → IsPrinted form.Summary kept made items
+    → IfSome kept (λ server. IsServerOf made server) → EndsAtSink (Only Done text) end to to_now
+    → EndsSummed script end kept to to_now
+summary_answered script made kept text items end to to_now is same r k w =
+    let right : RightSummary kept script Done text = (
+      refl,
+      subst (λ (s : Script). IsPrinted form.Summary kept s text) is
+          (subst (λ (t : List ℕ). IsPrinted form.Summary kept made t) (sym same) r),
+    ) in
+    let left = kept_as script made kept is k in
+    record {
+      writes = right_at_sink (RightSummary kept script) Done text end to to_now right w;
+      left = at_sink (λ why. IfSome kept (λ server. IsServerOf script server)) (Only Done text) end to to_now w left left;
+    }
 
 -- ---- what the words ask for
 

@@ -1,6 +1,29 @@
 -- A session can be given the lanes that copy the files of a list.
-use Rattle.std.proofs.Common.{◌≡◌, ◌<◌, ◌≤◌, ◌+◌, ◌-◌, ◌*◌, ◌^◌, ◌%◌, ◌==◌, ℕ, zero, suc, Bool, true, false, List, [],
-    ◌∷◌, ◌++◌, length, if◌then◌else◌, refl, arith}
+use Rattle.std.proofs.Common.{
+  ◌≡◌,
+  ◌<◌,
+  ◌≤◌,
+  ◌+◌,
+  ◌-◌,
+  ◌*◌,
+  ◌^◌,
+  ◌%◌,
+  ◌==◌,
+  ℕ,
+  zero,
+  suc,
+  Bool,
+  true,
+  false,
+  List,
+  [],
+  ◌∷◌,
+  ◌++◌,
+  length,
+  if◌then◌else◌,
+  refl,
+  arith,
+}
 use Rattle.std.specs.Prelude.{◌&&◌, ◌||◌, codes, map, nat_le, nat_lt, take}
 use Rattle.std.specs.List.{flat_map, list_all, sum_by}
 use Rattle.std.specs.Str.{bytes_eq}
