@@ -41,7 +41,7 @@ impl Program for CachedView {
     }
 
     /// Does the operations, and gives the text of what each was answered and of what is left.
-    #[tactic(auto, using(crate::proofs::Running::is_viewed, crate::proofs::Running::may_view))]
+    #[tactic(auto, using(crate::proofs::Running::may_view))]
     fn text_over(
         &self,
         alloc: Global,

@@ -1,0 +1,8 @@
+use Rattle.sftp_view.proofs.Running.{is_viewed}
+use Rattle.sftp_view.proofs.reply.CachedViewProgram.text_over.Goals as goal
+
+pub returns-clause-text : goal.returns-clause-text
+returns-clause-text c =
+    is_viewed c.args.self.now.size c.args.list.now c.as_slice-ops.result.now c.args.server.now c.view_served.new.server
+    c.in_ok-report.report c.view_text.result c.requires.can c.as_slice-ops.ensures c.requires.new.first
+    c.view_served.ensures.first c.in_ok-report.ensures.run c.view_text.ensures
