@@ -177,7 +177,7 @@ impl<'a> CopyJobs for Batch<'a> {
     }
 
     fn tell(&mut self, copied: Copied<SystemFile<&'a HostRuntime>>)
-        ensures { NotesOver {N = Unit {0}} (λ note history. history) copied tt tt }
+        ensures { NotesOver {N = Unit {0}} (λ note history. history) copied.entry tt tt }
     {
         let Copied { job, local, result } = copied;
         let number = local.number();
