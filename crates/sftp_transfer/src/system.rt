@@ -5,22 +5,29 @@ use std::fs::{File, Files};
 use std::io::{ErrorKind, Read, Write};
 use std::marker::Model;
 use std::{fs, io};
-use transfer_file::{LocalError, LocalFile};
+use transfer_copier::{LocalError, LocalFile};
 
-/// A file that a runtime reaches. It tells nothing of its acts.
+/// A file that a runtime reaches, and the number of its copy. It tells nothing of its acts.
 #[derive(Drop)]
 pub struct SystemFile<R: Files> {
     runtime: R,
+    number: usize,
     file: Option<R::File>,
 }
 
 impl<R: Files> SystemFile<R> {
-    /// No file yet.
-    pub fn new(runtime: R) -> SystemFile<R> {
+    /// No file yet, of the copy with a number.
+    pub fn new(runtime: R, number: usize) -> SystemFile<R> {
         SystemFile {
             runtime,
+            number,
             file: None,
         }
+    }
+
+    /// The number of its copy.
+    pub fn number(&self) -> usize {
+        self.number
     }
 }
 
