@@ -31,7 +31,7 @@ use Rattle.std.proofs.Common.{
 }
 use Rattle.std.specs.Prelude.{IsSome, Result, Ok, Err}
 use Rattle.std.proofs.lemmas.List.{nil_from_length}
-use Rattle.sftp_core.specs.declared.phase.Phase.{Phase}
+use Rattle.sftp_core.specs.declared.handshake.Handshake.{Handshake}
 use Rattle.sftp_core.specs.Core.{Core}
 use Rattle.sftp_core.specs.Info.{info_of}
 use Rattle.sftp_link.specs.Views.{LinkView}
@@ -374,6 +374,6 @@ copied_all state done history noted window most old session running before after
 pub going_spared : {L S F : Type 0} (state : L → LinkView S) (copies : List (Running F)) (old new : SftpValue L)
     → IsGoing state old → SparesAll copies old.core new.core → new ≡ with_core old new.core → IsGoing state new
 going_spared state copies old new going spares rest = record {
-  opened = subst (λ (p : Phase). IsSome (info_of p)) (sym spares.phase) going.opened;
+  opened = subst (λ (p : Handshake). IsSome (info_of p)) (sym spares.phase) going.opened;
   alive = λ none. subst (λ (x : SftpValue _). (state x.link).faults < 2 ^ 64 - 1) (sym rest) (going.alive (sym spares.fault ∙ none));
 }
