@@ -82,11 +82,7 @@ impl<'a> Batch<'a> {
     }
 
     /// The copy of a file; None where it can't be begun, and why is told.
-    fn begin(
-        &mut self,
-        place: usize,
-        found: &Found,
-    ) -> Option<Wanted<SystemFile<&'a HostRuntime>>> {
+    fn begin(&mut self, place: usize, found: &Found) -> Option<Wanted<SystemFile<'a>>> {
         let number = self.given.len();
         let path = found.source.as_slice();
         let verdict = Verdict::Stop;
@@ -148,7 +144,7 @@ impl<'a> Batch<'a> {
 }
 
 impl<'a> CopyJobs for Batch<'a> {
-    type File = SystemFile<&'a HostRuntime>;
+    type File = SystemFile<'a>;
 
     ghost History = { Unit {0} };
 
@@ -156,7 +152,7 @@ impl<'a> CopyJobs for Batch<'a> {
 
     ghost history = { λ jobs. tt };
 
-    fn next_job(&mut self) -> Option<Wanted<SystemFile<&'a HostRuntime>>> {
+    fn next_job(&mut self) -> Option<Wanted<SystemFile<'a>>> {
         let jobs = self.jobs;
         for place in self.next..jobs.len() {
             let Some(found) = jobs.get(place) else {
@@ -176,7 +172,7 @@ impl<'a> CopyJobs for Batch<'a> {
         None
     }
 
-    fn tell(&mut self, copied: Copied<SystemFile<&'a HostRuntime>>)
+    fn tell(&mut self, copied: Copied<SystemFile<'a>>)
         ensures { NotesOver {N = Unit {0}} (λ note history. history) copied.entry tt tt }
     {
         let Copied { job, local, result } = copied;

@@ -149,12 +149,12 @@ told_given state old core p q (Some (Ok entry)) w v (Err e) lists h =
 told_given state old core p q (Some (Err x)) w v (Err e) lists h =
     subst (λ (x : WalkValue). HasGrown w x) (sym h) (grown_none w)
 
-pub told_turns : {L S D E : Type 0} (state : L → LinkView S) (old : SftpValue L) (core : Core) (new : SftpValue L)
-    (p q : ListingValue) (w : WalkValue)
+pub told_turns : {L S D : Type 0} (E : Type 0) (state : L → LinkView S) (old : SftpValue L) (core : Core)
+    (new : SftpValue L) (p q : ListingValue) (w : WalkValue)
     → Lists old.core core p q Pending → Turned {E = D} state (with_core old core) new (Ok tt)
     → (let result : Result Bool E = Ok false in
     StepTold state (record { session = old; listing = p }) (record { session = new; listing = q }) w w result)
-told_turns state old core new p q w lists turned = (
+told_turns E state old core new p q w lists turned = (
   [],
   inr (record { session = with_core old core; listing = q }, record { lists = lists; rest = refl }, turned.turns, refl, refl),
   none_listed w,

@@ -33,7 +33,7 @@ pub returns-in-Ok-turn-clause-told : goal.returns-in-Ok-turn-clause-told
 returns-in-Ok-turn-clause-told g c =
     let lists : Lists c.args.sftp.now.core c.poll_next.new.core c.args.listing.now c.poll_next.new.self Pending = search rules in
     let turned : Turned {E = Error} g.L.LinkState.state (with_core c.args.sftp.now c.poll_next.new.core) c.turn.new.sftp (Ok tt) = search rules in
-    told_turns {E = Failure} g.L.LinkState.state c.args.sftp.now c.poll_next.new.core c.turn.new.sftp c.args.listing.now
+    told_turns Failure g.L.LinkState.state c.args.sftp.now c.poll_next.new.core c.turn.new.sftp c.args.listing.now
     c.poll_next.new.self c.args.walk.now lists turned
 
 pub returns-in-Err-turn-clause-goes : goal.returns-in-Err-turn-clause-goes
