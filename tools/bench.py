@@ -1,12 +1,13 @@
 #!/usr/bin/env python3
 """Measures the program: how time and memory of the core alone, and of a run, grow with the requests in flight; how long many
 small files take over OpenSSH's server beside `sftp -b`, how long some files of a few kilobytes take up and down, and how long
-one large file takes, by scripts and by sftp_transfer; how long many reads through sftp_view's cache take; and how long OpenSSH's
-client takes over the server of crates/sftp_serve, beside its own; and what lanes take that run in threads, in time beside one driver of
-them, and in memory. It prints tables, is no part of the gate, and takes half an hour or more.
+one large file and many small ones take, by scripts and by sftp_transfer; how long many reads through sftp_view's cache take; how
+long OpenSSH's client takes over the server of crates/sftp_serve, beside its own; and what lanes take that run in threads, in time beside
+one driver of them, and in memory. It prints tables, is no part of the gate, and takes half an hour or more.
 
     python3 tools/bench.py [FIRST] [LAST]     requests in flight, doubled from FIRST to LAST: from 5000 to 40000
     python3 tools/bench.py threads            the tables of threads alone
+    python3 tools/bench.py copies             copies by sftp_transfer alone, beside those of `sftp`
 
 A ratio of 2 at a doubling is linear. `sftp` waits for each reply, so it is measured at FIRST alone where replies are late.
 BENCH_LIMIT is the most seconds that one run may take: 1200. Memory below that of python3 itself, some 15 MiB, shows as that.
@@ -29,6 +30,8 @@ DELAY = 0.010
 FILES, FILE_BYTES = 1000, 8000
 # one file of so many bytes comes down, and one of so many goes up: as many as one script may hold
 LARGE_DOWN, LARGE_UP = 1 << 28, 8000000
+# a folder of so many files of so many bytes comes down and goes up
+TREE_FILES, TREE_BYTES = 1000, 10000
 # so many reads of one block each of a file of so many bytes, through a cache of so many blocks
 GETS, VIEWED_BYTES, VIEW_BLOCK, VIEW_CAPACITY = 10000, 1 << 20, 4096, 64
 # what OpenSSH's client does over either server: so many files of so many bytes up and down, so many directories made and removed
@@ -261,14 +264,35 @@ def table_over_a_server(folder, sizes, names, late):
     table_of_copies(folder, path, large)
 
 
+def tables_of_copies(folder):
+    """Copies alone, over a server and over a late one."""
+    for late in (False, True):
+        print("over OpenSSH's server" + (f", each way {DELAY * 1000:.0f} ms late" if late else ""))
+        path = os.path.join(folder, "late" if late else "socket")
+        serve(path, late)
+        table_of_copies(folder, path, made(folder, "large", LARGE_DOWN))
+
+
 def table_of_copies(folder, path, large):
-    """A large file from one file to another over OpenSSH's server, by sftp_transfer and by `sftp -b`."""
+    """A large file from one file to another, and a folder of small ones, over OpenSSH's server, by sftp_transfer and by `sftp`."""
     copied = os.path.join(folder, "copied")
     sftp = ["sftp", "-q", "-b", "-", "-D", f"socat - UNIX-CONNECT:{path}"]
     for words, way in (("down", "get"), ("up", "put")):
         words = f"{LARGE_DOWN} bytes {words}, file to file"
         row(words + ", sftp_transfer", best(folder, [COPIER, "unix:" + path, way, large, copied], "", 3))
         row(words + ", sftp -b", best(folder, sftp, f"{way} {large} {copied}\n", 3))
+    tree, copied = os.path.join(folder, "tree"), os.path.join(folder, "copied-tree")
+    os.makedirs(tree, exist_ok=True)
+    for k in range(TREE_FILES):
+        made(tree, str(k), TREE_BYTES)
+    for words, way in (("down", "get"), ("up", "put")):
+        words = f"{TREE_FILES} files of {TREE_BYTES} bytes {words}, folder to folder"
+        for name, command, text in (
+            ("sftp_transfer", [COPIER, "unix:" + path, way, "-r", "-q", tree + "/.", copied], ""),
+            ("sftp -r", sftp, f"{way} -r {tree} {copied}\n"),
+        ):
+            shutil.rmtree(copied, ignore_errors=True)
+            row(f"{words}, {name}", measure(folder, command, text))
 
 
 def table_of_threads(folder):
@@ -337,6 +361,9 @@ def main_of_threads():
 def main():
     if sys.argv[1:] == ["threads"]:
         return main_of_threads()
+    if sys.argv[1:] == ["copies"]:
+        with tempfile.TemporaryDirectory() as folder:
+            return tables_of_copies(folder)
     first = int(sys.argv[1]) if len(sys.argv) > 1 else 5000
     last = int(sys.argv[2]) if len(sys.argv) > 2 else 40000
     sizes = [first]

@@ -28,18 +28,21 @@ fi
 room=$(mktemp -d) || exit 1
 room=$(cd "$room" && pwd -P)
 mkdir "$room/far" "$room/near"
-# a server, and two that end after so many bytes of what they are told: some READs, or some WRITEs
+# a server, and three that end after so many bytes of what they are told: some READs, some WRITEs, or some files
 printf '#!/bin/sh\nstdbuf -o0 head -c 400 | %s\n' "$server" >"$room/hears_reads"
 printf '#!/bin/sh\nstdbuf -o0 head -c 3000000 | %s\n' "$server" >"$room/hears_writes"
-chmod +x "$room/hears_reads" "$room/hears_writes"
+printf '#!/bin/sh\nstdbuf -o0 head -c 40000 | %s\n' "$server" >"$room/hears_files"
+chmod +x "$room/hears_reads" "$room/hears_writes" "$room/hears_files"
 socat "UNIX-LISTEN:$room/socket,fork" "EXEC:$server" 2>/dev/null &
 first=$!
 socat "UNIX-LISTEN:$room/reads,fork" "EXEC:$room/hears_reads" 2>/dev/null &
 second=$!
 socat "UNIX-LISTEN:$room/writes,fork" "EXEC:$room/hears_writes" 2>/dev/null &
 third=$!
-trap 'kill $first $second $third 2>/dev/null; rm -rf "$room"' EXIT
-for name in socket reads writes; do
+socat "UNIX-LISTEN:$room/ends,fork" "EXEC:$room/hears_files" 2>/dev/null &
+sixth=$!
+trap 'kill $first $second $third $sixth 2>/dev/null; rm -rf "$room"' EXIT
+for name in socket reads writes ends; do
     tries=0
     while ! [ -S "$room/$name" ] && [ $tries -lt 100 ]; do
         sleep 0.1
@@ -205,6 +208,59 @@ tell 'a folder without -r' $?
 run socket get -q -- "$room/far/tree/-r/--" "$room/near/hyphens"
 [ $status -eq 0 ] && [ "$(cat "$room/near/hyphens")" = x ]
 tell 'a name behind --' $?
+
+# ---- many files at once
+
+mkdir "$room/far/many" "$room/far/many/sub"
+n=0
+while [ $n -lt 1000 ]; do
+    head -c $((n * 10)) /dev/urandom >"$room/far/many/file $n"
+    n=$((n + 1))
+done
+printf x >"$room/far/many/sub/x"
+run socket get -r "$room/far/many" "$room/near/many"
+[ $status -eq 0 ] && same "$room/far/many" "$room/near/many" && [ "$(cat "$room/err")" = "1001 files, 4995001 bytes" ]
+tell '1,000 files down' $?
+run socket put -r "$room/near/many" "$room/far/back"
+[ $status -eq 0 ] && same "$room/near/many" "$room/far/back" && [ "$(cat "$room/err")" = "1001 files, 4995001 bytes" ]
+tell '1,000 files up' $?
+run socket put -r -q --files 1 --window 1 --limit 1 "$room/near/many" "$room/far/one"
+[ $status -eq 0 ] && same "$room/near/many" "$room/far/one" && ! [ -s "$room/err" ]
+tell '1,000 files up, one after another' $?
+rm -rf "$room/far/back" "$room/far/one" "$room/near/many"
+mkdir -p "$room/near/many/.file 500.part/x" "$room/far/back/.file 500.part/x"
+run socket get -r -q "$room/far/many/." "$room/near/many"
+[ $status -eq 1 ] && [ "$(wc -l <"$room/err")" -eq 1 ] && grep -q "^sftp_transfer: $room/far/many/\./file 500: " "$room/err" &&
+    [ "$(diff -r "$room/far/many" "$room/near/many" | wc -l)" -eq 2 ] && ! [ -e "$room/near/many/file 500" ]
+tell 'one of many files down is refused' $?
+rm -rf "$room/near/many/.file 500.part"
+run socket get -r -q "$room/far/many/." "$room/near/many"
+[ $status -eq 0 ] && same "$room/far/many" "$room/near/many"
+tell 'and then it is not' $?
+run socket put -r -q "$room/near/many/." "$room/far/back"
+[ $status -eq 1 ] && [ "$(wc -l <"$room/err")" -eq 1 ] && grep -q "^sftp_transfer: $room/near/many/\./file 500: " "$room/err" &&
+    [ "$(diff -r "$room/near/many" "$room/far/back" | wc -l)" -eq 2 ] && ! [ -e "$room/far/back/file 500" ]
+tell 'one of many files up is refused' $?
+
+# a server that ends in the middle: what has a name has all its bytes, and each file that was under way is told with the cause
+whole() {
+    find "$1" -type f ! -name '.*.part' -printf '%P\n' >"$room/want"
+    while read -r name; do
+        cmp -s "$1/$name" "$2/$name" || return 1
+    done <"$room/want"
+}
+rm -rf "$room/near/many" "$room/far/back"
+run ends get -r -q "$room/far/many" "$room/near/many"
+[ $status -eq 1 ] && whole "$room/near/many" "$room/far/many" && [ -s "$room/err" ] &&
+    [ "$(ls "$room/near/many" | wc -l)" -lt 1000 ] && ! grep -v "^sftp_transfer: $room/far/many/[^:]*: ." "$room/err"
+tell 'a server that ends while many files come down' $?
+run socket get -r -q "$room/far/many/." "$room/near/many"
+[ $status -eq 0 ] && same "$room/far/many" "$room/near/many"
+tell 'and once more' $?
+run ends put -r -q "$room/near/many" "$room/far/back"
+[ $status -eq 1 ] && whole "$room/far/back" "$room/far/many" && [ -s "$room/err" ] &&
+    ! grep -v "^sftp_transfer: $room/near/many/" "$room/err"
+tell 'a server that ends while many files go up' $?
 
 # ---- permissions and times
 

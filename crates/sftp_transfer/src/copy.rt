@@ -1,63 +1,52 @@
-//! One file over a session.
-ghost use Rattle.std.specs.Prelude.{◌≤◌};
-ghost use Rattle.sftp_transfer.specs.Copies.{CopiesOver, CopyResult};
-ghost use Rattle.transfer_file.specs.Sessions.{IsGoing};
+//! The copy of a file.
+ghost use Rattle.std.specs.Prelude.{◌≡◌, IfOk};
+ghost use Rattle.std.specs.String.{string_bytes};
+ghost use Rattle.sftp_transfer.specs.Copies.{IsCopyOf, way_of};
 
-use sftp_client::Sftp;
-use sftp_link::Link;
+use crate::reason::{Reason, no_text};
 use std::alloc::Global;
 use std::str;
-use transfer_file::{Failure, LocalFile, get, put};
+use transfer_copier::CopyJob;
 use transfer_paths::part_path;
+use transfer_walk::Found;
 use transfer_words::Way;
 
-/// Copies a file by the name of its part. `NoText`: the local path isn't UTF-8, and nothing was done.
-fn copy_as<L: Link, F: LocalFile>(
-    alloc: Global,
-    sftp: &mut Sftp<L>,
-    local: &mut F,
-    way: Way,
-    from: &[u8],
-    to: &[u8],
-    part: &[u8],
-    window: usize,
-) -> Result<u64, Failure>
-    requires going { IsGoing L.LinkState.state sftp.old }
-    requires wide { 1 ≤ window }
-    ensures { CopyResult L.LinkState.state F.done way from.now to.now part.now window sftp.old sftp.new (F.history local.old) (F.history local.new) result }
+/// Which way a copy goes, by the words.
+fn way_of(way: Way) -> transfer_copier::Way
+    ensures { result ≡ way_of way }
 {
     match way {
-        Way::Get => {
-            let (Ok(name), Ok(part)) = (str::from_utf8(to), str::from_utf8(part)) else {
-                return Err(Failure::NoText);
-            };
-            get(alloc, sftp, local, from, part, name, window)
-        }
-        Way::Put => {
-            let Ok(name) = str::from_utf8(from) else {
-                return Err(Failure::NoText);
-            };
-            put(alloc, sftp, local, name, part, to, window)
-        }
+        Way::Get => transfer_copier::Way::Get,
+        Way::Put => transfer_copier::Way::Put,
     }
 }
 
-/// Copies a file over a session, from the server or to it, and gives how many bytes it has.
-pub fn copy_file<L: Link, F: LocalFile>(
-    alloc: Global,
-    sftp: &mut Sftp<L>,
-    local: &mut F,
-    way: Way,
-    from: &[u8],
-    to: &[u8],
-    window: usize,
-) -> Result<u64, Failure>
-    requires going { IsGoing L.LinkState.state sftp.old }
-    requires wide { 1 ≤ window }
-    ensures { CopiesOver L.LinkState.state F.done way from.now to.now window sftp.old sftp.new (F.history local.old) (F.history local.new) result }
+/// A path as text. Refused where it isn't UTF-8.
+fn text_of(alloc: Global, path: &[u8]) -> Result<String, Reason>
+    ensures { IfOk result (λ text. string_bytes text ≡ path.now) }
 {
-    match part_path(alloc, to) {
-        Ok(part) => copy_as(alloc, sftp, local, way, from, to, part.as_slice(), window),
-        Err(_) => Err(Failure::OutOfMemory),
+    match str::from_utf8(path) {
+        Ok(text) => match String::from_str(alloc, text) {
+            Ok(text) => Ok(text),
+            Err(_) => Err(Reason::OutOfMemory),
+        },
+        Err(_) => Err(no_text()),
     }
+}
+
+/// The copy of a file that was found, by the name of a part that stands beside its target. Refused where a path isn't
+/// UTF-8.
+pub(crate) fn copy_of(alloc: Global, way: Way, found: &Found) -> Result<CopyJob, Reason>
+    ensures { IfOk result (IsCopyOf way found.now) }
+{
+    let part = part_path(alloc, found.target.as_slice())?;
+    let from = text_of(alloc, found.source.as_slice())?;
+    let part = text_of(alloc, part.as_slice())?;
+    let to = text_of(alloc, found.target.as_slice())?;
+    Ok(CopyJob {
+        way: way_of(way),
+        from,
+        part,
+        to,
+    })
 }

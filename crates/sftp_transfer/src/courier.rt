@@ -1,18 +1,17 @@
 //! Who copies between the server and the local side.
-ghost use Rattle.std.specs.Prelude.{◌≡◌, ◌≤◌, max};
-ghost use Rattle.transfer_file.specs.Sessions.{IsGoing};
+ghost use Rattle.std.specs.Prelude.{◌≡◌};
+ghost use Rattle.transfer_copier.specs.Sessions.{IsGoing};
 
-use crate::copy::copy_file;
+use crate::batch::{Batch, Given, Totals};
 use crate::local_side::{keep_local, make_local_folder, make_local_link};
-use crate::printable::printable;
-use crate::reason::{Reason, is_starved, refusal_of, tell};
-use crate::system::SystemFile;
+use crate::reason::{Reason, ends_all, is_starved, no_text, refusal_of, tell, tell_of};
+use crate::window::{count_files, window_for};
 use sftp_client::Sftp;
 use sftp_link::Link;
-use sftp_model::{Error, FileAttrs};
+use sftp_model::FileAttrs;
 use std::{fs, str};
-use transfer_file::Failure;
-use transfer_jobs::{Hand, Verdict};
+use transfer_copier::{Failure, copy_all};
+use transfer_jobs::{Hand, Tally, Verdict};
 use transfer_remote::{
     make_remote_folder, make_remote_link, read_remote_link, remote_metadata, set_remote_attrs,
 };
@@ -26,29 +25,17 @@ pub(crate) struct Courier<'a, L> {
     pub(crate) sftp: Sftp<L>,
     pub(crate) way: Way,
     pub(crate) options: Options,
-    pub(crate) files: u64,
-    pub(crate) bytes: u64,
-    pub(crate) starved: bool,
-}
-
-/// How many requests are worth having under way for a file: where its size is told, no more than it needs by requests of
-/// 32768 bytes, and one more to come to its end.
-fn window_for(size: Option<u64>, most: u32) -> usize
-    ensures some { 1 ≤ result }
-    ensures few { result ≤ max 1 most }
-{
-    let most = u64::from(most.max(1));
-    match size {
-        Some(size) => (size / 32768).saturating_add(2).min(most) as usize,
-        None => most as usize,
-    }
+    pub(crate) totals: Totals,
+    /// The files that were copied, in the order of the jobs, and how many of them were asked for.
+    pub(crate) given: Vec<Given>,
+    pub(crate) answered: usize,
 }
 
 /// A local path, as text.
 fn text_of(path: &[u8]) -> Result<&str, Reason> {
     match str::from_utf8(path) {
         Ok(text) => Ok(text),
-        Err(_) => Err(Reason::Failed(Failure::NoText)),
+        Err(_) => Err(no_text()),
     }
 }
 
@@ -75,38 +62,110 @@ impl<'a, L: Link> Courier<'a, L> {
                     Ok(metadata) if metadata.file_type().is_some_and(|kind| kind.is_dir()) => Ok(
                         (),
                     ),
-                    _ => Err(Reason::Failed(e)),
+                    _ => Err(e.into()),
                 }
             }
         }
     }
 
-    /// Copies a file, and gives it its permissions and times where that is asked for.
-    fn copy(&mut self, found: &Found) -> Result<(), Reason>
+    /// How many requests for bytes are under way for each of so many files.
+    fn window(&mut self, files: u32) -> u32
+        ensures { self.new.sftp ≡ self.old.sftp }
+    {
+        let len = match self.sftp.core().info() {
+            Some(info) => info.read_len.max(info.write_len),
+            None => 1,
+        };
+        window_for(self.options.window, self.options.limit, files, len)
+    }
+
+    /// Copies the files among the jobs but those that the tally skips, many at once, and keeps what came of each.
+    fn copy_files(&mut self, jobs: &[Found], tally: &Tally)
         requires { IsGoing L.LinkState.state self.old.sftp }
         ensures { IsGoing L.LinkState.state self.new.sftp }
     {
-        let mut local = SystemFile::new(self.rt);
-        let copied = copy_file(
-            self.rt.alloc(),
-            &mut self.sftp,
-            &mut local,
-            self.way,
-            found.source.as_slice(),
-            found.target.as_slice(),
-            window_for(found.attrs.size, self.options.window),
-        );
-        let len = match copied {
-            Ok(len) => len,
-            Err(e) => return Err(Reason::Failed(e)),
-        };
-        self.files = self.files.saturating_add(1);
-        self.bytes = self.bytes.saturating_add(len);
-        self.show_progress();
-        if self.options.preserve {
-            return self.keep_attrs(found);
+        let files = count_files(jobs, self.options.files);
+        let window = self.window(files);
+        let alloc = self.rt.alloc();
+        let mut batch = Batch::new(self.rt, self.way, self.options, jobs, tally, self.totals);
+        let copied = copy_all(alloc, &mut self.sftp, &mut batch, files as usize, window);
+        let (totals, given) = batch.into_parts();
+        self.totals = totals;
+        self.given = given;
+        self.answered = 0;
+        self.tell_stop(copied);
+    }
+
+    /// Tells that there was no memory to go on with copies.
+    fn tell_stop(&mut self, copied: Result<(), Failure>)
+        ensures { self.new.sftp ≡ self.old.sftp }
+    {
+        if let Err(e) = copied {
+            self.totals.starved = true;
+            tell(self.rt, "the session", &Reason::from(e));
         }
-        Ok(())
+    }
+
+    /// What came of a file once it was given its permissions and times, where it was copied.
+    fn kept_verdict(&mut self, given: Given, jobs: &[Found]) -> Verdict
+        requires { IsGoing L.LinkState.state self.old.sftp }
+        ensures { IsGoing L.LinkState.state self.new.sftp }
+    {
+        let Some(found) = jobs.get(given.place) else {
+            return given.verdict;
+        };
+        if given.verdict != Verdict::Done {
+            return given.verdict;
+        }
+        let kept = self.keep_attrs(found);
+        self.verdict_of(found, kept)
+    }
+
+    /// Notes what came of a file.
+    fn set_verdict(&mut self, number: usize, verdict: Verdict)
+        ensures { self.new.sftp ≡ self.old.sftp }
+    {
+        if let Some(given) = self.given.get_mut(number) {
+            given.verdict = verdict;
+        }
+    }
+
+    /// Gives a file that was copied to the server its permissions and times.
+    fn keep_file(&mut self, number: usize, jobs: &[Found])
+        requires { IsGoing L.LinkState.state self.old.sftp }
+        ensures { IsGoing L.LinkState.state self.new.sftp }
+    {
+        let Some(given) = self.given.get(number) else {
+            return;
+        };
+        let given = *given;
+        let verdict = self.kept_verdict(given, jobs);
+        self.set_verdict(number, verdict);
+    }
+
+    /// Gives all files that were copied to the server their permissions and times, where that is asked for.
+    fn keep_files(&mut self, jobs: &[Found])
+        requires { IsGoing L.LinkState.state self.old.sftp }
+        ensures { IsGoing L.LinkState.state self.new.sftp }
+    {
+        if !self.options.preserve || self.way == Way::Get {
+            return;
+        }
+        for number in 0..self.given.len() {
+            self.keep_file(number, jobs);
+        }
+    }
+
+    /// What came of the next file that was copied; `Stop` where its copy was not begun.
+    fn answer(&mut self) -> Verdict
+        ensures { self.new.sftp ≡ self.old.sftp }
+    {
+        let number = self.answered;
+        self.answered = number.saturating_add(1);
+        match self.given.get(number) {
+            Some(given) => given.verdict,
+            None => Verdict::Stop,
+        }
     }
 
     /// Makes a local symbolic link that names what the server's does, or finds it there.
@@ -116,7 +175,7 @@ impl<'a, L: Link> Courier<'a, L> {
     {
         match read_remote_link(self.rt.alloc(), &mut self.sftp, found.source.as_slice()) {
             Ok(names) => link_here(self.rt, names.as_bytes(), found.target.as_slice()),
-            Err(e) => Err(Reason::Failed(e)),
+            Err(e) => Err(e.into()),
         }
     }
 
@@ -145,7 +204,7 @@ impl<'a, L: Link> Courier<'a, L> {
                 if self.has_link(names, target) {
                     return Ok(());
                 }
-                Err(Reason::Failed(e))
+                Err(e.into())
             }
         }
     }
@@ -173,20 +232,19 @@ impl<'a, L: Link> Courier<'a, L> {
                 let attrs = kept_attrs(&found.attrs);
                 match set_remote_attrs(self.rt.alloc(), &mut self.sftp, target, attrs) {
                     Ok(()) => Ok(()),
-                    Err(e) => Err(Reason::Failed(e)),
+                    Err(e) => Err(e.into()),
                 }
             }
         }
     }
 
-    /// Does a job by its task.
+    /// Does a job by its task, of which no file is copied.
     fn do_task(&mut self, found: &Found) -> Result<(), Reason>
         requires { IsGoing L.LinkState.state self.old.sftp }
         ensures { IsGoing L.LinkState.state self.new.sftp }
     {
         match found.task {
             Task::MakeFolder => self.make_folder(found),
-            Task::CopyFile => self.copy(found),
             Task::CopyLink => self.copy_link(found),
             other => Err(Reason::Refused(refusal_of(other))),
         }
@@ -199,25 +257,12 @@ impl<'a, L: Link> Courier<'a, L> {
         let Err(reason) = done else {
             return Verdict::Done;
         };
-        self.tell_of(found.source.as_slice(), &reason);
-        if is_starved(&reason) {
-            self.starved = true;
-            return Verdict::Stop;
-        }
-        if self.sftp.core().fault().is_some() {
+        tell_of(self.rt, found.source.as_slice(), &reason);
+        self.totals.starved = self.totals.starved || is_starved(&reason);
+        if ends_all(&reason) || self.sftp.core().fault().is_some() {
             return Verdict::Stop;
         }
         Verdict::NotDone
-    }
-
-    /// Tells standard error why something was not done.
-    pub(crate) fn tell_of(&mut self, path: &[u8], reason: &Reason)
-        ensures { self.new.sftp ≡ self.old.sftp }
-    {
-        match printable(self.rt.alloc(), path) {
-            Ok(name) => tell(self.rt, name.as_str(), reason),
-            Err(_) => tell(self.rt, "?", reason),
-        }
     }
 
     /// Tells at the end how much was copied, where there was more than one job or the progress was told.
@@ -230,16 +275,7 @@ impl<'a, L: Link> Courier<'a, L> {
         if self.options.progress {
             let _ = eprintln!(self.rt; "");
         } else if several {
-            let _ = eprintln!(self.rt; "{} files, {} bytes", self.files, self.bytes);
-        }
-    }
-
-    /// Tells how far the transfer has come, on a line that the next one replaces.
-    fn show_progress(&mut self)
-        ensures { self.new ≡ self.old }
-    {
-        if self.options.progress && !self.options.quiet {
-            let _ = eprint!(self.rt; "\r{} files, {} bytes", self.files, self.bytes);
+            let _ = eprintln!(self.rt; "{} files, {} bytes", self.totals.files, self.totals.bytes);
         }
     }
 }
@@ -266,7 +302,15 @@ impl<'a, L: Link> Hand for Courier<'a, L> {
 
     ghost may = { λ courier. IsGoing L.LinkState.state courier.sftp };
 
+    fn copy(&mut self, jobs: &[Found], tally: &Tally) {
+        self.copy_files(jobs, tally);
+        self.keep_files(jobs);
+    }
+
     fn work(&mut self, found: &Found) -> Verdict {
+        if found.task == Task::CopyFile {
+            return self.answer();
+        }
         let done = self.do_task(found);
         self.verdict_of(found, done)
     }
@@ -278,6 +322,6 @@ impl<'a, L: Link> Hand for Courier<'a, L> {
 
     fn skip(&mut self, found: &Found) {
         let reason = Reason::Refused("not done: a folder above it was not made");
-        self.tell_of(found.source.as_slice(), &reason);
+        tell_of(self.rt, found.source.as_slice(), &reason);
     }
 }

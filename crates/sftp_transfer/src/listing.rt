@@ -1,5 +1,5 @@
 //! A folder of the server is listed.
-ghost use Rattle.transfer_file.specs.Sessions.{IsGoing};
+ghost use Rattle.transfer_copier.specs.Sessions.{IsGoing};
 
 use crate::ended::{Reach, ended_by};
 use crate::printable::printable;
@@ -8,7 +8,6 @@ use sftp_client::Sftp;
 use sftp_link::Link;
 use sftp_model::FileAttrs;
 use std::io;
-use transfer_file::Failure;
 use transfer_paths::path_in;
 use transfer_remote::list_remote;
 use transfer_walk::{Found, Task, Walk};
@@ -69,10 +68,10 @@ fn list_into<L: Link>(
         Walk::new(alloc, path, b"", none, false),
         path_in(alloc, path, b""),
     ) else {
-        return Err(Reason::Failed(Failure::OutOfMemory));
+        return Err(Reason::OutOfMemory);
     };
     if let Err(e) = list_remote(alloc, sftp, &mut walk) {
-        return Err(Reason::Failed(e));
+        return Err(e.into());
     }
     for found in &walk.found()[1..] {
         write_entry(rt, found, folder.len(), listing.long)?;

@@ -1,12 +1,11 @@
 //! Folders, links and attributes of the local side.
-use crate::reason::{Reason, tell};
+use crate::reason::{Reason, no_text, tell};
 use sftp_model::FileAttrs;
 use std::fs::{File, FileTimes, Metadata, OpenFile, Permissions};
 use std::io::ErrorKind;
 use std::os::unix::fs::{MetadataExt, PermissionsExt};
 use std::time::{Duration, SystemTime};
 use std::{fs, io, str};
-use transfer_file::Failure;
 use transfer_walk::{EntryKind, Walk, WalkError};
 
 /// What is told of a local file, in the words of the server's side.
@@ -100,7 +99,7 @@ pub(crate) fn list_local(
     complete: &mut bool,
 ) -> Result<(), Reason> {
     let Ok(path) = str::from_utf8(walk.folder().source.as_slice()) else {
-        return Err(Reason::Failed(Failure::NoText));
+        return Err(no_text());
     };
     let entries = fs::read_dir(rt, path)?;
     for entry in entries {
@@ -111,9 +110,9 @@ pub(crate) fn list_local(
                 match walk.add(rt.alloc(), name, kind_of(&metadata), attrs_of(&metadata)) {
                     Ok(()) => {}
                     Err(WalkError::TooMany) => {
-                        return Err(Reason::Failed(Failure::TooManyEntries));
+                        return Err(Reason::TooManyEntries);
                     }
-                    Err(WalkError::OutOfMemory) => return Err(Reason::Failed(Failure::OutOfMemory)),
+                    Err(WalkError::OutOfMemory) => return Err(Reason::OutOfMemory),
                 }
             }
             Err(e) if e.kind() == ErrorKind::InvalidFilename => {

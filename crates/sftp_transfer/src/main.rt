@@ -1,6 +1,7 @@
 //! Copies files and trees from and to an SFTP server.
 #![tactic(auto)]
 
+mod batch;
 mod copy;
 mod courier;
 mod ended;
@@ -13,9 +14,9 @@ mod sources;
 mod system;
 mod terminal;
 mod texts;
+mod window;
 mod work;
 
-pub use copy::copy_file;
 pub use ended::{Reach, Text};
 pub use run::{Outside, run};
 use std::env;

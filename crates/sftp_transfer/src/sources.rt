@@ -1,18 +1,16 @@
 //! What the sources of a transfer are, and where they go.
 ghost use Rattle.std.specs.Prelude.{◌≡◌};
-ghost use Rattle.transfer_file.specs.Sessions.{IsGoing};
+ghost use Rattle.transfer_copier.specs.Sessions.{IsGoing};
 
 use crate::courier::Courier;
 use crate::local_side::{attrs_of, kind_of, list_local};
-use crate::reason::{Reason, is_starved};
+use crate::reason::{Reason, is_starved, tell_of};
 use sftp_link::Link;
 use sftp_meta::FileType;
 use sftp_model::FileAttrs;
 use sftp_values::ByteText;
-use ssh_encoding::OutOfMemory;
 use std::alloc::Global;
 use std::fs;
-use transfer_file::Failure;
 use transfer_paths::{last_component, path_in};
 use transfer_remote::{list_remote, remote_metadata};
 use transfer_walk::{EntryKind, Found, MAX_ENTRIES, Task, Walk};
@@ -45,21 +43,16 @@ fn target_of(
         None if into && source.kind == EntryKind::File => {
             return Err(Reason::Refused("it has no name to be copied under"));
         }
-        _ => return no_memory(copied(alloc, target.as_bytes())),
+        _ => return copied(alloc, target.as_bytes()),
     };
-    no_memory(path_in(alloc, target.as_bytes(), name))
+    Ok(path_in(alloc, target.as_bytes(), name)?)
 }
 
 /// A copy of a path.
-fn copied(alloc: Global, path: &[u8]) -> Result<Vec<u8>, OutOfMemory> {
-    Ok(Vec::from_slice(alloc, path)?)
-}
-
-/// Want of memory as a reason.
-fn no_memory<T>(value: Result<T, OutOfMemory>) -> Result<T, Reason> {
-    match value {
-        Ok(value) => Ok(value),
-        Err(OutOfMemory) => Err(Reason::Failed(Failure::OutOfMemory)),
+fn copied(alloc: Global, path: &[u8]) -> Result<Vec<u8>, Reason> {
+    match Vec::from_slice(alloc, path) {
+        Ok(copy) => Ok(copy),
+        Err(_) => Err(Reason::OutOfMemory),
     }
 }
 
@@ -86,7 +79,7 @@ impl<'a, L: Link> Courier<'a, L> {
                         kind: remote_kind(metadata.file_type()),
                         attrs: metadata.into_inner(),
                     }),
-                    Err(e) => Err(Reason::Failed(e)),
+                    Err(e) => Err(e.into()),
                 }
             }
             Way::Put => {
@@ -109,7 +102,7 @@ impl<'a, L: Link> Courier<'a, L> {
         let listed = match self.way {
             Way::Get => match list_remote(self.rt.alloc(), &mut self.sftp, walk) {
                 Ok(()) => Ok(()),
-                Err(e) => Err(Reason::Failed(e)),
+                Err(e) => Err(e.into()),
             },
             Way::Put => list_local(self.rt, walk, complete),
         };
@@ -120,7 +113,7 @@ impl<'a, L: Link> Courier<'a, L> {
             return Err(reason);
         }
         *complete = false;
-        self.tell_of(walk.folder().source.as_slice(), &reason);
+        tell_of(self.rt, walk.folder().source.as_slice(), &reason);
         Ok(())
     }
 
@@ -142,7 +135,7 @@ impl<'a, L: Link> Courier<'a, L> {
             source.attrs,
             texts,
         );
-        let mut walk = no_memory(walk)?;
+        let mut walk = walk?;
         for _ in 0..MAX_ENTRIES {
             self.list_folder(&mut walk, complete)?;
             if !walk.go_on() {
@@ -170,7 +163,7 @@ impl<'a, L: Link> Courier<'a, L> {
                 let found = Found {
                     task: Task::CopyFile,
                     depth: 0,
-                    source: ByteText::new(no_memory(copied(self.rt.alloc(), path.as_bytes()))?),
+                    source: ByteText::new(copied(self.rt.alloc(), path.as_bytes())?),
                     target: ByteText::new(target),
                     attrs: source.attrs,
                 };
@@ -205,9 +198,9 @@ impl<'a, L: Link> Courier<'a, L> {
         for path in sources {
             let path = path.as_str();
             if let Err(reason) = self.gather_source(path, target, into, &mut gathered) {
-                self.tell_of(path.as_bytes(), &reason);
+                tell_of(self.rt, path.as_bytes(), &reason);
                 gathered.complete = false;
-                self.starved = self.starved || is_starved(&reason);
+                self.totals.starved = self.totals.starved || is_starved(&reason);
                 if ends_walk(&reason) || self.sftp.core().fault().is_some() {
                     return None;
                 }
@@ -220,7 +213,7 @@ impl<'a, L: Link> Courier<'a, L> {
 /// Whether a walk can't go on.
 fn ends_walk(reason: &Reason) -> bool {
     match reason {
-        Reason::Failed(Failure::TooManyEntries) => true,
+        Reason::TooManyEntries => true,
         _ => is_starved(reason),
     }
 }
@@ -229,6 +222,6 @@ fn ends_walk(reason: &Reason) -> bool {
 fn add_job(jobs: &mut Vec<Found>, found: Found) -> Result<(), Reason> {
     match jobs.push(found) {
         Ok(()) => Ok(()),
-        Err(_) => Err(Reason::Failed(Failure::OutOfMemory)),
+        Err(_) => Err(Reason::OutOfMemory),
     }
 }

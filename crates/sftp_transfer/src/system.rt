@@ -1,30 +1,37 @@
 //! A file of the system as a local file.
 use bytes::Bytes;
 use std::alloc::Global;
-use std::fs::{File, Files};
+use std::fs::File;
 use std::io::{ErrorKind, Read, Write};
 use std::marker::Model;
 use std::{fs, io};
-use transfer_file::{LocalError, LocalFile};
+use transfer_copier::{LocalError, LocalFile};
 
-/// A file that a runtime reaches. It tells nothing of its acts.
+/// A file of the system, and the number of its copy. It tells nothing of its acts.
 #[derive(Drop)]
-pub struct SystemFile<R: Files> {
-    runtime: R,
-    file: Option<R::File>,
+pub struct SystemFile<'a> {
+    runtime: &'a HostRuntime,
+    number: usize,
+    file: Option<File>,
 }
 
-impl<R: Files> SystemFile<R> {
-    /// No file yet.
-    pub fn new(runtime: R) -> SystemFile<R> {
+impl<'a> SystemFile<'a> {
+    /// No file yet, of the copy with a number.
+    pub fn new(runtime: &'a HostRuntime, number: usize) -> SystemFile<'a> {
         SystemFile {
             runtime,
+            number,
             file: None,
         }
     }
+
+    /// The number of its copy.
+    pub fn number(&self) -> usize {
+        self.number
+    }
 }
 
-impl<R: Files> LocalFile for SystemFile<R> {
+impl<'a> LocalFile for SystemFile<'a> {
     ghost History = { Unit {0} };
 
     ghost done = { λ act history. history };
@@ -32,17 +39,17 @@ impl<R: Files> LocalFile for SystemFile<R> {
     ghost history = { λ file. tt };
 
     fn open(&mut self, name: &str) -> Result<(), LocalError> {
-        self.file = Some(File::open(&self.runtime, name)?);
+        self.file = Some(File::open(self.runtime, name)?);
         Ok(())
     }
 
     fn create(&mut self, name: &str) -> Result<(), LocalError> {
         // what has the name is taken away, so that a symbolic link there isn't followed
-        match fs::remove_file(&self.runtime, name) {
+        match fs::remove_file(self.runtime, name) {
             Err(e) if e.kind() != ErrorKind::NotFound => return Err(e.into()),
             _ => {}
         }
-        self.file = Some(File::create_new(&self.runtime, name)?);
+        self.file = Some(File::create_new(self.runtime, name)?);
         Ok(())
     }
 
@@ -69,7 +76,7 @@ impl<R: Files> LocalFile for SystemFile<R> {
     }
 
     fn rename(&mut self, from: &str, to: &str) -> Result<(), LocalError> {
-        Ok(fs::rename(&self.runtime, from, to)?)
+        Ok(fs::rename(self.runtime, from, to)?)
     }
 }
 

@@ -9,8 +9,8 @@ Usage: sftp_transfer LINK get [OPTIONS] REMOTE.. LOCAL
        sftp_transfer LINK list [-l] [PATH]
        sftp_transfer --help | --version
 
-Copies files and trees from or to an SFTP server, with many requests under way at once, or
-lists a folder of it.
+Copies files and trees from or to an SFTP server, many files at once and with many requests
+under way for each, or lists a folder of it.
 
 LINK is unix:PATH, a Unix socket on which the server listens, tcp:HOST:PORT, or stdio, where
 standard input and output are the connection. With ssh:
@@ -22,7 +22,9 @@ standard input and output are the connection. With ssh:
   -p           permissions and times are kept
   -q           nothing is told but what was not done
   --progress   how far the transfer has come, on standard error
+  --files N    files copied at once, from 1 to 256; 32 without this option
   --window N   requests under way for a file, from 1 to 1024; 64 without this option
+  --limit N    bytes under way for all files together; 16777216 without this option
 
 Where the target is a folder, or there are several sources, each is copied into it. A file
 NAME is written as .NAME.part beside it, and gets its name when all its bytes are there; a

@@ -1,18 +1,17 @@
 //! What is done over a link.
 ghost use Rattle.std.specs.Prelude.{◌<◌, ◌-◌, ◌^◌};
-ghost use Rattle.transfer_file.specs.Sessions.{IsGoing};
+ghost use Rattle.transfer_copier.specs.Sessions.{IsGoing};
 
+use crate::batch::Totals;
 use crate::courier::Courier;
 use crate::ended::{Reach, ended_by};
 use crate::listing::list;
 use crate::local_side::{is_folder, make_local_folder};
-use crate::printable::printable;
-use crate::reason::{Reason, is_starved, tell};
+use crate::reason::{Reason, is_starved, tell, tell_of};
 use sftp_client::Sftp;
 use sftp_link::Link;
 use sftp_model::SftpOptions;
 use std::fs;
-use transfer_file::Failure;
 use transfer_jobs::carry_out;
 use transfer_remote::{make_remote_folder, remote_metadata};
 use transfer_words::{Transfer, Way, Work};
@@ -84,9 +83,13 @@ pub(crate) fn over<L: Link + Drop>(rt: &HostRuntime, link: L, work: Work<'_>) ->
                     sftp,
                     way: transfer.way,
                     options: transfer.options,
-                    files: 0,
-                    bytes: 0,
-                    starved: false,
+                    totals: Totals {
+                        files: 0,
+                        bytes: 0,
+                        starved: false,
+                    },
+                    given: Vec::new(rt.alloc()),
+                    answered: 0,
                 };
                 copy(&mut courier, &transfer)
             }
@@ -96,7 +99,7 @@ pub(crate) fn over<L: Link + Drop>(rt: &HostRuntime, link: L, work: Work<'_>) ->
             }
         },
         Err((e, _link)) => {
-            let reason = Reason::Failed(Failure::from(e));
+            let reason = Reason::from(e);
             tell(rt, "the session", &reason);
             ended_by(is_starved(&reason), false, false)
         }
@@ -104,10 +107,7 @@ pub(crate) fn over<L: Link + Drop>(rt: &HostRuntime, link: L, work: Work<'_>) ->
 }
 
 /// Whether the sources go into the target: it is a folder, or there are several. That folder is made where it isn't there.
-fn goes_into<L: Link>(
-    courier: &mut Courier<'_, L>,
-    transfer: &Transfer<'_>,
-) -> Result<bool, Failure>
+fn goes_into<L: Link>(courier: &mut Courier<'_, L>, transfer: &Transfer<'_>) -> Result<bool, Reason>
     requires { IsGoing L.LinkState.state courier.old.sftp }
     ensures { IsGoing L.LinkState.state courier.new.sftp }
 {
@@ -121,7 +121,7 @@ fn goes_into<L: Link>(
                 _ if several => {
                     match make_remote_folder(courier.rt.alloc(), &mut courier.sftp, target) {
                         Ok(()) => Ok(true),
-                        Err(e) => Err(e),
+                        Err(e) => Err(e.into()),
                     }
                 }
                 _ => Ok(false),
@@ -136,14 +136,13 @@ fn copy<L: Link>(courier: &mut Courier<'_, L>, transfer: &Transfer<'_>) -> Reach
 {
     let into = match goes_into(courier, transfer) {
         Ok(into) => into,
-        Err(e) => {
-            let reason = Reason::Failed(e);
-            courier.tell_of(transfer.target.as_bytes(), &reason);
+        Err(reason) => {
+            tell_of(courier.rt, transfer.target.as_bytes(), &reason);
             return ended_by(is_starved(&reason), false, false);
         }
     };
     let Some(gathered) = courier.gather(transfer.sources, transfer.target, into) else {
-        return ended_by(courier.starved, false, false);
+        return ended_by(courier.totals.starved, false, false);
     };
     let alloc = courier.rt.alloc();
     let several = gathered.jobs.len() > 1;
@@ -155,7 +154,7 @@ fn copy<L: Link>(courier: &mut Courier<'_, L>, transfer: &Transfer<'_>) -> Reach
     );
     courier.tell_end(several);
     match carried {
-        Ok(tally) => ended_by(courier.starved, gathered.complete, tally.all_done()),
+        Ok(tally) => ended_by(courier.totals.starved, gathered.complete, tally.all_done()),
         Err(_) => Reach::OutOfMemory,
     }
 }

@@ -145,7 +145,8 @@ left_taken state old new going unfailed takes = record {
   keeps = keeps_taken old.core new.core (reply_at takes.body) takes.told going.opened takes.right takes.taken;
 }
 
-pub took : {L S : Type 0} (state : L → LinkView S) (old new : SftpValue L) (b : Bool) → IsGoing state old → TakesOrKept state old new (Ok b) → Left state old new
+pub took : {L S : Type 0} (state : L → LinkView S) (old new : SftpValue L) (b : Bool) → IsGoing state old
+    → TakesOrKept state old new (Ok b) → Left state old new
 took state old new true going (unfailed, (due, takes)) = left_taken state old new going unfailed takes
 took state old new false going (unfailed, takes) = left_sent state old new going takes.sends
 

@@ -5,6 +5,8 @@ use Rattle.std.proofs.Common.{
   inl,
   inr,
   ◌<◌,
+  ◌-◌,
+  ◌^◌,
   ℕ,
   zero,
   suc,
@@ -29,9 +31,11 @@ use Rattle.std.proofs.Common.{
 }
 use Rattle.std.specs.Prelude.{IsSome, Result, Ok, Err}
 use Rattle.std.proofs.lemmas.List.{nil_from_length}
+use Rattle.sftp_core.specs.declared.handshake.Handshake.{Handshake}
 use Rattle.sftp_core.specs.Core.{Core}
+use Rattle.sftp_core.specs.Info.{info_of}
 use Rattle.sftp_link.specs.Views.{LinkView}
-use Rattle.sftp_client.specs.Sessions.{SftpValue}
+use Rattle.sftp_client.specs.Sessions.{SftpValue, with_core}
 use Rattle.transfer_states.specs.declared.failure.Failure.{Failure}
 use Rattle.transfer_local.specs.Local.{LocalAct}
 use Rattle.transfer_copier.specs.declared.copier.CopierStep.{CopierStep}
@@ -41,8 +45,9 @@ use Rattle.transfer_copier.specs.declared.jobs.JobTurn.TheVariants as turn
 use Rattle.transfer_copier.specs.declared.jobs.Telling.TheVariants as telling
 use Rattle.transfer_copier.specs.declared.jobs.Wanted.{Wanted}
 use Rattle.transfer_copier.specs.declared.running.Copied.{Copied}
+use Rattle.transfer_copier.specs.declared.running.CopyJob.{CopyJob}
 use Rattle.transfer_copier.specs.declared.running.Running.{Running}
-use Rattle.transfer_copier.specs.Copies.{AreTogether, CopierSteps, CopierValue, NextEnded, WorkedOn, Working, WorksOnce}
+use Rattle.transfer_copier.specs.Copies.{AreTogether, CopierSteps, CopierValue, NextEnded, SparesAll, WorkedOn, Working, WorksOnce, copy_begun}
 use Rattle.transfer_copier.specs.Jobs.{
   BeginsJob,
   BeginsOrNot,
@@ -61,6 +66,7 @@ use Rattle.transfer_copier.specs.Jobs.{
   all_noted,
   given_in,
   jobs_at,
+  one_if,
   over_in,
   with_copy,
   working_in,
@@ -92,15 +98,54 @@ worked_length {L = L} {F = F} state done history zero old new same = ap (λ (w :
 worked_length state done history (suc n) old new (mid, earlier, works) =
     worked_once state done history mid new works ∙ worked_length state done history n old mid earlier
 
-ended_length : {L S F H : Type 0} (state : L → LinkView S) (done : LocalAct → H → H) (history : F → H) (old new : Working L F)
-    (copied : Copied F) → NextEnded state done history old new (Ok (Some copied)) → length old.running ≡ suc (length new.running)
-ended_length state done history old new copied (n, last, worked, step) =
-    sym (worked_length state done history n old last worked) ∙ (ap length step.steps.first ∙ ap (λ l. suc (length l)) (sym step.steps.now))
-
 pub idle_none : {L S F H : Type 0} (state : L → LinkView S) (done : LocalAct → H → H) (history : F → H) (old new : Working L F)
     → NextEnded state done history old new (Ok None) → (old.running ≡ []) × (new.running ≡ [])
 idle_none state done history old new (n, last, worked, step) =
     (nil_from_length old.running (sym (worked_length state done history n old last worked) ∙ ap length step.steps.0), step.steps.1)
+
+-- ---- how many of these pass a test
+
+abbrev running_in : {F : Type 0} → (CopyJob → Bool) → List (Running F) → ℕ
+running_in test [] = 0
+running_in test (r ∷ later) = one_if (test r.job) + running_in test later
+
+running_last : {F : Type 0} (test : CopyJob → Bool) (l : List (Running F)) (x : Running F)
+    → running_in test (l ++ x ∷ []) ≡ running_in test l + one_if (test x.job)
+running_last test [] x = omega (arith)
+running_last test (y ∷ l) x = (let e = running_last test l x in omega (arith, e))
+
+sum_turned : (old new first later now : ℕ) → old ≡ first + later → new ≡ later + now → now ≡ first → new ≡ old
+sum_turned old new first later now x y z = omega (arith, x, y, z)
+
+counted_once : {L S F H : Type 0} (state : L → LinkView S) (done : LocalAct → H → H) (history : F → H) (test : CopyJob → Bool)
+    (old new : Working L F) → WorksOnce state done history old new → running_in test new.running ≡ running_in test old.running
+counted_once state done history test old new (inl s) =
+    sum_turned (running_in test old.running) (running_in test new.running) (one_if (test s.steps.copy.job)) (running_in test s.steps.later)
+    (one_if (test s.steps.next.job)) (ap (running_in test) s.steps.first)
+    (ap (running_in test) s.steps.now ∙ running_last test s.steps.later s.steps.next)
+    (ap (λ (j : CopyJob). one_if (test j)) s.steps.goes.job)
+counted_once state done history test old new (inr (inl s)) =
+    sum_turned (running_in test old.running) (running_in test new.running) (one_if (test s.steps.copy.job)) (running_in test s.steps.later)
+    (one_if (test s.steps.next.job)) (ap (running_in test) s.steps.first)
+    (ap (running_in test) s.steps.now ∙ running_last test s.steps.later s.steps.next)
+    (ap (λ (j : CopyJob). one_if (test j)) s.steps.goes.job)
+counted_once state done history test old new (inr (inr t)) = ap (running_in test) t.same
+
+counted : {L S F H : Type 0} (state : L → LinkView S) (done : LocalAct → H → H) (history : F → H) (test : CopyJob → Bool) (n : ℕ)
+    (old new : Working L F) → WorkedOn state done history n old new → running_in test new.running ≡ running_in test old.running
+counted {L = L} {F = F} state done history test zero old new same = ap (λ (w : Working L F). running_in test w.running) same
+counted state done history test (suc n) old new (mid, earlier, works) =
+    counted_once state done history test mid new works ∙ counted state done history test n old mid earlier
+
+ended_counted : {L S F H : Type 0} (state : L → LinkView S) (done : LocalAct → H → H) (history : F → H) (test : CopyJob → Bool)
+    (old new : Working L F) (copied : Copied F) → NextEnded state done history old new (Ok (Some copied))
+    → running_in test old.running ≡ one_if (test copied.job) + running_in test new.running
+ended_counted {F = F} state done history test old new copied (n, last, worked, step) =
+    let job : step.steps.copy.job ≡ copied.job = sym step.steps.goes.job ∙ sym step.steps.ended.job in
+    sym (counted state done history test n old last worked)
+    ∙ (ap (running_in test) step.steps.first
+    ∙ (ap (λ (j : CopyJob). one_if (test j) + running_in test step.steps.later) job
+    ∙ ap (λ (l : List (Running F)). one_if (test copied.job) + running_in test l) (sym step.steps.now)))
 
 -- ---- so far
 
@@ -203,65 +248,81 @@ jobs_done state done history noted window most first now session running notes w
     let none = idle_none state done history (working_in now) (record { session = session; running = running }) t.did.0 in
     (w.steps, now, w.run, one_fits (length now.running) most now.more (ap length none.0) some t.did.1, none.0, none.1, t.did.2)
 
--- ---- as many outcomes as jobs
+-- ---- what was told is what was given
 
 pub record IsTold {L F N : Type 0} (noted : JobNote F → N → N) (first now : Jobs L F N) : Type 0 where
   pub notes : List (JobNote F)
   pub told : now.notes ≡ all_noted noted notes first.notes
-  pub count : given_in notes ≡ over_in notes + length now.running
+  pub count : (test : CopyJob → Bool) → given_in test notes ≡ over_in test notes + running_in test now.running
 
 noted_last : {F N : Type 0} (noted : JobNote F → N → N) (notes : List (JobNote F)) (note : JobNote F) (n : N)
     → all_noted noted (notes ++ note ∷ []) n ≡ noted note (all_noted noted notes n)
 noted_last noted [] note n = refl
 noted_last noted (first ∷ later) note n = noted_last noted later note (noted first n)
 
-given_join : {F : Type 0} (xs ys : List (JobNote F)) → given_in (xs ++ ys) ≡ given_in xs + given_in ys
-given_join [] ys = omega (arith)
-given_join (Given w ∷ xs) ys = (let e = given_join xs ys in omega (arith, e))
-given_join (NoMore ∷ xs) ys = given_join xs ys
-given_join (Over c ∷ xs) ys = given_join xs ys
+given_join : {F : Type 0} (test : CopyJob → Bool) (xs ys : List (JobNote F))
+    → given_in test (xs ++ ys) ≡ given_in test xs + given_in test ys
+given_join test [] ys = omega (arith)
+given_join test (Given w ∷ xs) ys = (let e = given_join test xs ys in omega (arith, e))
+given_join test (NoMore ∷ xs) ys = given_join test xs ys
+given_join test (Over c ∷ xs) ys = given_join test xs ys
 
-over_join : {F : Type 0} (xs ys : List (JobNote F)) → over_in (xs ++ ys) ≡ over_in xs + over_in ys
-over_join [] ys = omega (arith)
-over_join (Given w ∷ xs) ys = over_join xs ys
-over_join (NoMore ∷ xs) ys = over_join xs ys
-over_join (Over c ∷ xs) ys = (let e = over_join xs ys in omega (arith, e))
+over_join : {F : Type 0} (test : CopyJob → Bool) (xs ys : List (JobNote F))
+    → over_in test (xs ++ ys) ≡ over_in test xs + over_in test ys
+over_join test [] ys = omega (arith)
+over_join test (Given w ∷ xs) ys = over_join test xs ys
+over_join test (NoMore ∷ xs) ys = over_join test xs ys
+over_join test (Over c ∷ xs) ys = (let e = over_join test xs ys in omega (arith, e))
+
+abbrev begun_copy : {F : Type 0} → Wanted F → ℕ → Running F
+begun_copy wanted window = record { job = wanted.job; local = wanted.local; state = copy_begun wanted.job.way window }
 
 begun_told : {L F N : Type 0} (noted : JobNote F → N → N) (window most : ℕ) (first mid new : Jobs L F N) → IsTold noted first mid
     → BeginsOrNot noted window most mid new → IsTold noted first new
 begun_told {L = L} {F = F} {N = N} noted window most first mid new t (more, few, inl (wanted, is)) =
-    let notes = t.notes ++ Given wanted ∷ [] in
-    let given = given_join t.notes (Given wanted ∷ []) in
-    let over = over_join t.notes (Given wanted ∷ []) in
-    let len : length new.running ≡ length mid.running + 1 = ap (λ (j : Jobs L F N). length j.running) is ∙ length_last mid.running _ in
-    let count = t.count in
     record {
-      notes = notes;
+      notes = t.notes ++ Given wanted ∷ [];
       told = ap (λ (j : Jobs L F N). j.notes) is ∙ (ap (noted (Given wanted)) t.told ∙ sym (noted_last noted t.notes (Given wanted) first.notes));
-      count = omega (arith, given, over, len, count);
+      count = λ test.
+          let given : given_in test (t.notes ++ Given wanted ∷ []) ≡ given_in test t.notes + (one_if (test wanted.job) + 0) =
+          given_join test t.notes (Given wanted ∷ []) in
+          let over : over_in test (t.notes ++ Given wanted ∷ []) ≡ over_in test t.notes + 0 =
+          over_join test t.notes (Given wanted ∷ []) in
+          let now : running_in test new.running ≡ running_in test mid.running + one_if (test wanted.job) =
+          ap (λ (j : Jobs L F N). running_in test j.running) is ∙ running_last test mid.running (begun_copy wanted window) in
+          let count = t.count test in
+          omega (arith, given, over, now, count);
     }
 begun_told {L = L} {F = F} {N = N} noted window most first mid new t (more, few, inr is) =
-    let given = given_join {F = F} t.notes (NoMore ∷ []) in
-    let over = over_join {F = F} t.notes (NoMore ∷ []) in
-    let len : length new.running ≡ length mid.running = ap (λ (j : Jobs L F N). length j.running) is in
-    let count = t.count in
     record {
       notes = t.notes ++ NoMore ∷ [];
       told = ap (λ (j : Jobs L F N). j.notes) is ∙ (ap (noted NoMore) t.told ∙ sym (noted_last noted t.notes NoMore first.notes));
-      count = omega (arith, given, over, len, count);
+      count = λ test.
+          let given : given_in test (t.notes ++ NoMore ∷ []) ≡ given_in test t.notes + 0 =
+          given_join {F = F} test t.notes (NoMore ∷ []) in
+          let over : over_in test (t.notes ++ NoMore ∷ []) ≡ over_in test t.notes + 0 =
+          over_join {F = F} test t.notes (NoMore ∷ []) in
+          let now : running_in test new.running ≡ running_in test mid.running =
+          ap (λ (j : Jobs L F N). running_in test j.running) is in
+          let count = t.count test in
+          omega (arith, given, over, now, count);
     }
 
 ended_told : {L S F H N : Type 0} (state : L → LinkView S) (done : LocalAct → H → H) (history : F → H) (noted : JobNote F → N → N)
     (first mid new : Jobs L F N) → IsTold noted first mid → TellsOne state done history noted mid new → IsTold noted first new
 ended_told state done history noted first mid new t one =
-    let given = given_join t.notes (Over one.copied ∷ []) in
-    let over = over_join t.notes (Over one.copied ∷ []) in
-    let len = ended_length state done history (working_in mid) (working_in new) one.copied one.ended in
-    let count = t.count in
     record {
       notes = t.notes ++ Over one.copied ∷ [];
       told = one.told ∙ (ap (noted (Over one.copied)) t.told ∙ sym (noted_last noted t.notes (Over one.copied) first.notes));
-      count = omega (arith, given, over, len, count);
+      count = λ test.
+          let given : given_in test (t.notes ++ Over one.copied ∷ []) ≡ given_in test t.notes + 0 =
+          given_join test t.notes (Over one.copied ∷ []) in
+          let over : over_in test (t.notes ++ Over one.copied ∷ []) ≡ over_in test t.notes + (one_if (test one.copied.job) + 0) =
+          over_join test t.notes (Over one.copied ∷ []) in
+          let now : running_in test mid.running ≡ one_if (test one.copied.job) + running_in test new.running =
+          ended_counted state done history test (working_in mid) (working_in new) one.copied one.ended in
+          let count = t.count test in
+          omega (arith, given, over, now, count);
     }
 
 step_told : {L S F H N : Type 0} (state : L → LinkView S) (done : LocalAct → H → H) (history : F → H) (noted : JobNote F → N → N)
@@ -274,8 +335,14 @@ pub steps_told : {L S F H N : Type 0} (state : L → LinkView S) (done : LocalAc
     (window most n : ℕ) (first now : Jobs L F N) → first.running ≡ [] → JobSteps state done history noted window most n first now
     → IsTold noted first now
 steps_told {L = L} {F = F} {N = N} state done history noted window most zero first now none same =
-    let len : length now.running ≡ 0 = ap (λ (j : Jobs L F N). length j.running) same ∙ ap length none in
-    record { notes = []; told = ap (λ (j : Jobs L F N). j.notes) same; count = omega (arith, len) }
+    record {
+      notes = [];
+      told = ap (λ (j : Jobs L F N). j.notes) same;
+      count = λ test.
+          let now : running_in test now.running ≡ 0 =
+          ap (λ (j : Jobs L F N). running_in test j.running) same ∙ ap (running_in test) none in
+          omega (arith, now);
+    }
 steps_told state done history noted window most (suc n) first now none (mid, earlier, step) =
     step_told state done history noted window most first mid now
     (steps_told state done history noted window most n first mid none earlier) step
@@ -286,13 +353,27 @@ pub copied_all : {L S F H N : Type 0} (state : L → LinkView S) (done : LocalAc
     → CopiesAll state done history noted window most old before after result
 copied_all state done history noted window most old session running before after (Ok u) (n, last, steps, more, over, none, same) =
     let t = steps_told state done history noted window most n (jobs_at old [] before) last refl steps in
-    let len = ap length over in
-    let count = t.count in
     record {
       session = session;
       running = running;
       did = (n, last, steps, more, over, none, same);
-      each = record { notes = t.notes; noted_all = same ∙ t.told; each = omega (arith, count, len) };
+      each = record {
+        notes = t.notes;
+        noted_all = same ∙ t.told;
+        each = λ test.
+            let none : running_in test last.running ≡ 0 = ap (running_in test) over in
+            let count = t.count test in
+            omega (arith, count, none);
+      };
     }
 copied_all state done history noted window most old session running before after (Err e) did =
     record { session = session; running = running; did = did; each = tt }
+
+-- ---- the session may go on once the copies are given up
+
+pub going_spared : {L S F : Type 0} (state : L → LinkView S) (copies : List (Running F)) (old new : SftpValue L)
+    → IsGoing state old → SparesAll copies old.core new.core → new ≡ with_core old new.core → IsGoing state new
+going_spared state copies old new going spares rest = record {
+  opened = subst (λ (p : Handshake). IsSome (info_of p)) (sym spares.phase) going.opened;
+  alive = λ none. subst (λ (x : SftpValue _). (state x.link).faults < 2 ^ 64 - 1) (sym rest) (going.alive (sym spares.fault ∙ none));
+}

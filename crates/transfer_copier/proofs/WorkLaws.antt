@@ -1,6 +1,7 @@
 -- Steps of copies and turns of their session.
 use Rattle.std.proofs.Common.{◌≡◌, ◌<◌, ◌-◌, ◌^◌, ◌⊎◌, inl, inr, ℕ, zero, suc, ◌+◌, List, [], ◌∷◌, refl, sym, ap, ◌∙◌, subst, Option, Some, None}
 use Rattle.std.specs.Prelude.{IsSome, Result, Ok, Err}
+use Rattle.sftp_model.specs.declared.error.Error.{Error}
 use Rattle.sftp_core.specs.declared.handshake.Handshake.{Handshake}
 use Rattle.sftp_core.specs.Core.{Core}
 use Rattle.sftp_core.specs.Info.{info_of}
@@ -79,13 +80,13 @@ stepped_idle state done history old new going together s =
     record { going = going_stepped state done history old new copier_step.Idle going s; together = together; did = s }
 
 worked_two : {L S F H : Type 0} (state : L → LinkView S) (done : LocalAct → H → H) (history : F → H) (old mid new : Working L F)
-    (turned : Result (Unit {0}) Failure) → StepsCopies done history old mid copier_step.Waits → Turned state mid.session new.session turned
+    (turned : Result (Unit {0}) Error) → StepsCopies done history old mid copier_step.Waits → Turned state mid.session new.session turned
     → new.running ≡ mid.running → (n : ℕ) × WorkedOn state done history n old new
 worked_two state done history old mid new turned s t same =
     (2, (mid, (old, refl, inl s), inr (inr (record { result = turned; turned = t; same = same }))))
 
 pub turned_on : {L S F H : Type 0} (state : L → LinkView S) (done : LocalAct → H → H) (history : F → H) (old mid new : Working L F)
-    (turned : Result (Unit {0}) Failure) → AreTogether mid.session.core mid.running
+    (turned : Result (Unit {0}) Error) → AreTogether mid.session.core mid.running
     → StepsCopies done history old mid copier_step.Waits → Turned state mid.session new.session turned → new.running ≡ mid.running
     → Advanced state done history old new advance.On
 turned_on {F = F} state done history old mid new turned together s t same = record {
@@ -96,7 +97,7 @@ turned_on {F = F} state done history old mid new turned together s t same = reco
 }
 
 pub turned_off : {L S F H : Type 0} (state : L → LinkView S) (done : LocalAct → H → H) (history : F → H) (old mid new : Working L F)
-    (turned : Result (Unit {0}) Failure) (e : Failure) → AreTogether mid.session.core mid.running
+    (turned : Result (Unit {0}) Error) (e : Failure) → AreTogether mid.session.core mid.running
     → StepsCopies done history old mid copier_step.Waits → Turned state mid.session new.session turned → new.running ≡ mid.running
     → Advanced state done history old new (advance.Stopped e)
 turned_off {F = F} state done history old mid new turned e together s t same = record {

@@ -17,6 +17,7 @@ use Rattle.std.specs.Prelude.{
   Err,
 }
 use Rattle.std.specs.String.{string_bytes}
+use Rattle.sftp_model.specs.declared.error.Error.{Error}
 use Rattle.sftp_core.specs.Core.{Core, at}
 use Rattle.sftp_core.specs.declared.place.Place.{Place}
 use Rattle.sftp_link.specs.Views.{LinkView}
@@ -190,7 +191,7 @@ pub record StepsCopies {L F H : Type 0} (done : LocalAct → H → H) (history :
 
 -- the session took a turn, and the copies none
 pub record TurnsSession {L S F : Type 0} (state : L → LinkView S) (old new : Working L F) : Type 0 where
-  pub result : Result (Unit {0}) Failure
+  pub result : Result (Unit {0}) Error
   pub turned : Turned state old.session new.session result
   pub same : new.running ≡ old.running
 

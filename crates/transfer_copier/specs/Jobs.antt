@@ -3,6 +3,7 @@ use Rattle.std.specs.Prelude.{
   ◌≡◌,
   ◌⊎◌,
   ◌<◌,
+  ◌+◌,
   ℕ,
   zero,
   suc,
@@ -173,21 +174,28 @@ abbrev pub all_noted : {F N : Type 0} → (JobNote F → N → N) → List (JobN
 all_noted noted [] notes = notes
 all_noted noted (note ∷ later) notes = all_noted noted later (noted note notes)
 
-abbrev pub given_in : {F : Type 0} → List (JobNote F) → ℕ
-given_in [] = 0
-given_in (Given wanted ∷ later) = suc (given_in later)
-given_in (other ∷ later) = given_in later
+abbrev pub one_if : Bool → ℕ
+one_if true = 1
+one_if false = 0
 
-abbrev pub over_in : {F : Type 0} → List (JobNote F) → ℕ
-over_in [] = 0
-over_in (Over copied ∷ later) = suc (over_in later)
-over_in (other ∷ later) = over_in later
+-- how many jobs that pass a test were given
+abbrev pub given_in : {F : Type 0} → (CopyJob → Bool) → List (JobNote F) → ℕ
+given_in test [] = 0
+given_in test (Given wanted ∷ later) = one_if (test wanted.job) + given_in test later
+given_in test (other ∷ later) = given_in test later
 
--- these notes were made, and as many outcomes were told as jobs were given
+-- of how many such jobs it was told what came of them
+abbrev pub over_in : {F : Type 0} → (CopyJob → Bool) → List (JobNote F) → ℕ
+over_in test [] = 0
+over_in test (Over copied ∷ later) = one_if (test copied.job) + over_in test later
+over_in test (other ∷ later) = over_in test later
+
+-- These notes were made, and of each job that was given it was told what came of it, once, and of no other: whatever
+-- jobs are counted, as many were told as given.
 pub record IsEachTold {F N : Type 0} (noted : JobNote F → N → N) (before after : N) : Type 0 where
   pub notes : List (JobNote F)
   pub noted_all : after ≡ all_noted noted notes before
-  pub each : over_in notes ≡ given_in notes
+  pub each : (test : CopyJob → Bool) → over_in test notes ≡ given_in test notes
 
 -- ---- all jobs
 

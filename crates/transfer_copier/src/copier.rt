@@ -71,7 +71,7 @@ impl<F: LocalFile + Drop> Copier<F> {
         self.running.len()
     }
 
-    /// BeginsJob a copy, which stands last, with at most `window` requests under way for its bytes, and one at least. Nothing
+    /// Begins a copy, which stands last, with at most `window` requests under way for its bytes, and one at least. Nothing
     /// is asked yet. Refused for want of memory, the copies are as before, and
     /// job and file are dropped.
     pub fn begin(

@@ -75,7 +75,7 @@ pub(crate) enum JobTurn {
     Stopped(Failure),
 }
 
-/// BeginsJob the copy of the next job.
+/// Begins the copy of the next job.
 fn begin_next<J: CopyJobs>(
     alloc: Global,
     copier: &mut Copier<J::File>,
@@ -109,7 +109,8 @@ pub fn copy_all<L: Link, J: CopyJobs>(
     window: u32,
 ) -> Result<(), Failure>
     requires { IsGoing L.LinkState.state sftp.old }
-    ensures { CopiesAll L.LinkState.state J.File.LocalFile.done J.File.LocalFile.history J.noted window (max files 1) sftp.old (J.history jobs.old) (J.history jobs.new) result }
+    ensures going { IsGoing L.LinkState.state sftp.new }
+    ensures copies { CopiesAll L.LinkState.state J.File.LocalFile.done J.File.LocalFile.history J.noted window (max files 1) sftp.old (J.history jobs.old) (J.history jobs.new) result }
 {
     let mut copier = Copier::new(alloc);
     let done = run(alloc, &mut copier, sftp, jobs, files, window);
@@ -139,7 +140,7 @@ fn tell_next<L: Link, J: CopyJobs>(
     }
 }
 
-/// BeginsJob copies while there is room for them, and tells what came of each, until all jobs are done.
+/// Begins copies while there is room for them, and tells what came of each, until all jobs are done.
 fn run<L: Link, J: CopyJobs>(
     alloc: Global,
     copier: &mut Copier<J::File>,
@@ -150,6 +151,7 @@ fn run<L: Link, J: CopyJobs>(
 ) -> Result<(), Failure>
     requires going { IsGoing L.LinkState.state sftp.old }
     requires together { AreTogether sftp.old.core copier.old.running }
+    ensures going { IsGoing L.LinkState.state sftp.new }
     ensures together { AreTogether sftp.new.core copier.new.running }
     ensures done { JobsDone L.LinkState.state J.File.LocalFile.done J.File.LocalFile.history J.noted window (max files 1) (jobs_at sftp.old copier.old.running (J.history jobs.old)) sftp.new copier.new.running (J.history jobs.new) result }
 {
@@ -165,7 +167,7 @@ fn run<L: Link, J: CopyJobs>(
     Err(Failure::TooLong)
 }
 
-/// BeginsJob the copy of the next job where there may be one and fewer copies than `most` are under way; else tells what came
+/// Begins the copy of the next job where there may be one and fewer copies than `most` are under way; else tells what came
 /// of the next one.
 fn job_turn<L: Link, J: CopyJobs>(
     alloc: Global,

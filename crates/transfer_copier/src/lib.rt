@@ -10,6 +10,7 @@ pub use copier::{Copier, CopierStep};
 pub use jobs::{CopyJobs, Wanted, copy_all};
 pub use running::{Copied, CopyJob, CopyState, Running, Way};
 pub use transfer_states::{Failure, LocalError, LocalFile, Progress};
+pub use turning::turn;
 
 #[cfg(test)]
 mod tests;

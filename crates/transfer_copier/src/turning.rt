@@ -1,6 +1,6 @@
 //! A session goes on by one turn.
 ghost use Rattle.std.specs.Prelude.{Result};
-ghost use Rattle.transfer_states.specs.declared.failure.Failure.{Failure as FailureValue};
+ghost use Rattle.sftp_model.specs.declared.error.Error.{Error as ErrorValue};
 ghost use Rattle.transfer_copier.specs.Sessions.{IsGoing, Turned};
 
 use sftp_client::Sftp;
@@ -10,26 +10,26 @@ use transfer_states::Failure;
 
 /// Sends what is queued, and takes one frame, where a sent request has no reply. A kept fault is answered before the link
 /// is called.
-pub(crate) fn turn<L: Link>(sftp: &mut Sftp<L>) -> Result<(), Failure>
+pub fn turn<L: Link>(sftp: &mut Sftp<L>) -> Result<(), Error>
     requires { IsGoing L.LinkState.state sftp.old }
     ensures { Turned L.LinkState.state sftp.old sftp.new result }
 {
     if let Some(fault) = sftp.core().fault() {
-        return Err(Failure::Remote(Error::BackgroundTaskFailure(fault)));
+        return Err(Error::BackgroundTaskFailure(fault));
     }
     match sftp.flush() {
         Ok(()) => match sftp.take() {
             Ok(_) => Ok(()),
-            Err(e) => Err(e.into()),
+            Err(e) => Err(e),
         },
-        Err(e) => Err(e.into()),
+        Err(e) => Err(e),
     }
 }
 
 /// A turn, of which a fault that is kept is no error: each copy is told it.
 pub(crate) fn turn_on<L: Link>(sftp: &mut Sftp<L>) -> Result<(), Failure>
     requires { IsGoing L.LinkState.state sftp.old }
-    ensures { (turned : Result (Unit {0}) FailureValue) × Turned L.LinkState.state sftp.old sftp.new turned }
+    ensures { (turned : Result (Unit {0}) ErrorValue) × Turned L.LinkState.state sftp.old sftp.new turned }
 {
     match turn(sftp) {
         Ok(()) => Ok(()),
@@ -37,7 +37,7 @@ pub(crate) fn turn_on<L: Link>(sftp: &mut Sftp<L>) -> Result<(), Failure>
             if sftp.core().fault().is_some() {
                 return Ok(());
             }
-            Err(e)
+            Err(e.into())
         }
     }
 }

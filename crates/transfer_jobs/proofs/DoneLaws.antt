@@ -1,13 +1,19 @@
 -- Where all jobs were done, each was.
-use Rattle.std.proofs.Common.{◌≡◌, ◌&&◌, Bool, true, false, not, List, [], ◌∷◌, reverse, if◌then◌else◌, refl, sym, ap, ◌∙◌, subst}
+use Rattle.std.proofs.Common.{◌≡◌, ◌==◌, ◌&&◌, ◌++◌, Bool, true, false, not, List, [], ◌∷◌, reverse, if◌then◌else◌, refl, sym, ap, ◌∙◌, subst}
+use Rattle.std.specs.List.{list_any, starts_with}
+use Rattle.transfer_jobs.proofs.ActLaws.{worked_append}
+use Rattle.transfer_jobs.specs.declared.carry.Phase.{Phase}
+use Rattle.transfer_jobs.specs.declared.carry.Phase.TheVariants as phase
 use Rattle.transfer_jobs.specs.declared.hand.Verdict.{Verdict}
 use Rattle.transfer_jobs.specs.declared.hand.Verdict.TheVariants.{Done, NotDone, Stop}
 use Rattle.transfer_jobs.specs.Jobs.{
   AreActs,
   AreAllDone,
   CarriesOut,
+  Copied,
   FactBy,
   HasActed,
+  HasCopied,
   HasKept,
   IsJob,
   IsKeep,
@@ -19,12 +25,16 @@ use Rattle.transfer_jobs.specs.Jobs.{
   after_job,
   all_work,
   all_worked,
+  files_in,
   in_phase,
   is_done,
+  is_file,
+  is_folder,
   is_of,
   no_job,
   to_keep,
 }
+use Rattle.transfer_paths.specs.Names.{path_in}
 use Rattle.transfer_walk.specs.declared.found.Found.{Found}
 
 -- while all was done no job was the last one
@@ -44,104 +54,117 @@ goes_on found Done t goes = λ e. rw (goes (and_left t.all_done true e)) refl
 goes_on found NotDone t goes = λ e. absurd (let never : false ≡ true = and_right t.all_done false e in cc)
 goes_on found Stop t goes = λ e. absurd (let never : false ≡ true = and_right t.all_done false e in cc)
 
+-- a job that was done makes no folder one that was not made
+done_unmade : (found : Found) (t : TallyValue) → t.unmade ≡ [] → (after_job (Worked found Done) t).unmade ≡ []
+done_unmade found t none = by_test (is_folder found.task)
+  where
+    by_test : (b : Bool) → (if b && false then t.unmade ++ path_in found.target [] ∷ [] else t.unmade) ≡ []
+    by_test true = none
+    by_test false = none
+
 is_done_one : (v : Verdict) → is_done v ≡ true → v ≡ Done
 is_done_one Done e = refl
 is_done_one NotDone e = absurd cc
 is_done_one Stop e = absurd cc
 
 -- a phase of which the tally says that all was done: each job of it was
-record IsPhaseDone (links : Bool) (jobs : List Found) (acts : List JobAct) (t new : TallyValue) : Type 0 where
+record IsPhaseDone (part : Phase) (jobs : List Found) (acts : List JobAct) (t new : TallyValue) : Type 0 where
   start : t.all_done ≡ true
-  acts_are : acts ≡ all_work (is_of links) jobs
+  acts_are : acts ≡ all_work part jobs
   goes : Goes new
+  unmade : t.unmade ≡ [] → new.unmade ≡ []
 
-out_of : (links : Bool) (found : Found) (later : List Found) → is_of links found ≡ false
-    → all_work (is_of links) (found ∷ later) ≡ all_work (is_of links) later
-out_of links found later out = by_test (is_of links found) out
+out_of : (part : Phase) (found : Found) (later : List Found) → is_of part found.task ≡ false
+    → all_work part (found ∷ later) ≡ all_work part later
+out_of part found later out = by_test (is_of part found.task) out
   where
     by_test : (b : Bool) → b ≡ false
-        → (if b then Worked found Done ∷ all_work (is_of links) later else all_work (is_of links) later)
-        ≡ all_work (is_of links) later
+        → (if b then Worked found Done ∷ all_work part later else all_work part later)
+        ≡ all_work part later
     by_test true e = absurd cc
     by_test false e = refl
 
-into : (links : Bool) (found : Found) (later : List Found) → is_of links found ≡ true
-    → all_work (is_of links) (found ∷ later) ≡ Worked found Done ∷ all_work (is_of links) later
-into links found later in_it = by_test (is_of links found) in_it
+into : (part : Phase) (found : Found) (later : List Found) → is_of part found.task ≡ true
+    → all_work part (found ∷ later) ≡ Worked found Done ∷ all_work part later
+into part found later in_it = by_test (is_of part found.task) in_it
   where
     by_test : (b : Bool) → b ≡ true
-        → (if b then Worked found Done ∷ all_work (is_of links) later else all_work (is_of links) later)
-        ≡ Worked found Done ∷ all_work (is_of links) later
+        → (if b then Worked found Done ∷ all_work part later else all_work part later)
+        ≡ Worked found Done ∷ all_work part later
     by_test true e = refl
     by_test false e = absurd cc
 
 -- what is left of the phase from a tally on
-abbrev Onward : Bool → List Found → TallyValue → Type 0
-Onward links later new = (u : TallyValue) → (more : List JobAct) → Goes u → AreActs (in_phase links) IsJob later u more new
-    → IsPhaseDone links later more u new
+abbrev Onward : Phase → List Found → TallyValue → Type 0
+Onward part later new = (u : TallyValue) → (more : List JobAct) → Goes u → AreActs (in_phase part) IsJob later u more new
+    → IsPhaseDone part later more u new
 
-one_done : (links : Bool) (found : Found) (later : List Found) (t : TallyValue) (acts rest : List JobAct) (new : TallyValue)
-    (act : JobAct) → Onward links later new → Goes t → is_of links found ≡ true → acts ≡ act ∷ rest → IsJob t found act
-    → AreActs (in_phase links) IsJob later (after_job act t) rest new → IsPhaseDone links (found ∷ later) acts t new
-one_done links found later t acts rest new (Worked other v) next goes in_it is job a =
-    let r : IsPhaseDone links later rest (after_job (Worked other v) t) new =
+one_done : (part : Phase) (found : Found) (later : List Found) (t : TallyValue) (acts rest : List JobAct) (new : TallyValue)
+    (act : JobAct) → Onward part later new → Goes t → is_of part found.task ≡ true → acts ≡ act ∷ rest → IsJob t found act
+    → AreActs (in_phase part) IsJob later (after_job act t) rest new → IsPhaseDone part (found ∷ later) acts t new
+one_done part found later t acts rest new (Worked other v) next goes in_it is job a =
+    let r : IsPhaseDone part later rest (after_job (Worked other v) t) new =
     next (after_job (Worked other v) t) rest (goes_on other v t goes) a in
     let one : v ≡ Done = is_done_one v (and_right t.all_done (is_done v) r.start) in
     record {
       start = and_left t.all_done (is_done v) r.start;
       acts_are =
           is ∙ ap (λ (f : Found). Worked f v ∷ rest) (job.0) ∙ ap (λ (w : Verdict). Worked found w ∷ rest) one
-          ∙ ap (λ (l : List JobAct). Worked found Done ∷ l) r.acts_are ∙ sym (into links found later in_it);
+          ∙ ap (λ (l : List JobAct). Worked found Done ∷ l) r.acts_are ∙ sym (into part found later in_it);
       goes = r.goes;
+      unmade = λ none. r.unmade (subst (λ (w : Verdict). (after_job (Worked other w) t).unmade ≡ []) (sym one) (done_unmade other t none));
     }
-one_done links found later t acts rest new (Kept other v) next goes in_it is job a = absurd job
-one_done links found later t acts rest new (Skipped other) next goes in_it is job a =
-    let r : IsPhaseDone links later rest (after_job (Skipped other) t) new =
+one_done part found later t acts rest new (Copied files) next goes in_it is job a = absurd job
+one_done part found later t acts rest new (Kept other v) next goes in_it is job a = absurd job
+one_done part found later t acts rest new (Skipped other) next goes in_it is job a =
+    let r : IsPhaseDone part later rest (after_job (Skipped other) t) new =
     next (after_job (Skipped other) t) rest (λ e. absurd cc) a in
     absurd (let never : false ≡ true = r.start in cc)
 
-phase_done : (links : Bool) (jobs : List Found) (t : TallyValue) (acts : List JobAct) (new : TallyValue) → Goes t
-    → new.all_done ≡ true → AreActs (in_phase links) IsJob jobs t acts new → IsPhaseDone links jobs acts t new
-phase_done links [] t acts new goes all h = record {
+phase_done : (part : Phase) (jobs : List Found) (t : TallyValue) (acts : List JobAct) (new : TallyValue) → Goes t
+    → new.all_done ≡ true → AreActs (in_phase part) IsJob jobs t acts new → IsPhaseDone part jobs acts t new
+phase_done part [] t acts new goes all h = record {
   start = ap (λ (x : TallyValue). x.all_done) (sym h.1) ∙ all;
   acts_are = h.0;
   goes = subst Goes (sym h.1) goes;
+  unmade = λ none. ap (λ (x : TallyValue). x.unmade) h.1 ∙ none;
 }
-phase_done links (found ∷ later) t acts new goes all h =
-    by_test (is_of links found) t.stopped refl refl (λ u more g a. phase_done links later u more new g all a) h
+phase_done part (found ∷ later) t acts new goes all h =
+    by_test (is_of part found.task) t.stopped refl refl (λ u more g a. phase_done part later u more new g all a) h
   where
-    by_test : (of stopped : Bool) → is_of links found ≡ of → t.stopped ≡ stopped → Onward links later new
+    by_test : (of stopped : Bool) → is_of part found.task ≡ of → t.stopped ≡ stopped → Onward part later new
         → FactBy (of && not stopped)
         ((act : JobAct) × (rest : List JobAct) × (acts ≡ act ∷ rest) × IsJob t found act
-        × AreActs (in_phase links) IsJob later (after_job act t) rest new)
-        (AreActs (in_phase links) IsJob later t acts new)
-        → IsPhaseDone links (found ∷ later) acts t new
+        × AreActs (in_phase part) IsJob later (after_job act t) rest new)
+        (AreActs (in_phase part) IsJob later t acts new)
+        → IsPhaseDone part (found ∷ later) acts t new
     by_test false stopped is at next h =
-        let r : IsPhaseDone links later acts t new = next t acts goes h in
-        record { start = r.start; acts_are = r.acts_are ∙ sym (out_of links found later is); goes = r.goes }
+        let r : IsPhaseDone part later acts t new = next t acts goes h in
+        record { start = r.start; acts_are = r.acts_are ∙ sym (out_of part found later is); goes = r.goes; unmade = r.unmade }
     by_test true true is at next h =
-        let r : IsPhaseDone links later acts t new = next t acts goes h in
+        let r : IsPhaseDone part later acts t new = next t acts goes h in
         absurd (let never : true ≡ false = sym at ∙ goes r.start in cc)
-    by_test true false is at next h = one_done links found later t acts (h.1) new (h.0) next goes is (h.2) (h.3) (h.4)
+    by_test true false is at next h = one_done part found later t acts (h.1) new (h.0) next goes is (h.2) (h.3) (h.4)
 
 -- all was done before a phase where all is after it
 job_before : (act : JobAct) (t : TallyValue) → (after_job act t).all_done ≡ true → t.all_done ≡ true
+job_before (Copied files) t e = e
 job_before (Worked other v) t e = and_left t.all_done (is_done v) e
 job_before (Kept other v) t e = and_left t.all_done (is_done v) e
 job_before (Skipped other) t e = absurd cc
 
-phase_start : (links : Bool) (jobs : List Found) (t : TallyValue) (acts : List JobAct) (new : TallyValue)
-    → new.all_done ≡ true → AreActs (in_phase links) IsJob jobs t acts new → t.all_done ≡ true
-phase_start links [] t acts new all h = ap (λ (x : TallyValue). x.all_done) (sym h.1) ∙ all
-phase_start links (found ∷ later) t acts new all h =
-    by_test (in_phase links t found) (λ u more a. phase_start links later u more new all a) h
+phase_start : (part : Phase) (jobs : List Found) (t : TallyValue) (acts : List JobAct) (new : TallyValue)
+    → new.all_done ≡ true → AreActs (in_phase part) IsJob jobs t acts new → t.all_done ≡ true
+phase_start part [] t acts new all h = ap (λ (x : TallyValue). x.all_done) (sym h.1) ∙ all
+phase_start part (found ∷ later) t acts new all h =
+    by_test (in_phase part t found) (λ u more a. phase_start part later u more new all a) h
   where
     by_test : (b : Bool)
-        → ((u : TallyValue) → (more : List JobAct) → AreActs (in_phase links) IsJob later u more new → u.all_done ≡ true)
+        → ((u : TallyValue) → (more : List JobAct) → AreActs (in_phase part) IsJob later u more new → u.all_done ≡ true)
         → FactBy b
         ((act : JobAct) × (rest : List JobAct) × (acts ≡ act ∷ rest) × IsJob t found act
-        × AreActs (in_phase links) IsJob later (after_job act t) rest new)
-        (AreActs (in_phase links) IsJob later t acts new)
+        × AreActs (in_phase part) IsJob later (after_job act t) rest new)
+        (AreActs (in_phase part) IsJob later t acts new)
         → t.all_done ≡ true
     by_test true next h = job_before (h.0) t (next (after_job (h.0) t) (h.1) (h.4))
     by_test false next h = next t acts h
@@ -149,6 +172,7 @@ phase_start links (found ∷ later) t acts new all h =
 -- folders that are given their permissions and times leave what was done
 kept_before : (act : JobAct) (t : TallyValue) (found : Found) → IsKeep t found act → (after_job act t).all_done ≡ true
     → t.all_done ≡ true
+kept_before (Copied files) t found job e = absurd job
 kept_before (Worked other v) t found job e = absurd job
 kept_before (Kept other v) t found job e = and_left t.all_done (is_done v) e
 kept_before (Skipped other) t found job e = absurd job
@@ -185,22 +209,58 @@ kept_after done false jobs old new before after all h = record {
 kept_after done true jobs old new before after all h =
     record { acts = h.0; told = h.2; start = keep_start (reverse jobs) old (h.0) new all (h.1) }
 
+-- where each folder was made no file is skipped
+files_same : (t : TallyValue) (jobs : List Found) → t.unmade ≡ [] → files_in t jobs ≡ files_in no_job jobs
+files_same t [] e = refl
+files_same t (found ∷ later) e =
+    λ i. if is_file found.task && not (list_any (λ folder. starts_with ◌==◌ found.target folder) (e i))
+    then found ∷ files_same t later e i else files_same t later e i
+
+copied_then : {H : Type 0} (done : JobAct → H → H) (jobs : List Found) (t : TallyValue) (before after : H) → t.stopped ≡ false
+    → t.unmade ≡ [] → HasCopied done jobs t before after → after ≡ done (Copied (files_in no_job jobs)) before
+copied_then done jobs t before after on none h =
+    subst (λ (b : Bool). FactBy b (after ≡ before) (after ≡ done (Copied (files_in t jobs)) before)) on h
+    ∙ ap (λ (l : List Found). done (Copied l) before) (files_same t jobs none)
+
+-- acts in four parts, with one between the first two
+four_parts : {H : Type 0} (done : JobAct → H → H) (xs ys zs rest : List JobAct) (act : JobAct) (before : H)
+    → all_worked done (xs ++ (act ∷ (ys ++ (zs ++ rest)))) before
+    ≡ all_worked done rest (all_worked done zs (all_worked done ys (done act (all_worked done xs before))))
+four_parts done xs ys zs rest act before =
+    worked_append done xs (act ∷ (ys ++ (zs ++ rest))) before
+    ∙ worked_append done ys (zs ++ rest) (done act (all_worked done xs before))
+    ∙ worked_append done zs rest (all_worked done ys (done act (all_worked done xs before)))
+
 -- Where the tally says so, each job was done.
 pub all_were_done : {H : Type 0} (done : JobAct → H → H) (keeps : Bool) (jobs : List Found) (before after : H)
     (new : TallyValue) → CarriesOut done keeps jobs before after new → new.all_done ≡ true
     → AreAllDone done jobs before after
 all_were_done {H = H} done keeps jobs before after new h all =
-    let k : KeptAfter done h.linked h.worked after = kept_after done keeps jobs h.linked new h.worked after all h.keeps_all in
-    let copied : HasActed done (in_phase false) IsJob jobs no_job h.first before h.copied = h.copies in
-    let linked : HasActed done (in_phase true) IsJob jobs h.first h.linked h.copied h.worked = h.links in
-    let start : h.first.all_done ≡ true = phase_start true jobs h.first (linked.0) h.linked k.start (linked.1) in
-    let first : IsPhaseDone false jobs (copied.0) no_job h.first =
-    phase_done false jobs no_job (copied.0) h.first (λ e. refl) start (copied.1) in
-    let second : IsPhaseDone true jobs (linked.0) h.first h.linked =
-    phase_done true jobs h.first (linked.0) h.linked first.goes k.start (linked.1) in (
+    let k : KeptAfter done h.linked h.with_links after = kept_after done keeps jobs h.linked new h.with_links after all h.keeps_all in
+    let makes : HasActed done (in_phase phase.Folders) IsJob jobs no_job h.made before h.with_folders = h.makes in
+    let tells : HasActed done (in_phase phase.Files) IsJob jobs h.made h.told h.with_copies h.with_files = h.tells in
+    let links : HasActed done (in_phase phase.Links) IsJob jobs h.told h.linked h.with_files h.with_links = h.links in
+    let told_all : h.told.all_done ≡ true = phase_start phase.Links jobs h.told (links.0) h.linked k.start (links.1) in
+    let made_all : h.made.all_done ≡ true = phase_start phase.Files jobs h.made (tells.0) h.told told_all (tells.1) in
+    let first : IsPhaseDone phase.Folders jobs (makes.0) no_job h.made =
+    phase_done phase.Folders jobs no_job (makes.0) h.made (λ e. refl) made_all (makes.1) in
+    let second : IsPhaseDone phase.Files jobs (tells.0) h.made h.told =
+    phase_done phase.Files jobs h.made (tells.0) h.told first.goes told_all (tells.1) in
+    let third : IsPhaseDone phase.Links jobs (links.0) h.told h.linked =
+    phase_done phase.Links jobs h.told (links.0) h.linked second.goes k.start (links.1) in
+    let folders : h.with_folders ≡ all_worked done (all_work phase.Folders jobs) before =
+    makes.2 ∙ ap (λ (l : List JobAct). all_worked done l before) first.acts_are in
+    let copies : h.with_copies ≡ done (Copied (files_in no_job jobs)) h.with_folders =
+    copied_then done jobs h.made h.with_folders h.with_copies (first.goes made_all) (first.unmade refl) h.copies in
+    let files : h.with_files ≡ all_worked done (all_work phase.Files jobs) h.with_copies =
+    tells.2 ∙ ap (λ (l : List JobAct). all_worked done l h.with_copies) second.acts_are in
+    let linked : h.with_links ≡ all_worked done (all_work phase.Links jobs) h.with_files =
+    links.2 ∙ ap (λ (l : List JobAct). all_worked done l h.with_files) third.acts_are in (
       k.acts,
       k.told ∙ ap (λ (x : H). all_worked done k.acts x)
-          (linked.2 ∙ ap (λ (l : List JobAct). all_worked done l h.copied) second.acts_are
-          ∙ ap (λ (x : H). all_worked done (all_work (is_of true) jobs) x)
-          (copied.2 ∙ ap (λ (l : List JobAct). all_worked done l before) first.acts_are)),
+          (linked ∙ ap (λ (x : H). all_worked done (all_work phase.Links jobs) x)
+          (files ∙ ap (λ (x : H). all_worked done (all_work phase.Files jobs) x)
+          (copies ∙ ap (λ (x : H). done (Copied (files_in no_job jobs)) x) folders)))
+          ∙ sym (four_parts done (all_work phase.Folders jobs) (all_work phase.Files jobs) (all_work phase.Links jobs) k.acts
+          (Copied (files_in no_job jobs)) before),
     )

@@ -18,14 +18,18 @@ use Rattle.std.specs.Prelude.{
 }
 use Rattle.std.specs.List.{list_any, starts_with}
 use Rattle.transfer_paths.specs.Names.{path_in}
+use Rattle.transfer_jobs.specs.declared.carry.Phase.{Phase}
+use Rattle.transfer_jobs.specs.declared.carry.Phase.TheVariants as phase
 use Rattle.transfer_jobs.specs.declared.hand.Verdict.{Verdict}
 use Rattle.transfer_jobs.specs.declared.hand.Verdict.TheVariants.{Done, Stop}
 use Rattle.transfer_walk.specs.declared.found.Found.{Found}
 use Rattle.transfer_walk.specs.declared.task.Task.{Task}
 use Rattle.transfer_walk.specs.declared.task.Task.TheVariants as task
 
--- a job that was done or not, a folder that was given its permissions and times or not, or a job that was skipped
+-- files were copied, many at once; a job was done or not, of a file, what came of its copy was told; a folder was given
+-- its permissions and times or not; or a job was skipped
 pub data JobAct : Type 0 where
+  Copied : List Found → JobAct
   Worked : Found → Verdict → JobAct
   Kept : Found → Verdict → JobAct
   Skipped : Found → JobAct
@@ -60,6 +64,10 @@ abbrev pub is_folder : Task → Bool
 is_folder task.MakeFolder = true
 is_folder other = false
 
+abbrev pub is_file : Task → Bool
+is_file task.CopyFile = true
+is_file other = false
+
 abbrev pub is_link : Task → Bool
 is_link task.CopyLink = true
 is_link other = false
@@ -70,6 +78,7 @@ with_unmade found verdict unmade =
     if is_folder found.task && not (is_done verdict) then unmade ++ path_in found.target [] ∷ [] else unmade
 
 abbrev pub after_job : JobAct → TallyValue → TallyValue
+after_job (Copied files) t = t
 after_job (Worked found verdict) t =
     record {
       all_done = t.all_done && is_done verdict;
@@ -94,13 +103,21 @@ is_skipped t found = list_any (λ folder. starts_with ◌==◌ found.target fold
 abbrev pub is_unmade : TallyValue → Found → Bool
 is_unmade t found = list_any (λ folder. starts_with ◌==◌ (path_in found.target []) folder) t.unmade
 
--- the jobs of a phase
-abbrev pub is_of : Bool → Found → Bool
-is_of links found = if links then is_link found.task else not (is_link found.task)
+-- files and symbolic links have a phase of their own each, all else is of that in which folders are made
+abbrev pub is_of : Phase → Task → Bool
+is_of phase.Folders task = not (is_file task) && not (is_link task)
+is_of phase.Files task = is_file task
+is_of phase.Links task = is_link task
 
--- symbolic links are made in a phase of their own; nothing is done any more once no job can be
-abbrev pub in_phase : Bool → TallyValue → Found → Bool
-in_phase links t found = is_of links found && not t.stopped
+-- nothing is done any more once no job can be
+abbrev pub in_phase : Phase → TallyValue → Found → Bool
+in_phase phase t found = is_of phase found.task && not t.stopped
+
+-- the files that stand in no folder that was not made
+abbrev pub files_in : TallyValue → List Found → List Found
+files_in t [] = []
+files_in t (found ∷ later) =
+    if is_file found.task && not (is_skipped t found) then found ∷ files_in t later else files_in t later
 
 -- folders that were made are given their permissions and times
 abbrev pub to_keep : TallyValue → Found → Bool
@@ -108,12 +125,14 @@ to_keep t found = is_folder found.task && not t.stopped && not (is_unmade t foun
 
 -- it is skipped exactly where it stands in a folder that was not made
 abbrev pub IsJob : TallyValue → Found → JobAct → Type 0
+IsJob t found (Copied files) = ⊥
 IsJob t found (Worked other verdict) = (other ≡ found) × (is_skipped t found ≡ false)
 IsJob t found (Kept other verdict) = ⊥
 IsJob t found (Skipped other) = (other ≡ found) × (is_skipped t found ≡ true)
 
 -- a folder is given its permissions and times, or not
 abbrev pub IsKeep : TallyValue → Found → JobAct → Type 0
+IsKeep t found (Copied files) = ⊥
 IsKeep t found (Worked other verdict) = ⊥
 IsKeep t found (Kept other verdict) = other ≡ found
 IsKeep t found (Skipped other) = ⊥
@@ -150,32 +169,44 @@ abbrev pub HasActed : {H : Type 0} → (JobAct → H → H) → (TallyValue → 
 HasActed done phase Is jobs old new before after = (acts : List JobAct) × AreActs phase Is jobs old acts new
     × (after ≡ all_worked done acts before)
 
+-- the files that stand in no folder that was not made were copied; or nothing was done, since no job can be any more
+abbrev pub HasCopied : {H : Type 0} → (JobAct → H → H) → List Found → TallyValue → H → H → Type 0
+HasCopied done jobs t before after =
+    FactBy t.stopped (after ≡ before) (after ≡ done (Copied (files_in t jobs)) before)
+
 -- folders are given their permissions and times, the last one first; or that isn't asked for
 abbrev pub HasKept : {H : Type 0} → (JobAct → H → H) → Bool → List Found → TallyValue → TallyValue → H → H → Type 0
 HasKept done false jobs old new before after = (new ≡ old) × (after ≡ before)
 HasKept done true jobs old new before after = HasActed done to_keep IsKeep (reverse jobs) old new before after
 
--- Folders were made and files copied, then symbolic links made, and then folders given their permissions and times.
+-- Folders were made, then files copied and it was told what came of each, then symbolic links made, and then folders
+-- given their permissions and times.
 pub record CarriesOut {H : Type 0} (done : JobAct → H → H) (keeps : Bool) (jobs : List Found) (before after : H)
     (new : TallyValue) : Type 0 where
-  pub first : TallyValue
+  pub made : TallyValue
+  pub told : TallyValue
   pub linked : TallyValue
-  pub copied : H
-  pub worked : H
-  pub copies : HasActed done (in_phase false) IsJob jobs no_job first before copied
-  pub links : HasActed done (in_phase true) IsJob jobs first linked copied worked
-  pub keeps_all : HasKept done keeps jobs linked new worked after
+  pub with_folders : H
+  pub with_copies : H
+  pub with_files : H
+  pub with_links : H
+  pub makes : HasActed done (in_phase phase.Folders) IsJob jobs no_job made before with_folders
+  pub copies : HasCopied done jobs made with_folders with_copies
+  pub tells : HasActed done (in_phase phase.Files) IsJob jobs made told with_copies with_files
+  pub links : HasActed done (in_phase phase.Links) IsJob jobs told linked with_files with_links
+  pub keeps_all : HasKept done keeps jobs linked new with_links after
 
 -- ---- where all was done
 
 -- each of these was worked at, and done
-abbrev pub all_work : (Found → Bool) → List Found → List JobAct
-all_work test [] = []
-all_work test (found ∷ later) = if test found then Worked found Done ∷ all_work test later else all_work test later
+abbrev pub all_work : Phase → List Found → List JobAct
+all_work phase [] = []
+all_work phase (found ∷ later) =
+    if is_of phase found.task then Worked found Done ∷ all_work phase later else all_work phase later
 
--- Each job was done, symbolic links behind all others, and nothing was done behind them but to give folders their
--- permissions and times.
+-- Each folder was made, then all files were copied, each of them well, then each symbolic link was made, and nothing
+-- was done behind them but to give folders their permissions and times.
 abbrev pub AreAllDone : {H : Type 0} → (JobAct → H → H) → List Found → H → H → Type 0
 AreAllDone done jobs before after = (kept : List JobAct)
-    × (after ≡ all_worked done kept (all_worked done (all_work (is_of true) jobs)
-    (all_worked done (all_work (is_of false) jobs) before)))
+    × (after ≡ all_worked done (all_work phase.Folders jobs ++ (Copied (files_in no_job jobs)
+    ∷ (all_work phase.Files jobs ++ (all_work phase.Links jobs ++ kept)))) before)

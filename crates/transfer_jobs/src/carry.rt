@@ -1,12 +1,34 @@
 //! The jobs are done.
 ghost use Rattle.std.specs.Prelude.{◌≡◌, true, IfOk, OnOk};
-ghost use Rattle.transfer_jobs.specs.Jobs.{AreAllDone, CarriesOut, HasActed, HasKept, IsJob, IsKeep, MayWorkOne, WorksOne, in_phase, to_keep};
+ghost use Rattle.transfer_jobs.specs.Jobs.{AreAllDone, CarriesOut, HasActed, HasCopied, HasKept, IsJob, IsKeep, MayWorkOne, WorksOne, in_phase, is_of, to_keep};
 
 use crate::hand::Hand;
 use crate::tally::Tally;
 use ssh_encoding::OutOfMemory;
 use std::alloc::Global;
 use transfer_walk::{Found, Task};
+
+/// Jobs that are done together.
+#[derive(Clone, Copy, Debug, PartialEq, Eq)]
+pub(crate) enum Phase {
+    /// Folders are made; what is passed over or refused is told here too.
+    Folders,
+    /// What came of each file is told.
+    Files,
+    /// Symbolic links are made.
+    Links,
+}
+
+/// Whether a task is one of a phase.
+fn is_of(phase: Phase, task: Task) -> bool
+    ensures { result ≡ is_of phase task }
+{
+    match phase {
+        Phase::Folders => task != Task::CopyFile && task != Task::CopyLink,
+        Phase::Files => task == Task::CopyFile,
+        Phase::Links => task == Task::CopyLink,
+    }
+}
 
 /// Does one job, or skips it where it stands in a folder that was not made.
 fn work_one<H: Hand>(
@@ -28,19 +50,19 @@ fn work_one<H: Hand>(
     tally.note_worked(alloc, found, verdict)
 }
 
-/// Does one job where it makes a symbolic link, or where it doesn't, unless no other job can be done.
+/// Does one job where it is of a phase, unless no other job can be done.
 fn work_step<H: Hand>(
     alloc: Global,
     hand: &mut H,
     tally: &mut Tally,
     found: &Found,
-    links: bool,
+    phase: Phase,
 ) -> Result<(), OutOfMemory>
     requires { H.may hand.old }
     ensures may { H.may hand.new }
-    ensures works { OnOk result (MayWorkOne H.done (in_phase links) IsJob found.now tally.old tally.new (H.history hand.old) (H.history hand.new)) }
+    ensures works { OnOk result (MayWorkOne H.done (in_phase phase) IsJob found.now tally.old tally.new (H.history hand.old) (H.history hand.new)) }
 {
-    if (found.task == Task::CopyLink) != links || tally.stopped() {
+    if !is_of(phase, found.task) || tally.stopped() {
         return Ok(());
     }
     work_one(alloc, hand, tally, found)
@@ -68,22 +90,33 @@ fn keep_step<H: Hand>(
     Ok(())
 }
 
-/// Does the jobs that make symbolic links, or all others, in their order, until no other can be done.
+/// Does the jobs of a phase, in their order, until no other can be done.
 fn work_all<H: Hand>(
     alloc: Global,
     hand: &mut H,
     tally: &mut Tally,
     jobs: &[Found],
-    links: bool,
+    phase: Phase,
 ) -> Result<(), OutOfMemory>
     requires { H.may hand.old }
     ensures may { H.may hand.new }
-    ensures acts { OnOk result (HasActed H.done (in_phase links) IsJob jobs.now tally.old tally.new (H.history hand.old) (H.history hand.new)) }
+    ensures acts { OnOk result (HasActed H.done (in_phase phase) IsJob jobs.now tally.old tally.new (H.history hand.old) (H.history hand.new)) }
 {
     for found in jobs {
-        work_step(alloc, hand, tally, found, links)?;
+        work_step(alloc, hand, tally, found, phase)?;
     }
     Ok(())
+}
+
+/// Copies all files that stand in no folder that was not made, unless no other job can be done.
+fn copy_files<H: Hand>(hand: &mut H, tally: &Tally, jobs: &[Found])
+    requires { H.may hand.old }
+    ensures may { H.may hand.new }
+    ensures copies { HasCopied H.done jobs.now tally.now (H.history hand.old) (H.history hand.new) }
+{
+    if !tally.stopped() {
+        hand.copy(jobs, tally);
+    }
 }
 
 /// Gives each folder that was made its permissions and times, the last one first, until no other can be given them.
@@ -123,9 +156,10 @@ fn keep_where<H: Hand>(
     Ok(())
 }
 
-/// Does all jobs: folders are made and files copied in their order, then symbolic links are made, so that none of them is
-/// followed, and with `keeps` folders get their permissions and times then, the last one first. What stands in a folder that
-/// was not made is skipped. After a job that ends in `Stop` nothing else is done.
+/// Does all jobs: folders are made in their order; then files are copied, many at once, and what came of each is told in
+/// their order; then symbolic links are made, so that none of them is followed; and with `keeps` folders get their
+/// permissions and times then, the last one first. What stands in a folder that was not made is skipped. After a job that
+/// ends in `Stop` nothing else is done.
 pub fn carry_out<H: Hand>(
     alloc: Global,
     hand: &mut H,
@@ -138,8 +172,10 @@ pub fn carry_out<H: Hand>(
     ensures all_done { IfOk result (λ tally. tally.all_done ≡ true → AreAllDone H.done jobs.now (H.history hand.old) (H.history hand.new)) }
 {
     let mut tally = Tally::new(alloc);
-    work_all(alloc, hand, &mut tally, jobs, false)?;
-    work_all(alloc, hand, &mut tally, jobs, true)?;
+    work_all(alloc, hand, &mut tally, jobs, Phase::Folders)?;
+    copy_files(hand, &tally, jobs);
+    work_all(alloc, hand, &mut tally, jobs, Phase::Files)?;
+    work_all(alloc, hand, &mut tally, jobs, Phase::Links)?;
     keep_where(alloc, hand, &mut tally, jobs, keeps)?;
     Ok(tally)
 }

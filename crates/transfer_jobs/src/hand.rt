@@ -1,7 +1,8 @@
 //! Who does the jobs.
 ghost use Rattle.std.specs.Prelude.{◌≡◌};
-ghost use Rattle.transfer_jobs.specs.Jobs.{JobAct, Kept, Skipped, Worked};
+ghost use Rattle.transfer_jobs.specs.Jobs.{Copied, JobAct, Kept, Skipped, Worked, files_in};
 
+use crate::tally::Tally;
 use transfer_walk::Found;
 
 /// What came of a job.
@@ -29,7 +30,13 @@ pub trait Hand {
     // What a job wants of it, and leaves.
     ghost may: { Self → Type 0 };
 
-    /// Does a job by its task. What is passed over or refused is not done.
+    /// Copies all files among the jobs that stand in no folder that was not made, many at once, in any order.
+    fn copy(&mut self, jobs: &[Found], tally: &Tally)
+        requires { Self.may self.old }
+        ensures may { Self.may self.new }
+        ensures did { Self.history self.new ≡ Self.done (Copied (files_in tally.now jobs.now)) (Self.history self.old) };
+
+    /// Does a job by its task; of a file it answers what came of its copy. What is passed over or refused is not done.
     fn work(&mut self, found: &Found) -> Verdict
         requires { Self.may self.old }
         ensures may { Self.may self.new }

@@ -64,7 +64,7 @@ impl Tally {
     }
 
     /// Whether something stands in a folder that was not made.
-    pub(crate) fn skips(&self, found: &Found) -> bool
+    pub fn skips(&self, found: &Found) -> bool
         ensures { result ≡ is_skipped self.now found.now }
     {
         begins_with_any(found.target.as_slice(), self.unmade.as_slice())

@@ -1,2 +1,3 @@
+pub mod AwaitLaws
 pub mod RunLaws
 pub mod ListLaws

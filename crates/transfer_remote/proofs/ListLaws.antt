@@ -11,14 +11,14 @@ use Rattle.call_state.specs.Calls.{CallValue}
 use Rattle.sftp_file.specs.Settles.{settling}
 use Rattle.sftp_file.specs.declared.settling.Settling.{Settling}
 use Rattle.sftp_fs.specs.Directories.{ClosesDir, OpensFrom, opening_dir}
-use Rattle.transfer_file.specs.Awaits.{Awaited}
+use Rattle.transfer_remote.specs.Awaits.{Awaited}
 use Rattle.sftp_link.specs.Views.{LinkView}
 use Rattle.sftp_model.specs.declared.error.Error.{Error}
 use Rattle.call_state.specs.declared.poll.Poll.TheVariants.{Pending, Ready}
 use Rattle.sftp_client.specs.Sessions.{SftpValue, with_core}
 use Rattle.sftp_fs.proofs.CallSteps.{listing_still}
 use Rattle.sftp_fs.specs.Listings.{Given, IsListing, ListingValue, Lists, fresh_listing, given_up}
-use Rattle.transfer_file.specs.Sessions.{IsGoing, Turned}
+use Rattle.transfer_copier.specs.Sessions.{IsGoing, Turned}
 use Rattle.transfer_remote.specs.Runs.{IsFree, Runs}
 use Rattle.transfer_remote.proofs.RunLaws.{live_going}
 use Rattle.sftp_model.specs.declared.reply.NameEntry.{NameEntry}
@@ -149,12 +149,12 @@ told_given state old core p q (Some (Ok entry)) w v (Err e) lists h =
 told_given state old core p q (Some (Err x)) w v (Err e) lists h =
     subst (λ (x : WalkValue). HasGrown w x) (sym h) (grown_none w)
 
-pub told_turns : {L S E : Type 0} (state : L → LinkView S) (old : SftpValue L) (core : Core) (new : SftpValue L)
-    (p q : ListingValue) (w : WalkValue)
-    → Lists old.core core p q Pending → Turned {E = E} state (with_core old core) new (Ok tt)
+pub told_turns : {L S D : Type 0} (E : Type 0) (state : L → LinkView S) (old : SftpValue L) (core : Core)
+    (new : SftpValue L) (p q : ListingValue) (w : WalkValue)
+    → Lists old.core core p q Pending → Turned {E = D} state (with_core old core) new (Ok tt)
     → (let result : Result Bool E = Ok false in
     StepTold state (record { session = old; listing = p }) (record { session = new; listing = q }) w w result)
-told_turns state old core new p q w lists turned = (
+told_turns E state old core new p q w lists turned = (
   [],
   inr (record { session = with_core old core; listing = q }, record { lists = lists; rest = refl }, turned.turns, refl, refl),
   none_listed w,

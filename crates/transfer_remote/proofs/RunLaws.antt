@@ -10,8 +10,8 @@ use Rattle.call_state.specs.Runners.{Meaning}
 use Rattle.sftp_client.specs.Sessions.{SftpValue, with_core}
 use Rattle.sftp_model.specs.declared.slot.Move.TheVariants.{Wait}
 use Rattle.sftp_fs.specs.Directories.{opening_dir}
-use Rattle.transfer_file.specs.Awaits.{Awaited, IsPlain}
-use Rattle.transfer_file.specs.Sessions.{IsGoing}
+use Rattle.transfer_remote.specs.Awaits.{Awaited, IsPlain}
+use Rattle.transfer_copier.specs.Sessions.{IsGoing}
 use Rattle.transfer_remote.specs.Runs.{Finishes, IsFree, IsLive, Runs}
 
 pub live_going : {L S : Type 0} (state : L → LinkView S) (s : SftpValue L) → IsLive state s → IsGoing state s

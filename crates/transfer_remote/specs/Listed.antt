@@ -40,7 +40,7 @@ use Rattle.sftp_fs.specs.Listings.{Given, IsListing, ListingValue, Lists, fresh_
 use Rattle.sftp_meta.specs.FileType.{type_of_mode}
 use Rattle.sftp_meta.specs.declared.file_type.RawFileType.{RawFileType}
 use Rattle.sftp_meta.specs.declared.file_type.RawFileType.TheVariants as raw
-use Rattle.transfer_file.specs.Sessions.{IsGoing, Turns}
+use Rattle.transfer_copier.specs.Sessions.{IsGoing, Turns}
 use Rattle.transfer_remote.specs.Runs.{AnsweredWith, Runs}
 use Rattle.transfer_walk.specs.Entries.{entry_found}
 use Rattle.transfer_walk.specs.Walks.{WalkValue}

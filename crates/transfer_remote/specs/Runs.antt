@@ -8,8 +8,8 @@ use Rattle.call_state.specs.Asked.{IsReady}
 use Rattle.call_state.specs.Calls.{CallValue}
 use Rattle.call_state.specs.Runners.{Meaning}
 use Rattle.sftp_client.specs.Sessions.{SftpValue, with_core}
-use Rattle.transfer_file.specs.Awaits.{AnswersCall, Calling}
-use Rattle.transfer_file.specs.Sessions.{IsGoing}
+use Rattle.transfer_remote.specs.Awaits.{AnswersCall, Calling}
+use Rattle.transfer_copier.specs.Sessions.{IsGoing}
 
 -- the session is open, and its link may be called
 pub record IsLive {L S : Type 0} (state : L → LinkView S) (s : SftpValue L) : Type 0 where

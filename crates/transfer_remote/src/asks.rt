@@ -1,10 +1,12 @@
 //! A call of a session from its start to its answer.
 ghost use Rattle.std.specs.Prelude.{◌≡◌, [], OnOk, IfOk};
 ghost use Rattle.call_state.specs.Calls.{IsUnderWay};
-ghost use Rattle.transfer_file.specs.Awaits.{IsPlain};
-ghost use Rattle.transfer_file.specs.Sessions.{IsGoing};
+ghost use Rattle.transfer_remote.specs.Awaits.{IsPlain};
+ghost use Rattle.transfer_copier.specs.Sessions.{IsGoing};
 ghost use Rattle.transfer_remote.specs.Runs.{Finishes, IsFree, IsLive};
 
+use crate::awaiting::await_call;
+use crate::failure::Failure;
 use call_state::{Alone, Call};
 use sftp_client::Sftp;
 use sftp_core::MAX_IDS;
@@ -12,7 +14,6 @@ use sftp_fs::Fs;
 use sftp_link::Link;
 use sftp_model::{Error, RemotePath};
 use std::alloc::Global;
-use transfer_file::{Failure, await_call};
 
 /// Paths as they are given.
 pub(crate) fn plain_paths(alloc: Global) -> Fs

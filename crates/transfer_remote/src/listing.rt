@@ -3,18 +3,20 @@ ghost use Rattle.std.specs.Prelude.{◌≡◌, ◌∷◌, [], IfOk};
 ghost use Rattle.sftp_core.specs.Core.{IsGrant};
 ghost use Rattle.sftp_fs.specs.Directories.{OpensFrom, opening_dir};
 ghost use Rattle.sftp_fs.specs.Listings.{IsListing};
-ghost use Rattle.transfer_file.specs.Sessions.{IsGoing};
+ghost use Rattle.transfer_copier.specs.Sessions.{IsGoing};
 ghost use Rattle.transfer_remote.specs.Listed.{ListingTold, ClosedTold, FolderTold, GrowsBy, GrowsByGiven, MayGoOn, StepTold, is_self, kind_of};
 ghost use Rattle.transfer_remote.specs.Runs.{Runs};
 
 use crate::asks::{finish, plain_paths, ready};
+use crate::awaiting::await_call;
+use crate::failure::Failure;
 use sftp_client::{Dir, DirEntry, ReadDir, Sftp};
 use sftp_file::Poll;
 use sftp_link::Link;
 use sftp_meta::FileType;
 use sftp_model::Error;
 use std::alloc::Global;
-use transfer_file::{Failure, await_call, turn};
+use transfer_copier::turn;
 use transfer_walk::{EntryKind, Walk, WalkError};
 
 /// The name under which a folder lists itself.
@@ -103,7 +105,7 @@ fn list_step<L: Link>(
         Poll::Ready(given) => take_given(alloc, walk, given),
         Poll::Pending => match turn(sftp) {
             Ok(()) => Ok(false),
-            Err(e) => Err(e),
+            Err(e) => Err(e.into()),
         },
     }
 }

@@ -6,16 +6,16 @@ ghost use Rattle.sftp_file.specs.Tells.{telling};
 ghost use Rattle.sftp_fs.specs.Names.{naming};
 ghost use Rattle.sftp_fs.specs.PathStarts.{StartsFrom};
 ghost use Rattle.sftp_fs.specs.SettingPlans.{set_attrs_next};
-ghost use Rattle.transfer_file.specs.Sessions.{IsGoing};
+ghost use Rattle.transfer_copier.specs.Sessions.{IsGoing};
 ghost use Rattle.transfer_remote.specs.Runs.{Runs};
 
 use crate::asks::{finish, plain_paths, ready};
+use crate::failure::Failure;
 use sftp_client::Sftp;
 use sftp_link::Link;
 use sftp_meta::MetaData;
 use sftp_model::{FileAttrs, RemotePath};
 use std::alloc::Global;
-use transfer_file::Failure;
 
 /// Makes a folder (draft-ietf-secsh-filexfer-02, section 6.6).
 pub fn make_remote_folder<L: Link>(

@@ -4,3 +4,4 @@ pub mod GetLaws
 pub mod PutLaws
 pub mod ActLaws
 pub mod PutActLaws
+pub mod DiskLaws

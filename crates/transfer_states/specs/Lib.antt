@@ -4,3 +4,4 @@ pub mod Holdings
 pub mod Gets
 pub mod Puts
 pub mod Acts
+pub mod Disks

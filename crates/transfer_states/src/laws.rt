@@ -1,7 +1,10 @@
 //! Laws of the definitions. The functions do nothing: what they ensure holds of all values.
-ghost use Rattle.std.specs.Prelude.{◌≡◌, ℕ, List};
+ghost use Rattle.std.specs.Prelude.{◌≡◌, ◌≢◌, ◌∷◌, ℕ, List};
+ghost use Rattle.sftp_model.specs.Pieces.{joined};
 ghost use Rattle.sftp_core.specs.Core.{Core};
+ghost use Rattle.transfer_local.specs.Local.{Created, Renamed, all_done, writes_of};
 ghost use Rattle.transfer_states.specs.Acts.{GotAfter, GotSoFar, SentAfter, SentSoFar};
+ghost use Rattle.transfer_states.specs.Disks.{Disk, IsCopied, after_act};
 ghost use Rattle.transfer_states.specs.Gets.{GetStepDid, get_begun};
 ghost use Rattle.transfer_states.specs.Puts.{MayPut, PutStepDid, put_begun};
 ghost use Rattle.transfer_states.specs.declared.get.FileGet.{FileGet};
@@ -31,4 +34,12 @@ pub fn puts_read_their_file<F: LocalFile>()
         (result : Progress) → MayPut core old → SentSoFar F.done name old first before old.stage
         → PutStepDid F.done name part remote core old after new before now result old.stage
         → SentAfter F.done name new first now result }
+{}
+
+/// On a disk where each act does what it says, the acts of a copy from the server leave its pieces, joined, under the
+/// name, nothing under the name of the part, and all else as it was.
+pub fn one_name_is_changed()
+    ensures { (part name : List ℕ) (pieces : List (List ℕ)) (d mid : Disk) → part ≢ name
+        → mid ≡ all_done after_act (Created part ∷ writes_of pieces) d
+        → IsCopied part name (joined pieces) d (after_act (Renamed part name) mid) }
 {}

@@ -154,7 +154,7 @@ impl FilePut {
 }
 
 impl FilePut {
-    /// GetOpens the local file, and asks for the part to be opened.
+    /// Opens the local file, and asks for the part to be opened.
     fn start<F: LocalFile>(
         &mut self,
         core: &mut Core,

@@ -32,16 +32,18 @@ use Rattle.transfer_words.specs.declared.asked.Way.{Way}
 use Rattle.transfer_words.specs.declared.asked.Way.TheVariants.{Get, Put}
 use Rattle.transfer_words.specs.declared.asked.Work.{Work}
 use Rattle.transfer_words.specs.declared.asked.Work.TheVariants as work
+use Rattle.transfer_words.specs.declared.options.Counted.{Counted}
+use Rattle.transfer_words.specs.declared.options.Counted.TheVariants as counted
 use Rattle.transfer_words.specs.declared.options.Options.{Options}
 
 -- ---- numbers
 
--- decimal digits behind a number, as long as it is at most 1024
-abbrev pub digits_behind : ℕ → List ℕ → Option ℕ
-digits_behind number [] = Some number
-digits_behind number (b ∷ bytes) =
+-- decimal digits behind a number, as long as it is at most `most`
+abbrev pub digits_behind : ℕ → ℕ → List ℕ → Option ℕ
+digits_behind most number [] = Some number
+digits_behind most number (b ∷ bytes) =
     if nat_le 48 b && nat_le b 57 then (
-    if nat_le (number * 10 + (b - 48)) 1024 then digits_behind (number * 10 + (b - 48)) bytes else None
+    if nat_le (number * 10 + (b - 48)) most then digits_behind most (number * 10 + (b - 48)) bytes else None
     ) else None
 
 -- a number from 1
@@ -49,15 +51,23 @@ abbrev pub from_one : Option ℕ → Option ℕ
 from_one None = None
 from_one (Some n) = if n == 0 then None else Some n
 
--- a window: from 1 to 1024, in decimal digits
-abbrev pub window_in : List ℕ → Option ℕ
-window_in word = from_one (digits_behind 0 word)
+-- a number from 1 to `most`, in decimal digits
+abbrev pub number_in : ℕ → List ℕ → Option ℕ
+number_in most word = from_one (digits_behind most 0 word)
 
 -- ---- options
 
 -- what holds without an option
 abbrev pub plain_options : Options
-plain_options = record { recursive = false; preserve = false; quiet = false; progress = false; window = 64 }
+plain_options = record {
+  recursive = false;
+  preserve = false;
+  quiet = false;
+  progress = false;
+  window = 64;
+  files = 32;
+  limit = 16777216;
+}
 
 -- the options with one that is a word alone
 abbrev pub flag_of : Options → List ℕ → Option Options
@@ -67,6 +77,21 @@ flag_of o word =
     else if bytes_eq word (codes "-q") then Some (record o { quiet = true })
     else if bytes_eq word (codes "--progress") then Some (record o { progress = true })
     else None
+
+-- an option that a number follows
+abbrev pub counted_by : List ℕ → Option Counted
+counted_by word =
+    if bytes_eq word (codes "--window") then Some counted.Window
+    else if bytes_eq word (codes "--files") then Some counted.Files
+    else if bytes_eq word (codes "--limit") then Some counted.Limit
+    else None
+
+-- the options with the number that a word writes: a window of at most 1024, at most 256 files at once, or at most
+-- 1073741824 bytes under way
+abbrev pub with_count : Options → Counted → List ℕ → Option Options
+with_count o counted.Window word = option_map (λ n. record o { window = n }) (number_in 1024 word)
+with_count o counted.Files word = option_map (λ n. record o { files = n }) (number_in 256 word)
+with_count o counted.Limit word = option_map (λ n. record o { limit = n }) (number_in 1073741824 word)
 
 -- ---- where the server is
 
@@ -94,18 +119,24 @@ link_seen link.Stdio = AtStdio
 abbrev pub is_option : List ℕ → Bool
 is_option word = starts_with ◌==◌ word (codes "-")
 
+-- what follows an option with a number, or else
+abbrev pub by_counted : {A : Type 0} → (Counted → A) → A → Option Counted → A
+by_counted with_number other None = other
+by_counted with_number other (Some counted) = with_number counted
+
 -- The options that stand first, and the words behind them: a word that begins with "-" is an option, "--" ends them,
--- and behind "--window" stands the window.
-abbrev pub options_by : Options → Bool → List (List ℕ) → Option (Options × List (List ℕ))
-options_by o false [] = Some (o, [])
-options_by o true [] = None
-options_by o true (word ∷ words) = option_and_then (λ n. options_by (record o { window = n }) false words)
-    (window_in word)
-options_by o false (word ∷ words) =
+-- and behind an option that a number follows stands its number.
+abbrev pub options_by : Options → Option Counted → List (List ℕ) → Option (Options × List (List ℕ))
+options_by o None [] = Some (o, [])
+options_by o (Some counted) [] = None
+options_by o (Some counted) (word ∷ words) = option_and_then (λ more. options_by more None words)
+    (with_count o counted word)
+options_by o None (word ∷ words) =
     if bytes_eq word (codes "--") then Some (o, words)
-    else if bytes_eq word (codes "--window") then options_by o true words
-    else if is_option word then option_and_then (λ more. options_by more false words) (flag_of o word)
-    else Some (o, word ∷ words)
+    else by_counted (λ counted. options_by o (Some counted) words)
+    (if is_option word then option_and_then (λ more. options_by more None words) (flag_of o word)
+    else Some (o, word ∷ words))
+    (counted_by word)
 
 -- ---- what is to be done
 
@@ -127,7 +158,7 @@ copy_of way o (Some ([], target)) = None
 copy_of way o (Some (source ∷ sources, target)) = Some (Copies way o (source ∷ sources) target)
 
 abbrev pub copy_by : Way → List (List ℕ) → Option WorkWords
-copy_by way words = option_and_then (λ r. copy_of way r.0 (split_last r.1)) (options_by plain_options false words)
+copy_by way words = option_and_then (λ r. copy_of way r.0 (split_last r.1)) (options_by plain_options None words)
 
 -- a folder, or none: then the one that the session begins in
 abbrev pub list_at : Bool → List (List ℕ) → Option WorkWords

@@ -2,9 +2,9 @@
 #![tactic(auto)]
 
 mod asked;
+mod numbers;
 mod options;
 mod reading;
-mod window;
 
 pub use asked::{Asked, LinkAt, Listing, Transfer, Way, Work};
 pub use options::Options;

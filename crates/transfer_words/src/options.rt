@@ -13,4 +13,19 @@ pub struct Options {
     pub progress: bool,
     /// `--window N`: how many requests are under way for a file, from 1 to 1024.
     pub window: u32,
+    /// `--files N`: how many files are copied at once, from 1 to 256.
+    pub files: u32,
+    /// `--limit BYTES`: how many bytes are under way for all files together, from 1 to 1073741824.
+    pub limit: u32,
+}
+
+/// An option that a number follows.
+#[derive(Clone, Copy, Debug, PartialEq, Eq)]
+pub(crate) enum Counted {
+    /// `--window`
+    Window,
+    /// `--files`
+    Files,
+    /// `--limit`
+    Limit,
 }

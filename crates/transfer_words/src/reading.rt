@@ -1,12 +1,12 @@
 //! The words are read.
-ghost use Rattle.std.specs.Prelude.{◌≡◌, false, map};
+ghost use Rattle.std.specs.Prelude.{◌≡◌, None, map};
 ghost use Rattle.std.specs.Option.{option_map};
 ghost use Rattle.std.specs.String.{string_bytes};
-ghost use Rattle.transfer_words.specs.Words.{asked_at, asked_by, asked_seen, copy_by, flag_of, link_at, link_seen, list_at, list_by, options_by, plain_options, split_last, work_by, work_seen};
+ghost use Rattle.transfer_words.specs.Words.{asked_at, asked_by, asked_seen, copy_by, counted_by, flag_of, link_at, link_seen, list_at, list_by, options_by, plain_options, split_last, with_count, work_by, work_seen};
 
 use crate::asked::{Asked, LinkAt, Listing, Transfer, Way, Work};
-use crate::options::Options;
-use crate::window::window_in;
+use crate::numbers::number_in;
+use crate::options::{Counted, Options};
 
 /// No option.
 fn plain_options() -> Options
@@ -18,6 +18,44 @@ fn plain_options() -> Options
         quiet: false,
         progress: false,
         window: 64,
+        files: 32,
+        limit: 16777216,
+    }
+}
+
+/// The option that a word is, where a number follows it.
+fn counted_by(word: &str) -> Option<Counted>
+    ensures { result ≡ counted_by word.now }
+{
+    if word == "--window" {
+        Some(Counted::Window)
+    } else if word == "--files" {
+        Some(Counted::Files)
+    } else if word == "--limit" {
+        Some(Counted::Limit)
+    } else {
+        None
+    }
+}
+
+/// The options with a number that a word writes.
+fn with_count(options: Options, counted: Counted, word: &str) -> Option<Options>
+    ensures { result ≡ with_count options counted word.now }
+{
+    let word = word.as_bytes();
+    match counted {
+        Counted::Window => Some(Options {
+            window: number_in(1024, word)?,
+            ..options
+        }),
+        Counted::Files => Some(Options {
+            files: number_in(256, word)?,
+            ..options
+        }),
+        Counted::Limit => Some(Options {
+            limit: number_in(1073741824, word)?,
+            ..options
+        }),
     }
 }
 
@@ -68,28 +106,28 @@ fn link_at(word: &str) -> Option<LinkAt<'_>>
 
 /// The options that stand first, and the words behind them.
 fn options_by(words: &[String]) -> Option<(Options, &[String])>
-    ensures { option_map (λ p. (p.0, map string_bytes p.1.now)) result ≡ options_by plain_options false (map string_bytes words.now) }
+    ensures { option_map (λ p. (p.0, map string_bytes p.1.now)) result ≡ options_by plain_options None (map string_bytes words.now) }
 {
     let mut options = plain_options();
-    let mut awaits_window = false;
+    let mut awaited = None;
     let mut rest = words;
     loop {
         match rest {
             [] => {
-                if awaits_window {
+                if awaited.is_some() {
                     return None;
                 }
                 return Some((options, rest));
             }
             [word, later @ ..] => {
                 let word = word.as_str();
-                if awaits_window {
-                    options.window = window_in(word.as_bytes())?;
-                    awaits_window = false;
+                if let Some(counted) = awaited {
+                    options = with_count(options, counted, word)?;
+                    awaited = None;
                 } else if word == "--" {
                     return Some((options, later));
-                } else if word == "--window" {
-                    awaits_window = true;
+                } else if let Some(counted) = counted_by(word) {
+                    awaited = Some(counted);
                 } else if word.starts_with('-') {
                     options = with_flag(options, word)?;
                 } else {

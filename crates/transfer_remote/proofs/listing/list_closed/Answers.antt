@@ -3,7 +3,7 @@ use Rattle.sftp_client.specs.Sessions.{with_core}
 use Rattle.sftp_file.specs.Settles.{settling}
 use Rattle.sftp_fs.specs.Directories.{ClosesDir}
 use Rattle.sftp_fs.specs.Listings.{fresh_listing, given_up}
-use Rattle.transfer_file.specs.Awaits.{Awaited}
+use Rattle.transfer_remote.specs.Awaits.{Awaited}
 use Rattle.transfer_remote.specs.Listed.{ListsToEnd}
 use Rattle.transfer_remote.proofs.ListLaws.{closed_told}
 use Rattle.transfer_remote.proofs.listing.list_closed.Goals as goal

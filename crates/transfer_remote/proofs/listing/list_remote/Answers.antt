@@ -1,6 +1,6 @@
 use Rattle.std.proofs.Common.{rules, [], Ok}
 use Rattle.sftp_fs.specs.Directories.{OpensFrom, opening_dir}
-use Rattle.transfer_file.specs.declared.failure.Failure.{Failure}
+use Rattle.transfer_remote.specs.declared.failure.Failure.{Failure}
 use Rattle.transfer_remote.specs.Runs.{Runs}
 use Rattle.transfer_remote.proofs.ListLaws.{folder_told}
 use Rattle.transfer_remote.proofs.listing.list_remote.Goals as goal

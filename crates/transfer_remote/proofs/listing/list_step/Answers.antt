@@ -1,9 +1,10 @@
 use Rattle.std.proofs.Common.{rules, Ok, subst, sym}
+use Rattle.sftp_model.specs.declared.error.Error.{Error}
 use Rattle.call_state.specs.declared.poll.Poll.TheVariants.{Pending, Ready}
 use Rattle.sftp_client.specs.Sessions.{SftpValue, with_core}
 use Rattle.sftp_fs.specs.Listings.{Lists}
-use Rattle.transfer_file.specs.Sessions.{Turned}
-use Rattle.transfer_file.specs.declared.failure.Failure.{Failure}
+use Rattle.transfer_copier.specs.Sessions.{Turned}
+use Rattle.transfer_remote.specs.declared.failure.Failure.{Failure}
 use Rattle.transfer_remote.specs.Listed.{StepTold}
 use Rattle.transfer_remote.proofs.ListLaws.{grown_none, told_given, told_turns, turned_on}
 use Rattle.transfer_remote.proofs.listing.list_step.Goals as goal
@@ -31,8 +32,8 @@ returns-in-Ok-turn-clause-goes g c =
 pub returns-in-Ok-turn-clause-told : goal.returns-in-Ok-turn-clause-told
 returns-in-Ok-turn-clause-told g c =
     let lists : Lists c.args.sftp.now.core c.poll_next.new.core c.args.listing.now c.poll_next.new.self Pending = search rules in
-    let turned : Turned {E = Failure} g.L.LinkState.state (with_core c.args.sftp.now c.poll_next.new.core) c.turn.new.sftp (Ok tt) = search rules in
-    told_turns g.L.LinkState.state c.args.sftp.now c.poll_next.new.core c.turn.new.sftp c.args.listing.now
+    let turned : Turned {E = Error} g.L.LinkState.state (with_core c.args.sftp.now c.poll_next.new.core) c.turn.new.sftp (Ok tt) = search rules in
+    told_turns Failure g.L.LinkState.state c.args.sftp.now c.poll_next.new.core c.turn.new.sftp c.args.listing.now
     c.poll_next.new.self c.args.walk.now lists turned
 
 pub returns-in-Err-turn-clause-goes : goal.returns-in-Err-turn-clause-goes

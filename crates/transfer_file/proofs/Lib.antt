@@ -1,9 +1,0 @@
-pub mod GoingLaws
-pub mod Starts
-pub mod AwaitLaws
-pub mod FetchLaws
-pub mod FetchEnds
-pub mod SendLaws
-pub mod AskLaws
-pub mod PutEnds
-pub mod DiskLaws

@@ -1,5 +1,0 @@
-use Rattle.transfer_file.proofs.DiskLaws.{one_name}
-use Rattle.transfer_file.proofs.laws.one_name_is_changed.Goals as goal
-
-pub returns : goal.returns
-returns c = one_name
