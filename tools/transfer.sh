@@ -1,7 +1,7 @@
 #!/bin/sh
 # Runs sftp_transfer over OpenSSH's SFTP server: files of several sizes and trees down and up, and compares them; what is listed;
-# what stands where a file is missing, a name can't be used, or the server ends in the middle; and what comes of a server whose
-# names lead out of their folder. It installs nothing: where the server or socat is missing it says which, and passes. Another
+# what stands where a file is missing, a name can't be used, or the server ends in the middle; what goes on behind a part that is
+# there, and what is read back; and what comes of a server whose names lead out of their folder. It installs nothing: where the server or socat is missing it says which, and passes. Another
 # program than the one that `rt ci` built may be given as an argument.
 set -u
 cd "$(dirname "$0")/.." || exit 1
@@ -150,6 +150,75 @@ run socket put "$room/near/big" "$room/far/big"
 [ $status -eq 0 ] && cmp "$room/near/big" "$room/far/big" && ! [ -e "$room/far/.big.part" ]
 tell 'the same file once more' $?
 
+# ---- what goes on behind a part, and what is read back
+
+# a file that begins with so many bytes that no file here has, and goes on as another one
+mixed() {
+    head -c "$2" /dev/zero >"$3" && tail -c +$(($2 + 1)) "$1" >>"$3"
+}
+# one line of standard error, which says that a file differs
+differs() {
+    [ "$(cat "$room/err")" = "sftp_transfer: $1: what was read back differs" ]
+}
+head -c 100001 /dev/urandom >"$room/far/file"
+cp "$room/far/file" "$room/near/other"
+mixed "$room/far/file" 40000 "$room/mixed"
+for way in down up; do
+    case $way in
+    down) set -- get "$room/far/file" "$room/near/got" "$room/near/.got.part" ;;
+    up) set -- put "$room/near/other" "$room/far/got" "$room/far/.got.part" ;;
+    esac
+    head -c 40000 /dev/zero >"$4"
+    run socket $1 --resume "$2" "$3"
+    [ $status -eq 0 ] && cmp "$room/mixed" "$3" && ! [ -e "$4" ] && ! [ -s "$room/err" ]
+    tell "a file $way goes on behind what its part has" $?
+    head -c 40000 /dev/zero >"$4"
+    run socket $1 --resume --verify "$2" "$3"
+    [ $status -eq 1 ] && cmp "$room/mixed" "$3" && ! [ -e "$4" ] && differs "$2"
+    tell "a file $way whose part had other bytes is read back" $?
+    head -c 40000 "$room/far/file" >"$4"
+    run socket $1 --resume --verify "$2" "$3"
+    [ $status -eq 0 ] && cmp "$room/far/file" "$3" && ! [ -e "$4" ] && ! [ -s "$room/err" ]
+    tell "a file $way whose part had its bytes is read back" $?
+    head -c 100001 /dev/zero >"$4"
+    run socket $1 --resume "$2" "$3"
+    [ $status -eq 0 ] && cmp -n 100001 /dev/zero "$3" && ! [ -e "$4" ]
+    tell "a file $way whose part is whole" $?
+    head -c 100002 /dev/zero >"$4"
+    run socket $1 --resume "$2" "$3"
+    [ $status -eq 0 ] && cmp "$room/far/file" "$3" && ! [ -e "$4" ]
+    tell "a file $way whose part is longer begins anew" $?
+    mkdir "$4"
+    run socket $1 --resume "$2" "$3"
+    [ $status -eq 1 ] && [ -d "$4" ] && [ "$(wc -l <"$room/err")" -eq 1 ]
+    tell "a file $way whose part is a folder" $?
+    rmdir "$4"
+    head -c 40000 /dev/zero >"$4"
+    run socket $1 --verify "$2" "$3"
+    [ $status -eq 0 ] && cmp "$room/far/file" "$3" && ! [ -e "$4" ] && ! [ -s "$room/err" ]
+    tell "without --resume a file $way begins anew" $?
+done
+mkdir "$room/aside"
+head -c 40000 /dev/zero >"$room/aside/file"
+ln -s "$room/aside/file" "$room/near/.got.part"
+run socket get --resume "$room/far/file" "$room/near/got"
+[ $status -eq 0 ] && cmp "$room/far/file" "$room/near/got" && cmp -n 40000 /dev/zero "$room/aside/file" &&
+    [ "$(wc -c <"$room/aside/file")" -eq 40000 ]
+tell 'a link in the place of a part is not gone on behind' $?
+run reads get "$room/far/other" "$room/near/got"
+[ $status -eq 1 ] && [ -s "$room/near/.got.part" ]
+tell 'a server that ends, once more' $?
+run socket get --resume --verify "$room/far/other" "$room/near/got"
+[ $status -eq 0 ] && cmp "$room/far/other" "$room/near/got" && ! [ -e "$room/near/.got.part" ]
+tell 'a file that was cut off goes on' $?
+run writes put "$room/near/big" "$room/far/got"
+[ $status -eq 1 ] && [ -s "$room/far/.got.part" ]
+tell 'a server that ends while a file goes up, once more' $?
+run socket put --resume --verify "$room/near/big" "$room/far/got"
+[ $status -eq 0 ] && cmp "$room/near/big" "$room/far/got" && ! [ -e "$room/far/.got.part" ]
+tell 'a file that was cut off on its way up goes on' $?
+rm -f "$room/near/got" "$room/far/got" "$room/near/other"
+
 # ---- trees
 
 # a tree of files of 0 to 300000 bytes, with empty folders, symbolic links, and names of all kinds
@@ -193,6 +262,12 @@ tell 'what stands in a folder, once more over what is there' $?
 run socket put -r "$room/near/tree" "$room/far/up"
 [ $status -eq 0 ] && same "$room/near/tree" "$room/far/up" && [ "$(cat "$room/err")" = "54 files, 4983772 bytes" ]
 tell 'a tree up' $?
+run socket get -r -q --resume --verify "$room/far/tree/." "$room/near/tree"
+[ $status -eq 0 ] && same "$room/far/tree" "$room/near/tree" && ! [ -s "$room/err" ]
+tell 'a tree down, which is read back' $?
+run socket put -r -q --resume --verify "$room/near/tree/." "$room/far/up"
+[ $status -eq 0 ] && same "$room/near/tree" "$room/far/up" && ! [ -s "$room/err" ]
+tell 'a tree up, which is read back' $?
 run socket put -r -q --window 3 "$room/near/tree" "$room/far/up"
 [ $status -eq 0 ] && same "$room/near/tree" "$room/far/up/tree" && ! [ -s "$room/err" ]
 tell 'a tree up into a folder that is there' $?
@@ -275,6 +350,12 @@ run socket put -r -p -q "$room/near/kept" "$room/far/kept"
 stats "$room/far/kept" >"$room/out"
 [ $status -eq 0 ] && cmp "$room/want" "$room/out" && same "$room/far/tree" "$room/far/kept"
 tell 'permissions and times up' $?
+
+touch -d '2011-12-13 14:15:16' "$room/near/kept/-r/--" && chmod 604 "$room/near/kept/-r/--"
+run socket put -p --verify -- "$room/near/kept/-r/--" "$room/far/kept/-r"
+[ $status -eq 0 ] && [ "$(stat -c '%a %Y' "$room/far/kept/-r/--")" = "$(stat -c '%a %Y' "$room/near/kept/-r/--")" ] &&
+    [ "$(stat -c %a "$room/far/kept/-r/--")" = 604 ]
+tell 'permissions and times of one file up' $?
 
 # ---- what is listed
 

@@ -35,20 +35,39 @@ pub(crate) struct Batch<'a> {
     options: Options,
     jobs: &'a [Found],
     tally: &'a Tally,
+    starts: &'a [u64],
     next: usize,
     ended: bool,
     totals: Totals,
     given: Vec<Given>,
 }
 
+/// Gives a local file that was copied its permissions and times, where that is asked for.
+pub(crate) fn keep_file(
+    rt: &HostRuntime,
+    way: Way,
+    options: Options,
+    found: &Found,
+) -> Result<(), Reason> {
+    if !options.preserve || way == Way::Put {
+        return Ok(());
+    }
+    match str::from_utf8(found.target.as_slice()) {
+        Ok(path) => Ok(keep_local(rt, path, &found.attrs)?),
+        Err(_) => Err(no_text()),
+    }
+}
+
 impl<'a> Batch<'a> {
-    /// All files among the jobs but those that the tally skips.
+    /// All files among the jobs but those that the tally skips. Each begins behind as many bytes as its place among the starts
+    /// has, and at 0 where there is none.
     pub(crate) fn new(
         rt: &'a HostRuntime,
         way: Way,
         options: Options,
         jobs: &'a [Found],
         tally: &'a Tally,
+        starts: &'a [u64],
         totals: Totals,
     ) -> Batch<'a> {
         Batch {
@@ -57,6 +76,7 @@ impl<'a> Batch<'a> {
             options,
             jobs,
             tally,
+            starts,
             next: 0,
             ended: false,
             totals,
@@ -90,7 +110,12 @@ impl<'a> Batch<'a> {
             self.refuse(path, &Reason::OutOfMemory);
             return None;
         }
-        match copy_of(self.rt.alloc(), self.way, found) {
+        let begins_at = match self.starts.get(place) {
+            Some(start) => *start,
+            None => 0,
+        };
+        let keeps = self.options.preserve;
+        match copy_of(self.rt.alloc(), self.way, keeps, begins_at, found) {
             Ok(job) => Some(Wanted {
                 job,
                 local: SystemFile::new(self.rt, number),
@@ -110,25 +135,18 @@ impl<'a> Batch<'a> {
         }
     }
 
-    /// A file was copied, with so many bytes. A local one is given its permissions and times where that is asked for.
+    /// A file was copied, so many bytes of it by this run. A local one is given its permissions and times where that is asked
+    /// for, unless it is read back before.
     fn finish(&mut self, found: &Found, len: u64) -> Verdict {
         self.totals.files = self.totals.files.saturating_add(1);
         self.totals.bytes = self.totals.bytes.saturating_add(len);
         self.show_progress();
-        if !self.options.preserve || self.way == Way::Put {
+        if self.options.verify {
             return Verdict::Done;
         }
-        match self.keep(found) {
+        match keep_file(self.rt, self.way, self.options, found) {
             Ok(()) => Verdict::Done,
             Err(reason) => self.refuse(found.source.as_slice(), &reason),
-        }
-    }
-
-    /// Gives a local file its permissions and times.
-    fn keep(&mut self, found: &Found) -> Result<(), Reason> {
-        match str::from_utf8(found.target.as_slice()) {
-            Ok(path) => Ok(keep_local(self.rt, path, &found.attrs)?),
-            Err(_) => Err(no_text()),
         }
     }
 
@@ -185,7 +203,7 @@ impl<'a> CopyJobs for Batch<'a> {
             return;
         };
         let verdict = match result {
-            Ok(len) => self.finish(found, len),
+            Ok(len) => self.finish(found, len.saturating_sub(job.begins_at)),
             Err(e) => self.refuse(job.from.as_str().as_bytes(), &Reason::from(e)),
         };
         self.set_verdict(number, verdict);

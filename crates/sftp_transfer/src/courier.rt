@@ -3,13 +3,14 @@ ghost use Rattle.std.specs.Prelude.{◌≡◌};
 ghost use Rattle.transfer_copier.specs.Sessions.{IsGoing};
 
 use crate::batch::{Batch, Given, Totals};
+use crate::copy::kept_attrs;
 use crate::local_side::{keep_local, make_local_folder, make_local_link};
 use crate::reason::{Reason, ends_all, is_starved, no_text, refusal_of, tell, tell_of};
+use crate::verify::Checks;
 use crate::window::{count_files, window_for};
 use sftp_client::Sftp;
 use sftp_link::Link;
-use sftp_model::FileAttrs;
-use std::{fs, str};
+use std::{fs, mem, str};
 use transfer_copier::{Failure, copy_all};
 use transfer_jobs::{Hand, Tally, Verdict};
 use transfer_remote::{
@@ -87,13 +88,40 @@ impl<'a, L: Link> Courier<'a, L> {
         let files = count_files(jobs, self.options.files);
         let window = self.window(files);
         let alloc = self.rt.alloc();
-        let mut batch = Batch::new(self.rt, self.way, self.options, jobs, tally, self.totals);
+        let starts = self.starts(jobs, tally);
+        let mut batch = Batch::new(
+            self.rt,
+            self.way,
+            self.options,
+            jobs,
+            tally,
+            starts.as_slice(),
+            self.totals,
+        );
         let copied = copy_all(alloc, &mut self.sftp, &mut batch, files as usize, window);
         let (totals, given) = batch.into_parts();
         self.totals = totals;
+        self.tell_stop(copied);
         self.given = given;
         self.answered = 0;
-        self.tell_stop(copied);
+        if self.options.verify {
+            self.verify_files(jobs, files as usize, window);
+        }
+    }
+
+    /// Reads the files that were copied back from the server, many at once, compares them, and keeps what came of each.
+    fn verify_files(&mut self, jobs: &[Found], files: usize, window: u32)
+        requires { IsGoing L.LinkState.state self.old.sftp }
+        ensures { IsGoing L.LinkState.state self.new.sftp }
+    {
+        let alloc = self.rt.alloc();
+        let given = mem::replace(&mut self.given, Vec::new(alloc));
+        let mut checks = Checks::new(self.rt, self.way, self.options, jobs, given);
+        let compared = copy_all(alloc, &mut self.sftp, &mut checks, files, window);
+        let (starved, given) = checks.into_parts();
+        self.totals.starved = self.totals.starved || starved;
+        self.given = given;
+        self.tell_stop(compared);
     }
 
     /// Tells that there was no memory to go on with copies.
@@ -103,56 +131,6 @@ impl<'a, L: Link> Courier<'a, L> {
         if let Err(e) = copied {
             self.totals.starved = true;
             tell(self.rt, "the session", &Reason::from(e));
-        }
-    }
-
-    /// What came of a file once it was given its permissions and times, where it was copied.
-    fn kept_verdict(&mut self, given: Given, jobs: &[Found]) -> Verdict
-        requires { IsGoing L.LinkState.state self.old.sftp }
-        ensures { IsGoing L.LinkState.state self.new.sftp }
-    {
-        let Some(found) = jobs.get(given.place) else {
-            return given.verdict;
-        };
-        if given.verdict != Verdict::Done {
-            return given.verdict;
-        }
-        let kept = self.keep_attrs(found);
-        self.verdict_of(found, kept)
-    }
-
-    /// Notes what came of a file.
-    fn set_verdict(&mut self, number: usize, verdict: Verdict)
-        ensures { self.new.sftp ≡ self.old.sftp }
-    {
-        if let Some(given) = self.given.get_mut(number) {
-            given.verdict = verdict;
-        }
-    }
-
-    /// Gives a file that was copied to the server its permissions and times.
-    fn keep_file(&mut self, number: usize, jobs: &[Found])
-        requires { IsGoing L.LinkState.state self.old.sftp }
-        ensures { IsGoing L.LinkState.state self.new.sftp }
-    {
-        let Some(given) = self.given.get(number) else {
-            return;
-        };
-        let given = *given;
-        let verdict = self.kept_verdict(given, jobs);
-        self.set_verdict(number, verdict);
-    }
-
-    /// Gives all files that were copied to the server their permissions and times, where that is asked for.
-    fn keep_files(&mut self, jobs: &[Found])
-        requires { IsGoing L.LinkState.state self.old.sftp }
-        ensures { IsGoing L.LinkState.state self.new.sftp }
-    {
-        if !self.options.preserve || self.way == Way::Get {
-            return;
-        }
-        for number in 0..self.given.len() {
-            self.keep_file(number, jobs);
         }
     }
 
@@ -220,7 +198,7 @@ impl<'a, L: Link> Courier<'a, L> {
         }
     }
 
-    /// Gives what was copied the permissions and times of what it was copied from.
+    /// Gives a folder the permissions and times of the one that it was copied from.
     fn keep_attrs(&mut self, found: &Found) -> Result<(), Reason>
         requires { IsGoing L.LinkState.state self.old.sftp }
         ensures { IsGoing L.LinkState.state self.new.sftp }
@@ -280,19 +258,6 @@ impl<'a, L: Link> Courier<'a, L> {
     }
 }
 
-/// The permissions and times of these attributes.
-fn kept_attrs(attrs: &FileAttrs) -> FileAttrs {
-    FileAttrs {
-        size: None,
-        id: None,
-        permissions: match attrs.permissions {
-            Some(mode) => Some(mode & 0o777),
-            None => None,
-        },
-        time: attrs.time,
-    }
-}
-
 impl<'a, L: Link> Hand for Courier<'a, L> {
     ghost History = { Unit {0} };
 
@@ -304,7 +269,6 @@ impl<'a, L: Link> Hand for Courier<'a, L> {
 
     fn copy(&mut self, jobs: &[Found], tally: &Tally) {
         self.copy_files(jobs, tally);
-        self.keep_files(jobs);
     }
 
     fn work(&mut self, found: &Found) -> Verdict {

@@ -2,6 +2,8 @@
 #![tactic(auto)]
 
 mod batch;
+mod compared;
+mod comparison;
 mod copy;
 mod courier;
 mod ended;
@@ -9,11 +11,13 @@ mod listing;
 mod local_side;
 mod printable;
 mod reason;
+mod resume;
 mod run;
 mod sources;
 mod system;
 mod terminal;
 mod texts;
+mod verify;
 mod window;
 mod work;
 

@@ -65,6 +65,9 @@ impl From<transfer_copier::Failure> for Reason {
             transfer_copier::Failure::Remote(e) => Reason::Remote(e),
             transfer_copier::Failure::Local(LocalError::Failed(e)) => Reason::Local(e),
             transfer_copier::Failure::Local(LocalError::OutOfMemory) => Reason::OutOfMemory,
+            transfer_copier::Failure::Local(LocalError::Differs) => {
+                Reason::Refused("what was read back differs")
+            }
             transfer_copier::Failure::OutOfMemory => Reason::OutOfMemory,
             transfer_copier::Failure::TooLong => Reason::TooLong,
         }
@@ -82,6 +85,9 @@ pub(crate) fn refusal_of(task: Task) -> &'static str {
         Task::RefuseName => "refused: the name would lead out of its folder",
         Task::RefuseText => "refused: the name isn't UTF-8, and no local file can have it",
         Task::RefuseDepth => "refused: more than 64 folders in one another",
+        Task::RefuseTwice => "refused: another file is copied to the same path",
+        Task::RefusePart =>
+            "refused: another file is written under this name until all its bytes are there",
         _ => "passed over: no file, no folder and no symbolic link",
     }
 }

@@ -1,9 +1,11 @@
 //! A file of the system as a local file.
+use crate::comparison::read_some;
 use bytes::Bytes;
 use std::alloc::Global;
-use std::fs::File;
-use std::io::{ErrorKind, Read, Write};
+use std::fs::{File, OpenFile, OpenOptions};
+use std::io::{ErrorKind, Seek, SeekFrom, Write};
 use std::marker::Model;
+use std::os::unix::fs::MetadataExt;
 use std::{fs, io};
 use transfer_copier::{LocalError, LocalFile};
 
@@ -38,8 +40,12 @@ impl<'a> LocalFile for SystemFile<'a> {
 
     ghost history = { λ file. tt };
 
-    fn open(&mut self, name: &str) -> Result<(), LocalError> {
-        self.file = Some(File::open(self.runtime, name)?);
+    fn open(&mut self, name: &str, from: u64) -> Result<(), LocalError> {
+        let mut file = File::open(self.runtime, name)?;
+        if from > 0 {
+            file.seek(SeekFrom::Start(from))?;
+        }
+        self.file = Some(file);
         Ok(())
     }
 
@@ -50,6 +56,11 @@ impl<'a> LocalFile for SystemFile<'a> {
             _ => {}
         }
         self.file = Some(File::create_new(self.runtime, name)?);
+        Ok(())
+    }
+
+    fn reopen(&mut self, name: &str, len: u64) -> Result<(), LocalError> {
+        self.file = Some(open_behind(self.runtime, name, len)?);
         Ok(())
     }
 
@@ -80,13 +91,22 @@ impl<'a> LocalFile for SystemFile<'a> {
     }
 }
 
-/// Reads some bytes into a room, again where a signal came between.
-fn read_some<F: Read>(file: &mut F, room: &mut [u8]) -> io::Result<usize> {
-    for _ in 0..u64::MAX {
-        match file.read(room) {
-            Err(e) if e.kind() == ErrorKind::Interrupted => {}
-            read => return read,
-        }
+/// The file is not the one that was found.
+fn changed() -> io::Error {
+    io::Error::new(ErrorKind::InvalidInput, "its part was changed meanwhile")
+}
+
+/// Opens a regular file of just so many bytes, to write behind them. A symbolic link is refused, also one that was put there
+/// in the meantime: what was opened is the file that was looked at.
+fn open_behind(rt: &HostRuntime, name: &str, len: u64) -> io::Result<File> {
+    let seen = fs::symlink_metadata(rt, name)?;
+    if !seen.is_file() || seen.len() != len {
+        return Err(changed());
     }
-    Ok(0)
+    let file = OpenOptions::new().append(true).open(rt, name)?;
+    let now = file.metadata()?;
+    if now.dev() != seen.dev() || now.ino() != seen.ino() || now.len() != len {
+        return Err(changed());
+    }
+    Ok(file)
 }

@@ -20,6 +20,8 @@ standard input and output are the connection. With ssh:
 
   -r           folders too, with all that stands in them; symbolic links as links
   -p           permissions and times are kept
+  --resume     files go on behind the bytes that an earlier run has left in their parts
+  --verify     files that were copied are read back from the server, and compared
   -q           nothing is told but what was not done
   --progress   how far the transfer has come, on standard error
   --files N    files copied at once, from 1 to 256; 32 without this option

@@ -12,7 +12,7 @@ use sftp_client::Sftp;
 use sftp_link::Link;
 use sftp_model::SftpOptions;
 use std::fs;
-use transfer_jobs::carry_out;
+use transfer_jobs::{carry_out, keep_apart};
 use transfer_remote::{make_remote_folder, remote_metadata};
 use transfer_words::{Transfer, Way, Work};
 
@@ -145,14 +145,11 @@ fn copy<L: Link>(courier: &mut Courier<'_, L>, transfer: &Transfer<'_>) -> Reach
         return ended_by(courier.totals.starved, false, false);
     };
     let alloc = courier.rt.alloc();
-    let several = gathered.jobs.len() > 1;
-    let carried = carry_out(
-        alloc,
-        courier,
-        gathered.jobs.as_slice(),
-        transfer.options.preserve,
-    );
-    courier.tell_end(several);
+    let Ok(jobs) = keep_apart(alloc, gathered.jobs) else {
+        return Reach::OutOfMemory;
+    };
+    let carried = carry_out(alloc, courier, &jobs, transfer.options.preserve);
+    courier.tell_end(jobs.len() > 1);
     match carried {
         Ok(tally) => ended_by(courier.totals.starved, gathered.complete, tally.all_done()),
         Err(_) => Reach::OutOfMemory,

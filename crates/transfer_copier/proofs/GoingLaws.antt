@@ -13,7 +13,7 @@ use Rattle.session_exchange.specs.Causes.{Cause}
 use Rattle.call_state.specs.Keeping.{KeepsHeld}
 use Rattle.call_state.proofs.Keeping.{keeps_both, keeps_failed, keeps_handed_out, keeps_same, keeps_taken, keeps_unchanged}
 use Rattle.sftp_client.specs.Sessions.{
-  Flushes,
+  FlushesQueue,
   FlushesUnfailed,
   GetStops,
   IsKept,
@@ -33,7 +33,7 @@ use Rattle.sftp_client.specs.Sessions.{
   kept_after,
 }
 use Rattle.sftp_client.proofs.Lowering.{take_stays_open}
-use Rattle.transfer_copier.specs.Sessions.{IsGoing, Turned}
+use Rattle.transfer_copier.specs.Sessions.{IsGoing, TookTurn}
 
 -- what a call of a session leaves
 pub record Left {L S : Type 0} (state : L → LinkView S) (old new : SftpValue L) : Type 0 where
@@ -116,7 +116,7 @@ left_stopped state old new e going unfailed stops = left_kept state old new e go
 
 -- ---- flush
 
-pub flushed : {L S : Type 0} (state : L → LinkView S) (old new : SftpValue L) → IsGoing state old → Flushes state old new (Ok tt) → Left state old new
+pub flushed : {L S : Type 0} (state : L → LinkView S) (old new : SftpValue L) → IsGoing state old → FlushesQueue state old new (Ok tt) → Left state old new
 flushed state old new going (unfailed, sends) = left_both state old (handed old) new (left_handed state old going)
     (left_sent state (handed old) new (left_handed state old going).going sends)
 
@@ -127,7 +127,7 @@ kept_same state old new error.OutOfMemory going never = absurd never
 kept_same state old new other going never = absurd never
 
 pub flush_stopped : {L S : Type 0} (state : L → LinkView S) (old new : SftpValue L) (e : Error) → IsGoing state old
-    → Flushes state old new (Err e) → Left state old new
+    → FlushesQueue state old new (Err e) → Left state old new
 flush_stopped state old new e going (inl kept) = kept_same state old new e going kept
 flush_stopped state old new e going (inr (unfailed, inl stops)) = left_stopped state old new e going unfailed stops
 flush_stopped state old new e going (inr (unfailed, inr stops)) =
@@ -173,23 +173,23 @@ take_stopped state old new e going (inr (unfailed, inr (due, inr refuses))) = le
 -- ---- a turn
 
 pub turn_ends : {L S E : Type 0} (state : L → LinkView S) (old mid new : SftpValue L) (b : Bool) → IsGoing state old
-    → Flushes state old mid (Ok tt) → TakesOrKept state mid new (Ok b)
-    → Turned {E = E} state old new (Ok tt)
+    → FlushesQueue state old mid (Ok tt) → TakesOrKept state mid new (Ok b)
+    → TookTurn {E = E} state old new (Ok tt)
 turn_ends state old mid new b going flushes takes =
     let first = flushed state old mid going flushes in
     let l = left_both state old mid new first (took state mid new b first.going takes) in
     record { going = l.going; keeps = l.keeps; turns = (mid, b, flushes, takes) }
 
-pub turn_stops : {L S E : Type 0} (state : L → LinkView S) (old new : SftpValue L) (e : E) → Left state old new → Turned {E = E} state old new (Err e)
+pub turn_stops : {L S E : Type 0} (state : L → LinkView S) (old new : SftpValue L) (e : E) → Left state old new → TookTurn {E = E} state old new (Err e)
 turn_stops state old new e l = record { going = l.going; keeps = l.keeps; turns = tt }
 
 pub flush_stops_turn : {L S E : Type 0} (state : L → LinkView S) (old new : SftpValue L) (e : Error) (x : E)
-    → IsGoing state old → Flushes state old new (Err e) → Turned {E = E} state old new (Err x)
+    → IsGoing state old → FlushesQueue state old new (Err e) → TookTurn {E = E} state old new (Err x)
 flush_stops_turn state old new e x going flushes = turn_stops state old new x (flush_stopped state old new e going flushes)
 
 pub take_stops_turn : {L S E : Type 0} (state : L → LinkView S) (old mid new : SftpValue L) (e : Error) (x : E)
-    → IsGoing state old → Flushes state old mid (Ok tt) → TakesOrKept state mid new (Err e)
-    → Turned {E = E} state old new (Err x)
+    → IsGoing state old → FlushesQueue state old mid (Ok tt) → TakesOrKept state mid new (Err e)
+    → TookTurn {E = E} state old new (Err x)
 take_stops_turn state old mid new e x going flushes takes =
     let first = flushed state old mid going flushes in
     turn_stops state old new x (left_both state old mid new first (take_stopped state mid new e first.going takes))

@@ -47,7 +47,7 @@ use Rattle.transfer_copier.specs.declared.jobs.Wanted.{Wanted}
 use Rattle.transfer_copier.specs.declared.running.Copied.{Copied}
 use Rattle.transfer_copier.specs.declared.running.CopyJob.{CopyJob}
 use Rattle.transfer_copier.specs.declared.running.Running.{Running}
-use Rattle.transfer_copier.specs.Copies.{AreTogether, CopierSteps, CopierValue, NextEnded, SparesAll, WorkedOn, Working, WorksOnce, copy_begun}
+use Rattle.transfer_copier.specs.Copies.{AreTogether, CopierSteps, CopierValue, NextEnded, SparesAll, WorkedOn, Working, WorksOnce, job_begun}
 use Rattle.transfer_copier.specs.Jobs.{
   BeginsJob,
   BeginsOrNot,
@@ -275,7 +275,7 @@ over_join test (NoMore ∷ xs) ys = over_join test xs ys
 over_join test (Over c ∷ xs) ys = (let e = over_join test xs ys in omega (arith, e))
 
 abbrev begun_copy : {F : Type 0} → Wanted F → ℕ → Running F
-begun_copy wanted window = record { job = wanted.job; local = wanted.local; state = copy_begun wanted.job.way window }
+begun_copy wanted window = record { job = wanted.job; local = wanted.local; state = job_begun wanted.job window }
 
 begun_told : {L F N : Type 0} (noted : JobNote F → N → N) (window most : ℕ) (first mid new : Jobs L F N) → IsTold noted first mid
     → BeginsOrNot noted window most mid new → IsTold noted first new

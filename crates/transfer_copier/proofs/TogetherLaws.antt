@@ -5,7 +5,6 @@ use Rattle.std.proofs.Common.{
   ◌⊎◌,
   inl,
   inr,
-  ◌≤◌,
   ℕ,
   true,
   false,
@@ -18,14 +17,13 @@ use Rattle.std.proofs.Common.{
   ap,
   ◌∙◌,
   subst,
-  arith,
   Option,
   Some,
   None,
 }
-use Rattle.std.proofs.lemmas.Bool.Decides.{nat_tests}
-use Rattle.std.specs.Prelude.{IsTrue, IsSome, Result, Ok, Err, max}
+use Rattle.std.specs.Prelude.{IsTrue, IsSome, Result, Ok, Err}
 use Rattle.sftp_model.specs.declared.answers.Expected.{Expected}
+use Rattle.sftp_model.specs.declared.file_attrs.FileAttrs.{FileAttrs}
 use Rattle.sftp_core.specs.declared.handshake.Handshake.{Handshake}
 use Rattle.sftp_core.specs.declared.place.Place.{Place}
 use Rattle.sftp_core.specs.declared.place.Place.TheVariants.{Granted}
@@ -78,6 +76,7 @@ use Rattle.transfer_copier.specs.Copies.{
   TakesTurn,
   copy_begun,
   holding_of,
+  job_begun,
 }
 
 -- ---- numbers of two holdings
@@ -220,37 +219,15 @@ apart_none : {F : Type 0} (rs : List (Running F)) → AreApartFrom nothing_held 
 apart_none [] = tt
 apart_none (r ∷ later) = (λ id is. record { file = tt; parts = tt }, apart_none later)
 
-begun_held : (way : Way) (window : ℕ) → holding_of (copy_begun way window) ≡ nothing_held
-begun_held way.Get window = refl
-begun_held way.Put window = refl
-
-one_at_least : (n : ℕ) → 1 ≤ max n 1
-one_at_least n = grind (arith, nat_tests)
-
-may_begin : (core : Core) (way : Way) (window : ℕ) → IsSome (info_of core.phase) → MayStepCopy core (copy_begun way window)
-may_begin core way.Get window opened = record {
-  getting = record {
-    opened = opened;
-    held = record { file = tt; parts = tt };
-    stands = record { holds = refl; offset = refl; next = refl; wide = omega (arith); unfailed = refl };
-  };
-  going = tt;
-}
-may_begin core way.Put window opened = record {
-  putting = record {
-    opened = opened;
-    held = record { file = tt; parts = tt };
-    stands = record { holds = refl; offset = refl; next = refl; at_end = refl; wide = one_at_least window; unfailed = refl };
-  };
-  going = tt;
-}
+begun_held : (way : Way) (window from : ℕ) (attrs : Option FileAttrs) → holding_of (copy_begun way window from attrs) ≡ nothing_held
+begun_held way.Get window from attrs = refl
+begun_held way.Put window from attrs = refl
 
 pub together_begun : {F : Type 0} (core : Core) (rs new : List (Running F)) (job : CopyJob) (local : F) (s : CopyState) (window : ℕ)
-    → s ≡ copy_begun job.way window → new ≡ rs ++ record { job = job; local = local; state = s } ∷ []
-    → IsSome (info_of core.phase) → AreTogether core rs → AreTogether core new
-together_begun {F = F} core rs new job local s window is now opened all =
-    let may = subst (λ (x : CopyState). MayStepCopy core x) (sym is) (may_begin core job.way window opened) in
-    let none : holding_of s ≡ nothing_held = ap holding_of is ∙ begun_held job.way window in
+    → s ≡ job_begun job window → MayStepCopy core s → new ≡ rs ++ record { job = job; local = local; state = s } ∷ []
+    → AreTogether core rs → AreTogether core new
+together_begun {F = F} core rs new job local s window is may now all =
+    let none : holding_of s ≡ nothing_held = ap holding_of is ∙ begun_held job.way window job.begins_at job.attrs in
     let apart = subst (λ (h : HoldingValue). AreApartFrom h rs) (sym none) (apart_none rs) in
     subst (λ (l : List (Running F)). AreTogether core l) (sym now)
     (together_last core rs (record { job = job; local = local; state = s }) all apart may)

@@ -9,7 +9,7 @@ use Rattle.sftp_link.specs.Views.{LinkView}
 use Rattle.sftp_client.specs.Sessions.{SftpValue, with_core}
 use Rattle.transfer_states.specs.declared.failure.Failure.{Failure}
 use Rattle.transfer_local.specs.Local.{LocalAct}
-use Rattle.transfer_copier.specs.Sessions.{IsGoing, Turned}
+use Rattle.transfer_copier.specs.Sessions.{IsGoing, TookTurn}
 use Rattle.transfer_copier.specs.declared.copier.Advance.{Advance}
 use Rattle.transfer_copier.specs.declared.copier.Advance.TheVariants as advance
 use Rattle.transfer_copier.specs.declared.copier.CopierStep.{CopierStep}
@@ -80,14 +80,14 @@ stepped_idle state done history old new going together s =
     record { going = going_stepped state done history old new copier_step.Idle going s; together = together; did = s }
 
 worked_two : {L S F H : Type 0} (state : L → LinkView S) (done : LocalAct → H → H) (history : F → H) (old mid new : Working L F)
-    (turned : Result (Unit {0}) Error) → StepsCopies done history old mid copier_step.Waits → Turned state mid.session new.session turned
+    (turned : Result (Unit {0}) Error) → StepsCopies done history old mid copier_step.Waits → TookTurn state mid.session new.session turned
     → new.running ≡ mid.running → (n : ℕ) × WorkedOn state done history n old new
 worked_two state done history old mid new turned s t same =
     (2, (mid, (old, refl, inl s), inr (inr (record { result = turned; turned = t; same = same }))))
 
 pub turned_on : {L S F H : Type 0} (state : L → LinkView S) (done : LocalAct → H → H) (history : F → H) (old mid new : Working L F)
     (turned : Result (Unit {0}) Error) → AreTogether mid.session.core mid.running
-    → StepsCopies done history old mid copier_step.Waits → Turned state mid.session new.session turned → new.running ≡ mid.running
+    → StepsCopies done history old mid copier_step.Waits → TookTurn state mid.session new.session turned → new.running ≡ mid.running
     → Advanced state done history old new advance.On
 turned_on {F = F} state done history old mid new turned together s t same = record {
   going = t.going;
@@ -98,7 +98,7 @@ turned_on {F = F} state done history old mid new turned together s t same = reco
 
 pub turned_off : {L S F H : Type 0} (state : L → LinkView S) (done : LocalAct → H → H) (history : F → H) (old mid new : Working L F)
     (turned : Result (Unit {0}) Error) (e : Failure) → AreTogether mid.session.core mid.running
-    → StepsCopies done history old mid copier_step.Waits → Turned state mid.session new.session turned → new.running ≡ mid.running
+    → StepsCopies done history old mid copier_step.Waits → TookTurn state mid.session new.session turned → new.running ≡ mid.running
     → Advanced state done history old new (advance.Stopped e)
 turned_off {F = F} state done history old mid new turned e together s t same = record {
   going = t.going;

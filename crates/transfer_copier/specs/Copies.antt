@@ -18,6 +18,7 @@ use Rattle.std.specs.Prelude.{
 }
 use Rattle.std.specs.String.{string_bytes}
 use Rattle.sftp_model.specs.declared.error.Error.{Error}
+use Rattle.sftp_model.specs.declared.file_attrs.FileAttrs.{FileAttrs}
 use Rattle.sftp_core.specs.Core.{Core, at}
 use Rattle.sftp_core.specs.declared.place.Place.{Place}
 use Rattle.sftp_link.specs.Views.{LinkView}
@@ -32,7 +33,7 @@ use Rattle.transfer_states.specs.Gets.{GetStepDid, IsGetting, MayGet, get_begun}
 use Rattle.transfer_states.specs.Holdings.{HoldingValue, IsOfOthers, SparesPlaces, nothing_held}
 use Rattle.transfer_local.specs.Local.{LocalAct}
 use Rattle.transfer_states.specs.Puts.{IsPutting, MayPut, PutStepDid, put_begun}
-use Rattle.transfer_copier.specs.Sessions.{IsGoing, Turned}
+use Rattle.transfer_copier.specs.Sessions.{IsGoing, TookTurn}
 use Rattle.transfer_copier.specs.declared.copier.Advance.{Advance}
 use Rattle.transfer_copier.specs.declared.copier.Advance.TheVariants as advance
 use Rattle.transfer_copier.specs.declared.copier.CopierStep.{CopierStep}
@@ -47,10 +48,14 @@ use Rattle.transfer_copier.specs.declared.running.Way.TheVariants as way
 
 -- ---- one copy
 
--- a copy that has asked for nothing
-abbrev pub copy_begun : Way → ℕ → CopyState
-copy_begun way.Get window = state.Get (get_begun window)
-copy_begun way.Put window = state.Put (put_begun window)
+-- a copy that has asked for nothing, of the bytes from an offset on; one to the server gives the file attributes
+abbrev pub copy_begun : Way → ℕ → ℕ → Option FileAttrs → CopyState
+copy_begun way.Get window from attrs = state.Get (get_begun window from)
+copy_begun way.Put window from attrs = state.Put (put_begun window from attrs)
+
+-- the copy of a job
+abbrev pub job_begun : CopyJob → ℕ → CopyState
+job_begun job window = copy_begun job.way window job.begins_at job.attrs
 
 -- what it has of the core
 abbrev pub holding_of : CopyState → HoldingValue
@@ -192,7 +197,7 @@ pub record StepsCopies {L F H : Type 0} (done : LocalAct → H → H) (history :
 -- the session took a turn, and the copies none
 pub record TurnsSession {L S F : Type 0} (state : L → LinkView S) (old new : Working L F) : Type 0 where
   pub result : Result (Unit {0}) Error
-  pub turned : Turned state old.session new.session result
+  pub turned : TookTurn state old.session new.session result
   pub same : new.running ≡ old.running
 
 -- a step of a copy that has not ended, or a turn of the session

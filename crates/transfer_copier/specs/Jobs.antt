@@ -40,7 +40,7 @@ use Rattle.transfer_copier.specs.declared.jobs.Wanted.{Wanted}
 use Rattle.transfer_copier.specs.declared.running.Copied.{Copied}
 use Rattle.transfer_copier.specs.declared.running.CopyJob.{CopyJob}
 use Rattle.transfer_copier.specs.declared.running.Running.{Running}
-use Rattle.transfer_copier.specs.Copies.{AreTogether, CopierValue, NextEnded, Working, copy_begun}
+use Rattle.transfer_copier.specs.Copies.{AreTogether, CopierValue, NextEnded, Working, job_begun}
 use Rattle.transfer_copier.specs.Sessions.{IsGoing}
 
 -- a job was given, or there was none any more, or what came of one was told
@@ -71,7 +71,7 @@ working_in j = record { session = j.session; running = j.running }
 -- the copy of a job that was given stands last
 abbrev pub with_copy : {F : Type 0} → List (Running F) → Wanted F → ℕ → List (Running F)
 with_copy running wanted window =
-    running ++ record { job = wanted.job; local = wanted.local; state = copy_begun wanted.job.way window } ∷ []
+    running ++ record { job = wanted.job; local = wanted.local; state = job_begun wanted.job window } ∷ []
 
 -- a copy that has asked for nothing may stand beside others
 abbrev pub Joins : {F : Type 0} → List (Running F) → List (Running F) → Type 0

@@ -3,7 +3,7 @@ use Rattle.std.specs.Prelude.{◌≡◌, ◌<◌, ◌-◌, ◌^◌, Bool, None, 
 use Rattle.sftp_core.specs.Info.{info_of}
 use Rattle.sftp_link.specs.Views.{LinkView}
 use Rattle.call_state.specs.Keeping.{KeepsHeld}
-use Rattle.sftp_client.specs.Sessions.{Flushes, SftpValue, TakesOrKept}
+use Rattle.sftp_client.specs.Sessions.{FlushesQueue, SftpValue, TakesOrKept}
 
 -- it is open, and where it keeps no fault its link may be called
 pub record IsGoing {L S : Type 0} (state : L → LinkView S) (s : SftpValue L) : Type 0 where
@@ -11,13 +11,13 @@ pub record IsGoing {L S : Type 0} (state : L → LinkView S) (s : SftpValue L) :
   pub alive : s.core.fault ≡ None → (state s.link).faults < 2 ^ 64 - 1
 
 -- what was queued was sent, and a frame was taken where a sent request had no reply
-abbrev pub Turns : {L S : Type 0} → (L → LinkView S) → SftpValue L → SftpValue L → Type 0
-Turns {L = L} state old new = (mid : SftpValue L) × (took : Bool) × Flushes state old mid (Ok tt)
+abbrev pub FlushesAndTakes : {L S : Type 0} → (L → LinkView S) → SftpValue L → SftpValue L → Type 0
+FlushesAndTakes {L = L} state old new = (mid : SftpValue L) × (took : Bool) × FlushesQueue state old mid (Ok tt)
     × TakesOrKept state mid new (Ok took)
 
 -- whatever came of it, the session may go on, and what it held it holds
-pub record Turned {L S E : Type 0} (state : L → LinkView S) (old new : SftpValue L) (result : Result (Unit {0}) E) :
+pub record TookTurn {L S E : Type 0} (state : L → LinkView S) (old new : SftpValue L) (result : Result (Unit {0}) E) :
     Type 0 where
   pub going : IsGoing state new
   pub keeps : KeepsHeld old.core new.core
-  pub turns : OnOk result (Turns state old new)
+  pub turns : OnOk result (FlushesAndTakes state old new)

@@ -2,7 +2,7 @@
 ghost use Rattle.std.specs.Prelude.{◌≡◌, [], ◌∷◌, ◌++◌, length, OnOk, OnErr, IsSome};
 ghost use Rattle.sftp_core.specs.Core.{Core as CoreValue};
 ghost use Rattle.sftp_core.specs.Info.{info_of};
-ghost use Rattle.transfer_copier.specs.Copies.{Advanced, AreTogether, CopierSteps, NextEnded, SparesAll, copy_begun};
+ghost use Rattle.transfer_copier.specs.Copies.{Advanced, AreTogether, CopierSteps, NextEnded, SparesAll, job_begun};
 ghost use Rattle.transfer_copier.specs.Sessions.{IsGoing};
 
 use crate::running::{Copied, CopyJob, CopyState, Running};
@@ -72,8 +72,7 @@ impl<F: LocalFile + Drop> Copier<F> {
     }
 
     /// Begins a copy, which stands last, with at most `window` requests under way for its bytes, and one at least. Nothing
-    /// is asked yet. Refused for want of memory, the copies are as before, and
-    /// job and file are dropped.
+    /// is asked yet. Refused for want of memory, the copies are as before, and job and file are dropped.
     pub fn begin(
         &mut self,
         alloc: Global,
@@ -81,14 +80,14 @@ impl<F: LocalFile + Drop> Copier<F> {
         local: F,
         window: u32,
     ) -> Result<(), OutOfMemory>
-        ensures ok { OnOk result (self.new ≡ record self.old { running = self.old.running ++ record { job = job; local = local; state = copy_begun job.way window } ∷ [] }) }
+        ensures ok { OnOk result (self.new ≡ record self.old { running = self.old.running ++ record { job = job; local = local; state = job_begun job window } ∷ [] }) }
         ensures together { OnOk result ((core : CoreValue) → IsSome (info_of core.phase) → AreTogether core self.old.running → AreTogether core self.new.running) }
         ensures err { OnErr result (self.new ≡ self.old) }
     {
         if self.running.reserve(1).is_err() {
             return Err(OutOfMemory);
         }
-        let state = CopyState::new(alloc, job.way, window);
+        let state = CopyState::new(alloc, job.way, window, job.begins_at, job.attrs);
         self.running
             .push_back_reserved(Running { job, local, state });
         Ok(())

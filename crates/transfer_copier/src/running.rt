@@ -1,9 +1,12 @@
 //! One copy among others.
-ghost use Rattle.std.specs.Prelude.{◌≡◌};
+ghost use Rattle.std.specs.Prelude.{◌≡◌, IsSome};
+ghost use Rattle.sftp_core.specs.Core.{Core as CoreValue};
+ghost use Rattle.sftp_core.specs.Info.{info_of};
 ghost use Rattle.transfer_states.specs.Holdings.{SparesPlaces, nothing_held};
 ghost use Rattle.transfer_copier.specs.Copies.{StepsCopy, IsEndedAs, MayCancel, MayStepCopy, copy_begun, holding_of};
 
 use sftp_core::Core;
+use sftp_model::FileAttrs;
 use std::alloc::Global;
 use transfer_states::{Failure, FileGet, FilePut, LocalFile, Progress};
 
@@ -23,6 +26,10 @@ pub struct CopyJob {
     pub from: String,
     pub part: String,
     pub to: String,
+    /// How many bytes the part has already: the copy goes on behind them. With 0 the part is made anew.
+    pub begins_at: u64,
+    /// What a file of the server is given before it is closed, where the copy is one to the server.
+    pub attrs: Option<FileAttrs>,
 }
 
 /// Where a copy stands.
@@ -51,13 +58,20 @@ pub struct Copied<F> {
 }
 
 impl CopyState {
-    /// A copy that has asked for nothing.
-    pub(crate) fn new(alloc: Global, way: Way, window: u32) -> CopyState
-        ensures { result ≡ copy_begun way window }
+    /// A copy that has asked for nothing, of the bytes from an offset on. One to the server gives the file these attributes.
+    pub(crate) fn new(
+        alloc: Global,
+        way: Way,
+        window: u32,
+        begins_at: u64,
+        attrs: Option<FileAttrs>,
+    ) -> CopyState
+        ensures new { result ≡ copy_begun way window begins_at attrs }
+        ensures may { (core : CoreValue) → IsSome (info_of core.phase) → MayStepCopy core result }
     {
         match way {
-            Way::Get => CopyState::Get(FileGet::new(alloc, window)),
-            Way::Put => CopyState::Put(FilePut::new(alloc, window)),
+            Way::Get => CopyState::Get(FileGet::new(alloc, window, begins_at)),
+            Way::Put => CopyState::Put(FilePut::new(alloc, window, begins_at, attrs)),
         }
     }
 

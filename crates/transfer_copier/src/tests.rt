@@ -1,5 +1,5 @@
-// One file down and one up, each over a scripted link (draft-ietf-secsh-filexfer-02, sections 4 and 6). A reply is that to
-// the frame with its number: the hello is 0, the OPEN 1.
+// One file down and one up, from the start and behind what is there, each over a scripted link (draft-ietf-secsh-filexfer-02,
+// sections 4 and 6). A reply is that to the frame with its number: the hello is 0, the OPEN 1.
 ghost use Rattle.std.specs.Prelude.{◌<◌, ◌-◌, ◌^◌};
 ghost use Rattle.transfer_copier.specs.Jobs.{NotesOver};
 
@@ -7,7 +7,7 @@ use crate::{Copied, CopyJob, CopyJobs, LocalError, LocalFile, Wanted, Way, copy_
 use bytes::Bytes;
 use sftp_client::Sftp;
 use sftp_link::{Link, Scripted, ScriptedLink};
-use sftp_model::SftpOptions;
+use sftp_model::{FileAttrs, SftpOptions};
 use sftp_values::ByteText;
 use std::alloc::{AllocError, Global};
 use std::test::Fail;
@@ -38,11 +38,16 @@ impl LocalFile for Three {
 
     ghost history = { λ file. tt };
 
-    fn open(&mut self, _name: &str) -> Result<(), LocalError> {
+    fn open(&mut self, _name: &str, _from: u64) -> Result<(), LocalError> {
         Ok(())
     }
 
     fn create(&mut self, _name: &str) -> Result<(), LocalError> {
+        Ok(())
+    }
+
+    fn reopen(&mut self, _name: &str, len: u64) -> Result<(), LocalError> {
+        self.written = len;
         Ok(())
     }
 
@@ -109,13 +114,28 @@ impl CopyJobs for One {
     }
 }
 
-/// A file to copy this way.
-fn job_of(alloc: Global, way: Way) -> Result<One, AllocError> {
+/// Times that a file is given.
+const TIMES: FileAttrs = FileAttrs {
+    size: None,
+    id: None,
+    permissions: None,
+    time: Some((1, 2)),
+};
+
+/// A file to copy this way, behind the bytes that its part has.
+fn job_of(
+    alloc: Global,
+    way: Way,
+    begins_at: u64,
+    attrs: Option<FileAttrs>,
+) -> Result<One, AllocError> {
     let job = CopyJob {
         way,
         from: String::from_str(alloc, "a")?,
         part: String::from_str(alloc, ".b.part")?,
         to: String::from_str(alloc, "b")?,
+        begins_at,
+        attrs,
     };
     Ok(One {
         job: Some(job),
@@ -162,7 +182,7 @@ fn a_file_is_copied_down(rt: HostRuntime) -> Result<(), Fail> {
         &[(102, HANDLE), (103, DATA), (101, END), (101, DONE)],
     )?;
     let link = ScriptedLink::new(alloc, items, Vec::new(alloc), 64);
-    let mut jobs = job_of(alloc, Way::Get)?;
+    let mut jobs = job_of(alloc, Way::Get, 0, None)?;
     let well = copies(alloc, link, &mut jobs);
     assert!(rt; well);
     assert_eq!(rt; jobs.told, Some((3, 3, true)));
@@ -177,9 +197,45 @@ fn a_file_is_copied_up(rt: HostRuntime) -> Result<(), Fail> {
         &[(102, HANDLE), (101, DONE), (101, DONE), (101, DONE)],
     )?;
     let link = ScriptedLink::new(alloc, items, Vec::new(alloc), 64);
-    let mut jobs = job_of(alloc, Way::Put)?;
+    let mut jobs = job_of(alloc, Way::Put, 0, None)?;
     let well = copies(alloc, link, &mut jobs);
     assert!(rt; well);
     assert_eq!(rt; jobs.told, Some((3, 0, false)));
+    Ok(())
+}
+
+#[test]
+fn a_copy_down_goes_on(rt: HostRuntime) -> Result<(), Fail> {
+    let alloc = rt.alloc();
+    let items = replies(
+        alloc,
+        &[(102, HANDLE), (103, DATA), (101, END), (101, DONE)],
+    )?;
+    let link = ScriptedLink::new(alloc, items, Vec::new(alloc), 64);
+    let mut jobs = job_of(alloc, Way::Get, 2, None)?;
+    let well = copies(alloc, link, &mut jobs);
+    assert!(rt; well);
+    assert_eq!(rt; jobs.told, Some((5, 5, true)));
+    Ok(())
+}
+
+#[test]
+fn a_copy_up_goes_on_and_gives_times(rt: HostRuntime) -> Result<(), Fail> {
+    let alloc = rt.alloc();
+    let items = replies(
+        alloc,
+        &[
+            (102, HANDLE),
+            (101, DONE),
+            (101, DONE),
+            (101, DONE),
+            (101, DONE),
+        ],
+    )?;
+    let link = ScriptedLink::new(alloc, items, Vec::new(alloc), 64);
+    let mut jobs = job_of(alloc, Way::Put, 2, Some(TIMES))?;
+    let well = copies(alloc, link, &mut jobs);
+    assert!(rt; well);
+    assert_eq!(rt; jobs.told, Some((5, 0, false)));
     Ok(())
 }

@@ -1,7 +1,7 @@
 //! A session goes on by one turn.
 ghost use Rattle.std.specs.Prelude.{Result};
 ghost use Rattle.sftp_model.specs.declared.error.Error.{Error as ErrorValue};
-ghost use Rattle.transfer_copier.specs.Sessions.{IsGoing, Turned};
+ghost use Rattle.transfer_copier.specs.Sessions.{IsGoing, TookTurn};
 
 use sftp_client::Sftp;
 use sftp_link::Link;
@@ -12,7 +12,7 @@ use transfer_states::Failure;
 /// is called.
 pub fn turn<L: Link>(sftp: &mut Sftp<L>) -> Result<(), Error>
     requires { IsGoing L.LinkState.state sftp.old }
-    ensures { Turned L.LinkState.state sftp.old sftp.new result }
+    ensures { TookTurn L.LinkState.state sftp.old sftp.new result }
 {
     if let Some(fault) = sftp.core().fault() {
         return Err(Error::BackgroundTaskFailure(fault));
@@ -29,7 +29,7 @@ pub fn turn<L: Link>(sftp: &mut Sftp<L>) -> Result<(), Error>
 /// A turn, of which a fault that is kept is no error: each copy is told it.
 pub(crate) fn turn_on<L: Link>(sftp: &mut Sftp<L>) -> Result<(), Failure>
     requires { IsGoing L.LinkState.state sftp.old }
-    ensures { (turned : Result (Unit {0}) ErrorValue) × Turned L.LinkState.state sftp.old sftp.new turned }
+    ensures { (turned : Result (Unit {0}) ErrorValue) × TookTurn L.LinkState.state sftp.old sftp.new turned }
 {
     match turn(sftp) {
         Ok(()) => Ok(()),

@@ -1,2 +1,4 @@
 pub mod ActLaws
+pub mod ApartLaws
 pub mod DoneLaws
+pub mod PathLaws

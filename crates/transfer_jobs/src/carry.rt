@@ -1,5 +1,6 @@
 //! The jobs are done.
 ghost use Rattle.std.specs.Prelude.{◌≡◌, true, IfOk, OnOk};
+ghost use Rattle.transfer_jobs.specs.Apart.{AreApart};
 ghost use Rattle.transfer_jobs.specs.Jobs.{AreAllDone, CarriesOut, HasActed, HasCopied, HasKept, IsJob, IsKeep, MayWorkOne, WorksOne, in_phase, is_of, to_keep};
 
 use crate::hand::Hand;
@@ -110,7 +111,8 @@ fn work_all<H: Hand>(
 
 /// Copies all files that stand in no folder that was not made, unless no other job can be done.
 fn copy_files<H: Hand>(hand: &mut H, tally: &Tally, jobs: &[Found])
-    requires { H.may hand.old }
+    requires may { H.may hand.old }
+    requires apart { AreApart jobs.now }
     ensures may { H.may hand.new }
     ensures copies { HasCopied H.done jobs.now tally.now (H.history hand.old) (H.history hand.new) }
 {
@@ -159,14 +161,16 @@ fn keep_where<H: Hand>(
 /// Does all jobs: folders are made in their order; then files are copied, many at once, and what came of each is told in
 /// their order; then symbolic links are made, so that none of them is followed; and with `keeps` folders get their
 /// permissions and times then, the last one first. What stands in a folder that was not made is skipped. After a job that
-/// ends in `Stop` nothing else is done.
+/// ends in `Stop` nothing else is done. The jobs are those of `keep_apart`, since files that were copied at once to one path
+/// would be mixed there.
 pub fn carry_out<H: Hand>(
     alloc: Global,
     hand: &mut H,
     jobs: &[Found],
     keeps: bool,
 ) -> Result<Tally, OutOfMemory>
-    requires { H.may hand.old }
+    requires may { H.may hand.old }
+    requires apart { AreApart jobs.now }
     ensures may { H.may hand.new }
     ensures carries_out { IfOk result (CarriesOut H.done keeps jobs.now (H.history hand.old) (H.history hand.new)) }
     ensures all_done { IfOk result (λ tally. tally.all_done ≡ true → AreAllDone H.done jobs.now (H.history hand.old) (H.history hand.new)) }

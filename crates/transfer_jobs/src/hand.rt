@@ -1,5 +1,6 @@
 //! Who does the jobs.
 ghost use Rattle.std.specs.Prelude.{◌≡◌};
+ghost use Rattle.transfer_jobs.specs.Apart.{AreApart};
 ghost use Rattle.transfer_jobs.specs.Jobs.{Copied, JobAct, Kept, Skipped, Worked, files_in};
 
 use crate::tally::Tally;
@@ -32,7 +33,8 @@ pub trait Hand {
 
     /// Copies all files among the jobs that stand in no folder that was not made, many at once, in any order.
     fn copy(&mut self, jobs: &[Found], tally: &Tally)
-        requires { Self.may self.old }
+        requires may { Self.may self.old }
+        requires apart { AreApart jobs.now }
         ensures may { Self.may self.new }
         ensures did { Self.history self.new ≡ Self.done (Copied (files_in tally.now jobs.now)) (Self.history self.old) };
 

@@ -1,5 +1,5 @@
 //! Jobs of which a folder can't be made.
-use crate::{Hand, Tally, Verdict, carry_out};
+use crate::{Hand, Tally, Verdict, carry_out, keep_apart};
 use sftp_model::FileAttrs;
 use sftp_values::ByteText;
 use ssh_encoding::OutOfMemory;
@@ -72,6 +72,9 @@ fn counted(alloc: Global) -> Result<(usize, usize, usize, bool), OutOfMemory> {
     jobs.push(job(alloc, Task::MakeFolder, b"a")?)?;
     jobs.push(job(alloc, Task::CopyFile, b"a/b")?)?;
     jobs.push(job(alloc, Task::CopyFile, b"ab")?)?;
+    jobs.push(job(alloc, Task::CopyFile, b"ab")?)?;
+    jobs.push(job(alloc, Task::CopyFile, b".ab.part")?)?;
+    let jobs = keep_apart(alloc, jobs)?;
     let mut hand = Counting {
         copied: 0,
         worked: 0,
@@ -81,9 +84,10 @@ fn counted(alloc: Global) -> Result<(usize, usize, usize, bool), OutOfMemory> {
     Ok((hand.copied, hand.worked, hand.skipped, tally.all_done()))
 }
 
-/// What stands in the folder is skipped, what stands beside it isn't, and the folder is given nothing.
+/// What stands in the folder is skipped, what stands beside it isn't, and the folder is given nothing. A second file of one
+/// path and one that has another one's part aren't copied.
 #[test]
 fn a_folder_that_is_not_made(rt: HostRuntime) -> Result<(), Fail> {
-    assert!(rt; counted(rt.alloc())? == (1, 2, 1, false));
+    assert!(rt; counted(rt.alloc())? == (1, 4, 1, false));
     Ok(())
 }

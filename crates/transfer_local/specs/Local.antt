@@ -1,11 +1,13 @@
 -- What is done to a local file, act by act.
-use Rattle.std.specs.Prelude.{◌≡◌, ℕ, List, [], ◌∷◌, map, Result, Ok, Err}
+use Rattle.std.specs.Prelude.{◌≡◌, ◌==◌, ℕ, List, [], ◌∷◌, map, Result, Ok, Err, if◌then◌else◌}
 
--- A call on a local file. Bytes are got from the file that was opened last, and written to the one that was created
--- last.
+-- A call on a local file: it was opened to be read from an offset on, it was made, or it was reopened, with so many
+-- bytes in it, to be written behind them. Bytes are got from the file that was opened last, and written to the one that
+-- was made or reopened last.
 pub data LocalAct : Type 0 where
-  Opened : List ℕ → LocalAct
+  Opened : List ℕ → ℕ → LocalAct
   Created : List ℕ → LocalAct
+  Reopened : List ℕ → ℕ → LocalAct
   Got : List ℕ → LocalAct
   Wrote : List ℕ → LocalAct
   Renamed : List ℕ → List ℕ → LocalAct
@@ -34,9 +36,14 @@ HasDone done acts before after = after ≡ all_done done acts before
 abbrev pub writes_of : List (List ℕ) → List LocalAct
 writes_of pieces = map Wrote pieces
 
--- what may be done to a file before it gets its name: it is made, and written to
+-- the part is made, or reopened where it has bytes already
+abbrev pub part_opened : List ℕ → ℕ → LocalAct
+part_opened part len = if len == 0 then Created part else Reopened part len
+
+-- what may be done to a file before it gets its name: it is made or reopened, and written to
 abbrev pub IsOfPart : List ℕ → LocalAct → Type 0
 IsOfPart part (Created name) = name ≡ part
+IsOfPart part (Reopened name len) = name ≡ part
 IsOfPart part (Wrote bytes) = Unit {0}
 IsOfPart part (Failed act) = IsOfPart part act
 IsOfPart part other = ⊥
@@ -56,7 +63,7 @@ AreUnnamed part name (act ∷ acts) = IsUnnamed part name act × AreUnnamed part
 
 -- a file is only read
 abbrev pub IsGot : LocalAct → Type 0
-IsGot (Opened name) = Unit {0}
+IsGot (Opened name from) = Unit {0}
 IsGot (Got bytes) = Unit {0}
 IsGot (Failed act) = IsGot act
 IsGot other = ⊥

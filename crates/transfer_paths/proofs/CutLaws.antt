@@ -6,6 +6,7 @@ use Rattle.std.proofs.Common.{
   ◌-◌,
   ◌+◌,
   ◌==◌,
+  ◌||◌,
   ℕ,
   Bool,
   true,
@@ -16,6 +17,7 @@ use Rattle.std.proofs.Common.{
   ◌++◌,
   Option,
   Some,
+  codes,
   length,
   take,
   drop,
@@ -28,10 +30,10 @@ use Rattle.std.proofs.Common.{
   arith,
 }
 use Rattle.std.specs.List.{list_all, list_any}
-use Rattle.std.proofs.lemmas.List.{length-append, length-drop, take-append-drop, take_all, take_rest}
+use Rattle.std.proofs.lemmas.List.{append_assoc, length-append, length-drop, take-append-drop, take_all, take_rest}
 use Rattle.sftp_model.specs.Paths.{last_byte, separator_behind, slash, with_separator}
-use Rattle.transfer_paths.specs.Cuts.{EndsFolder, EndsText, IsLastPart}
-use Rattle.transfer_paths.proofs.PathLaws.{Ending, Last, Nothing, ending, last_is}
+use Rattle.transfer_paths.specs.Cuts.{EndsFolder, EndsText, IsLastPart, part_of}
+use Rattle.transfer_paths.proofs.PathLaws.{Last, Nothing, ending, last_is}
 
 -- no slash stands behind this place
 pub record IsBehind (path : List ℕ) (len : ℕ) : Type 0 where
@@ -84,3 +86,50 @@ last_part path text n k ends is h = subst (IsLastPart path) (sym (take_rest text
   last_one = h.behind;
   only = ends.slashes;
 })
+
+-- ---- the path of a part
+
+or_true : (a : Bool) → (a || true) ≡ true
+or_true true = refl
+or_true false = refl
+
+-- what is closed by a slash and has a byte before it is closed behind that byte
+closed_rest : (b : ℕ) (folder : List ℕ) → with_separator (b ∷ folder) ≡ b ∷ folder → with_separator folder ≡ folder
+closed_rest b folder closed = elim (ending folder) [
+  | Nothing e ↦ subst (λ (l : List ℕ). with_separator l ≡ l) (sym e) refl
+  | Last front x e ↦
+      let here : last_byte folder ≡ Some x = ap last_byte e ∙ last_is front x in
+      let more : last_byte (b ∷ folder) ≡ Some x = ap (λ (l : List ℕ). last_byte (b ∷ l)) e ∙ last_is (b ∷ front) x in
+      let whole : (b ∷ folder) ++ separator_behind (Some x) ≡ b ∷ folder =
+      subst (λ (last : Option ℕ). (b ∷ folder) ++ separator_behind last ≡ b ∷ folder) more closed in
+      subst (λ (last : Option ℕ). folder ++ separator_behind last ≡ folder) (sym here) (ap (drop 1) whole)
+]
+
+-- a folder's path that is closed has a slash
+has_slash : (b : ℕ) (folder name : List ℕ) → with_separator (b ∷ folder) ≡ b ∷ folder
+    → list_any (λ c. c == slash) (b ∷ (folder ++ name)) ≡ true
+has_slash b [] name closed = by_test (b == slash) refl
+  where
+    by_test : (t : Bool) → (b == slash) ≡ t → ((b == slash) || list_any (λ c. c == slash) name) ≡ true
+    by_test true is = rw is refl
+    by_test false is =
+        let long : (b ∷ []) ++ slash ∷ [] ≡ b ∷ [] =
+        subst (λ (t : Bool). (b ∷ []) ++ (if t then [] else slash ∷ []) ≡ b ∷ []) is closed in
+        absurd (let len : 2 ≡ 1 = ap length long in omega (arith, len))
+has_slash b (c ∷ folder) name closed =
+    rw (has_slash c folder name (closed_rest b (c ∷ folder) closed)) (or_true (b == slash))
+
+by_folder : (folder name : List ℕ) → with_separator folder ≡ folder → list_any (λ c. c == slash) name ≡ false
+    → folder ++ (codes "." ++ (name ++ codes ".part")) ≡ part_of (folder ++ name)
+by_folder [] [] closed last = refl
+by_folder [] (b ∷ name) closed last = rw last refl
+by_folder (b ∷ folder) name closed last =
+    rw (has_slash b folder name closed) (ap (λ (l : List ℕ). b ∷ l) (by_folder folder name (closed_rest b folder closed) last))
+
+-- the path of the part beside a path that is cut behind its last slash
+pub part_is : (path : List ℕ) (len : ℕ) → EndsFolder path len
+    → ((take len path ++ codes ".") ++ drop len path) ++ codes ".part" ≡ part_of path
+part_is path len h =
+    append_assoc (take len path ++ codes ".") (drop len path) (codes ".part")
+    ∙ (append_assoc (take len path) (codes ".") (drop len path ++ codes ".part")
+    ∙ (by_folder (take len path) (drop len path) h.closed h.behind ∙ ap part_of (take-append-drop len path)))

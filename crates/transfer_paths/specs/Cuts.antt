@@ -9,6 +9,7 @@ use Rattle.std.specs.Prelude.{
   false,
   List,
   [],
+  ◌∷◌,
   ◌++◌,
   codes,
   drop,
@@ -17,6 +18,7 @@ use Rattle.std.specs.Prelude.{
   Option,
   Some,
   None,
+  if◌then◌else◌,
 }
 use Rattle.transfer_paths.specs.Names.{is_component}
 use Rattle.std.specs.List.{list_all, list_any}
@@ -34,14 +36,11 @@ pub record EndsText (path : List ℕ) (len : ℕ) : Type 0 where
   pub text : last_byte (take len path) ≢ Some slash
   pub slashes : list_all (λ b. b == slash) (drop len path) ≡ true
 
--- the path of the file `.NAME.part` in the folder of the file NAME: the path is cut at its last slash
-pub record IsPartOf (path part : List ℕ) : Type 0 where
-  pub folder : List ℕ
-  pub name : List ℕ
-  pub whole : path ≡ folder ++ name
-  pub closed : with_separator folder ≡ folder
-  pub last : list_any (λ b. b == slash) name ≡ false
-  pub is : part ≡ folder ++ codes "." ++ name ++ codes ".part"
+-- the path of the file `.NAME.part` in the folder of the file NAME, which stands behind the last slash of the path
+abbrev pub part_of : List ℕ → List ℕ
+part_of [] = codes "." ++ codes ".part"
+part_of (b ∷ path) =
+    if list_any (λ c. c == slash) (b ∷ path) then b ∷ part_of path else codes "." ++ ((b ∷ path) ++ codes ".part")
 
 -- what stands behind the last slash of a path, when the slashes at its end are left out; empty only where the path has
 -- nothing but slashes

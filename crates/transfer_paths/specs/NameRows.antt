@@ -1,6 +1,7 @@
 -- Worked names and paths.
 use Rattle.std.specs.Prelude.{◌≡◌, true, false, [], ◌∷◌, codes, refl}
 use Rattle.machine_model.specs.Components.{components}
+use Rattle.transfer_paths.specs.Cuts.{part_of}
 use Rattle.transfer_paths.specs.Names.{is_component, path_in}
 
 -- ---- names that are used
@@ -71,3 +72,14 @@ in_none = refl
 pub would_lead_out : components (path_in (codes "a/b") (codes "../c")) ≡ codes "a" ∷ codes "c" ∷ []
 unfolding components
 would_lead_out = refl
+
+-- ---- the file that is written until all bytes are there
+
+pub part_beside : part_of (codes "a/b") ≡ codes "a/.b.part"
+part_beside = refl
+
+pub part_at_the_root : part_of (codes "/b") ≡ codes "/.b.part"
+part_at_the_root = refl
+
+pub part_here : part_of (codes "b") ≡ codes ".b.part"
+part_here = refl

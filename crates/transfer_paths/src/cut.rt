@@ -1,7 +1,7 @@
 //! Where a path is cut.
 ghost use Rattle.std.specs.Prelude.{◌≡◌, true, IfOk};
 ghost use Rattle.std.specs.Option.{option_copied};
-ghost use Rattle.transfer_paths.specs.Cuts.{EndsFolder, EndsText, IsPartOf, IsLastPart, NamesLast};
+ghost use Rattle.transfer_paths.specs.Cuts.{EndsFolder, EndsText, IsLastPart, NamesLast, part_of};
 
 use crate::component::is_component;
 use ssh_encoding::OutOfMemory;
@@ -54,7 +54,7 @@ pub fn last_component(path: &[u8]) -> Option<&[u8]>
 
 /// The path of the file `.NAME.part` beside the file NAME.
 pub fn part_path(alloc: Global, path: &[u8]) -> Result<Vec<u8>, OutOfMemory>
-    ensures { IfOk result (λ part. IsPartOf path.now part.items) }
+    ensures { IfOk result (λ part. part.items ≡ part_of path.now) }
 {
     let (folder, name) = path.split_at(folder_len(path));
     let mut part = Vec::from_slice(alloc, folder)?;

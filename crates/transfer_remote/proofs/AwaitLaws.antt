@@ -41,9 +41,10 @@ use Rattle.sftp_core.proofs.Elsewhere.{abandon_phase, poll_phase, release_phase}
 use Rattle.sftp_link.specs.Views.{LinkView}
 use Rattle.plan_model.specs.Moves.{Answers, Own, Plan}
 use Rattle.call_state.specs.Calls.{
+  CountsGrant,
   AsksAndAwaits,
   CallValue,
-  Cancels,
+  CancelsAwaited,
   IsHeld,
   IsHeldAt,
   IsUnderWay,
@@ -51,7 +52,7 @@ use Rattle.call_state.specs.Calls.{
   Polled,
   Started,
   Stepped,
-  Went,
+  MovesByPlan,
   cancelled,
   is_ended,
   polled_core,
@@ -67,8 +68,8 @@ use Rattle.call_state.specs.declared.stage.Stage.{Stage}
 use Rattle.call_state.specs.declared.stage.Stage.TheVariants.{Ended, Ready, Unsent, Asked, Came}
 use Rattle.sftp_client.specs.Sessions.{SftpValue, with_core}
 use Rattle.sftp_streams.proofs.PartLaws.{abandon_fault, others_submitted, poll_fault}
-use Rattle.transfer_remote.specs.Awaits.{AnsweredCall, Awaited, Calling, IsPlain, IsSettled, MayAwait, PollsCall, Waits}
-use Rattle.transfer_copier.specs.Sessions.{IsGoing, Turned}
+use Rattle.transfer_remote.specs.Awaits.{AnsweredCall, Awaited, Calling, IsPlain, IsSettled, MayAwait, PollsCall, WaitsTurns}
+use Rattle.transfer_copier.specs.Sessions.{IsGoing, TookTurn}
 
 -- ---- a poll leaves how far the greeting has come, and the fault
 
@@ -91,7 +92,7 @@ polled_open core (Unsent asking) = open_same core core refl
 polled_open core (Came told) = open_same core core refl
 
 went_open : {W M V : Type 0} (s : Meaning W M V) (w : W) (plan : Plan) (answers : Answers) (old new : Core) (q : CallValue M) (result : Poll (Result V Error))
-    → old.fault ≡ None → Went s w plan answers old new q result → IsAsOpen old new
+    → old.fault ≡ None → MovesByPlan s w plan answers old new q result → IsAsOpen old new
 went_open s w plan answers old new q poll.Pending unfailed went =
     (let o = others_submitted old new went.asking went.ticket went.submitted in record { phase = o.phase; fault = o.fault })
 went_open s w plan answers old new q (poll.Ready (Ok value)) unfailed went = open_same old new went.2
@@ -199,7 +200,7 @@ grants_then a b c x y = grants_both a b c x y
 
 pub record WaitedSoFar {L S W M V : Type 0} (state : L → LinkView S) (s : Meaning W M V) (first now : Calling L M) : Type 0 where
   pub turns : ℕ
-  pub waits : Waits state s turns first now
+  pub waits : WaitsTurns state s turns first now
   pub going : IsGoing state now.session
   pub way : IsUnderWay s now.session.core now.call
   pub grants : KeepsGrants first.session.core now.session.core
@@ -255,7 +256,7 @@ settles state s first mid new (Err e) (Err x) plain w unfailed polls is = refuse
 pub waits_on : {L S W M V E : Type 0} (state : L → LinkView S) (s : Meaning W M V) (first mid polled new : Calling L M)
     → IsPlain s → WaitedSoFar state s first mid
     → mid.session.core.fault ≡ None → PollsCall s mid polled poll.Pending
-    → Turned {E = E} state polled.session new.session (Ok tt) → new.call ≡ polled.call
+    → TookTurn {E = E} state polled.session new.session (Ok tt) → new.call ≡ polled.call
     → WaitedSoFar state s first new
 waits_on state s first mid polled new plain w unfailed polls t same = record {
   turns = suc w.turns;
@@ -269,7 +270,7 @@ waits_on state s first mid polled new plain w unfailed polls t same = record {
 
 pub wait_fails : {L S W M V D E : Type 0} (state : L → LinkView S) (s : Meaning W M V)
     (first mid polled new : Calling L M) (e : D) (x : E) → WaitedSoFar state s first mid
-    → PollsCall s mid polled poll.Pending → Turned {E = D} state polled.session new.session (Err e) → new.call
+    → PollsCall s mid polled poll.Pending → TookTurn {E = D} state polled.session new.session (Err e) → new.call
     ≡ polled.call → AnsweredCall {E = E} state s first new (Err x)
 wait_fails state s first mid polled new e x w polls t same =
     let way = still_under_way s polled.session.core new.session.core polled.call t.keeps (record { over = polls.stepped.over; held = polls.stepped.held }) in
@@ -291,14 +292,14 @@ gives_up state s first now x w = record { going = w.going; held = w.way.held; gr
 
 pub awaited : {L S W M V E : Type 0} (state : L → LinkView S) (s : Meaning W M V) (first mid : Calling L M)
     (new : SftpValue L) (result : Result V E) → AnsweredCall state s first mid result
-    → Cancels mid.session.core new.core mid.call.stage → new ≡ with_core mid.session new.core → Awaited state s first new result
+    → CancelsAwaited mid.session.core new.core mid.call.stage → new ≡ with_core mid.session new.core → Awaited state s first new result
 awaited state s first mid new (Ok value) a cancels rest =
     let core_is : new.core ≡ mid.session.core = cancels.core ∙ cancelled_ended mid.session.core mid.call.stage a.over in
     let same : new ≡ mid.session = rest ∙ ap (λ (c : Core). with_core mid.session c) core_is in
     record {
       going = subst (λ (x : SftpValue _). IsGoing state x) (sym same) a.going;
       grants = subst (λ (c : Core). KeepsGrants first.session.core c) (sym core_is) a.grants;
-      holds = subst (λ (c : Core). s.holds c value) (sym core_is) a.holds;
+      holds = subst (λ (c : Core). CountsGrant c (s.grant value)) (sym core_is) a.holds;
       answers = (mid, a.answers, same);
     }
 awaited state s first mid new (Err e) a cancels rest = record {

@@ -17,9 +17,9 @@ use Rattle.sftp_model.specs.declared.error.Error.{Error}
 use Rattle.call_state.specs.declared.poll.Poll.TheVariants.{Pending, Ready}
 use Rattle.sftp_client.specs.Sessions.{SftpValue, with_core}
 use Rattle.sftp_fs.proofs.CallSteps.{listing_still}
-use Rattle.sftp_fs.specs.Listings.{Given, IsListing, ListingValue, Lists, fresh_listing, given_up}
-use Rattle.transfer_copier.specs.Sessions.{IsGoing, Turned}
-use Rattle.transfer_remote.specs.Runs.{IsFree, Runs}
+use Rattle.sftp_fs.specs.Listings.{Given, IsListing, ListingValue, PollsEntries, fresh_listing, given_up}
+use Rattle.transfer_copier.specs.Sessions.{IsGoing, TookTurn}
+use Rattle.transfer_remote.specs.Runs.{IsFree, RunsCall}
 use Rattle.transfer_remote.proofs.RunLaws.{live_going}
 use Rattle.sftp_model.specs.declared.reply.NameEntry.{NameEntry}
 use Rattle.sftp_meta.specs.FileType.{type_of_mode}
@@ -118,7 +118,7 @@ grown_then a b c first later =
 
 -- a poll leaves a session that may go on
 pub polled_on : {L S : Type 0} (state : L → LinkView S) (old : SftpValue L) (core : Core) (p q : ListingValue) (given : Given)
-    → IsFree state old → Lists old.core core p q given → MayGoOn state (record { session = with_core old core; listing = q })
+    → IsFree state old → PollsEntries old.core core p q given → MayGoOn state (record { session = with_core old core; listing = q })
 polled_on state old core p q given free lists = record {
   going = live_going state (with_core old core)
       (record { opened = lists.grants.opened free.live.opened; few = free.live.few });
@@ -127,14 +127,14 @@ polled_on state old core p q given free lists = record {
 
 pub turned_on : {L S E : Type 0} (state : L → LinkView S) (old : SftpValue L) (core : Core) (new : SftpValue L)
     (p q : ListingValue) (given : Given) (result : Result (Unit {0}) E)
-    → Lists old.core core p q given → Turned state (with_core old core) new result
+    → PollsEntries old.core core p q given → TookTurn state (with_core old core) new result
     → MayGoOn state (record { session = new; listing = q })
 turned_on state old core new p q given result lists turned =
     record { going = turned.going; listing = listing_still core new.core q turned.keeps lists.listing }
 
 pub told_given : {L S E : Type 0} (state : L → LinkView S) (old : SftpValue L) (core : Core) (p q : ListingValue)
     (given : Option (Result NameEntry Error)) (w v : WalkValue) (result : Result Bool E)
-    → Lists old.core core p q (Ready given) → GrowsByGiven given w v result
+    → PollsEntries old.core core p q (Ready given) → GrowsByGiven given w v result
     → StepTold state (record { session = old; listing = p }) (record { session = with_core old core; listing = q }) w v result
 told_given state old core p q None w v (Ok true) lists h = (record { lists = lists; rest = refl }, h.1)
 told_given state old core p q None w v (Ok false) lists h = absurd (let never : false ≡ true = h.0 in cc)
@@ -151,7 +151,7 @@ told_given state old core p q (Some (Err x)) w v (Err e) lists h =
 
 pub told_turns : {L S D : Type 0} (E : Type 0) (state : L → LinkView S) (old : SftpValue L) (core : Core)
     (new : SftpValue L) (p q : ListingValue) (w : WalkValue)
-    → Lists old.core core p q Pending → Turned {E = D} state (with_core old core) new (Ok tt)
+    → PollsEntries old.core core p q Pending → TookTurn {E = D} state (with_core old core) new (Ok tt)
     → (let result : Result Bool E = Ok false in
     StepTold state (record { session = old; listing = p }) (record { session = new; listing = q }) w w result)
 told_turns E state old core new p q w lists turned = (
@@ -248,7 +248,7 @@ closed_told state dir old listed core call new w v (Err e) lists closes awaited 
 
 pub folder_told : {L S E : Type 0} (state : L → LinkView S) (old opened new : SftpValue L) (folder : Found)
     (dir : GrantValue) (w v : WalkValue) (result : Result (Unit {0}) E) → slice_get w.found w.at ≡ Some folder
-    → Runs {E = E} state opening_dir (OpensFrom folder.source []) old opened (Ok dir)
+    → RunsCall {E = E} state opening_dir (OpensFrom folder.source []) old opened (Ok dir)
     → ClosedTold state dir opened new w v result → FolderTold state old new w v result
 folder_told state old opened new folder dir w v (Ok u) stands opens closed =
     record { folder = folder; opened = opened; dir = dir; stands = stands; opens = opens; closed = closed }

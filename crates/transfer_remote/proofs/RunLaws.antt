@@ -12,7 +12,7 @@ use Rattle.sftp_model.specs.declared.slot.Move.TheVariants.{Wait}
 use Rattle.sftp_fs.specs.Directories.{opening_dir}
 use Rattle.transfer_remote.specs.Awaits.{Awaited, IsPlain}
 use Rattle.transfer_copier.specs.Sessions.{IsGoing}
-use Rattle.transfer_remote.specs.Runs.{Finishes, IsFree, IsLive, Runs}
+use Rattle.transfer_remote.specs.Runs.{FinishesCall, IsFree, IsLive, RunsCall}
 
 pub live_going : {L S : Type 0} (state : L → LinkView S) (s : SftpValue L) → IsLive state s → IsGoing state s
 live_going state s live = record { opened = live.opened; alive = λ none. live.few }
@@ -25,14 +25,14 @@ live_on state s core free keeps =
 
 pub finished : {L S W M V E : Type 0} (state : L → LinkView S) (s : Meaning W M V) (call : CallValue M) (old new : SftpValue L)
     (result : Result V E) → Awaited state s (record { session = old; call = call }) new result
-    → Finishes state s (Ok call) old new result
+    → FinishesCall state s (Ok call) old new result
 finished state s call old new (Ok value) h = record { going = h.going; did = (call, refl, h.answers) }
 finished state s call old new (Err e) h = record { going = h.going; did = tt }
 
 pub ran : {L S W M V E : Type 0} (state : L → LinkView S) (s : Meaning W M V)
     (Starts : Core → Core → Result (CallValue M) Error → Type 0) (old : SftpValue L) (core : Core) (new : SftpValue L)
     (started : Result (CallValue M) Error) (result : Result V E) → Starts old.core core started
-    → Finishes state s started (with_core old core) new result → Runs state s Starts old new result
+    → FinishesCall state s started (with_core old core) new result → RunsCall state s Starts old new result
 ran state s Starts old core new started (Ok value) starts h =
     record {
       going = h.going;

@@ -4,13 +4,13 @@ use Rattle.sftp_model.specs.declared.error.Error.{Error}
 use Rattle.sftp_core.specs.Core.{Core}
 use Rattle.sftp_link.specs.Views.{LinkView}
 use Rattle.plan_model.specs.Moves.{Answers}
-use Rattle.call_state.specs.Calls.{CallValue, IsHeld, IsUnderWay, Stepped, is_ended}
+use Rattle.call_state.specs.Calls.{CountsGrant, CallValue, IsHeld, IsUnderWay, Stepped, is_ended}
 use Rattle.call_state.specs.Keeping.{KeepsGrants}
 use Rattle.call_state.specs.Runners.{Meaning}
 use Rattle.call_state.specs.declared.poll.Poll.{Poll}
 use Rattle.call_state.specs.declared.poll.Poll.TheVariants as poll
 use Rattle.sftp_client.specs.Sessions.{SftpValue, with_core}
-use Rattle.transfer_copier.specs.Sessions.{IsGoing, Turns}
+use Rattle.transfer_copier.specs.Sessions.{IsGoing, FlushesAndTakes}
 
 -- a session, and a call on it
 pub record Calling (L M : Type 0) : Type 0 where
@@ -24,18 +24,18 @@ pub record PollsCall {L W M V : Type 0} (s : Meaning W M V) (old new : Calling L
   pub rest : new.session ≡ with_core old.session new.session.core
 
 -- so many times the call was pending, and the session took a turn
-abbrev pub Waits : {L S W M V : Type 0} → (L → LinkView S) → Meaning W M V → ℕ → Calling L M → Calling L M → Type 0
-Waits state s zero old new = new ≡ old
-Waits {L = L} {M = M} state s (suc n) old new = (before : Calling L M) × (mid : Calling L M)
-    × Waits state s n old before
+abbrev pub WaitsTurns : {L S W M V : Type 0} → (L → LinkView S) → Meaning W M V → ℕ → Calling L M → Calling L M → Type 0
+WaitsTurns state s zero old new = new ≡ old
+WaitsTurns {L = L} {M = M} state s (suc n) old new = (before : Calling L M) × (mid : Calling L M)
+    × WaitsTurns state s n old before
     × PollsCall s before mid poll.Pending
-    × Turns state mid.session new.session
+    × FlushesAndTakes state mid.session new.session
     × (new.call ≡ mid.call)
 
 -- and then it gave this
 abbrev pub AnswersCall : {L S W M V : Type 0} → (L → LinkView S) → Meaning W M V → Calling L M → Calling L M → V
     → Type 0
-AnswersCall {L = L} {M = M} state s old new value = (n : ℕ) × (last : Calling L M) × Waits state s n old last
+AnswersCall {L = L} {M = M} state s old new value = (n : ℕ) × (last : Calling L M) × WaitsTurns state s n old last
     × PollsCall s last new (poll.Ready (Ok value))
 
 -- calls of one request, which know nothing of the replies beforehand
@@ -55,7 +55,7 @@ pub record AnsweredCall {L S W M V E : Type 0} (state : L → LinkView S) (s : M
   pub going : IsGoing state new.session
   pub held : IsHeld s new.session.core new.call
   pub grants : KeepsGrants old.session.core new.session.core
-  pub holds : IfOk result (λ value. s.holds new.session.core value)
+  pub holds : IfOk result (λ value. CountsGrant new.session.core (s.grant value))
   pub over : IfOk result (λ value. is_ended new.call.stage ≡ true)
   pub answers : IfOk result (AnswersCall state s old new)
 
@@ -71,5 +71,5 @@ pub record Awaited {L S W M V E : Type 0} (state : L → LinkView S) (s : Meanin
     (new : SftpValue L) (result : Result V E) : Type 0 where
   pub going : IsGoing state new
   pub grants : IfOk result (λ value. KeepsGrants old.session.core new.core)
-  pub holds : IfOk result (λ value. s.holds new.core value)
+  pub holds : IfOk result (λ value. CountsGrant new.core (s.grant value))
   pub answers : IfOk result (λ value. (last : Calling L M) × AnswersCall state s old last value × (new ≡ last.session))

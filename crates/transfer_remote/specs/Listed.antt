@@ -36,12 +36,12 @@ use Rattle.sftp_file.specs.Settles.{settling}
 use Rattle.sftp_file.specs.declared.settling.Settling.{Settling}
 use Rattle.sftp_fs.specs.Directories.{ClosesDir, OpensFrom, opening_dir}
 use Rattle.sftp_client.specs.Sessions.{SftpValue, with_core}
-use Rattle.sftp_fs.specs.Listings.{Given, IsListing, ListingValue, Lists, fresh_listing, given_up}
+use Rattle.sftp_fs.specs.Listings.{Given, IsListing, ListingValue, PollsEntries, fresh_listing, given_up}
 use Rattle.sftp_meta.specs.FileType.{type_of_mode}
 use Rattle.sftp_meta.specs.declared.file_type.RawFileType.{RawFileType}
 use Rattle.sftp_meta.specs.declared.file_type.RawFileType.TheVariants as raw
-use Rattle.transfer_copier.specs.Sessions.{IsGoing, Turns}
-use Rattle.transfer_remote.specs.Runs.{AnsweredWith, Runs}
+use Rattle.transfer_copier.specs.Sessions.{IsGoing, FlushesAndTakes}
+use Rattle.transfer_remote.specs.Runs.{AnsweredWith, RunsCall}
 use Rattle.transfer_walk.specs.Entries.{entry_found}
 use Rattle.transfer_walk.specs.Walks.{WalkValue}
 use Rattle.transfer_walk.specs.declared.found.Found.{Found}
@@ -99,14 +99,14 @@ pub record ListingAt (L : Type 0) : Type 0 where
 
 -- a poll of the listing, after which nothing but the core of the session is another
 pub record PollsListing {L : Type 0} (old new : ListingAt L) (given : Given) : Type 0 where
-  pub lists : Lists old.session.core new.session.core old.listing new.listing given
+  pub lists : PollsEntries old.session.core new.session.core old.listing new.listing given
   pub rest : new.session ≡ with_core old.session new.session.core
 
 -- a poll gave an entry; or nothing had come, and the session took a turn
 abbrev pub TakesStep : {L S : Type 0} → (L → LinkView S) → ListingAt L → ListingAt L → List NameEntry → Type 0
 TakesStep {L = L} state old new entries =
     ((entry : NameEntry) × PollsListing old new (Ready (Some (Ok entry))) × (entries ≡ entry ∷ []))
-    ⊎ ((mid : ListingAt L) × PollsListing old mid Pending × Turns state mid.session new.session
+    ⊎ ((mid : ListingAt L) × PollsListing old mid Pending × FlushesAndTakes state mid.session new.session
     × (new.listing ≡ mid.listing)
     × (entries ≡ []))
 
@@ -171,7 +171,7 @@ pub record ListsFolder {L S : Type 0} (E : Type 0) (state : L → LinkView S) (o
   pub opened : SftpValue L
   pub dir : GrantValue
   pub stands : slice_get before.found before.at ≡ Some folder
-  pub opens : Runs {E = E} state opening_dir (OpensFrom folder.source []) old opened (Ok dir)
+  pub opens : RunsCall {E = E} state opening_dir (OpensFrom folder.source []) old opened (Ok dir)
   pub closed : ListsClosed state dir opened new before after
 
 abbrev pub FolderTold : {L S E : Type 0} → (L → LinkView S) → SftpValue L → SftpValue L → WalkValue → WalkValue

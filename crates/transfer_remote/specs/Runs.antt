@@ -30,13 +30,13 @@ AnsweredWith {L = L} {M = M} state s old call new value = (last : Calling L M)
     × (new ≡ last.session)
 
 -- what came of a call that was begun, or not
-pub record Finishes {L S W M V E : Type 0} (state : L → LinkView S) (s : Meaning W M V)
+pub record FinishesCall {L S W M V E : Type 0} (state : L → LinkView S) (s : Meaning W M V)
     (started : Result (CallValue M) Error) (old new : SftpValue L) (result : Result V E) : Type 0 where
   pub going : IsGoing state new
   pub did : IfOk result (λ value. (call : CallValue M) × (started ≡ Ok call) × AnsweredWith state s old call new value)
 
 -- A call was begun by this start and ran to its answer; or it was refused, or failed. The session may go on.
-pub record Runs {L S W M V E : Type 0} (state : L → LinkView S) (s : Meaning W M V)
+pub record RunsCall {L S W M V E : Type 0} (state : L → LinkView S) (s : Meaning W M V)
     (Starts : Core → Core → Result (CallValue M) Error → Type 0) (old new : SftpValue L) (result : Result V E) :
     Type 0 where
   pub going : IsGoing state new

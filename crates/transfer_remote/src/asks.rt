@@ -3,11 +3,11 @@ ghost use Rattle.std.specs.Prelude.{◌≡◌, [], OnOk, IfOk};
 ghost use Rattle.call_state.specs.Calls.{IsUnderWay};
 ghost use Rattle.transfer_remote.specs.Awaits.{IsPlain};
 ghost use Rattle.transfer_copier.specs.Sessions.{IsGoing};
-ghost use Rattle.transfer_remote.specs.Runs.{Finishes, IsFree, IsLive};
+ghost use Rattle.transfer_remote.specs.Runs.{FinishesCall, IsFree, IsLive};
 
 use crate::awaiting::await_call;
 use crate::failure::Failure;
-use call_state::{Alone, Call};
+use call_state::{Alone, PendingCall};
 use sftp_client::Sftp;
 use sftp_core::MAX_IDS;
 use sftp_fs::Fs;
@@ -41,12 +41,12 @@ pub(crate) fn ready<L: Link>(sftp: &mut Sftp<L>) -> Result<(), Failure>
 /// What a call that was begun answers, or why it was not begun.
 pub(crate) fn finish<L: Link, M: Alone>(
     sftp: &mut Sftp<L>,
-    started: Result<Call<M>, Error>,
+    started: Result<PendingCall<M>, Error>,
 ) -> Result<M::Value, Failure>
     requires plain { IsPlain M.PlanRunner.meaning }
     requires live { IsLive L.LinkState.state sftp.old }
     requires under_way { IfOk started (IsUnderWay M.PlanRunner.meaning sftp.old.core) }
-    ensures { Finishes L.LinkState.state M.PlanRunner.meaning started sftp.old sftp.new result }
+    ensures { FinishesCall L.LinkState.state M.PlanRunner.meaning started sftp.old sftp.new result }
 {
     match started {
         Ok(call) => await_call(sftp, call),

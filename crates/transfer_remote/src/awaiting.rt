@@ -2,7 +2,7 @@
 ghost use Rattle.transfer_remote.specs.Awaits.{AnsweredCall, Awaited, IsPlain, IsSettled, MayAwait};
 
 use crate::failure::Failure;
-use call_state::{Alone, Call};
+use call_state::{Alone, PendingCall};
 use sftp_client::Sftp;
 use sftp_file::Poll;
 use sftp_link::Link;
@@ -20,7 +20,10 @@ fn settled<V>(answer: Result<V, Error>) -> Result<V, Failure>
 }
 
 /// Turns until a call has answered, or a turn failed.
-fn answer_of<L: Link, M: Alone>(sftp: &mut Sftp<L>, call: &mut Call<M>) -> Result<M::Value, Failure>
+fn answer_of<L: Link, M: Alone>(
+    sftp: &mut Sftp<L>,
+    call: &mut PendingCall<M>,
+) -> Result<M::Value, Failure>
     requires plain { IsPlain M.PlanRunner.meaning }
     requires may { MayAwait L.LinkState.state M.PlanRunner.meaning (record { session = sftp.old; call = call.old }) }
     ensures { AnsweredCall L.LinkState.state M.PlanRunner.meaning (record { session = sftp.old; call = call.old })
@@ -45,7 +48,7 @@ fn answer_of<L: Link, M: Alone>(sftp: &mut Sftp<L>, call: &mut Call<M>) -> Resul
 /// What a call answers. A call that has not answered is given up.
 pub(crate) fn await_call<L: Link, M: Alone>(
     sftp: &mut Sftp<L>,
-    call: Call<M>,
+    call: PendingCall<M>,
 ) -> Result<M::Value, Failure>
     requires plain { IsPlain M.PlanRunner.meaning }
     requires may { MayAwait L.LinkState.state M.PlanRunner.meaning (record { session = sftp.old; call = call }) }

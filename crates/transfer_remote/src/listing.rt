@@ -5,7 +5,7 @@ ghost use Rattle.sftp_fs.specs.Directories.{OpensFrom, opening_dir};
 ghost use Rattle.sftp_fs.specs.Listings.{IsListing};
 ghost use Rattle.transfer_copier.specs.Sessions.{IsGoing};
 ghost use Rattle.transfer_remote.specs.Listed.{ListingTold, ClosedTold, FolderTold, GrowsBy, GrowsByGiven, MayGoOn, StepTold, is_self, kind_of};
-ghost use Rattle.transfer_remote.specs.Runs.{Runs};
+ghost use Rattle.transfer_remote.specs.Runs.{RunsCall};
 
 use crate::asks::{finish, plain_paths, ready};
 use crate::awaiting::await_call;
@@ -136,7 +136,7 @@ fn list_entries<L: Link>(
 /// Opens a folder of the server.
 fn open_folder<L: Link>(alloc: Global, sftp: &mut Sftp<L>, path: &[u8]) -> Result<Dir, Failure>
     requires { IsGoing L.LinkState.state sftp.old }
-    ensures runs { Runs L.LinkState.state opening_dir (OpensFrom path.now []) sftp.old sftp.new result }
+    ensures runs { RunsCall L.LinkState.state opening_dir (OpensFrom path.now []) sftp.old sftp.new result }
     ensures held { IfOk result (λ dir. IsGrant sftp.new.core dir) }
 {
     match ready(sftp) {

@@ -7,7 +7,7 @@ ghost use Rattle.sftp_fs.specs.Names.{naming};
 ghost use Rattle.sftp_fs.specs.PathStarts.{StartsFrom};
 ghost use Rattle.sftp_fs.specs.SettingPlans.{set_attrs_next};
 ghost use Rattle.transfer_copier.specs.Sessions.{IsGoing};
-ghost use Rattle.transfer_remote.specs.Runs.{Runs};
+ghost use Rattle.transfer_remote.specs.Runs.{RunsCall};
 
 use crate::asks::{finish, plain_paths, ready};
 use crate::failure::Failure;
@@ -24,7 +24,7 @@ pub fn make_remote_folder<L: Link>(
     path: &[u8],
 ) -> Result<(), Failure>
     requires { IsGoing L.LinkState.state sftp.old }
-    ensures { Runs L.LinkState.state settling (StartsFrom settling (mkdir_next path.now) []) sftp.old sftp.new result }
+    ensures { RunsCall L.LinkState.state settling (StartsFrom settling (mkdir_next path.now) []) sftp.old sftp.new result }
 {
     match ready(sftp) {
         Ok(()) => {
@@ -43,7 +43,7 @@ pub fn make_remote_link<L: Link>(
     path: &[u8],
 ) -> Result<(), Failure>
     requires { IsGoing L.LinkState.state sftp.old }
-    ensures { Runs L.LinkState.state settling (StartsFrom settling (symlink_next names.now path.now) []) sftp.old sftp.new result }
+    ensures { RunsCall L.LinkState.state settling (StartsFrom settling (symlink_next names.now path.now) []) sftp.old sftp.new result }
 {
     match ready(sftp) {
         Ok(()) => {
@@ -61,7 +61,7 @@ pub fn read_remote_link<L: Link>(
     path: &[u8],
 ) -> Result<RemotePath, Failure>
     requires { IsGoing L.LinkState.state sftp.old }
-    ensures { Runs L.LinkState.state naming (StartsFrom naming (read_link_next path.now) []) sftp.old sftp.new result }
+    ensures { RunsCall L.LinkState.state naming (StartsFrom naming (read_link_next path.now) []) sftp.old sftp.new result }
 {
     match ready(sftp) {
         Ok(()) => {
@@ -79,7 +79,7 @@ pub fn remote_metadata<L: Link>(
     path: &[u8],
 ) -> Result<MetaData, Failure>
     requires { IsGoing L.LinkState.state sftp.old }
-    ensures { Runs L.LinkState.state telling (StartsFrom telling (stat_next path.now) []) sftp.old sftp.new result }
+    ensures { RunsCall L.LinkState.state telling (StartsFrom telling (stat_next path.now) []) sftp.old sftp.new result }
 {
     match ready(sftp) {
         Ok(()) => {
@@ -98,7 +98,7 @@ pub fn set_remote_attrs<L: Link>(
     attrs: FileAttrs,
 ) -> Result<(), Failure>
     requires { IsGoing L.LinkState.state sftp.old }
-    ensures { Runs L.LinkState.state settling (StartsFrom settling (set_attrs_next path.now attrs) []) sftp.old sftp.new result }
+    ensures { RunsCall L.LinkState.state settling (StartsFrom settling (set_attrs_next path.now attrs) []) sftp.old sftp.new result }
 {
     match ready(sftp) {
         Ok(()) => {

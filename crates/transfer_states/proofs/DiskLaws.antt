@@ -6,7 +6,7 @@ use Rattle.std.proofs.lemmas.List.{append_assoc, append-nil}
 use Rattle.std.proofs.lemmas.Slice.Eq.{bytes_eq-Decides}
 use Rattle.sftp_model.specs.Pieces.{joined}
 use Rattle.transfer_states.specs.Disks.{Disk, IsCopied, after_act, with_file}
-use Rattle.transfer_local.specs.Local.{Created, LocalAct, Renamed, Wrote, all_done, writes_of}
+use Rattle.transfer_local.specs.Local.{Created, Renamed, Reopened, Wrote, all_done, writes_of}
 
 here : (files : List ℕ → Option (List ℕ)) (name : List ℕ) (bytes : Option (List ℕ)) → with_file files name bytes name ≡ bytes
 here files name bytes = ap (λ (b : Bool). if b then bytes else files name) ((bytes_eq-Decides name name).1 refl)
@@ -38,16 +38,30 @@ written (piece ∷ pieces) bytes d h =
       others = λ other ne. below.others other ne ∙ elsewhere d.files d.made (Some (unwrap_or (d.files d.made) [] ++ piece)) other ne;
     }
 
+-- the part that has these bytes gets its name
+named : (part name bytes : List ℕ) (d e : Disk) → part ≢ name → e.files part ≡ Some bytes
+    → ((other : List ℕ) → other ≢ part → e.files other ≡ d.files other)
+    → IsCopied part name bytes d (after_act (Renamed part name) e)
+named part name bytes d e apart whole others = record {
+  named = here (with_file e.files part None) name (e.files part) ∙ whole;
+  gone = elsewhere (with_file e.files part None) name (e.files part) part apart ∙ here e.files part None;
+  others = λ other not_name not_part.
+      elsewhere (with_file e.files part None) name (e.files part) other not_name ∙ elsewhere e.files part None other not_part
+      ∙ others other not_part;
+}
+
 pub one_name : (part name : List ℕ) (pieces : List (List ℕ)) (d written_disk : Disk) → part ≢ name → written_disk
     ≡ all_done after_act (Created part ∷ writes_of pieces) d
     → IsCopied part name (joined pieces) d (after_act (Renamed part name) written_disk)
 one_name part name pieces d e apart is =
     let w = written pieces [] (after_act (Created part) d) (here d.files part (Some [])) in
-    let whole : e.files part ≡ Some (joined pieces) = ap (λ (x : Disk). x.files part) is ∙ w.whole in
-    record {
-      named = here (with_file e.files part None) name (e.files part) ∙ whole;
-      gone = elsewhere (with_file e.files part None) name (e.files part) part apart ∙ here e.files part None;
-      others = λ other not_name not_part.
-          elsewhere (with_file e.files part None) name (e.files part) other not_name ∙ elsewhere e.files part None other not_part
-          ∙ ap (λ (x : Disk). x.files other) is ∙ w.others other not_part ∙ elsewhere d.files part (Some []) other not_part;
-    }
+    named part name (joined pieces) d e apart (ap (λ (x : Disk). x.files part) is ∙ w.whole)
+    (λ other not_part. ap (λ (x : Disk). x.files other) is ∙ w.others other not_part ∙ elsewhere d.files part (Some []) other not_part)
+
+pub one_name_behind : (part name had : List ℕ) (len : ℕ) (pieces : List (List ℕ)) (d written_disk : Disk) → part ≢ name
+    → d.files part ≡ Some had → written_disk ≡ all_done after_act (Reopened part len ∷ writes_of pieces) d
+    → IsCopied part name (had ++ joined pieces) d (after_act (Renamed part name) written_disk)
+one_name_behind part name had len pieces d e apart has is =
+    let w = written pieces had (after_act (Reopened part len) d) has in
+    named part name (had ++ joined pieces) d e apart (ap (λ (x : Disk). x.files part) is ∙ w.whole)
+    (λ other not_part. ap (λ (x : Disk). x.files other) is ∙ w.others other not_part)

@@ -23,7 +23,6 @@ use Rattle.std.proofs.Common.{
   None,
 }
 use Rattle.std.specs.Prelude.{IsTrue}
-use Rattle.sftp_model.specs.declared.answers.Expected.{Expected}
 use Rattle.sftp_model.specs.declared.answers.Expected.TheVariants as expected
 use Rattle.sftp_model.specs.declared.request.Request.TheVariants.{Close}
 use Rattle.sftp_core.specs.declared.place.Place.{Place}

@@ -1,29 +1,8 @@
 -- Steps of a copy from the server.
-use Rattle.std.proofs.Common.{
-  ◌≡◌,
-  ◌⊎◌,
-  inl,
-  inr,
-  ◌<◌,
-  ℕ,
-  ◌+◌,
-  ◌^◌,
-  List,
-  [],
-  ◌∷◌,
-  ◌++◌,
-  length,
-  refl,
-  sym,
-  ap,
-  ◌∙◌,
-  subst,
-  arith,
-}
-use Rattle.std.specs.Prelude.{Result, Ok, Err, IsSome}
+use Rattle.std.proofs.Common.{◌≡◌, inl, inr, ◌<◌, ℕ, ◌+◌, ◌^◌, List, [], ◌∷◌, ◌++◌, length, refl, sym, ap, ◌∙◌, subst, arith}
+use Rattle.std.specs.Prelude.{IsSome}
 use Rattle.sftp_model.specs.declared.answers.Expected.{Expected}
 use Rattle.sftp_model.specs.declared.answers.Expected.TheVariants as expected
-use Rattle.sftp_model.specs.declared.error.Fault.{Fault}
 use Rattle.sftp_model.specs.declared.reply.Reply.{Reply}
 use Rattle.sftp_core.specs.declared.handshake.Handshake.{Handshake}
 use Rattle.sftp_core.specs.Core.{Core}
@@ -37,24 +16,7 @@ use Rattle.transfer_states.specs.declared.holding.PartAnswer.TheVariants as part
 use Rattle.transfer_states.specs.declared.progress.Progress.{Progress}
 use Rattle.transfer_states.specs.declared.progress.Progress.TheVariants as progress
 use Rattle.transfer_states.specs.Holdings.{AsksForRead, HoldingValue, IsFileOpen, KeepsApart, SettlesFile, TakesPart, bytes_under_way}
-use Rattle.transfer_states.specs.Gets.{
-  AreReadParts,
-  GetsMore,
-  AsksNext,
-  GetAsksOn,
-  GetLeaves,
-  GetGivesUp,
-  TakesReply,
-  IsBehindRead,
-  IsFull,
-  IsOpenAt,
-  IsReadingOn,
-  IsStill,
-  MakesPart,
-  GetOpens,
-  GetReadsOn,
-  StandsGet,
-}
+use Rattle.transfer_states.specs.Gets.{AreReadParts, AsksNext, GetAsksOn, GetLeaves, GetGivesUp, TakesReply, IsBehindRead, IsOpenAt, IsReadingOn, MakesPart, GetOpens, GetReadsOn, StandsGet}
 use Rattle.transfer_local.specs.Local.{LocalAct}
 use Rattle.transfer_states.proofs.HoldingLaws.{apart_both}
 

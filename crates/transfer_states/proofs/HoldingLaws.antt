@@ -1,82 +1,22 @@
 -- What a copy has of a core over what it does, and what others have.
-use Rattle.std.proofs.Common.{
-  ◌≡◌,
-  ◌≢◌,
-  ◌<◌,
-  ◌-◌,
-  ◌==◌,
-  ℕ,
-  Bool,
-  true,
-  false,
-  cond,
-  List,
-  [],
-  ◌∷◌,
-  ◌++◌,
-  refl,
-  sym,
-  ap,
-  ◌∙◌,
-  subst,
-  arith,
-  Option,
-  Some,
-  None,
-}
+use Rattle.std.proofs.Common.{◌≡◌, ◌≢◌, ℕ, true, false, List, [], ◌∷◌, ◌++◌, refl, sym, ap, ◌∙◌, subst, Option, Some, None}
 use Rattle.std.specs.Prelude.{IsTrue}
 use Rattle.sftp_model.specs.Answers.{allows, expected_of}
 use Rattle.sftp_model.specs.declared.answers.Expected.{Expected}
 use Rattle.sftp_model.specs.declared.answers.Expected.TheVariants as expected
 use Rattle.sftp_model.specs.declared.error.Fault.{Fault}
 use Rattle.sftp_model.specs.declared.request.Request.{Request}
-use Rattle.sftp_model.specs.declared.request.Request.TheVariants.{Close}
 use Rattle.sftp_core.specs.declared.place.Place.{Place}
 use Rattle.sftp_core.specs.declared.place.Place.TheVariants.{Waiting, Answered, Granted}
-use Rattle.sftp_core.specs.Core.{
-  Core,
-  abandon_leaves,
-  abandoned,
-  after_poll,
-  at,
-  dropped,
-  given_leaves,
-  is_ticket,
-  poll_leaves,
-  queued_last,
-  release_leaves,
-  released,
-  users_of,
-  with_place,
-}
+use Rattle.sftp_core.specs.Core.{Core, after_poll, at, given_leaves, is_ticket, poll_leaves}
 use Rattle.sftp_core.specs.Grant.{GrantValue}
-use Rattle.sftp_core.specs.Table.{asks_handle, brings, expected_at}
-use Rattle.sftp_core.proofs.Elsewhere.{
-  abandon_elsewhere,
-  abandon_phase,
-  poll_elsewhere,
-  poll_phase,
-  put_elsewhere,
-  put_here,
-  release_elsewhere,
-  release_phase,
-}
+use Rattle.sftp_core.specs.Table.{asks_handle, brings}
+use Rattle.sftp_core.proofs.Elsewhere.{poll_elsewhere, poll_phase, put_elsewhere}
 use Rattle.call_state.specs.Asked.{HoldsTicket, Submitted, queued_by, request_of}
-use Rattle.call_state.specs.Keeping.{KeepsHeld, KeepsGrants}
+use Rattle.call_state.specs.Keeping.{KeepsHeld}
 use Rattle.call_state.specs.declared.asking.Asking.{Asking}
 use Rattle.call_state.specs.declared.asking.Asking.TheVariants.{Whole, Parts}
-use Rattle.call_state.proofs.Keeping.{
-  cancelled_keeps_grants,
-  cancelled_on,
-  grant_at,
-  holds_at,
-  holds_still,
-  polled_keeps_grants,
-  polled_on,
-  released_holds,
-  submitted_holds,
-  submitted_keeps,
-}
+use Rattle.call_state.proofs.Keeping.{polled_keeps_grants, polled_on, submitted_holds, submitted_keeps}
 use Rattle.sftp_model.specs.declared.reply.Reply.TheVariants as reply
 use Rattle.transfer_states.specs.Answers.{AnswersTicket, HasCome}
 use Rattle.transfer_states.specs.declared.answers.TicketAnswer.TheVariants as answer

@@ -1,37 +1,15 @@
 -- Steps of a copy to the server.
-use Rattle.std.proofs.Common.{
-  ◌≡◌,
-  ◌⊎◌,
-  inl,
-  inr,
-  ◌<◌,
-  ℕ,
-  ◌+◌,
-  ◌^◌,
-  Bool,
-  true,
-  false,
-  List,
-  [],
-  ◌∷◌,
-  ◌++◌,
-  length,
-  refl,
-  sym,
-  ap,
-  ◌∙◌,
-  subst,
-  arith,
-  Option,
-  Some,
-  None,
-}
-use Rattle.std.specs.Prelude.{Result, Ok, Err, IsSome}
-use Rattle.sftp_model.specs.declared.answers.Expected.TheVariants as expected
+use Rattle.std.proofs.Common.{◌≡◌, ◌⊎◌, inl, inr, ◌<◌, ℕ, ◌+◌, ◌^◌, Bool, false, List, [], ◌∷◌, length, refl, sym, ap, ◌∙◌, subst, arith, Option, Some, None}
+use Rattle.std.specs.Prelude.{Ok, Err, IsSome}
+use Rattle.sftp_model.specs.Answers.{expected_of}
+use Rattle.sftp_model.specs.declared.file_attrs.FileAttrs.{FileAttrs}
 use Rattle.sftp_model.specs.declared.reply.Reply.{Reply}
 use Rattle.sftp_model.specs.declared.request.Request.TheVariants as request
 use Rattle.sftp_core.specs.Core.{Core}
 use Rattle.sftp_core.specs.Info.{info_of}
+use Rattle.call_state.specs.Asked.{request_of}
+use Rattle.call_state.specs.declared.asking.Asking.{Asking}
+use Rattle.call_state.specs.declared.asking.Asking.TheVariants.{Whole, Parts}
 use Rattle.transfer_states.specs.declared.failure.Failure.{Failure}
 use Rattle.transfer_states.specs.declared.holding.PartAnswer.TheVariants as part_answer
 use Rattle.transfer_states.specs.declared.progress.Progress.{Progress}
@@ -39,7 +17,19 @@ use Rattle.transfer_states.specs.declared.progress.Progress.TheVariants as progr
 use Rattle.transfer_states.specs.declared.put.FilePut.{FilePut}
 use Rattle.transfer_states.specs.declared.put.PutStage.{PutStage}
 use Rattle.transfer_states.specs.declared.put.PutStage.TheVariants as stage
-use Rattle.transfer_states.specs.Holdings.{AsksForWrite, HoldingValue, WasNotOk, WasOk, IsFileOpen, KeepsApart, TakesPart, bytes_under_way}
+use Rattle.transfer_states.specs.Holdings.{
+  AsksForAttrs,
+  AsksForPart,
+  AsksForWrite,
+  HoldingValue,
+  WasNotOk,
+  WasOk,
+  IsFileOpen,
+  KeepsApart,
+  TakesPart,
+  bytes_under_way,
+  file_handle,
+}
 use Rattle.transfer_states.specs.Puts.{
   AcceptsWrite,
   AsksAt,
@@ -52,7 +42,7 @@ use Rattle.transfer_states.specs.Puts.{
   PutsNoMore,
   Removes,
   PutSendsOn,
-  PutSentAll,
+  PutEndsSending,
   StandsPut,
   WritesOn,
   rename_of,
@@ -70,20 +60,21 @@ put_leaves_then core mid after old new left first then_leaves = record {
   apart = apart_both old.holding left new.holding core mid after first then_leaves.apart;
 }
 
--- ---- one WRITE more
+-- ---- one part more
 
-pub wrote_on : (core after : Core) (old : FilePut) (held : HoldingValue) (bytes : List ℕ) (len : ℕ) → IsSome (info_of core.phase)
-    → old.stage ≡ stage.Writing → IsWritingOn old → len ≡ length bytes → old.next + len < 2 ^ 64
-    → AsksForWrite core old.holding old.next bytes after held → KeepsApart old.holding held core after
-    → PutLeaves core old after (record old { holding = held; next = old.next + len })
-wrote_on core after old held bytes len opened at_writing writing len_is small asks apart =
-    let new : FilePut = record old { holding = held; next = old.next + len } in
-    let sum = last_bytes asks.ticket (length bytes) expected.Status old.holding.parts in
+-- a request for so many bytes is behind the others, and the copy writes on
+part_on : (core after : Core) (old : FilePut) (held : HoldingValue) (attrs : Option FileAttrs) (asking : Asking) (len next : ℕ)
+    → IsSome (info_of core.phase) → old.stage ≡ stage.Writing → IsWritingOn old → next ≡ old.next + len → next < 2 ^ 64
+    → AsksForPart core old.holding asking len after held → KeepsApart old.holding held core after
+    → PutLeaves core old after (record old { holding = held; next = next; attrs = attrs })
+part_on core after old held attrs asking len next opened at_writing writing next_is small asks apart =
+    let new : FilePut = record old { holding = held; next = next; attrs = attrs } in
+    let sum = last_bytes asks.ticket len (expected_of (request_of asking)) old.holding.parts in
     let total = ap bytes_under_way (ap (λ (x : HoldingValue). x.parts) asks.now) ∙ sum in
-    let next = writing.next in
+    let was = writing.next in
     let on : IsWritingOn new = record {
       file = subst (λ (x : HoldingValue). IsFileOpen x.file) (sym asks.now) writing.file;
-      next = omega (arith, total, next, len_is);
+      next = omega (arith, total, was, next_is);
       small = small;
       wide = writing.wide;
       unfailed = writing.unfailed;
@@ -96,6 +87,23 @@ wrote_on core after old held bytes len opened at_writing writing len_is small as
       };
       apart = apart;
     }
+
+-- one WRITE more
+pub wrote_on : (core after : Core) (old : FilePut) (held : HoldingValue) (bytes : List ℕ) (len : ℕ) → IsSome (info_of core.phase)
+    → old.stage ≡ stage.Writing → IsWritingOn old → len ≡ length bytes → old.next + len < 2 ^ 64
+    → AsksForWrite core old.holding old.next bytes after held → KeepsApart old.holding held core after
+    → PutLeaves core old after (record old { holding = held; next = old.next + len })
+wrote_on core after old held bytes len opened at_writing writing len_is small asks apart =
+    part_on core after old held old.attrs (Parts (file_handle old.holding.file) old.next (bytes ∷ [])) (length bytes) (old.next + len)
+    opened at_writing writing (omega (arith, len_is)) small asks apart
+
+-- the FSETSTAT
+pub gave_on : (core after : Core) (old : FilePut) (held : HoldingValue) (attrs : FileAttrs) → IsSome (info_of core.phase)
+    → old.stage ≡ stage.Writing → IsWritingOn old → AsksForAttrs core old.holding attrs after held
+    → KeepsApart old.holding held core after → PutLeaves core old after (record old { holding = held; attrs = None })
+gave_on core after old held attrs opened at_writing writing asks apart =
+    part_on core after old held None (Whole (request.Fsetstat (file_handle old.holding.file) attrs)) 0 old.next
+    opened at_writing writing (omega (arith)) writing.small asks apart
 
 -- ---- the status of the first WRITE
 
@@ -121,8 +129,8 @@ write_failed done core mid after old new left before result gives moved =
       })),
     ))
 
-ends_or_fails : (core after : Core) (old new : FilePut) → PutSentAll core old after new ⊎ PutGivesUp core old.holding old after new
-    → PutSentAll core old after new ⊎ PutsNoMore core old after new
+ends_or_fails : (core after : Core) (old new : FilePut) → PutEndsSending core old after new ⊎ PutGivesUp core old.holding old after new
+    → PutEndsSending core old after new ⊎ PutsNoMore core old after new
 ends_or_fails core after old new (inl sent) = inl sent
 ends_or_fails core after old new (inr gives) = inr (record { mid = core; left = old.holding; gives_up = gives })
 

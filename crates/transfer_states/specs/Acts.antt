@@ -12,12 +12,12 @@ use Rattle.transfer_local.specs.Local.{
   AreGot,
   AreOfPart,
   AreUnnamed,
-  Created,
   Got,
   HasDone,
   LocalAct,
   Opened,
   Renamed,
+  part_opened,
   reads_of,
   writes_of,
 }
@@ -28,34 +28,37 @@ total_len (piece ∷ later) = length piece + total_len later
 
 -- ---- from the server
 
--- the part was made, and so many bytes were written to it, piece by piece, and nothing else
-pub record HasWrittenPart {H : Type 0} (done : LocalAct → H → H) (part : List ℕ) (len : ℕ) (first now : H) : Type 0
-  where
-    pub pieces : List (List ℕ)
-    pub acts : HasDone done (Created part ∷ writes_of pieces) first now
-    pub total : total_len pieces ≡ len
+-- the part was made, or reopened with so many bytes in it, and written to, piece by piece, until it had `len` bytes,
+-- and nothing else
+pub record HasWrittenPart {H : Type 0} (done : LocalAct → H → H) (part : List ℕ) (from len : ℕ) (first now : H) :
+    Type 0 where
+  pub pieces : List (List ℕ)
+  pub acts : HasDone done (part_opened part from ∷ writes_of pieces) first now
+  pub total : from + total_len pieces ≡ len
 
--- the part alone was made or written to
+-- the part alone was made, reopened or written to
 abbrev pub IsPartOnly : {H : Type 0} → (LocalAct → H → H) → List ℕ → H → H → Type 0
 IsPartOnly done part first now = (acts : List LocalAct) × HasDone done acts first now × AreOfPart part acts
 
-abbrev pub GotSoFar : {H : Type 0} → (LocalAct → H → H) → List ℕ → FileGet → H → H → GetStage → Type 0
-GotSoFar done part g first now get.Starting = (now ≡ first) × (g.offset ≡ 0)
-GotSoFar done part g first now get.Opening = (now ≡ first) × (g.offset ≡ 0)
-GotSoFar done part g first now get.Reading = HasWrittenPart done part g.offset first now
-GotSoFar done part g first now get.Closing = IsPartOnly done part first now
-    × (g.failure ≡ None → HasWrittenPart done part g.offset first now)
-GotSoFar done part g first now get.Ended = Unit {0}
+-- of a copy that began at an offset
+abbrev pub GotSoFar : {H : Type 0} → (LocalAct → H → H) → List ℕ → ℕ → FileGet → H → H → GetStage → Type 0
+GotSoFar done part from g first now get.Starting = (now ≡ first) × (g.offset ≡ from)
+GotSoFar done part from g first now get.Opening = (now ≡ first) × (g.offset ≡ from)
+GotSoFar done part from g first now get.Reading = HasWrittenPart done part from g.offset first now
+GotSoFar done part from g first now get.Closing = IsPartOnly done part first now
+    × (g.failure ≡ None → HasWrittenPart done part from g.offset first now)
+GotSoFar done part from g first now get.Ended = Unit {0}
 
--- Where it gives a count, the part was made, so many bytes were written to it, piece by piece, and then it was renamed;
--- with an error no file got the name.
-abbrev pub GotAfter : {H : Type 0} → (LocalAct → H → H) → List ℕ → List ℕ → FileGet → H → H → Progress → Type 0
-GotAfter {H = H} done part name new first now (progress.Ended (Ok len)) = (written : H)
-    × HasWrittenPart done part len first written
+-- Where it gives a count, the part was made or reopened, and written to, piece by piece, until it had so many bytes,
+-- and then it was renamed; with an error no file got the name.
+abbrev pub GotAfter : {H : Type 0} → (LocalAct → H → H) → List ℕ → List ℕ → ℕ → FileGet → H → H → Progress → Type 0
+GotAfter {H = H} done part name from new first now (progress.Ended (Ok len)) = (written : H)
+    × HasWrittenPart done part from len first written
     × (now ≡ done (Renamed part name) written)
-GotAfter done part name new first now (progress.Ended (Err e)) = (acts : List LocalAct) × HasDone done acts first now
+GotAfter done part name from new first now (progress.Ended (Err e)) = (acts : List LocalAct)
+    × HasDone done acts first now
     × AreUnnamed part name acts
-GotAfter done part name new first now other = GotSoFar done part new first now new.stage
+GotAfter done part name from new first now other = GotSoFar done part from new first now new.stage
 
 -- ---- to the server
 
@@ -64,29 +67,31 @@ abbrev pub end_acts : Bool → List LocalAct
 end_acts true = Got [] ∷ []
 end_acts false = []
 
--- the file was opened, and so many bytes were got, piece by piece, and at the end none
-pub record HasReadFile {H : Type 0} (done : LocalAct → H → H) (name : List ℕ) (at_end : Bool) (len : ℕ) (first now : H)
-    :
-    Type 0 where
+-- the file was opened at an offset, and its bytes were got up to the offset `len`, piece by piece, and at the end none
+pub record HasReadFile {H : Type 0} (done : LocalAct → H → H) (name : List ℕ) (from : ℕ) (at_end : Bool) (len : ℕ)
+    (first now : H) : Type 0 where
   pub pieces : List (List ℕ)
-  pub acts : HasDone done (Opened name ∷ (reads_of pieces ++ end_acts at_end)) first now
-  pub total : total_len pieces ≡ len
+  pub acts : HasDone done (Opened name from ∷ (reads_of pieces ++ end_acts at_end)) first now
+  pub total : from + total_len pieces ≡ len
 
 -- the file was only read
 abbrev pub IsReadOnly : {H : Type 0} → (LocalAct → H → H) → H → H → Type 0
 IsReadOnly done first now = (acts : List LocalAct) × HasDone done acts first now × AreGot acts
 
-abbrev pub SentSoFar : {H : Type 0} → (LocalAct → H → H) → List ℕ → FilePut → H → H → PutStage → Type 0
-SentSoFar done name p first now put.Starting = (now ≡ first) × (p.next ≡ 0) × (p.at_end ≡ false)
-SentSoFar done name p first now put.Opening = HasReadFile done name p.at_end p.next first now
-SentSoFar done name p first now put.Writing = HasReadFile done name p.at_end p.next first now
-SentSoFar done name p first now put.Closing = IsReadOnly done first now
-    × (p.failure ≡ None → HasReadFile done name true p.offset first now)
-SentSoFar done name p first now put.Ended = Unit {0}
-SentSoFar done name p first now other = HasReadFile done name true p.offset first now
+-- of a copy that began at an offset
+abbrev pub SentSoFar : {H : Type 0} → (LocalAct → H → H) → List ℕ → ℕ → FilePut → H → H → PutStage → Type 0
+SentSoFar done name from p first now put.Starting = (now ≡ first) × (p.offset ≡ from) × (p.next ≡ from)
+    × (p.at_end ≡ false)
+SentSoFar done name from p first now put.Opening = HasReadFile done name from p.at_end p.next first now
+SentSoFar done name from p first now put.Writing = HasReadFile done name from p.at_end p.next first now
+SentSoFar done name from p first now put.Closing = IsReadOnly done first now
+    × (p.failure ≡ None → HasReadFile done name from true p.offset first now)
+SentSoFar done name from p first now put.Ended = Unit {0}
+SentSoFar done name from p first now other = HasReadFile done name from true p.offset first now
 
--- Where it gives a count, the file was opened and so many bytes were got, up to its end; in any case it was only read.
-abbrev pub SentAfter : {H : Type 0} → (LocalAct → H → H) → List ℕ → FilePut → H → H → Progress → Type 0
-SentAfter done name new first now (progress.Ended (Ok len)) = HasReadFile done name true len first now
-SentAfter done name new first now (progress.Ended (Err e)) = IsReadOnly done first now
-SentAfter done name new first now other = SentSoFar done name new first now new.stage
+-- Where it gives a count, the file was opened at the offset and its bytes were got up to that count and to its end; in
+-- any case it was only read.
+abbrev pub SentAfter : {H : Type 0} → (LocalAct → H → H) → List ℕ → ℕ → FilePut → H → H → Progress → Type 0
+SentAfter done name from new first now (progress.Ended (Ok len)) = HasReadFile done name from true len first now
+SentAfter done name from new first now (progress.Ended (Err e)) = IsReadOnly done first now
+SentAfter done name from new first now other = SentSoFar done name from new first now new.stage

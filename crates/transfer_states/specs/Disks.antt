@@ -1,10 +1,10 @@
 -- What the acts of a copy make of a disk on which each does what it says.
-use Rattle.std.specs.Prelude.{◌≡◌, ◌≢◌, Bool, ℕ, List, [], ◌++◌, Option, Some, None, if◌then◌else◌}
+use Rattle.std.specs.Prelude.{◌≡◌, ◌≢◌, ℕ, List, [], ◌++◌, Option, Some, None, if◌then◌else◌}
 use Rattle.std.specs.Str.{bytes_eq}
 use Rattle.std.specs.Option.{unwrap_or}
-use Rattle.transfer_local.specs.Local.{LocalAct, Opened, Created, Got, Wrote, Renamed, Failed}
+use Rattle.transfer_local.specs.Local.{LocalAct, Opened, Created, Reopened, Got, Wrote, Renamed, Failed}
 
--- what stands under each name, and the name of the file that was made last
+-- what stands under each name, and the name of the file that was made or reopened last
 pub record Disk : Type 0 where
   pub files : List ℕ → Option (List ℕ)
   pub made : List ℕ
@@ -15,8 +15,9 @@ with_file files name bytes other = if bytes_eq other name then bytes else files 
 
 -- a write goes behind what is there, and a rename leaves nothing under the old name
 abbrev pub after_act : LocalAct → Disk → Disk
-after_act (Opened name) d = d
+after_act (Opened name from) d = d
 after_act (Created name) d = record { files = with_file d.files name (Some []); made = name }
+after_act (Reopened name len) d = record { files = d.files; made = name }
 after_act (Got bytes) d = d
 after_act (Wrote bytes) d =
     record { files = with_file d.files d.made (Some (unwrap_or (d.files d.made) [] ++ bytes)); made = d.made }

@@ -26,9 +26,7 @@ use Rattle.std.specs.Prelude.{
 }
 use Rattle.sftp_model.specs.Numbers.{SSH_FX_EOF}
 use Rattle.sftp_model.specs.OpenOptions.{flags_of, nothing_chosen}
-use Rattle.sftp_model.specs.declared.answers.Expected.{Expected}
 use Rattle.sftp_model.specs.declared.answers.Expected.TheVariants as expected
-use Rattle.sftp_model.specs.declared.error.Fault.{Fault}
 use Rattle.sftp_model.specs.declared.flags.OpenFlags.{OpenFlags}
 use Rattle.sftp_model.specs.declared.reply.Reply.{Reply}
 use Rattle.sftp_model.specs.declared.reply.Reply.TheVariants as reply
@@ -40,8 +38,6 @@ use Rattle.transfer_states.specs.declared.get.FileGet.{FileGet}
 use Rattle.transfer_states.specs.declared.get.GetStage.{GetStage}
 use Rattle.transfer_states.specs.declared.get.GetStage.TheVariants as stage
 use Rattle.transfer_states.specs.declared.holding.FileAnswer.TheVariants as file_answer
-use Rattle.transfer_states.specs.declared.holding.FileHold.{FileHold}
-use Rattle.transfer_states.specs.declared.holding.FileHold.TheVariants as hold
 use Rattle.transfer_states.specs.declared.holding.Part.{Part}
 use Rattle.transfer_states.specs.declared.holding.PartAnswer.TheVariants as part_answer
 use Rattle.transfer_states.specs.declared.progress.Progress.{Progress}
@@ -63,7 +59,7 @@ use Rattle.transfer_states.specs.Holdings.{
   bytes_under_way,
   nothing_held,
 }
-use Rattle.transfer_local.specs.Local.{Created, Failed, LocalAct, Renamed, Wrote}
+use Rattle.transfer_local.specs.Local.{Failed, LocalAct, Renamed, Wrote, part_opened}
 
 -- a file is opened to read alone
 abbrev pub read_flags : OpenFlags
@@ -85,11 +81,11 @@ pub record IsReadingOn (g : FileGet) : Type 0 where
   pub wide : 1 ≤ g.window
   pub unfailed : g.failure ≡ None
 
--- nothing was asked, or the OPEN, and no byte was written
+-- nothing was asked, or the OPEN, and no byte was written: it stands where it begins
 pub record IsAtStart (Holds : HoldingValue → Type 0) (g : FileGet) : Type 0 where
   pub holds : Holds g.holding
-  pub offset : g.offset ≡ 0
-  pub next : g.next ≡ 0
+  pub next : g.next ≡ g.offset
+  pub small : g.offset < 2 ^ 64
   pub wide : 1 ≤ g.window
   pub unfailed : g.failure ≡ None
 
@@ -124,16 +120,16 @@ abbrev pub get_is_over : GetStage → Bool
 get_is_over stage.Ended = true
 get_is_over other = false
 
--- a copy that has asked for nothing
-abbrev pub get_begun : ℕ → FileGet
-get_begun most =
+-- a copy that has asked for nothing, of the bytes from an offset on
+abbrev pub get_begun : ℕ → ℕ → FileGet
+get_begun most from =
     record {
       holding = nothing_held;
       stage = stage.Starting;
       window = 1;
       most = most;
-      offset = 0;
-      next = 0;
+      offset = from;
+      next = from;
       failure = None;
     }
 
@@ -181,13 +177,14 @@ GetStarts remote core old after new (progress.Ended (Err e)) = (after ≡ core)
     × (new ≡ record old { stage = stage.Ended })
 GetStarts remote core old after new other = ⊥
 
--- the part was made, or not
+-- the part was made, or reopened with the bytes before the offset, or not
 abbrev pub MakesPart : {H : Type 0} → (LocalAct → H → H) → List ℕ → Core → FileGet → Core → FileGet → H → H → Type 0
-MakesPart done part core old after new before now = ((now ≡ done (Created part) before) × (after ≡ core)
+MakesPart done part core old after new before now = ((now ≡ done (part_opened part old.offset) before)
+    × (after ≡ core)
     × (new ≡ record old { stage = stage.Reading }))
-    ⊎ ((now ≡ done (Failed (Created part)) before) × GetGivesUp core old.holding old after new)
+    ⊎ ((now ≡ done (Failed (part_opened part old.offset)) before) × GetGivesUp core old.holding old after new)
 
--- the HANDLE came, and the part was made or not
+-- the HANDLE came, and the part was made or reopened, or not
 pub record OpensGet {H : Type 0} (done : LocalAct → H → H) (part : List ℕ) (core : Core) (old : FileGet) (after : Core)
     (new : FileGet) (before now : H) : Type 0 where
   pub mid : Core

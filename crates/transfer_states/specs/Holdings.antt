@@ -1,27 +1,11 @@
--- What a copy of one file has of a core: the request or the grant of its file, and the requests for its bytes.
-use Rattle.std.specs.Prelude.{
-  ◌≡◌,
-  ◌≢◌,
-  ◌⊎◌,
-  ◌<◌,
-  ℕ,
-  ◌+◌,
-  Bool,
-  true,
-  false,
-  List,
-  [],
-  ◌∷◌,
-  ◌++◌,
-  length,
-  Option,
-  Some,
-  None,
-}
+-- What a copy of one file has of a core: the request or the grant of its file, and the requests for its bytes and its
+-- attributes.
+use Rattle.std.specs.Prelude.{◌≡◌, ◌≢◌, ◌⊎◌, ◌<◌, ℕ, ◌+◌, true, false, List, [], ◌∷◌, ◌++◌, length, Option, Some, None}
 use Rattle.sftp_model.specs.Answers.{allows, expected_of}
 use Rattle.sftp_model.specs.declared.answers.Expected.{Expected}
 use Rattle.sftp_model.specs.declared.answers.Expected.TheVariants as expected
 use Rattle.sftp_model.specs.declared.error.Fault.{Fault}
+use Rattle.sftp_model.specs.declared.file_attrs.FileAttrs.{FileAttrs}
 use Rattle.sftp_model.specs.declared.reply.Reply.{Reply}
 use Rattle.sftp_model.specs.declared.reply.Reply.TheVariants as reply
 use Rattle.sftp_model.specs.declared.request.Request.{Request}
@@ -135,7 +119,7 @@ pub record AsksFile (core : Core) (old : HoldingValue) (asked : Request) (after 
     pub submitted : Submitted core (Whole asked) ticket after
     pub now : new ≡ record old { file = hold.Asked ticket (expected_of asked) }
 
--- a request for so many of its bytes, behind the others
+-- a request for so many of its bytes, or for none, behind the others
 pub record AsksForPart (core : Core) (old : HoldingValue) (asking : Asking) (len : ℕ) (after : Core)
     (new : HoldingValue) :
     Type 0 where
@@ -154,6 +138,11 @@ AsksForRead core old offset len after new =
 abbrev pub AsksForWrite : Core → HoldingValue → ℕ → List ℕ → Core → HoldingValue → Type 0
 AsksForWrite core old offset bytes after new =
     AsksForPart core old (Parts (file_handle old.file) offset (bytes ∷ [])) (length bytes) after new
+
+-- an FSETSTAT, as a part that carries no bytes
+abbrev pub AsksForAttrs : Core → HoldingValue → FileAttrs → Core → HoldingValue → Type 0
+AsksForAttrs core old attrs after new =
+    AsksForPart core old (Whole (request.Fsetstat (file_handle old.file) attrs)) 0 after new
 
 -- ---- what is answered
 

@@ -2,18 +2,17 @@
 use Rattle.std.specs.Prelude.{
   ◌≡◌,
   ◌⊎◌,
+  ◌==◌,
   ◌≤◌,
   ◌<◌,
   ℕ,
   ◌+◌,
-  ◌-◌,
   ◌^◌,
   Bool,
   true,
   false,
   List,
   [],
-  ◌∷◌,
   length,
   max,
   Option,
@@ -25,6 +24,7 @@ use Rattle.std.specs.Prelude.{
 }
 use Rattle.sftp_model.specs.OpenOptions.{flags_of, nothing_chosen}
 use Rattle.sftp_model.specs.declared.answers.Expected.TheVariants as expected
+use Rattle.sftp_model.specs.declared.file_attrs.FileAttrs.{FileAttrs}
 use Rattle.sftp_model.specs.declared.flags.OpenFlags.{OpenFlags}
 use Rattle.sftp_model.specs.declared.reply.Reply.{Reply}
 use Rattle.sftp_model.specs.declared.request.Request.{Request}
@@ -42,6 +42,7 @@ use Rattle.transfer_states.specs.declared.put.PutStage.{PutStage}
 use Rattle.transfer_states.specs.declared.put.PutStage.TheVariants as stage
 use Rattle.transfer_states.specs.Holdings.{
   AsksFile,
+  AsksForAttrs,
   AsksForWrite,
   HoldingValue,
   HoldsAll,
@@ -60,9 +61,9 @@ use Rattle.transfer_states.specs.Holdings.{
 use Rattle.transfer_local.specs.Local.{Failed, Got, LocalAct, Opened}
 use Rattle.transfer_states.specs.Refusals.{IsOkStatus}
 
--- a file is made, or emptied, to be written
-abbrev pub write_flags : OpenFlags
-write_flags = flags_of (record nothing_chosen { write = true; create = true; truncate = true })
+-- a file is opened to be written from an offset on: from 0 it is made, or emptied, and else it is to be there
+abbrev pub write_flags : ℕ → OpenFlags
+write_flags from = flags_of (record nothing_chosen { write = true; create = from == 0; truncate = from == 0 })
 
 -- a rename, at once in the place of a file that has the name, or plainly
 abbrev pub rename_of : List ℕ → List ℕ → Bool → Request
@@ -79,11 +80,11 @@ pub record IsWritingOn (p : FilePut) : Type 0 where
   pub wide : 1 ≤ p.window
   pub unfailed : p.failure ≡ None
 
--- nothing was asked, or the OPEN, and no byte was read
+-- nothing was asked, or the OPEN, and no byte was read: it stands where it begins
 pub record IsUnwritten (Holds : HoldingValue → Type 0) (p : FilePut) : Type 0 where
   pub holds : Holds p.holding
-  pub offset : p.offset ≡ 0
-  pub next : p.next ≡ 0
+  pub next : p.next ≡ p.offset
+  pub small : p.offset < 2 ^ 64
   pub at_end : p.at_end ≡ false
   pub wide : 1 ≤ p.window
   pub unfailed : p.failure ≡ None
@@ -123,16 +124,17 @@ abbrev pub put_is_over : PutStage → Bool
 put_is_over stage.Ended = true
 put_is_over other = false
 
--- a copy that has asked for nothing
-abbrev pub put_begun : ℕ → FilePut
-put_begun window =
+-- a copy that has asked for nothing, of the bytes from an offset on, and with attributes that the file is given
+abbrev pub put_begun : ℕ → ℕ → Option FileAttrs → FilePut
+put_begun window from attrs =
     record {
       holding = nothing_held;
       stage = stage.Starting;
       window = max window 1;
       at_end = false;
-      offset = 0;
-      next = 0;
+      offset = from;
+      next = from;
+      attrs = attrs;
       failure = None;
     }
 
@@ -192,13 +194,13 @@ AsksAt asked to core old after new (progress.Ended (Err e)) = (after ≡ core)
     × (new ≡ record old { stage = stage.Ended })
 AsksAt asked to core old after new other = ⊥
 
--- the local file was opened, and then the OPEN of the part to write was asked; or one of them failed
+-- the local file was opened at the offset, and then the OPEN of the part to write was asked; or one of them failed
 abbrev pub StartsPut : {H : Type 0} → (LocalAct → H → H) → List ℕ → List ℕ → Core → FilePut → Core → FilePut → H → H
     → Progress → Type 0
-StartsPut done name part core old after new before now progress.Moved = (now ≡ done (Opened name) before)
-    × AsksAt (open_request write_flags part) stage.Opening core old after new progress.Moved
-StartsPut done name part core old after new before now (progress.Ended (Err e)) = ((now ≡ done (Opened name) before)
-    ⊎ (now ≡ done (Failed (Opened name)) before))
+StartsPut done name part core old after new before now progress.Moved = (now ≡ done (Opened name old.offset) before)
+    × AsksAt (open_request (write_flags old.offset) part) stage.Opening core old after new progress.Moved
+StartsPut done name part core old after new before now (progress.Ended (Err e)) =
+    ((now ≡ done (Opened name old.offset) before) ⊎ (now ≡ done (Failed (Opened name old.offset)) before))
     × (after ≡ core)
     × (new ≡ record old { stage = stage.Ended })
 StartsPut done name part core old after new before now other = ⊥
@@ -215,7 +217,7 @@ OpensPut core old after new (progress.Ended (Ok len)) = ⊥
 
 -- ---- pieces
 
--- the status of the first WRITE: OK moves the offset
+-- the status of the first WRITE, or of the FSETSTAT, which carries no bytes: OK moves the offset
 abbrev pub AcceptsWrite : Reply → ℕ → Core → FilePut → Core → FilePut → Type 0
 AcceptsWrite r len core old after new = (IsOkStatus r × (after ≡ core)
     × (new ≡ record old { offset = old.offset + len }))
@@ -244,11 +246,30 @@ PutReadsNext done core old after new before now = ((bytes : List ℕ) × (0 < le
     ⊎ ((now ≡ done (Got []) before) × (after ≡ core) × (new ≡ record old { at_end = true }))
     ⊎ ((now ≡ done (Failed (Got [])) before) × PutGivesUp core old.holding old after new)
 
--- the end was got and the server said OK to every WRITE
+-- the end was got and the server said OK to every WRITE, and no attributes are to be given any more
 pub record PutSentAll (core : Core) (old : FilePut) (after : Core) (new : FilePut) : Type 0 where
   pub at_end : old.at_end ≡ true
   pub none : old.holding.parts ≡ []
+  pub given : old.attrs ≡ None
   pub finishes : PutFinishes core old.holding old after new
+
+-- an FSETSTAT of the file with these attributes was asked, once; or it was refused
+abbrev pub PutAsksAttrs : FileAttrs → Core → FilePut → Core → FilePut → Type 0
+PutAsksAttrs attrs core old after new = (AsksForAttrs core old.holding attrs after new.holding
+    × (new ≡ record old { holding = new.holding; attrs = None }))
+    ⊎ PutGivesUp core old.holding old after new
+
+-- the end was got and the server said OK to every WRITE, and attributes are to be given
+pub record PutGivesAttrs (core : Core) (old : FilePut) (after : Core) (new : FilePut) : Type 0 where
+  pub at_end : old.at_end ≡ true
+  pub none : old.holding.parts ≡ []
+  pub attrs : FileAttrs
+  pub due : old.attrs ≡ Some attrs
+  pub asks : PutAsksAttrs attrs core old after new
+
+-- all was sent: the file is closed, but for attributes that it is given before
+abbrev pub PutEndsSending : Core → FilePut → Core → FilePut → Type 0
+PutEndsSending core old after new = PutSentAll core old after new ⊎ PutGivesAttrs core old after new
 
 -- where the first status is missing, and where no WRITE is under way
 abbrev pub PutSendsOn : {H : Type 0} → (LocalAct → H → H) → Core → FilePut → Core → FilePut → H → H → Progress → Type 0
@@ -258,10 +279,10 @@ PutSendsOn done core old after new before now progress.Waits = (0 < length old.h
 PutSendsOn done core old after new before now progress.Moved =
     ((old.at_end ≡ false) × (length old.holding.parts < old.window)
     × PutReadsNext done core old after new before now)
-    ⊎ ((now ≡ before) × (PutSentAll core old after new ⊎ PutGivesUp core old.holding old after new))
+    ⊎ ((now ≡ before) × (PutEndsSending core old after new ⊎ PutGivesUp core old.holding old after new))
 PutSendsOn done core old after new before now (progress.Ended result) = ⊥
 
--- a WRITE was refused, or a fault is kept
+-- a WRITE or the FSETSTAT was refused, or a fault is kept
 pub record PutsNoMore (core : Core) (old : FilePut) (after : Core) (new : FilePut) : Type 0 where
   pub mid : Core
   pub left : HoldingValue
@@ -273,7 +294,7 @@ WritesOn done core old after new before now progress.Waits =
 WritesOn done core old after new before now progress.Moved =
     ((old.at_end ≡ false) × (length old.holding.parts < old.window) × PutReadsNext done core old after new before now)
     ⊎ ((now ≡ before)
-    × (PutsReply core old after new ⊎ PutSentAll core old after new ⊎ PutsNoMore core old after new))
+    × (PutsReply core old after new ⊎ PutEndsSending core old after new ⊎ PutsNoMore core old after new))
 WritesOn done core old after new before now (progress.Ended result) = ⊥
 
 -- ---- the end

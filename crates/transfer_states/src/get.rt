@@ -1,5 +1,5 @@
 //! A file of the server is written to a local file, step by step.
-ghost use Rattle.std.specs.Prelude.{◌≡◌, ◌≤◌, ◌<◌, ◌-◌, ◌^◌, true, length, IsSome};
+ghost use Rattle.std.specs.Prelude.{◌≡◌, ◌≤◌, ◌<◌, ◌-◌, ◌^◌, [], ◌∷◌, true, length, IsSome};
 ghost use Rattle.sftp_core.specs.Core.{Core as CoreValue};
 ghost use Rattle.sftp_core.specs.Info.{info_of};
 ghost use Rattle.sftp_model.specs.OpenOptions.{flags_of};
@@ -8,6 +8,7 @@ ghost use Rattle.sftp_model.specs.declared.answers.Expected.TheVariants as expec
 ghost use Rattle.transfer_states.specs.declared.get.GetStage.TheVariants as stage;
 ghost use Rattle.transfer_states.specs.Gets.{AsksNext, GetAsksOn, GetEnds, GetFinishes, GetStepDid, GetLeaves, GetGivesUp, TakesReply, GetHasEnded, IsBehindRead, IsGetting, IsOpenAt, IsReadingOn, KeepsPiece, MakesPart, MayGet, GetOpens, GetReadsOn, GetStarts, WritesPiece, get_begun, get_is_over, read_flags};
 ghost use Rattle.transfer_states.specs.Holdings.{SparesPlaces, drops_file, drops_parts, nothing_held};
+ghost use Rattle.transfer_local.specs.Local.{HasDone, part_opened, tried};
 
 use crate::failure::Failure;
 use crate::holding::{FileAnswer, Holding, PartAnswer};
@@ -20,7 +21,7 @@ use sftp_model::numbers::SSH_FX_EOF;
 use sftp_model::{Error, IoKind, OpenOptions, Reply};
 use ssh_encoding::OutOfMemory;
 use std::alloc::Global;
-use transfer_local::LocalFile;
+use transfer_local::{LocalError, LocalFile};
 
 /// Where a copy from the server stands.
 #[derive(Clone, Copy, Debug, PartialEq, Eq)]
@@ -39,6 +40,8 @@ pub enum GetStage {
 
 /// A copy from a file of the server to a local file, which is written as a part and gets its name when all its bytes
 /// are there and the server has closed its file. It isn't droppable: `cancel` spends it, once it has ended too.
+///
+/// Where the part has the first bytes already, the copy begins behind them: what they are isn't looked at.
 ///
 /// One READ is asked for at first. With each piece as long as its READ one more is under way, up to the window.
 #[must_use]
@@ -61,10 +64,21 @@ fn read_options() -> OpenOptions
     options
 }
 
+/// Makes the part of a file; or reopens it, where it has `len` bytes already.
+fn open_part<F: LocalFile>(local: &mut F, part: &str, len: u64) -> Result<(), LocalError>
+    ensures { HasDone F.done (tried result (part_opened part.now len) ∷ []) (F.history local.old) (F.history local.new) }
+{
+    if len == 0 {
+        return local.create(part);
+    }
+    local.reopen(part, len)
+}
+
 impl FileGet {
-    /// A copy that has asked for nothing, with at most `most` READs under way.
-    pub fn new(alloc: Global, most: u32) -> FileGet
-        ensures new { result ≡ get_begun most }
+    /// A copy that has asked for nothing, with at most `most` READs under way. It begins at the offset `from`: the part
+    /// has just so many bytes, and where it is 0 the part is made.
+    pub fn new(alloc: Global, most: u32, from: u64) -> FileGet
+        ensures new { result ≡ get_begun most from }
         ensures may { (core : CoreValue) → IsSome (info_of core.phase) → MayGet core result }
     {
         FileGet {
@@ -72,13 +86,14 @@ impl FileGet {
             stage: GetStage::Starting,
             window: 1,
             most,
-            offset: 0,
-            next: 0,
+            offset: from,
+            next: from,
             failure: None,
         }
     }
 
-    /// How many bytes were written.
+    /// The offset behind the last byte that was written: how many bytes the part has, those that it had at first among
+    /// them.
     pub fn offset(&self) -> u64
         ensures { result ≡ self.now.offset }
     {
@@ -98,9 +113,9 @@ impl FileGet {
     /// Takes one step, and waits for nothing: a request is submitted, or one reply is gone on with. `Waits` where the reply
     /// that comes next was not taken, and no fault is kept.
     ///
-    /// The copy ends with the count of bytes, or with the first failure: where the server refused a request, the local
-    /// file failed, the core keeps a fault, or there was no memory. The file on the server is closed then, and no local
-    /// file got the name. What there is of the part stays.
+    /// The copy ends with the count of bytes of the target, those that the part had at first among them, or with the first
+    /// failure: where the server refused a request, the local file failed, the core keeps a fault, or there was no memory.
+    /// The file on the server is closed then, and no local file got the name. What there is of the part stays.
     pub fn step<F: LocalFile>(
         &mut self,
         core: &mut Core,
@@ -189,7 +204,7 @@ impl FileGet {
         }
     }
 
-    /// Makes the part of the file that is open.
+    /// Makes or reopens the part of the file that is open.
     fn make<F: LocalFile>(&mut self, core: &mut Core, local: &mut F, part: &str) -> Progress
         requires open_now { IsOpenAt core.old self.old }
         requires reads { IsReadingOn self.old }
@@ -197,7 +212,7 @@ impl FileGet {
         ensures leaves { GetLeaves core.old self.old core.new self.new }
         ensures moved { result ≡ Progress.Moved }
     {
-        match local.create(part) {
+        match open_part(local, part, self.offset) {
             Ok(()) => {
                 self.stage = GetStage::Reading;
                 Progress::Moved

@@ -4,7 +4,7 @@ ghost use Rattle.sftp_model.specs.declared.answers.Expected.TheVariants as expec
 ghost use Rattle.sftp_core.specs.Core.{is_call};
 ghost use Rattle.sftp_core.specs.Info.{info_of};
 ghost use Rattle.transfer_states.specs.declared.holding.FileHold.TheVariants as hold;
-ghost use Rattle.transfer_states.specs.Holdings.{AsksFile, ClosesFile, DropsParts, HoldsAll, IsFileAsked, IsFileHeld, IsOnly, IsFileOpen, ArePartsHeld, AsksForRead, AsksForWrite, KeepsApart, LetsFileGo, SettlesFile, SettlesStatus, SparesPlaces, TakesPart, drops_file, drops_parts, nothing_held};
+ghost use Rattle.transfer_states.specs.Holdings.{AsksFile, ClosesFile, DropsParts, HoldsAll, IsFileAsked, IsFileHeld, IsOnly, IsFileOpen, ArePartsHeld, AsksForAttrs, AsksForRead, AsksForWrite, KeepsApart, LetsFileGo, SettlesFile, SettlesStatus, SparesPlaces, TakesPart, drops_file, drops_parts, nothing_held};
 ghost use Rattle.transfer_states.specs.declared.holding.FileHold.{FileHold as FileValue};
 
 use crate::answers::{TicketAnswer, answer_to};
@@ -13,14 +13,14 @@ use crate::failure::Failure;
 use crate::refusals::{faulted, settled};
 use bytes::Bytes;
 use sftp_core::{Core, Grant, Ticket};
-use sftp_model::{Expected, Fault, Reply, Request};
+use sftp_model::{Expected, Fault, FileAttrs, Reply, Request};
 use std::alloc::Global;
 use std::collections::VecDeque;
 use std::marker::Model;
 use std::mem;
 
-/// A request for bytes of a file that is under way: its ticket, what may answer it, and how many bytes it asks for or
-/// carries.
+/// A request for bytes or attributes of a file that is under way: its ticket, what may answer it, and how many bytes it asks
+/// for or carries, 0 where it is for attributes.
 #[must_use]
 pub struct Part {
     pub(crate) ticket: Ticket,
@@ -267,6 +267,38 @@ impl Holding {
                     ticket,
                     kind: Expected::Status,
                     len: bytes.len() as u32,
+                });
+                Ok(())
+            }
+            Err(e) => Err(e),
+        }
+    }
+
+    /// Gives the file these attributes, behind the other parts (draft-ietf-secsh-filexfer-02, section 6.9). Refused, core and
+    /// holding are as before.
+    pub(crate) fn ask_attrs(&mut self, core: &mut Core, attrs: FileAttrs) -> Result<(), Failure>
+        requires file { IsFileOpen self.old.file }
+        requires opened { IsSome (info_of core.old.phase) }
+        requires held { HoldsAll core.old self.old }
+        ensures ok { OnOk result (AsksForAttrs core.old self.old attrs core.new self.new × KeepsApart self.old self.new core.old core.new) }
+        ensures err { OnErr result ((core.new ≡ core.old) × (self.new ≡ self.old)) }
+    {
+        let FileHold::Opened(grant) = &self.file else {
+            unreachable!()
+        };
+        let request = Request::Fsetstat {
+            handle: grant.handle().copied(),
+            attrs,
+        };
+        if self.parts.reserve(1).is_err() {
+            return Err(Failure::OutOfMemory);
+        }
+        match submit(core, &request) {
+            Ok(ticket) => {
+                self.parts.push_back_reserved(Part {
+                    ticket,
+                    kind: Expected::Status,
+                    len: 0,
                 });
                 Ok(())
             }

@@ -1,8 +1,9 @@
 //! Laws of the definitions. The functions do nothing: what they ensure holds of all values.
-ghost use Rattle.std.specs.Prelude.{◌≡◌, ◌≢◌, ◌∷◌, ℕ, List};
+ghost use Rattle.std.specs.Prelude.{◌≡◌, ◌≢◌, ◌∷◌, ◌++◌, ℕ, List, Option, Some};
 ghost use Rattle.sftp_model.specs.Pieces.{joined};
 ghost use Rattle.sftp_core.specs.Core.{Core};
-ghost use Rattle.transfer_local.specs.Local.{Created, Renamed, all_done, writes_of};
+ghost use Rattle.sftp_model.specs.declared.file_attrs.FileAttrs.{FileAttrs};
+ghost use Rattle.transfer_local.specs.Local.{Created, Renamed, Reopened, all_done, writes_of};
 ghost use Rattle.transfer_states.specs.Acts.{GotAfter, GotSoFar, SentAfter, SentSoFar};
 ghost use Rattle.transfer_states.specs.Disks.{Disk, IsCopied, after_act};
 ghost use Rattle.transfer_states.specs.Gets.{GetStepDid, get_begun};
@@ -16,30 +17,37 @@ ghost use Rattle.transfer_states.specs.declared.progress.Progress.{Progress};
 use transfer_local::LocalFile;
 
 /// What a copy from the server has done to its local file, over each of its steps: at its end, where it gives a count, the
-/// part was made, so many bytes were written to it and nothing else, and it was renamed; with an error no file got the
-/// name.
+/// part was made, or reopened with the bytes before the offset that the copy began at, and written to until it had so many
+/// bytes, and nothing else, and it was renamed; with an error no file got the name.
 pub fn gets_write_their_part<F: LocalFile>()
-    ensures begins { (part : List ℕ) (most : ℕ) (first : F.History) → GotSoFar F.done part (get_begun most) first first get.Starting }
-    ensures goes { (remote part name : List ℕ) (core after : Core) (old new : FileGet) (first before now : F.History)
-        (result : Progress) → GotSoFar F.done part old first before old.stage
+    ensures begins { (part : List ℕ) (most from : ℕ) (first : F.History) → GotSoFar F.done part from (get_begun most from) first first get.Starting }
+    ensures goes { (remote part name : List ℕ) (from : ℕ) (core after : Core) (old new : FileGet) (first before now : F.History)
+        (result : Progress) → GotSoFar F.done part from old first before old.stage
         → GetStepDid F.done remote part name core old after new before now result old.stage
-        → GotAfter F.done part name new first now result }
+        → GotAfter F.done part name from new first now result }
 {}
 
 /// What a copy to the server has done to its local file, over each of its steps: at its end, where it gives a count, it was
-/// opened and so many bytes were got, up to its end; in any case it was only read.
+/// opened at the offset that the copy began at and its bytes were got up to that count and to its end; in any case it was
+/// only read.
 pub fn puts_read_their_file<F: LocalFile>()
-    ensures begins { (name : List ℕ) (window : ℕ) (first : F.History) → SentSoFar F.done name (put_begun window) first first put.Starting }
-    ensures goes { (name part remote : List ℕ) (core after : Core) (old new : FilePut) (first before now : F.History)
-        (result : Progress) → MayPut core old → SentSoFar F.done name old first before old.stage
+    ensures begins { (name : List ℕ) (window from : ℕ) (attrs : Option FileAttrs) (first : F.History)
+        → SentSoFar F.done name from (put_begun window from attrs) first first put.Starting }
+    ensures goes { (name part remote : List ℕ) (from : ℕ) (core after : Core) (old new : FilePut) (first before now : F.History)
+        (result : Progress) → MayPut core old → SentSoFar F.done name from old first before old.stage
         → PutStepDid F.done name part remote core old after new before now result old.stage
-        → SentAfter F.done name new first now result }
+        → SentAfter F.done name from new first now result }
 {}
 
 /// On a disk where each act does what it says, the acts of a copy from the server leave its pieces, joined, under the
-/// name, nothing under the name of the part, and all else as it was.
+/// name, behind the bytes that the part had where it was reopened, nothing under the name of the part, and all else as it
+/// was.
 pub fn one_name_is_changed()
-    ensures { (part name : List ℕ) (pieces : List (List ℕ)) (d mid : Disk) → part ≢ name
+    ensures anew { (part name : List ℕ) (pieces : List (List ℕ)) (d mid : Disk) → part ≢ name
         → mid ≡ all_done after_act (Created part ∷ writes_of pieces) d
         → IsCopied part name (joined pieces) d (after_act (Renamed part name) mid) }
+    ensures behind { (part name had : List ℕ) (len : ℕ) (pieces : List (List ℕ)) (d mid : Disk) → part ≢ name
+        → d.files part ≡ Some had
+        → mid ≡ all_done after_act (Reopened part len ∷ writes_of pieces) d
+        → IsCopied part name (had ++ joined pieces) d (after_act (Renamed part name) mid) }
 {}

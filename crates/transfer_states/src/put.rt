@@ -1,12 +1,12 @@
 //! A local file is written to a file of the server, step by step.
-ghost use Rattle.std.specs.Prelude.{◌≡◌, ◌≤◌, ◌<◌, ◌-◌, ◌^◌, length, IsSome};
+ghost use Rattle.std.specs.Prelude.{◌≡◌, ◌≤◌, ◌<◌, ◌-◌, ◌^◌, [], true, length, IsSome};
 ghost use Rattle.sftp_core.specs.Core.{Core as CoreValue};
 ghost use Rattle.sftp_core.specs.Info.{info_of};
 ghost use Rattle.sftp_model.specs.OpenOptions.{flags_of};
 ghost use Rattle.plan_model.specs.FilePlans.{open_request};
 ghost use Rattle.transfer_states.specs.declared.put.PutStage.TheVariants as stage;
 ghost use Rattle.transfer_states.specs.Holdings.{SparesPlaces, drops_file, drops_parts, nothing_held};
-ghost use Rattle.transfer_states.specs.Puts.{AcceptsWrite, AsksAt, IsBehindWrite, IsOpenToWrite, IsPutting, MayPut, OpensPut, PutStepDid, PutFinishes, PutGivesUp, PutHasEnded, PutLeaves, PutReadsNext, PutSendsOn, StartsPut, PutWritesNext, WritesOn, put_begun, put_is_over, write_flags};
+ghost use Rattle.transfer_states.specs.Puts.{AcceptsWrite, AsksAt, IsBehindWrite, IsOpenToWrite, IsPutting, MayPut, OpensPut, PutAsksAttrs, PutEndsSending, PutStepDid, PutFinishes, PutGivesUp, PutHasEnded, PutLeaves, PutReadsNext, PutSendsOn, StartsPut, PutWritesNext, WritesOn, put_begun, put_is_over, write_flags};
 
 mod naming;
 
@@ -17,7 +17,7 @@ use crate::progress::Progress;
 use crate::refusals::{faulted, refused, settled};
 use bytes::Bytes;
 use sftp_core::Core;
-use sftp_model::{Error, IoKind, OpenOptions, Reply};
+use sftp_model::{Error, FileAttrs, IoKind, OpenOptions, Reply};
 use ssh_encoding::OutOfMemory;
 use std::alloc::Global;
 use transfer_local::LocalFile;
@@ -47,6 +47,9 @@ pub enum PutStage {
 
 /// A copy from a local file to a file of the server, which is written as a part and gets its name when the server has
 /// said OK to all its bytes and closed it. It isn't droppable: `cancel` spends it, once it has ended too.
+///
+/// Where the part has the first bytes already, the copy begins behind them: what they are isn't looked at. Attributes,
+/// where there are any, are given to the part behind its last bytes, before it is closed.
 #[must_use]
 pub struct FilePut {
     holding: Holding,
@@ -55,22 +58,25 @@ pub struct FilePut {
     at_end: bool,
     offset: u64,
     next: u64,
+    attrs: Option<FileAttrs>,
     failure: Option<Failure>,
 }
 
-/// A file of the server is made, or emptied, to be written.
-fn write_options() -> OpenOptions
-    ensures { flags_of result ≡ write_flags }
+/// A file of the server is opened to be written from an offset on: from 0 it is made, or emptied, and else it is to be there.
+fn write_options(from: u64) -> OpenOptions
+    ensures { flags_of result ≡ write_flags from }
 {
     let mut options = OpenOptions::new();
-    options.write(true).create(true).truncate(true);
+    options.write(true).create(from == 0).truncate(from == 0);
     options
 }
 
 impl FilePut {
-    /// A copy that has asked for nothing, with at most `window` WRITEs under way, and one at least.
-    pub fn new(alloc: Global, window: u32) -> FilePut
-        ensures new { result ≡ put_begun window }
+    /// A copy that has asked for nothing, with at most `window` WRITEs under way, and one at least. It begins at the offset
+    /// `from`: the part has so many bytes, and where it is 0 the part is made or emptied. The part is given these
+    /// attributes before it is closed.
+    pub fn new(alloc: Global, window: u32, from: u64, attrs: Option<FileAttrs>) -> FilePut
+        ensures new { result ≡ put_begun window from attrs }
         ensures may { (core : CoreValue) → IsSome (info_of core.phase) → MayPut core result }
     {
         FilePut {
@@ -78,13 +84,15 @@ impl FilePut {
             stage: PutStage::Starting,
             window: window.max(1),
             at_end: false,
-            offset: 0,
-            next: 0,
+            offset: from,
+            next: from,
+            attrs,
             failure: None,
         }
     }
 
-    /// How many bytes the server has said OK to.
+    /// The offset behind the last byte that the server has said OK to: how many bytes the part has, those that it had at
+    /// first among them.
     pub fn offset(&self) -> u64
         ensures { result ≡ self.now.offset }
     {
@@ -104,9 +112,9 @@ impl FilePut {
     /// Takes one step, and waits for nothing: a request is submitted, or one reply is gone on with. `Waits` where the reply
     /// that comes next was not taken, and no fault is kept.
     ///
-    /// The copy ends with the count of bytes, or with the first failure: where the server refused a request, the local
-    /// file failed, the core keeps a fault, or there was no memory. The file on the server is closed then. What there
-    /// is of the part stays.
+    /// The copy ends with the count of bytes of the target, those that the part had at first among them, or with the first
+    /// failure: where the server refused a request, the local file failed, the core keeps a fault, or there was no memory.
+    /// The file on the server is closed then. What there is of the part stays.
     pub fn step<F: LocalFile>(
         &mut self,
         core: &mut Core,
@@ -147,6 +155,7 @@ impl FilePut {
             at_end: _,
             offset: _,
             next: _,
+            attrs: _,
             failure: _,
         } = self;
         holding.cancel(core);
@@ -154,7 +163,7 @@ impl FilePut {
 }
 
 impl FilePut {
-    /// Opens the local file, and asks for the part to be opened.
+    /// Opens the local file at the offset, and asks for the part to be opened.
     fn start<F: LocalFile>(
         &mut self,
         core: &mut Core,
@@ -167,7 +176,7 @@ impl FilePut {
         ensures leaves { PutLeaves core.old self.old core.new self.new }
         ensures ended { PutHasEnded self.new.stage result }
     {
-        match local.open(name) {
+        match local.open(name, self.offset) {
             Ok(()) => self.ask_open(core, part),
             Err(e) => {
                 self.stage = PutStage::Ended;
@@ -179,11 +188,11 @@ impl FilePut {
     /// Asks for the part to be opened.
     fn ask_open(&mut self, core: &mut Core, part: &str) -> Progress
         requires { MayPut core.old self.old × (self.old.stage ≡ stage.Starting) }
-        ensures did { AsksAt (open_request write_flags part.now) stage.Opening core.old self.old core.new self.new result }
+        ensures did { AsksAt (open_request (write_flags self.old.offset) part.now) stage.Opening core.old self.old core.new self.new result }
         ensures leaves { PutLeaves core.old self.old core.new self.new }
         ensures ended { PutHasEnded self.new.stage result }
     {
-        let request = match open_request(core.alloc(), write_options(), part) {
+        let request = match open_request(core.alloc(), write_options(self.offset), part) {
             Ok(request) => request,
             Err(OutOfMemory) => {
                 self.stage = PutStage::Ended;
@@ -241,7 +250,7 @@ impl FilePut {
         }
     }
 
-    /// Goes on with the status of the first WRITE, which carried `len` bytes.
+    /// Goes on with the status of the first WRITE, which carried `len` bytes, or of the FSETSTAT, which carried none.
     fn accept(&mut self, core: &mut Core, reply: Reply, len: u32) -> Progress
         requires { IsBehindWrite len core.old self.old }
         ensures did { AcceptsWrite reply len core.old self.old core.new self.new }
@@ -257,7 +266,8 @@ impl FilePut {
         }
     }
 
-    /// Writes more where there is room; else the file is closed once all its bytes are written.
+    /// Writes more where there is room; else the file is given its attributes once all its bytes are written, and closed
+    /// then.
     fn send<F: LocalFile>(&mut self, core: &mut Core, local: &mut F) -> Progress
         requires { MayPut core.old self.old × (self.old.stage ≡ stage.Writing) }
         ensures did { PutSendsOn F.done core.old self.old core.new self.new (F.history local.old) (F.history local.new) result }
@@ -267,7 +277,7 @@ impl FilePut {
         let parts = self.holding.under_way();
         if self.at_end {
             if parts == 0 {
-                return self.finish(core);
+                return self.end_sending(core);
             }
             return Progress::Waits;
         }
@@ -319,6 +329,37 @@ impl FilePut {
         match self.holding.ask_write(core, self.next, bytes) {
             Ok(()) => {
                 self.next += bytes.len() as u64;
+                Progress::Moved
+            }
+            Err(e) => self.fail(core, e),
+        }
+    }
+
+    /// All bytes are written: the file is given its attributes, where there are any that it was not given; else it is
+    /// closed.
+    fn end_sending(&mut self, core: &mut Core) -> Progress
+        requires writes { MayPut core.old self.old × (self.old.stage ≡ stage.Writing) }
+        requires all { (self.old.at_end ≡ true) × (self.old.holding.parts ≡ []) }
+        ensures did { PutEndsSending core.old self.old core.new self.new }
+        ensures leaves { PutLeaves core.old self.old core.new self.new }
+        ensures moved { result ≡ Progress.Moved }
+    {
+        match self.attrs {
+            Some(attrs) => self.give_attrs(core, attrs),
+            None => self.finish(core),
+        }
+    }
+
+    /// Asks for the file to be given attributes, once.
+    fn give_attrs(&mut self, core: &mut Core, attrs: FileAttrs) -> Progress
+        requires { MayPut core.old self.old × (self.old.stage ≡ stage.Writing) }
+        ensures did { PutAsksAttrs attrs core.old self.old core.new self.new }
+        ensures leaves { PutLeaves core.old self.old core.new self.new }
+        ensures moved { result ≡ Progress.Moved }
+    {
+        match self.holding.ask_attrs(core, attrs) {
+            Ok(()) => {
+                self.attrs = None;
                 Progress::Moved
             }
             Err(e) => self.fail(core, e),

@@ -39,6 +39,10 @@ pub enum Task {
     RefuseText,
     /// It is refused: too many folders stand in one another.
     RefuseDepth,
+    /// A file is refused: another one before it is copied to the same path.
+    RefuseTwice,
+    /// A file is refused: another one is written under its path until all its bytes are there.
+    RefusePart,
 }
 
 /// Whether bytes are UTF-8.

@@ -64,6 +64,8 @@ plain_options = record {
   preserve = false;
   quiet = false;
   progress = false;
+  resume = false;
+  verify = false;
   window = 64;
   files = 32;
   limit = 16777216;
@@ -76,6 +78,8 @@ flag_of o word =
     else if bytes_eq word (codes "-p") then Some (record o { preserve = true })
     else if bytes_eq word (codes "-q") then Some (record o { quiet = true })
     else if bytes_eq word (codes "--progress") then Some (record o { progress = true })
+    else if bytes_eq word (codes "--resume") then Some (record o { resume = true })
+    else if bytes_eq word (codes "--verify") then Some (record o { verify = true })
     else None
 
 -- an option that a number follows

@@ -11,6 +11,10 @@ pub struct Options {
     pub quiet: bool,
     /// `--progress`: how far the transfer has come is told as it goes on.
     pub progress: bool,
+    /// `--resume`: files go on behind what an earlier run has left of them.
+    pub resume: bool,
+    /// `--verify`: files are read back from the server, and compared.
+    pub verify: bool,
     /// `--window N`: how many requests are under way for a file, from 1 to 1024.
     pub window: u32,
     /// `--files N`: how many files are copied at once, from 1 to 256.

@@ -17,6 +17,8 @@ fn plain_options() -> Options
         preserve: false,
         quiet: false,
         progress: false,
+        resume: false,
+        verify: false,
         window: 64,
         files: 32,
         limit: 16777216,
@@ -81,6 +83,16 @@ fn with_flag(options: Options, word: &str) -> Option<Options>
     } else if word == "--progress" {
         Some(Options {
             progress: true,
+            ..options
+        })
+    } else if word == "--resume" {
+        Some(Options {
+            resume: true,
+            ..options
+        })
+    } else if word == "--verify" {
+        Some(Options {
+            verify: true,
             ..options
         })
     } else {

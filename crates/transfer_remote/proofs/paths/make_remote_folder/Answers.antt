@@ -4,14 +4,14 @@ use Rattle.sftp_client.specs.Sessions.{with_core}
 use Rattle.sftp_file.specs.Settles.{settling}
 use Rattle.sftp_fs.specs.PathStarts.{StartsFrom}
 use Rattle.transfer_remote.proofs.RunLaws.{ran}
-use Rattle.transfer_remote.specs.Runs.{Finishes}
+use Rattle.transfer_remote.specs.Runs.{FinishesCall}
 use Rattle.transfer_remote.proofs.paths.make_remote_folder.Goals as goal
 
 pub returns-in-Ok : goal.returns-in-Ok
 returns-in-Ok g c =
     let starts : StartsFrom settling (mkdir_next c.args.path.now) [] c.args.sftp.now.core c.start_create_dir-started.new.core
     c.start_create_dir-started.result = search rules in
-    let ends : Finishes g.L.LinkState.state settling c.start_create_dir-started.result
+    let ends : FinishesCall g.L.LinkState.state settling c.start_create_dir-started.result
     (with_core c.args.sftp.now c.start_create_dir-started.new.core) c.finish.new.sftp c.finish.result = search rules in
     ran g.L.LinkState.state settling (StartsFrom settling (mkdir_next c.args.path.now) []) c.args.sftp.now
     c.start_create_dir-started.new.core c.finish.new.sftp c.start_create_dir-started.result c.finish.result starts ends

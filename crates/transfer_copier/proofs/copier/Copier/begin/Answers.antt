@@ -1,6 +1,6 @@
 use Rattle.std.proofs.Common.{rules, ◌≡◌, ◌∙◌, ap, [], ◌∷◌, ◌++◌, List}
 use Rattle.transfer_copier.specs.declared.running.Running.{Running}
-use Rattle.transfer_copier.specs.Copies.{CopierValue, copy_begun}
+use Rattle.transfer_copier.specs.Copies.{CopierValue, job_begun}
 use Rattle.transfer_copier.proofs.TogetherLaws.{together_begun}
 use Rattle.transfer_copier.proofs.copier.Copier.begin.Goals as goal
 
@@ -8,5 +8,6 @@ pub returns-clause-together : goal.returns-clause-together
 returns-clause-together g c core opened all =
     let now : c.push_back_reserved.new.self.items
     ≡ c.args.self.now.running ++ record { job = c.args.job; local = c.args.local; state = c.new-state.result } ∷ [] = search rules in
-    let is : c.new-state.result ≡ copy_begun c.args.job.way c.args.window = search rules in
-    together_begun core c.args.self.now.running _ c.args.job c.args.local c.new-state.result c.args.window is now opened all
+    let is : c.new-state.result ≡ job_begun c.args.job c.args.window = search rules in
+    together_begun core c.args.self.now.running _ c.args.job c.args.local c.new-state.result c.args.window is
+    (c.new-state.ensures.may core opened) now all

@@ -1,5 +1,4 @@
-use Rattle.std.proofs.Common.{rules, ap, sym, ◌≡◌, ◌∙◌, subst, List}
-use Rattle.transfer_states.specs.declared.holding.Part.{Part}
+use Rattle.std.proofs.Common.{ap, sym, ◌∙◌, subst}
 use Rattle.transfer_states.specs.Holdings.{ArePartsHeld, DropsParts, HoldingValue, drops_parts}
 use Rattle.transfer_states.proofs.DropLaws.{parts_dropped}
 use Rattle.transfer_states.proofs.holding.Holding.abandon_parts.Goals as goal

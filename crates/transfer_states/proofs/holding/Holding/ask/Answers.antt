@@ -1,6 +1,6 @@
 use Rattle.std.proofs.Common.{◌≡◌, ◌∙◌, ap}
 use Rattle.transfer_states.specs.declared.holding.FileHold.TheVariants as hold
-use Rattle.transfer_states.specs.Holdings.{AsksFile, HoldingValue}
+use Rattle.transfer_states.specs.Holdings.{AsksFile}
 use Rattle.transfer_states.proofs.HoldingLaws.{file_asked}
 use Rattle.transfer_states.proofs.holding.Holding.ask.Goals as goal
 

@@ -1,9 +1,7 @@
-use Rattle.std.proofs.Common.{rules, ◌≡◌, ◌∙◌, ap, sym, refl, subst, [], ◌∷◌, ◌++◌}
+use Rattle.std.proofs.Common.{rules, refl, [], ◌∷◌}
 use Rattle.call_state.specs.Asked.{Submitted}
-use Rattle.call_state.specs.declared.asking.Asking.TheVariants.{Whole, Parts}
-use Rattle.sftp_model.specs.declared.request.Request.TheVariants as request
-use Rattle.transfer_states.specs.declared.holding.FileHold.{FileHold}
-use Rattle.transfer_states.specs.Holdings.{AsksForRead, AsksForWrite, HoldingValue, file_handle}
+use Rattle.call_state.specs.declared.asking.Asking.TheVariants.{Parts}
+use Rattle.transfer_states.specs.Holdings.{AsksForWrite, file_handle}
 use Rattle.transfer_states.proofs.HoldingLaws.{part_asked}
 use Rattle.transfer_states.proofs.holding.Holding.ask_write.Goals as goal
 

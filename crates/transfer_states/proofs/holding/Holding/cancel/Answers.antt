@@ -1,4 +1,4 @@
-use Rattle.std.proofs.Common.{rules, ap, sym, ◌≡◌, ◌∙◌, subst, List}
+use Rattle.std.proofs.Common.{ap, sym, ◌∙◌, subst}
 use Rattle.sftp_core.specs.Core.{Core}
 use Rattle.transfer_states.specs.Holdings.{ArePartsHeld, HoldingValue, IsFileHeld, drops_file, drops_parts}
 use Rattle.transfer_states.proofs.DropLaws.{all_dropped, file_still_held}

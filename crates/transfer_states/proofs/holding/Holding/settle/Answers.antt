@@ -1,10 +1,7 @@
-use Rattle.std.proofs.Common.{rules, ap, sym, ◌≡◌, ◌∙◌, subst, ℕ}
-use Rattle.sftp_core.specs.Core.{Core, at}
-use Rattle.sftp_core.specs.Grant.{GrantValue}
-use Rattle.transfer_states.specs.declared.holding.FileHold.{FileHold}
+use Rattle.std.proofs.Common.{ap, sym, ◌≡◌, ◌∙◌}
 use Rattle.transfer_states.specs.declared.holding.FileHold.TheVariants as hold
-use Rattle.transfer_states.specs.Holdings.{HoldingValue, IsFileHeld, IsNotOfFile, KeepsApart}
-use Rattle.transfer_states.proofs.HoldingLaws.{file_granted, file_polled, file_spent}
+use Rattle.transfer_states.specs.Holdings.{HoldingValue}
+use Rattle.transfer_states.proofs.HoldingLaws.{file_granted, file_spent}
 use Rattle.transfer_states.proofs.holding.Holding.settle.Goals as goal
 
 pub returns-in-Came-clause-apart : goal.returns-in-Came-clause-apart

@@ -1,4 +1,4 @@
-use Rattle.std.proofs.Common.{rules, ap, sym, ◌≡◌, ◌∙◌, ◌∷◌, subst, List}
+use Rattle.std.proofs.Common.{ap, sym, ◌≡◌, ◌∙◌, ◌∷◌, subst, List}
 use Rattle.transfer_states.specs.declared.holding.Part.{Part}
 use Rattle.transfer_states.specs.Holdings.{ArePartsHeld, HoldingValue}
 use Rattle.transfer_states.proofs.HoldingLaws.{never_handle, part_polled}
